@@ -1,0 +1,4 @@
+pub mod Identifier
+pub mod Name
+pub mod Number
+pub mod Path
