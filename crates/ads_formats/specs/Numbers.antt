@@ -1,0 +1,23 @@
+-- Numbers in a payload, each little-endian and read at its place.
+use Rattle.std.specs.Prelude.{ℕ, ◌<◌, List, length, drop, slice_index, Option, Some, None, ◌==◌, if◌then◌else◌}
+use Rattle.std.specs.Int.{w16, w32, w64, from_le_bytes}
+
+-- the number of 2 bytes at this place
+abbrev pub number16 : ℕ → List ℕ → ℕ
+number16 at bytes = from_le_bytes w16 (drop at bytes)
+
+-- the number of 4 bytes at this place
+abbrev pub number32 : ℕ → List ℕ → ℕ
+number32 at bytes = from_le_bytes w32 (drop at bytes)
+
+-- the number of 8 bytes at this place
+abbrev pub number64 : ℕ → List ℕ → ℕ
+number64 at bytes = from_le_bytes w64 (drop at bytes)
+
+-- each is a byte; past its end a list reads as 0
+abbrev pub AreBytes : List ℕ → Type 0
+AreBytes bytes = (i : ℕ) → slice_index bytes i < 256
+
+-- the value, where the bytes have this length
+abbrev pub at_length : {X : Type 0} → ℕ → List ℕ → X → Option X
+at_length len bytes value = if length bytes == len then Some value else None
