@@ -2,7 +2,24 @@
 #![tactic(auto)]
 
 mod event;
+mod failing;
+mod files;
+mod got;
+mod mem_files;
+mod mem_sink;
 mod moves;
+mod named_file;
+mod put;
+mod reload_note;
+mod sink;
 
 pub use event::Event;
+pub use files::Files;
+pub use got::Got;
+pub use mem_files::MemFiles;
+pub use mem_sink::MemSink;
 pub use moves::{Log, Move};
+pub use named_file::{NamedFile, NamedFiles};
+pub use put::Put;
+pub use reload_note::{ReloadNote, ReloadNotes};
+pub use sink::Sink;
