@@ -1,18 +1,18 @@
 -- Numbers in a payload, each little-endian and read at its place.
-use Rattle.std.specs.Prelude.{ℕ, ◌<◌, List, length, drop, slice_index, Option, Some, None, ◌==◌, if◌then◌else◌}
+use Rattle.std.specs.Prelude.{ℕ, ◌<◌, List, length, take, drop, slice_index, Option, Some, None, ◌==◌, if◌then◌else◌}
 use Rattle.std.specs.Int.{w16, w32, w64, from_le_bytes}
 
 -- the number of 2 bytes at this place
 abbrev pub number16 : ℕ → List ℕ → ℕ
-number16 at bytes = from_le_bytes w16 (drop at bytes)
+number16 at bytes = from_le_bytes w16 (take 2 (drop at bytes))
 
 -- the number of 4 bytes at this place
 abbrev pub number32 : ℕ → List ℕ → ℕ
-number32 at bytes = from_le_bytes w32 (drop at bytes)
+number32 at bytes = from_le_bytes w32 (take 4 (drop at bytes))
 
 -- the number of 8 bytes at this place
 abbrev pub number64 : ℕ → List ℕ → ℕ
-number64 at bytes = from_le_bytes w64 (drop at bytes)
+number64 at bytes = from_le_bytes w64 (take 8 (drop at bytes))
 
 -- each is a byte; past its end a list reads as 0
 abbrev pub AreBytes : List ℕ → Type 0
