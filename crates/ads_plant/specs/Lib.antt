@@ -1,0 +1,10 @@
+pub mod Plain
+pub mod Listed
+pub mod Trees
+pub mod Sizes
+pub mod Parts
+pub mod Spelling
+pub mod SameTypes
+pub mod Description
+pub mod Entries
+pub mod World
