@@ -1,0 +1,4 @@
+pub mod Number
+pub mod Frame
+pub mod Division
+pub mod Laws
