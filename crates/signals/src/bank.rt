@@ -12,26 +12,28 @@ pub struct Bank {
 }
 
 impl Bank {
+    ghost use Rattle.signals.specs.Bank.{waves_of};
+
     /// A bank of these signals, each at the place that it has.
     pub fn new(list: Vec<Box<dyn Signal>>) -> Bank
         requires { length list.items < 2 ^ 32 }
-        ensures { map wave result.signals.items ≡ map wave list.items }
+        ensures { waves_of wave result ≡ map wave list.items }
     {
         Bank { signals: list }
     }
 
     /// How many signals there are.
     pub fn count(&self) -> u32
-        ensures { result ≡ length self.now.signals.items }
+        ensures { result ≡ length (waves_of wave self.now) }
     {
         self.signals.len() as u32
     }
 
     /// Steps one signal, and leaves the others.
     pub fn step(&mut self, n: u32) -> u64
-        requires { n < length self.old.signals.items }
-        ensures value { slice_get (map value_of (map wave self.old.signals.items)) n ≡ Some result }
-        ensures moved { map wave self.new.signals.items ≡ waves_after_step n (map wave self.old.signals.items) }
+        requires { n < length (waves_of wave self.old) }
+        ensures value { slice_get (map value_of (waves_of wave self.old)) n ≡ Some result }
+        ensures moved { waves_of wave self.new ≡ waves_after_step n (waves_of wave self.old) }
     {
         step_one(&mut self.signals[n as usize])
     }

@@ -40,7 +40,11 @@ impl Signal for Square {
 
     fn step(&mut self) -> u64 {
         let half = u64::from(self.half);
-        let value = if self.place < half { self.low } else { self.high };
+        let value = if self.place < half {
+            self.low
+        } else {
+            self.high
+        };
         self.place = place_after(self.place, 2 * half);
         value
     }

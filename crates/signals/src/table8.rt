@@ -3,7 +3,8 @@ ghost use Rattle.std.specs.Prelude.{◌≡◌, ◌<◌, length, IfOk};
 
 use crate::place::place_after;
 use crate::signal::Signal;
-use std::alloc::{AllocError, Global};
+use ads_base::NoMemory;
+use std::alloc::Global;
 
 /// Values of eight bytes each from a list, again and again.
 #[derive(Drop)]
@@ -15,7 +16,7 @@ pub struct Table8 {
 
 impl Table8 {
     /// A signal with these values, at the first.
-    pub fn new(alloc: Global, values: &[u64]) -> Result<Table8, AllocError>
+    pub fn new(alloc: Global, values: &[u64]) -> Result<Table8, NoMemory>
         requires { 0 < length values.now }
         ensures { IfOk result (λ t. ⟦<Table8 as Signal>⟧.wave t ≡ record { values = values.now; place = 0 }) }
     {

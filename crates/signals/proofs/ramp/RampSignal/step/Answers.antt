@@ -1,5 +1,5 @@
 -- A ramp's value at a place is the place, and its wave is as long as the ramp.
-use Rattle.std.proofs.Common.{rules, sym, ◌∙◌, ap, zero-add, ℕ}
+use Rattle.std.proofs.Common.{sym, ◌∙◌, ap, zero-add, ℕ}
 use Rattle.std.specs.List.{range_with_len}
 use Rattle.std.proofs.lemmas.List.FromFn.{length-range_with_len, get_or-range_with_len}
 use Rattle.signals.specs.Wave.{place_after, Wave}
