@@ -1,0 +1,3 @@
+mod Hex
+mod SelftestExamples
+pub mod Find

@@ -1,0 +1,12 @@
+pub mod Device
+pub mod Connection
+pub mod MachineState
+pub mod Piece
+pub mod Moves
+pub mod Offers
+pub mod Turns
+pub mod Summary
+pub mod ScriptLine
+pub mod Peers
+pub mod Play
+pub mod Selftest

@@ -1,0 +1,65 @@
+-- The built-in device of `selftest`. This project's own choice: it knows one request, ReadState,
+-- from one NetId, and answers any other frame as an unknown command.
+-- Beckhoff Information System, "AMS Header", "ADS Read State".
+use Rattle.std.specs.Prelude.{ℕ, ◌+◌, List, [], ◌∷◌, ◌++◌, length, take, drop, Bool, ◌&&◌, bytes_eq}
+use Rattle.std.specs.Prelude.{◌==◌, if◌then◌else◌}
+use Rattle.std.specs.Int.{w16, w32, to_le_bytes}
+use Rattle.ads_machine.specs.Device.{Device, Answer, Answered, FrameOutcome, ClientOutcome}
+use Rattle.ads_machine.specs.Device.{Reloading, Refused}
+
+-- the target is 5.1.2.3.1.1, port 851; the source is 192.168.0.9.1.1, any port
+abbrev pub TARGET : List ℕ
+TARGET = 5 ∷ 1 ∷ 2 ∷ 3 ∷ 1 ∷ 1 ∷ to_le_bytes w16 851
+
+abbrev pub SOURCE_NET : List ℕ
+SOURCE_NET = 192 ∷ 168 ∷ 0 ∷ 9 ∷ 1 ∷ 1 ∷ []
+
+-- command 4, flags 0x0004, data length 0
+abbrev pub READ_STATE : List ℕ
+READ_STATE = to_le_bytes w16 4 ++ to_le_bytes w16 0x0004 ++ to_le_bytes w32 0
+
+-- the ADS state RUN
+abbrev pub RUN : ℕ
+RUN = 5
+
+-- AMS error 8: unknown command id
+abbrev pub UNKNOWN_COMMAND : ℕ
+UNKNOWN_COMMAND = 8
+
+-- so many bytes of an AMS packet from an offset on
+abbrev pub field : ℕ → ℕ → List ℕ → List ℕ
+field offset len packet = take len (drop offset packet)
+
+-- a ReadState without data; its error field is not looked at
+abbrev pub is_read_state : List ℕ → Bool
+is_read_state packet =
+    bytes_eq (field 0 8 packet) TARGET && bytes_eq (field 8 6 packet) SOURCE_NET
+    && bytes_eq (field 16 8 packet) READ_STATE && (length packet == 32)
+
+-- The reply to a packet: addresses exchanged, its command, flags 0x0005, the data length, an error
+-- code, its invoke id, and data.
+abbrev pub reply_to : List ℕ → ℕ → List ℕ → List ℕ
+reply_to packet error payload =
+    field 8 8 packet ++ field 0 8 packet ++ field 16 2 packet ++ to_le_bytes w16 0x0005
+    ++ to_le_bytes w32 (length payload) ++ to_le_bytes w32 error ++ field 28 4 packet ++ payload
+
+-- result 0, ADS state, device state 0
+abbrev pub state_payload : List ℕ
+state_payload = to_le_bytes w32 0 ++ to_le_bytes w16 RUN ++ to_le_bytes w16 0
+
+abbrev pub selftest_reply : List ℕ → List ℕ
+selftest_reply packet =
+    if is_read_state packet then reply_to packet 0 state_payload
+    else reply_to packet UNKNOWN_COMMAND []
+
+-- no world, nothing kept for a client; ticks do nothing, and no description is read
+abbrev pub selftest_device : Device (Unit {0}) (Unit {0})
+selftest_device = record {
+  new_client = tt;
+  take = λ world client packet.
+      record { answer = Answered (selftest_reply packet); world = tt; client = tt };
+  world_after_tick = λ world. tt;
+  client_after_tick = λ moment world client. record { client = tt; frames = [] };
+  reload = λ bytes world. Refused 0;
+  client_after_reload = λ moment old new client. record { client = tt; frames = [] };
+}
