@@ -1,3 +1,4 @@
 mod Hex
 mod SelftestExamples
 pub mod Find
+mod ScriptExamples

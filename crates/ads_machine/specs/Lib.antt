@@ -10,3 +10,10 @@ pub mod ScriptLine
 pub mod Peers
 pub mod Play
 pub mod Selftest
+pub mod ScriptLines
+pub mod ScriptWords
+pub mod BuiltLines
+pub mod Reading
+pub mod Script
+pub mod LogText
+pub mod SummaryText
