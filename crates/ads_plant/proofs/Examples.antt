@@ -1,16 +1,16 @@
 -- The layout, parts, texts and entries of a small plant, computed.
-use Rattle.std.proofs.Common.{◌≡◌, ℕ, ◌+◌, List, [], ◌∷◌, map, length, Bool, true, false, refl}
+use Rattle.std.proofs.Common.{◌≡◌, ℕ, ◌+◌, List, [], ◌∷◌, map, true, false, refl}
 use Rattle.std.specs.Prelude.{Option, Some, None, option_map, codes, pos, negsuc}
 use Rattle.std.specs.Fmt.{digits}
-use Rattle.name_paths.specs.Path.{Step, name_step, index_step}
-use Rattle.ads_plant.specs.Plain.{Kind, BOOL, SINT, INT, UINT, BYTE, USINT, DINT, LREAL, TIME, LINT, all_kinds, kind_size, kind_id}
-use Rattle.ads_plant.specs.Listed.{Bound, Elem, Plain, Text, Struct, Enum, Shape, One, Array, Member, EnumValue, NamedType, Structure, Enumeration}
+use Rattle.name_paths.specs.Path.{name_step, index_step}
+use Rattle.ads_plant.specs.Plain.{Kind, BOOL, INT, UINT, BYTE, USINT, DINT, LREAL}
+use Rattle.ads_plant.specs.Listed.{Plain, Text, Struct, Enum, Shape, One, Array, Member, NamedType, Structure, Enumeration}
 use Rattle.ads_plant.specs.Trees.{TypeTree, PlainTree, ArrayTree, StructTree, MemberTree, NoMember, EnumTree, trees_of, trees_behind, tree_of}
-use Rattle.ads_plant.specs.Sizes.{type_size, members_end, type_align, greatest_align, element_count}
-use Rattle.ads_plant.specs.Parts.{TypePart, part_of, part_behind, member_of}
+use Rattle.ads_plant.specs.Sizes.{type_size, members_end, type_align, greatest_align}
+use Rattle.ads_plant.specs.Parts.{TypePart, part_of, part_behind}
 use Rattle.ads_plant.specs.Spelling.{type_text}
 use Rattle.ads_plant.specs.SameTypes.{is_same_type, has_same_parts, has_same_members}
-use Rattle.ads_plant.specs.Description.{Symbol, Area, Process, Memory}
+use Rattle.ads_plant.specs.Description.{Symbol, Process}
 use Rattle.ads_plant.specs.Entries.{type_id, symbol_entry_length, upload_size}
 
 one : Kind → Shape

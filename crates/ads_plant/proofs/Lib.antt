@@ -1,1 +1,2 @@
+mod AcceptedExamples
 mod Examples

@@ -4,7 +4,7 @@ use Rattle.ads_plant.specs.Plain.{kind_id}
 use Rattle.ads_plant.specs.Listed.{NamedType}
 use Rattle.ads_plant.specs.Trees.{TypeTree, PlainTree, TextTree, EnumTree, ArrayTree, StructTree, tree_of}
 use Rattle.ads_plant.specs.Spelling.{type_text}
-use Rattle.ads_plant.specs.Description.{Symbol, Port}
+use Rattle.ads_plant.specs.Description.{Symbol}
 
 -- That each array and each structure has the id 65 is this project's own choice.
 abbrev pub type_id : TypeTree → ℕ

@@ -7,4 +7,6 @@ pub mod Spelling
 pub mod SameTypes
 pub mod Description
 pub mod Entries
+pub mod AcceptedTypes
+pub mod Accepted
 pub mod World

@@ -1,5 +1,5 @@
 -- Types as a description lists them: each named type names only earlier ones, by their places in the list.
-use Rattle.std.specs.Prelude.{ℕ, List, ℤ}
+use Rattle.std.specs.Prelude.{ℕ, List, ℤ, Bool, true, false}
 use Rattle.ads_plant.specs.Plain.{Kind}
 
 -- one dimension of an array: the least index, and how many there are
@@ -39,3 +39,11 @@ pub data NamedType : Type 0 where
 abbrev pub type_name : NamedType → List ℕ
 type_name (Structure name members) = name
 type_name (Enumeration name base values) = name
+
+abbrev pub is_structure : NamedType → Bool
+is_structure (Structure name members) = true
+is_structure (Enumeration name base values) = false
+
+abbrev pub is_enumeration : NamedType → Bool
+is_enumeration (Structure name members) = false
+is_enumeration (Enumeration name base values) = true

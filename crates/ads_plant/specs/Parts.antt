@@ -1,9 +1,9 @@
 -- Parts of a type: the members of structures and the elements of arrays, and where steps lead.
-use Rattle.std.specs.Prelude.{ℕ, zero, suc, ◌+◌, ◌*◌, List, [], ◌∷◌, ◌++◌, Bool, true, false, ◌&&◌, nat_lt, if◌then◌else◌, Option, Some, None, option_map, option_and_then, bytes_eq, ℤ, pos, negsuc, ◌-ℤ◌}
+use Rattle.std.specs.Prelude.{ℕ, ◌+◌, ◌*◌, List, [], ◌∷◌, nat_lt, if◌then◌else◌, Option, Some, None, option_map, option_and_then, bytes_eq, ℤ, pos, negsuc, ◌-ℤ◌}
 use Rattle.name_paths.specs.Identifier.{lower}
 use Rattle.name_paths.specs.Path.{Step, name_step, index_step}
 use Rattle.ads_plant.specs.Listed.{Bound}
-use Rattle.ads_plant.specs.Trees.{TypeTree, PlainTree, TextTree, EnumTree, ArrayTree, StructTree, MemberTrees, NoMember, MemberTree}
+use Rattle.ads_plant.specs.Trees.{TypeTree, ArrayTree, StructTree, MemberTrees, NoMember, MemberTree}
 use Rattle.ads_plant.specs.Sizes.{type_size, member_start}
 
 -- a part: its first byte within the whole, and its type

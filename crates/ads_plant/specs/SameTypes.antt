@@ -1,7 +1,7 @@
 -- When a symbol's type in a new description is the one that it was: the canonical texts are equal byte for byte, and
 -- each type named in them is in both a structure with members of the same names (ASCII case aside), places and types,
 -- or in both an enumeration with the same base.
-use Rattle.std.specs.Prelude.{ℕ, ◌+◌, List, Bool, true, false, ◌&&◌, ◌==◌, bytes_eq}
+use Rattle.std.specs.Prelude.{ℕ, ◌+◌, Bool, true, false, ◌&&◌, ◌==◌, bytes_eq}
 use Rattle.name_paths.specs.Identifier.{lower}
 use Rattle.ads_plant.specs.Plain.{Kind, kind_name}
 use Rattle.ads_plant.specs.Trees.{TypeTree, PlainTree, TextTree, EnumTree, ArrayTree, StructTree, MemberTrees, NoMember, MemberTree}

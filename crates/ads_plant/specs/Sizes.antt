@@ -44,3 +44,16 @@ unfoldable mutual
   members_end at NoMember = at
   members_end at (MemberTree name type comment members) =
       members_end (member_start at type + type_size type) members
+
+unfoldable mutual
+  -- how deep structures are nested: a structure of plain types alone is 1 deep
+  pub type_depth : TypeTree → ℕ
+  type_depth (PlainTree kind) = 0
+  type_depth (TextTree n) = 0
+  type_depth (EnumTree name base) = 0
+  type_depth (ArrayTree bounds element) = type_depth element
+  type_depth (StructTree name members) = 1 + greatest_depth members
+
+  pub greatest_depth : MemberTrees → ℕ
+  greatest_depth NoMember = 0
+  greatest_depth (MemberTree name type comment members) = max (type_depth type) (greatest_depth members)

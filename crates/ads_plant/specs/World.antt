@@ -4,7 +4,7 @@ use Rattle.name_paths.specs.Identifier.{lower}
 use Rattle.ads_plant.specs.Listed.{NamedType}
 use Rattle.ads_plant.specs.Trees.{TypeTree, tree_of}
 use Rattle.ads_plant.specs.Sizes.{type_size}
-use Rattle.ads_plant.specs.Description.{Rights, Route, Area, Inputs, Outputs, Memory, Process, Sizes, Facts, Symbol, Port, Description}
+use Rattle.ads_plant.specs.Description.{Route, Area, Inputs, Outputs, Memory, Process, Sizes, Facts, Symbol, Port, Description}
 
 -- a symbol with the tree of its type
 pub record PlantSymbol : Type 0 where
