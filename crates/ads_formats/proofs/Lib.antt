@@ -1,3 +1,5 @@
 pub mod Examples
 pub mod Fields
+pub mod Forms
 pub mod HeaderLemmas
+pub mod RequestLemmas
