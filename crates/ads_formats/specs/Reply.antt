@@ -2,17 +2,11 @@
 -- Every number is little-endian, and the first is the result.
 use Rattle.std.specs.Prelude.{◌≡◌, ℕ, ◌+◌, ◌<◌, ◌^◌, List, [], ◌∷◌, ◌++◌, length, take, drop, slice_index, replicate, Option, Some, None, ◌==◌, if◌then◌else◌}
 use Rattle.std.specs.Int.{w16, w32, to_le_bytes}
+use Rattle.ads_plant.specs.Description.{Facts}
 use Rattle.ads_formats.specs.Numbers.{number16, number32, at_length}
 
--- what ReadDeviceInfo tells of a device: its version, and its name in 16 bytes
-pub record DeviceFacts : Type 0 where
-  pub major : ℕ
-  pub minor : ℕ
-  pub build : ℕ
-  pub name : List ℕ
-
 pub data Reply : Type 0 where
-  ReadDeviceInfo : (result : ℕ) (facts : DeviceFacts) → Reply
+  ReadDeviceInfo : (result : ℕ) (facts : Facts) → Reply
   Read : (result : ℕ) (bytes : List ℕ) → Reply
   Write : (result : ℕ) → Reply
   ReadState : (result ads device : ℕ) → Reply
@@ -42,7 +36,7 @@ result_of (DeleteDeviceNotification result) = result
 result_of (ReadWrite result bytes) = result
 
 -- major 1, minor 1, build 2, name 16
-abbrev pub facts_bytes : DeviceFacts → List ℕ
+abbrev pub facts_bytes : Facts → List ℕ
 facts_bytes facts = facts.major ∷ facts.minor ∷ [] ++ to_le_bytes w16 facts.build ++ facts.name
 
 -- what stands behind the result
@@ -106,7 +100,7 @@ pub record ReplyForm : Type 0 where
 abbrev form : ℕ → (List ℕ → Option Reply) → ReplyForm
 form command read = record { command = command; read = read }
 
-abbrev facts_at : ℕ → List ℕ → DeviceFacts
+abbrev facts_at : ℕ → List ℕ → Facts
 facts_at at p = record {
   major = slice_index p at;
   minor = slice_index p (at + 1);
