@@ -1,0 +1,18 @@
+//! Types and descriptions: how a type lies in memory, what its parts are, and how it is written.
+#![tactic(auto)]
+
+mod description;
+mod enumerations;
+mod kind;
+mod named_type;
+mod port;
+mod shape;
+mod structures;
+
+pub use description::{Description, Rights, RouteDesc, Routes4};
+pub use enumerations::{EnumType, EnumValue, EnumValues};
+pub use kind::Kind;
+pub use named_type::{NamedType, Types};
+pub use port::{Area, DeviceFacts4, Nets, PortDesc, PortList, Sizes, SymbolDesc, Symbols};
+pub use shape::{Bound, Bounds, Elem, Shape, TypeRef};
+pub use structures::{Member, Members, StructType};
