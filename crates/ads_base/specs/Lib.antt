@@ -1,2 +1,4 @@
+pub mod Decimal
 pub mod ListOf
+pub mod NetId
 pub mod Octets

@@ -3,6 +3,7 @@
 
 mod ams_addr;
 mod calls;
+mod decimal;
 mod fields;
 mod list_of;
 mod net_id;
@@ -15,6 +16,7 @@ mod tests;
 
 pub use ams_addr::AmsAddr;
 pub use calls::Calls;
+pub use decimal::{read_decimal, split_decimal};
 pub use fields::{get16, get32, get64, put16, put32, put64};
 pub use list_of::ListOf;
 pub use net_id::NetId;
