@@ -1,9 +1,9 @@
 -- A number that is read at a place is the number that was written there.
-use Rattle.std.proofs.Common.{◌≡◌, ℕ, ◌+◌, ◌^◌, ◌<◌, ◌≤◌, List, [], ◌++◌, length, get_or, take, drop, refl, sym, ap, ◌∙◌, append_assoc, arith}
+use Rattle.std.proofs.Common.{◌≡◌, ℕ, ◌+◌, ◌^◌, ◌<◌, ◌≤◌, List, [], ◌∷◌, ◌++◌, length, get_or, take, drop, refl, sym, ap, ◌∙◌, append_assoc, arith}
 use Rattle.std.specs.Int.{w16, w32, w64, to_le_bytes, from_le_bytes}
 use Rattle.std.proofs.lemmas.Bool.{cases_lt}
 use Rattle.std.proofs.Common.{inl, inr}
-use Rattle.std.proofs.lemmas.List.{append-nil, take-append-drop, drop-drop, length-drop, length-take, length-take-le, get_or-drop, get_or-take, drop_all}
+use Rattle.std.proofs.lemmas.List.{append-nil, take-append-drop, drop-drop, length-drop, length-take, length-take-le, get_or-drop, get_or-take, drop_all, drop_more}
 use Rattle.std.proofs.lemmas.List.{get_or_past}
 use Rattle.std.proofs.lemmas.Nat.{le_bytes_2, le_bytes_4, le_bytes_8}
 use Rattle.ads_formats.specs.Numbers.{AreBytes, number16, number32, number64}
@@ -71,6 +71,11 @@ next16 before at p h within e = next_field p before (drop at p) (to_le_bytes w16
 pub next32 : (before : List ℕ) (at : ℕ) (p : List ℕ) → AreBytes p → at + 4 ≤ length p → before ++ drop at p ≡ p
     → (before ++ to_le_bytes w32 (number32 at p)) ++ drop (at + 4) p ≡ p
 next32 before at p h within e = next_field p before (drop at p) (to_le_bytes w32 (number32 at p)) (drop (at + 4) p) e (number32-front at p h within)
+
+-- the next byte of a payload
+pub next8 : (before : List ℕ) (at : ℕ) (p : List ℕ) → at < length p → before ++ drop at p ≡ p
+  → (before ++ get_or p at 0 ∷ []) ++ drop (at + 1) p ≡ p
+next8 before at p within e = next_field p before (drop at p) (get_or p at 0 ∷ []) (drop (at + 1) p) e (sym (drop_more p at 0 within))
 
 -- nothing follows the last field
 pub no_more : (before rest p : List ℕ) → before ++ rest ≡ p → rest ≡ [] → before ≡ p

@@ -3,3 +3,4 @@ pub mod Fields
 pub mod Forms
 pub mod HeaderLemmas
 pub mod RequestLemmas
+pub mod ReplyLemmas

@@ -100,7 +100,7 @@ pub record ReplyForm : Type 0 where
 abbrev form : ℕ → (List ℕ → Option Reply) → ReplyForm
 form command read = record { command = command; read = read }
 
-abbrev facts_at : ℕ → List ℕ → Facts
+abbrev pub facts_at : ℕ → List ℕ → Facts
 facts_at at p = record {
   major = slice_index p at;
   minor = slice_index p (at + 1);
