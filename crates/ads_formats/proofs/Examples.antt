@@ -7,7 +7,7 @@ use Rattle.ads_formats.specs.Request as request
 use Rattle.ads_formats.specs.Reply as reply
 use Rattle.ads_formats.specs.Notification.{notification_bytes}
 use Rattle.ads_formats.specs.NotificationReading.{sample_of, samples_of, stamp_of, stamps_of, notification_of}
-use Rattle.ads_formats.specs.SymbolEntry.{SymbolEntry, entry_bytes, entry_of}
+use Rattle.ads_formats.specs.SymbolEntry.{SymbolEntry, entry_bytes, is_entry, entry_of}
 
 -- ReadState from 192.168.0.9.1.1, port 32905, to 5.1.2.3.1.1, port 851, invoke id 1
 abbrev read_state : List ℕ
@@ -175,11 +175,11 @@ unfolding count_entry count_entry_text
 an_entry_is_written = refl
 
 an_entry_is_read : entry_of (count_entry_text ++ 1 ∷ []) ≡ Some (count_entry, 1 ∷ [])
-unfolding count_entry count_entry_text entry_of
+unfolding count_entry count_entry_text entry_of is_entry
 an_entry_is_read = refl
 
 a_cut_entry_is_none : entry_of (take 46 count_entry_text) ≡ None
-unfolding count_entry_text entry_of
+unfolding count_entry_text entry_of is_entry
 a_cut_entry_is_none = refl
 
 symbol_not_found_has_its_text : text_of_code 0x710 ≡ Some (codes "symbol not found")

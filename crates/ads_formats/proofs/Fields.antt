@@ -74,7 +74,7 @@ next32 before at p h within e = next_field p before (drop at p) (to_le_bytes w32
 
 -- the next byte of a payload
 pub next8 : (before : List ℕ) (at : ℕ) (p : List ℕ) → at < length p → before ++ drop at p ≡ p
-  → (before ++ get_or p at 0 ∷ []) ++ drop (at + 1) p ≡ p
+    → (before ++ get_or p at 0 ∷ []) ++ drop (at + 1) p ≡ p
 next8 before at p within e = next_field p before (drop at p) (get_or p at 0 ∷ []) (drop (at + 1) p) e (sym (drop_more p at 0 within))
 
 -- nothing follows the last field

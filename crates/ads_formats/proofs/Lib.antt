@@ -4,3 +4,4 @@ pub mod Forms
 pub mod HeaderLemmas
 pub mod RequestLemmas
 pub mod ReplyLemmas
+pub mod EntryLemmas

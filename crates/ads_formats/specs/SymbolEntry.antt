@@ -58,31 +58,45 @@ pub record BeginsWithEntry (bytes : List ℕ) (e : SymbolEntry) (rest : List ℕ
 abbrev pub upload_bytes : List SymbolEntry → List ℕ
 upload_bytes entries = flat_map entry_bytes entries
 
+-- a text of this length ends in NUL
+abbrev pub ends_in_nul : ℕ → List ℕ → Bool
+ends_in_nul len bytes = slice_index bytes len == 0
+
+-- what follows a text of this length and its NUL
+abbrev pub after_text : ℕ → List ℕ → List ℕ
+after_text len bytes = drop (len + 1) bytes
+
+-- where the three texts begin: behind the fields of fixed width
+abbrev pub name_place : List ℕ → List ℕ
+name_place bytes = drop 30 bytes
+
+abbrev pub type_place : List ℕ → List ℕ
+type_place bytes = after_text (number16 24 bytes) (name_place bytes)
+
+abbrev pub comment_place : List ℕ → List ℕ
+comment_place bytes = after_text (number16 26 bytes) (type_place bytes)
+
 -- the entry whose fields stand in front
 abbrev pub entry_at : List ℕ → SymbolEntry
-entry_at bytes =
-    let name_len = number16 24 bytes in
-    let type_len = number16 26 bytes in
-    record {
-      group = number32 4 bytes;
-      offset = number32 8 bytes;
-      size = number32 12 bytes;
-      type_id = number32 16 bytes;
-      flags = number32 20 bytes;
-      name = take name_len (drop 30 bytes);
-      type_name = take type_len (drop (31 + name_len) bytes);
-      comment = take (number16 28 bytes) (drop (32 + name_len + type_len) bytes);
-    }
+entry_at bytes = record {
+  group = number32 4 bytes;
+  offset = number32 8 bytes;
+  size = number32 12 bytes;
+  type_id = number32 16 bytes;
+  flags = number32 20 bytes;
+  name = take (number16 24 bytes) (name_place bytes);
+  type_name = take (number16 26 bytes) (type_place bytes);
+  comment = take (number16 28 bytes) (comment_place bytes);
+}
 
 -- the entry's length covers the three texts and does not go past the bytes, and each text ends in NUL
-abbrev pub is_entry : List ℕ → Bool
+unfoldable pub is_entry : List ℕ → Bool
 is_entry bytes =
-    let name_end = 30 + number16 24 bytes in
-    let type_end = name_end + 1 + number16 26 bytes in
-    let comment_end = type_end + 1 + number16 28 bytes in
-    nat_le (comment_end + 1) (number32 0 bytes) && nat_le (number32 0 bytes) (length bytes)
-    && (slice_index bytes name_end == 0) && (slice_index bytes type_end == 0)
-    && (slice_index bytes comment_end == 0)
+    nat_le (33 + number16 24 bytes + number16 26 bytes + number16 28 bytes) (number32 0 bytes)
+    && nat_le (number32 0 bytes) (length bytes)
+    && ends_in_nul (number16 24 bytes) (name_place bytes)
+    && ends_in_nul (number16 26 bytes) (type_place bytes)
+    && ends_in_nul (number16 28 bytes) (comment_place bytes)
 
 -- the first entry, and the bytes after it
 unfoldable pub entry_of : List ℕ → Option (SymbolEntry × List ℕ)
