@@ -1,2 +1,3 @@
 mod AcceptedExamples
 mod Examples
+pub mod TypeLemmas

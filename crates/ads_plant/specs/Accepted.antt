@@ -1,7 +1,8 @@
 -- Which descriptions are accepted for a number of signals: description rules 4 to 15, said over the value. A value
 -- knows no schema, so the limit of a port's image is the greater one.
-use Rattle.std.specs.Prelude.{ℕ, zero, suc, ◌+◌, ◌-◌, ◌^◌, ◌≤◌, ◌<◌, List, [], ◌∷◌, length, map, take, Bool, true, false, ◌&&◌, ◌||◌, not, ◌==◌, nat_le, nat_lt, Option, Some, None, IsTrue, bytes_eq, ℤ, pos, negsuc, flat_map}
+use Rattle.std.specs.Prelude.{ℕ, slice_get, ◌+◌, ◌-◌, ◌^◌, ◌≤◌, ◌<◌, List, [], ◌∷◌, length, map, take, Bool, true, false, ◌&&◌, ◌||◌, not, ◌==◌, nat_le, nat_lt, Option, Some, None, IsTrue, bytes_eq, ℤ, pos, negsuc, flat_map}
 use Rattle.std.specs.List.{list_all, list_any, filter_map, starts_with}
+use Rattle.std.specs.Option.{option_map_or}
 use Rattle.std.specs.Int.{to_le_bytes, w64}
 use Rattle.name_paths.specs.Name.{is_symbol_name, lower_identifiers}
 use Rattle.ads_plant.specs.Plain.{Kind, kind_size}
@@ -45,9 +46,7 @@ is_value_of bytes (Enumeration name base values) =
     list_any (λ (v : EnumValue). bytes_eq (number_bytes base v.number) bytes) values
 
 abbrev pub is_value_at : List ℕ → List NamedType → ℕ → Bool
-is_value_at bytes [] place = false
-is_value_at bytes (t ∷ ts) zero = is_value_of bytes t
-is_value_at bytes (t ∷ ts) (suc place) = is_value_at bytes ts place
+is_value_at bytes types place = option_map_or (is_value_of bytes) (slice_get types place) false
 
 -- where a symbol's own type is an enumeration, it begins with one of the values
 abbrev pub begins_with_value : List NamedType → Shape → List ℕ → Bool

@@ -1,10 +1,11 @@
 -- Which lists of types are accepted: description rules 6, 7 and 8, said over the value.
-use Rattle.std.specs.Prelude.{ℕ, zero, suc, ◌-◌, ◌*◌, ◌^◌, ◌≤◌, List, [], ◌∷◌, ◌++◌, length, map, Bool, true, false, ◌&&◌, not, ◌==◌, nat_le, nat_lt, if◌then◌else◌, IsTrue, bytes_eq, codes, ℤ, pos, negsuc}
+use Rattle.std.specs.Prelude.{ℕ, slice_get, ◌-◌, ◌*◌, ◌^◌, ◌≤◌, List, [], ◌∷◌, ◌++◌, length, map, Bool, true, false, ◌&&◌, not, ◌==◌, nat_le, nat_lt, if◌then◌else◌, IsTrue, bytes_eq, codes, ℤ, pos, negsuc}
 use Rattle.std.specs.List.{list_all}
+use Rattle.std.specs.Option.{option_map_or}
 use Rattle.name_paths.specs.Identifier.{is_identifier, lower}
 use Rattle.ads_plant.specs.Plain.{Kind, all_kinds, kind_name, kind_size, is_base, is_signed}
 use Rattle.ads_plant.specs.Listed.{Bound, Elem, Plain, Text, Struct, Enum, Shape, One, Array, Member, EnumValue, NamedType, Structure, Enumeration, type_name, is_structure, is_enumeration}
-use Rattle.ads_plant.specs.Trees.{TypeTree, trees_of, named_tree}
+use Rattle.ads_plant.specs.Trees.{TypeTree, trees_of, named_tree, tree_of}
 use Rattle.ads_plant.specs.Sizes.{element_count, type_size, type_depth}
 use Rattle.ads_plant.specs.Spelling.{high_of}
 
@@ -47,14 +48,10 @@ are_bounds bounds = nat_lt 0 (length bounds) && nat_le (length bounds) 3 && list
 
 -- whether there is a structure, or an enumeration, at this place of a list
 abbrev pub is_structure_at : List NamedType → ℕ → Bool
-is_structure_at [] place = false
-is_structure_at (t ∷ ts) zero = is_structure t
-is_structure_at (t ∷ ts) (suc place) = is_structure_at ts place
+is_structure_at known place = option_map_or is_structure (slice_get known place) false
 
 abbrev pub is_enumeration_at : List NamedType → ℕ → Bool
-is_enumeration_at [] place = false
-is_enumeration_at (t ∷ ts) zero = is_enumeration t
-is_enumeration_at (t ∷ ts) (suc place) = is_enumeration_at ts place
+is_enumeration_at known place = option_map_or is_enumeration (slice_get known place) false
 
 -- an element that names only these types
 abbrev pub is_elem : List NamedType → Elem → Bool
@@ -127,3 +124,14 @@ are_types_behind known (t ∷ ts) = is_next_type known t && are_types_behind (kn
 pub record AreTypes (types : List NamedType) : Type 0 where
   pub count : length types ≤ 1000
   pub each : IsTrue (are_types_behind [] types)
+
+-- the element of a shape
+abbrev pub elem_within : Shape → Elem
+elem_within (One elem) = elem
+elem_within (Array bounds elem) = elem
+
+-- a type that names only types of the list, with at most 1,048,576 elements and bytes
+pub record IsSized (types : List NamedType) (shape : Shape) : Type 0 where
+  pub named : IsTrue (is_elem types (elem_within shape))
+  pub few_elements : IsTrue (is_small_shape shape)
+  pub few_bytes : type_size (tree_of types shape) ≤ LIMIT

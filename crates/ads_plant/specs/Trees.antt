@@ -1,5 +1,5 @@
 -- Types as trees, and the trees that the types of a list stand for.
-use Rattle.std.specs.Prelude.{ℕ, zero, suc, List, [], ◌∷◌, ◌++◌}
+use Rattle.std.specs.Prelude.{ℕ, List, [], ◌∷◌, ◌++◌, slice_get, unwrap_or}
 use Rattle.ads_plant.specs.Plain.{Kind}
 use Rattle.ads_plant.specs.Listed.{Bound, Elem, Plain, Text, Struct, Enum, Shape, One, Array, Member, NamedType, Structure, Enumeration}
 
@@ -19,9 +19,7 @@ mutual
 
 -- the tree at a place; a place that is not in the list stands for a structure of no members
 abbrev pub tree_at : List TypeTree → ℕ → TypeTree
-tree_at [] place = StructTree [] NoMember
-tree_at (t ∷ ts) zero = t
-tree_at (t ∷ ts) (suc place) = tree_at ts place
+tree_at known place = unwrap_or (slice_get known place) (StructTree [] NoMember)
 
 -- the tree of an element, where these are the trees of the list
 abbrev pub elem_tree : List TypeTree → Elem → TypeTree
