@@ -1,5 +1,5 @@
 -- Worked examples of the definitions, by computation.
-use Rattle.std.proofs.Common.{◌≡◌, true, false, refl, List, [], ◌∷◌, Some, None, pos, negsuc}
+use Rattle.std.proofs.Common.{◌≡◌, true, false, refl, [], ◌∷◌, Some, None, pos, negsuc}
 use Rattle.std.specs.Prelude.{codes}
 use Rattle.name_paths.specs.Identifier.{is_identifier, lower}
 use Rattle.name_paths.specs.Name.{is_symbol_name, identifiers_of}

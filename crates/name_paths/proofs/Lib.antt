@@ -1,1 +1,4 @@
 mod Examples
+pub mod NumberLemmas
+pub mod PieceLemmas
+pub mod SplitLemmas

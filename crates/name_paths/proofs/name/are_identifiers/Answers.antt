@@ -1,0 +1,13 @@
+use Rattle.std.proofs.Common.{rules, tests}
+use Rattle.std.proofs.lemmas.Iterator.Search.{all_from_yields_List}
+use Rattle.std.proofs.lemmas.Iterator.Splits.{YieldsList-from_slice_split}
+use Rattle.name_paths.specs.Identifier.{is_identifier}
+use Rattle.name_paths.specs.Name.{is_full_stop}
+use Rattle.name_paths.proofs.name.are_identifiers.Goals as goal
+
+pub returns : goal.returns
+returns c =
+    all_from_yields_List is_identifier _ _ _ c.all.ensures.ran
+    (YieldsList-from_slice_split _ is_full_stop _ c.split.ensures.rest c.split.ensures.done c.split.ensures.closure
+    (λ x b q k. search (rules, tests)))
+    (λ x b q k. search (rules, tests))
