@@ -5,3 +5,4 @@ pub mod HeaderLemmas
 pub mod RequestLemmas
 pub mod ReplyLemmas
 pub mod EntryLemmas
+pub mod NotificationLemmas
