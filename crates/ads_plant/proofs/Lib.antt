@@ -1,3 +1,4 @@
 mod AcceptedExamples
 mod Examples
 pub mod TypeLemmas
+mod TypeTextExamples

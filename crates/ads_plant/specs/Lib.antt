@@ -10,3 +10,4 @@ pub mod Entries
 pub mod AcceptedTypes
 pub mod Accepted
 pub mod World
+pub mod TypeTexts
