@@ -1,5 +1,5 @@
 -- Worked examples, computed.
-use Rattle.std.specs.Prelude.{◌≡◌, ℕ, List, [], ◌∷◌, ◌++◌, length, take, drop, Option, Some, None, codes}
+use Rattle.std.specs.Prelude.{◌≡◌, ℕ, Result, Ok, Err, List, [], ◌∷◌, ◌++◌, length, take, drop, Option, Some, None, codes}
 use Rattle.std.proofs.Common.{refl}
 use Rattle.ads_formats.specs.Codes.{text_in, text_of_code}
 use Rattle.ads_formats.specs.Header.{AmsHeader, header_bytes, header_of, payload_of, response_header}
@@ -7,6 +7,10 @@ use Rattle.ads_formats.specs.Request as request
 use Rattle.ads_formats.specs.Reply as reply
 use Rattle.ads_formats.specs.Notification.{notification_bytes}
 use Rattle.ads_formats.specs.NotificationReading.{sample_of, samples_of, stamp_of, stamps_of, notification_of}
+use Rattle.ads_plant.specs.Description.{Sizes, Memory, Process}
+use Rattle.ads_formats.specs.Groups.{group_in, group_of}
+use Rattle.ads_formats.specs.Ranges.{Range, Bytes, Bit, Size, byte_range, bit_range, size_range, range_in, range_of}
+use Rattle.ads_formats.specs.TypeEntry.{TypeFields, sub_bytes}
 use Rattle.ads_formats.specs.SymbolEntry.{SymbolEntry, entry_bytes, is_entry, entry_of}
 
 -- ReadState from 192.168.0.9.1.1, port 32905, to 5.1.2.3.1.1, port 851, invoke id 1
@@ -185,3 +189,32 @@ a_cut_entry_is_none = refl
 symbol_not_found_has_its_text : text_of_code 0x710 ≡ Some (codes "symbol not found")
 unfolding text_in
 symbol_not_found_has_its_text = refl
+
+sizes : Sizes
+sizes = record { inputs = 0; outputs = 0; memory = 32; process = 128 }
+
+-- an access, its range or its code
+abbrev Gives : ℕ → ℕ → ℕ → Result Range ℕ → Type 0
+Gives group offset len answer = range_of sizes group offset len ≡ answer
+
+ranges_at_the_edges :
+    Gives 0x4040 128 0 (Ok (Bytes Process 128 0)) × Gives 0x4040 128 1 (Err 0x705) × Gives 0x4040 129 0 (Err 0x703)
+    × Gives 0x4021 3 1 (Ok (Bit Memory 0 3)) × Gives 0x4021 3 2 (Err 0x705) × Gives 0x4021 256 1 (Err 0x703)
+    × Gives 0x4025 9 8 (Ok (Size Memory)) × Gives 0x4025 0 3 (Err 0x705) × Gives 0xF003 0 4 (Err 0x702)
+unfolding sizes range_of range_in group_of group_in byte_range bit_range size_range
+ranges_at_the_edges = (refl, refl, refl, refl, refl, refl, refl, refl, refl)
+
+-- the first member of a structure: `active`, a BOOL at place 0
+a_sub_entry_is_written : sub_bytes (record {
+  size = 1;
+  offset = 0;
+  type_id = 33;
+  flags = 2;
+  name = codes "active";
+  type_name = codes "BOOL";
+  comment = [];
+  dimensions = [];
+}) ≡
+    0x37 ∷ 0 ∷ 0 ∷ 0 ∷ 1 ∷ 0 ∷ 0 ∷ 0 ∷ 0 ∷ 0 ∷ 0 ∷ 0 ∷ 0 ∷ 0 ∷ 0 ∷ 0 ∷ 1 ∷ 0 ∷ 0 ∷ 0 ∷ 0 ∷ 0 ∷ 0 ∷ 0 ∷ 0x21 ∷ 0 ∷ 0 ∷ 0 ∷ 2 ∷ 0 ∷ 0 ∷ 0
+    ∷ 6 ∷ 0 ∷ 4 ∷ 0 ∷ 0 ∷ 0 ∷ 0 ∷ 0 ∷ 0 ∷ 0 ∷ 0x61 ∷ 0x63 ∷ 0x74 ∷ 0x69 ∷ 0x76 ∷ 0x65 ∷ 0 ∷ 0x42 ∷ 0x4f ∷ 0x4f ∷ 0x4c ∷ 0 ∷ 0 ∷ []
+a_sub_entry_is_written = refl

@@ -6,3 +6,6 @@ pub mod Reply
 pub mod Notification
 pub mod NotificationReading
 pub mod SymbolEntry
+pub mod Groups
+pub mod Ranges
+pub mod TypeEntry
