@@ -1,5 +1,5 @@
 -- Bytes written as hexadecimal text, with spaces where they help: for the worked examples.
-use Rattle.std.specs.Prelude.{ℕ, ◌+◌, ◌-◌, ◌*◌, List, [], ◌∷◌, codes, nat_le, ◌==◌, if◌then◌else◌}
+use Rattle.std.specs.Prelude.{ℕ, ◌+◌, ◌-◌, ◌*◌, List, [], ◌∷◌, nat_le, ◌==◌, if◌then◌else◌}
 
 abbrev digit_of : ℕ → ℕ
 digit_of b = if nat_le 97 b then b - 87 else b - 48

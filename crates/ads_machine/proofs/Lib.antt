@@ -2,3 +2,13 @@ mod Hex
 mod SelftestExamples
 pub mod Find
 mod ScriptExamples
+pub mod Growth
+pub mod Waiting
+pub mod Changes
+pub mod Delivered
+pub mod TurnsKept
+pub mod Played
+pub mod Emptied
+pub mod EmptiedTurns
+pub mod AllTaken
+pub mod Carried

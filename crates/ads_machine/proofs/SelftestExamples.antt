@@ -6,7 +6,7 @@ use Rattle.ads_outside.specs.declared.event.Event.TheVariants as event
 use Rattle.ads_outside.specs.declared.moves.Move.{Move}
 use Rattle.ads_outside.specs.declared.moves.Move.TheVariants as move
 use Rattle.ads_machine.specs.Connection.{produce, produce_all, connection_of, put_back}
-use Rattle.ads_machine.specs.MachineState.{MachineState, start_of}
+use Rattle.ads_machine.specs.MachineState.{start_of}
 use Rattle.ads_machine.specs.Piece.{after_packet, after_packets, after_piece}
 use Rattle.ads_machine.specs.Moves.{state_after_event, state_after_move, state_after}
 use Rattle.ads_machine.specs.Offers.{left_after}

@@ -17,3 +17,4 @@ pub mod Reading
 pub mod Script
 pub mod LogText
 pub mod SummaryText
+pub mod Delivery

@@ -1,8 +1,7 @@
 -- How the connections of a script answer offers: each takes all, or as much as its room holds, or
 -- the offer fails.
-use Rattle.std.specs.Prelude.{ℕ, ◌-◌, List, [], ◌∷◌, ◌++◌, length, take, min, map, filter, Bool}
-use Rattle.std.specs.Prelude.{true, false, ◌||◌, not, nat_lt, ◌==◌, if◌then◌else◌, Option, Some}
-use Rattle.std.specs.Prelude.{None}
+use Rattle.std.specs.Prelude.{ℕ, ◌-◌, List, [], ◌∷◌, ◌++◌, length, take, min, Bool}
+use Rattle.std.specs.Prelude.{nat_lt, ◌==◌, if◌then◌else◌}
 use Rattle.ads_outside.specs.declared.moves.Move.{Move}
 use Rattle.ads_outside.specs.declared.moves.Move.TheVariants as move
 use Rattle.ads_machine.specs.Offers.{blocked_after_move, is_among}

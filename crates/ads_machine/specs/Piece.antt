@@ -1,5 +1,5 @@
 -- A piece of a connection's bytes: it is cut into frames, which the device answers in order.
-use Rattle.std.specs.Prelude.{ℕ, ◌+◌, List, [], ◌∷◌, ◌++◌, drop, Bool, true, false, if◌then◌else◌}
+use Rattle.std.specs.Prelude.{ℕ, ◌+◌, List, [], ◌∷◌, ◌++◌, drop, if◌then◌else◌}
 use Rattle.ads_frames.specs.Frame.{frame_bytes}
 use Rattle.ads_frames.specs.Division.{frames_of, rest_of, front_of, is_broken}
 use Rattle.ads_machine.specs.Device.{Device, Answer, Answered, Silent, Closing, FrameOutcome, Reply}

@@ -1,11 +1,11 @@
 -- The built-in device of `selftest`. This project's own choice: it knows one request, ReadState,
 -- from one NetId, and answers any other frame as an unknown command.
 -- Beckhoff Information System, "AMS Header", "ADS Read State".
-use Rattle.std.specs.Prelude.{ℕ, ◌+◌, List, [], ◌∷◌, ◌++◌, length, take, drop, Bool, ◌&&◌, bytes_eq}
+use Rattle.std.specs.Prelude.{ℕ, List, [], ◌∷◌, ◌++◌, length, take, drop, Bool, ◌&&◌, bytes_eq}
 use Rattle.std.specs.Prelude.{◌==◌, if◌then◌else◌}
 use Rattle.std.specs.Int.{w16, w32, to_le_bytes}
-use Rattle.ads_machine.specs.Device.{Device, Answer, Answered, FrameOutcome, ClientOutcome}
-use Rattle.ads_machine.specs.Device.{Reloading, Refused}
+use Rattle.ads_machine.specs.Device.{Device, Answered}
+use Rattle.ads_machine.specs.Device.{Refused}
 
 -- the target is 5.1.2.3.1.1, port 851; the source is 192.168.0.9.1.1, any port
 abbrev pub TARGET : List ℕ

@@ -1,0 +1,160 @@
+-- What a connection took begins what it was given.
+use Rattle.std.proofs.Common.{◌≡◌, ℕ, ◌+◌, ◌≤◌, List, [], ◌∷◌, ◌++◌, map, length, take, drop, Bool, true, false, cond, refl, sym, ◌∙◌, ap, subst, inl, inr, arith, append_assoc, length-append}
+use Rattle.std.specs.Prelude.{Option, Some, None, ◌==◌, option_map}
+use Rattle.std.proofs.lemmas.Grind.{flat_map-append}
+use Rattle.std.proofs.lemmas.Bool.{cases_Bool, cases_eq, eqb-true, eqb-false}
+use Rattle.std.proofs.lemmas.List.{take-append-le, take-append-drop}
+use Rattle.std.proofs.Math.Seq.{take-add}
+use Rattle.ads_outside.specs.declared.event.Event.{Event}
+use Rattle.ads_outside.specs.declared.event.Event.TheVariants as event
+use Rattle.ads_outside.specs.declared.moves.Move.{Move}
+use Rattle.ads_outside.specs.declared.moves.Move.TheVariants as move
+use Rattle.ads_machine.specs.Device.{Device, Reloading, Accepted, Refused}
+use Rattle.ads_machine.specs.Connection.{Connection, fresh_connection, connection_of, bytes_of, bytes_of_all}
+use Rattle.ads_machine.specs.MachineState.{MachineState, Exchange, exchange_of, after_exchange, output_of_connection}
+use Rattle.ads_machine.specs.Piece.{after_piece}
+use Rattle.ads_machine.specs.Moves.{moment_of_tick, connection_after_tick, connection_after_reload, after_reload, with_gone, with_took, state_after_event, state_after_move, state_after}
+use Rattle.ads_machine.specs.Offers.{left_after, waiting_of, waiting_at, taken_of}
+use Rattle.ads_machine.specs.Turns.{IsOffer}
+use Rattle.ads_machine.specs.Delivery.{IsPrefix, AreOffers}
+use Rattle.ads_machine.proofs.Find.{or_else, connection_of-append, connection_of-map}
+use Rattle.ads_machine.proofs.Growth.{Grows, after_piece-grows, connection_after_tick-grows, connection_after_reload-grows}
+use Rattle.ads_machine.proofs.Waiting.{joined_bytes, offer_next}
+use Rattle.ads_machine.proofs.Changes.{KeepsNumber, exchange_own, exchange_other, exchange_none, with_gone-number, with_took-number}
+
+-- what was taken so far is the beginning of what was given, as far as the count says
+pub record Gave {C : Type 0} (t : List ℕ) (k : Connection C) : Type 0 where
+  pub is : t ≡ take k.took (bytes_of_all k.produced)
+  pub counted : k.took ≤ length (bytes_of_all k.produced)
+
+pub bytes_of_grown : {C : Type 0} (k l : Connection C) (x : Grows k l) → bytes_of_all l.produced ≡ bytes_of_all k.produced ++ bytes_of_all x.more
+bytes_of_grown k l x = ap bytes_of_all x.produced ∙ flat_map-append bytes_of k.produced x.more
+
+gave-grows : {C : Type 0} (t : List ℕ) (k l : Connection C) → Gave t k → Grows k l → Gave t l
+gave-grows t k l g x =
+    let all = bytes_of_grown k l x in
+    let c = g.counted in
+    record {
+      is = g.is ∙ sym (take-append-le k.took (bytes_of_all k.produced) (bytes_of_all x.more) c) ∙ ap (take k.took) (sym all) ∙ ap (λ n. take n (bytes_of_all l.produced)) (sym x.took);
+      counted = let s = x.took in let n = ap length all ∙ length-append (bytes_of_all k.produced) (bytes_of_all x.more) in omega (arith, c, s, n);
+    }
+
+abbrev pub MaybeGave : {C : Type 0} → List ℕ → Option (Connection C) → Type 0
+MaybeGave t None = t ≡ []
+MaybeGave t (Some k) = Gave t k
+
+-- a change of one connection that keeps what it gave
+local-gave : {W C : Type 0} (t : List ℕ) (c n : ℕ) (f : Exchange W C → Exchange W C) → KeepsNumber f → ((x : Exchange W C) → Gave t x.connection → Gave t (f x).connection) → (s : MachineState W C)
+    → MaybeGave t (connection_of c s.connections) → MaybeGave t (connection_of c (after_exchange (connection_of n s.connections) f s).connections)
+local-gave {W} {C} t c n f same keeps s g =
+    elim (cases_eq n c) [
+      | inr ne ↦ subst (MaybeGave t) (sym (exchange_other c n f same ne s)) g
+      | inl q ↦
+          let P : ℕ → Type 0 = λ i. MaybeGave t (connection_of c (after_exchange (connection_of i s.connections) f s).connections) in
+          subst P (sym q) (own (connection_of c s.connections) refl)
+    ]
+  where
+    own : (o : Option (Connection C)) → connection_of c s.connections ≡ o → MaybeGave t (connection_of c (after_exchange (connection_of c s.connections) f s).connections)
+    own None e = subst (λ (u : MachineState W C). MaybeGave t (connection_of c u.connections)) (sym (exchange_none c f s e)) g
+    own (Some k) e = subst (MaybeGave t) (sym (exchange_own c f same s k e)) (keeps (exchange_of s k) (subst (MaybeGave t) e g))
+
+mapped-gave : {C : Type 0} (t : List ℕ) (c : ℕ) (f : Connection C → Connection C) → ((k : Connection C) → Grows k (f k)) → (ks : List (Connection C)) → MaybeGave t (connection_of c ks) → MaybeGave t (connection_of c (map f ks))
+mapped-gave {C} t c f grows ks g = subst (MaybeGave t) (sym (connection_of-map c f (λ k. (grows k).number) ks)) (one (connection_of c ks) g)
+  where
+    one : (o : Option (Connection C)) → MaybeGave t o → MaybeGave t (option_map f o)
+    one None h = h
+    one (Some k) h = gave-grows t k (f k) h (grows k)
+
+opened-gave : {C : Type 0} (t : List ℕ) (c n : ℕ) (client : C) (ks : List (Connection C)) → MaybeGave t (connection_of c ks) → MaybeGave t (connection_of c (ks ++ fresh_connection client n ∷ []))
+unfolding connection_of
+opened-gave {C} t c n client ks g = subst (MaybeGave t) (sym (connection_of-append c ks (fresh_connection client n ∷ []))) (one (connection_of c ks) g)
+  where
+    one : (o : Option (Connection C)) → MaybeGave t o → MaybeGave t (or_else o (connection_of c (fresh_connection client n ∷ [])))
+    one (Some k) h = h
+    one None h =
+        elim (cases_Bool (n == c)) [
+          | inl b ↦ rw b (record { is = h; counted = omega arith })
+          | inr b ↦ rw b h
+        ]
+
+reload-gave : {W C : Type 0} (t : List ℕ) (c : ℕ) (device : Device W C) (r : Reloading W) (s : MachineState W C) → MaybeGave t (connection_of c s.connections) → MaybeGave t (connection_of c (after_reload device r s).connections)
+reload-gave t c device (Refused rule) s g = g
+reload-gave t c device (Accepted version world) s g = mapped-gave t c (connection_after_reload device s.moment s.world world) (connection_after_reload-grows device s.moment s.world world) s.connections g
+
+event-gave : {W C : Type 0} (t : List ℕ) (c : ℕ) (device : Device W C) (e : Event) (s : MachineState W C) → MaybeGave t (connection_of c s.connections) → MaybeGave t (connection_of c (state_after_event device s e).connections)
+unfolding state_after_event
+event-gave t c device (event.Opened n) s g = opened-gave t c n device.new_client s.connections g
+event-gave t c device (event.Piece n bytes) s g =
+    local-gave t c n (after_piece device bytes) (λ x. (after_piece-grows device bytes x).number) (λ x h. gave-grows t _ _ h (after_piece-grows device bytes x)) s g
+event-gave t c device (event.Closed n) s g = local-gave t c n with_gone with_gone-number (λ x h. record { is = h.is; counted = h.counted }) s g
+event-gave t c device (event.Tick now) s g =
+    let world = device.world_after_tick s.world in
+    let moment = moment_of_tick now s in
+    mapped-gave t c (connection_after_tick device moment world) (connection_after_tick-grows device moment world) s.connections g
+event-gave t c device (event.Reload bytes) s g = reload-gave t c device (device.reload bytes s.world) s g
+event-gave t c device (event.Writable n) s g = g
+
+-- an offer that was taken adds to what was taken
+took-gave : {W C : Type 0} (t : List ℕ) (x : Exchange W C) (offered : ℕ) (bytes : List ℕ) → Gave t x.connection → IsOffer (waiting_of (Some x.connection)) offered bytes → Gave (t ++ bytes) (with_took (length bytes) x).connection
+took-gave {W} {C} t x offered bytes g h = go x.connection.gone refl
+  where
+    more : Exchange W C
+    more = record x { connection = record x.connection { took = x.connection.took + length bytes } }
+
+    go : (b : Bool) → x.connection.gone ≡ b → Gave (t ++ bytes) (cond b x more).connection
+    go true e = let P : Bool → Type 0 = λ b. IsOffer (cond b [] (left_after x.connection.took (map bytes_of x.connection.produced))) offered bytes in absurd (subst P e h)
+    go false e =
+        let P : Bool → Type 0 = λ b. IsOffer (cond b [] (left_after x.connection.took (map bytes_of x.connection.produced))) offered bytes in
+        let all = joined_bytes x.connection.produced in
+        let r = offer_next (map bytes_of x.connection.produced) x.connection.took offered bytes (subst P e h) in
+        let a = g.is in
+        let n = r.0 in
+        let m = r.1 in
+        let bytes_are : bytes ≡ take (length bytes) (drop x.connection.took (bytes_of_all x.connection.produced)) = n ∙ ap (λ xs. take (length bytes) (drop x.connection.took xs)) all in
+        record {
+          is = ap (λ xs. xs ++ bytes) a ∙ ap (λ xs. take x.connection.took (bytes_of_all x.connection.produced) ++ xs) bytes_are ∙ sym (take-add x.connection.took (length bytes) (bytes_of_all x.connection.produced));
+          counted = let l = ap length all in omega (arith, m, l);
+        }
+
+took-own : {W C : Type 0} (t : List ℕ) (c offered : ℕ) (bytes : List ℕ) (s : MachineState W C) → MaybeGave t (connection_of c s.connections) → IsOffer (waiting_at c s) offered bytes
+    → MaybeGave (t ++ bytes) (connection_of c (after_exchange (connection_of c s.connections) (with_took (length bytes)) s).connections)
+took-own {W} {C} t c offered bytes s g h = own (connection_of c s.connections) refl
+  where
+    own : (o : Option (Connection C)) → connection_of c s.connections ≡ o → MaybeGave (t ++ bytes) (connection_of c (after_exchange (connection_of c s.connections) (with_took (length bytes)) s).connections)
+    own None e = absurd (subst (λ (o : Option (Connection C)). IsOffer (waiting_of o) offered bytes) e h)
+    own (Some k) e =
+        subst (MaybeGave (t ++ bytes)) (sym (exchange_own c (with_took (length bytes)) (with_took-number (length bytes)) s k e))
+        (took-gave t (exchange_of s k) offered bytes (subst (MaybeGave t) e g) (subst (λ (o : Option (Connection C)). IsOffer (waiting_of o) offered bytes) e h))
+
+bytes_none : (t : List ℕ) → t ++ [] ≡ t
+bytes_none [] = refl
+bytes_none (b ∷ bs) = ap (λ xs. b ∷ xs) (bytes_none bs)
+
+gone-gave : {W C : Type 0} (t : List ℕ) (c n : ℕ) (s : MachineState W C) → MaybeGave t (connection_of c s.connections) → MaybeGave t (connection_of c (after_exchange (connection_of n s.connections) with_gone s).connections)
+gone-gave t c n s g = local-gave t c n with_gone with_gone-number (λ x h. record { is = h.is; counted = h.counted }) s g
+
+pub gave_log : {W C : Type 0} (device : Device W C) (c : ℕ) (log : List Move) (s : MachineState W C) (t : List ℕ) → MaybeGave t (connection_of c s.connections) → AreOffers device s log
+    → MaybeGave (t ++ taken_of c log) (connection_of c (state_after device s log).connections)
+unfolding state_after state_after_move taken_of AreOffers
+gave_log {W} {C} device c [] s t g h = subst (λ (x : List ℕ). MaybeGave x (connection_of c s.connections)) (sym (bytes_none t)) g
+gave_log device c (move.Event e ∷ ms) s t g h = gave_log device c ms (state_after_event device s e) t (event-gave t c device e s g) (h.1)
+gave_log device c (move.Lost n ∷ ms) s t g h = gave_log device c ms (state_after_move device s (move.Lost n)) t (gone-gave t c n s g) (h.1)
+gave_log device c (move.Shut n ∷ ms) s t g h = gave_log device c ms (state_after_move device s (move.Shut n)) t (gone-gave t c n s g) (h.1)
+gave_log {W} {C} device c (move.Took n offered bytes ∷ ms) s t g h =
+    let u = state_after_move device s (move.Took n offered bytes) in
+    let P : List ℕ → Type 0 = λ x. MaybeGave x (connection_of c (state_after device u ms).connections) in
+    elim (cases_Bool (n == c)) [
+      | inl b ↦
+          let q = eqb-true n c b in
+          let Q : ℕ → Type 0 = λ i. MaybeGave (t ++ bytes) (connection_of c (after_exchange (connection_of i s.connections) (with_took (length bytes)) s).connections) in
+          let R : ℕ → Type 0 = λ i. IsOffer (waiting_at i s) offered bytes in
+          let here : MaybeGave (t ++ bytes) (connection_of c u.connections) = subst Q (sym q) (took-own t c offered bytes s g (subst R q (h.0))) in
+          rw b (subst P (append_assoc t bytes (taken_of c ms)) (gave_log device c ms u (t ++ bytes) here (h.1)))
+      | inr b ↦
+          let ne = eqb-false n c b in
+          rw b (gave_log device c ms u t (subst (MaybeGave t) (sym (exchange_other c n (with_took (length bytes)) (with_took-number (length bytes)) ne s)) g) (h.1))
+    ]
+
+pub prefix_of_gave : {C : Type 0} (t : List ℕ) (o : Option (Connection C)) → MaybeGave t o → IsPrefix t (output_of_connection o)
+prefix_of_gave t None g = ([], sym (bytes_none t ∙ g))
+prefix_of_gave t (Some k) g = (drop k.took (bytes_of_all k.produced), sym (ap (λ xs. xs ++ drop k.took (bytes_of_all k.produced)) g.is ∙ take-append-drop k.took (bytes_of_all k.produced)))
