@@ -1,0 +1,8 @@
+//! The output of one connection that waits: frames, of which the first may be taken in part.
+#![tactic(auto)]
+
+mod out_queue;
+#[cfg(test)]
+mod tests;
+
+pub use out_queue::{MAX_QUEUED, OutQueue, Pushed};

@@ -1,0 +1,98 @@
+//! Frames that wait to be taken, in the order in which they were pushed.
+ghost use Rattle.std.specs.Prelude.{◌≡◌, ◌+◌, ◌<◌, ◌≤◌, ◌↔◌, [], ◌∷◌, ◌++◌, length, drop, IsSome, IfSome, IsNone, OnErr, Ok, IfOk};
+ghost use Rattle.std.specs.List.{concat};
+ghost use Rattle.out_queue.specs.Queue.{queued, front_of, FitsFront, frames_after};
+
+use ads_base::NoMemory;
+use bytes::{Buf, Bytes};
+use std::alloc::Global;
+use std::collections::VecDeque;
+use std::marker::Model;
+
+/// How many bytes may wait.
+pub const MAX_QUEUED: usize = 4_194_304;
+
+/// What became of a frame.
+#[derive(Clone, Copy, Debug, PartialEq, Eq)]
+pub enum Pushed {
+    /// It waits behind the others.
+    Done,
+    /// It does not fit, and nothing has changed.
+    Over,
+}
+
+/// The frames that wait for one connection, which contracts see as the list of what is left of them.
+#[derive(Drop)]
+pub struct OutQueue {
+    frames: VecDeque<Bytes>,
+    bytes: usize,
+}
+
+impl Model for OutQueue {
+    ghost use Rattle.std.specs.Prelude.{◌≡◌, ◌≤◌, ℕ, List};
+    ghost use Rattle.out_queue.specs.declared.out_queue.TheConstants.{MAX_QUEUED};
+    ghost use Rattle.out_queue.specs.Queue.{queued};
+
+    ghost Value = { List (List ℕ) };
+
+    ghost view = { λ q. q.frames.items };
+
+    ghost invariant = { λ q. (q.bytes ≡ queued q.frames.items) × (q.bytes ≤ MAX_QUEUED) };
+}
+
+impl OutQueue {
+    /// A queue in which nothing waits.
+    pub fn new(alloc: Global) -> Result<OutQueue, NoMemory>
+        ensures { IfOk result (λ queue. queue ≡ []) }
+    {
+        Ok(OutQueue {
+            frames: VecDeque::new(alloc),
+            bytes: 0,
+        })
+    }
+
+    /// Puts a frame behind the others, unless more than 4,194,304 bytes would wait.
+    pub fn push(&mut self, alloc: Global, frame: &[u8]) -> Result<Pushed, NoMemory>
+        ensures over { IfOk result (λ pushed. (pushed ≡ Pushed.Over)
+            ↔ (MAX_QUEUED < queued self.old + length frame.now)) }
+        ensures done { result ≡ Ok Pushed.Done → self.new ≡ self.old ++ frame.now ∷ [] }
+        ensures unchanged { result ≡ Ok Pushed.Over → self.new ≡ self.old }
+        ensures no_memory { OnErr result (self.new ≡ self.old) }
+    {
+        if frame.len() > MAX_QUEUED - self.bytes {
+            return Ok(Pushed::Over);
+        }
+        let copy = Bytes::copy_from_slice(alloc, frame)?;
+        self.frames.push_back(copy)?;
+        self.bytes += frame.len();
+        Ok(Pushed::Done)
+    }
+
+    /// What is left of the first frame.
+    pub fn front(&self) -> Option<&[u8]>
+        ensures empty { IsNone result ↔ (self.now ≡ []) }
+        ensures first { IfSome result (λ left. front_of self.now ≡ Some left.now) }
+    {
+        Some(self.frames.front()?.as_slice())
+    }
+
+    /// Takes bytes of the first frame, which is gone once it is taken whole. No other byte moves.
+    pub fn took(&mut self, n: u32)
+        requires { FitsFront n self.old }
+        ensures left { self.new ≡ frames_after n self.old }
+        ensures less { queued self.new + n ≡ queued self.old }
+        ensures bytes { concat self.new ≡ drop n (concat self.old) }
+    {
+        let Some(mut frame) = self.frames.pop_front() else {
+            return;
+        };
+        let n = n as usize;
+        self.bytes -= n;
+        if frame.len() == n {
+            return;
+        }
+        frame.advance(n);
+        // The place is there: the frame came from it.
+        let _ = self.frames.push_front(frame);
+    }
+}
