@@ -10,4 +10,5 @@ pub mod Entries
 pub mod AcceptedTypes
 pub mod Accepted
 pub mod World
+pub mod Finding
 pub mod TypeTexts

@@ -29,6 +29,7 @@ pub record PlantPort : Type 0 where
 pub record Plant : Type 0 where
   pub net : List ℕ
   pub routes : List Route
+  pub types : List NamedType
   pub ports : List PlantPort
 
 abbrev pub plant_symbol : List NamedType → Symbol → PlantSymbol
@@ -55,7 +56,12 @@ plant_port types p = record {
 
 -- the plant of a description
 abbrev pub plant_of : Description → Plant
-plant_of d = record { net = d.net; routes = d.routes; ports = map (plant_port d.types) d.ports }
+plant_of d = record {
+  net = d.net;
+  routes = d.routes;
+  types = d.types;
+  ports = map (plant_port d.types) d.ports;
+}
 
 abbrev pub symbol_size : PlantSymbol → ℕ
 symbol_size s = type_size s.type
