@@ -1,0 +1,7 @@
+use Rattle.std.proofs.Common.{refl, arith}
+use Rattle.ads_frames.specs.Division.{left_behind}
+use Rattle.ams_tcp.proofs.splitter.Splitter.new.Goals as goal
+
+pub returns : goal.returns
+unfolding left_behind
+returns c = record { rest = c.new.ensures.items; given = omega arith; told_broken = refl }

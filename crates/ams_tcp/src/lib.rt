@@ -1,0 +1,13 @@
+//! AMS/TCP: a stream of bytes is cut into frames, and an AMS packet is put into one.
+#![tactic(auto)]
+
+mod cut;
+mod encoding;
+mod front;
+mod splitter;
+#[cfg(test)]
+mod tests;
+
+pub use cut::Cut;
+pub use encoding::put_frame;
+pub use splitter::Splitter;

@@ -1,0 +1,111 @@
+//! The splitter: pieces of a stream go in, frames come out.
+
+ghost use Rattle.std.specs.Prelude.{◌≡◌, ◌<◌, length, IfOk, OnOk, OnErr};
+
+use crate::Cut;
+use crate::front::{Front, HEADER, front_at, header_at};
+use ads_base::{NoMemory, Octets};
+use std::alloc::Global;
+use std::marker::Model;
+
+/// Cuts a stream into frames, in whatever pieces it comes. Contracts see the bytes behind the frames that were
+/// given, and whether Broken was answered; what a splitter answers is said of every history that it stands for.
+#[derive(Drop)]
+pub struct Splitter {
+    bytes: Vec<u8>,
+    // Frames are passed over by this offset, and the rest is moved at the next feed.
+    start: usize,
+    told_broken: bool,
+}
+
+impl Model for Splitter {
+    ghost use Rattle.std.specs.Prelude.{◌≡◌, ◌≤◌, length, drop, IsTrue};
+    ghost use Rattle.ads_frames.specs.Division.{front_of, Broken};
+    ghost use Rattle.ams_tcp.specs.Held.{Held};
+
+    ghost Value = { Held };
+
+    ghost view = { λ s. record { rest = drop s.start s.bytes.items; told_broken = s.told_broken } };
+
+    ghost invariant = { λ s. (s.start ≤ length s.bytes.items)
+        × (IsTrue s.told_broken → (front_of (drop s.start s.bytes.items) ≡ Broken)
+        × (6 ≤ length (drop s.start s.bytes.items))) };
+}
+
+impl Splitter {
+    ghost use Rattle.ams_tcp.specs.History.{History, Represents, nothing_fed, after_feed, answer_of, after_next};
+    ghost use Rattle.ams_tcp.specs.History.{broken_of, IsFrameCut, HoldsPacket};
+
+    /// A splitter that was fed nothing. Nothing is allocated.
+    pub fn new(alloc: Global) -> Result<Self, NoMemory>
+        ensures { IfOk result (λ splitter. Represents splitter nothing_fed) }
+    {
+        Ok(Splitter {
+            bytes: Vec::new(alloc),
+            start: 0,
+            told_broken: false,
+        })
+    }
+
+    /// Appends a piece to the stream.
+    pub fn feed(&mut self, _alloc: Global, piece: &[u8]) -> Result<(), NoMemory>
+        ensures ok { OnOk result ((h : History) → Represents self.old h → Represents self.new (after_feed h piece.now)) }
+        ensures no_memory { OnErr result (self.new ≡ self.old) }
+    {
+        self.move_to_front();
+        self.bytes.extend_from_slice(piece)?;
+        Ok(())
+    }
+
+    /// The next frame; NotYet where what is left is open, Broken where it is broken, from then on.
+    pub fn next(&mut self, alloc: Global) -> Result<Cut, NoMemory>
+        ensures answer { IfOk result (λ cut. (h : History) → Represents self.old h → cut ≡ answer_of h) }
+        ensures stands { OnOk result ((h : History) → Represents self.old h → Represents self.new (after_next h)) }
+        ensures packet { IfOk result HoldsPacket }
+        ensures shorter { IfOk result (λ cut. IsFrameCut cut → length self.new.rest < length self.old.rest) }
+        ensures no_memory { OnErr result (self.new ≡ self.old) }
+    {
+        let rest = self.rest();
+        match front_at(rest) {
+            Front::Whole(len) => {
+                let ams = Octets::copy_of(alloc, &rest[HEADER..HEADER + len])?;
+                self.start += HEADER + len;
+                Ok(Cut::Frame(ams))
+            }
+            Front::Open => Ok(Cut::NotYet),
+            Front::Broken => {
+                self.told_broken = true;
+                Ok(Cut::Broken)
+            }
+        }
+    }
+
+    /// The six bytes at the broken place; None until `next` has answered Broken.
+    pub fn broken(&self) -> Option<[u8; 6]>
+        ensures { (h : History) → Represents self.now h → result ≡ broken_of h }
+    {
+        if !self.told_broken {
+            return None;
+        }
+        Some(header_at(self.rest()))
+    }
+
+    // The bytes behind the frames that were given.
+    fn rest(&self) -> &[u8]
+        ensures { result.now ≡ self.now.rest }
+    {
+        &self.bytes[self.start..]
+    }
+
+    // The bytes behind the frames that were given move to the front.
+    fn move_to_front(&mut self)
+        ensures { self.new ≡ self.old }
+    {
+        if self.start > 0 {
+            let len = self.bytes.len() - self.start;
+            self.bytes.copy_within(self.start.., 0);
+            self.bytes.truncate(len);
+            self.start = 0;
+        }
+    }
+}
