@@ -1,0 +1,13 @@
+pub mod Written
+pub mod Fields
+pub mod Tables
+pub mod Places
+pub mod Nets
+pub mod Shapes
+pub mod TypeRules
+pub mod SizeRules
+pub mod RouteRules
+pub mod PortRules
+pub mod SymbolRules
+pub mod Described
+pub mod Verdict
