@@ -1,4 +1,5 @@
 mod AcceptedExamples
 mod Examples
+pub mod SizeLemmas
 pub mod TypeLemmas
 mod TypeTextExamples

@@ -34,7 +34,7 @@ tree_at-trees_behind known (t ∷ ts) p h =
     tree_at-trees_behind (known ++ named_tree known t ∷ []) ts p longer ∙ tree_at-append known (named_tree known t ∷ []) p h
 
 -- what is at a place is below the length
-at-below : (P : NamedType → Bool) (ts : List NamedType) (p : ℕ) → option_map_or P (slice_get ts p) false ≡ true → p < length ts
+pub at-below : (P : NamedType → Bool) (ts : List NamedType) (p : ℕ) → option_map_or P (slice_get ts p) false ≡ true → p < length ts
 at-below P [] p e = cc
 at-below P (t ∷ ts) zero e = omega arith
 at-below P (t ∷ ts) (suc p) e = let h = at-below P ts p e in omega (arith, h)
@@ -57,7 +57,7 @@ shape_tree-agree before known more a (Array bs e) h =
     cc
 
 -- an accepted member names only types before its own
-member-shape : (before : List NamedType) (m : Member) → is_member before m ≡ true → is_shape before m.shape ≡ true
+pub member-shape : (before : List NamedType) (m : Member) → is_member before m ≡ true → is_shape before m.shape ≡ true
 member-shape before m h =
     let outer = and_parts _ _ h in
     let inner = and_parts _ _ (outer.0) in

@@ -1,3 +1,4 @@
 pub mod Shapes
 pub mod NamedTypes
 pub mod Descriptions
+pub mod Extents

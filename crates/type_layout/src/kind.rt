@@ -1,5 +1,9 @@
 //! The plain types.
 
+ghost use Rattle.std.specs.Prelude.{◌≡◌};
+ghost use Rattle.ads_plant.specs.Plain.{kind_size};
+ghost use Rattle.type_layout.specs.Shapes.{kind_of};
+
 /// A plain type. Beckhoff Information System, data types of a PLC program.
 ///
 /// | types | bytes |
@@ -26,4 +30,18 @@ pub enum Kind {
     Lword,
     Real,
     Lreal,
+}
+
+impl Kind {
+    // The size in bytes, which is the alignment too.
+    pub(crate) fn size(self) -> u32
+        ensures { result ≡ kind_size (kind_of self) }
+    {
+        match self {
+            Kind::Bool | Kind::Sint | Kind::Usint | Kind::Byte => 1,
+            Kind::Int | Kind::Uint | Kind::Word => 2,
+            Kind::Dint | Kind::Udint | Kind::Dword | Kind::Time | Kind::Real => 4,
+            Kind::Lint | Kind::Ulint | Kind::Lword | Kind::Lreal => 8,
+        }
+    }
 }

@@ -3,6 +3,7 @@
 
 mod description;
 mod enumerations;
+mod extent;
 mod kind;
 mod named_type;
 mod port;
@@ -11,6 +12,7 @@ mod structures;
 
 pub use description::{Description, Rights, RouteDesc, Routes4};
 pub use enumerations::{EnumType, EnumValue, EnumValues};
+pub use extent::{align, size};
 pub use kind::Kind;
 pub use named_type::{NamedType, Types};
 pub use port::{Area, DeviceFacts4, Nets, PortDesc, PortList, Sizes, SymbolDesc, Symbols};

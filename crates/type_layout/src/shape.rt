@@ -1,5 +1,8 @@
 //! Types of members and symbols: one element, or an array of elements.
 
+ghost use Rattle.std.specs.Prelude.{◌≡◌};
+ghost use Rattle.type_layout.specs.Shapes.{shape_of, shape_of_ref};
+
 use crate::Kind;
 use ads_base::ListOf;
 
@@ -37,4 +40,16 @@ pub enum Shape {
 pub enum TypeRef<'a> {
     One(Elem),
     Array(&'a [Bound], Elem),
+}
+
+impl Shape {
+    /// The same type, its bounds borrowed.
+    pub fn as_ref(&self) -> TypeRef<'_>
+        ensures { shape_of_ref result ≡ shape_of self.now }
+    {
+        match self {
+            Shape::One(elem) => TypeRef::One(*elem),
+            Shape::Array(bounds, elem) => TypeRef::Array(bounds.as_slice(), *elem),
+        }
+    }
 }

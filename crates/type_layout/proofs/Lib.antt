@@ -1,0 +1,2 @@
+pub mod MemberTurns
+pub mod Places
