@@ -1,0 +1,20 @@
+//! Scripts: their reading, and the texts that a run over one prints.
+#![tactic(auto)]
+
+mod bytes;
+mod counts;
+mod line;
+mod lines;
+mod log_lines;
+mod numbers;
+mod progress;
+mod reader;
+mod script;
+mod summary_line;
+mod texts;
+
+pub use counts::Counts;
+pub use log_lines::log_text;
+pub use reader::read_script;
+pub use script::Script;
+pub use summary_line::summary_text;

@@ -1,0 +1,29 @@
+//! The reading of a script.
+
+ghost use Rattle.std.specs.Prelude.{◌≡◌, ◌≤◌, IfOk, length};
+ghost use Rattle.ads_machine.specs.BuiltLines.{built_lines};
+ghost use Rattle.ads_machine.specs.Script.{script_of};
+ghost use Rattle.replay_script.specs.Answered.{answered};
+
+use crate::Script;
+use crate::lines::first_line;
+use crate::progress::Progress;
+use ads_base::NoMemory;
+use std::alloc::Global;
+
+/// The script of some bytes, or the number of its first line off the grammar, counted from 1.
+pub fn read_script(alloc: Global, bytes: &[u8]) -> Result<Result<Script, u32>, NoMemory>
+    requires { length bytes.now ≤ 16777216 }
+    ensures { IfOk result (λ answer. script_of built_lines bytes.now ≡ answered answer) }
+{
+    let mut progress = Progress::new(alloc);
+    let mut rest = bytes;
+    while !rest.is_empty() {
+        let (line, others) = first_line(rest);
+        if !progress.take(alloc, line)? {
+            return Ok(Err(progress.lines() + 1));
+        }
+        rest = others;
+    }
+    Ok(Ok(progress.into_script()))
+}
