@@ -15,8 +15,8 @@ six P (a ∷ b ∷ c ∷ d ∷ e ∷ f ∷ []) len p = p a b c d e f
 six P _ len p = absurd (omega arith)
 
 -- the header whose fields are read
-abbrev read : List ℕ → AmsHeader
-read ams = record {
+abbrev pub header_at : List ℕ → AmsHeader
+header_at ams = record {
   target = address_at 0 ams;
   source = address_at 8 ams;
   command = number16 16 ams;
@@ -26,7 +26,7 @@ read ams = record {
   id = number32 28 ams;
 }
 
-header_of-long : (ams : List ℕ) → 32 ≤ length ams → header_of ams ≡ Some (read ams)
+pub header_of-long : (ams : List ℕ) → 32 ≤ length ams → header_of ams ≡ Some (header_at ams)
 unfolding header_of
 header_of-long ams long = rw (le-ltb (length ams) 32 long) refl
 
@@ -80,7 +80,7 @@ read_again_cells : (t s : List ℕ) (a b c d e f g : ℕ) (payload : List ℕ) �
       len = e;
       error = f;
       id = g;
-    } in read (header_bytes h ++ payload) ≡ h
+    } in header_at (header_bytes h ++ payload) ≡ h
 read_again_cells t s a b c d e f g payload tl sl al bl cl dl el fl gl =
     six (λ n. let h : AmsHeader = record {
       target = record { net = n; port = a };
@@ -90,7 +90,7 @@ read_again_cells t s a b c d e f g payload tl sl al bl cl dl el fl gl =
       len = e;
       error = f;
       id = g;
-    } in read (header_bytes h ++ payload) ≡ h) t tl (λ t0 t1 t2 t3 t4 t5.
+    } in header_at (header_bytes h ++ payload) ≡ h) t tl (λ t0 t1 t2 t3 t4 t5.
     six (λ n. let h : AmsHeader = record {
       target = record { net = t0 ∷ t1 ∷ t2 ∷ t3 ∷ t4 ∷ t5 ∷ []; port = a };
       source = record { net = n; port = b };
@@ -99,7 +99,7 @@ read_again_cells t s a b c d e f g payload tl sl al bl cl dl el fl gl =
       len = e;
       error = f;
       id = g;
-    } in read (header_bytes h ++ payload) ≡ h) s sl
+    } in header_at (header_bytes h ++ payload) ≡ h) s sl
     (λ s0 s1 s2 s3 s4 s5. rw (
       from_le_bytes-to_le_bytes_2 a al,
       from_le_bytes-to_le_bytes_2 b bl,
@@ -134,8 +134,8 @@ IsAddress-address_at at ams h within = record {
   port = number16-lt 6 (drop at ams) (AreBytes-drop at ams h);
 }
 
-text_of_read : (ams : List ℕ) → AreBytes ams → 32 ≤ length ams → header_bytes (read ams) ++ payload_of ams ≡ ams
-text_of_read ams h long =
+pub header_bytes-header_at : (ams : List ℕ) → AreBytes ams → 32 ≤ length ams → header_bytes (header_at ams) ++ payload_of ams ≡ ams
+header_bytes-header_at ams h long =
     let target = address-front 0 ams h (omega arith) in
     let source = next_field ams _ (drop 8 ams) _ (drop 16 ams) target (address-front 8 ams h (omega arith)) in
     let command = next_field ams _ (drop 16 ams) _ (drop 18 ams) source (number16-front 16 ams h (omega arith)) in
@@ -144,7 +144,7 @@ text_of_read ams h long =
     let error = next_field ams _ (drop 24 ams) _ (drop 28 ams) len (number32-front 24 ams h (omega arith)) in
     next_field ams _ (drop 28 ams) _ (drop 32 ams) error (number32-front 28 ams h (omega arith))
 
-IsHeader-read : (ams : List ℕ) → AreBytes ams → 32 ≤ length ams → IsHeader (read ams)
+IsHeader-read : (ams : List ℕ) → AreBytes ams → 32 ≤ length ams → IsHeader (header_at ams)
 IsHeader-read ams h long = record {
   target = IsAddress-address_at 0 ams h (omega arith);
   source = IsAddress-address_at 8 ams h (omega arith);
@@ -162,7 +162,7 @@ header_bytes-header_of ams h bytes e =
     elim (cases_lt (length ams) 32) [
       | inl short ↦ absurd (cc (header_of-short ams short))
       | inr long ↦
-          let same : read ams ≡ h = cc (header_of-long ams long) in
+          let same : header_at ams ≡ h = cc (header_of-long ams long) in
           subst (λ (x : AmsHeader). IsHeader x × (ams ≡ header_bytes x ++ payload_of ams)) same
-          (IsHeader-read ams bytes long, sym (text_of_read ams bytes long))
+          (IsHeader-read ams bytes long, sym (header_bytes-header_at ams bytes long))
     ]

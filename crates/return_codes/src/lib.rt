@@ -1,0 +1,10 @@
+//! The return codes of ADS.
+#![tactic(auto)]
+
+mod code;
+mod laws;
+#[cfg(test)]
+mod tests;
+
+pub use code::Code;
+pub use laws::codes_and_numbers_agree;
