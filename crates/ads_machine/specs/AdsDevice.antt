@@ -1,0 +1,31 @@
+-- The device whole: what an AMS packet, a tick and a reload do.
+use Rattle.std.specs.Prelude.{ℕ, List, length, Result, Ok, Err}
+use Rattle.ads_plant.specs.Description.{Description}
+use Rattle.ads_machine.specs.Device.{Device, Reloading, Accepted, Refused}
+use Rattle.ads_machine.specs.World.{World}
+use Rattle.ads_machine.specs.Client.{Client, new_client}
+use Rattle.ads_machine.specs.Answers.{AnswerTable}
+use Rattle.ads_machine.specs.Packets.{decide}
+use Rattle.ads_machine.specs.Replies.{performed}
+use Rattle.ads_machine.specs.Ticks.{world_after_tick, client_after_tick}
+use Rattle.ads_machine.specs.Reloads.{world_after_reload, client_reloaded}
+
+-- a description's bytes, for so many signals: an accepted description, or the number of the rule that
+-- it breaks, 0 where it is no TOML
+abbrev pub DescriptionReading : Type 0
+DescriptionReading = List ℕ → ℕ → Result Description ℕ
+
+abbrev pub reloading : World → Result Description ℕ → Reloading World
+reloading w (Err rule) = Refused rule
+reloading w (Ok d) = Accepted (world_after_reload w d).version (world_after_reload w d)
+
+-- the device that answers by this table and reads descriptions so
+abbrev pub ads_device : AnswerTable → DescriptionReading → Device World Client
+ads_device table reading = record {
+  new_client = new_client;
+  take = λ w c packet. performed (decide table w c packet) packet w c;
+  world_after_tick = world_after_tick;
+  client_after_tick = client_after_tick;
+  reload = λ bytes w. reloading w (reading bytes (length w.signals));
+  client_after_reload = client_reloaded;
+}
