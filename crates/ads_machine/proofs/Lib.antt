@@ -12,3 +12,5 @@ pub mod Emptied
 pub mod EmptiedTurns
 pub mod AllTaken
 pub mod Carried
+mod Plant
+mod WriteExamples

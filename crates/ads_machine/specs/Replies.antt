@@ -36,13 +36,13 @@ outcome_forms =
     ∷ form 9 (λ o. ReadWrite o.code o.bytes)
     ∷ []
 
-unfoldable pub reply_in : List OutcomeForm → ℕ → Outcome → Reply
-reply_in [] command o = Write o.code
-reply_in (f ∷ fs) command o = if f.command == command then f.reply o else reply_in fs command o
+unfoldable pub reply_in_forms : List OutcomeForm → ℕ → Outcome → Reply
+reply_in_forms [] command o = Write o.code
+reply_in_forms (f ∷ fs) command o = if f.command == command then f.reply o else reply_in_forms fs command o
 
 -- the reply of a command whose request ended so; a refused one has its refused form
 abbrev pub reply_payload : ℕ → Outcome → List ℕ
-reply_payload command o = written_bytes (reply_in outcome_forms command o)
+reply_payload command o = written_bytes (reply_in_forms outcome_forms command o)
 
 -- how the acts of a packet ended in all: as the one request did, or with the parts packed
 abbrev pub ended_as : List Outcome → Outcome

@@ -1,0 +1,135 @@
+-- The plant of the worked examples, and how they are written.
+use Rattle.std.specs.Prelude.{ℕ, List, [], ◌∷◌, ◌++◌, length, codes, replicate, Bool, true, false, bytes_eq, if◌then◌else◌}
+use Rattle.std.specs.Prelude.{Option, Some, None, Result, Ok, Err, ℤ, pos}
+use Rattle.std.specs.Int.{w16, w32, to_le_bytes}
+use Rattle.signals.specs.Wave.{Wave}
+use Rattle.ads_plant.specs.Plain.{BOOL, DINT, INT, UINT, BYTE}
+use Rattle.ads_plant.specs.Listed.{Bound, Elem, Plain, Text, Struct, Shape, One, Array, Member, NamedType, Structure}
+use Rattle.ads_plant.specs.Description.{Rights, Read, Write, Control, Route, Area, Inputs, Outputs, Memory, Process, Sizes, Facts, Symbol, Port, Description}
+use Rattle.ads_frames.specs.Frame.{frame_bytes}
+use Rattle.ads_outside.specs.declared.event.Event.{Event}
+use Rattle.ads_outside.specs.declared.event.Event.TheVariants as event
+use Rattle.ads_outside.specs.declared.moves.Move.{Move}
+use Rattle.ads_outside.specs.declared.moves.Move.TheVariants as move
+use Rattle.ads_machine.specs.Device.{Device}
+use Rattle.ads_machine.specs.MachineState.{MachineState, start_of, output_of}
+use Rattle.ads_machine.specs.Moves.{state_after}
+use Rattle.ads_machine.specs.World.{World, world_of}
+use Rattle.ads_machine.specs.Client.{Client}
+use Rattle.ads_machine.specs.Answers.{all_answered}
+use Rattle.ads_machine.specs.AdsDevice.{DescriptionReading, ads_device}
+use Rattle.ads_machine.proofs.Hex.{hex}
+
+abbrev pub NET : List ℕ
+NET = 5 ∷ 1 ∷ 2 ∷ 3 ∷ 1 ∷ 1 ∷ []
+
+-- a machine that may control, and one that may read
+abbrev pub ENGINEER : List ℕ
+ENGINEER = 192 ∷ 168 ∷ 0 ∷ 9 ∷ 1 ∷ 1 ∷ []
+
+abbrev pub VIEWER : List ℕ
+VIEWER = 192 ∷ 168 ∷ 0 ∷ 10 ∷ 1 ∷ 1 ∷ []
+
+abbrev pub axis_type : NamedType
+axis_type = Structure (codes "Axis") (
+    record { name = codes "active"; shape = One (Plain BOOL); comment = [] }
+    ∷ record { name = codes "pos"; shape = One (Plain DINT); comment = [] }
+    ∷ record { name = codes "label"; shape = One (Text 5); comment = [] } ∷ [])
+
+abbrev pub plain_symbol : List ℕ → Shape → Area → ℕ → List ℕ → Symbol
+plain_symbol name shape area offset initial = record {
+  name = name; shape = shape; area = area; offset = offset; comment = []; persistent = false;
+  read_only = false; initial = initial; signal = None; writers = [];
+}
+
+abbrev pub count_symbol : ℕ → Symbol
+count_symbol offset = plain_symbol (codes "Main.count") (One (Plain DINT)) Process offset (hex (codes "2a000000"))
+
+abbrev pub title_symbol : ℕ → List ℕ → Symbol
+title_symbol len initial = record (plain_symbol (codes "Main.title") (One (Text len)) Process 72 initial) { persistent = true }
+
+abbrev pub symbols_with : Symbol → Symbol → List Symbol
+symbols_with count title =
+    count
+    ∷ plain_symbol (codes "Main.axis") (Array (record { low = pos 1; count = 3 } ∷ []) (Struct 0)) Process 8 (replicate 48 0)
+    ∷ record (plain_symbol (codes "Main.limit") (One (Plain INT)) Process 60 (hex (codes "e803"))) { read_only = true }
+    ∷ record (plain_symbol (codes "Main.wave") (One (Plain UINT)) Process 64 (replicate 2 0)) { signal = Some 2 }
+    ∷ title
+    ∷ plain_symbol (codes "Flags.bits") (One (Plain BYTE)) Memory 0 (0 ∷ [])
+    ∷ []
+
+abbrev pub description_with : List Symbol → Description
+description_with symbols = record {
+  net = NET;
+  routes = record { net = ENGINEER; rights = Control } ∷ record { net = VIEWER; rights = Read } ∷ [];
+  types = axis_type ∷ [];
+  ports = record {
+    number = 851;
+    facts = record { major = 3; minor = 1; build = 1711; name = codes "Plc30 App" ++ replicate 7 0 };
+    sizes = record { inputs = 16; outputs = 16; memory = 32; process = 128 };
+    symbols = symbols;
+  } ∷ [];
+}
+
+abbrev pub plant : Description
+plant = description_with (symbols_with (count_symbol 0) (title_symbol 7 (hex (codes "4d69780000000000"))))
+
+-- the same, with Main.count at 100 and Main.title of another type
+abbrev pub plant2 : Description
+plant2 = description_with (symbols_with (count_symbol 100) (title_symbol 8 (replicate 9 0)))
+
+-- the examples name a description instead of writing its text; any other text breaks rule 2
+abbrev pub reading : DescriptionReading
+reading bytes signals = if bytes_eq bytes (codes "plant") then Ok plant else if bytes_eq bytes (codes "plant2") then Ok plant2 else Err 2
+
+abbrev pub device : Device World Client
+device = ads_device all_answered reading
+
+abbrev pub waves : List Wave
+waves =
+    record { values = 0 ∷ 1 ∷ 2 ∷ []; place = 0 } ∷ record { values = 0 ∷ 1 ∷ []; place = 0 }
+    ∷ record { values = 3 ∷ 1 ∷ 4 ∷ 1 ∷ 5 ∷ 9 ∷ 2 ∷ 6 ∷ []; place = 0 } ∷ []
+
+abbrev pub start : MachineState World Client
+start = start_of (world_of plant waves)
+
+-- an AMS packet between the first machine's port 32905 and the server's port 851
+abbrev pub packet_from : List ℕ → ℕ → ℕ → List ℕ → List ℕ
+packet_from net command id payload =
+    NET ++ to_le_bytes w16 851 ++ net ++ to_le_bytes w16 32905 ++ to_le_bytes w16 command ++ to_le_bytes w16 4
+    ++ to_le_bytes w32 (length payload) ++ to_le_bytes w32 0 ++ to_le_bytes w32 id ++ payload
+
+abbrev pub answer_to : List ℕ → ℕ → ℕ → ℕ → List ℕ → List ℕ
+answer_to net command id error payload =
+    net ++ to_le_bytes w16 32905 ++ NET ++ to_le_bytes w16 851 ++ to_le_bytes w16 command ++ to_le_bytes w16 5
+    ++ to_le_bytes w32 (length payload) ++ to_le_bytes w32 error ++ to_le_bytes w32 id ++ payload
+
+-- a request's frame, and its reply's, with the data in hexadecimal
+abbrev pub q : ℕ → ℕ → List ℕ → List ℕ
+q command id payload = frame_bytes (packet_from ENGINEER command id (hex payload))
+
+abbrev pub a : ℕ → ℕ → List ℕ → List ℕ
+a command id payload = frame_bytes (answer_to ENGINEER command id 0 (hex payload))
+
+-- the same of the machine that may only read
+abbrev pub q_viewer : ℕ → ℕ → List ℕ → List ℕ
+q_viewer command id payload = frame_bytes (packet_from VIEWER command id (hex payload))
+
+abbrev pub a_viewer : ℕ → ℕ → List ℕ → List ℕ
+a_viewer command id payload = frame_bytes (answer_to VIEWER command id 0 (hex payload))
+
+abbrev pub tick : ℕ → Move
+tick t = move.Event (event.Tick t)
+
+abbrev pub reload : List ℕ → Move
+reload bytes = move.Event (event.Reload bytes)
+
+abbrev pub opened : ℕ → Move
+opened c = move.Event (event.Opened c)
+
+abbrev pub piece : ℕ → List ℕ → Move
+piece c bytes = move.Event (event.Piece c bytes)
+
+-- all that connection 1 is given, where it is opened first
+abbrev pub given : List Move → List ℕ
+given log = output_of 1 (state_after device start (opened 1 ∷ log))
