@@ -14,3 +14,11 @@ pub mod AllTaken
 pub mod Carried
 mod Plant
 mod WriteExamples
+mod HandleExamples
+mod NotificationExamples
+mod SumExamples
+mod ControlExamples
+mod EntryExamples
+mod PacketExamples
+mod EnumerationExamples
+mod BesideExamples

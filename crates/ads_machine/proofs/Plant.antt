@@ -1,7 +1,7 @@
 -- The plant of the worked examples, and how they are written.
-use Rattle.std.specs.Prelude.{ℕ, List, [], ◌∷◌, ◌++◌, length, codes, replicate, Bool, true, false, bytes_eq, if◌then◌else◌}
+use Rattle.std.specs.Prelude.{ℕ, ◌+◌, List, [], ◌∷◌, ◌++◌, length, codes, replicate, Bool, true, false, bytes_eq, if◌then◌else◌}
 use Rattle.std.specs.Prelude.{Option, Some, None, Result, Ok, Err, ℤ, pos}
-use Rattle.std.specs.Int.{w16, w32, to_le_bytes}
+use Rattle.std.specs.Int.{w16, w32, w64, to_le_bytes}
 use Rattle.signals.specs.Wave.{Wave}
 use Rattle.ads_plant.specs.Plain.{BOOL, DINT, INT, UINT, BYTE}
 use Rattle.ads_plant.specs.Listed.{Bound, Elem, Plain, Text, Struct, Shape, One, Array, Member, NamedType, Structure}
@@ -38,8 +38,16 @@ axis_type = Structure (codes "Axis") (
 
 abbrev pub plain_symbol : List ℕ → Shape → Area → ℕ → List ℕ → Symbol
 plain_symbol name shape area offset initial = record {
-  name = name; shape = shape; area = area; offset = offset; comment = []; persistent = false;
-  read_only = false; initial = initial; signal = None; writers = [];
+  name = name;
+  shape = shape;
+  area = area;
+  offset = offset;
+  comment = [];
+  persistent = false;
+  read_only = false;
+  initial = initial;
+  signal = None;
+  writers = [];
 }
 
 abbrev pub count_symbol : ℕ → Symbol
@@ -133,3 +141,22 @@ piece c bytes = move.Event (event.Piece c bytes)
 -- all that connection 1 is given, where it is opened first
 abbrev pub given : List Move → List ℕ
 given log = output_of 1 (state_after device start (opened 1 ∷ log))
+
+-- a request of a group by a name, and its reply
+abbrev pub named : ℕ → ℕ → ℕ → List ℕ → List ℕ
+named id group len name = frame_bytes (packet_from ENGINEER 9 id (
+    to_le_bytes w32 group ++ to_le_bytes w32 0 ++ to_le_bytes w32 len ++ to_le_bytes w32 (length name) ++ name))
+
+-- an addition of a notification, where the 16 reserved bytes are zeros
+abbrev pub added : ℕ → List ℕ → List ℕ
+added id fields = frame_bytes (packet_from ENGINEER 6 id (hex fields ++ replicate 16 0))
+
+-- a notification frame of this moment, with so many samples, to a client's port
+abbrev pub stamp_to : ℕ → ℕ → ℕ → List ℕ → List ℕ
+stamp_to port moment count samples =
+    let stamp = to_le_bytes w32 1 ++ to_le_bytes w64 moment ++ to_le_bytes w32 count ++ hex samples in
+    frame_bytes (ENGINEER ++ to_le_bytes w16 port ++ NET ++ to_le_bytes w16 851 ++ to_le_bytes w16 8 ++ to_le_bytes w16 4
+    ++ to_le_bytes w32 (4 + length stamp) ++ to_le_bytes w32 0 ++ to_le_bytes w32 0 ++ to_le_bytes w32 (length stamp) ++ stamp)
+
+abbrev pub stamp : ℕ → ℕ → List ℕ → List ℕ
+stamp moment count samples = stamp_to 32905 moment count samples

@@ -39,3 +39,4 @@ pub mod Stamps
 pub mod Ticks
 pub mod Reloads
 pub mod AdsDevice
+pub mod Projection

@@ -47,5 +47,5 @@ unfoldable pub client_reloaded : ℕ → World → World → Client → ClientOu
 client_reloaded moment old new c = record {
   client = client_after_reload (is_kept old.plant new.plant) c;
   frames = frames_of_samples old.plant.net moment
-  (end_samples (ended_of (is_kept old.plant new.plant) c));
+      (end_samples (ended_of (is_kept old.plant new.plant) c));
 }
