@@ -1,0 +1,65 @@
+-- How a division goes on behind one word.
+use Rattle.std.proofs.Common.{◌≡◌, ℕ, ◌<◌, List, [], ◌∷◌, ◌++◌, length, Option, Some, None, option_map, MatchOption, refl, sym, ap, ◌∙◌, append_assoc, append-nil, arith, false, true, cond, nat_lt, eqb, Bor}
+use Rattle.std.specs.List.{position_or_len, before_first, after_first}
+use Rattle.std.proofs.lemmas.Bool.Decides.{nat_tests}
+use Rattle.cli_words.specs.declared.division.Division.{Division}
+use Rattle.cli_words.specs.declared.division.Kind.{Kind}
+use Rattle.cli_words.specs.declared.division.Kind.TheVariants.{EndOfOptions, Plain, Joined, Named}
+use Rattle.cli_words.specs.Words.{begins_with_dash, kind_of, parted, divided, with_option, with_positional}
+use Rattle.cli_words.specs.Dividing.{joined, finished, finished_by, with_last_option}
+
+-- `split_once` gives the parts
+pub parted-from_split : (stop : ℕ) (text : List ℕ) (r : Option (Bor (List ℕ) × Bor (List ℕ))) → MatchOption r (position_or_len (λ b. eqb b stop) text ≡ length text) (λ x. (position_or_len (λ b. eqb b stop) text < length text) × (x.0.now ≡ before_first (λ b. eqb b stop) text) × (x.1.now ≡ after_first (λ b. eqb b stop) text)) → option_map (λ p. (p.0.now, p.1.now)) r ≡ parted stop text
+unfolding parted
+parted-from_split stop text None h = grind (arith, nat_tests)
+parted-from_split stop text (Some x) h = grind (arith, nat_tests)
+
+option_first : (d : Division) (name value : List ℕ) (o : Option Division) → option_map (joined d) (option_map (with_option name value) o) ≡ option_map (joined (with_last_option d name value)) o
+option_first d name value None = refl
+option_first d name value (Some later) = rw append_assoc refl
+
+positional_first : (d : Division) (word : List ℕ) (o : Option Division) → option_map (joined d) (option_map (with_positional word) o) ≡ option_map (joined (finished_by d (word ∷ []))) o
+positional_first d word None = refl
+positional_first d word (Some later) = rw append_assoc refl
+
+pub finished-value : (d : Division) (name value : List ℕ) (words : List (List ℕ)) → begins_with_dash value ≡ false → finished d (Some name) (value ∷ words) ≡ finished (with_last_option d name value) None words
+unfolding finished divided
+finished-value d name value words e = rw e (option_first d name value (divided None words))
+
+pub finished-dash : (d : Division) (name value : List ℕ) (words : List (List ℕ)) → begins_with_dash value ≡ true → finished d (Some name) (value ∷ words) ≡ None
+unfolding finished divided
+finished-dash d name value words e = rw e refl
+
+pub finished-plain : (d : Division) (word : List ℕ) (words : List (List ℕ)) → kind_of word ≡ Plain → finished d None (word ∷ words) ≡ finished (finished_by d (word ∷ [])) None words
+unfolding finished divided
+finished-plain d word words e = rw (e, divided) (positional_first d word (divided None words))
+
+pub finished-joined : (d : Division) (word name value : List ℕ) (words : List (List ℕ)) → kind_of word ≡ Joined name value → finished d None (word ∷ words) ≡ finished (with_last_option d name value) None words
+unfolding finished divided
+finished-joined d word name value words e = rw (e, divided) (option_first d name value (divided None words))
+
+pub finished-named : (d : Division) (word : List ℕ) (words : List (List ℕ)) → kind_of word ≡ Named → finished d None (word ∷ words) ≡ finished d (Some word) words
+unfolding finished divided
+finished-named d word words e = rw (e, divided) refl
+
+pub finished-end : (d : Division) (word : List ℕ) (words : List (List ℕ)) → kind_of word ≡ EndOfOptions → finished d None (word ∷ words) ≡ Some (finished_by d words)
+unfolding finished divided
+finished-end d word words e = rw (e, divided) (rw append-nil refl)
+
+-- nothing is divided yet
+pub finished-fresh : (words : List (List ℕ)) → finished (record { positional = []; options = [] }) None words ≡ divided None words
+unfolding finished
+finished-fresh words = fresh (divided None words)
+  where
+    fresh : (o : Option Division) → option_map (joined (record { positional = []; options = [] })) o ≡ o
+    fresh None = refl
+    fresh (Some d) = refl
+
+-- no word is left
+pub finished-none : (d : Division) → finished d None [] ≡ Some d
+unfolding finished divided
+finished-none d = rw (append-nil, append-nil) refl
+
+pub finished-pending : (d : Division) (name : List ℕ) → finished d (Some name) [] ≡ None
+unfolding finished divided
+finished-pending d name = refl
