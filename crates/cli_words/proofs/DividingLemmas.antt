@@ -1,18 +1,10 @@
 -- How a division goes on behind one word.
 use Rattle.std.proofs.Common.{◌≡◌, ℕ, ◌<◌, List, [], ◌∷◌, ◌++◌, length, Option, Some, None, option_map, MatchOption, refl, sym, ap, ◌∙◌, append_assoc, append-nil, arith, false, true, cond, nat_lt, eqb, Bor}
-use Rattle.std.specs.List.{position_or_len, before_first, after_first}
-use Rattle.std.proofs.lemmas.Bool.Decides.{nat_tests}
 use Rattle.cli_words.specs.declared.division.Division.{Division}
 use Rattle.cli_words.specs.declared.division.Kind.{Kind}
 use Rattle.cli_words.specs.declared.division.Kind.TheVariants.{EndOfOptions, Plain, Joined, Named}
-use Rattle.cli_words.specs.Words.{begins_with_dash, kind_of, parted, divided, with_option, with_positional}
+use Rattle.cli_words.specs.Words.{begins_with_dash, kind_of, divided, with_option, with_positional}
 use Rattle.cli_words.specs.Dividing.{joined, finished, finished_by, with_last_option}
-
--- `split_once` gives the parts
-pub parted-from_split : (stop : ℕ) (text : List ℕ) (r : Option (Bor (List ℕ) × Bor (List ℕ))) → MatchOption r (position_or_len (λ b. eqb b stop) text ≡ length text) (λ x. (position_or_len (λ b. eqb b stop) text < length text) × (x.0.now ≡ before_first (λ b. eqb b stop) text) × (x.1.now ≡ after_first (λ b. eqb b stop) text)) → option_map (λ p. (p.0.now, p.1.now)) r ≡ parted stop text
-unfolding parted
-parted-from_split stop text None h = grind (arith, nat_tests)
-parted-from_split stop text (Some x) h = grind (arith, nat_tests)
 
 option_first : (d : Division) (name value : List ℕ) (o : Option Division) → option_map (joined d) (option_map (with_option name value) o) ≡ option_map (joined (with_last_option d name value)) o
 option_first d name value None = refl

@@ -1,6 +1,5 @@
 -- What the texts of words mean: numbers, addresses, NetIds, file names, names. This project's own choice.
-use Rattle.std.specs.Prelude.{◌≡◌, ℕ, zero, suc, Bool, true, false, ◌&&◌, ◌||◌, not, List, [], ◌∷◌, length, Option, Some, None, codes, bytes_eq, nat_lt, nat_le, is_some, ◌==◌, if◌then◌else◌, slice_index, map}
-use Rattle.std.specs.Str.{all_ascii_digits}
+use Rattle.std.specs.Prelude.{◌≡◌, ℕ, zero, suc, Bool, true, false, ◌&&◌, ◌||◌, not, List, [], ◌∷◌, length, Option, Some, None, codes, decimal, bytes_eq, nat_lt, nat_le, is_some, ◌==◌, if◌then◌else◌, map}
 use Rattle.std.specs.Str.Parse.{digits_value}
 use Rattle.std.specs.Char.{to_ascii_lowercase}
 use Rattle.std.specs.List.{list_all, list_any}
@@ -8,15 +7,11 @@ use Rattle.ads_base.specs.declared.net_id.NetId.{NetId}
 use Rattle.cli_words.specs.Reading.{◌>>=◌}
 use Rattle.cli_words.specs.Words.{parted}
 
--- decimal digits, of which the first is 0 only where it is the only one
-abbrev pub is_decimal : List ℕ → Bool
-is_decimal text = nat_lt 0 (length text) && all_ascii_digits text && (nat_le (length text) 1 || not (slice_index text 0 == 48))
-
--- the number of a decimal text, in a range
+-- the number, in a range, of which the text is the decimal text, without superfluous zeros
 unfoldable pub number_of : ℕ → ℕ → List ℕ → Option ℕ
 number_of least most text =
-    if is_decimal text && nat_le least (digits_value 10 text) && nat_le (digits_value 10 text) most
-    then Some (digits_value 10 text) else None
+    let n = digits_value 10 text in
+    if bytes_eq text (decimal n) && nat_le least n && nat_le n most then Some n else None
 
 -- so many decimal numbers of 0 to 255, joined by full stops
 unfoldable pub stopped_bytes : ℕ → List ℕ → Option (List ℕ)
@@ -40,12 +35,17 @@ net_id_of text = do
 abbrev pub is_host : List ℕ → Bool
 is_host text = bytes_eq text (codes "localhost") || is_some (stopped_bytes 4 text)
 
--- an address, kept as its text: a host, `:`, and a port from 1 to 65,535
+-- the port of an address: a host, `:`, and a port from 1 to 65,535
+unfoldable pub address_port : List ℕ → Option ℕ
+address_port text = do
+  parts ← parted 58 text
+  if is_host parts.0 then number_of 1 65535 parts.1 else None
+
+-- an address, kept as its text
 unfoldable pub address_of : List ℕ → Option (List ℕ)
 address_of text = do
-  parts ← parted 58 text
-  port ← number_of 1 65535 parts.1
-  if is_host parts.0 then Some text else None
+  port ← address_port text
+  Some text
 
 -- a file name: any text but the empty one
 unfoldable pub file_of : List ℕ → Option (List ℕ)
@@ -62,13 +62,21 @@ on_change_of text =
     else if bytes_eq text (codes "change") then Some true
     else None
 
--- no two names are equal, ASCII case aside
-abbrev pub are_distinct : List (List ℕ) → Bool
-are_distinct [] = true
-are_distinct (name ∷ names) = not (list_any (λ other. bytes_eq (map to_ascii_lowercase name) (map to_ascii_lowercase other)) names) && are_distinct names
+-- a text that is one of these, ASCII case aside
+abbrev pub stands_in : List (List ℕ) → List ℕ → Bool
+stands_in names name = list_any (λ other. bytes_eq (map to_ascii_lowercase other) (map to_ascii_lowercase name)) names
 
--- one name to sixteen, each at most 65,536 bytes long, no two equal
+-- no two names are equal, ASCII case aside
+unfoldable pub are_distinct : List (List ℕ) → Bool
+are_distinct [] = true
+are_distinct (name ∷ names) = not (stands_in names name) && are_distinct names
+
+-- each is at most 65,536 bytes long
+abbrev pub are_texts : List (List ℕ) → Bool
+are_texts names = list_all (λ name. nat_le (length name) 65536) names
+
+-- one name to sixteen, of which no two are equal
 unfoldable pub names_of : List (List ℕ) → Option (List (List ℕ))
 names_of names =
-    if nat_lt 0 (length names) && nat_le (length names) 16 && list_all (λ name. is_some (text_of name)) names && are_distinct names
+    if nat_lt 0 (length names) && nat_le (length names) 16 && are_texts names && are_distinct names
     then Some names else None

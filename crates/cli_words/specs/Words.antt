@@ -1,6 +1,5 @@
 -- How the words behind a command divide into positional words and options. This project's own choice.
 use Rattle.std.specs.Prelude.{ℕ, Bool, false, ◌&&◌, List, [], ◌∷◌, ◌++◌, length, Option, Some, None, option_map, codes, bytes_eq, nat_lt, ◌==◌, if◌then◌else◌}
-use Rattle.std.specs.List.{position_or_len, before_first, after_first}
 use Rattle.cli_words.specs.declared.division.OptionWord.{OptionWord}
 use Rattle.cli_words.specs.declared.division.Division.{Division}
 use Rattle.cli_words.specs.declared.division.Kind.{Kind}
@@ -11,12 +10,14 @@ abbrev pub begins_with_dash : List ℕ → Bool
 begins_with_dash [] = false
 begins_with_dash (byte ∷ bytes) = byte == 45
 
+-- one more byte before the first of two parts
+abbrev pub with_first : ℕ → List ℕ × List ℕ → List ℕ × List ℕ
+with_first byte parts = (byte ∷ parts.0, parts.1)
+
 -- what stands before the first such byte of a text, and what stands behind it, where there is one
 unfoldable pub parted : ℕ → List ℕ → Option (List ℕ × List ℕ)
-parted stop text =
-    if nat_lt (position_or_len (λ byte. byte == stop) text) (length text)
-    then Some (before_first (λ byte. byte == stop) text, after_first (λ byte. byte == stop) text)
-    else None
+parted stop [] = None
+parted stop (byte ∷ bytes) = if byte == stop then Some ([], bytes) else option_map (with_first byte) (parted stop bytes)
 
 -- `--x=V`, or `--x`, whose value is the next word
 abbrev pub option_kind : Option (List ℕ × List ℕ) → Kind

@@ -7,6 +7,7 @@ mod division;
 mod form;
 mod refusal;
 mod text;
+mod values;
 
 pub use client_words::{ClientWords, PeerWords};
 pub use command::Command;
