@@ -5,3 +5,4 @@ pub mod PartedLemmas
 pub mod NumberLemmas
 pub mod StoppedLemmas
 pub mod NameLemmas
+pub mod NetIdLemmas

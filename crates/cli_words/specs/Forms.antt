@@ -1,5 +1,5 @@
 -- The commands by their names, and the options that each may have. This project's own choice.
-use Rattle.std.specs.Prelude.{ℕ, Bool, true, false, ◌&&◌, not, List, [], ◌∷◌, ◌++◌, Option, Some, None, codes, bytes_eq, is_some, if◌then◌else◌}
+use Rattle.std.specs.Prelude.{ℕ, Bool, true, false, ◌&&◌, List, [], ◌∷◌, ◌++◌, Option, Some, None, codes, bytes_eq, is_none, if◌then◌else◌}
 use Rattle.std.specs.List.{list_any}
 use Rattle.cli_words.specs.declared.division.OptionWord.{OptionWord}
 use Rattle.cli_words.specs.declared.form.Form.{Form}
@@ -67,7 +67,11 @@ options_of form.Replay = []
 options_of form.Load = []
 options_of form.Migrate = []
 
+-- an option is one of these, and none of the later ones is the same
+abbrev pub may_stand : List (List ℕ) → List ℕ → List OptionWord → Bool
+may_stand allowed name later = list_any (bytes_eq name) allowed && is_none (value_of name later)
+
 -- each option is one of these, and none stands twice
 unfoldable pub are_among : List (List ℕ) → List OptionWord → Bool
 are_among allowed [] = true
-are_among allowed (option ∷ options) = list_any (bytes_eq option.name) allowed && not (is_some (value_of option.name options)) && are_among allowed options
+are_among allowed (option ∷ options) = may_stand allowed option.name options && are_among allowed options

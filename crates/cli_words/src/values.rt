@@ -38,12 +38,7 @@ pub(crate) fn net_id(word: &Text) -> Result<NetId, Refusal>
     ensures { Reads result (net_id_of word.now) }
 {
     match NetId::read(word.as_str().as_bytes()) {
-        Some(net) => {
-            let [a, b, c, d, e, f] = net.bytes;
-            Ok(NetId {
-                bytes: [a, b, c, d, e, f],
-            })
-        }
+        Some(net) => Ok(net),
         None => Err(Refusal::OffGrammar),
     }
 }
