@@ -1,7 +1,6 @@
 -- How a division goes on behind one word.
-use Rattle.std.proofs.Common.{◌≡◌, ℕ, ◌<◌, List, [], ◌∷◌, ◌++◌, length, Option, Some, None, option_map, MatchOption, refl, sym, ap, ◌∙◌, append_assoc, append-nil, arith, false, true, cond, nat_lt, eqb, Bor}
+use Rattle.std.proofs.Common.{◌≡◌, ℕ, List, [], ◌∷◌, Option, Some, None, option_map, refl, append_assoc, append-nil, false, true}
 use Rattle.cli_words.specs.declared.division.Division.{Division}
-use Rattle.cli_words.specs.declared.division.Kind.{Kind}
 use Rattle.cli_words.specs.declared.division.Kind.TheVariants.{EndOfOptions, Plain, Joined, Named}
 use Rattle.cli_words.specs.Words.{begins_with_dash, kind_of, divided, with_option, with_positional}
 use Rattle.cli_words.specs.Dividing.{joined, finished, finished_by, with_last_option}

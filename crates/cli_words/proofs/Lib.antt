@@ -6,3 +6,4 @@ pub mod NumberLemmas
 pub mod StoppedLemmas
 pub mod NameLemmas
 pub mod NetIdLemmas
+mod Examples

@@ -1,5 +1,5 @@
 -- A NetId as six decimal bytes joined by full stops.
-use Rattle.std.proofs.Common.{◌≡◌, ◌≢◌, ℕ, ◌<◌, List, length, get_or, Option, Some, None, refl, sym, ap, ◌∙◌, arith}
+use Rattle.std.proofs.Common.{◌≡◌, ◌≢◌, ℕ, List, Option, Some, None, refl}
 use Rattle.ads_base.specs.NetId.{IsNetId, net_text}
 use Rattle.ads_base.specs.declared.net_id.NetId.{NetId}
 use Rattle.cli_words.specs.Values.{stopped_bytes, net_id_of}

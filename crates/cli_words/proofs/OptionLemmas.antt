@@ -1,5 +1,5 @@
 -- Options by their names.
-use Rattle.std.proofs.Common.{◌≡◌, ℕ, zero, suc, ◌+◌, ◌<◌, List, [], ◌∷◌, length, Some, None, true, false, get_or, drop, refl, sym, ap, ◌∙◌, arith, bytes_eq, add-one, drop-cons}
+use Rattle.std.proofs.Common.{◌≡◌, ℕ, ◌+◌, ◌<◌, List, [], ◌∷◌, length, Some, None, true, false, get_or, drop, refl, sym, ap, ◌∙◌, bytes_eq, add-one, drop-cons}
 use Rattle.cli_words.specs.declared.division.OptionWord.{OptionWord}
 use Rattle.std.proofs.lemmas.List.{at_drop_more}
 use Rattle.cli_words.specs.Words.{value_of}

@@ -1,5 +1,5 @@
 -- A text parted at the first of a byte.
-use Rattle.std.proofs.Common.{◌≡◌, ◌≢◌, ℕ, zero, suc, ◌<◌, List, [], ◌∷◌, ◌++◌, length, get_or, Option, Some, None, option_map, MatchOption, true, false, eqb, refl, sym, ap, ◌∙◌, arith, Bor, inl, inr}
+use Rattle.std.proofs.Common.{◌≡◌, ◌≢◌, ℕ, suc, ◌<◌, List, [], ◌∷◌, ◌++◌, length, get_or, Option, Some, None, option_map, MatchOption, false, eqb, refl, sym, ap, ◌∙◌, arith, Bor, inl, inr}
 use Rattle.std.proofs.lemmas.Bool.{eq-eqb, ne_eqb, eqb-true, cases_Bool}
 use Rattle.cli_words.specs.Words.{parted, with_first}
 
@@ -29,8 +29,9 @@ pub parted-whole : (stop : ℕ) (text : List ℕ) → MatchOption (parted stop t
 unfolding parted
 parted-whole stop [] = tt
 parted-whole stop (b ∷ bs) = elim (cases_Bool (eqb b stop)) [
-    inl e ↦ rw e (ap (λ x. x ∷ bs) (eqb-true b stop e))
-  | inr e ↦ rw e (more_first b stop bs (parted stop bs) (parted-whole stop bs)) ]
+  | inl e ↦ rw e (ap (λ x. x ∷ bs) (eqb-true b stop e))
+  | inr e ↦ rw e (more_first b stop bs (parted stop bs) (parted-whole stop bs))
+]
 
 pub parted-parts : (stop : ℕ) (text : List ℕ) (parts : List ℕ × List ℕ) → parted stop text ≡ Some parts → text ≡ parts.0 ++ stop ∷ parts.1
 parted-parts stop text parts e = rw e at (parted-whole stop text)

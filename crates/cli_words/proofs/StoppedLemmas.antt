@@ -1,9 +1,8 @@
 -- Decimal bytes joined by full stops.
-use Rattle.std.proofs.Common.{◌≡◌, ◌≢◌, ℕ, zero, suc, ◌<◌, ◌^◌, List, [], ◌∷◌, ◌++◌, length, get_or, map, Option, Some, None, cond, leb, refl, sym, ap, ◌∙◌, subst, arith, lit≤}
+use Rattle.std.proofs.Common.{◌≡◌, ℕ, zero, suc, ◌<◌, List, [], ◌∷◌, ◌++◌, length, get_or, map, Some, None, cond, leb, refl, ap, ◌∙◌, subst, arith, lit≤}
 use Rattle.std.proofs.lemmas.Bool.{and_from, le-leb}
 use Rattle.std.specs.Fmt.{decimal}
 use Rattle.std.specs.List.{join_with_byte}
-use Rattle.std.specs.Char.{digit_value}
 use Rattle.ads_base.proofs.DecimalLemmas.{decimal-free}
 use Rattle.cli_words.specs.Reading.{◌>>=◌}
 use Rattle.cli_words.specs.Words.{parted}
@@ -34,9 +33,9 @@ stopped_bytes-all (suc count) (byte ∷ (next ∷ bytes)) text stopped =
     let rest = join_with_byte 46 (map decimal (next ∷ bytes)) in
     let small = stopped.small 0 in
     let parts : parted 46 text ≡ Some (decimal byte, rest) =
-        ap (parted 46) stopped.text_is ∙ parted-join 46 (decimal byte) rest (decimal-free 46 byte (lit≤ tt) (omega arith)) in
+    ap (parted 46) stopped.text_is ∙ parted-join 46 (decimal byte) rest (decimal-free 46 byte (lit≤ tt) (omega arith)) in
     let others = stopped_bytes-all count (next ∷ bytes) rest
-        (record { counted = omega (arith, stopped.counted); small = λ k. stopped.small (suc k); text_is = refl }) in
+    (record { counted = omega (arith, stopped.counted); small = λ k. stopped.small (suc k); text_is = refl }) in
     rw (parts, number_of-byte byte small, others) refl
 
 small_more : (byte : ℕ) (bytes : List ℕ) → byte < 256 → ((k : ℕ) → get_or bytes k 0 < 256) → (k : ℕ) → get_or (byte ∷ bytes) k 0 < 256
@@ -71,4 +70,4 @@ stopped_bytes-some (suc (suc count)) bytes text e =
     let byte = bind_some (number_of 0 255 parts.0.0) (λ byte. stopped_bytes (suc count) parts.0.1 >>= (λ others. Some (byte ∷ others))) bytes parts.2 in
     let others = bind_some (stopped_bytes (suc count) parts.0.1) (λ others. Some (byte.0 ∷ others)) bytes byte.2 in
     more_stopped count byte.0 others.0 bytes parts.0.0 parts.0.1 text (number_of-some 0 255 byte.0 parts.0.0 byte.1)
-        (stopped_bytes-some (suc count) others.0 parts.0.1 others.1) (parted-parts 46 text parts.0 parts.1) others.2
+    (stopped_bytes-some (suc count) others.0 parts.0.1 others.1) (parted-parts 46 text parts.0 parts.1) others.2

@@ -1,5 +1,5 @@
 -- The commands by their names, and the options that each may have. This project's own choice.
-use Rattle.std.specs.Prelude.{ℕ, Bool, true, false, ◌&&◌, List, [], ◌∷◌, ◌++◌, Option, Some, None, codes, bytes_eq, is_none, if◌then◌else◌}
+use Rattle.std.specs.Prelude.{ℕ, Bool, true, ◌&&◌, List, [], ◌∷◌, ◌++◌, Option, Some, None, codes, bytes_eq, is_none, if◌then◌else◌}
 use Rattle.std.specs.List.{list_any}
 use Rattle.cli_words.specs.declared.division.OptionWord.{OptionWord}
 use Rattle.cli_words.specs.declared.form.Form.{Form}

@@ -1,5 +1,5 @@
 -- How the words behind a command divide into positional words and options. This project's own choice.
-use Rattle.std.specs.Prelude.{ℕ, Bool, false, ◌&&◌, List, [], ◌∷◌, ◌++◌, length, Option, Some, None, option_map, codes, bytes_eq, nat_lt, ◌==◌, if◌then◌else◌}
+use Rattle.std.specs.Prelude.{ℕ, Bool, false, ◌&&◌, List, [], ◌∷◌, length, Option, Some, None, option_map, codes, bytes_eq, nat_lt, ◌==◌, if◌then◌else◌}
 use Rattle.cli_words.specs.declared.division.OptionWord.{OptionWord}
 use Rattle.cli_words.specs.declared.division.Division.{Division}
 use Rattle.cli_words.specs.declared.division.Kind.{Kind}
@@ -45,10 +45,11 @@ unfoldable pub divided : Option (List ℕ) → List (List ℕ) → Option Divisi
 divided None [] = Some (record { positional = []; options = [] })
 divided (Some name) [] = None
 divided None (word ∷ words) = elim (kind_of word) [
-    EndOfOptions ↦ Some (record { positional = words; options = [] })
+  | EndOfOptions ↦ Some (record { positional = words; options = [] })
   | Plain ↦ option_map (with_positional word) (divided None words)
   | Joined name value ↦ option_map (with_option name value) (divided None words)
-  | Named ↦ divided (Some word) words ]
+  | Named ↦ divided (Some word) words
+]
 divided (Some name) (value ∷ words) =
     if begins_with_dash value then None else option_map (with_option name value) (divided None words)
 

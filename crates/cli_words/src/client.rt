@@ -15,11 +15,7 @@ use std::alloc::Global;
 const DEFAULT_PORT: u64 = 851;
 
 /// A copy of the value of an option that has to stand.
-pub(crate) fn required(
-    alloc: Global,
-    options: &[OptionWord],
-    name: &str,
-) -> Result<Text, Refusal>
+pub(crate) fn required(alloc: Global, options: &[OptionWord], name: &str) -> Result<Text, Refusal>
     ensures { Reads result (value_of name.now options.now) }
 {
     match value_of_option(options, name) {
@@ -92,10 +88,7 @@ fn peer(
 
 /// When samples are sent: on a change alone or not, the cycle, and how many are wanted.
 #[tactic(auto, unfolding(crate::specs::Commands::samples_of))]
-pub(crate) fn samples(
-    alloc: Global,
-    options: &[OptionWord],
-) -> Result<(bool, u64, u64), Refusal>
+pub(crate) fn samples(alloc: Global, options: &[OptionWord]) -> Result<(bool, u64, u64), Refusal>
     ensures { Reads result (samples_of options.now) }
 {
     let mode_word = required(alloc, options, "--mode")?;

@@ -6,11 +6,18 @@ use crate::{ClientWords, Text, TextList};
 #[derive(Debug, Drop)]
 pub enum Command {
     /// `selftest SCRIPT`
-    Selftest { script: Text },
+    Selftest {
+        script: Text,
+    },
     /// `check DESCRIPTION`
-    Check { description: Text },
+    Check {
+        description: Text,
+    },
     /// `replay DESCRIPTION SCRIPT`
-    Replay { description: Text, script: Text },
+    Replay {
+        description: Text,
+        script: Text,
+    },
     /// `serve DESCRIPTION --listen A --events N`, where N has 64 bits
     Serve {
         description: Text,
@@ -18,7 +25,9 @@ pub enum Command {
         events: u64,
     },
     /// `load N`, at most 100,000
-    Load { n: u64 },
+    Load {
+        n: u64,
+    },
     /// `info`
     Info(ClientWords),
     /// `state`
@@ -32,7 +41,10 @@ pub enum Command {
         client: ClientWords,
     },
     /// `get NAME`
-    Get { name: Text, client: ClientWords },
+    Get {
+        name: Text,
+        client: ClientWords,
+    },
     /// `set NAME VALUE`
     Set {
         name: Text,
@@ -49,11 +61,19 @@ pub enum Command {
         client: ClientWords,
     },
     /// `migrate DESCRIPTION`
-    Migrate { description: Text },
+    Migrate {
+        description: Text,
+    },
     /// `show NAME`
-    Show { name: Text, client: ClientWords },
+    Show {
+        name: Text,
+        client: ClientWords,
+    },
     /// `relay DESCRIPTION SCRIPT`
-    Relay { description: Text, script: Text },
+    Relay {
+        description: Text,
+        script: Text,
+    },
     /// `relay DESCRIPTION --listen A --events N`
     RelayServe {
         description: Text,

@@ -9,6 +9,8 @@ mod division;
 mod form;
 mod read;
 mod refusal;
+#[cfg(test)]
+mod tests;
 mod text;
 mod values;
 

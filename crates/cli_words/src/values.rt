@@ -129,11 +129,7 @@ pub(crate) fn names(words: TextList) -> Result<TextList, Refusal>
     ensures { Reads result (names_of words) }
 {
     let texts = words.as_slice();
-    if texts.is_empty()
-        || texts.len() > MAX_NAMES
-        || !are_texts(texts)
-        || !are_distinct(texts)
-    {
+    if texts.is_empty() || texts.len() > MAX_NAMES || !are_texts(texts) || !are_distinct(texts) {
         return Err(Refusal::OffGrammar);
     }
     Ok(words)

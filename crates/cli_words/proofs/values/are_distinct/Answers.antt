@@ -1,4 +1,4 @@
-use Rattle.std.proofs.Common.{◌≡◌, ◌+◌, drop, true, false, sym, ap, ◌∙◌, refl, arith}
+use Rattle.std.proofs.Common.{◌≡◌, ◌+◌, drop, true, false, sym, ◌∙◌, arith}
 use Rattle.std.proofs.lemmas.List.{drop_all, take_rest}
 use Rattle.cli_words.specs.Values.{stands_in}
 use Rattle.cli_words.proofs.NameLemmas.{are_distinct-here, are_distinct-later, are_distinct-end}

@@ -1,4 +1,4 @@
-use Rattle.std.proofs.Common.{◌≡◌, ◌<◌, ℕ, length, get_or, refl, sym, ◌∙◌, arith, w8}
+use Rattle.std.proofs.Common.{refl, sym, ◌∙◌, arith, w8}
 use borrow.Author.Rules.{elem_Fits}
 use Rattle.ads_base.specs.NetId.{IsNetId}
 use Rattle.cli_words.proofs.NetIdLemmas.{net_id_of-text, net_id_of-none}

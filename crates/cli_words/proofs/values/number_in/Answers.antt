@@ -1,4 +1,4 @@
-use Rattle.std.proofs.Common.{◌≡◌, Some, None, cond, leb, true, false, ◌&&◌, refl, sym, ap, ◌∙◌, arith, inl, inr}
+use Rattle.std.proofs.Common.{◌≡◌, Some, None, cond, leb, false, ◌&&◌, refl, sym, ap, ◌∙◌, arith, inl, inr}
 use Rattle.std.proofs.lemmas.Bool.{and_from, and_left, and_right, le-leb, lt-leb}
 use Rattle.cli_words.proofs.NumberLemmas.{number_of-decimal, number_of-none}
 use Rattle.cli_words.proofs.values.number_in.Goals as goal
@@ -19,7 +19,8 @@ pub returns-else-least-n : goal.returns-else-least-n
 returns-else-least-n c =
     let n = c.in_ok-n.n in
     let out_of_range : (leb c.args.least n && leb n c.args.most) ≡ false = elim c.else-least-n.either [
-        inl above ↦ and_right (leb c.args.least n) (leb n c.args.most) (lt-leb n c.args.most above.1)
-      | inr below ↦ and_left (leb c.args.least n) (leb n c.args.most) (lt-leb c.args.least n below) ] in
+      | inl above ↦ and_right (leb c.args.least n) (leb n c.args.most) (lt-leb n c.args.most above.1)
+      | inr below ↦ and_left (leb c.args.least n) (leb n c.args.most) (lt-leb c.args.least n below)
+    ] in
     sym (number_of-decimal c.args.least c.args.most n c.args.text.now c.in_ok-n.ensures.some.0 (sym c.as_bytes.ensures.value ∙ c.in_ok-n.ensures.some.1)
     ∙ ap (λ b. cond b (Some n) None) out_of_range)
