@@ -1,5 +1,6 @@
 mod AcceptedExamples
 mod Examples
+pub mod PartLemmas
 pub mod SizeLemmas
-pub mod TypeLemmas
 mod TypeTextExamples
+pub mod TypeLemmas

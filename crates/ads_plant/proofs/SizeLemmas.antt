@@ -25,6 +25,7 @@ kind_size-bounds LREAL = (omega arith, omega arith)
 -- each alignment is from 1 to 8
 mutual
   unfolding type_align greatest_align
+
   pub type_align-bounds : (t : TypeTree) → (0 < type_align t) × (type_align t ≤ 8)
   type_align-bounds (PlainTree k) = kind_size-bounds k
   type_align-bounds (TextTree n) = (omega arith, omega arith)

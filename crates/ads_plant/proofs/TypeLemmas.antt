@@ -101,10 +101,12 @@ tree_at-behind before known (u ∷ ts) zero t l h e =
     let behind = trees_behind longer ts in
     let less : length known < length longer = simp length-append (omega arith) in
     let there : tree_at behind (length known) ≡ named_tree known u = tree_at-trees_behind longer ts (length known) less ∙ tree_at-end known (named_tree known u) in
-    let agree : Agree before known behind = record { same = λ p below.
-        let fits : p < length known = omega arith in
-        let fits_too : p < length longer = simp length-append (omega arith) in
-        sym (tree_at-trees_behind longer ts p fits_too ∙ tree_at-append known (named_tree known u ∷ []) p fits) } in
+    let agree : Agree before known behind = record {
+      same = λ p below.
+          let fits : p < length known = omega arith in
+          let fits_too : p < length longer = simp length-append (omega arith) in
+          sym (tree_at-trees_behind longer ts p fits_too ∙ tree_at-append known (named_tree known u ∷ []) p fits);
+    } in
     let same : named_tree known u ≡ named_tree behind u = named_tree-agree before known behind agree u (next-parts before u (parts.0)) in
     let is_it : u ≡ t = cc in
     let place : length before + 0 ≡ length known = omega (arith, l) in
@@ -162,15 +164,17 @@ stands_at types place t a e =
     record {
       tree = rw zero-add at there;
       parts = next-parts earlier t next;
-      small = leb-true _ _ little
+      small = leb-true _ _ little;
     }
   where
     agree : Agree (take place types) (trees_of (take place types)) (trees_of types)
-    agree = record { same = λ p below.
-        let lengths = length-trees_behind [] (take place types) in
-        let fits : p < length (trees_behind [] (take place types)) = omega (arith, lengths, below) in
-        let split = trees_behind-split [] types place in
-        rw split (sym (tree_at-trees_behind (trees_behind [] (take place types)) (drop place types) p fits)) }
+    agree = record {
+      same = λ p below.
+          let lengths = length-trees_behind [] (take place types) in
+          let fits : p < length (trees_behind [] (take place types)) = omega (arith, lengths, below) in
+          let split = trees_behind-split [] types place in
+          rw split (sym (tree_at-trees_behind (trees_behind [] (take place types)) (drop place types) p fits));
+    }
 
 -- a part of the list has nothing that the list has not
 is_there-take : (P : NamedType → Bool) (ts : List NamedType) (n p : ℕ) → option_map_or P (slice_get (take n ts) p) false ≡ true → (option_map_or P (slice_get ts p) false ≡ true) × (p < n)
@@ -220,7 +224,7 @@ good_member types place m h =
     let shape = shape-elem (take place types) m.shape (member-shape (take place types) m h) in
     record {
       names = elem-earlier types place (elem_within m.shape) shape;
-      few_elements = (and_parts _ _ h).1
+      few_elements = (and_parts _ _ h).1;
     }
 
 -- what all of a list is, each is

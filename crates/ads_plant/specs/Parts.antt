@@ -53,10 +53,13 @@ element_of (ArrayTree bounds element) indexes =
     option_map (λ k. record { first = k * type_size element; type = element }) (element_from 0 bounds indexes)
 element_of type indexes = None
 
+-- a member as a part
+abbrev pub part_of_member : MemberPart → TypePart
+part_of_member m = record { first = m.first; type = m.type }
+
 -- the part that a step leads to
 abbrev pub part_of : TypeTree → Step → Option TypePart
-part_of type (name_step name) =
-    option_map (λ (m : MemberPart). record { first = m.first; type = m.type }) (member_of type name)
+part_of type (name_step name) = option_map part_of_member (member_of type name)
 part_of type (index_step indexes) = element_of type indexes
 
 -- a part of a part, in terms of the whole

@@ -1,2 +1,4 @@
+pub mod Leaves
 pub mod MemberTurns
+pub mod Numbers
 pub mod Places

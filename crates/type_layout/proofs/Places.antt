@@ -1,10 +1,13 @@
 -- What stands at a place of the code's list of types.
-use Rattle.std.proofs.Common.{◌≡◌, ℕ, ◌+◌, ◌<◌, ◌≤◌, max, List, [], length, get_or, map, drop, true, refl, ◌∙◌, ap, arith}
+use Rattle.std.proofs.Common.{◌≡◌, ℕ, ◌+◌, ◌<◌, ◌≤◌, max, List, [], ◌∷◌, length, get_or, map, drop, true, false, refl, ◌∙◌, ap, arith}
 use Rattle.std.proofs.lemmas.List.{length-map, drop_all}
-use Rattle.std.specs.Prelude.{Option, Some, slice_get, option_map}
+use Rattle.std.specs.Prelude.{Option, Some, None, slice_get, option_map, bytes_eq}
 use Rattle.std.proofs.lemmas.Option.{slice_get_read, slice_get-map}
-use Rattle.ads_plant.specs.Trees.{tree_at, trees_of, EnumTree, named_tree, member_trees}
-use Rattle.ads_plant.specs.Sizes.{aligned, members_end, greatest_align, type_size, type_align}
+use Rattle.ads_plant.specs.Trees.{tree_at, trees_of, EnumTree, named_tree, member_trees, tree_of}
+use Rattle.ads_plant.specs.Sizes.{aligned, member_start, members_end, greatest_align, type_size, type_align}
+use Rattle.name_paths.specs.Identifier.{lower}
+use Rattle.ads_plant.specs.Parts as found
+use Rattle.ads_plant.specs.Parts.{member_from}
 use Rattle.ads_plant.specs.Listed as plain
 use Rattle.ads_plant.proofs.SizeLemmas.{greatest_align-bounds}
 use Rattle.ads_plant.specs.AcceptedTypes.{AreTypes, LIMIT, is_enumeration_at, is_structure_at}
@@ -15,7 +18,7 @@ use Rattle.type_layout.specs.NamedTypes.{types_of, named_type_of, enumeration_of
 use Rattle.type_layout.specs.declared.named_type.NamedType.{NamedType}
 use Rattle.type_layout.specs.declared.named_type.NamedType.TheVariants as named
 use Rattle.type_layout.specs.declared.enumerations.EnumType.{EnumType}
-use Rattle.type_layout.proofs.MemberTurns.{IsTurn, is_turn, ends_within}
+use Rattle.type_layout.proofs.MemberTurns.{drop-get, IsTurn, is_turn, ends_within}
 use Rattle.type_layout.specs.declared.structures.Member.{Member}
 use Rattle.type_layout.specs.declared.structures.StructType.{StructType}
 
@@ -75,3 +78,38 @@ is_whole types place x s members i end greatest a h r t same past ends aligns lo
       ends = omega (arith, limit, end_is);
       high = omega (arith, bounds, greatest_is, low);
     }
+
+-- the member that is met has the name that is looked for
+pub member_found : (types : List NamedType) (place : ℕ) (x : NamedType) (s : StructType) (members : List Member) (i : ℕ) (m : Member) (end : ℕ) (name : List ℕ)
+    → AreTypes (types_of types) → is_structure_at (types_of types) place ≡ true → x ≡ get_or types place x → x ≡ named.Struct s → members ≡ s.members → i < length members → m ≡ get_or members i m
+    → member_from 0 (member_trees (trees_of (types_of types)) (map member_of members)) name ≡ member_from end (member_trees (trees_of (types_of types)) (drop i (map member_of members))) name
+    → bytes_eq (lower m.name) (lower name) ≡ true
+    → found.member_of (tree_at (trees_of (types_of types)) place) name
+    ≡ Some (record { name = m.name; first = member_start end (tree_of (types_of types) (shape_of m.kind)); type = tree_of (types_of types) (shape_of m.kind); comment = m.comment })
+member_found types place x s members i m end name a h r t same below read so_far is_it =
+    let within : place < length types = simp length-map at (at-below is_structure (types_of types) place h) in
+    let there : StandsAt (types_of types) place (Structure s.name (map member_of members)) = rw same (structure_at types place x s a within r t) in
+    let left : drop i (map member_of members) ≡ member_of m ∷ drop (i + 1) (map member_of members) = drop-get (map member_of members) i (member_of m) (read_at member_of members i m below read) in
+    let tree = there.tree in
+    rw tree (so_far ∙ rw (left, is_it) refl)
+
+-- the member that is met has another name
+pub member_passed : (types : List NamedType) (members : List Member) (i : ℕ) (m : Member) (end : ℕ) (name : List ℕ) → i < length members → m ≡ get_or members i m → bytes_eq (lower m.name) (lower name) ≡ false
+    → member_from end (member_trees (trees_of (types_of types)) (drop i (map member_of members))) name
+    ≡ member_from (member_start end (tree_of (types_of types) (shape_of m.kind)) + type_size (tree_of (types_of types) (shape_of m.kind))) (member_trees (trees_of (types_of types)) (drop (i + 1) (map member_of members))) name
+member_passed types members i m end name below read other =
+    let left : drop i (map member_of members) ≡ member_of m ∷ drop (i + 1) (map member_of members) = drop-get (map member_of members) i (member_of m) (read_at member_of members i m below read) in
+    rw (left, other) refl
+
+-- no member has the name
+pub member_missing : (types : List NamedType) (place : ℕ) (x : NamedType) (s : StructType) (members : List Member) (i end : ℕ) (name : List ℕ)
+    → AreTypes (types_of types) → is_structure_at (types_of types) place ≡ true → x ≡ get_or types place x → x ≡ named.Struct s → members ≡ s.members → length members ≤ i
+    → member_from 0 (member_trees (trees_of (types_of types)) (map member_of members)) name ≡ member_from end (member_trees (trees_of (types_of types)) (drop i (map member_of members))) name
+    → found.member_of (tree_at (trees_of (types_of types)) place) name ≡ None
+member_missing types place x s members i end name a h r t same past so_far =
+    let within : place < length types = simp length-map at (at-below is_structure (types_of types) place h) in
+    let there : StandsAt (types_of types) place (Structure s.name (map member_of members)) = rw same (structure_at types place x s a within r t) in
+    let far : length (map member_of members) ≤ i = simp length-map past in
+    let none : drop i (map member_of members) ≡ [] = drop_all i (map member_of members) far in
+    let tree = there.tree in
+    rw tree (so_far ∙ rw none refl)

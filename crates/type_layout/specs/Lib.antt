@@ -2,3 +2,4 @@ pub mod Shapes
 pub mod NamedTypes
 pub mod Descriptions
 pub mod Extents
+pub mod FoundParts
