@@ -12,6 +12,8 @@ mod named_file;
 mod put;
 mod reload_note;
 mod sink;
+#[cfg(test)]
+mod tests;
 
 pub use event::Event;
 pub use files::Files;

@@ -1,0 +1,128 @@
+//! What no clause says: that calls succeed with ample memory, and at which byte a file is too long.
+
+use crate::{Event, Files, Got, MemFiles, MemSink, NamedFile, NamedFiles, Put, Sink};
+use ads_base::{Calls, Octets};
+use std::alloc::Global;
+use std::process::Abort;
+use std::test::Fail;
+
+fn octets(alloc: Global, bytes: &[u8]) -> Result<Octets, Fail> {
+    Ok(Octets::copy_of(alloc, bytes)?)
+}
+
+fn calls(alloc: Global, numbers: &[u64]) -> Result<Calls, Fail> {
+    Ok(Calls::from_vec(Vec::from_slice(alloc, numbers)?))
+}
+
+// A file of so many zeros.
+fn zeros(alloc: Global, len: usize) -> Result<Octets, Fail> {
+    let mut bytes = Octets::new(alloc);
+    for _ in 0..len {
+        bytes.push(alloc, 0)?;
+    }
+    Ok(bytes)
+}
+
+fn one_file(alloc: Global, name: &[u8], bytes: Octets) -> Result<NamedFiles, Fail> {
+    let mut files = NamedFiles::new(alloc);
+    let name = octets(alloc, name)?;
+    files.push(alloc, NamedFile { name, bytes })?;
+    Ok(files)
+}
+
+fn is_bytes(got: &Got, expected: &[u8]) -> bool {
+    match got {
+        Got::Bytes(bytes) => bytes.as_slice() == expected,
+        _ => false,
+    }
+}
+
+fn length_read(got: &Got) -> Option<usize> {
+    match got {
+        Got::Bytes(bytes) => Some(bytes.len()),
+        _ => None,
+    }
+}
+
+#[test]
+fn an_event_is_copied(rt: HostRuntime) -> Result<(), Fail> {
+    let alloc = rt.alloc();
+    let piece = Event::Piece(7, octets(alloc, &[1, 2])?).copy(alloc)?;
+    assert!(rt;
+        matches!(&piece, Event::Piece(7, bytes) if bytes.as_slice() == [1u8, 2].as_slice())
+    );
+    let reload = Event::Reload(octets(alloc, b"a = 1")?).copy(alloc)?;
+    assert!(rt; matches!(&reload, Event::Reload(text) if text.as_slice() == b"a = 1".as_slice()));
+    assert!(rt; matches!(Event::Opened(1).copy(alloc)?, Event::Opened(1)));
+    assert!(rt; matches!(Event::Closed(2).copy(alloc)?, Event::Closed(2)));
+    assert!(rt; matches!(Event::Tick(3).copy(alloc)?, Event::Tick(3)));
+    assert!(rt; matches!(Event::Writable(4).copy(alloc)?, Event::Writable(4)));
+    Ok(())
+}
+
+#[test]
+fn files_are_read_by_their_names(rt: HostRuntime) -> Result<(), Fail> {
+    let alloc = rt.alloc();
+    let mut files = one_file(alloc, b"a", octets(alloc, b"first")?)?;
+    let second = NamedFile {
+        name: octets(alloc, b"a")?,
+        bytes: octets(alloc, b"second")?,
+    };
+    files.push(alloc, second)?;
+    let mut files = MemFiles::new(alloc, files, calls(alloc, &[3])?);
+    assert!(rt;
+        is_bytes(&files.read("a"), b"first"),
+        "the first of two with one name"
+    );
+    assert!(rt;
+        matches!(files.read("b"), Got::Failed),
+        "a file that is not there"
+    );
+    assert_eq!(rt; files.faults(), 1);
+    assert!(rt;
+        matches!(files.read("a"), Got::Failed),
+        "the third call is to fail"
+    );
+    assert_eq!(rt; files.faults(), 2);
+    assert!(rt;
+        is_bytes(&files.read("a"), b"first"),
+        "reading leaves the file"
+    );
+    assert_eq!(rt; files.faults(), 2);
+    Ok(())
+}
+
+fn read_of_length(rt: &impl Abort, alloc: Global, len: usize) -> Result<Got, Fail> {
+    let files = one_file(alloc, b"f", zeros(alloc, len)?)?;
+    let mut files = MemFiles::new(alloc, files, Calls::new(alloc));
+    let got = files.read("f");
+    assert_eq!(rt; files.faults(), 0);
+    Ok(got)
+}
+
+#[test]
+fn a_file_is_too_long_above_the_limit(rt: HostRuntime) -> Result<(), Fail> {
+    let alloc = rt.alloc();
+    let longest = read_of_length(&rt, alloc, 16_777_216)?;
+    assert_eq!(rt; length_read(&longest), Some(16_777_216));
+    let longer = read_of_length(&rt, alloc, 16_777_217)?;
+    assert!(rt; matches!(longer, Got::TooLong));
+    Ok(())
+}
+
+#[test]
+fn a_sink_holds_what_was_put(rt: HostRuntime) -> Result<(), Fail> {
+    let alloc = rt.alloc();
+    let mut sink = MemSink::new(alloc, calls(alloc, &[2])?);
+    assert_eq!(rt; sink.put(b"one "), Put::All);
+    assert_eq!(rt;
+        sink.put(b"two "),
+        Put::Failed,
+        "the second call is to fail"
+    );
+    assert_eq!(rt; sink.faults(), 1);
+    assert_eq!(rt; sink.put(b"three"), Put::All);
+    assert_eq!(rt; sink.bytes(), b"one three".as_slice());
+    assert_eq!(rt; sink.faults(), 1);
+    Ok(())
+}
