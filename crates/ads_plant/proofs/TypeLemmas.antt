@@ -8,6 +8,7 @@ use Rattle.std.proofs.lemmas.Option.{slice_get_within, slice_get-get_or}
 use Rattle.ads_plant.specs.Listed.{Elem, Plain, Text, Struct, Enum, Shape, One, Array, Member, NamedType, Structure, Enumeration, type_name, is_structure, is_enumeration}
 use Rattle.ads_plant.specs.Trees.{TypeTree, StructTree, EnumTree, NoMember, MemberTrees, tree_at, elem_tree, shape_tree, member_trees, named_tree, trees_behind, trees_of}
 use Rattle.ads_plant.specs.Sizes.{type_size}
+use Rattle.ads_plant.specs.Spelling.{type_text}
 use Rattle.ads_plant.specs.AcceptedTypes.{AreTypes, are_types_behind, is_next_type, has_parts, is_member, is_shape, is_elem, is_structure_at, is_enumeration_at, are_bounds, is_small_type, is_small_shape, LIMIT, elem_within}
 
 -- a longer list has the same at a place
@@ -242,3 +243,31 @@ pub good_members : (types : List NamedType) (place : ℕ) (name : List ℕ) (ms 
     → IsGoodMember types place m
 good_members types place name ms i m h e =
     good_member types place m (list_all-get (is_member (take place types)) ms i m (has_parts-members (take place types) name ms h) e)
+
+-- the canonical text of a named type is its name, whatever the list
+trees_behind-name : (known : List TypeTree) (before ts : List NamedType) (i : ℕ) (t : NamedType) → length known ≡ length before → slice_get ts i ≡ Some t
+    → type_text (tree_at (trees_behind known ts) (length before + i)) ≡ type_name t
+unfolding trees_behind type_text
+trees_behind-name known before [] i t l e = cc
+trees_behind-name known before (u ∷ ts) zero t l e =
+    let longer = known ++ named_tree known u ∷ [] in
+    let less : length known < length longer = simp length-append (omega arith) in
+    let there : tree_at (trees_behind longer ts) (length known) ≡ named_tree known u = tree_at-trees_behind longer ts (length known) less ∙ tree_at-end known (named_tree known u) in
+    let place : length before + 0 ≡ length known = omega (arith, l) in
+    let is_it : u ≡ t = cc in
+    rw place (rw there (named u ∙ ap type_name is_it))
+  where
+    named : (v : NamedType) → type_text (named_tree known v) ≡ type_name v
+    named (Structure name ms) = refl
+    named (Enumeration name base values) = refl
+trees_behind-name known before (u ∷ ts) (suc i) t l e =
+    let lengths : length (known ++ named_tree known u ∷ []) ≡ length (before ++ u ∷ []) = simp length-append (omega arith) in
+    let rest = trees_behind-name (known ++ named_tree known u ∷ []) (before ++ u ∷ []) ts i t lengths e in
+    let place : length before + suc i ≡ length (before ++ u ∷ []) + i = simp length-append (omega arith) in
+    rw place rest
+
+pub type_text-named : (types : List NamedType) (place : ℕ) (t : NamedType) → slice_get types place ≡ Some t → type_text (tree_at (trees_of types) place) ≡ type_name t
+unfolding trees_of
+type_text-named types place t e =
+    let there : type_text (tree_at (trees_behind [] types) (0 + place)) ≡ type_name t = trees_behind-name [] [] types place t refl e in
+    rw zero-add at there

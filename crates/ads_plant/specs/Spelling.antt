@@ -1,13 +1,13 @@
 -- Canonical texts of types: words in upper case, names as declared, `STRING(80)` for `STRING`.
-use Rattle.std.specs.Prelude.{ℕ, ◌+◌, List, [], ◌∷◌, ◌++◌, map, codes, decimal, ℤ, pos, negsuc, ◌+ℤ◌, ◌-ℤ◌}
+use Rattle.std.specs.Prelude.{ℕ, List, [], ◌∷◌, ◌++◌, map, flat_map, codes, decimal, ℤ, pos, ◌+ℤ◌, ◌-ℤ◌}
+use Rattle.std.specs.Fmt.{signed_decimal}
 use Rattle.ads_plant.specs.Plain.{kind_name}
 use Rattle.ads_plant.specs.Listed.{Bound}
 use Rattle.ads_plant.specs.Trees.{TypeTree, PlainTree, TextTree, EnumTree, ArrayTree, StructTree}
 
 -- a number in decimal digits, behind a minus sign where it is below zero
 abbrev pub integer_text : ℤ → List ℕ
-integer_text (pos n) = decimal n
-integer_text (negsuc n) = 45 ∷ decimal (n + 1)
+integer_text z = signed_decimal z
 
 -- the greatest index
 abbrev pub high_of : Bound → ℤ
@@ -20,8 +20,7 @@ bound_text b = integer_text b.low ++ codes ".." ++ integer_text (high_of b)
 -- texts joined by commas
 abbrev pub joined_by_comma : List (List ℕ) → List ℕ
 joined_by_comma [] = []
-joined_by_comma (t ∷ []) = t
-joined_by_comma (t ∷ (u ∷ us)) = t ++ 44 ∷ joined_by_comma (u ∷ us)
+joined_by_comma (t ∷ ts) = t ++ flat_map (λ u. 44 ∷ u) ts
 
 -- a type's canonical text, as `ARRAY [1..3] OF Axis`
 unfoldable pub type_text : TypeTree → List ℕ

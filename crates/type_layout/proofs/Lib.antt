@@ -1,3 +1,4 @@
+pub mod Joined
 pub mod Leaves
 pub mod MemberTurns
 pub mod Numbers

@@ -3,3 +3,4 @@ pub mod NamedTypes
 pub mod Descriptions
 pub mod Extents
 pub mod FoundParts
+pub mod Spelled

@@ -1,7 +1,7 @@
 //! The plain types.
 
 ghost use Rattle.std.specs.Prelude.{◌≡◌};
-ghost use Rattle.ads_plant.specs.Plain.{kind_size};
+ghost use Rattle.ads_plant.specs.Plain.{kind_size, kind_name};
 ghost use Rattle.type_layout.specs.Shapes.{kind_of};
 
 /// A plain type. Beckhoff Information System, data types of a PLC program.
@@ -42,6 +42,30 @@ impl Kind {
             Kind::Int | Kind::Uint | Kind::Word => 2,
             Kind::Dint | Kind::Udint | Kind::Dword | Kind::Time | Kind::Real => 4,
             Kind::Lint | Kind::Ulint | Kind::Lword | Kind::Lreal => 8,
+        }
+    }
+
+    // The name in upper case.
+    pub(crate) fn name(self) -> &'static str
+        ensures { result.now ≡ kind_name (kind_of self) }
+    {
+        match self {
+            Kind::Bool => "BOOL",
+            Kind::Sint => "SINT",
+            Kind::Usint => "USINT",
+            Kind::Byte => "BYTE",
+            Kind::Int => "INT",
+            Kind::Uint => "UINT",
+            Kind::Word => "WORD",
+            Kind::Dint => "DINT",
+            Kind::Udint => "UDINT",
+            Kind::Dword => "DWORD",
+            Kind::Time => "TIME",
+            Kind::Lint => "LINT",
+            Kind::Ulint => "ULINT",
+            Kind::Lword => "LWORD",
+            Kind::Real => "REAL",
+            Kind::Lreal => "LREAL",
         }
     }
 }

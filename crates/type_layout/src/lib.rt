@@ -9,6 +9,7 @@ mod named_type;
 mod parts;
 mod port;
 mod shape;
+mod spelling;
 mod structures;
 
 pub use description::{Description, Rights, RouteDesc, Routes4};
@@ -19,4 +20,5 @@ pub use named_type::{NamedType, Types};
 pub use parts::member;
 pub use port::{Area, DeviceFacts4, Nets, PortDesc, PortList, Sizes, SymbolDesc, Symbols};
 pub use shape::{Bound, Bounds, Elem, Shape, TypeRef};
+pub use spelling::type_text;
 pub use structures::{Member, Members, StructType};
