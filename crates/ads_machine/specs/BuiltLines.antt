@@ -1,4 +1,5 @@
--- Which lines a script may have. The whole grammar is defined; a line that is not built yet is off it.
+-- Which lines a script may have. The whole grammar is defined; a line that is not built yet
+-- is off it.
 use Rattle.std.specs.Prelude.{ℕ, Bool, true, false}
 
 -- the lines of a script

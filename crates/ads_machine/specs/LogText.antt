@@ -1,4 +1,5 @@
--- The text of a log: a line for each output, each end of a connection and each reload. This project's own format.
+-- The text of a log: a line for each output, each end of a connection and each reload.
+-- This project's own format.
 use Rattle.std.specs.Prelude.{ℕ, ◌++◌, List, [], ◌∷◌, codes, drop}
 use Rattle.std.specs.Fmt.{decimal}
 use Rattle.hex.specs.Hex.{encode_lower}

@@ -1,4 +1,5 @@
--- The grammar of scripts: what a line says, and the script of some bytes. This project's own format.
+-- The grammar of scripts: what a line says, and the script of some bytes.
+-- This project's own format.
 use Rattle.std.specs.Prelude.{ℕ, ◌+◌, ◌&&◌, ◌||◌, Bool, true, false, not, List, [], ◌∷◌, length, nat_lt, ◌==◌, if◌then◌else◌, Option, Some, None, Result, Ok, Err, codes, slice_index}
 use Rattle.std.specs.Option.{option_map, option_map_or, option_and_then}
 use Rattle.std.specs.Str.{bytes_eq}
@@ -17,7 +18,8 @@ open_connection r word =
 -- a number that no line opened, where one more connection may be opened
 abbrev pub fresh_connection : BuiltLines → Reading → List ℕ → Option ℕ
 fresh_connection built r word = option_and_then
-    (λ c. if nat_lt (length r.opened) built.most_opened && not (is_among c r.opened) then Some c else None)
+    (λ c. if nat_lt (length r.opened) built.most_opened && not (is_among c r.opened)
+    then Some c else None)
     (connection_of_word word)
 
 -- what is read after a line of this kind with these words behind the first; none is off the grammar
@@ -25,7 +27,8 @@ abbrev pub after_words : BuiltLines → Reading → LineKind → List (List ℕ)
 after_words built r Open (c ∷ []) =
     option_map (λ c. line_said (Happens (event.Opened c)) r) (fresh_connection built r c)
 after_words built r Bytes (c ∷ word ∷ words) = option_and_then
-    (λ c. option_map (λ bytes. line_said (Happens (event.Piece c bytes)) r) (bytes_of_words (word ∷ words)))
+    (λ c. option_map (λ bytes. line_said (Happens (event.Piece c bytes)) r)
+    (bytes_of_words (word ∷ words)))
     (open_connection r c)
 after_words built r Close (c ∷ []) =
     option_map (λ c. line_said (Happens (event.Closed c)) r) (open_connection r c)
@@ -51,7 +54,8 @@ kind_of word =
     else None
 
 abbrev pub after_built : BuiltLines → Reading → List (List ℕ) → LineKind → Option Reading
-after_built built r words kind = if built.is_built kind then after_words built r kind words else None
+after_built built r words kind =
+    if built.is_built kind then after_words built r kind words else None
 
 -- what is read after a line of these words
 abbrev pub after_line_of_words : BuiltLines → Reading → List (List ℕ) → Option Reading

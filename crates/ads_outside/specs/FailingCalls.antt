@@ -3,7 +3,8 @@ use Rattle.std.specs.Prelude.{ℕ, List, Bool, ◌==◌}
 use Rattle.std.specs.List.{list_any}
 use Rattle.ads_outside.specs.Rose.{raised}
 
--- the calls that are to fail by their numbers from 1, the calls that were made, and the faults among them
+-- the calls that are to fail by their numbers from 1, the calls that were made, and the faults
+-- among them
 pub record FailingCalls : Type 0 where
   pub fails : List ℕ
   pub calls : ℕ

@@ -19,7 +19,8 @@ got_of (Some bytes) = if nat_lt file_limit (length bytes) then got.TooLong else 
 
 -- what the next call answers
 abbrev pub answer_of : HeldFiles → List ℕ → Got
-answer_of held name = if fails_next held.failing then got.Failed else got_of (bytes_of held.files name)
+answer_of held name =
+    if fails_next held.failing then got.Failed else got_of (bytes_of held.files name)
 
 -- the calls after one that answered this
 abbrev pub failing_after : Got → FailingCalls → FailingCalls

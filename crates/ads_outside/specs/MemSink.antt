@@ -15,6 +15,7 @@ answer_of held = if fails_next held.failing then put.Failed else put.All
 
 -- what is held after a piece that was answered so: a call that failed leaves nothing of it
 abbrev pub held_after : Put → HeldBytes → List ℕ → HeldBytes
-held_after put.All held piece = record { bytes = held.bytes ++ piece; failing = called held.failing }
+held_after put.All held piece =
+    record { bytes = held.bytes ++ piece; failing = called held.failing }
 held_after put.Failed held piece = record held { failing = faulted held.failing }
 held_after put.Memory held piece = record held { failing = called held.failing }

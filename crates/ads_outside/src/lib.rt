@@ -1,4 +1,4 @@
-//! The outside of the server: what happens to it, what it tells to files and sinks, and stand-ins in memory.
+//! The outside of a server: what happens to it, files and sinks, and stand-ins in memory.
 #![tactic(auto)]
 
 mod event;

@@ -9,7 +9,7 @@ use ads_base::{Calls, Octets};
 use std::alloc::Global;
 use std::marker::Model;
 
-/// Files in memory. Calls with given numbers fail, and so does the reading of a file that is not there.
+/// Files in memory. Calls with given numbers fail, and so does the reading of a missing file.
 #[derive(Drop)]
 pub struct MemFiles {
     alloc: Global,

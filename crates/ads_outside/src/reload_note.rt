@@ -7,7 +7,7 @@ use ads_base::ListOf;
 pub enum ReloadNote {
     /// The description was accepted, and its version is this.
     Ok(u8),
-    /// The description was refused by the rule of this number; 0 is a text that is no TOML document.
+    /// The description was refused by the rule of this number; 0: the text is no TOML document.
     Refused(u8),
 }
 

@@ -11,6 +11,8 @@ mod progress;
 mod reader;
 mod script;
 mod summary_line;
+#[cfg(test)]
+mod tests;
 mod texts;
 
 pub use counts::Counts;

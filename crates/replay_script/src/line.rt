@@ -16,7 +16,8 @@ use std::alloc::Global;
 
 /// The event of a line with this text, after what was read; none is off the grammar.
 pub fn event_of(alloc: Global, progress: &Progress, text: &[u8]) -> Result<Option<Event>, NoMemory>
-    ensures { IfOk result (λ event. after_line_of_words built_lines progress.now (words_of text.now) ≡ after_event progress.now event) }
+    ensures { IfOk result (λ event. after_line_of_words built_lines progress.now (words_of text.now)
+        ≡ after_event progress.now event) }
 {
     let (word, rest) = first_word(text);
     if word == b"open".as_slice() {
@@ -30,7 +31,8 @@ pub fn event_of(alloc: Global, progress: &Progress, text: &[u8]) -> Result<Optio
 
 // `open C`
 fn opening(progress: &Progress, rest: Option<&[u8]>) -> Option<Event>
-    ensures { after_words built_lines progress.now Open (words_behind (option_copied rest.entry)) ≡ after_event progress.now result }
+    ensures { after_words built_lines progress.now Open (words_behind (option_copied rest.entry))
+        ≡ after_event progress.now result }
 {
     let (word, others) = first_word(rest?);
     if others.is_some() {
@@ -42,7 +44,9 @@ fn opening(progress: &Progress, rest: Option<&[u8]>) -> Option<Event>
 
 // `bytes C HEX`
 fn piece(alloc: Global, progress: &Progress, rest: Option<&[u8]>) -> Result<Option<Event>, NoMemory>
-    ensures { IfOk result (λ event. after_words built_lines progress.now Bytes (words_behind (option_copied rest.entry)) ≡ after_event progress.now event) }
+    ensures { IfOk result (λ event.
+        after_words built_lines progress.now Bytes (words_behind (option_copied rest.entry))
+        ≡ after_event progress.now event) }
 {
     let Some(rest) = rest else {
         return Ok(None);

@@ -8,8 +8,8 @@ use ads_base::{NoMemory, Octets};
 use ads_outside::{Event, Log, Move, ReloadNote, ReloadNotes};
 use std::alloc::Global;
 
-/// Appends the lines of a log: what connections took, which were lost or shut, and what became of the
-/// reloads; the k-th reload has the line of the k-th note.
+/// Appends the lines of a log: what connections took, which were lost or shut, and what became
+/// of the reloads; the k-th reload has the line of the k-th note.
 pub fn log_text(
     alloc: Global,
     log: &Log,

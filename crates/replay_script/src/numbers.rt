@@ -30,7 +30,8 @@ pub fn read_number(word: &[u8]) -> Option<u64>
 
 // The number of the digits, if all bytes are digits and it has 64 bits.
 fn digits(word: &[u8]) -> Option<u64>
-    ensures { result ≡ (if list_all is_ascii_digit word.now && nat_lt (number_of_digits word.now) (2 ^ 64) then Some (number_of_digits word.now) else None) }
+    ensures { result ≡ (if list_all is_ascii_digit word.now && nat_lt (number_of_digits word.now) (2 ^ 64)
+        then Some (number_of_digits word.now) else None) }
 {
     let mut number = 0u64;
     for digit in word {

@@ -32,7 +32,13 @@ impl Model for Progress {
 
     ghost Value = { Reading };
 
-    ghost view = { λ p. record { lines = p.lines; opened = p.opened; closed = p.closed; block = None; said = lines_of_events p.script } };
+    ghost view = { λ p. record {
+      lines = p.lines;
+      opened = p.opened;
+      closed = p.closed;
+      block = None;
+      said = lines_of_events p.script;
+    } };
 }
 
 impl Progress {
@@ -83,8 +89,10 @@ impl Progress {
     pub fn take(&mut self, alloc: Global, line: &[u8]) -> Result<bool, NoMemory>
         requires fits { self.old.lines + 1 < 2 ^ 32 }
         requires outside { self.old.block ≡ None }
-        ensures read { IfOk result (λ read. after_line built_lines self.old line.now ≡ (if read then Some self.new else None)) }
-        ensures lines { IfOk result (λ read. self.new.lines ≡ (if read then self.old.lines + 1 else self.old.lines)) }
+        ensures read { IfOk result (λ read. after_line built_lines self.old line.now
+            ≡ (if read then Some self.new else None)) }
+        ensures lines { IfOk result (λ read. self.new.lines
+            ≡ (if read then self.old.lines + 1 else self.old.lines)) }
         ensures outside { OnOk result (self.new.block ≡ None) }
     {
         let Some(event) = event_of(alloc, self, text_of(line))? else {

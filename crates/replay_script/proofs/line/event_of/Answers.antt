@@ -11,7 +11,8 @@ pub returns-then-eq : goal.returns-then-eq
 returns-then-eq c =
     let word = c.first_word.result.0.now in
     let is_open : bytes_eq word (codes "open") ≡ true = rw c.as_slice.ensures at (sym c.eq.ensures ∙ c.if-eq.true) in
-    rw c.first_word.ensures.words (after_open_line c.args.progress.now word (words_behind (option_copied c.first_word.result.1)) is_open ∙ c.opening.ensures)
+    rw c.first_word.ensures.words
+    (after_open_line c.args.progress.now word (words_behind (option_copied c.first_word.result.1)) is_open ∙ c.opening.ensures)
 
 pub returns-then-eq-2 : goal.returns-then-eq-2
 returns-then-eq-2 c =

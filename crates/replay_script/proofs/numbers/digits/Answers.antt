@@ -14,7 +14,8 @@ pub returns-in_err-number : goal.returns-in_err-number
 returns-in_err-number c =
     let word = c.args.word.now in
     let place = c.loop-digit.digit-index in
-    let great : 2 ^ 64 ≤ 10 * c.loop-digit.number + (get_or word place 0 - 48) = omega (arith, c.in_err-number.ensures, c.in_ok-checked_mul.ensures, c.from.ensures) in
+    let great : 2 ^ 64 ≤ 10 * c.loop-digit.number + (get_or word place 0 - 48) = omega
+    (arith, c.in_err-number.ensures, c.in_ok-checked_mul.ensures, c.from.ensures) in
     c.from_residual-in_err-number.ensures ∙ value_of-grown word place c.loop-digit.number c.loop-digit.invariant c.loop-digit-test.true great
 
 pub returns : goal.returns

@@ -9,7 +9,8 @@ returns-then-not-branch c =
     let r = c.loop-rest.progress in
     let none = rw e at c.in_ok-take.ensures.read in
     let counted = rw e at c.in_ok-take.ensures.lines in
-    Reads-refused c.args.bytes.now c.loop-rest.rest.now c.first_line.result.0.now c.first_line.result.1.now r c.loop-rest.invariant c.first_line.ensures.lines none
+    Reads-refused c.args.bytes.now c.loop-rest.rest.now c.first_line.result.0.now c.first_line.result.1.now r c.loop-rest.invariant
+    c.first_line.ensures.lines none
     ∙ ap (λ n. Err (n + 1)) (sym (c.lines.ensures ∙ counted))
 
 pub loop-rest-preserved : goal.loop-rest-preserved
