@@ -2,7 +2,7 @@
 -- connection that is closing or gone stays at rest.
 use Rattle.std.proofs.Common.{◌≡◌, ℕ, ◌+◌, List, [], ◌∷◌, ◌++◌, map, Bool, true, false, cond, refl, sym, ◌∙◌, ap, subst, inl, inr, append_assoc}
 use Rattle.std.specs.Prelude.{Option, Some, None, ◌==◌, ◌||◌, length, option_map}
-use Rattle.std.proofs.lemmas.Bool.{cases_Bool, cases_eq}
+use Rattle.std.proofs.lemmas.Bool.{cases_Bool, cases_eq, le-leb, lt-leb}
 use Rattle.ads_outside.specs.declared.event.Event.{Event}
 use Rattle.ads_outside.specs.declared.event.Event.TheVariants as event
 use Rattle.ads_outside.specs.declared.moves.Move.{Move}
@@ -12,7 +12,8 @@ use Rattle.ads_machine.specs.Connection.{Connection, fresh_connection, connectio
 use Rattle.ads_machine.specs.MachineState.{MachineState, Exchange, exchange_of, after_exchange, output_of_connection}
 use Rattle.ads_machine.specs.Piece.{after_piece}
 use Rattle.ads_machine.specs.Moves.{moment_of_tick, connection_after_tick, connection_after_reload, after_reload, with_gone, with_took, state_after_event, state_after_move, state_after}
-use Rattle.ads_machine.specs.Delivery.{IsPrefix, OutputGrows, IsAtRest, ClosingEnds}
+use Rattle.ads_machine.specs.Delivery.{IsPrefix, OutputGrows, IsAtRest, ClosingEnds, LimitsQueue}
+use Rattle.ads_machine.specs.Connection.{produce, queued_of, bytes_of}
 use Rattle.ads_machine.proofs.Find.{or_else, connection_of-append, connection_of-map}
 use Rattle.ads_machine.proofs.Growth.{Grows, after_piece-grows, connection_after_tick-grows, connection_after_reload-grows}
 use Rattle.ads_machine.proofs.Changes.{KeepsNumber, exchange_own, exchange_other, exchange_none, with_gone-number, with_took-number}
@@ -167,3 +168,10 @@ pub closing_ends : (W C : Type 0) → ClosingEnds W C
 closing_ends W C device s c log k e d =
     let r = log-carried device (Rests k) (rest-carries device k) c log s (k, e, record { received = refl; taken = refl; client = refl; produced = refl }, d) in
     (r.0, r.1, r.2)
+
+pub limits_queue : (C : Type 0) → LimitsQueue C
+unfolding produce
+limits_queue C f k open_ = record {
+  fits = λ h. let t = le-leb (queued_of k + length (bytes_of f)) 4194304 h in rw (open_, t) refl;
+  over = λ h. let t = lt-leb (queued_of k + length (bytes_of f)) 4194304 h in rw (open_, t) refl;
+}

@@ -13,6 +13,7 @@ use Rattle.ads_machine.specs.ByName.{read_write_group}
 use Rattle.ads_machine.specs.Client.{client_after, client_after_reload, ended_of}
 use Rattle.ads_machine.specs.Connection.{connection_of, produce, produce_all, put_back}
 use Rattle.ads_machine.specs.Entries.{entry_of_part, text_of_steps}
+use Rattle.ads_machine.specs.HandleLaws.{handles_after_all}
 use Rattle.ads_machine.specs.Handles.{grant_in, handle_in, handles_after, is_released_in, place_after, with_released}
 use Rattle.ads_machine.specs.Moves.{connection_after_reload, connection_after_tick, state_after, state_after_event, state_after_move}
 use Rattle.ads_machine.specs.Packets.{acts_of, decide, decide_request}
@@ -23,6 +24,7 @@ use Rattle.ads_machine.specs.Reads.{read_group}
 use Rattle.ads_machine.specs.Reloads.{client_reloaded, is_kept, memory_after_reload, world_after_reload}
 use Rattle.ads_machine.specs.Replies.{outcome_in_all, performed, reply_in_forms, response_packet}
 use Rattle.ads_machine.specs.Requests.{act_of}
+use Rattle.ads_machine.specs.RunText.{notes_of}
 use Rattle.ads_machine.specs.Stamps.{frames_of_samples, grouped, samples_at, watches_after_tick}
 use Rattle.ads_machine.specs.Sums.{given_in_turn, left_in_turn, packed, sum_refusal}
 use Rattle.ads_machine.specs.Ticks.{client_after_tick, world_after_tick}
@@ -61,6 +63,8 @@ record PacketRows : Type 0 where
       ≡ hex (codes "000020000000 c0a8000901018980 0501020301015303 0400050000000000 0b00000001000000")
   -- an unknown route closes without a reply
   no_route : asked (codes "000020000000 0501020301025303 0909090901018980 0400040000000000 0000000001000000") ≡ []
+  -- a frame behind one that closes is not taken
+  nothing_behind : asked (codes "000020000000 0501020301025303 0909090901018980 0400040000000000 0000000001000000  000020000000 0501020301015303 c0a8000901018980 0400040000000000 0000000002000000") ≡ []
   no_route_closes : closes (codes "000020000000 0501020301025303 0909090901018980 0400040000000000 0000000001000000") ≡ true
   -- an unknown port; an unknown machine, also with an unknown port
   no_port : asked (codes "000020000000 0501020301015403 c0a8000901018980 0400040000000000 0000000001000000")
@@ -76,12 +80,13 @@ record PacketRows : Type 0 where
   no_text : given (piece 1 (q 2 1 (codes "00")) ∷ piece 1 (q 1 2 (codes "00")) ∷ []) ≡ a 2 1 (codes "05070000 00000000") ++ a 1 2 (codes "05070000 0000000000000000 0000000000000000 00000000")
 
 packet_rows : PacketRows
-unfolding ams_length_of is_header front_of packet_of behind_frame frames_from frames_of left_behind rest_of has_same_parts has_same_members part_behind type_align greatest_align type_size members_end type_depth greatest_depth found_of byte_at with_byte trees_behind trees_of type_text group_in group_of request_in request_of byte_range bit_range size_range range_in header_of written_bytes reply_in connection_after_tick connection_after_reload state_after_event state_after_move state_after given_in_turn left_in_turn sum_refusal packed memory_after_puts world_after_tick client_after_tick read_write_group act_of produce produce_all connection_of put_back grant_in is_released_in place_after handle_in with_released handles_after write_group control_act client_after client_after_reload ended_of watches_after_reload ended_watches text_of_steps entry_of_part numbers_from name_at names_at content_of projection_of acts_of_packets acts_of_move acts_of_log acts_by_others reply_in_forms outcome_in_all response_packet performed grouped frames_of_samples samples_at watches_after_tick reach_of outcomes_of memory_after_acts client_after_acts is_kept memory_after_reload world_after_reload client_reloaded answered_group after_packet after_packets after_piece read_group acts_of decide_request decide digits
+unfolding ams_length_of is_header front_of packet_of behind_frame frames_from frames_of left_behind rest_of has_same_parts has_same_members part_behind type_align greatest_align type_size members_end type_depth greatest_depth found_of byte_at with_byte trees_behind trees_of type_text group_in group_of request_in request_of byte_range bit_range size_range range_in header_of written_bytes reply_in notes_of connection_after_tick connection_after_reload state_after_event state_after_move state_after given_in_turn left_in_turn sum_refusal packed handles_after_all memory_after_puts world_after_tick client_after_tick read_write_group act_of produce produce_all connection_of put_back grant_in is_released_in place_after handle_in with_released handles_after write_group control_act client_after client_after_reload ended_of watches_after_reload ended_watches text_of_steps entry_of_part numbers_from name_at names_at content_of projection_of acts_of_packets acts_of_move acts_of_log acts_by_others reply_in_forms outcome_in_all response_packet performed grouped frames_of_samples samples_at watches_after_tick reach_of outcomes_of memory_after_acts client_after_acts is_kept memory_after_reload world_after_reload client_reloaded answered_group after_packet after_packets after_piece read_group acts_of decide_request decide digits
 packet_rows = record {
   data_length = refl;
   response = refl;
   flags = refl;
   no_route = refl;
+  nothing_behind = refl;
   no_route_closes = refl;
   no_port = refl;
   no_machine = refl;

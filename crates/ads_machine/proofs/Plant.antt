@@ -86,9 +86,13 @@ plant = description_with (symbols_with (count_symbol 0) (title_symbol 7 (hex (co
 abbrev pub plant2 : Description
 plant2 = description_with (symbols_with (count_symbol 100) (title_symbol 8 (replicate 9 0)))
 
+-- the same of a machine with another NetId
+abbrev pub plant3 : Description
+plant3 = record plant2 { net = 5 ∷ 1 ∷ 2 ∷ 3 ∷ 1 ∷ 9 ∷ [] }
+
 -- the examples name a description instead of writing its text; any other text breaks rule 2
 abbrev pub reading : DescriptionReading
-reading bytes signals = if bytes_eq bytes (codes "plant") then Ok plant else if bytes_eq bytes (codes "plant2") then Ok plant2 else Err 2
+reading bytes signals = if bytes_eq bytes (codes "plant") then Ok plant else if bytes_eq bytes (codes "plant2") then Ok plant2 else if bytes_eq bytes (codes "plant3") then Ok plant3 else Err 2
 
 abbrev pub device : Device World Client
 device = ads_device all_answered reading

@@ -1,10 +1,12 @@
 -- What a log that keeps the turns delivers: laws over every device.
+use Rattle.std.specs.Prelude.{◌+◌, ◌≤◌, ◌<◌}
 use Rattle.std.specs.Prelude.{◌≡◌, ℕ, List, [], ◌∷◌, ◌++◌, length, Bool, true, false, ◌||◌, nat_lt, ◌==◌, if◌then◌else◌, Some}
 use Rattle.ads_outside.specs.declared.event.Event.TheVariants as event
 use Rattle.ads_outside.specs.declared.moves.Move.{Move}
 use Rattle.ads_outside.specs.declared.moves.Move.TheVariants as move
-use Rattle.ads_machine.specs.Device.{Device}
-use Rattle.ads_machine.specs.Connection.{Connection, connection_of, is_deaf}
+use Rattle.ads_machine.specs.Device.{Device, Produced}
+use Rattle.ads_machine.specs.Connection.{Connection, connection_of, is_deaf, bytes_of, queued_of}
+use Rattle.ads_machine.specs.Connection.{with_frame, with_closing, produce}
 use Rattle.ads_machine.specs.MachineState.{MachineState, start_of, output_of}
 use Rattle.ads_machine.specs.Moves.{state_after_move, state_after}
 use Rattle.ads_machine.specs.Offers.{waiting_at, taken_of}
@@ -83,3 +85,12 @@ abbrev pub ClosingEnds : (W C : Type 0) → Type 0
 ClosingEnds W C = (device : Device W C) (s : MachineState W C) (c : ℕ) (log : List Move)
     (k : Connection C) → connection_of c s.connections ≡ Some k → is_deaf k ≡ true
     → (l : Connection C) × (connection_of c (state_after device s log).connections ≡ Some l) × IsAtRest k l
+
+-- A frame is produced exactly where the bytes that wait with it are at most 4,194,304; else the
+-- connection is closing.
+pub record ProducesByLimit {C : Type 0} (f : Produced) (k : Connection C) : Type 0 where
+  pub fits : queued_of k + length (bytes_of f) ≤ 4194304 → produce f k ≡ with_frame f k
+  pub over : 4194304 < queued_of k + length (bytes_of f) → produce f k ≡ with_closing k
+
+abbrev pub LimitsQueue : (C : Type 0) → Type 0
+LimitsQueue C = (f : Produced) (k : Connection C) → k.closing ≡ false → ProducesByLimit f k

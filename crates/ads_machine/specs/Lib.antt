@@ -40,3 +40,6 @@ pub mod Ticks
 pub mod Reloads
 pub mod AdsDevice
 pub mod Projection
+pub mod RunText
+pub mod HandleLaws
+pub mod SumLaws

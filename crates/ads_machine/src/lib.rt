@@ -3,7 +3,9 @@
 #![tactic(auto)]
 
 ghost use Rattle.ads_machine.specs.Delivery.{PlayKeepsTurns, OffersWhole, TakesOutput, TakesAll};
-ghost use Rattle.ads_machine.specs.Delivery.{OutputGrows, ClosingEnds};
+ghost use Rattle.ads_machine.specs.Delivery.{OutputGrows, ClosingEnds, LimitsQueue};
+ghost use Rattle.ads_machine.specs.HandleLaws.{StatusIsHistory, LimitsGrants, TablesAgree};
+ghost use Rattle.ads_machine.specs.SumLaws.{RunsInTurn};
 
 /// The play of a script keeps the turns: each event is followed by the offers to each connection.
 pub fn play_keeps_turns<W, C>()
@@ -23,9 +25,34 @@ pub fn taken_is_output<W, C>()
     ensures all { TakesAll W C }
 {}
 
-/// What a connection was given grows only at its end, and one that is closing or gone takes and
-/// produces nothing more.
+/// What a connection was given grows only at its end; one that is closing or gone takes and produces
+/// nothing more; and a frame that does not fit its queue is not produced and closes.
 pub fn output_only_grows<W, C>()
     ensures grows { OutputGrows W C }
     ensures ends { ClosingEnds W C }
+    ensures limit { LimitsQueue C }
+{}
+
+/// The status of a handle that is kept along is what the history of grants, releases and reloads says,
+/// over any kind of place.
+pub fn status_is_history<P>()
+    ensures { StatusIsHistory P }
+{}
+
+/// A grant is refused exactly at 4,096 live handles or 4,294,967,295 granted ones, and else gives the
+/// next number.
+pub fn grants_by_limit()
+    ensures { LimitsGrants }
+{}
+
+/// Handles and notifications over two kinds of place, as names and spans, go on to agree over a reload
+/// whose moves agree, and the same notifications end.
+pub fn tables_agree<P, Q>()
+    ensures { TablesAgree P Q }
+{}
+
+/// The parts of a sum run one after another, each on the client and the bytes that the part before
+/// left.
+pub fn sums_run_in_turn()
+    ensures { RunsInTurn }
 {}

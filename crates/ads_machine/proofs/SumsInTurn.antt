@@ -1,0 +1,18 @@
+-- To decide all parts of a sum first and to run them then is to run them one after another.
+use Rattle.std.proofs.Common.{◌≡◌, List, [], ◌∷◌, refl, ap}
+use Rattle.ads_formats.specs.Request.{Request}
+use Rattle.ads_machine.specs.World.{World}
+use Rattle.ads_machine.specs.Acts.{Act, outcome_of, outcomes_of, memory_after_acts, client_after_acts}
+use Rattle.ads_machine.specs.Answers.{AnswerTable}
+use Rattle.ads_machine.specs.Writes.{Asker}
+use Rattle.ads_machine.specs.Requests.{act_of}
+use Rattle.ads_machine.specs.Sums.{given_in_turn, left_in_turn}
+use Rattle.ads_machine.specs.Packets.{acts_of}
+use Rattle.ads_machine.specs.SumLaws.{Party, single_outcome, party_after, InTurn, RunsInTurn}
+
+pub runs_in_turn : RunsInTurn
+unfolding acts_of given_in_turn left_in_turn outcomes_of memory_after_acts client_after_acts
+runs_in_turn table w k [] p = record { outcomes = refl; memory = refl; client = refl }
+runs_in_turn table w k (r ∷ rs) p =
+    let rest = runs_in_turn table w k rs (party_after table w k p r) in
+    record { outcomes = ap (λ os. single_outcome table w k p r ∷ os) rest.outcomes; memory = rest.memory; client = rest.client }
