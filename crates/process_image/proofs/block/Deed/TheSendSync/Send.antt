@@ -1,0 +1,12 @@
+use denote.RattleType.{RattleType}
+use denote.Param.Send.{IsSend, Frees, AllSend, owning_send, struct_send, sendable}
+use denote.Struct.Struct.{exits_of}
+use denote.Struct.Owning.{shape, fields, to}
+use Rattle.core.specs.declared.alloc.Allocator.{Ghosts}
+use Rattle.std_alloc.proofs.SendSync.{quiet}
+use Rattle.process_image.specs.contracts.block.Deed as C
+
+pub send : (A : RattleType) (g : Ghosts A.Denot) → IsSend A → Frees g g.dealloc_token → IsSend (C.the_row A g)
+send A g s f =
+    let O = C.the_type A g in let all : AllSend (fields O) = (search sendable, tt) in
+    owning_send O all (λ d. f.frees d.alloc _ d.at) (λ k. quiet (to O) (exits_of k (fields O)) ((struct_send (shape O) all).leaving k))

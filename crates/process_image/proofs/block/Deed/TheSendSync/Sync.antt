@@ -1,0 +1,9 @@
+use denote.RattleType.{RattleType}
+use denote.Param.Send.{IsSync, struct_sync, sendable}
+use denote.Struct.Owning.{shape, to}
+use Rattle.core.specs.declared.alloc.Allocator.{Ghosts}
+use Rattle.process_image.specs.contracts.block.Deed as C
+
+pub sync : (A : RattleType) (g : Ghosts A.Denot) → IsSync (C.the_row A g)
+sync A g =
+    let O = C.the_type A g in record { shared = λ d b o κ. ((struct_sync (shape O) (search sendable, tt)).shared (to O d) b o κ, tt) }

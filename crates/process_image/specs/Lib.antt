@@ -1,0 +1,4 @@
+pub mod Ownership
+pub mod Lends
+pub mod Image
+pub mod Parts

@@ -1,0 +1,91 @@
+//! The image: the bytes of one port.
+ghost use Rattle.std.specs.Prelude.{◌≡◌, ℕ, ◌+◌, ◌<◌, ◌≤◌, length, take, drop, replicate, IfOk};
+ghost use Rattle.std.specs.Borrow.{sem};
+
+use crate::block::{Block, Deed, release, reserve};
+use crate::span::Span;
+use ads_base::NoMemory;
+use std::alloc::Global;
+use std::marker::Model;
+
+/// The greatest image, in bytes.
+pub const MAX_IMAGE: u32 = 4_194_304;
+
+/// One block of bytes behind a raw pointer, which contracts see as the list of its bytes.
+pub struct Image {
+    at: *mut u8,
+    len: u32,
+    block: Block,
+    deed: Deed<Global>,
+    alloc: Global,
+}
+
+impl Model for Image {
+    ghost use Rattle.std.specs.Prelude.{ℕ, List};
+    ghost use Rattle.process_image.specs.Image.{IsImage};
+
+    ghost Value = { List ℕ };
+
+    ghost view = { λ i. i.block.bytes };
+
+    ghost invariant = { IsImage };
+}
+
+impl Image {
+    ghost use Rattle.process_image.specs.Parts.{LendsPart};
+
+    /// An image of zeros. Its block is given back at the drop.
+    pub fn new(alloc: Global, len: u32) -> Result<Image, NoMemory>
+        requires { len ≤ MAX_IMAGE }
+        ensures { IfOk result (λ image. image ≡ replicate len 0) }
+    {
+        let (at, mut block, deed) = reserve(&alloc, len as usize)?;
+        for count in 0..len {
+            block.put(at, count as usize, 0);
+        }
+        Ok(Image {
+            at,
+            len,
+            block,
+            deed,
+            alloc,
+        })
+    }
+
+    /// The number of bytes.
+    pub fn len(&self) -> u32
+        ensures { result ≡ length self.now }
+    {
+        self.len
+    }
+
+    /// Some of the bytes, for reading.
+    pub fn part(&self, s: Span) -> &[u8]
+        requires { s.at + s.len ≤ length self.now }
+        ensures { result.now ≡ take s.len (drop s.at self.now) }
+    {
+        self.block.slice(self.at, s.at as usize, s.len as usize)
+    }
+
+    /// Some of the bytes, for writing: what stands there at the end is the image's new content, and all else stays.
+    pub fn part_mut(&mut self, s: Span) -> &mut [u8]
+        requires { s.at + s.len ≤ length self.old }
+        ensures* lends { sem 𝓛 (LendsPart self.entry s.at s.len result) }
+        ensures value { result.now ≡ take s.len (drop s.at self.old) }
+    {
+        self.block.slice_mut(self.at, s.at as usize, s.len as usize)
+    }
+}
+
+impl Drop for Image {
+    fn drop(self) {
+        let Image {
+            at,
+            len,
+            block,
+            deed,
+            alloc,
+        } = self;
+        release(&alloc, at, len as usize, block, deed);
+    }
+}
