@@ -1,5 +1,5 @@
 -- How an image lies in its block. No public clause cites this.
-use Rattle.std.specs.Prelude.{◌≡◌, ℕ, length}
+use Rattle.std.specs.Prelude.{◌≡◌, length}
 use Rattle.process_image.specs.declared.image.Image.TheInside.{Inside}
 
 -- the block is full, begins at the image's pointer, and goes back to the image's allocator

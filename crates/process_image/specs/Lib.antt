@@ -1,4 +1,5 @@
-pub mod Ownership
-pub mod Lends
+pub mod Bytes
 pub mod Image
+pub mod Lends
+pub mod Ownership
 pub mod Parts

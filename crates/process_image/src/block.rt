@@ -61,13 +61,7 @@ pub(crate) fn reserve<A: Allocator>(
 }
 
 /// Gives a block back to its allocator, whatever was put in it.
-pub(crate) fn release<A: Allocator>(
-    alloc: &A,
-    at: *mut u8,
-    len: usize,
-    block: Block,
-    deed: Deed<A>,
-)
+pub(crate) fn release<A: Allocator>(alloc: &A, at: *mut u8, len: usize, block: Block, deed: Deed<A>)
     requires { (block.at ≡ at) × (length block.bytes + block.room ≡ len)
         × (deed.at ≡ at) × (deed.len ≡ len) × (deed.alloc ≡ alloc.now) }
 {

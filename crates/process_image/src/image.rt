@@ -3,6 +3,8 @@ ghost use Rattle.std.specs.Prelude.{◌≡◌, ℕ, ◌+◌, ◌<◌, ◌≤◌,
 ghost use Rattle.std.specs.Borrow.{sem};
 
 use crate::block::{Block, Deed, release, reserve};
+use crate::cell::Cell;
+use crate::scalar::Scalar;
 use crate::span::Span;
 use ads_base::NoMemory;
 use std::alloc::Global;
@@ -74,6 +76,16 @@ impl Image {
         ensures value { result.now ≡ take s.len (drop s.at self.old) }
     {
         self.block.slice_mut(self.at, s.at as usize, s.len as usize)
+    }
+
+    /// The number at a place.
+    pub fn cell<T: Scalar>(&mut self, at: u32) -> Cell<'_, T>
+        requires { at + T.SIZE ≤ length self.old }
+        ensures image { result.image.ghost_name ≡ self.entry.ghost_name }
+        ensures now { result.image.now ≡ self.old }
+        ensures at { result.at ≡ at }
+    {
+        Cell::new(self, at)
     }
 }
 

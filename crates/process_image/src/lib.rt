@@ -2,12 +2,14 @@
 #![tactic(auto)]
 
 mod block;
+mod cell;
 mod image;
 mod scalar;
 mod span;
 #[cfg(test)]
 mod tests;
 
-pub use image::Image;
+pub use cell::Cell;
+pub use image::{Image, MAX_IMAGE};
 pub use scalar::Scalar;
 pub use span::Span;

@@ -1,9 +1,9 @@
 -- `reserve` makes of a new block the owner of its room, and keeps the right to give it back. Assumes `Logic`.
-use Rattle.std.proofs.Common.{◌≡◌, ℕ, ◌+◌, ◌^◌, ◌<◌, List, [], ◌∷◌, ◌++◌, length, refl, sym, ap, ◌∙◌, arith, true, false}
+use Rattle.std.proofs.Common.{◌≡◌, ℕ, ◌+◌, ◌^◌, ◌<◌, List, [], ◌∷◌, ◌++◌, refl, arith, true, false}
 use lib.Dec.{lit<}
 use seplogic.Ra.Ura.{Ura}
 use mir.MapTy.{inst_fn}
-use mir.Syntax.{Fn, Args, Dict, Body, a_type, dcons, dnil, w64, ty_array, ty_int, w8}
+use mir.Syntax.{Fn, Args, Dict, Body, a_type, dcons, dnil, w64}
 use mir.Val.{Val, vptr, vint, vstruct, vcons, vnil}
 use base.Logic.{SProp, ent}
 use base.Fml.{Lft, Share, ftrue, flft, froom, Incl-trans}
@@ -23,11 +23,10 @@ use types.ByLocal.{alloc_all, pass_all, free_all, look_at, get, get_in, get_tag,
 use denote.Builtin.{RefOf, RawPtr, usize}
 use denote.Exit.{yes}
 use denote.Laws.{Is}
-use denote.Memory.{hidden_shr}
 use denote.Param.{param, bounded, layout}
 use denote.Param.Laws.{Laws}
 use denote.RattleType.{RattleType, owns}
-use denote.RawPtr.{Ptr, block_ptr, ptr_val}
+use denote.RawPtr.{Ptr, block_ptr}
 use denote.Signature.{plain, types_at}
 use denote.Steps.{nothing, heard, owned}
 use denote.Struct.Declared as Declared
@@ -44,7 +43,6 @@ use Rattle.core.specs.contracts.alloc.AllocError as AE
 use Rattle.core.specs.contracts.result.Result as RS
 use Rattle.core.specs.declared.alloc.Allocator.{Ghosts}
 use Rattle.core.proofs.alloc.Calls.{Al, Answer-typed, takes_key, Takes, at_takes, Answered, Takes-goes, Takes-gives, answers}
-use Rattle.std_alloc.proofs.RawLayout.{as_written}
 use Rattle.std_alloc.proofs.RcSteps.{first_Good, Good}
 use Rattle.std_alloc.proofs.ResultValues.{ok_of, err_of}
 use Rattle.std_alloc.proofs.VecSteps.Shapes.{after, head, arm_body}

@@ -22,7 +22,7 @@ use denote.Exit.{yes}
 use denote.Memory.{mem, part_at}
 use denote.Plain.{uint_in}
 use denote.RattleType.{RattleType, owns}
-use denote.RawPtr.{Ptr, block_ptr, ptr_val, in_a_block, rawptr_Lawful}
+use denote.RawPtr.{Ptr, ptr_val, in_a_block, rawptr_Lawful}
 use denote.Ref.{MutBor, MutRef}
 use denote.Signature.{plain}
 use denote.Steps.{nothing, heard, opens, closes}

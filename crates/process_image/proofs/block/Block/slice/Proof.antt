@@ -1,5 +1,5 @@
 -- `slice` shows a run of the bytes that the block lends. Assumes `Logic`.
-use Rattle.std.proofs.Common.{◌≡◌, ℕ, ◌+◌, ◌*◌, ◌^◌, ◌≤◌, List, [], ◌∷◌, ◌++◌, length, refl, sym, ap, ◌∙◌, arith, length-take-le, length-drop}
+use Rattle.std.proofs.Common.{◌≡◌, ◌+◌, ◌*◌, ◌^◌, ◌≤◌, List, [], ◌∷◌, ◌++◌, length, refl, sym, ap, ◌∙◌, arith, length-take-le, length-drop}
 use seplogic.Ra.Ura.{Ura}
 use mir.Syntax.{w64}
 use mir.Val.{Val, vptr, vint}
@@ -20,7 +20,7 @@ use denote.Exit.{yes}
 use denote.RattleType.{owns}
 use denote.Builtin.{u8, RefOf, RawPtr, usize}
 use denote.Opens.{unhide, hide}
-use denote.RawPtr.{Ptr, block_ptr, ptr_val, in_a_block}
+use denote.RawPtr.{ptr_val, in_a_block}
 use denote.Signature.{plain, types_at}
 use denote.Slice.{slice_val, elements_shared}
 use denote.Steps.{nothing, heard}

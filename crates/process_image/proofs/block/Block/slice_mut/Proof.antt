@@ -16,7 +16,7 @@ use contract.Running.{tables, tables_of}
 use sound.WpLaws.{WpFn-mono}
 use types.Logic.{Logic, sem}
 use types.SemTy.{cells}
-use types.Kit.{‵, raw, ◌⊛◌, some, later, await, pick, prop, ◌$◌, ◌∵◌, !, qed, by, move, keep, drop, use1, use2, split, join, group, rewrite, fsplit, fsplit3, fjoin, fjoin3, fpack, feq_l, regoal, suffices, frame, done, at_ret, flt_l, flt_i}
+use types.Kit.{‵, raw, ◌⊛◌, some, later, await, pick, prop, ◌$◌, ◌∵◌, !, qed, by, move, keep, use1, use2, split, join, group, rewrite, fsplit, fsplit3, fjoin, fjoin3, fpack, feq_l, regoal, suffices, frame, done, at_ret, flt_l, flt_i}
 use types.Part.{agg}
 use types.Run.{enter, returns, of_opd, and_then, no_more, bin, first, blocks, exec}
 use types.ByLocal.{alloc_all, pass_all, free_all, look_at, get, sets, sets_last, env, take_at as take_local, give_at as give_local}
@@ -40,7 +40,7 @@ use denote.Triple.Table.{entered}
 use denote.Triple.Walked.{says, Stays, stay_dropped, walk_of, ends_at, walk_Meets, Goes-dropped, Goes-spent_ref}
 use Rattle.std.specs.List.{refill}
 use Rattle.process_image.specs.Ownership.{bytes_type, block_owned}
-use Rattle.process_image.specs.Lends.{run_after, block_after}
+use Rattle.process_image.specs.Lends.{block_after_loan}
 use Rattle.process_image.proofs.Memory.{Around, run_out, run_in}
 use Rattle.process_image.specs.contracts.block.Block as B
 use Rattle.process_image.specs.contracts.block.Block.slice_mut as F
@@ -99,7 +99,7 @@ module _ {M : Type 1} {𝓤 : Ura M} (𝓛 : Logic 𝓤) (at_mem : Memory → SP
     old = take len (drop_l from d.bytes)
 
     abbrev new : List ℕ → R.Denot
-    new = block_after d from len
+    new = block_after_loan d from len
 
     module _ (within : from + len ≤ length d.bytes) (small : length d.bytes + d.room < 2 ^ 63) (vs : List Val) (b o : ℕ) where
       -- all but the run
