@@ -4,3 +4,5 @@ pub mod Descriptions
 pub mod Extents
 pub mod FoundParts
 pub mod Spelled
+pub mod ReadTexts
+pub mod Dimensions

@@ -1,0 +1,7 @@
+-- No byte before this one is the one that is looked for.
+use Rattle.std.proofs.Common.{◌≡◌, ℕ, ◌<◌, get_or, false}
+use Rattle.std.specs.Prelude.{◌==◌}
+use Rattle.type_layout.proofs.words.first_place.Given as goal
+
+abbrev pub invariant-loop-i : goal.invariant-loop-i
+invariant-loop-i l = (k : ℕ) → k < l.i → (get_or l.text k 0 == l.byte) ≡ false
