@@ -2,7 +2,7 @@
 use Rattle.std.specs.Prelude.{ℕ, List, length, Result, Ok, Err}
 use Rattle.ads_plant.specs.Description.{Description}
 use Rattle.ads_machine.specs.Device.{Device, Reloading, Accepted, Refused}
-use Rattle.ads_machine.specs.World.{World}
+use Rattle.ads_machine.specs.World.{World, setup_of}
 use Rattle.ads_machine.specs.Client.{Client, new_client}
 use Rattle.ads_machine.specs.Answers.{AnswerTable}
 use Rattle.ads_machine.specs.Packets.{decide}
@@ -23,7 +23,7 @@ reloading w (Ok d) = Accepted (world_after_reload w d).version (world_after_relo
 abbrev pub ads_device : AnswerTable → DescriptionReading → Device World Client
 ads_device table reading = record {
   new_client = new_client;
-  take = λ w c packet. performed (decide table w c packet) packet w c;
+  take = λ w c packet. performed (decide table (setup_of w) c packet) packet w c;
   world_after_tick = world_after_tick;
   client_after_tick = client_after_tick;
   reload = λ bytes w. reloading w (reading bytes (length w.signals));

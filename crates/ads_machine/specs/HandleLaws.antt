@@ -1,10 +1,12 @@
 -- Laws of handles and notifications over any kind of place.
-use Rattle.std.specs.Prelude.{◌≡◌, ℕ, ◌+◌, ◌≤◌, ◌<◌, ◌⊎◌, List, [], ◌∷◌, ◌++◌, length, true, Bool, Option, Some, None}
+use Rattle.std.specs.Prelude.{◌≡◌, ℕ, ◌+◌, ◌≤◌, ◌<◌, ◌⊎◌, List, [], ◌∷◌, ◌++◌, length, true, Bool}
+use Rattle.std.specs.Prelude.{Option, Some, None}
 use Rattle.std.specs.Int.{w32, to_le_bytes}
 use Rattle.ads_plant.specs.World.{PlantPort}
 use Rattle.ads_formats.specs.Codes.{general_device_error}
 use Rattle.ads_formats.specs.Header.{AmsAddress}
-use Rattle.ads_machine.specs.Handles.{HandleStatus, Never, Released, Outdated, Live, HandleEvent, Reload}
+use Rattle.ads_machine.specs.Handles.{HandleStatus, Never, Released, Outdated, Live, HandleEvent}
+use Rattle.ads_machine.specs.Handles.{Reload}
 use Rattle.ads_machine.specs.Handles.{status_of, Handle, kept_status, live_count, handles_after}
 use Rattle.ads_machine.specs.Watches.{Watch, watches_after_reload, ended_watches}
 use Rattle.ads_machine.specs.Client.{Place, Client, Grants}
@@ -12,7 +14,8 @@ use Rattle.ads_machine.specs.Acts.{Act, Refusal, changing}
 use Rattle.ads_machine.specs.ByName.{MAX_LIVE, MAX_NUMBER, grant_act}
 
 -- the handles of a history, kept along
-unfoldable pub handles_after_all : {P : Type 0} → List (Handle P) → List (HandleEvent P) → List (Handle P)
+unfoldable pub handles_after_all : {P : Type 0} → List (Handle P) → List (HandleEvent P)
+    → List (Handle P)
 handles_after_all handles [] = handles
 handles_after_all handles (e ∷ es) = handles_after_all (handles_after handles e) es
 
@@ -47,7 +50,8 @@ AgreeingPlaces test port None None = Unit {0}
 AgreeingPlaces test port p q = ⊥
 
 -- moves of places that agree in the old world are places that agree in the new one
-abbrev pub AgreeingMoves : {P Q : Type 0} → Test P Q → Test P Q → (ℕ → P → Option P) → (ℕ → Q → Option Q) → Type 0
+abbrev pub AgreeingMoves : {P Q : Type 0} → Test P Q → Test P Q → (ℕ → P → Option P)
+    → (ℕ → Q → Option Q) → Type 0
 AgreeingMoves {P} {Q} old new moves spans =
     (port : ℕ) (p : P) (q : Q) → old port p q ≡ true → AgreeingPlaces new port (moves port p) (spans port q)
 

@@ -1,5 +1,6 @@
 -- Read: what each group gives. Beckhoff Information System, "ADS Read".
-use Rattle.std.specs.Prelude.{ℕ, List, [], ◌∷◌, length, Bool, nat_lt, if◌then◌else◌, Option, Some, None}
+use Rattle.std.specs.Prelude.{ℕ, List, [], ◌∷◌, length, Bool, nat_lt, if◌then◌else◌, Option, Some}
+use Rattle.std.specs.Prelude.{None}
 use Rattle.std.specs.Prelude.{Result, Ok, Err, ◌||◌}
 use Rattle.std.specs.Int.{w32, to_le_bytes}
 use Rattle.ads_plant.specs.Description.{size_in}
@@ -8,7 +9,7 @@ use Rattle.ads_formats.specs.Codes.{invalid_size}
 use Rattle.ads_formats.specs.Ranges.{greatest_len}
 use Rattle.ads_formats.specs.Groups.{Group, AreaSize, SymbolVersion, SymbolUpload, UploadInfo}
 use Rattle.ads_formats.specs.Groups.{TypeUpload, UploadInfoWithTypes}
-use Rattle.ads_machine.specs.World.{World}
+use Rattle.ads_machine.specs.World.{Setup}
 use Rattle.ads_machine.specs.Access.{Addressed}
 use Rattle.ads_machine.specs.Client.{Client}
 use Rattle.ads_machine.specs.Acts.{Act, Refusal, fixed_data, reading}
@@ -30,13 +31,13 @@ read_act (Err code) = Refusal code
 read_act (Ok places) = reading places
 
 -- the size of an area, the version, the uploads; else bytes, a bit, or a value by handle
-unfoldable pub read_group : World → Client → PlantPort → Option Group → ℕ → ℕ → Act
-read_group w c p (Some (AreaSize area)) offset len =
+unfoldable pub read_group : Setup → Client → PlantPort → Option Group → ℕ → ℕ → Act
+read_group d c p (Some (AreaSize area)) offset len =
     fixed_reply len (to_le_bytes w32 (size_in p.sizes area))
-read_group w c p (Some SymbolVersion) offset len = fixed_reply len (w.version ∷ [])
-read_group w c p (Some SymbolUpload) offset len = fixed_reply len (symbol_upload_of p)
-read_group w c p (Some UploadInfo) offset len = fixed_reply len (upload_info_of p)
-read_group w c p (Some TypeUpload) offset len = type_upload_reply len (type_upload_of w.plant)
-read_group w c p (Some UploadInfoWithTypes) offset len =
-    fixed_reply len (upload_info_with_types_of w.plant p)
-read_group w c p group offset len = read_act (reach_of c p group offset len)
+read_group d c p (Some SymbolVersion) offset len = fixed_reply len (d.version ∷ [])
+read_group d c p (Some SymbolUpload) offset len = fixed_reply len (symbol_upload_of p)
+read_group d c p (Some UploadInfo) offset len = fixed_reply len (upload_info_of p)
+read_group d c p (Some TypeUpload) offset len = type_upload_reply len (type_upload_of d.plant)
+read_group d c p (Some UploadInfoWithTypes) offset len =
+    fixed_reply len (upload_info_with_types_of d.plant p)
+read_group d c p group offset len = read_act (reach_of c p group offset len)

@@ -1,19 +1,21 @@
 -- One request, or one part of a sum: a code in the order of the checks, or what it reads, writes and
 -- changes of its client. The bytes of the device have no part in it.
 -- Beckhoff Information System, "ADS Commands".
-use Rattle.std.specs.Prelude.{ℕ, ◌+◌, List, [], ◌∷◌, length, map, Bool, ◌||◌, ◌&&◌, not, nat_lt, nat_le}
+use Rattle.std.specs.Prelude.{ℕ, ◌+◌, List, [], ◌∷◌, length, map, Bool, ◌||◌, ◌&&◌, not, nat_lt}
+use Rattle.std.specs.Prelude.{nat_le}
 use Rattle.std.specs.Prelude.{◌==◌, if◌then◌else◌, Option, Some, None, Result, Ok, Err}
 use Rattle.std.specs.List.{list_any}
 use Rattle.std.specs.Int.{w32, to_le_bytes}
 use Rattle.ads_plant.specs.World.{PlantPort}
 use Rattle.ads_formats.specs.Codes.{invalid_group, invalid_size, mode_not_supported}
-use Rattle.ads_formats.specs.Codes.{notification_handle_invalid, no_more_notifications, watch_too_big}
+use Rattle.ads_formats.specs.Codes.{notification_handle_invalid, no_more_notifications}
+use Rattle.ads_formats.specs.Codes.{watch_too_big}
 use Rattle.ads_formats.specs.Request.{Request, ReadDeviceInfo, Read, Write, ReadState, WriteControl}
 use Rattle.ads_formats.specs.Request.{AddDeviceNotification, DeleteDeviceNotification}
 use Rattle.ads_formats.specs.Request.{DeviceNotification, ReadWrite}
 use Rattle.ads_formats.specs.Groups.{Group}
 use Rattle.ads_formats.specs.Reply.{facts_bytes}
-use Rattle.ads_machine.specs.World.{World, state_names}
+use Rattle.ads_machine.specs.World.{Setup, state_names}
 use Rattle.ads_machine.specs.Access.{Addressed, WholeByte}
 use Rattle.ads_machine.specs.Watches.{Watch, Mode, Cyclic, OnChange}
 use Rattle.ads_machine.specs.Client.{Client, Adds, Deletes}
@@ -78,17 +80,17 @@ delete_act c k handle =
     else Refusal notification_handle_invalid
 
 -- A notification is no request; the checks of a frame do not let it come here.
-unfoldable pub act_of : AnswerTable → World → Client → Asker → Request → Act
-act_of table w c k ReadDeviceInfo = fixed_data (facts_bytes k.port.facts)
-act_of table w c k (Read group offset len) =
-    read_group w c k.port (answered_group table READ group) offset len
-act_of table w c k (Write group offset bytes) =
+unfoldable pub act_of : AnswerTable → Setup → Client → Asker → Request → Act
+act_of table d c k ReadDeviceInfo = fixed_data (facts_bytes k.port.facts)
+act_of table d c k (Read group offset len) =
+    read_group d c k.port (answered_group table READ group) offset len
+act_of table d c k (Write group offset bytes) =
     write_group c k (answered_group table WRITE group) offset bytes
-act_of table w c k ReadState = reading (map WholeByte (state_names k.port))
-act_of table w c k (WriteControl ads device bytes) = control_act k ads device
-act_of table w c k (AddDeviceNotification group offset len mode delay cycle) =
+act_of table d c k ReadState = reading (map WholeByte (state_names k.port))
+act_of table d c k (WriteControl ads device bytes) = control_act k ads device
+act_of table d c k (AddDeviceNotification group offset len mode delay cycle) =
     add_act c k (answered_group table ADD_DEVICE_NOTIFICATION group) offset len cycle (mode_of mode)
-act_of table w c k (DeleteDeviceNotification handle) = delete_act c k handle
-act_of table w c k (DeviceNotification bytes) = fixed_data []
-act_of table w c k (ReadWrite group offset read_len bytes) =
+act_of table d c k (DeleteDeviceNotification handle) = delete_act c k handle
+act_of table d c k (DeviceNotification bytes) = fixed_data []
+act_of table d c k (ReadWrite group offset read_len bytes) =
     read_write_group c k.port (answered_group table READ_WRITE group) read_len bytes

@@ -29,7 +29,8 @@ notes_of_move device s (move.Event e) = notes_of_event device s e
 notes_of_move device s m = []
 
 -- of each reload of a log, in order
-unfoldable pub notes_of : {W C : Type 0} → Device W C → MachineState W C → List Move → List ReloadNote
+unfoldable pub notes_of : {W C : Type 0} → Device W C → MachineState W C → List Move
+    → List ReloadNote
 notes_of device s [] = []
 notes_of device s (m ∷ ms) =
     notes_of_move device s m ++ notes_of device (state_after_move device s m) ms

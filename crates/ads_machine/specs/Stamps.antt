@@ -1,7 +1,8 @@
 -- The frames of notifications: at a tick, and of those that a reload ends. One frame for each port and
 -- client address, in the order of the least handle in it.
 -- Beckhoff Information System, "ADS Device Notification".
-use Rattle.std.specs.Prelude.{ℕ, List, [], ◌∷◌, ◌++◌, length, map, flat_map, Bool, true, false, ◌&&◌}
+use Rattle.std.specs.Prelude.{ℕ, List, [], ◌∷◌, ◌++◌, length, map, flat_map, Bool, true, false}
+use Rattle.std.specs.Prelude.{◌&&◌}
 use Rattle.std.specs.Prelude.{◌==◌, bytes_eq, if◌then◌else◌}
 use Rattle.ads_plant.specs.World.{Block}
 use Rattle.ads_formats.specs.Codes.{no_error}
@@ -70,7 +71,8 @@ unfoldable pub samples_at : List Block → ℕ → List (Watch (List Addressed))
 samples_at memory now watches =
     flat_map (λ (w : Watch (List Addressed)). samples_of now (values_at memory w.watched) w) watches
 
-unfoldable pub watches_after_tick : List Block → ℕ → List (Watch (List Addressed)) → List (Watch (List Addressed))
+unfoldable pub watches_after_tick : List Block → ℕ → List (Watch (List Addressed))
+    → List (Watch (List Addressed))
 watches_after_tick memory now watches =
     map (λ (w : Watch (List Addressed)). checked_watch now (values_at memory w.watched) w) watches
 

@@ -2,7 +2,7 @@
 use Rattle.std.specs.Prelude.{◌≡◌, List}
 use Rattle.ads_plant.specs.World.{Block}
 use Rattle.ads_formats.specs.Request.{Request}
-use Rattle.ads_machine.specs.World.{World}
+use Rattle.ads_machine.specs.World.{Setup}
 use Rattle.ads_machine.specs.Client.{Client, client_after}
 use Rattle.ads_machine.specs.Acts.{Outcome, outcome_of, memory_after, effect_of, outcomes_of}
 use Rattle.ads_machine.specs.Acts.{memory_after_acts, client_after_acts}
@@ -18,24 +18,24 @@ pub record Party : Type 0 where
   pub memory : List Block
 
 -- the single request: how it ends, and what it leaves
-abbrev pub single_outcome : AnswerTable → World → Asker → Party → Request → Outcome
-single_outcome table w k p r = outcome_of p.memory (act_of table w p.client k r)
+abbrev pub single_outcome : AnswerTable → Setup → Asker → Party → Request → Outcome
+single_outcome table d k p r = outcome_of p.memory (act_of table d p.client k r)
 
-abbrev pub party_after : AnswerTable → World → Asker → Party → Request → Party
-party_after table w k p r = record {
-  client = client_after p.client (effect_of (act_of table w p.client k r));
-  memory = memory_after p.memory (act_of table w p.client k r);
+abbrev pub party_after : AnswerTable → Setup → Asker → Party → Request → Party
+party_after table d k p r = record {
+  client = client_after p.client (effect_of (act_of table d p.client k r));
+  memory = memory_after p.memory (act_of table d p.client k r);
 }
 
-pub record InTurn (table : AnswerTable) (w : World) (k : Asker) (requests : List Request) (p : Party) : Type 0 where
-  pub outcomes : outcomes_of p.memory (acts_of table w p.client k requests)
-      ≡ given_in_turn (single_outcome table w k) (party_after table w k) p requests
-  pub memory : memory_after_acts p.memory (acts_of table w p.client k requests)
-      ≡ (left_in_turn (party_after table w k) p requests).memory
-  pub client : client_after_acts p.client (acts_of table w p.client k requests)
-      ≡ (left_in_turn (party_after table w k) p requests).client
+pub record InTurn (table : AnswerTable) (d : Setup) (k : Asker) (requests : List Request) (p : Party) : Type 0 where
+  pub outcomes : outcomes_of p.memory (acts_of table d p.client k requests)
+      ≡ given_in_turn (single_outcome table d k) (party_after table d k) p requests
+  pub memory : memory_after_acts p.memory (acts_of table d p.client k requests)
+      ≡ (left_in_turn (party_after table d k) p requests).memory
+  pub client : client_after_acts p.client (acts_of table d p.client k requests)
+      ≡ (left_in_turn (party_after table d k) p requests).client
 
 -- To decide all parts first and to run them then is to run one after another.
 abbrev pub RunsInTurn : Type 0
-RunsInTurn = (table : AnswerTable) (w : World) (k : Asker) (requests : List Request) (p : Party)
-    → InTurn table w k requests p
+RunsInTurn = (table : AnswerTable) (d : Setup) (k : Asker) (requests : List Request) (p : Party)
+    → InTurn table d k requests p

@@ -72,7 +72,8 @@ abbrev pub watch_after_reload : {R : Type 0} → (ℕ → R → Option R) → Wa
 watch_after_reload moves w =
     option_map (λ watched. record w { watched = watched }) (moves w.port w.watched)
 
-unfoldable pub watches_after_reload : {R : Type 0} → (ℕ → R → Option R) → List (Watch R) → List (Watch R)
+unfoldable pub watches_after_reload : {R : Type 0} → (ℕ → R → Option R) → List (Watch R)
+    → List (Watch R)
 watches_after_reload moves watches = filter_map (watch_after_reload moves) watches
 
 -- the notifications that a reload ends

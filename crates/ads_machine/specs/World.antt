@@ -16,6 +16,14 @@ pub record World : Type 0 where
   pub signals : List Wave
   pub memory : List Block
 
+-- What of the world a request is decided by: no request changes it, and no byte is in it.
+pub record Setup : Type 0 where
+  pub plant : Plant
+  pub version : ℕ
+
+abbrev pub setup_of : World → Setup
+setup_of w = record { plant = w.plant; version = w.version }
+
 -- the port of a number
 abbrev pub port_numbered : ℕ → List PlantPort → Option PlantPort
 port_numbered number ports = find (λ (p : PlantPort). p.number == number) ports
