@@ -4,3 +4,4 @@ pub mod PartLemmas
 pub mod SizeLemmas
 mod TypeTextExamples
 pub mod TypeLemmas
+pub mod SameSizes

@@ -5,7 +5,7 @@ use Rattle.std.specs.Prelude.{ℕ, ◌+◌, Bool, true, false, ◌&&◌, ◌==�
 use Rattle.name_paths.specs.Identifier.{lower}
 use Rattle.ads_plant.specs.Plain.{Kind, kind_name}
 use Rattle.ads_plant.specs.Trees.{TypeTree, PlainTree, TextTree, EnumTree, ArrayTree, StructTree, MemberTrees, NoMember, MemberTree}
-use Rattle.ads_plant.specs.Sizes.{type_size, member_start}
+use Rattle.ads_plant.specs.Sizes.{element_count, type_size, member_start}
 use Rattle.ads_plant.specs.Spelling.{type_text}
 
 -- the same plain type
@@ -13,12 +13,14 @@ abbrev pub is_same_kind : Kind → Kind → Bool
 is_same_kind k l = bytes_eq (kind_name k) (kind_name l)
 
 unfoldable mutual
-  -- what is compared beside the texts: the types that they name
+  -- what is compared beside the texts: the types that they name. (Equal texts have the same plain type, length and number
+  -- of elements; that these are compared too spares a proof of it.)
   pub has_same_parts : TypeTree → TypeTree → Bool
-  has_same_parts (PlainTree k) (PlainTree l) = true
-  has_same_parts (TextTree m) (TextTree n) = true
+  has_same_parts (PlainTree k) (PlainTree l) = is_same_kind k l
+  has_same_parts (TextTree m) (TextTree n) = m == n
   has_same_parts (EnumTree name k) (EnumTree other l) = is_same_kind k l
-  has_same_parts (ArrayTree bounds t) (ArrayTree others u) = has_same_parts t u
+  has_same_parts (ArrayTree bounds t) (ArrayTree others u) =
+      (element_count bounds == element_count others) && has_same_parts t u
   has_same_parts (StructTree name ms) (StructTree other ns) = has_same_members 0 ms 0 ns
   has_same_parts t u = false
 
