@@ -3,11 +3,17 @@
 
 mod fault;
 mod lengths;
+mod reply;
+mod reply_reading;
+mod reply_writing;
 mod request;
 mod request_reading;
 mod request_writing;
 
 pub use fault::ReadFault;
+pub use reply::{DeviceFacts, Reply};
+pub use reply_reading::read_reply;
+pub use reply_writing::put_reply;
 pub use request::Request;
 pub use request_reading::read_request;
 pub use request_writing::put_request;

@@ -85,7 +85,7 @@ fn append_access(alloc: Global, out: &mut Octets, group: u32, offset: u32, len: 
 }
 
 // Length 4, data.
-fn append_data(alloc: Global, out: &mut Octets, bytes: &[u8]) -> Result<(), NoMemory>
+pub(crate) fn append_data(alloc: Global, out: &mut Octets, bytes: &[u8]) -> Result<(), NoMemory>
     requires { length bytes.now ≤ 2000000 }
     ensures ok { OnOk result (out.new ≡ out.old ++ data_bytes bytes.now) }
     ensures no_memory { OnErr result (Extends out.old out.new) }

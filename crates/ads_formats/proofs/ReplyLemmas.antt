@@ -2,12 +2,13 @@
 use Rattle.std.proofs.Common.{◌≡◌, ◌≢◌, ℕ, ◌+◌, ◌^◌, ◌<◌, ◌≤◌, Bool, true, false, cond, eqb, List, [], ◌∷◌, ◌++◌, length, get_or, take, drop, Option, Some, None, refl, sym, ap, subst, ◌∙◌, arith, inl, inr}
 use Rattle.std.specs.List.{AllByRecursion}
 use Rattle.std.specs.Int.{w16, w32, to_le_bytes}
+use Rattle.std.proofs.lemmas.Bool.{eq-eqb}
 use Rattle.std.proofs.lemmas.Bool.Decides.{eqb_tells}
 use Rattle.std.proofs.lemmas.List.{append-nil, length-append, length-drop, drop_all}
 use Rattle.std.proofs.lemmas.Nat.{from_le_bytes-to_le_bytes_2, from_le_bytes-to_le_bytes_4}
 use Rattle.ads_plant.specs.Description.{Facts}
 use Rattle.ads_formats.specs.Numbers.{AreBytes, number16, number32, at_length}
-use Rattle.ads_formats.specs.Reply.{Reply, ReadDeviceInfo, Read, Write, ReadState, WriteControl, AddDeviceNotification, DeleteDeviceNotification, ReadWrite, command_of, result_of, facts_at, reply_fields, reply_bytes, FitsFields, IsReplyPayload, ReplyForm, reply_forms, reply_in, reply_of}
+use Rattle.ads_formats.specs.Reply.{Reply, ReadDeviceInfo, Read, Write, ReadState, WriteControl, AddDeviceNotification, DeleteDeviceNotification, ReadWrite, command_of, result_of, facts_at, reply_fields, reply_bytes, refused_bytes, written_bytes, FitsFields, IsReplyPayload, ReplyForm, reply_forms, reply_in, reply_of}
 use Rattle.ads_formats.proofs.Fields.{number16-front, number32-front, number16-lt, number32-lt, next8, next16, next32, no_more}
 use Rattle.ads_formats.proofs.Forms.{at_length-is, at_length-some}
 
@@ -221,3 +222,27 @@ pub text_of-reply_of : (command : ℕ) (payload : List ℕ) (r : Reply) → AreB
     → reply_of command payload ≡ Some r → IsReplyPayload command payload r
 unfolding reply_of
 text_of-reply_of command payload r h e = sound_in reply_forms command payload r sound_forms h e
+
+none_in : (forms : List ReplyForm) (command : ℕ) (p : List ℕ) → AllByRecursion (λ f. f.command ≢ command) forms
+  → reply_in forms command p ≡ None
+unfolding reply_in
+none_in [] command p all = refl
+none_in (f ∷ forms) command p all =
+  elim (eqb_tells f.command command) [
+    | inl same ↦ absurd (all.0 same.1)
+    | inr other ↦ rw other.0 (none_in forms command p all.1)
+  ]
+
+-- a number that is no command with a reply has none
+pub reply_of-other : (command : ℕ) (p : List ℕ) → AllByRecursion (λ f. f.command ≢ command) reply_forms → reply_of command p ≡ None
+unfolding reply_of
+reply_of-other command p other = none_in reply_forms command p other
+
+-- a reply is written in one of its two forms
+pub written_bytes-done : (r : Reply) → result_of r ≡ 0 → written_bytes r ≡ reply_bytes r
+unfolding written_bytes
+written_bytes-done r e = rw (eq-eqb (result_of r) 0 e) refl
+
+pub written_bytes-refused : (r : Reply) → result_of r ≢ 0 → written_bytes r ≡ refused_bytes r
+unfolding written_bytes
+written_bytes-refused r ne = elim (eqb_tells (result_of r) 0) [ | inl same ↦ absurd (ne same.1) | inr other ↦ rw other.0 refl ]
