@@ -11,13 +11,13 @@ use Rattle.ads_formats.proofs.RequestLemmas.{request_of-of_text, text_of-request
 use Rattle.ads_commands.specs.Request.{IsCommand, IsNoRequest, request_meant}
 
 pub text_read : (o : Option Request) (command : ℕ) (p : List ℕ) → AreBytes p → option_map request_meant o ≡ request_of command p
-  → IfOk (ok_or o BadSize) (λ r. IsRequestPayload command p (request_meant r))
+    → IfOk (ok_or o BadSize) (λ r. IsRequestPayload command p (request_meant r))
 text_read None command p h e = tt
 text_read (Some r) command p h e = text_of-request_of command p (request_meant r) h (sym e)
 
 pub refused_size : (o : Option Request) (command : ℕ) (p : List ℕ) → AreBytes p → IsCommand command
-  → option_map request_meant o ≡ request_of command p
-  → (ok_or o BadSize ≡ Err BadSize) ↔ (IsCommand command × IsNoRequest command p)
+    → option_map request_meant o ≡ request_of command p
+    → (ok_or o BadSize ≡ Err BadSize) ↔ (IsCommand command × IsNoRequest command p)
 refused_size None command p h is e = (λ same. (is, λ r text. absurd (cc (e, request_of-of_text command p r text))), λ none. refl)
 refused_size (Some r) command p h is e =
-  (λ same. absurd cc, λ none. absurd (none.1 (request_meant r) (text_of-request_of command p (request_meant r) h (sym e))))
+    (λ same. absurd cc, λ none. absurd (none.1 (request_meant r) (text_of-request_of command p (request_meant r) h (sym e))))

@@ -11,7 +11,7 @@ request_meant (value.Write group offset bytes) = request.Write group offset byte
 request_meant value.State = request.ReadState
 request_meant (value.Control ads device bytes) = request.WriteControl ads device bytes.now
 request_meant (value.Add group offset len mode delay cycle) =
-  request.AddDeviceNotification group offset len mode delay cycle
+    request.AddDeviceNotification group offset len mode delay cycle
 request_meant (value.Delete handle) = request.DeleteDeviceNotification handle
 request_meant (value.Note bytes) = request.DeviceNotification bytes.now
 request_meant (value.ReadWrite group offset read_len bytes) = request.ReadWrite group offset read_len bytes.now

@@ -9,6 +9,8 @@ mod reply_writing;
 mod request;
 mod request_reading;
 mod request_writing;
+#[cfg(test)]
+mod tests;
 
 pub use fault::ReadFault;
 pub use reply::{DeviceFacts, Reply};

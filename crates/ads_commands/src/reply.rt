@@ -22,7 +22,7 @@ pub struct DeviceFacts {
 /// | 6 `Add` | notification handle 4 |
 ///
 /// Every number is little-endian. Beckhoff Information System, "ADS Commands".
-#[derive(Clone, Copy, Debug)]
+#[derive(Clone, Copy, Debug, PartialEq, Eq)]
 pub enum Reply<'a> {
     Info(u32, DeviceFacts),
     Read(u32, &'a [u8]),

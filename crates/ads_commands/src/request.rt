@@ -14,7 +14,7 @@
 /// | 9 `ReadWrite` | group 4, offset 4, read length 4, write length 4, data |
 ///
 /// Every number is little-endian. Beckhoff Information System, "ADS Commands".
-#[derive(Clone, Copy, Debug)]
+#[derive(Clone, Copy, Debug, PartialEq, Eq)]
 pub enum Request<'a> {
     DeviceInfo,
     Read {

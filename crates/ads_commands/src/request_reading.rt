@@ -13,9 +13,7 @@ use ads_base::{get16, get32};
 pub fn read_request(command: u16, bytes: &[u8]) -> Result<Request<'_>, ReadFault>
     ensures text { IfOk result (λ r. IsRequestPayload command bytes.now (request_meant r)) }
     ensures bad_command { (result ≡ Err ReadFault.BadCommand) ↔ ((command ≡ 0) ⊎ (9 < command)) }
-    ensures bad_size {
-        (result ≡ Err ReadFault.BadSize) ↔ (IsCommand command × IsNoRequest command bytes.now)
-    }
+    ensures bad_size { (result ≡ Err ReadFault.BadSize) ↔ (IsCommand command × IsNoRequest command bytes.now) }
     ensures read { option_map request_meant (result_ok result) ≡ request_of command bytes.now }
 {
     if command == 0 || command > 9 {

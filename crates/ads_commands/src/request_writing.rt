@@ -74,7 +74,13 @@ fn append_request(alloc: Global, r: &Request<'_>, out: &mut Octets) -> Result<()
 }
 
 // Three numbers of 4 bytes: an access, or mode, max delay and cycle time.
-fn append_access(alloc: Global, out: &mut Octets, group: u32, offset: u32, len: u32) -> Result<(), NoMemory>
+fn append_access(
+    alloc: Global,
+    out: &mut Octets,
+    group: u32,
+    offset: u32,
+    len: u32,
+) -> Result<(), NoMemory>
     ensures ok { OnOk result (out.new ≡ out.old ++ access_bytes group offset len) }
     ensures no_memory { OnErr result (Extends out.old out.new) }
 {

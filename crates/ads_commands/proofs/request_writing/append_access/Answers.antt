@@ -4,4 +4,4 @@ use Rattle.ads_commands.proofs.request_writing.append_access.Goals as goal
 
 pub returns-clause-ok : goal.returns-clause-ok
 returns-clause-ok c = three_parts c.args.out.now (to_le_bytes w32 c.args.group) (to_le_bytes w32 c.args.offset) (to_le_bytes w32 c.args.len)
-  c.put32.new.out c.put32-2.new.out c.put32-3.new.out c.in_ok-put32.ensures.ok c.in_ok-put32-2.ensures.ok c.in_ok-put32-3.ensures.ok
+    c.put32.new.out c.put32-2.new.out c.put32-3.new.out c.in_ok-put32.ensures.ok c.in_ok-put32-2.ensures.ok c.in_ok-put32-3.ensures.ok
