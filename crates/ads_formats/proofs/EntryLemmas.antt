@@ -172,12 +172,12 @@ entry_of-of_text bytes e rest is =
 -- ---- what is read is an entry, and its text stands in front
 
 -- what the test says
-record Tested (bytes : List ℕ) : Type 0 where
-  covers : 33 + number16 24 bytes + number16 26 bytes + number16 28 bytes ≤ number32 0 bytes
-  within : number32 0 bytes ≤ length bytes
-  name : ends_in_nul (number16 24 bytes) (name_place bytes) ≡ true
-  type_name : ends_in_nul (number16 26 bytes) (type_place bytes) ≡ true
-  comment : ends_in_nul (number16 28 bytes) (comment_place bytes) ≡ true
+pub record Tested (bytes : List ℕ) : Type 0 where
+  pub covers : 33 + number16 24 bytes + number16 26 bytes + number16 28 bytes ≤ number32 0 bytes
+  pub within : number32 0 bytes ≤ length bytes
+  pub name : ends_in_nul (number16 24 bytes) (name_place bytes) ≡ true
+  pub type_name : ends_in_nul (number16 26 bytes) (type_place bytes) ≡ true
+  pub comment : ends_in_nul (number16 28 bytes) (comment_place bytes) ≡ true
 
 tested : (bytes : List ℕ) → is_entry bytes ≡ true → Tested bytes
 unfolding is_entry
@@ -339,3 +339,21 @@ unfolding entry_of
 text_of-entry_of bytes e rest h read =
     let f = found (is_entry bytes) (entry_at bytes, drop (number32 0 bytes) bytes) (e, rest) read in
     subst (λ (x : SymbolEntry × List ℕ). BeginsWithEntry bytes x.0 x.1) f.1 (begins bytes h (tested bytes f.0))
+
+-- where the test's five facts hold, the entry that stands in front is read
+pub entry_of-tested : (bytes : List ℕ) → Tested bytes → entry_of bytes ≡ Some (entry_at bytes, drop (number32 0 bytes) bytes)
+unfolding entry_of is_entry
+entry_of-tested bytes t =
+  let read : SymbolEntry × List ℕ = (entry_at bytes, drop (number32 0 bytes) bytes) in
+  let test = both_true (both_true (both_true (both_true (le-leb (33 + number16 24 bytes + number16 26 bytes + number16 28 bytes) (number32 0 bytes) t.covers)
+    (le-leb (number32 0 bytes) (length bytes) t.within)) t.name) t.type_name) t.comment in
+  ap (λ (b : Bool). cond b (Some read) None) test
+
+refused : (b : Bool) (x : SymbolEntry × List ℕ) → (b ≡ true → ⊥) → cond b (Some x) None ≡ None
+refused true x never = absurd (never refl)
+refused false x never = refl
+
+-- where one of them fails, nothing is read
+pub entry_of-refused : (bytes : List ℕ) → (Tested bytes → ⊥) → entry_of bytes ≡ None
+unfolding entry_of
+entry_of-refused bytes never = refused (is_entry bytes) (entry_at bytes, drop (number32 0 bytes) bytes) (λ e. never (tested bytes e))
