@@ -83,10 +83,10 @@ nul_at : (n : ℕ) (place text rest : List ℕ) → n ≡ length text → place 
 nul_at n place text rest en ep = subst (λ (k : ℕ). ends_in_nul k place ≡ true) (sym en)
     (subst (λ (l : List ℕ). ends_in_nul (length text) l ≡ true) (sym ep) (nul text rest))
 
-abbrev made : (g o s t f : ℕ) (n k c : List ℕ) → SymbolEntry
+abbrev pub made : (g o s t f : ℕ) (n k c : List ℕ) → SymbolEntry
 made g o s t f n k c = record { group = g; offset = o; size = s; type_id = t; flags = f; name = n; type_name = k; comment = c }
 
-same_entry : (g o s t f : ℕ) (n k c : List ℕ) (e : SymbolEntry) → g ≡ e.group → o ≡ e.offset → s ≡ e.size → t ≡ e.type_id → f ≡ e.flags
+pub same_entry : (g o s t f : ℕ) (n k c : List ℕ) (e : SymbolEntry) → g ≡ e.group → o ≡ e.offset → s ≡ e.size → t ≡ e.type_id → f ≡ e.flags
     → n ≡ e.name → k ≡ e.type_name → c ≡ e.comment → made g o s t f n k c ≡ e
 same_entry g o s t f n k c e eg eo es et ef en ek ec =
     ap (λ (x : ℕ). made x o s t f n k c) eg ∙ (ap (λ (x : ℕ). made e.group x s t f n k c) eo

@@ -5,8 +5,15 @@ use Rattle.ads_formats.specs.SymbolEntry.{SymbolEntry, BeginsWithEntry}
 
 abbrev pub entry_meant : Entry → SymbolEntry
 entry_meant e = record {
-  group = e.group; offset = e.offset; size = e.size; type_id = e.type_id; flags = e.flags;
-  name = e.name.now; type_name = e.kind.now; comment = e.comment.now }
+  group = e.group;
+  offset = e.offset;
+  size = e.size;
+  type_id = e.type_id;
+  flags = e.flags;
+  name = e.name.now;
+  type_name = e.kind.now;
+  comment = e.comment.now;
+}
 
 -- each text is short enough for its length's two bytes
 pub record HasShortTexts (e : Entry) : Type 0 where

@@ -3,6 +3,8 @@
 
 mod entry;
 mod reading;
+#[cfg(test)]
+mod tests;
 mod writing;
 
 pub use entry::Entry;
