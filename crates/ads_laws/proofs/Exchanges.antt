@@ -74,7 +74,7 @@ unfolding produce_all
 produce_all-client [] k = refl
 produce_all-client (f ∷ fs) k = produce_all-client fs (produce f k) ∙ produce-client f k
 
-answer-client : (a : Answer) (k : Connection Client) → (after_answer a k).client ≡ k.client
+pub answer-client : (a : Answer) (k : Connection Client) → (after_answer a k).client ≡ k.client
 answer-client (Answered packet) k = produce-client (Reply (frame_bytes packet)) k
 answer-client Silent k = refl
 answer-client Closing k = refl
@@ -154,7 +154,7 @@ packets-same table reading R (p ∷ ps) x y s e =
     packets-same table reading R ps (after_packet device p x) (after_packet device p y)
     (same_then R (after_packet device p x) (after_packet device p (over y.world.memory x)) (after_packet device p y) step (ap (after_packet device p) (is_over R x y s))) right
 
-rest-client : (k : Connection Client) → (after_rest k).client ≡ k.client
+pub rest-client : (k : Connection Client) → (after_rest k).client ≡ k.client
 rest-client k = elim (cases_Bool (is_broken (front_of (rest_of k.received)))) [ inl b ↦ rw b refl | inr b ↦ rw b refl ]
 
 end-same : (R : ByteName → Type 0) (x y : Exchange World Client) → Same R x y → Same R (end_of_piece x) (end_of_piece y)

@@ -4,3 +4,7 @@ pub mod Exchanges
 pub mod TicksAndReloads
 pub mod Worlds
 pub mod Isolated
+pub mod Exact
+pub mod Refused
+pub mod Areas
+pub mod Numbers

@@ -1,1 +1,3 @@
 pub mod Isolation
+pub mod ExactWrites
+pub mod Refusals

@@ -2,6 +2,11 @@
 #![tactic(auto)]
 
 ghost use Rattle.ads_laws.specs.Isolation.{IsIsolated, SeesOnlyItself, TakesAsAlone};
+ghost use Rattle.ads_laws.specs.ExactWrites.{ChangesOnlyByWrites, PutsAreExact, ReadsContent};
+ghost use Rattle.ads_laws.specs.ExactWrites.{WritesContent, NamesAreInjective};
+ghost use Rattle.ads_laws.specs.Refusals.{RefusalChangesNothing, TurnedAwayChangesNothing};
+ghost use Rattle.ads_laws.specs.Refusals.{RefusedReloadCounts, DeadHandleTouchesNothing};
+ghost use Rattle.ads_laws.specs.Refusals.{NumbersNeverFall};
 
 /// A client none of whose read or notified bytes another client writes is given, byte for byte, what it
 /// would be given if it were alone: for every table of what is answered, every description, every reading
@@ -10,4 +15,34 @@ pub fn clients_are_isolated()
     ensures alone { IsIsolated }
     ensures same_projection { SeesOnlyItself }
     ensures taken { TakesAsAlone }
+{}
+
+/// A byte changes between two moves only by an accepted write or control that addresses it, by its
+/// signal's step on a tick, or by an accepted reload; a put leaves its value there and all else as it
+/// was; and a read or a write of a byte group is one of the area's content.
+pub fn writes_are_exact()
+    ensures changes { ChangesOnlyByWrites }
+    ensures puts { PutsAreExact }
+    ensures reads { ReadsContent }
+    ensures writes { WritesContent }
+    ensures names { NamesAreInjective }
+{}
+
+/// A request whose result is not 0 leaves the bytes and its client as they were; so does a packet that
+/// gets an AMS error or no answer, or ends the connection; and a refused reload leaves all but its count.
+pub fn refusals_change_nothing()
+    ensures requests { RefusalChangesNothing }
+    ensures packets { TurnedAwayChangesNothing }
+    ensures reloads { RefusedReloadCounts }
+{}
+
+/// A read, a write or an addition by a handle that was never granted at this port, is released or is
+/// outdated is refused with its code, unless a check that comes before refuses with another.
+pub fn dead_handles_touch_nothing()
+    ensures { DeadHandleTouchesNothing }
+{}
+
+/// What a connection was granted and added only grows, so no number is given twice.
+pub fn numbers_never_fall()
+    ensures { NumbersNeverFall }
 {}

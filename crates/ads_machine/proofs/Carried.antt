@@ -87,7 +87,7 @@ log-carried device P keeps c [] s g = g
 log-carried device P keeps c (m ∷ ms) s g = log-carried device P keeps c ms (state_after_move device s m) (move-carried device P keeps c m s g)
 
 -- with_took changes one count, or nothing
-took-cases : {W C : Type 0} (P : Connection C → Type 0) (n : ℕ) (x : Exchange W C) → P x.connection → P (record x.connection { took = x.connection.took + n }) → P (with_took n x).connection
+pub took-cases : {W C : Type 0} (P : Connection C → Type 0) (n : ℕ) (x : Exchange W C) → P x.connection → P (record x.connection { took = x.connection.took + n }) → P (with_took n x).connection
 took-cases {W} {C} P n x same more = elim (cases_Bool x.connection.gone) [
   | inl b ↦ let Q : Bool → Type 0 = λ t. P (cond t x (record x { connection = record x.connection { took = x.connection.took + n } })).connection in subst Q (sym b) same
   | inr b ↦ let Q : Bool → Type 0 = λ t. P (cond t x (record x { connection = record x.connection { took = x.connection.took + n } })).connection in subst Q (sym b) more

@@ -70,14 +70,14 @@ first_or (Some h) o = Some h
 length_cons : {P : Type 0} (h : Handle P) (hs : List (Handle P)) → length (h ∷ hs) ≡ length hs + 1
 length_cons h hs = omega arith
 
-length_granted : {P : Type 0} (hs : List (Handle P)) (g : Handle P) → length (hs ++ g ∷ []) ≡ length hs + 1
+pub length_granted : {P : Type 0} (hs : List (Handle P)) (g : Handle P) → length (hs ++ g ∷ []) ≡ length hs + 1
 length_granted hs g = let a = length-append hs (g ∷ []) in let b = length_cons g [] in omega (arith, a, b)
 
-length_mapped : {P : Type 0} (f : Handle P → Handle P) (hs : List (Handle P)) → length (map f hs) ≡ length hs
+pub length_mapped : {P : Type 0} (f : Handle P → Handle P) (hs : List (Handle P)) → length (map f hs) ≡ length hs
 length_mapped f [] = refl
 length_mapped f (h ∷ hs) = let a = length_mapped f hs in let b = length_cons (f h) (map f hs) in let c = length_cons h hs in omega (arith, a, b, c)
 
-length_released : {P : Type 0} (hs : List (Handle P)) (m : ℕ) → length (with_released hs m) ≡ length hs
+pub length_released : {P : Type 0} (hs : List (Handle P)) (m : ℕ) → length (with_released hs m) ≡ length hs
 unfolding with_released
 length_released [] m = refl
 length_released {P} (h ∷ hs) m =

@@ -22,7 +22,7 @@ mod EntryExamples
 mod PacketExamples
 mod EnumerationExamples
 mod BesideExamples
-mod HandleStatuses
+pub mod HandleStatuses
 mod TablesAgreed
 mod SumsInTurn
 mod RunExamples

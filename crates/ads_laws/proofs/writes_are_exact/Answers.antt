@@ -1,0 +1,18 @@
+use Rattle.ads_laws.proofs.Exact.{changes_only_by_writes, puts_are_exact}
+use Rattle.ads_laws.proofs.Areas.{reads_content, writes_content, names_are_injective}
+use Rattle.ads_laws.proofs.writes_are_exact.Goals as goal
+
+pub returns-clause-changes : goal.returns-clause-changes
+returns-clause-changes c = changes_only_by_writes
+
+pub returns-clause-puts : goal.returns-clause-puts
+returns-clause-puts c = puts_are_exact
+
+pub returns-clause-reads : goal.returns-clause-reads
+returns-clause-reads c = reads_content
+
+pub returns-clause-writes : goal.returns-clause-writes
+returns-clause-writes c = writes_content
+
+pub returns-clause-names : goal.returns-clause-names
+returns-clause-names c = names_are_injective

@@ -1,0 +1,109 @@
+-- Which bytes a move may change, and to what.
+use Rattle.std.specs.Prelude.{◌≡◌, ◌≢◌, ℕ, ◌+◌, ◌<◌, ◌≤◌, List, [], ◌∷◌, ◌++◌, map, length, take}
+use Rattle.std.specs.Prelude.{drop}
+use Rattle.std.specs.Prelude.{Bool, true, false, Option, None, option_map, Result, Ok, Err}
+use Rattle.ads_outside.specs.declared.event.Event.{Event}
+use Rattle.ads_outside.specs.declared.event.Event.TheVariants as event
+use Rattle.ads_outside.specs.declared.moves.Move.{Move}
+use Rattle.ads_outside.specs.declared.moves.Move.TheVariants as move
+use Rattle.ads_plant.specs.Description.{Area, size_in, Description}
+use Rattle.ads_plant.specs.World.{ByteName, Block, PlantPort, PlantSymbol, lower_name, byte_at}
+use Rattle.ads_machine.specs.MachineState.{MachineState}
+use Rattle.ads_machine.specs.Moves.{state_after_move}
+use Rattle.ads_machine.specs.World.{World, name_at, names_at, content_of}
+use Rattle.ads_machine.specs.Access.{WholeByte, addressed_name, values_at, Put, byte_after, puts_of}
+use Rattle.ads_machine.specs.Access.{memory_after_put, memory_after_puts}
+use Rattle.ads_machine.specs.Client.{Client}
+use Rattle.ads_machine.specs.Acts.{writes_of_acts}
+use Rattle.ads_machine.specs.Answers.{AnswerTable}
+use Rattle.ads_machine.specs.Ticks.{signal_puts}
+use Rattle.ads_machine.specs.AdsDevice.{DescriptionReading, ads_device}
+use Rattle.ads_machine.specs.Projection.{acts_of_move}
+use Rattle.ads_laws.specs.Isolation.{IsAmong}
+
+abbrev pub names_of_puts : List Put → List ByteName
+names_of_puts puts = map (λ (p : Put). addressed_name p.place) puts
+
+-- the names that an event writes: by accepted requests, or by the signals of a tick
+abbrev pub writes_of_event : AnswerTable → DescriptionReading → MachineState World Client → Event
+    → List ByteName
+writes_of_event table reading s (event.Opened c) = []
+writes_of_event table reading s (event.Piece c bytes) =
+    writes_of_acts (acts_of_move table reading s (move.Event (event.Piece c bytes)))
+writes_of_event table reading s (event.Closed c) = []
+writes_of_event table reading s (event.Tick t) =
+    names_of_puts (signal_puts s.world.plant.ports 0 s.world.signals)
+writes_of_event table reading s (event.Reload bytes) = []
+writes_of_event table reading s (event.Writable c) = []
+
+abbrev pub writes_of_move : AnswerTable → DescriptionReading → MachineState World Client → Move
+    → List ByteName
+writes_of_move table reading s (move.Event e) = writes_of_event table reading s e
+writes_of_move table reading s (move.Took c offered bytes) = []
+writes_of_move table reading s (move.Lost c) = []
+writes_of_move table reading s (move.Shut c) = []
+
+abbrev pub is_accepted : Result Description ℕ → Bool
+is_accepted (Ok d) = true
+is_accepted (Err rule) = false
+
+abbrev pub is_accepted_reload : DescriptionReading → MachineState World Client → Move → Bool
+is_accepted_reload reading s (move.Event (event.Reload bytes)) =
+    is_accepted (reading bytes (length s.world.signals))
+is_accepted_reload reading s m = false
+
+-- What stands under a name changes between two moves only where an accepted write or control, or a
+-- signal, writes it, or by an accepted reload.
+abbrev pub ChangesOnlyByWrites : Type 0
+ChangesOnlyByWrites = (table : AnswerTable) (reading : DescriptionReading)
+    (s : MachineState World Client) (m : Move) (n : ByteName)
+    → is_accepted_reload reading s m ≡ false
+    → (IsAmong n (writes_of_move table reading s m) → ⊥)
+    → byte_at (state_after_move (ads_device table reading) s m).world.memory n
+    ≡ byte_at s.world.memory n
+
+-- what one put leaves: that byte, or that bit of it, and all else as it was
+pub record PutsExactly (memory : List Block) (p : Put) : Type 0 where
+  pub here : byte_at (memory_after_put memory p) (addressed_name p.place)
+      ≡ option_map (byte_after p.place p.value) (byte_at memory (addressed_name p.place))
+  pub elsewhere : (n : ByteName) → addressed_name p.place ≢ n
+      → byte_at (memory_after_put memory p) n ≡ byte_at memory n
+
+abbrev pub PutsAreExact : Type 0
+PutsAreExact = (memory : List Block) (p : Put) → PutsExactly memory p
+
+-- A read of a byte group gives these bytes of the area's content.
+abbrev pub ReadsContent : Type 0
+ReadsContent = (p : PlantPort) (area : Area) (offset len : ℕ) (memory : List Block)
+    → offset + len ≤ size_in p.sizes area
+    → values_at memory (map WholeByte (names_at p area offset len))
+    ≡ take len (drop offset (content_of memory p area))
+
+-- each byte of an area is there
+abbrev pub IsThere : List Block → PlantPort → Area → Type 0
+IsThere memory p area = (i : ℕ) → i < size_in p.sizes area → byte_at memory (name_at p area i) ≢ None
+
+-- no two bytes of an area have one name
+abbrev pub AreInjective : PlantPort → Area → Type 0
+AreInjective p area = (i j : ℕ) → name_at p area i ≡ name_at p area j → i ≡ j
+
+-- A write to a byte group puts its bytes there, and leaves all other bytes of the area.
+abbrev pub WritesContent : Type 0
+WritesContent = (p : PlantPort) (area : Area) (offset : ℕ) (bytes : List ℕ) (memory : List Block)
+    → offset + length bytes ≤ size_in p.sizes area → IsThere memory p area → AreInjective p area
+    → content_of (memory_after_puts memory (puts_of (map WholeByte (names_at p area offset (length bytes))) bytes)) p area
+    ≡ take offset (content_of memory p area)
+    ++ (bytes ++ drop (offset + length bytes) (content_of memory p area))
+
+-- no symbol of the list has this name in lower case
+abbrev pub NotNamed : List ℕ → List PlantSymbol → Type 0
+NotNamed name [] = Unit {0}
+NotNamed name (s ∷ ss) = (lower_name s ≢ name) × NotNamed name ss
+
+abbrev pub AreNamedApart : List PlantSymbol → Type 0
+AreNamedApart [] = Unit {0}
+AreNamedApart (s ∷ ss) = NotNamed (lower_name s) ss × AreNamedApart ss
+
+-- Where symbols' names differ, no two bytes of an area have one name.
+abbrev pub NamesAreInjective : Type 0
+NamesAreInjective = (p : PlantPort) (area : Area) → AreNamedApart p.symbols → AreInjective p area

@@ -1,0 +1,98 @@
+-- A refusal changes nothing, and a handle that is not live touches nothing.
+use Rattle.std.specs.Prelude.{◌≡◌, ◌≢◌, ◌⊎◌, ℕ, ◌+◌, ◌≤◌, List, length, true, false, Option, Some}
+use Rattle.std.specs.Prelude.{None}
+use Rattle.ads_plant.specs.World.{Block}
+use Rattle.ads_formats.specs.Codes.{no_error, not_permitted, symbol_not_found}
+use Rattle.ads_formats.specs.Codes.{symbol_version_invalid}
+use Rattle.ads_formats.specs.Groups.{ValueByHandle, value_by_handle}
+use Rattle.ads_formats.specs.Request.{Read, Write, AddDeviceNotification}
+use Rattle.ads_outside.specs.declared.moves.Move.{Move}
+use Rattle.ads_machine.specs.Device.{Device, Refused}
+use Rattle.ads_machine.specs.Connection.{Connection, connection_of}
+use Rattle.ads_machine.specs.MachineState.{MachineState}
+use Rattle.ads_machine.specs.Moves.{after_reload, state_after}
+use Rattle.ads_machine.specs.World.{World, Setup, setup_of}
+use Rattle.ads_machine.specs.Handles.{HandleStatus, Never, Released, Outdated, Live, kept_status}
+use Rattle.ads_machine.specs.Watches.{Mode}
+use Rattle.ads_machine.specs.Client.{Place, Client, client_after}
+use Rattle.ads_machine.specs.Acts.{Act, Refusal, outcome_of, memory_after, effect_of}
+use Rattle.ads_machine.specs.Answers.{AnswerTable, answered_group, READ, WRITE}
+use Rattle.ads_machine.specs.Answers.{ADD_DEVICE_NOTIFICATION}
+use Rattle.ads_machine.specs.Writes.{Asker, may_write}
+use Rattle.ads_machine.specs.Requests.{MAX_WATCHED, mode_of, act_of}
+use Rattle.ads_machine.specs.Packets.{Decision, NoAnswer, EndConnection, AmsError, decide}
+use Rattle.ads_machine.specs.Replies.{performed}
+use Rattle.ads_machine.specs.AdsDevice.{DescriptionReading, ads_device}
+
+-- the bytes and the client after a request whose result is not 0
+pub record ChangesNothing (memory : List Block) (c : Client) (a : Act) : Type 0 where
+  pub memory_stays : memory_after memory a ≡ memory
+  pub client_stays : client_after c (effect_of a) ≡ c
+
+abbrev pub RefusalChangesNothing : Type 0
+RefusalChangesNothing = (memory : List Block) (c : Client) (a : Act)
+    → (outcome_of memory a).code ≢ no_error → ChangesNothing memory c a
+
+-- a packet that gets an AMS error or no answer, or that ends the connection
+abbrev pub IsTurnedAway : Decision → Type 0
+IsTurnedAway decision =
+    (decision ≡ NoAnswer) ⊎ ((decision ≡ EndConnection) ⊎ ((code : ℕ) × (decision ≡ AmsError code)))
+
+pub record LeavesAll (table : AnswerTable) (w : World) (c : Client) (packet : List ℕ) : Type 0 where
+  pub world_stays : (performed (decide table (setup_of w) c packet) packet w c).world ≡ w
+  pub client_stays : (performed (decide table (setup_of w) c packet) packet w c).client ≡ c
+
+abbrev pub TurnedAwayChangesNothing : Type 0
+TurnedAwayChangesNothing = (table : AnswerTable) (w : World) (c : Client) (packet : List ℕ)
+    → IsTurnedAway (decide table (setup_of w) c packet) → LeavesAll table w c packet
+
+-- A refused reload leaves all but its count.
+abbrev pub RefusedReloadCounts : Type 0
+RefusedReloadCounts = (table : AnswerTable) (reading : DescriptionReading)
+    (s : MachineState World Client) (rule : ℕ)
+    → after_reload (ads_device table reading) (Refused rule) s
+    ≡ record s { refused = s.refused + 1 }
+
+-- the code of a handle that is not live
+abbrev pub dead_code : HandleStatus Place → Option ℕ
+dead_code Never = Some symbol_not_found
+dead_code Released = Some symbol_not_found
+dead_code Outdated = Some symbol_version_invalid
+dead_code (Live place) = None
+
+-- a Read, a Write and an addition by such a handle: they are refused with its code, unless a check
+-- that comes before refuses them with another
+pub record RefusesHandle (table : AnswerTable) (d : Setup) (c : Client) (k : Asker) (handle code : ℕ) : Type 0 where
+  pub read : (len : ℕ) → answered_group table READ value_by_handle ≡ Some ValueByHandle
+      → act_of table d c k (Read value_by_handle handle len) ≡ Refusal code
+  pub write : (bytes : List ℕ) → answered_group table WRITE value_by_handle ≡ Some ValueByHandle
+      → may_write k.rights ≡ true
+      → act_of table d c k (Write value_by_handle handle bytes) ≡ Refusal code
+  pub write_without_right : (bytes : List ℕ)
+      → answered_group table WRITE value_by_handle ≡ Some ValueByHandle
+      → may_write k.rights ≡ false
+      → act_of table d c k (Write value_by_handle handle bytes) ≡ Refusal not_permitted
+  pub add : (len number delay cycle : ℕ) (mode : Mode)
+      → answered_group table ADD_DEVICE_NOTIFICATION value_by_handle ≡ Some ValueByHandle
+      → mode_of number ≡ Some mode → len ≤ MAX_WATCHED
+      → act_of table d c k (AddDeviceNotification value_by_handle handle len number delay cycle)
+      ≡ Refusal code
+
+abbrev pub DeadHandleTouchesNothing : Type 0
+DeadHandleTouchesNothing = (table : AnswerTable) (d : Setup) (c : Client) (k : Asker)
+    (handle code : ℕ) → dead_code (kept_status c.handles handle k.port.number) ≡ Some code
+    → RefusesHandle table d c k handle code
+
+-- what a connection was granted and added only grows, and the next number is one more than that
+pub record NumbersGrow (k l : Connection Client) : Type 0 where
+  pub handles : length k.client.handles ≤ length l.client.handles
+  pub additions : k.client.additions ≤ l.client.additions
+
+-- So no number of a handle or a notification is given twice.
+abbrev pub NumbersNeverFall : Type 0
+NumbersNeverFall = (table : AnswerTable) (reading : DescriptionReading)
+    (s : MachineState World Client) (c : ℕ) (log : List Move) (k : Connection Client)
+    → connection_of c s.connections ≡ Some k
+    → (l : Connection Client)
+    × (connection_of c (state_after (ads_device table reading) s log).connections ≡ Some l)
+    × NumbersGrow k l
