@@ -12,3 +12,4 @@ pub mod Accepted
 pub mod World
 pub mod Finding
 pub mod TypeTexts
+pub mod Rights

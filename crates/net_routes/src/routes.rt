@@ -1,0 +1,63 @@
+//! The routes of a description, found by NetId.
+
+ghost use Rattle.std.specs.Prelude.{◌≡◌, ℕ, List, ◌++◌, ◌∷◌, [], OnOk, IfOk, option_map};
+ghost use Rattle.ads_plant.specs.Rights.{rights_of};
+ghost use Rattle.type_layout.specs.Descriptions as plain;
+
+use ads_base::{NetId, NoMemory};
+use indexmap::IndexMap;
+use std::alloc::Global;
+use std::marker::Model;
+use type_layout::{Rights, Routes4};
+
+/// The rights of each machine that has a route, in a map from NetIds. Contracts see the routes as a list.
+#[derive(Drop)]
+pub struct Routes {
+    by_net: IndexMap<Vec<u8>, Rights>,
+}
+
+impl Model for Routes {
+    ghost use Rattle.std.specs.Prelude.{List, map};
+    ghost use Rattle.ads_plant.specs.Description.{Route};
+    ghost use Rattle.net_routes.specs.Shown.{shown};
+
+    ghost Value = { List Route };
+
+    ghost view = { λ r. map shown r.by_net.entries };
+}
+
+impl Routes {
+    /// The routes of a list. Of two with the same NetId the first counts.
+    pub fn build(alloc: Global, list: &Routes4) -> Result<Routes, NoMemory>
+        ensures { IfOk result (λ routes. (net : List ℕ)
+            → rights_of net routes ≡ rights_of net (plain.routes_of list.now)) }
+    {
+        let mut routes = Routes {
+            by_net: IndexMap::new(alloc),
+        };
+        for route in list.as_slice() {
+            routes.add(alloc, route.net, route.rights)?;
+        }
+        Ok(routes)
+    }
+
+    /// The rights of a machine. None exactly where no route has its NetId.
+    pub fn rights(&self, net: NetId) -> Option<Rights>
+        ensures { option_map plain.rights_of result ≡ rights_of net.bytes self.now }
+    {
+        self.by_net.get(net.bytes.as_slice()).copied()
+    }
+
+    // A further route, which counts where its NetId has none.
+    fn add(&mut self, alloc: Global, net: NetId, rights: Rights) -> Result<(), NoMemory>
+        ensures { OnOk result ((n : List ℕ) → rights_of n self.new
+            ≡ rights_of n (self.old ++ record { net = net.bytes; rights = plain.rights_of rights } ∷ [])) }
+    {
+        if self.rights(net).is_some() {
+            return Ok(());
+        }
+        let key = net.bytes.to_vec(alloc)?;
+        self.by_net.insert(key, rights)?;
+        Ok(())
+    }
+}
