@@ -72,6 +72,7 @@ impl OutQueue {
     pub fn front(&self) -> Option<&[u8]>
         ensures empty { IsNone result ↔ (self.now ≡ []) }
         ensures first { IfSome result (λ left. front_of self.now ≡ Some left.now) }
+        ensures bound { IfSome result (λ left. length left.now ≤ MAX_QUEUED) }
     {
         Some(self.frames.front()?.as_slice())
     }
