@@ -344,10 +344,10 @@ text_of-entry_of bytes e rest h read =
 pub entry_of-tested : (bytes : List ℕ) → Tested bytes → entry_of bytes ≡ Some (entry_at bytes, drop (number32 0 bytes) bytes)
 unfolding entry_of is_entry
 entry_of-tested bytes t =
-  let read : SymbolEntry × List ℕ = (entry_at bytes, drop (number32 0 bytes) bytes) in
-  let test = both_true (both_true (both_true (both_true (le-leb (33 + number16 24 bytes + number16 26 bytes + number16 28 bytes) (number32 0 bytes) t.covers)
+    let read : SymbolEntry × List ℕ = (entry_at bytes, drop (number32 0 bytes) bytes) in
+    let test = both_true (both_true (both_true (both_true (le-leb (33 + number16 24 bytes + number16 26 bytes + number16 28 bytes) (number32 0 bytes) t.covers)
     (le-leb (number32 0 bytes) (length bytes) t.within)) t.name) t.type_name) t.comment in
-  ap (λ (b : Bool). cond b (Some read) None) test
+    ap (λ (b : Bool). cond b (Some read) None) test
 
 refused : (b : Bool) (x : SymbolEntry × List ℕ) → (b ≡ true → ⊥) → cond b (Some x) None ≡ None
 refused true x never = absurd (never refl)

@@ -224,14 +224,14 @@ unfolding reply_of
 text_of-reply_of command payload r h e = sound_in reply_forms command payload r sound_forms h e
 
 none_in : (forms : List ReplyForm) (command : ℕ) (p : List ℕ) → AllByRecursion (λ f. f.command ≢ command) forms
-  → reply_in forms command p ≡ None
+    → reply_in forms command p ≡ None
 unfolding reply_in
 none_in [] command p all = refl
 none_in (f ∷ forms) command p all =
-  elim (eqb_tells f.command command) [
-    | inl same ↦ absurd (all.0 same.1)
-    | inr other ↦ rw other.0 (none_in forms command p all.1)
-  ]
+    elim (eqb_tells f.command command) [
+      | inl same ↦ absurd (all.0 same.1)
+      | inr other ↦ rw other.0 (none_in forms command p all.1)
+    ]
 
 -- a number that is no command with a reply has none
 pub reply_of-other : (command : ℕ) (p : List ℕ) → AllByRecursion (λ f. f.command ≢ command) reply_forms → reply_of command p ≡ None
@@ -245,4 +245,4 @@ written_bytes-done r e = rw (eq-eqb (result_of r) 0 e) refl
 
 pub written_bytes-refused : (r : Reply) → result_of r ≢ 0 → written_bytes r ≡ refused_bytes r
 unfolding written_bytes
-written_bytes-refused r ne = elim (eqb_tells (result_of r) 0) [ | inl same ↦ absurd (ne same.1) | inr other ↦ rw other.0 refl ]
+written_bytes-refused r ne = elim (eqb_tells (result_of r) 0) [ inl same ↦ absurd (ne same.1) | inr other ↦ rw other.0 refl ]

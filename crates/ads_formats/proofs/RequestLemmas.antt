@@ -275,20 +275,39 @@ unfolding request_of
 text_of-request_of command payload r h e = sound_in request_forms command payload r sound_forms h e
 
 none_in : (forms : List RequestForm) (command : ℕ) (p : List ℕ) → AllByRecursion (λ f. f.command ≢ command) forms
-  → request_in forms command p ≡ None
+    → request_in forms command p ≡ None
 unfolding request_in
 none_in [] command p all = refl
 none_in (f ∷ forms) command p all =
-  elim (eqb_tells f.command command) [
-    | inl same ↦ absurd (all.0 same.1)
-    | inr other ↦ rw other.0 (none_in forms command p all.1)
-  ]
+    elim (eqb_tells f.command command) [
+      | inl same ↦ absurd (all.0 same.1)
+      | inr other ↦ rw other.0 (none_in forms command p all.1)
+    ]
 
 -- a number that is no command has no request
 pub request_of-no_command : (command : ℕ) (p : List ℕ) → (command ≡ 0) ⊎ (9 < command) → request_of command p ≡ None
 unfolding request_of
 request_of-no_command command p off =
-  let other : (n : ℕ) → 1 ≤ n → n ≤ 9 → n ≢ command = λ n low high same. elim off [ | inl e ↦ omega arith | inr e ↦ omega arith ] in
-  none_in request_forms command p (other 1 (lit≤ tt) (lit≤ tt), (other 2 (lit≤ tt) (lit≤ tt), (other 3 (lit≤ tt) (lit≤ tt),
-    (other 4 (lit≤ tt) (lit≤ tt), (other 5 (lit≤ tt) (lit≤ tt), (other 6 (lit≤ tt) (lit≤ tt), (other 7 (lit≤ tt) (lit≤ tt),
-    (other 8 (lit≤ tt) (lit≤ tt), (other 9 (lit≤ tt) (lit≤ tt), tt)))))))))
+    let other : (n : ℕ) → 1 ≤ n → n ≤ 9 → n ≢ command = λ n low high same. elim off [ inl e ↦ omega arith | inr e ↦ omega arith ] in
+    none_in request_forms command p (
+      other 1 (lit≤ tt) (lit≤ tt),
+      (
+        other 2 (lit≤ tt) (lit≤ tt),
+        (
+          other 3 (lit≤ tt) (lit≤ tt),
+          (
+            other 4 (lit≤ tt) (lit≤ tt),
+            (
+              other 5 (lit≤ tt) (lit≤ tt),
+              (
+                other 6 (lit≤ tt) (lit≤ tt),
+                (
+                  other 7 (lit≤ tt) (lit≤ tt),
+                  (other 8 (lit≤ tt) (lit≤ tt), (other 9 (lit≤ tt) (lit≤ tt), tt)),
+                ),
+              ),
+            ),
+          ),
+        ),
+      ),
+    )
