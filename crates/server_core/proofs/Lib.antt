@@ -1,0 +1,11 @@
+pub mod Replies
+pub mod QueueLemmas
+pub mod CountLemmas
+pub mod StreamLemmas
+pub mod ProduceLemmas
+pub mod TakingLemmas
+pub mod StateLemmas
+pub mod PlaceLemmas
+pub mod SumLemmas
+pub mod ServeLemmas
+pub mod OfferLemmas

@@ -1,0 +1,14 @@
+//! The server as one object: events go in, frames for each connection come out.
+#![tactic(auto)]
+
+mod answer;
+mod conn;
+mod outcome;
+mod served_core;
+mod summary;
+#[cfg(test)]
+mod tests;
+
+pub use outcome::Outcome;
+pub use served_core::Core;
+pub use summary::Summary;
