@@ -1,2 +1,4 @@
+mod Examples
 pub mod Memory
 pub mod Sharing
+pub mod Walks

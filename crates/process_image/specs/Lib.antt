@@ -3,3 +3,5 @@ pub mod Image
 pub mod Lends
 pub mod Ownership
 pub mod Parts
+pub mod Spans
+pub mod Walk

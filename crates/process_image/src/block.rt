@@ -9,6 +9,15 @@ use std::alloc::{AllocError, Allocator};
 use std::marker::{Model, PhantomData, Send, Sync};
 use std::slice;
 
+/// Where a block begins. It owns nothing.
+pub(crate) struct Place {
+    pub(crate) at: *mut u8,
+}
+
+unsafe impl Send for Place {}
+
+unsafe impl Sync for Place {}
+
 /// The owner of a block's bytes and of the room behind them. It takes no space: who holds it has the pointer.
 pub(crate) struct Block {
     ghost at: { Ptr },

@@ -1,9 +1,11 @@
 //! The image: the bytes of one port.
 ghost use Rattle.std.specs.Prelude.{◌≡◌, ℕ, ◌+◌, ◌<◌, ◌≤◌, length, take, drop, replicate, IfOk};
 ghost use Rattle.std.specs.Borrow.{sem};
+ghost use Rattle.process_image.specs.Spans.{IsWalk};
 
-use crate::block::{Block, Deed, release, reserve};
+use crate::block::{Block, Deed, Place, release, reserve};
 use crate::cell::Cell;
+use crate::parts::Parts;
 use crate::scalar::Scalar;
 use crate::span::Span;
 use ads_base::NoMemory;
@@ -15,7 +17,7 @@ pub const MAX_IMAGE: u32 = 4_194_304;
 
 /// One block of bytes behind a raw pointer, which contracts see as the list of its bytes.
 pub struct Image {
-    at: *mut u8,
+    place: Place,
     len: u32,
     block: Block,
     deed: Deed<Global>,
@@ -46,7 +48,7 @@ impl Image {
             block.put(at, count as usize, 0);
         }
         Ok(Image {
-            at,
+            place: Place { at },
             len,
             block,
             deed,
@@ -66,7 +68,7 @@ impl Image {
         requires { s.at + s.len ≤ length self.now }
         ensures { result.now ≡ take s.len (drop s.at self.now) }
     {
-        self.block.slice(self.at, s.at as usize, s.len as usize)
+        self.block.slice(self.place.at, s.at as usize, s.len as usize)
     }
 
     /// Some of the bytes, for writing: what stands there at the end is the image's new content, and all else stays.
@@ -75,7 +77,7 @@ impl Image {
         ensures* lends { sem 𝓛 (LendsPart self.entry s.at s.len result) }
         ensures value { result.now ≡ take s.len (drop s.at self.old) }
     {
-        self.block.slice_mut(self.at, s.at as usize, s.len as usize)
+        self.block.slice_mut(self.place.at, s.at as usize, s.len as usize)
     }
 
     /// The number at a place.
@@ -87,17 +89,29 @@ impl Image {
     {
         Cell::new(self, at)
     }
+
+    /// A walk over parts of the image, which rise and do not overlap.
+    pub fn parts_mut<'a>(&'a mut self, spans: &'a [Span]) -> Parts<'a>
+        requires { IsWalk spans.now 0 (length self.old) }
+        ensures image { result.image.ghost_name ≡ self.entry.ghost_name }
+        ensures now { result.image.now ≡ self.old }
+        ensures spans { result.spans.now ≡ spans.now }
+        ensures place { result.place ≡ 0 }
+    {
+        Parts::new(self, spans)
+    }
 }
 
 impl Drop for Image {
     fn drop(self) {
         let Image {
-            at,
+            place,
             len,
             block,
             deed,
             alloc,
         } = self;
+        let Place { at } = place;
         release(&alloc, at, len as usize, block, deed);
     }
 }

@@ -1,9 +1,9 @@
-//! The memory of one port: one raw block of bytes, lent in parts.
 #![tactic(auto)]
 
 mod block;
 mod cell;
 mod image;
+mod parts;
 mod scalar;
 mod span;
 #[cfg(test)]
@@ -11,5 +11,6 @@ mod tests;
 
 pub use cell::Cell;
 pub use image::{Image, MAX_IMAGE};
+pub use parts::Parts;
 pub use scalar::Scalar;
 pub use span::Span;
