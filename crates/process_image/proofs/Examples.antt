@@ -18,4 +18,4 @@ minus_one : bytes_low_first 0 1 (cast_unsigned w8 (negsuc 0)) ≡ 255 ∷ []
 minus_one = refl
 
 three_parts : IsWalk (record { at = 0; len = 2 } ∷ record { at = 2; len = 0 } ∷ record { at = 5; len = 3 } ∷ []) 0 8
-three_parts = (omega arith, omega arith, omega arith, omega arith)
+three_parts = (omega arith, (omega arith, (omega arith, omega arith)))

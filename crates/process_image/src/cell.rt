@@ -51,11 +51,10 @@ impl<'a, T: Scalar> Cell<'a, T> {
         ensures bytes { self.new.image.now
             ≡ with_part self.old.image.now self.old.at T.SIZE (bytes_low_first 0 T.SIZE (T.complement v)) }
     {
-        v.store(
-            self.image.part_mut(Span {
-                at: self.at,
-                len: T::SIZE,
-            }),
-        );
+        let span = Span {
+            at: self.at,
+            len: T::SIZE,
+        };
+        v.store(self.image.part_mut(span));
     }
 }
