@@ -1,0 +1,8 @@
+use Rattle.std.proofs.Common.{sym, ◌∙◌, arith}
+use Rattle.std.proofs.lemmas.Fmt.{decimal_injective}
+use Rattle.value_text.proofs.numbers.number_below.Goals as goal
+
+pub returns-else-n-limit-clause-none : goal.returns-else-n-limit-clause-none
+returns-else-n-limit-clause-none c = λ none n small e.
+    let same = decimal_injective c.in_ok-n.n n c.in_ok-n.ensures.some.0 (omega arith) (sym c.in_ok-n.ensures.some.1 ∙ e) in
+    omega arith

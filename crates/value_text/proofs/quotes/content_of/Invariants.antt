@@ -1,0 +1,7 @@
+use Rattle.std.proofs.Common.{◌≡◌, ◌++◌, take, drop}
+use Rattle.value_text.specs.ValueText.{before_nul}
+use Rattle.value_text.proofs.quotes.content_of.Given as goal
+
+-- no byte so far is a NUL
+abbrev pub invariant-loop-i : goal.invariant-loop-i
+invariant-loop-i l = take l.i l.bytes ++ before_nul (drop l.i l.bytes) ≡ before_nul l.bytes
