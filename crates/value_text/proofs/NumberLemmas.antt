@@ -1,5 +1,5 @@
 -- Numbers of two's complement and their texts.
-use Rattle.std.proofs.Common.{◌≡◌, ◌≢◌, ℕ, suc, ◌+◌, ◌-◌, ◌*◌, ◌^◌, ◌<◌, ◌≤◌, List, [], ◌∷◌, length, get_or, drop, cond, ltb, refl, sym, ap, ◌∙◌, inl, inr, arith, lit≤}
+use Rattle.std.proofs.Common.{◌≡◌, ◌≢◌, ℕ, suc, ◌-◌, ◌*◌, ◌^◌, ◌<◌, ◌≤◌, List, [], ◌∷◌, length, get_or, drop, refl, sym, ap, ◌∙◌, inl, inr, arith, lit≤}
 use Rattle.std.specs.Fmt.{decimal}
 use Rattle.std.proofs.Math.Nat.{pow-succ'}
 use Rattle.std.proofs.lemmas.Bool.{cases_lt, lt-ltb, le-ltb}
@@ -33,11 +33,13 @@ behind_minus (b ∷ bs) rest some minus e = cc
 -- a text without a minus is the text of a number below half of the range alone
 pub without_minus : (range n : ℕ) (text : List ℕ) → n < range → range ≤ 2 ^ 64 → get_or text 0 0 ≢ 45 → text ≡ signed_text range n → (2 * n < range) × (text ≡ decimal n)
 without_minus range n text in_range limit plain e = elim (cases_lt (2 * n) range) [
-    inl below ↦ (below, e ∙ signed_text-below range n below)
-  | inr above ↦ absurd (plain (ap (λ t. get_or t 0 0) (e ∙ signed_text-above range n above))) ]
+  | inl below ↦ (below, e ∙ signed_text-below range n below)
+  | inr above ↦ absurd (plain (ap (λ t. get_or t 0 0) (e ∙ signed_text-above range n above)))
+]
 
 -- a text with a minus is the text of a number from there on
 pub with_minus : (range n : ℕ) (text : List ℕ) → n < range → range ≤ 2 ^ 64 → get_or text 0 0 ≡ 45 → text ≡ signed_text range n → (range ≤ 2 * n) × (drop 1 text ≡ decimal (range - n))
 with_minus range n text in_range limit minus e = elim (cases_lt (2 * n) range) [
-    inl below ↦ absurd (decimal-first n text (omega arith) (e ∙ signed_text-below range n below) minus)
-  | inr above ↦ (above, ap (drop 1) (e ∙ signed_text-above range n above)) ]
+  | inl below ↦ absurd (decimal-first n text (omega arith) (e ∙ signed_text-below range n below) minus)
+  | inr above ↦ (above, ap (drop 1) (e ∙ signed_text-above range n above))
+]

@@ -1,8 +1,8 @@
 -- Texts between single quotes: what a byte looks like there, and that its text is told apart from what follows.
-use Rattle.std.proofs.Common.{◌≡◌, ◌≢◌, ◌⊎◌, ℕ, suc, zero, ◌+◌, ◌-◌, ◌*◌, ◌/◌, ◌%◌, ◌<◌, ◌≤◌, List, [], ◌∷◌, ◌++◌, length, get_or, take, drop, flat_map, true, false, cond, eqb, refl, sym, ap, ◌∙◌, subst, inl, inr, arith, append_assoc, append-nil, add-one, drop-cons, take-suc}
-use Rattle.std.proofs.lemmas.Bool.{cases_Bool, eq-eqb, ne_eqb, eqb-true, false≢true}
+use Rattle.std.proofs.Common.{◌≡◌, ◌≢◌, ◌⊎◌, ℕ, suc, zero, ◌+◌, ◌/◌, ◌%◌, ◌<◌, ◌≤◌, List, [], ◌∷◌, ◌++◌, length, get_or, take, drop, flat_map, true, false, eqb, refl, sym, ap, ◌∙◌, subst, inl, inr, arith, append_assoc, append-nil, add-one}
+use Rattle.std.proofs.lemmas.Bool.{cases_Bool, eq-eqb, ne_eqb, false≢true}
 use Rattle.std.proofs.lemmas.Bool.Decides.{nat_tests}
-use Rattle.std.proofs.lemmas.List.{take_more, drop_more, take_all, drop_all}
+use Rattle.std.proofs.lemmas.List.{take_all, drop_all}
 use Rattle.std.proofs.lemmas.List.Concat.{flat_map-append}
 use Rattle.ads_frames.specs.Number.{AreBytes}
 use Rattle.value_text.specs.Parts.{IsEscaped}
@@ -46,8 +46,9 @@ BeginsEscaped b rest text = (is_plain b ≡ false) × (text ≡ 36 ∷ upper_dig
 
 pub begins : (b : ℕ) (rest text : List ℕ) → text ≡ quoted_byte b ++ rest → BeginsPlain b rest text ⊎ BeginsEscaped b rest text
 begins b rest text e = elim (cases_Bool (is_plain b)) [
-    inl plain ↦ inl (plain, e ∙ ap (λ x. x ++ rest) (quoted_byte-plain b plain))
-  | inr other ↦ inr (other, e ∙ ap (λ x. x ++ rest) (quoted_byte-escaped b other)) ]
+  | inl plain ↦ inl (plain, e ∙ ap (λ x. x ++ rest) (quoted_byte-plain b plain))
+  | inr other ↦ inr (other, e ∙ ap (λ x. x ++ rest) (quoted_byte-escaped b other))
+]
 
 pub plain_first : (text : List ℕ) → 0 < length text → is_plain (get_or text 0 0) ≡ true → text ≡ quoted_byte (get_or text 0 0) ++ drop 1 text
 plain_first [] some plain = absurd (omega arith)
@@ -72,12 +73,15 @@ quote_is_escaped b plain e = false≢true (sym (ap is_plain e) ∙ plain)
 -- the front of a text stands for one byte
 same_byte : (b d : ℕ) (r s text : List ℕ) → text ≡ quoted_byte b ++ r → text ≡ quoted_byte d ++ s → (b ≡ d) × (r ≡ s)
 same_byte b d r s text e f = elim (begins b r text e) [
-    inl plain ↦ elim (begins d s text f) [
-        inl plain' ↦ (cc (sym plain.1 ∙ plain'.1), cc (sym plain.1 ∙ plain'.1))
-      | inr other' ↦ (let heads : b ≡ 36 = cc (sym plain.1 ∙ other'.1) in absurd (dollar_is_escaped b plain.0 heads)) ]
+  | inl plain ↦ elim (begins d s text f) [
+    | inl plain' ↦ (cc (sym plain.1 ∙ plain'.1), cc (sym plain.1 ∙ plain'.1))
+    | inr other' ↦ (let heads : b ≡ 36 = cc (sym plain.1 ∙ other'.1) in absurd (dollar_is_escaped b plain.0 heads))
+  ]
   | inr other ↦ elim (begins d s text f) [
-        inl plain' ↦ (let heads : d ≡ 36 = cc (sym other.1 ∙ plain'.1) in absurd (dollar_is_escaped d plain'.0 heads))
-      | inr other' ↦ both_escaped b d r s (sym other.1 ∙ other'.1) ] ]
+    | inl plain' ↦ (let heads : d ≡ 36 = cc (sym other.1 ∙ plain'.1) in absurd (dollar_is_escaped d plain'.0 heads))
+    | inr other' ↦ both_escaped b d r s (sym other.1 ∙ other'.1)
+  ]
+]
   where
     both_escaped : (b d : ℕ) (r s : List ℕ) → 36 ∷ upper_digit (b / 16) ∷ upper_digit (b % 16) ∷ r ≡ 36 ∷ upper_digit (d / 16) ∷ upper_digit (d % 16) ∷ s → (b ≡ d) × (r ≡ s)
     both_escaped b d r s e =
@@ -87,8 +91,9 @@ same_byte b d r s text e f = elim (begins b r text e) [
 
 no_quote : (b : ℕ) (r : List ℕ) → 39 ∷ [] ≡ quoted_byte b ++ r → ⊥
 no_quote b r e = elim (begins b r (39 ∷ []) e) [
-    inl plain ↦ (let heads : b ≡ 39 = cc (plain.1) in quote_is_escaped b plain.0 heads)
-  | inr other ↦ cc (other.1) ]
+  | inl plain ↦ (let heads : b ≡ 39 = cc (plain.1) in quote_is_escaped b plain.0 heads)
+  | inr other ↦ cc (other.1)
+]
 
 -- the first of some bytes, and the others
 first_of : (b : ℕ) (bytes rest : List ℕ) → flat_map quoted_byte (b ∷ bytes) ++ rest ≡ quoted_byte b ++ (flat_map quoted_byte bytes ++ rest)
@@ -109,17 +114,20 @@ pub nul_free-push : (content : List ℕ) (b : ℕ) → IsNulFree content → 0 <
 unfolding before_nul
 nul_free-push [] b free some = (let other : eqb b 0 ≡ false = ne_eqb b 0 (λ e. omega arith) in rw other refl)
 nul_free-push (x ∷ content) b free some = elim (cases_Bool (eqb x 0)) [
-    inl nul ↦ (let e : [] ≡ x ∷ content = rw nul at free in cc)
-  | inr other ↦ (let e : x ∷ before_nul content ≡ x ∷ content = rw other at free in rw other (ap (λ y. x ∷ y) (nul_free-push content b (cc) some))) ]
+  | inl nul ↦ (let e : [] ≡ x ∷ content = rw nul at free in cc)
+  | inr other ↦ (let e : x ∷ before_nul content ≡ x ∷ content = rw other at free in rw other (ap (λ y. x ∷ y) (nul_free-push content b (cc) some)))
+]
 
 pub nul_free-at : (content more : List ℕ) (b : ℕ) → IsNulFree (content ++ b ∷ more) → 0 < b
 unfolding before_nul
 nul_free-at [] more b free = elim (cases_Bool (eqb b 0)) [
-    inl nul ↦ (let e : [] ≡ b ∷ more = rw nul at free in cc)
-  | inr other ↦ grind (arith, nat_tests) ]
+  | inl nul ↦ (let e : [] ≡ b ∷ more = rw nul at free in cc)
+  | inr other ↦ grind (arith, nat_tests)
+]
 nul_free-at (x ∷ content) more b free = elim (cases_Bool (eqb x 0)) [
-    inl nul ↦ (let e : [] ≡ x ∷ (content ++ b ∷ more) = rw nul at free in cc)
-  | inr other ↦ (let e : x ∷ before_nul (content ++ b ∷ more) ≡ x ∷ (content ++ b ∷ more) = rw other at free in nul_free-at content more b cc) ]
+  | inl nul ↦ (let e : [] ≡ x ∷ (content ++ b ∷ more) = rw nul at free in cc)
+  | inr other ↦ (let e : x ∷ before_nul (content ++ b ∷ more) ≡ x ∷ (content ++ b ∷ more) = rw other at free in nul_free-at content more b cc)
+]
 
 pub are_bytes-at : (content more : List ℕ) (b : ℕ) → AreBytes (content ++ b ∷ more) → b < 256
 are_bytes-at [] more b each = each 0
@@ -141,6 +149,7 @@ quoted-same content bytes e = alone (more_of content bytes (39 ∷ []) cc)
     nothing : (more : List ℕ) → 39 ∷ [] ≡ flat_map quoted_byte more ++ 39 ∷ [] → more ≡ []
     nothing [] f = refl
     nothing (b ∷ more) f = absurd (no_quote b (flat_map quoted_byte more ++ 39 ∷ []) (f ∙ first_of b more (39 ∷ [])))
+
     alone : (more : List ℕ) × (bytes ≡ content ++ more) × (39 ∷ [] ≡ flat_map quoted_byte more ++ 39 ∷ []) → bytes ≡ content
     alone more = more.1 ∙ ap (λ x. content ++ x) (nothing more.0 more.2) ∙ append-nil content
 
@@ -150,9 +159,13 @@ begins_some b rest text e = elim (begins b rest text e) [ inl plain ↦ omega (a
 
 pub begins_other : (b : ℕ) (rest text : List ℕ) → 0 < b → text ≡ quoted_byte b ++ rest → is_plain (get_or text 0 0) ≡ false → (3 ≤ length text) × (get_or text 0 0 ≡ 36) × IsEscaped (get_or text 1 0) (get_or text 2 0) b
 begins_other b rest text some e first = elim (begins b rest text e) [
-    inl plain ↦ absurd (false≢true (sym first ∙ ap (λ t. is_plain (get_or t 0 0)) plain.1 ∙ plain.0))
-  | inr other ↦ (omega (arith, ap length other.1), ap (λ t. get_or t 0 0) other.1,
-      record { not_plain = other.0; no_nul = some; high_digit = ap (λ t. get_or t 1 0) other.1; low_digit = ap (λ t. get_or t 2 0) other.1 }) ]
+  | inl plain ↦ absurd (false≢true (sym first ∙ ap (λ t. is_plain (get_or t 0 0)) plain.1 ∙ plain.0))
+  | inr other ↦ (
+    omega (arith, ap length other.1),
+    ap (λ t. get_or t 0 0) other.1,
+    record { not_plain = other.0; no_nul = some; high_digit = ap (λ t. get_or t 1 0) other.1; low_digit = ap (λ t. get_or t 2 0) other.1 },
+  )
+]
 
 -- a quoted text begins with a quote
 pub begins_quoted : (content text : List ℕ) → text ≡ quoted content → (0 < length text) × (get_or text 0 0 ≡ 39)
@@ -185,6 +198,7 @@ no_more content rest text bytes whole open_ none each free e = stuck (more_of co
         let P : List ℕ → Type 0 = λ x. AreBytes x in
         let Q : List ℕ → Type 0 = λ x. IsNulFree x in
         none b (flat_map quoted_byte more ++ 39 ∷ []) (are_bytes-at content more b (subst P is each)) (nul_free-at content more b (subst Q is free)) (left ∙ first_of b more (39 ∷ []))
+
     stuck : (more : List ℕ) × (bytes ≡ content ++ more) × (rest ≡ flat_map quoted_byte more ++ 39 ∷ []) → ⊥
     stuck more = stuck_at more.0 more.1 more.2
 

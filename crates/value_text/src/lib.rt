@@ -5,6 +5,8 @@ mod form;
 mod numbers;
 mod quotes;
 mod reading;
+#[cfg(test)]
+mod tests;
 mod writing;
 
 pub use reading::from_text;

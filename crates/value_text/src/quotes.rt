@@ -45,7 +45,10 @@ fn append_byte(alloc: Global, byte: u8, out: &mut Octets) -> Result<(), NoMemory
         out.push(alloc, byte)?;
         return Ok(());
     }
-    out.put(alloc, &[b'$', upper_digit(byte / 16), upper_digit(byte % 16)])?;
+    out.put(
+        alloc,
+        &[b'$', upper_digit(byte / 16), upper_digit(byte % 16)],
+    )?;
     Ok(())
 }
 
@@ -59,7 +62,11 @@ fn upper_digit(digit: u8) -> u8
     requires { digit < 16 }
     ensures { result ≡ upper_digit digit }
 {
-    if digit < 10 { b'0' + digit } else { b'A' - 10 + digit }
+    if digit < 10 {
+        b'0' + digit
+    } else {
+        b'A' - 10 + digit
+    }
 }
 
 // The bytes before the first NUL.

@@ -26,7 +26,12 @@ pub fn from_text(
     ensures some { IfOk result (λ found. IfSome found (IsValueOf type_id size text.now)) }
     ensures none { IfOk result (λ found. IsNone found → (value : List ℕ) → AreBytes value → IsValueOf type_id size text.now value → ⊥) }
 {
-    read_form(alloc, form_of_type(type_id, size as usize), size as usize, text)
+    read_form(
+        alloc,
+        form_of_type(type_id, size as usize),
+        size as usize,
+        text,
+    )
 }
 
 fn read_form(
@@ -62,11 +67,7 @@ fn read_truth(alloc: Global, text: &[u8]) -> Result<Option<Octets>, NoMemory>
     Ok(None)
 }
 
-fn read_hexadecimal(
-    alloc: Global,
-    size: usize,
-    text: &[u8],
-) -> Result<Option<Octets>, NoMemory>
+fn read_hexadecimal(alloc: Global, size: usize, text: &[u8]) -> Result<Option<Octets>, NoMemory>
     ensures { IfOk result (Answers Form.Hexadecimal size text.now) }
 {
     if !begins_hexadecimal(text) {

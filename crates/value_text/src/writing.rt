@@ -20,12 +20,7 @@ use std::alloc::Global;
 /// | any other | `16#` and two lower-case digits a byte |
 ///
 /// Beckhoff Information System, "ADS data types".
-pub fn to_text(
-    alloc: Global,
-    type_id: u32,
-    bytes: &[u8],
-    out: &mut Octets,
-) -> Result<(), NoMemory>
+pub fn to_text(alloc: Global, type_id: u32, bytes: &[u8], out: &mut Octets) -> Result<(), NoMemory>
     ensures ok { OnOk result (out.new ≡ out.old ++ value_text type_id bytes.now) }
     ensures no_memory { OnErr result (out.new ≡ out.old) }
 {

@@ -1,5 +1,4 @@
-use Rattle.std.proofs.Common.{sym, ap, ◌∙◌, ◌++◌, arith}
-use Rattle.std.proofs.lemmas.List.{take_all, drop_all}
+use Rattle.std.proofs.Common.{sym, ◌∙◌, arith}
 use Rattle.value_text.proofs.QuoteLemmas.{before_nul-here, before_nul-more, before_nul-end}
 use Rattle.value_text.proofs.quotes.content_of.Goals as goal
 

@@ -1,7 +1,6 @@
-use Rattle.std.proofs.Common.{◌≡◌, ◌<◌, ◌++◌, length, get_or, drop, refl, sym, ap, ◌∙◌, arith}
+use Rattle.std.proofs.Common.{length, refl, sym, ◌∙◌, arith}
 use Rattle.std.proofs.lemmas.Bool.{eqb-true, eqb-false}
 use Rattle.std.proofs.lemmas.List.{take_rest}
-use Rattle.value_text.specs.ValueText.{quoted_byte}
 use Rattle.value_text.proofs.QuoteLemmas.{plain_first, escaped_first, begins_some, begins_other}
 use Rattle.value_text.proofs.quotes.first_byte.Goals as goal
 use Rattle.value_text.proofs.quotes.first_byte.Goals.{then-text-lt3-via-then-text-lt3, then-text-lt3-via-else-text-lt3+then-text-ne36}
@@ -20,8 +19,9 @@ pub returns-then-text-lt3-clause-none : goal.returns-then-text-lt3-clause-none
 returns-then-text-lt3-clause-none c = λ none byte rest small some e.
     let other = begins_other byte rest c.args.text.now some e (sym c.is_plain.ensures ∙ c.if-is_plain.false) in
     elim c.then-text-lt3.branch [
-      then-text-lt3-via-then-text-lt3 w ↦ omega (arith, other.0, w.if-text-lt3.true)
-    | then-text-lt3-via-else-text-lt3+then-text-ne36 w ↦ omega (arith, other.1, w.if-text-ne36.true) ]
+      | then-text-lt3-via-then-text-lt3 w ↦ omega (arith, other.0, w.if-text-lt3.true)
+      | then-text-lt3-via-else-text-lt3+then-text-ne36 w ↦ omega (arith, other.1, w.if-text-ne36.true)
+    ]
 
 pub returns-in_err-byte-clause-none : goal.returns-in_err-byte-clause-none
 returns-in_err-byte-clause-none c = λ none byte rest small some e.
