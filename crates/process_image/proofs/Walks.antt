@@ -1,10 +1,10 @@
 -- Spans that rise within so many bytes lie within them.
-use Rattle.std.specs.Prelude.{◌≡◌, ℕ, zero, suc, ◌+◌, ◌<◌, ◌≤◌, List, [], ◌∷◌, length}
+use Rattle.std.specs.Prelude.{◌≡◌, ℕ, zero, suc, ◌+◌, ◌≤◌, List, [], ◌∷◌, length}
 use Rattle.std.proofs.Common.{arith, Bor, MutBor}
 use Rattle.std.proofs.Math.Bridge.{le_prop}
 use Rattle.process_image.specs.declared.parts.Parts.{Parts}
 use Rattle.process_image.specs.declared.span.Span.{Span}
-use Rattle.process_image.specs.Spans.{span_at, AreWithin, IsWalk}
+use Rattle.process_image.specs.Spans.{AreWithin, IsWalk}
 
 IsWalk-le : (spans : List Span) (from size : ℕ) → IsWalk spans from size → from ≤ size
 IsWalk-le [] from size walk = walk

@@ -24,7 +24,7 @@ pub no_shorter : (bytes : List ℕ) (at len : ℕ) (left : List ℕ) → length 
 no_shorter bytes at len left =
     let old = take len (drop at bytes) in let new = refill len old left in let rest = drop (at + len) bytes in
     let more : length old ≤ length new =
-        omega (arith, length-take len (drop at bytes), length-take len (left ++ drop (length left) old), length-append left (drop (length left) old), length-drop (length left) old) in
+    omega (arith, length-take len (drop at bytes), length-take len (left ++ drop (length left) old), length-append left (drop (length left) old), length-drop (length left) old) in
     omega (arith, more, length-append (take at bytes) (new ++ rest), length-append new rest, length-take at bytes, length-take len (drop at bytes), length-drop at bytes, length-drop (at + len) bytes)
 
 -- the walk after that

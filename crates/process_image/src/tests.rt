@@ -70,7 +70,10 @@ fn each_kind_of_number_is_read_as_it_was_set(rt: HostRuntime) -> Result<(), Fail
     assert_eq!(rt; image.cell::<u64>(0).get(), u64::MAX - 1);
     assert_eq!(rt; image.cell::<i64>(0).get(), -2);
     image.cell::<u32>(4).set(0x0102_0304);
-    assert_eq!(rt; all(&image), [0xfe, 0xff, 0xff, 0xff, 4, 3, 2, 1].as_slice());
+    assert_eq!(rt;
+        all(&image),
+        [0xfe, 0xff, 0xff, 0xff, 4, 3, 2, 1].as_slice()
+    );
     image.cell::<i16>(0).set(-256);
     assert_eq!(rt; image.cell::<u16>(0).get(), 0xff00);
     let mut two = [0; 2];
