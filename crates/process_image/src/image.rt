@@ -68,8 +68,9 @@ impl Image {
         requires { s.at + s.len ≤ length self.now }
         ensures { result.now ≡ take s.len (drop s.at self.now) }
     {
-        self.block
-            .slice(self.place.at, s.at as usize, s.len as usize)
+        let at = s.at as usize;
+        let len = s.len as usize;
+        self.block.slice(self.place.at, at, len)
     }
 
     /// Some of the bytes, for writing: what stands there at the end is the image's new content, and all else stays.
@@ -78,8 +79,9 @@ impl Image {
         ensures* lends { sem 𝓛 (LendsPart self.entry s.at s.len result) }
         ensures value { result.now ≡ take s.len (drop s.at self.old) }
     {
-        self.block
-            .slice_mut(self.place.at, s.at as usize, s.len as usize)
+        let at = s.at as usize;
+        let len = s.len as usize;
+        self.block.slice_mut(self.place.at, at, len)
     }
 
     /// The number at a place.
