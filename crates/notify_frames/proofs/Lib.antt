@@ -1,0 +1,4 @@
+pub mod Appends
+pub mod Left
+pub mod Rests
+pub mod Whole

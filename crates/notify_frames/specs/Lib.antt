@@ -1,0 +1,4 @@
+pub mod Samples
+pub mod Notes
+pub mod Place
+pub mod Whole
