@@ -13,6 +13,8 @@ mod reading;
 mod shape;
 mod spelling;
 mod structures;
+#[cfg(test)]
+mod tests;
 mod words;
 
 pub use description::{Description, Rights, RouteDesc, Routes4};

@@ -10,7 +10,7 @@ pub struct Ends {
 }
 
 /// What stands for an element.
-#[derive(Clone, Copy, Debug)]
+#[derive(Clone, Copy, Debug, PartialEq, Eq)]
 pub enum ElemText<'a> {
     Plain(Kind),
     /// `STRING(n)`; `STRING` alone is `STRING(80)`.
@@ -20,7 +20,7 @@ pub enum ElemText<'a> {
 }
 
 /// A type text that was read.
-#[derive(Clone, Copy, Debug)]
+#[derive(Clone, Copy, Debug, PartialEq, Eq)]
 pub struct TypeText<'a> {
     /// The number of dimensions, 0 where the text is no array.
     pub count: u8,
