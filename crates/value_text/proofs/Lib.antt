@@ -1,3 +1,5 @@
 pub mod NumberLemmas
 pub mod QuoteLemmas
 mod Examples
+pub mod LawLemmas
+pub mod HexLemmas

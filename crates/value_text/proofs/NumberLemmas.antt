@@ -15,7 +15,7 @@ number_of-lt (b ∷ bs) each =
     omega (arith, range, each 0, number_of-lt bs (λ k. each (suc k)))
 
 -- no decimal number begins with a minus
-decimal-first : (n : ℕ) (text : List ℕ) → n < 2 ^ 64 → text ≡ decimal n → get_or text 0 0 ≢ 45
+pub decimal-first : (n : ℕ) (text : List ℕ) → n < 2 ^ 64 → text ≡ decimal n → get_or text 0 0 ≢ 45
 decimal-first n text small e minus = decimal-free 45 n (lit≤ tt) small 0 (decimal_nonempty n small) (ap (λ t. get_or t 0 0) (sym e) ∙ minus)
 
 pub signed_text-below : (range n : ℕ) → 2 * n < range → signed_text range n ≡ decimal n

@@ -1,2 +1,3 @@
 pub mod ValueText
 pub mod Parts
+pub mod Laws

@@ -2,6 +2,7 @@
 #![tactic(auto)]
 
 mod form;
+mod laws;
 mod numbers;
 mod quotes;
 mod reading;
@@ -9,5 +10,8 @@ mod reading;
 mod tests;
 mod writing;
 
+pub use laws::{
+    a_full_string_is_refused, a_text_has_one_value, a_text_is_written_again, a_value_is_read_again,
+};
 pub use reading::from_text;
 pub use writing::to_text;
