@@ -5,12 +5,8 @@ use Rattle.ads_plant.specs.World.{ByteName, Block}
 use Rattle.ads_formats.specs.Codes.{no_error}
 use Rattle.ads_machine.specs.Access.{Addressed, WholeByte, OneBit, addressed_name, value_at, values_at, Put, byte_after, memory_after_put, memory_after_puts}
 use Rattle.ads_machine.specs.Acts.{Act, Refusal, Allowed, Outcome, outcome_of, outcomes_of, memory_after, memory_after_acts, effect_of, added_reads, reads_of_act, writes_of_act, reads_of_acts, writes_of_acts}
+pub use Rattle.ads_laws.specs.Soundness.{Each}
 use Rattle.ads_laws.proofs.Memory.{Agree, with_byte-agree, with_byte-outside}
-
--- something holds of each of a list
-abbrev pub Each : {X : Type 0} → (X → Type 0) → List X → Type 0
-Each P [] = Unit {0}
-Each P (x ∷ xs) = P x × Each P xs
 
 pub each_left : {X : Type 0} (P : X → Type 0) (xs ys : List X) → Each P (xs ++ ys) → Each P xs
 each_left P [] ys e = tt

@@ -1,3 +1,5 @@
 pub mod Isolation
 pub mod ExactWrites
 pub mod Refusals
+pub mod Soundness
+pub mod Reachable

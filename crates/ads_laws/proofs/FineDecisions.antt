@@ -1,0 +1,139 @@
+-- What a packet leaves of a client fits the plant, if the client fitted it before.
+use Rattle.std.proofs.Common.{◌≡◌, ℕ, ◌-◌, List, [], ◌∷◌, ◌++◌, map, Bool, true, false, cond, refl, sym, ◌∙◌, ap, subst, inl, inr}
+use Rattle.std.specs.Prelude.{Option, Some, None, ◌==◌, not, filter}
+use Rattle.std.proofs.lemmas.Bool.{cases_Bool}
+use Rattle.ads_plant.specs.Description.{Rights}
+use Rattle.ads_plant.specs.World.{Plant, PlantPort}
+use Rattle.ads_formats.specs.Codes.{target_port_not_found, target_machine_not_found, unknown_command_id, unknown_ams_command, invalid_ams_length, invalid_size}
+use Rattle.ads_formats.specs.Groups.{Group, SumRead, SumWrite, SumReadWrite}
+use Rattle.ads_formats.specs.Header.{AmsHeader, header_of, payload_of}
+use Rattle.ads_formats.specs.Request.{Request, ReadDeviceInfo, Read, Write, ReadState, WriteControl, AddDeviceNotification, DeleteDeviceNotification, DeviceNotification, ReadWrite, request_of}
+use Rattle.ads_machine.specs.World.{Setup, port_numbered}
+use Rattle.ads_machine.specs.Access.{Addressed}
+use Rattle.ads_machine.specs.Handles.{Handle, Grant, Release, Released, Live, with_released, handles_after}
+use Rattle.ads_machine.specs.Watches.{Watch}
+use Rattle.ads_machine.specs.Client.{Place, Client, Effect, NoEffect, Grants, Releases, Adds, Deletes, client_after}
+use Rattle.ads_machine.specs.Acts.{Act, Refusal, Allowed, effect_of, client_after_acts}
+use Rattle.ads_machine.specs.Answers.{AnswerTable, answered_group}
+use Rattle.ads_machine.specs.Writes.{Asker}
+use Rattle.ads_machine.specs.Requests.{act_of}
+use Rattle.ads_machine.specs.Sums.{SumRequest, SumForm, sum_of_reads, sum_of_writes, sum_of_read_writes, sum_refusal, given_in_turn}
+use Rattle.ads_machine.specs.Packets.{ReplyForm, Decision, NoAnswer, EndConnection, AmsError, Perform, refuse, client_after_request, acts_of, decide_parts, decide_sum, decide_single, decide_read_write, decide_request, decide_command, decide_port, rights_of, decide_target, decide_header, decide, acts_in}
+use Rattle.ads_laws.specs.Soundness.{Each, IsSoundPlant}
+use Rattle.ads_laws.specs.Reachable.{IsPlacedHandle}
+use Rattle.ads_laws.proofs.Footprints.{each_both}
+use Rattle.ads_laws.proofs.Exchanges.{WatchIn, WatchesIn, each_filter}
+use Rattle.ads_laws.proofs.FirstMemory.{IsNamed, port_number}
+use Rattle.ads_laws.proofs.FineActs.{IsAsked, FineEffect, FineAct, act-fine}
+
+-- what a client keeps fits a plant: handles lie within symbols, and notifications watch names of the plant
+pub record FitsPlant (plant : Plant) (c : Client) : Type 0 where
+  pub handles : Each (IsPlacedHandle plant) c.handles
+  pub watches : WatchesIn (IsNamed plant) c
+
+released-fits : (plant : Plant) (hs : List (Handle Place)) (n : ℕ) → Each (IsPlacedHandle plant) hs → Each (IsPlacedHandle plant) (with_released hs n)
+unfolding with_released
+released-fits plant [] n e = tt
+released-fits plant (h ∷ hs) n e =
+    elim (cases_Bool (n == 1)) [
+      | inl t ↦ rw t (tt, e.1)
+      | inr t ↦ rw t (e.0, released-fits plant hs (n - 1) (e.1))
+    ]
+
+effect-fits : (plant : Plant) (c : Client) (x : Effect) → FitsPlant plant c → FineEffect plant x → FitsPlant plant (client_after c x)
+unfolding client_after handles_after
+effect-fits plant c NoEffect f h = f
+effect-fits plant c (Grants port place) f h = record { handles = each_both (IsPlacedHandle plant) c.handles (record { port = port; status = Live place } ∷ []) f.handles (h, tt); watches = f.watches }
+effect-fits plant c (Releases handle) f h = record { handles = released-fits plant c.handles handle f.handles; watches = f.watches }
+effect-fits plant c (Adds w) f h = record { handles = f.handles; watches = each_both (WatchIn (IsNamed plant)) c.watches (w ∷ []) f.watches (h, tt) }
+effect-fits plant c (Deletes handle) f h = record { handles = f.handles; watches = each_filter (WatchIn (IsNamed plant)) (λ (v : Watch (List Addressed)). not (v.handle == handle)) c.watches f.watches }
+
+act-fits : (plant : Plant) (c : Client) (a : Act) → FitsPlant plant c → FineAct plant a → FitsPlant plant (client_after c (effect_of a))
+act-fits plant c (Refusal code) f h = effect-fits plant c NoEffect f tt
+act-fits plant c (Allowed a) f h = effect-fits plant c a.effect f h.fine
+
+pub acts-fit : (plant : Plant) (acts : List Act) (c : Client) → FitsPlant plant c → Each (FineAct plant) acts → FitsPlant plant (client_after_acts c acts)
+unfolding client_after_acts
+acts-fit plant [] c f h = f
+acts-fit plant (a ∷ rest) c f h = acts-fit plant rest (client_after c (effect_of a)) (act-fits plant c a f (h.0)) (h.1)
+
+-- the acts of requests, each decided for the client that those before it left
+acts_of-fine : (table : AnswerTable) (d : Setup) (k : Asker) → IsAsked d.plant k.port → (rs : List Request) (c : Client) → FitsPlant d.plant c → Each (FineAct d.plant) (acts_of table d c k rs)
+unfolding acts_of given_in_turn
+acts_of-fine table d k i [] c f = tt
+acts_of-fine table d k i (r ∷ rs) c f =
+    let a = act-fine table d.plant d c k i f.handles r in
+    (a, acts_of-fine table d k i rs (client_after_request table d k c r) (act-fits d.plant c (act_of table d c k r) f a))
+
+-- a decision, as a record so that `_` is found
+pub record FineDecision (plant : Plant) (x : Decision) : Type 0 where
+  pub acts : Each (FineAct plant) (acts_in x)
+
+if_fine : (plant : Plant) (b : Bool) (x y : Decision) → FineDecision plant x → FineDecision plant y → FineDecision plant (cond b x y)
+if_fine plant true x y p q = p
+if_fine plant false x y p q = q
+
+silent_fine : (plant : Plant) → FineDecision plant NoAnswer
+silent_fine plant = record { acts = tt }
+
+end_fine : (plant : Plant) → FineDecision plant EndConnection
+end_fine plant = record { acts = tt }
+
+error_fine : (plant : Plant) (code : ℕ) → FineDecision plant (AmsError code)
+error_fine plant code = record { acts = tt }
+
+refuse_fine : (plant : Plant) (code : ℕ) → FineDecision plant (refuse code)
+refuse_fine plant code = record { acts = (record { fine = tt }, tt) }
+
+parts-fine : (table : AnswerTable) (d : Setup) (c : Client) (k : Asker) → IsAsked d.plant k.port → FitsPlant d.plant c → (s : SumRequest) (o : Option ℕ) → FineDecision d.plant (decide_parts table d c k s o)
+parts-fine table d c k i f s (Some code) = refuse_fine d.plant code
+parts-fine table d c k i f s None = record { acts = acts_of-fine table d k i s.parts c f }
+
+single-fine : (table : AnswerTable) (d : Setup) (c : Client) (k : Asker) → IsAsked d.plant k.port → FitsPlant d.plant c → (r : Request) → FineDecision d.plant (decide_single table d c k r)
+single-fine table d c k i f r = record { acts = acts_of-fine table d k i (r ∷ []) c f }
+
+read_write-fine : (table : AnswerTable) (d : Setup) (c : Client) (k : Asker) → IsAsked d.plant k.port → FitsPlant d.plant c → (g : Option Group) (r : Request) (n len : ℕ) (bytes : List ℕ) → FineDecision d.plant (decide_read_write table d c k g r n len bytes)
+read_write-fine table d c k i f (Some SumRead) r n len bytes = parts-fine table d c k i f (sum_of_reads n bytes) _
+read_write-fine table d c k i f (Some SumWrite) r n len bytes = parts-fine table d c k i f (sum_of_writes n bytes) _
+read_write-fine table d c k i f (Some SumReadWrite) r n len bytes = parts-fine table d c k i f (sum_of_read_writes n bytes) _
+read_write-fine table d c k i f g r n len bytes = single-fine table d c k i f r
+
+request-fine : (table : AnswerTable) (d : Setup) (c : Client) (k : Asker) → IsAsked d.plant k.port → FitsPlant d.plant c → (o : Option Request) → FineDecision d.plant (decide_request table d c k o)
+unfolding decide_request
+request-fine table d c k i f None = refuse_fine d.plant invalid_size
+request-fine table d c k i f (Some (ReadWrite group offset len bytes)) = read_write-fine table d c k i f (answered_group table _ group) (ReadWrite group offset len bytes) offset len bytes
+request-fine table d c k i f (Some ReadDeviceInfo) = single-fine table d c k i f ReadDeviceInfo
+request-fine table d c k i f (Some (Read g o l)) = single-fine table d c k i f (Read g o l)
+request-fine table d c k i f (Some (Write g o b)) = single-fine table d c k i f (Write g o b)
+request-fine table d c k i f (Some ReadState) = single-fine table d c k i f ReadState
+request-fine table d c k i f (Some (WriteControl a s b)) = single-fine table d c k i f (WriteControl a s b)
+request-fine table d c k i f (Some (AddDeviceNotification g o l m y t)) = single-fine table d c k i f (AddDeviceNotification g o l m y t)
+request-fine table d c k i f (Some (DeleteDeviceNotification h)) = single-fine table d c k i f (DeleteDeviceNotification h)
+request-fine table d c k i f (Some (DeviceNotification b)) = single-fine table d c k i f (DeviceNotification b)
+
+port-fine : (table : AnswerTable) (d : Setup) (c : Client) (rights : Rights) (h : AmsHeader) (payload : List ℕ) → IsSoundPlant d.plant → FitsPlant d.plant c → (o : Option PlantPort) → port_numbered h.target.port d.plant.ports ≡ o
+    → FineDecision d.plant (decide_port table d c rights h payload o)
+port-fine table d c rights h payload sound f None e = error_fine d.plant target_port_not_found
+port-fine table d c rights h payload sound f (Some p) e =
+    let number = port_number h.target.port d.plant.ports p e in
+    let P : ℕ → Type 0 = λ m. port_numbered m d.plant.ports ≡ Some p in
+    let k : Asker = record { port = p; address = h.source; rights = rights } in
+    let r = request-fine table d c k (record { sound = sound; found = subst P (sym number) e }) f (request_of h.command payload) in
+    let answered = if_fine d.plant (not (table.is_answered h.command)) (AmsError unknown_command_id) (decide_request table d c k (request_of h.command payload)) (error_fine d.plant unknown_command_id) r in
+    if_fine d.plant _ NoAnswer _ (silent_fine d.plant) answered
+
+target-fine : (table : AnswerTable) (d : Setup) (c : Client) (h : AmsHeader) (payload : List ℕ) → IsSoundPlant d.plant → FitsPlant d.plant c → (o : Option Rights) → FineDecision d.plant (decide_target table d c h payload o)
+target-fine table d c h payload sound f None = end_fine d.plant
+target-fine table d c h payload sound f (Some rights) =
+    if_fine d.plant _ (AmsError target_machine_not_found) _ (error_fine d.plant target_machine_not_found) (port-fine table d c rights h payload sound f (port_numbered h.target.port d.plant.ports) refl)
+
+header-fine : (table : AnswerTable) (d : Setup) (c : Client) (payload : List ℕ) → IsSoundPlant d.plant → FitsPlant d.plant c → (o : Option AmsHeader) → FineDecision d.plant (decide_header table d c payload o)
+header-fine table d c payload sound f None = silent_fine d.plant
+header-fine table d c payload sound f (Some h) =
+    let t = target-fine table d c h payload sound f (rights_of h.source.net d.plant.routes) in
+    let flags = if_fine d.plant _ (AmsError unknown_ams_command) (decide_target table d c h payload (rights_of h.source.net d.plant.routes)) (error_fine d.plant unknown_ams_command) t in
+    if_fine d.plant _ (AmsError invalid_ams_length) _ (error_fine d.plant invalid_ams_length) (if_fine d.plant _ NoAnswer _ (silent_fine d.plant) flags)
+
+pub decide-fine : (table : AnswerTable) (d : Setup) (c : Client) (packet : List ℕ) → IsSoundPlant d.plant → FitsPlant d.plant c → FineDecision d.plant (decide table d c packet)
+unfolding decide
+decide-fine table d c packet sound f = header-fine table d c (payload_of packet) sound f (header_of packet)
