@@ -1,20 +1,20 @@
 -- An accepted description is sound.
-use Rattle.std.proofs.Common.{◌≡◌, ◌≢◌, ℕ, List, [], ◌∷◌, ◌++◌, map, length, take, Bool, true, false, cond, refl, sym, ◌∙◌, ap, subst, inl, inr, arith}
-use Rattle.std.specs.Prelude.{◌+◌, nat_lt, nat_le, Option, Some, None, ◌==◌, ◌&&◌, ◌||◌, not, bytes_eq, find, IsTrue}
+use Rattle.std.proofs.Common.{◌≡◌, ℕ, List, [], ◌∷◌, map, length, Bool, true, false, refl, sym, ◌∙◌, ap, inl, inr, arith}
+use Rattle.std.specs.Prelude.{◌+◌, nat_lt, nat_le, Some, ◌==◌, ◌&&◌, not, bytes_eq}
 use Rattle.std.specs.List.{list_all, starts_with, slice_split, onto_first}
 use Rattle.std.specs.Char.{to_ascii_lowercase}
 use Rattle.std.proofs.lemmas.Bool.{cases_Bool, and_parts, eqb-true, eq-eqb, ne_eqb, ltb-false, false≢true}
 use Rattle.std.proofs.lemmas.Slice.Eq.{bytes_eq-Decides}
 use Rattle.name_paths.specs.Identifier.{lower}
-use Rattle.name_paths.specs.Name.{is_full_stop, identifiers_of, lower_identifiers, is_symbol_name}
+use Rattle.name_paths.specs.Name.{is_full_stop, lower_identifiers, is_symbol_name}
 use Rattle.ads_plant.specs.Listed.{NamedType}
-use Rattle.ads_plant.specs.Description.{Symbol, Port, Description, Sizes}
-use Rattle.ads_plant.specs.World.{Plant, PlantPort, PlantSymbol, plant_symbol, plant_port, plant_of, symbol_size, lower_name}
+use Rattle.ads_plant.specs.Description.{Symbol, Port, Sizes}
+use Rattle.ads_plant.specs.World.{PlantPort, PlantSymbol, plant_symbol, plant_port, lower_name}
 use Rattle.ads_plant.specs.AcceptedTypes.{all_pairs}
-use Rattle.ads_plant.specs.Accepted.{IsAccepted, is_port, is_symbol, are_two_names, size_of_symbol, begins_with_value}
+use Rattle.ads_plant.specs.Accepted.{is_port, is_symbol, are_two_names, size_of_symbol, begins_with_value}
 use Rattle.ads_machine.specs.World.{port_numbered}
 use Rattle.ads_machine.specs.Writes.{symbol_named}
-use Rattle.ads_laws.specs.Soundness.{Each, IsSoundSymbol, IsSoundPort, IsSoundPlant, AcceptedAreSound}
+use Rattle.ads_laws.specs.Soundness.{Each, IsSoundSymbol, IsSoundPort, AcceptedAreSound}
 
 -- the case of letters leaves full stops where they are
 lower-stop : (c : ℕ) → is_full_stop (to_ascii_lowercase c) ≡ is_full_stop c

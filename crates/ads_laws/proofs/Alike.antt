@@ -1,19 +1,17 @@
 -- The bytes of each part stay as many as they are.
-use Rattle.std.proofs.Common.{◌≡◌, ℕ, zero, suc, ◌+◌, List, [], ◌∷◌, ◌++◌, map, length, Bool, true, false, cond, refl, sym, ◌∙◌, ap, subst, inl, inr}
-use Rattle.std.specs.Prelude.{Option, Some, None, flat_map}
+use Rattle.std.proofs.Common.{◌≡◌, ℕ, zero, suc, List, [], ◌∷◌, length, Bool, true, cond, refl, sym, ◌∙◌, ap, inl, inr}
+use Rattle.std.specs.Prelude.{Option, Some, None}
 use Rattle.std.proofs.lemmas.Bool.{cases_Bool, false≢true}
-use Rattle.ads_plant.specs.Description.{Area, Inputs, Outputs, Memory, Process}
-use Rattle.ads_plant.specs.World.{Block, Part, SymbolPart, AreaPart, StatePart, ByteName, PlantSymbol, PlantPort, Plant, lower_name, symbol_size, is_block_of, block_of, with_nth_byte, with_byte}
-use Rattle.ads_plant.specs.SameTypes.{is_same_type}
+use Rattle.ads_plant.specs.Description.{Area}
+use Rattle.ads_plant.specs.World.{Block, Part, SymbolPart, AreaPart, StatePart, ByteName, PlantSymbol, PlantPort, Plant, symbol_size, is_block_of, block_of, with_nth_byte, with_byte}
 use Rattle.ads_plant.proofs.SameSizes.{same_type-size}
-use Rattle.ads_machine.specs.World.{World, port_numbered, setup_of, first_area_block, first_symbol_block, first_state_block, first_blocks, first_memory}
+use Rattle.ads_machine.specs.World.{port_numbered, first_memory}
 use Rattle.ads_machine.specs.Access.{Put, addressed_name, byte_after, memory_after_put, memory_after_puts}
 use Rattle.ads_machine.specs.Acts.{Act, Refusal, Allowed, memory_after, memory_after_acts}
 use Rattle.ads_machine.specs.Client.{Kept}
 use Rattle.ads_machine.specs.Writes.{symbol_named}
-use Rattle.ads_machine.specs.Reloads.{is_kept_symbol, is_kept_part, is_kept, block_after_reload, memory_after_reload}
-use Rattle.ads_laws.specs.Soundness.{Each, IsSoundSymbol, IsSoundPort, IsSoundPlant}
-use Rattle.ads_laws.proofs.Footprints.{each_both}
+use Rattle.ads_machine.specs.Reloads.{is_kept_symbol, is_kept_part, is_kept, memory_after_reload}
+use Rattle.ads_laws.specs.Soundness.{IsSoundPlant}
 use Rattle.ads_laws.proofs.Memory.{is_block-true}
 use Rattle.ads_laws.proofs.FirstMemory.{first-symbol, first-states, port_sound, symbol_sound}
 

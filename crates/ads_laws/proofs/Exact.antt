@@ -1,5 +1,5 @@
 -- Which bytes a move may change.
-use Rattle.std.proofs.Common.{◌≡◌, ℕ, List, [], ◌∷◌, Bool, true, false, cond, length, refl, sym, ap, inl, inr}
+use Rattle.std.proofs.Common.{◌≡◌, ℕ, List, [], ◌∷◌, false, length, refl, sym, ap, inl, inr}
 use Rattle.std.specs.Prelude.{Option, Some, None, Result, Ok, Err}
 use Rattle.std.proofs.lemmas.Bool.{cases_Bool, false≢true}
 use Rattle.ads_plant.specs.Description.{Description}
@@ -7,7 +7,7 @@ use Rattle.ads_plant.specs.World.{ByteName, Block, byte_at}
 use Rattle.ads_outside.specs.declared.event.Event.TheVariants as event
 use Rattle.ads_outside.specs.declared.moves.Move.TheVariants as move
 use Rattle.ads_machine.specs.Connection.{Connection, connection_of}
-use Rattle.ads_machine.specs.MachineState.{MachineState, Exchange, exchange_of, after_exchange}
+use Rattle.ads_machine.specs.MachineState.{MachineState, exchange_of, after_exchange}
 use Rattle.ads_machine.specs.Piece.{after_piece}
 use Rattle.ads_machine.specs.Moves.{after_reload, with_gone, with_took, state_after_event, state_after_move}
 use Rattle.ads_machine.specs.World.{World}

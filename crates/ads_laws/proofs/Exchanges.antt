@@ -1,5 +1,5 @@
 -- What the packets of a connection do in two worlds that agree on what is read; and what those of another leave.
-use Rattle.std.proofs.Common.{◌≡◌, ℕ, List, [], ◌∷◌, ◌++◌, map, Bool, true, false, cond, refl, sym, ◌∙◌, ap, subst, inl, inr}
+use Rattle.std.proofs.Common.{◌≡◌, ℕ, List, [], ◌∷◌, map, Bool, true, false, cond, refl, sym, ◌∙◌, ap, subst, inl, inr}
 use Rattle.std.specs.Prelude.{filter, not, ◌==◌, Option, Some, None}
 use Rattle.std.proofs.lemmas.Bool.{cases_Bool}
 use Rattle.std.proofs.lemmas.List.Concat.{flat_map-append}
@@ -8,7 +8,7 @@ use Rattle.ads_frames.specs.Division.{front_of, rest_of, is_broken}
 use Rattle.ads_plant.specs.World.{ByteName, Block}
 use Rattle.ads_formats.specs.Codes.{no_error}
 use Rattle.ads_formats.specs.Header.{AmsHeader, header_of}
-use Rattle.ads_machine.specs.Device.{Device, Answer, Answered, Silent, Closing, Produced, Reply, FrameOutcome}
+use Rattle.ads_machine.specs.Device.{Device, Answer, Answered, Silent, Closing, Produced, Reply}
 use Rattle.ads_machine.specs.Connection.{Connection, is_deaf, fits, with_closing, with_frame, produce, produce_all}
 use Rattle.ads_machine.specs.MachineState.{Exchange}
 use Rattle.ads_machine.specs.Piece.{with_received, packets_left, with_one_taken, with_client, after_answer, after_outcome, after_packet, after_packets, after_rest, with_piece, end_of_piece, after_piece}
@@ -16,7 +16,7 @@ use Rattle.ads_machine.specs.World.{World, setup_of}
 use Rattle.ads_machine.specs.Access.{Addressed, addressed_name}
 use Rattle.ads_machine.specs.Watches.{Watch}
 use Rattle.ads_machine.specs.Client.{Client, Effect, NoEffect, Grants, Releases, Adds, Deletes, client_after}
-use Rattle.ads_machine.specs.Acts.{Act, Refusal, Allowed, effect_of, added_reads, reads_of_act, writes_of_act, reads_of_acts, writes_of_acts, outcomes_of, memory_after_acts, client_after_acts}
+use Rattle.ads_machine.specs.Acts.{Act, Refusal, Allowed, effect_of, added_reads, reads_of_act, writes_of_act, reads_of_acts, writes_of_acts, memory_after_acts, client_after_acts}
 use Rattle.ads_machine.specs.Answers.{AnswerTable}
 use Rattle.ads_machine.specs.Packets.{Decision, NoAnswer, EndConnection, AmsError, Perform, decide, acts_in}
 use Rattle.ads_machine.specs.Replies.{reply_payload, outcome_in_all, response_packet, answer_to, answer_of, performed}

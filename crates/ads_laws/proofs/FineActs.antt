@@ -1,36 +1,35 @@
 -- What a request grants lies within a symbol, and what it watches are names of the plant. Here, and only here, all
 -- requests are walked through.
-use Rattle.std.proofs.Common.{◌≡◌, ℕ, zero, suc, ◌+◌, ◌-◌, ◌<◌, ◌≤◌, List, [], ◌∷◌, ◌++◌, map, length, Bool, true, false, cond, refl, sym, ◌∙◌, ap, subst, arith, inl, inr}
-use Rattle.std.specs.Prelude.{Option, Some, None, Result, Ok, Err, nat_lt, nat_le, ◌==◌, ◌/◌, ◌%◌, ◌||◌, ◌&&◌, not, find, option_map, option_and_then}
+use Rattle.std.proofs.Common.{◌≡◌, ℕ, zero, suc, ◌+◌, ◌-◌, ◌<◌, ◌≤◌, List, [], ◌∷◌, map, length, Bool, true, false, cond, refl, subst, arith, inl, inr}
+use Rattle.std.specs.Prelude.{Option, Some, None, Result, Ok, Err, nat_lt, nat_le, ◌==◌, ◌/◌, ◌||◌, find, option_map, option_and_then}
 use Rattle.std.proofs.lemmas.Bool.{cases_Bool, ltb-false, leb-false, eqb-true}
 use Rattle.name_paths.specs.Path.{Step, steps_of}
 use Rattle.ads_plant.specs.Description.{Area, size_in}
 use Rattle.ads_plant.specs.Parts.{TypePart, part_behind}
-use Rattle.ads_plant.specs.Sizes.{type_size}
 use Rattle.ads_plant.specs.World.{Plant, PlantPort, PlantSymbol, lower_name, symbol_size, ByteName}
 use Rattle.ads_plant.specs.Finding.{Found, whole_of, is_named_by, steps_behind_name, found_in_symbol, found_of_steps, without_nul, found_of}
 use Rattle.ads_plant.proofs.PartLemmas.{part_behind-end}
 use Rattle.ads_formats.specs.Codes.{invalid_size, invalid_group, symbol_not_found}
 use Rattle.ads_formats.specs.Groups.{Group, AreaBytes, AreaBit, AreaSize, HandleByName, ValueByName, ValueByHandle, ReleaseHandle, InfoByName, SymbolVersion, ExtendedInfoByName, SymbolUpload, UploadInfo, TypeUpload, UploadInfoWithTypes}
-use Rattle.ads_formats.specs.Ranges.{Range, Bytes, Bit, Size, greatest_len, byte_range, bit_range, range_in}
+use Rattle.ads_formats.specs.Ranges.{greatest_len, byte_range, bit_range, range_in}
 use Rattle.ads_formats.specs.Request.{Request, ReadDeviceInfo, Read, Write, ReadState, WriteControl, AddDeviceNotification, DeleteDeviceNotification, DeviceNotification, ReadWrite}
 use Rattle.ads_machine.specs.World.{Setup, port_numbered, numbers_from, name_at, names_at}
-use Rattle.ads_machine.specs.Access.{Addressed, WholeByte, OneBit, addressed_name, Put}
-use Rattle.ads_machine.specs.Handles.{HandleStatus, Never, Released, Outdated, Live, Handle, handle_in, status_of_handle, kept_status}
+use Rattle.ads_machine.specs.Access.{Addressed, WholeByte, addressed_name, Put}
+use Rattle.ads_machine.specs.Handles.{HandleStatus, Never, Released, Outdated, Live, Handle, handle_in, kept_status}
 use Rattle.ads_machine.specs.Watches.{Watch, Mode}
-use Rattle.ads_machine.specs.Client.{Place, names_of_place, Client, Effect, NoEffect, Grants, Releases, Adds, Deletes}
+use Rattle.ads_machine.specs.Client.{Place, Client, Effect, NoEffect, Grants, Releases, Adds, Deletes}
 use Rattle.ads_machine.specs.Acts.{Act, Refusal, Allowed, fixed_data, reading, writing, changing}
 use Rattle.ads_machine.specs.Answers.{AnswerTable, answered_group}
 use Rattle.ads_machine.specs.Reach.{addressed_by_range, addressed_in_place, addressed_by_status, reach_of}
 use Rattle.ads_machine.specs.Reads.{fixed_reply, type_upload_reply, read_act, read_group}
-use Rattle.ads_machine.specs.Writes.{Asker, symbol_named, write_act, release_act, write_group, control_act}
+use Rattle.ads_machine.specs.Writes.{Asker, write_act, release_act, write_group, control_act}
 use Rattle.ads_machine.specs.ByName.{place_of, grant_act, value_act, info_of, if_found, read_write_group}
 use Rattle.std.specs.Int.{w32, to_le_bytes}
 use Rattle.ads_formats.specs.Codes.{no_more_notifications}
 use Rattle.ads_formats.specs.SymbolEntry.{entry_bytes}
 use Rattle.ads_machine.specs.Entries.{entry_of_part}
 use Rattle.ads_machine.specs.ByName.{MAX_NUMBER}
-use Rattle.ads_machine.specs.Requests.{MAX_WATCHES, next_watch, add_watch, add_reached, add_act, delete_act, act_of}
+use Rattle.ads_machine.specs.Requests.{MAX_WATCHES, next_watch, add_watch, add_reached, add_act, act_of}
 use Rattle.ads_laws.specs.Soundness.{Each, IsSoundSymbol, IsSoundPlant}
 use Rattle.ads_laws.specs.Reachable.{IsPlaced, IsPlacedStatus, IsPlacedHandle}
 use Rattle.ads_laws.proofs.FirstMemory.{IsNamed, port_sound, symbol-named, area-named}
@@ -58,6 +57,7 @@ fine_err plant code = record { named = λ places e. absurd (wrong places e) }
   where
     err : Result (List Addressed) ℕ
     err = Err code
+
     wrong : (places : List Addressed) → err ≡ Ok places → ⊥
     wrong places e = cc
 
@@ -66,6 +66,7 @@ fine_ok plant places h = record { named = λ other e. subst (AreNamed plant) (sa
   where
     ok : List Addressed → Result (List Addressed) ℕ
     ok places = Ok places
+
     same : (other : List Addressed) → ok places ≡ ok other → places ≡ other
     same other e = cc
 
@@ -83,11 +84,11 @@ bytes-fine plant p k a offset len =
     elim (cases_Bool (nat_lt (size_in p.sizes a) offset)) [
       | inl t ↦ rw t (fine_err plant _)
       | inr t ↦ rw t (elim (cases_Bool (nat_lt (size_in p.sizes a) (offset + len) || nat_lt greatest_len len)) [
-          | inl u ↦ rw u (fine_err plant _)
-          | inr u ↦
-              let l = ltb-false (size_in p.sizes a) (offset + len) (or_false (nat_lt (size_in p.sizes a) (offset + len)) (nat_lt greatest_len len) u) in
-              rw u (fine_ok plant _ (names-fine (IsNamed plant) (name_at p a) len offset (λ i low high. area-named plant k.sound p k.found a i (omega (arith, l, high)))))
-        ])
+        | inl u ↦ rw u (fine_err plant _)
+        | inr u ↦
+            let l = ltb-false (size_in p.sizes a) (offset + len) (or_false (nat_lt (size_in p.sizes a) (offset + len)) (nat_lt greatest_len len) u) in
+            rw u (fine_ok plant _ (names-fine (IsNamed plant) (name_at p a) len offset (λ i low high. area-named plant k.sound p k.found a i (omega (arith, l, high)))))
+      ])
     ]
 
 bit-fine : (plant : Plant) (p : PlantPort) → IsAsked plant p → (a : Area) (offset len : ℕ) → FineReach plant (addressed_by_range p (bit_range a (size_in p.sizes a) offset len))
@@ -96,9 +97,9 @@ bit-fine plant p k a offset len =
     elim (cases_Bool (nat_le (size_in p.sizes a) (offset / 8))) [
       | inl t ↦ rw t (fine_err plant _)
       | inr t ↦ rw t (elim (cases_Bool (len == 1)) [
-          | inl u ↦ rw u (fine_ok plant _ (area-named plant k.sound p k.found a (offset / 8) (leb-false (size_in p.sizes a) (offset / 8) t), tt))
-          | inr u ↦ rw u (fine_err plant _)
-        ])
+        | inl u ↦ rw u (fine_ok plant _ (area-named plant k.sound p k.found a (offset / 8) (leb-false (size_in p.sizes a) (offset / 8) t), tt))
+        | inr u ↦ rw u (fine_err plant _)
+      ])
     ]
 
 place-fine : (plant : Plant) (port : ℕ) (place : Place) → IsSoundPlant plant → IsPlaced plant port place → (len : ℕ) → FineReach plant (addressed_in_place port place len)
@@ -125,9 +126,9 @@ kept-placed plant [] n port e = tt
 kept-placed plant (h ∷ hs) n port e =
     elim (cases_Bool (n == 1)) [
       | inl t ↦ rw t (elim (cases_Bool (h.port == port)) [
-          | inl u ↦ rw u (subst (λ m. IsPlacedStatus plant m h.status) (eqb-true h.port port u) (e.0))
-          | inr u ↦ rw u tt
-        ])
+        | inl u ↦ rw u (subst (λ m. IsPlacedStatus plant m h.status) (eqb-true h.port port u) (e.0))
+        | inr u ↦ rw u tt
+      ])
       | inr t ↦ rw t (kept-placed plant hs (n - 1) port (e.1))
     ]
 

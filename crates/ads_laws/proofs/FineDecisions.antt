@@ -1,6 +1,6 @@
 -- What a packet leaves of a client fits the plant, if the client fitted it before.
-use Rattle.std.proofs.Common.{◌≡◌, ℕ, ◌-◌, List, [], ◌∷◌, ◌++◌, map, Bool, true, false, cond, refl, sym, ◌∙◌, ap, subst, inl, inr}
-use Rattle.std.specs.Prelude.{Option, Some, None, ◌==◌, not, filter}
+use Rattle.std.proofs.Common.{◌≡◌, ℕ, ◌-◌, List, [], ◌∷◌, Bool, true, false, cond, refl, sym, subst, inl, inr}
+use Rattle.std.specs.Prelude.{Option, Some, None, ◌==◌, not}
 use Rattle.std.proofs.lemmas.Bool.{cases_Bool}
 use Rattle.ads_plant.specs.Description.{Rights}
 use Rattle.ads_plant.specs.World.{Plant, PlantPort}
@@ -10,15 +10,15 @@ use Rattle.ads_formats.specs.Header.{AmsHeader, header_of, payload_of}
 use Rattle.ads_formats.specs.Request.{Request, ReadDeviceInfo, Read, Write, ReadState, WriteControl, AddDeviceNotification, DeleteDeviceNotification, DeviceNotification, ReadWrite, request_of}
 use Rattle.ads_machine.specs.World.{Setup, port_numbered}
 use Rattle.ads_machine.specs.Access.{Addressed}
-use Rattle.ads_machine.specs.Handles.{Handle, Grant, Release, Released, Live, with_released, handles_after}
+use Rattle.ads_machine.specs.Handles.{Handle, Live, with_released, handles_after}
 use Rattle.ads_machine.specs.Watches.{Watch}
 use Rattle.ads_machine.specs.Client.{Place, Client, Effect, NoEffect, Grants, Releases, Adds, Deletes, client_after}
 use Rattle.ads_machine.specs.Acts.{Act, Refusal, Allowed, effect_of, client_after_acts}
 use Rattle.ads_machine.specs.Answers.{AnswerTable, answered_group}
 use Rattle.ads_machine.specs.Writes.{Asker}
 use Rattle.ads_machine.specs.Requests.{act_of}
-use Rattle.ads_machine.specs.Sums.{SumRequest, SumForm, sum_of_reads, sum_of_writes, sum_of_read_writes, sum_refusal, given_in_turn}
-use Rattle.ads_machine.specs.Packets.{ReplyForm, Decision, NoAnswer, EndConnection, AmsError, Perform, refuse, client_after_request, acts_of, decide_parts, decide_sum, decide_single, decide_read_write, decide_request, decide_command, decide_port, rights_of, decide_target, decide_header, decide, acts_in}
+use Rattle.ads_machine.specs.Sums.{SumRequest, sum_of_reads, sum_of_writes, sum_of_read_writes, given_in_turn}
+use Rattle.ads_machine.specs.Packets.{Decision, NoAnswer, EndConnection, AmsError, refuse, client_after_request, acts_of, decide_parts, decide_single, decide_read_write, decide_request, decide_port, rights_of, decide_target, decide_header, decide, acts_in}
 use Rattle.ads_laws.specs.Soundness.{Each, IsSoundPlant}
 use Rattle.ads_laws.specs.Reachable.{IsPlacedHandle}
 use Rattle.ads_laws.proofs.Footprints.{each_both}

@@ -1,11 +1,11 @@
 -- The bytes that a description begins with: how many stand in each part of a port.
-use Rattle.std.proofs.Common.{◌≡◌, ◌≢◌, ℕ, zero, suc, ◌+◌, ◌-◌, ◌<◌, ◌≤◌, List, [], ◌∷◌, ◌++◌, map, length, replicate, Bool, true, false, cond, refl, sym, ◌∙◌, ap, subst, inl, inr, arith, append_assoc}
-use Rattle.std.specs.Prelude.{Option, Some, None, ◌==◌, ◌&&◌, flat_map, bytes_eq, nat_le, nat_lt, find}
+use Rattle.std.proofs.Common.{◌≡◌, ◌≢◌, ℕ, zero, suc, ◌+◌, ◌-◌, ◌<◌, List, [], ◌∷◌, ◌++◌, map, length, refl, sym, ◌∙◌, ap, subst, inl, inr, arith, append_assoc}
+use Rattle.std.specs.Prelude.{Some, None, ◌==◌, ◌&&◌, flat_map, bytes_eq, nat_le, nat_lt}
 use Rattle.std.proofs.lemmas.Bool.{cases_Bool, and_parts, eqb-true, eq-eqb, ne_eqb, false≢true, leb-true, ltb-true}
 use Rattle.std.proofs.lemmas.List.{length-replicate}
 use Rattle.ads_plant.specs.Description.{Area, Inputs, Outputs, Memory, Process, size_in}
-use Rattle.ads_plant.specs.World.{Block, Part, SymbolPart, AreaPart, StatePart, ByteName, PlantSymbol, PlantPort, Plant, lower_name, symbol_size, is_same_area, is_block_of, block_of, nth_byte, byte_at}
-use Rattle.ads_machine.specs.World.{port_numbered, covers, name_among, name_at, first_area_block, first_symbol_block, first_state_block, first_blocks, first_memory}
+use Rattle.ads_plant.specs.World.{Block, Part, SymbolPart, AreaPart, StatePart, ByteName, PlantSymbol, PlantPort, Plant, lower_name, symbol_size, is_same_area, block_of, nth_byte, byte_at}
+use Rattle.ads_machine.specs.World.{port_numbered, covers, name_among, name_at, first_area_block, first_symbol_block, first_blocks, first_memory}
 use Rattle.ads_machine.specs.Writes.{symbol_named}
 use Rattle.ads_laws.specs.Soundness.{Each, IsSoundSymbol, IsSoundPort, IsSoundPlant}
 

@@ -1,10 +1,10 @@
 -- What acts do to two memories that agree on what the acts read, and to one outside of what they write.
-use Rattle.std.proofs.Common.{◌≡◌, ℕ, List, [], ◌∷◌, ◌++◌, map, refl, ap, subst, sym}
+use Rattle.std.proofs.Common.{◌≡◌, ℕ, List, [], ◌∷◌, ◌++◌, map, refl, ap}
 use Rattle.std.specs.Prelude.{unwrap_or, ◌^◌, ◌/◌, ◌%◌}
 use Rattle.ads_plant.specs.World.{ByteName, Block}
 use Rattle.ads_formats.specs.Codes.{no_error}
 use Rattle.ads_machine.specs.Access.{Addressed, WholeByte, OneBit, addressed_name, value_at, values_at, Put, byte_after, memory_after_put, memory_after_puts}
-use Rattle.ads_machine.specs.Acts.{Act, Refusal, Allowed, Outcome, outcome_of, outcomes_of, memory_after, memory_after_acts, effect_of, added_reads, reads_of_act, writes_of_act, reads_of_acts, writes_of_acts}
+use Rattle.ads_machine.specs.Acts.{Act, Refusal, Allowed, Outcome, outcome_of, outcomes_of, memory_after, memory_after_acts, added_reads, reads_of_act, writes_of_act, reads_of_acts, writes_of_acts}
 pub use Rattle.ads_laws.specs.Soundness.{Each}
 use Rattle.ads_laws.proofs.Memory.{Agree, with_byte-agree, with_byte-outside}
 

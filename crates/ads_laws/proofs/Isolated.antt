@@ -1,10 +1,9 @@
 -- A client none of whose read bytes another writes is given what it would be given alone: the steps of the two runs, one
 -- clause for each kind of move, and the induction over the log.
-use Rattle.std.proofs.Common.{◌≡◌, ◌≢◌, ℕ, List, [], ◌∷◌, ◌++◌, map, length, max, Bool, true, false, cond, refl, sym, ◌∙◌, ap, subst, inl, inr}
-use Rattle.std.specs.Prelude.{Option, Some, None, ◌==◌, Result, Ok, Err}
+use Rattle.std.proofs.Common.{◌≡◌, ℕ, List, [], ◌∷◌, length, Bool, true, false, refl, sym, ◌∙◌, ap, subst, inl, inr}
+use Rattle.std.specs.Prelude.{Result, Ok, Err}
 use Rattle.std.proofs.lemmas.Bool.{eqb-true, eqb-false}
 use Rattle.std.proofs.lemmas.List.Concat.{flat_map-append}
-use Rattle.signals.specs.Wave.{Wave}
 use Rattle.ads_plant.specs.Description.{Description}
 use Rattle.ads_plant.specs.World.{ByteName, Block, plant_of}
 use Rattle.ads_outside.specs.declared.event.Event.{Event}
@@ -22,16 +21,16 @@ use Rattle.ads_machine.specs.Answers.{AnswerTable}
 use Rattle.ads_machine.specs.Ticks.{signal_puts, world_after_tick}
 use Rattle.ads_machine.specs.Reloads.{is_kept, world_after_reload}
 use Rattle.ads_machine.specs.AdsDevice.{DescriptionReading, reloading, ads_device}
-use Rattle.ads_machine.specs.Projection.{is_event_of, is_move_of, projection_of, acts_at, acts_of_move, acts_of_log, acts_by_others, reads_of, writes_by_others}
+use Rattle.ads_machine.specs.Projection.{is_event_of, is_move_of, projection_of, acts_of_move, acts_of_log, acts_by_others, reads_of, writes_by_others}
 use Rattle.ads_machine.proofs.Growth.{connection_after_tick-grows, connection_after_reload-grows}
 use Rattle.ads_machine.proofs.Changes.{with_gone-number, with_took-number}
 use Rattle.ads_machine.specs.Offers.{taken_of}
 use Rattle.ads_machine.specs.Delivery.{IsPrefix}
 use Rattle.ads_machine.proofs.TurnsKept.{takes_output}
-use Rattle.ads_laws.specs.Isolation.{IsAmong, AreApart, start, IsIsolated, SeesOnlyItself, TakesAsAlone}
-use Rattle.ads_laws.proofs.Memory.{Agree, agree-back}
+use Rattle.ads_laws.specs.Isolation.{IsAmong, start, IsIsolated, SeesOnlyItself, TakesAsAlone}
+use Rattle.ads_laws.proofs.Memory.{agree-back}
 use Rattle.ads_laws.proofs.Footprints.{Each, each_left, each_right, Not, puts-agree}
-use Rattle.ads_laws.proofs.Exchanges.{WatchesIn, with_memory}
+use Rattle.ads_laws.proofs.Exchanges.{with_memory}
 use Rattle.ads_laws.proofs.TicksAndReloads.{tick-agree, tick-watches, reload-agree, reload-watches, reload_memory-agree}
 use Rattle.ads_laws.proofs.Worlds.{SameForClient, at-own, at-other, gone-same, took-same, took-passes, piece-own, piece-other, opened-own, opened-other, mapped, mapped-in}
 

@@ -13,3 +13,4 @@ pub mod FirstMemory
 pub mod FineActs
 pub mod FineDecisions
 pub mod Alike
+pub mod EveryState

@@ -1,27 +1,24 @@
 -- What a connection was granted and added only grows.
-use Rattle.std.proofs.Common.{◌≡◌, ℕ, ◌+◌, ◌≤◌, List, [], ◌∷◌, ◌++◌, map, length, Bool, true, false, cond, refl, sym, ◌∙◌, ap, subst, inl, inr, arith, length-append}
-use Rattle.std.specs.Prelude.{Option, Some, None, ◌==◌, not, filter}
-use Rattle.std.proofs.lemmas.Bool.{cases_Bool}
-use Rattle.std.proofs.lemmas.List.{length-map}
-use Rattle.ads_frames.specs.Division.{front_of, rest_of, is_broken}
-use Rattle.ads_machine.specs.Device.{Device, Answer, FrameOutcome, ClientOutcome}
-use Rattle.ads_machine.specs.Connection.{Connection, is_deaf, connection_of}
-use Rattle.ads_machine.specs.MachineState.{MachineState, Exchange}
-use Rattle.ads_machine.specs.Piece.{with_received, packets_left, with_one_taken, with_client, after_answer, after_outcome, after_packet, after_packets, after_rest, with_piece, end_of_piece, after_piece}
-use Rattle.ads_machine.specs.Moves.{after_client_outcome, connection_after_tick, connection_after_reload, with_took}
+use Rattle.std.proofs.Common.{◌≡◌, ℕ, ◌≤◌, List, [], ◌∷◌, length, Bool, true, false, cond, refl, sym, subst, arith}
+use Rattle.std.specs.Prelude.{Option, Some, None}
+use Rattle.ads_machine.specs.Device.{FrameOutcome, ClientOutcome}
+use Rattle.ads_machine.specs.Connection.{Connection, is_deaf}
+use Rattle.ads_machine.specs.MachineState.{Exchange}
+use Rattle.ads_machine.specs.Piece.{with_received, packets_left, with_one_taken, with_client, after_outcome, after_packet, after_packets, with_piece, end_of_piece, after_piece}
+use Rattle.ads_machine.specs.Moves.{after_client_outcome, connection_after_tick, connection_after_reload}
 use Rattle.ads_machine.specs.World.{World, setup_of}
-use Rattle.ads_machine.specs.Handles.{Handle, Released, Live, Grant, Release, Reload, handle_after_reload, with_released, handles_after}
-use Rattle.ads_machine.specs.Client.{Place, Client, Effect, NoEffect, Grants, Releases, Adds, Deletes, client_after, kept_place, client_after_reload}
+use Rattle.ads_machine.specs.Handles.{Live, handle_after_reload, handles_after}
+use Rattle.ads_machine.specs.Client.{Client, Effect, NoEffect, Grants, Releases, Adds, Deletes, client_after, kept_place, client_after_reload}
 use Rattle.ads_machine.specs.Acts.{Act, effect_of, client_after_acts}
 use Rattle.ads_machine.specs.Answers.{AnswerTable}
 use Rattle.ads_machine.specs.Packets.{Decision, decide, acts_in}
-use Rattle.ads_machine.specs.Replies.{performed, answer_of}
+use Rattle.ads_machine.specs.Replies.{performed}
 use Rattle.ads_machine.specs.Ticks.{client_after_tick}
 use Rattle.ads_machine.specs.Reloads.{is_kept, client_reloaded}
 use Rattle.ads_machine.specs.AdsDevice.{DescriptionReading, ads_device}
 use Rattle.ads_machine.proofs.Carried.{Carries, log-carried, took-cases}
 use Rattle.ads_machine.proofs.HandleStatuses.{length_granted, length_mapped, length_released}
-use Rattle.ads_laws.specs.Refusals.{NumbersGrow, NumbersNeverFall}
+use Rattle.ads_laws.specs.Refusals.{NumbersNeverFall}
 use Rattle.ads_laws.proofs.Exchanges.{produce_all-client, answer-client, rest-client}
 
 -- the numbers of a client rise

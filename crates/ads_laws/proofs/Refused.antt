@@ -1,24 +1,18 @@
 -- A refusal changes nothing, a dead handle touches nothing, and no number is given twice.
-use Rattle.std.proofs.Common.{◌≡◌, ◌≢◌, ℕ, ◌+◌, ◌≤◌, List, [], ◌∷◌, ◌++◌, map, length, Bool, true, false, cond, refl, sym, ◌∙◌, ap, subst, inl, inr, arith, length-append}
-use Rattle.std.specs.Prelude.{Option, Some, None, ◌⊎◌, ◌==◌, not, filter, nat_lt}
-use Rattle.std.proofs.lemmas.Bool.{cases_Bool, le-ltb}
-use Rattle.ads_plant.specs.World.{Block}
-use Rattle.ads_formats.specs.Codes.{no_error}
-use Rattle.ads_formats.specs.Groups.{ValueByHandle}
-use Rattle.ads_machine.specs.Device.{Device}
-use Rattle.ads_machine.specs.Access.{Addressed}
+use Rattle.std.proofs.Common.{◌≡◌, ℕ, [], length, refl, ap, inl, inr}
+use Rattle.std.specs.Prelude.{Some}
+use Rattle.std.proofs.lemmas.Bool.{le-ltb}
 use Rattle.ads_machine.specs.Handles.{HandleStatus, Never, Released, Outdated, Live, kept_status}
-use Rattle.ads_machine.specs.Client.{Place, Client, Effect, NoEffect, client_after}
-use Rattle.ads_machine.specs.Acts.{Act, Refusal, Allowed, memory_after_acts, client_after_acts}
-use Rattle.ads_machine.specs.Answers.{answered_group}
+use Rattle.ads_machine.specs.Client.{Place, client_after}
+use Rattle.ads_machine.specs.Acts.{Refusal, Allowed, memory_after_acts, client_after_acts}
 use Rattle.ads_machine.specs.Reach.{addressed_by_status, reach_of}
 use Rattle.ads_machine.specs.Reads.{read_group}
 use Rattle.ads_machine.specs.Writes.{write_group}
 use Rattle.ads_machine.specs.Requests.{MAX_WATCHED, act_of}
-use Rattle.ads_machine.specs.Packets.{Decision, NoAnswer, EndConnection, AmsError, Perform, decide, acts_in}
+use Rattle.ads_machine.specs.Packets.{Decision, decide, acts_in}
 use Rattle.ads_machine.specs.Replies.{performed}
 use Rattle.std.specs.Prelude.{Err}
-use Rattle.ads_laws.specs.Refusals.{ChangesNothing, RefusalChangesNothing, IsTurnedAway, LeavesAll, TurnedAwayChangesNothing, RefusedReloadCounts, dead_code, RefusesHandle, DeadHandleTouchesNothing}
+use Rattle.ads_laws.specs.Refusals.{RefusalChangesNothing, IsTurnedAway, TurnedAwayChangesNothing, RefusedReloadCounts, dead_code, DeadHandleTouchesNothing}
 
 pub refusal_changes_nothing : RefusalChangesNothing
 unfolding client_after

@@ -1,16 +1,16 @@
 -- What ticks and reloads do to a connection in two worlds that agree on what it reads.
-use Rattle.std.proofs.Common.{◌≡◌, ℕ, List, [], ◌∷◌, ◌++◌, map, Bool, true, false, cond, refl, sym, ◌∙◌, ap, subst, inl, inr}
-use Rattle.std.specs.Prelude.{Option, Some, None, option_map, filter_map, if◌then◌else◌}
+use Rattle.std.proofs.Common.{◌≡◌, ℕ, List, [], ◌∷◌, ◌++◌, Bool, true, false, cond, refl, sym, ◌∙◌, ap, subst, inl, inr}
+use Rattle.std.specs.Prelude.{Some, None, option_map, filter_map, if◌then◌else◌}
 use Rattle.std.specs.List.{cons_option}
 use Rattle.std.proofs.lemmas.Bool.{cases_Bool}
-use Rattle.ads_plant.specs.World.{ByteName, Block, Plant, is_block_of, block_of, nth_byte, byte_at}
-use Rattle.ads_machine.specs.Device.{Device, Produced, ClientOutcome}
-use Rattle.ads_machine.specs.Connection.{Connection, is_deaf, produce_all}
+use Rattle.ads_plant.specs.World.{ByteName, Block, is_block_of, block_of, nth_byte, byte_at}
+use Rattle.ads_machine.specs.Device.{Produced, ClientOutcome}
+use Rattle.ads_machine.specs.Connection.{Connection, is_deaf}
 use Rattle.ads_machine.specs.Piece.{with_client}
 use Rattle.ads_machine.specs.Moves.{after_client_outcome, connection_after_tick, connection_after_reload}
 use Rattle.ads_machine.specs.World.{World}
-use Rattle.ads_machine.specs.Access.{Addressed, addressed_name, values_at}
-use Rattle.ads_machine.specs.Watches.{Watch, is_due, is_sent, after_check, checked_watch, samples_of, AddressedSample, watch_after_reload, watches_after_reload}
+use Rattle.ads_machine.specs.Access.{Addressed, values_at}
+use Rattle.ads_machine.specs.Watches.{Watch, is_due, is_sent, after_check, checked_watch, samples_of, watch_after_reload, watches_after_reload}
 use Rattle.ads_machine.specs.Client.{Client, Kept, are_kept, kept_bytes, client_after_reload}
 use Rattle.ads_machine.specs.Answers.{AnswerTable}
 use Rattle.ads_machine.specs.Stamps.{frames_of_samples, samples_at, watches_after_tick}

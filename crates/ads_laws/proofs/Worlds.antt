@@ -1,36 +1,25 @@
 -- Two runs that a connection sees alike: its own alone, and that with all others. Each kind of move of the connection is
 -- made in both (`own`), a move of another in the second alone (`other`); `runs` is the induction over the log.
-use Rattle.std.proofs.Common.{◌≡◌, ◌≢◌, ℕ, List, [], ◌∷◌, ◌++◌, map, length, max, Bool, true, false, cond, refl, sym, ◌∙◌, ap, subst, inl, inr}
-use Rattle.std.specs.Prelude.{Option, Some, None, ◌==◌, option_map, Result, Ok, Err}
-use Rattle.std.proofs.lemmas.Bool.{cases_Bool, eqb-true, eqb-false}
-use Rattle.std.proofs.lemmas.List.Concat.{flat_map-append}
-use Rattle.signals.specs.Wave.{Wave}
-use Rattle.ads_plant.specs.Description.{Description}
-use Rattle.ads_plant.specs.World.{ByteName, Block, plant_of}
-use Rattle.ads_outside.specs.declared.event.Event.{Event}
-use Rattle.ads_outside.specs.declared.event.Event.TheVariants as event
-use Rattle.ads_outside.specs.declared.moves.Move.{Move}
-use Rattle.ads_outside.specs.declared.moves.Move.TheVariants as move
-use Rattle.ads_machine.specs.Device.{Device, Reloading, Accepted, Refused}
+use Rattle.std.proofs.Common.{◌≡◌, ◌≢◌, ℕ, List, [], ◌∷◌, ◌++◌, map, refl, sym, ◌∙◌, ap, subst, inl, inr}
+use Rattle.std.specs.Prelude.{Option, Some, None, ◌==◌, option_map}
+use Rattle.std.proofs.lemmas.Bool.{cases_Bool}
+use Rattle.ads_plant.specs.World.{ByteName}
 use Rattle.ads_machine.specs.Connection.{Connection, fresh_connection, connection_of}
-use Rattle.ads_machine.specs.MachineState.{MachineState, Exchange, exchange_of, after_exchange, output_of_connection}
+use Rattle.ads_machine.specs.MachineState.{MachineState, Exchange, exchange_of, after_exchange}
 use Rattle.ads_machine.specs.Piece.{after_piece}
-use Rattle.ads_machine.specs.Moves.{moment_of_tick, connection_after_tick, connection_after_reload, after_tick, after_reload, with_gone, with_took, state_after_event, state_after_move, state_after}
-use Rattle.ads_machine.specs.World.{World, first_memory}
+use Rattle.ads_machine.specs.Moves.{with_gone, with_took}
+use Rattle.ads_machine.specs.World.{World}
 use Rattle.ads_machine.specs.Client.{Client, new_client}
-use Rattle.ads_machine.specs.Acts.{reads_of_act, writes_of_act, reads_of_acts, writes_of_acts}
+use Rattle.ads_machine.specs.Acts.{reads_of_acts, writes_of_acts}
 use Rattle.ads_machine.specs.Answers.{AnswerTable}
-use Rattle.ads_machine.specs.Ticks.{signal_puts, world_after_tick}
-use Rattle.ads_machine.specs.Reloads.{is_kept, world_after_reload}
-use Rattle.ads_machine.specs.AdsDevice.{DescriptionReading, reloading, ads_device}
-use Rattle.ads_machine.specs.Projection.{is_event_of, is_move_of, projection_of, acts_of_piece, acts_at, acts_of_move, acts_of_log, acts_by_others, reads_of, writes_by_others}
+use Rattle.ads_machine.specs.AdsDevice.{DescriptionReading, ads_device}
+use Rattle.ads_machine.specs.Projection.{acts_at}
 use Rattle.ads_machine.proofs.Find.{or_else, test_other, connection_of-append, connection_of-map}
-use Rattle.ads_machine.proofs.Growth.{after_piece-grows, connection_after_tick-grows, connection_after_reload-grows}
-use Rattle.ads_machine.proofs.Changes.{KeepsNumber, exchange_own, exchange_other, exchange_none, with_gone-number, with_took-number}
+use Rattle.ads_machine.proofs.Growth.{after_piece-grows}
+use Rattle.ads_machine.proofs.Changes.{KeepsNumber, exchange_own, exchange_other, exchange_none}
 use Rattle.ads_laws.proofs.Memory.{Agree, agree-back}
-use Rattle.ads_laws.proofs.Footprints.{Each, each_left, each_right, Not, puts-agree}
+use Rattle.ads_laws.proofs.Footprints.{Each, Not}
 use Rattle.ads_laws.proofs.Exchanges.{WatchesIn, with_memory, Same, over, piece-same, Passes, piece-outside}
-use Rattle.ads_laws.proofs.TicksAndReloads.{tick-agree, tick-watches, reload-agree, reload-watches, reload_memory-agree}
 
 -- the connection watches names of R alone
 abbrev MaybeIn : (ByteName → Type 0) → Option (Connection Client) → Type 0

@@ -1,7 +1,7 @@
 -- Which bytes a move may change, and to what.
 use Rattle.std.specs.Prelude.{◌≡◌, ◌≢◌, ℕ, ◌+◌, ◌<◌, ◌≤◌, List, [], ◌∷◌, ◌++◌, map, length, take}
 use Rattle.std.specs.Prelude.{drop}
-use Rattle.std.specs.Prelude.{Bool, true, false, Option, None, option_map, Result, Ok, Err}
+use Rattle.std.specs.Prelude.{Bool, true, false, None, option_map, Result, Ok, Err}
 use Rattle.ads_outside.specs.declared.event.Event.{Event}
 use Rattle.ads_outside.specs.declared.event.Event.TheVariants as event
 use Rattle.ads_outside.specs.declared.moves.Move.{Move}

@@ -1,6 +1,6 @@
 -- What every state that a log leads to keeps: all bytes are there, live handles lie within their
 -- symbols, and each byte of a notification is there.
-use Rattle.std.specs.Prelude.{◌≡◌, ◌≢◌, ℕ, ◌+◌, ◌<◌, ◌≤◌, List, length, false, Option, Some, None}
+use Rattle.std.specs.Prelude.{◌≡◌, ◌≢◌, ℕ, ◌+◌, ◌<◌, ◌≤◌, List, length, false, Some, None}
 use Rattle.signals.specs.Wave.{Wave}
 use Rattle.ads_plant.specs.Description.{Area, size_in, Description}
 use Rattle.ads_plant.specs.Accepted.{IsAccepted}

@@ -7,7 +7,7 @@ use Rattle.ads_formats.specs.Codes.{symbol_version_invalid}
 use Rattle.ads_formats.specs.Groups.{ValueByHandle, value_by_handle}
 use Rattle.ads_formats.specs.Request.{Read, Write, AddDeviceNotification}
 use Rattle.ads_outside.specs.declared.moves.Move.{Move}
-use Rattle.ads_machine.specs.Device.{Device, Refused}
+use Rattle.ads_machine.specs.Device.{Refused}
 use Rattle.ads_machine.specs.Connection.{Connection, connection_of}
 use Rattle.ads_machine.specs.MachineState.{MachineState}
 use Rattle.ads_machine.specs.Moves.{after_reload, state_after}

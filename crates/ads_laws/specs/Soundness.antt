@@ -1,6 +1,6 @@
 -- What an accepted description gives: ports and symbols are found by their numbers and names, and each
 -- symbol begins with as many bytes as it has.
-use Rattle.std.specs.Prelude.{◌≡◌, ℕ, List, [], ◌∷◌, length, Option, Some, Result, Ok}
+use Rattle.std.specs.Prelude.{◌≡◌, ℕ, List, [], ◌∷◌, length, Some, Ok}
 use Rattle.ads_plant.specs.Description.{Description}
 use Rattle.ads_plant.specs.World.{Plant, PlantPort, PlantSymbol, plant_of, symbol_size, lower_name}
 use Rattle.ads_plant.specs.Accepted.{IsAccepted}

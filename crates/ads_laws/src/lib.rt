@@ -7,6 +7,8 @@ ghost use Rattle.ads_laws.specs.ExactWrites.{WritesContent, NamesAreInjective};
 ghost use Rattle.ads_laws.specs.Refusals.{RefusalChangesNothing, TurnedAwayChangesNothing};
 ghost use Rattle.ads_laws.specs.Refusals.{RefusedReloadCounts, DeadHandleTouchesNothing};
 ghost use Rattle.ads_laws.specs.Refusals.{NumbersNeverFall};
+ghost use Rattle.ads_laws.specs.Soundness.{AcceptedAreSound};
+ghost use Rattle.ads_laws.specs.Reachable.{EveryStateFits};
 
 /// A client none of whose read or notified bytes another client writes is given, byte for byte, what it
 /// would be given if it were alone: for every table of what is answered, every description, every reading
@@ -45,4 +47,13 @@ pub fn dead_handles_touch_nothing()
 /// What a connection was granted and added only grows, so no number is given twice.
 pub fn numbers_never_fall()
     ensures { NumbersNeverFall }
+{}
+
+/// In every state that a log leads to each byte of each area is there, each live handle lies within its
+/// symbol, and each byte that a notification watches is there; where the first description is accepted
+/// and the reading of descriptions gives accepted ones alone. A connection that is closing or gone is
+/// not spoken of: no reload moves it any more.
+pub fn every_state_fits()
+    ensures descriptions { AcceptedAreSound }
+    ensures states { EveryStateFits }
 {}

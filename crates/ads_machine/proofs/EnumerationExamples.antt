@@ -1,5 +1,5 @@
 -- Enumerations, writers, and two client addresses, by computation.
-use Rattle.std.specs.Prelude.{◌≡◌, refl, ℕ, List, [], ◌∷◌, ◌++◌, codes, replicate, true, false, Some, None, pos, length}
+use Rattle.std.specs.Prelude.{◌≡◌, refl, ℕ, List, [], ◌∷◌, ◌++◌, codes, replicate, true, false, pos, length}
 use Rattle.std.specs.Int.{w16, w32, to_le_bytes}
 use Rattle.ads_formats.specs.Groups.{group_in, group_of}
 use Rattle.ads_formats.specs.Header.{header_of}
@@ -40,15 +40,15 @@ use Rattle.ads_plant.specs.Spelling.{type_text}
 use Rattle.ads_plant.specs.Trees.{trees_behind, trees_of}
 use Rattle.ads_plant.specs.World.{byte_at, with_byte}
 use Rattle.std.specs.Fmt.{digits}
-use Rattle.ads_plant.specs.Plain.{INT, UINT, BYTE, DINT}
-use Rattle.ads_plant.specs.Listed.{Bound, Plain, Enum, One, Array, NamedType, Enumeration}
-use Rattle.ads_plant.specs.Description.{Write, Control, Process, Route, Symbol, Description}
+use Rattle.ads_plant.specs.Plain.{INT, UINT, BYTE}
+use Rattle.ads_plant.specs.Listed.{Enum, One, NamedType, Enumeration}
+use Rattle.ads_plant.specs.Description.{Write, Control, Process, Description}
 use Rattle.ads_plant.specs.Trees.{EnumTree, PlainTree, ArrayTree}
 use Rattle.ads_plant.specs.SameTypes.{is_same_type}
 use Rattle.ads_frames.specs.Frame.{frame_bytes}
 use Rattle.ads_machine.specs.MachineState.{start_of, output_of}
 use Rattle.ads_machine.specs.World.{world_of}
-use Rattle.ads_machine.proofs.Plant.{NET, ENGINEER, VIEWER, plain_symbol, count_symbol, description_with, packet_from, q, a, q_viewer, a_viewer, named, added, stamp, stamp_to, piece, opened, tick, given, device}
+use Rattle.ads_machine.proofs.Plant.{NET, ENGINEER, VIEWER, plain_symbol, count_symbol, description_with, q, a, q_viewer, a_viewer, named, stamp_to, piece, opened, tick, given, device}
 use Rattle.ads_outside.specs.declared.moves.Move.{Move}
 
 -- an enumeration over INT whose first value is 2, and Main.count that one machine may write

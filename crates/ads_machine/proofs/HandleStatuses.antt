@@ -1,10 +1,10 @@
 -- The status that is kept along is what the history says.
-use Rattle.std.proofs.Common.{◌≡◌, ℕ, ◌+◌, ◌-◌, ◌≤◌, ◌<◌, List, [], ◌∷◌, ◌++◌, map, length, Bool, true, false, cond, refl, sym, ◌∙◌, ap, subst, inl, inr, arith, length-append}
-use Rattle.std.specs.Prelude.{Option, Some, None, ◌==◌, ◌||◌, not, option_map, option_and_then}
+use Rattle.std.proofs.Common.{◌≡◌, ℕ, ◌+◌, ◌-◌, List, [], ◌∷◌, ◌++◌, map, length, Bool, true, false, cond, refl, ◌∙◌, ap, inl, inr, arith, length-append}
+use Rattle.std.specs.Prelude.{Option, Some, None, ◌==◌, option_map, option_and_then}
 use Rattle.std.proofs.lemmas.Bool.{cases_Bool, eqb-true, eqb-false}
 use Rattle.std.proofs.lemmas.Bool.Decides.{nat_tests}
-use Rattle.ads_machine.specs.Handles.{HandleStatus, Never, Released, Outdated, Live, HandleEvent, Grant, Release, Reload, GrantInHistory, grant_in, is_released_in, place_after, live_or_outdated, status_of_grant, status_of, Handle, handle_in, status_of_handle, kept_status, with_released, status_after_reload, handle_after_reload, handles_after}
-use Rattle.ads_machine.specs.HandleLaws.{handles_after_all, handles_of, StatusIsHistory}
+use Rattle.ads_machine.specs.Handles.{HandleStatus, Released, Outdated, Live, HandleEvent, Grant, Release, Reload, GrantInHistory, grant_in, is_released_in, place_after, live_or_outdated, status_of_grant, Handle, handle_in, status_of_handle, with_released, status_after_reload, handle_after_reload, handles_after}
+use Rattle.ads_machine.specs.HandleLaws.{handles_after_all, StatusIsHistory}
 
 -- what becomes of one handle's status by further events
 abbrev status_through : {P : Type 0} → List (HandleEvent P) → ℕ → ℕ → HandleStatus P → HandleStatus P

@@ -1,5 +1,5 @@
 -- Notifications over ticks and reloads, and signals, by computation.
-use Rattle.std.specs.Prelude.{◌≡◌, refl, ℕ, List, [], ◌∷◌, ◌++◌, codes}
+use Rattle.std.specs.Prelude.{◌≡◌, refl, [], ◌∷◌, ◌++◌, codes}
 use Rattle.ads_formats.specs.Groups.{group_in, group_of}
 use Rattle.ads_formats.specs.Header.{header_of}
 use Rattle.ads_formats.specs.Ranges.{bit_range, byte_range, range_in, size_range}
@@ -39,7 +39,7 @@ use Rattle.ads_plant.specs.Spelling.{type_text}
 use Rattle.ads_plant.specs.Trees.{trees_behind, trees_of}
 use Rattle.ads_plant.specs.World.{byte_at, with_byte}
 use Rattle.std.specs.Fmt.{digits}
-use Rattle.ads_machine.proofs.Plant.{q, a, added, stamp, stamp_to, piece, tick, reload, given, plant, plant2}
+use Rattle.ads_machine.proofs.Plant.{q, a, added, stamp, piece, tick, reload, given, plant, plant2}
 use Rattle.ads_machine.specs.World.{world_of}
 use Rattle.ads_machine.proofs.Hex.{hex}
 

@@ -1,5 +1,5 @@
 -- The checks of a frame, in their order, by computation.
-use Rattle.std.specs.Prelude.{◌≡◌, refl, ℕ, List, [], ◌∷◌, ◌++◌, codes, Bool, true, false}
+use Rattle.std.specs.Prelude.{◌≡◌, refl, ℕ, List, [], ◌∷◌, ◌++◌, codes, Bool, true}
 use Rattle.ads_formats.specs.Groups.{group_in, group_of}
 use Rattle.ads_formats.specs.Header.{header_of}
 use Rattle.ads_formats.specs.Ranges.{bit_range, byte_range, range_in, size_range}
@@ -39,10 +39,7 @@ use Rattle.ads_plant.specs.Spelling.{type_text}
 use Rattle.ads_plant.specs.Trees.{trees_behind, trees_of}
 use Rattle.ads_plant.specs.World.{byte_at, with_byte}
 use Rattle.std.specs.Fmt.{digits}
-use Rattle.ads_machine.specs.MachineState.{MachineState}
 use Rattle.ads_machine.specs.Offers.{is_closing_at}
-use Rattle.ads_machine.specs.World.{World}
-use Rattle.ads_machine.specs.Client.{Client}
 use Rattle.ads_machine.proofs.Plant.{q, a, piece, opened, given, device, start}
 use Rattle.ads_machine.proofs.Hex.{hex}
 

@@ -1,13 +1,12 @@
 -- The plant of the worked examples, and how they are written.
-use Rattle.std.specs.Prelude.{ℕ, ◌+◌, List, [], ◌∷◌, ◌++◌, length, codes, replicate, Bool, true, false, bytes_eq, if◌then◌else◌}
-use Rattle.std.specs.Prelude.{Option, Some, None, Result, Ok, Err, ℤ, pos}
+use Rattle.std.specs.Prelude.{ℕ, ◌+◌, List, [], ◌∷◌, ◌++◌, length, codes, replicate, true, false, bytes_eq, if◌then◌else◌}
+use Rattle.std.specs.Prelude.{Some, None, Ok, Err, pos}
 use Rattle.std.specs.Int.{w16, w32, w64, to_le_bytes}
 use Rattle.signals.specs.Wave.{Wave}
 use Rattle.ads_plant.specs.Plain.{BOOL, DINT, INT, UINT, BYTE}
-use Rattle.ads_plant.specs.Listed.{Bound, Elem, Plain, Text, Struct, Shape, One, Array, Member, NamedType, Structure}
-use Rattle.ads_plant.specs.Description.{Rights, Read, Write, Control, Route, Area, Inputs, Outputs, Memory, Process, Sizes, Facts, Symbol, Port, Description}
+use Rattle.ads_plant.specs.Listed.{Plain, Text, Struct, Shape, One, Array, NamedType, Structure}
+use Rattle.ads_plant.specs.Description.{Read, Control, Area, Memory, Process, Symbol, Description}
 use Rattle.ads_frames.specs.Frame.{frame_bytes}
-use Rattle.ads_outside.specs.declared.event.Event.{Event}
 use Rattle.ads_outside.specs.declared.event.Event.TheVariants as event
 use Rattle.ads_outside.specs.declared.moves.Move.{Move}
 use Rattle.ads_outside.specs.declared.moves.Move.TheVariants as move

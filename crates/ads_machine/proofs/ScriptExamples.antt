@@ -1,5 +1,5 @@
 -- Worked scripts, lines and texts.
-use Rattle.std.proofs.Common.{◌≡◌, ℕ, ◌++◌, List, [], ◌∷◌, Some, None, Ok, Err, codes, true, refl}
+use Rattle.std.proofs.Common.{◌≡◌, ℕ, ◌++◌, List, [], ◌∷◌, Ok, Err, codes, true, refl}
 use Rattle.std.specs.Prelude.{Result}
 use Rattle.hex.proofs.OnLiterals.{hex_on_literals}
 use Rattle.ads_outside.specs.declared.event.Event.TheVariants as event

@@ -1,5 +1,5 @@
 -- Sum commands, by computation.
-use Rattle.std.specs.Prelude.{◌≡◌, refl, ℕ, List, [], ◌∷◌, ◌++◌, codes}
+use Rattle.std.specs.Prelude.{◌≡◌, refl, [], ◌∷◌, ◌++◌, codes}
 use Rattle.ads_formats.specs.Groups.{group_in, group_of}
 use Rattle.ads_formats.specs.Header.{header_of}
 use Rattle.ads_formats.specs.Ranges.{bit_range, byte_range, range_in, size_range}

@@ -1,14 +1,9 @@
 -- To decide all parts of a sum first and to run them then is to run them one after another.
-use Rattle.std.proofs.Common.{◌≡◌, List, [], ◌∷◌, refl, ap}
-use Rattle.ads_formats.specs.Request.{Request}
-use Rattle.ads_machine.specs.World.{World}
-use Rattle.ads_machine.specs.Acts.{Act, outcome_of, outcomes_of, memory_after_acts, client_after_acts}
-use Rattle.ads_machine.specs.Answers.{AnswerTable}
-use Rattle.ads_machine.specs.Writes.{Asker}
-use Rattle.ads_machine.specs.Requests.{act_of}
+use Rattle.std.proofs.Common.{[], ◌∷◌, refl, ap}
+use Rattle.ads_machine.specs.Acts.{outcomes_of, memory_after_acts, client_after_acts}
 use Rattle.ads_machine.specs.Sums.{given_in_turn, left_in_turn}
 use Rattle.ads_machine.specs.Packets.{acts_of}
-use Rattle.ads_machine.specs.SumLaws.{Party, single_outcome, party_after, InTurn, RunsInTurn}
+use Rattle.ads_machine.specs.SumLaws.{single_outcome, party_after, RunsInTurn}
 
 pub runs_in_turn : RunsInTurn
 unfolding acts_of given_in_turn left_in_turn outcomes_of memory_after_acts client_after_acts

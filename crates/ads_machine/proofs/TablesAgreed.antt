@@ -1,15 +1,14 @@
 -- Handles and notifications over two kinds of place agree on after a reload whose moves agree.
-use Rattle.std.proofs.Common.{◌≡◌, ℕ, ◌≤◌, ◌<◌, List, [], ◌∷◌, map, length, Bool, true, false, cond, refl, sym, ◌∙◌, ap, subst, inl, inr, arith}
+use Rattle.std.proofs.Common.{◌≡◌, ℕ, ◌≤◌, List, [], ◌∷◌, map, length, Bool, true, false, cond, refl, sym, subst, inl, inr}
 use Rattle.std.specs.List.{cons_option}
 use Rattle.std.specs.Prelude.{Option, Some, None, ◌⊎◌, ◌||◌, not, filter, filter_map, is_some, option_map, nat_le}
-use Rattle.std.proofs.lemmas.Bool.{cases_Bool, le-leb, lt-leb}
-use Rattle.ads_machine.specs.Handles.{HandleStatus, Never, Released, Outdated, Live, Reload, live_or_outdated, Handle, live_count, status_after_reload, handle_after_reload, handles_after}
+use Rattle.std.proofs.lemmas.Bool.{le-leb, lt-leb}
+use Rattle.ads_machine.specs.Handles.{HandleStatus, Never, Released, Outdated, Live, live_or_outdated, Handle, live_count, status_after_reload, handle_after_reload, handles_after}
 use Rattle.ads_machine.specs.Watches.{Watch, watch_after_reload, watches_after_reload, ended_watches}
-use Rattle.ads_machine.specs.Client.{Client}
 use Rattle.ads_formats.specs.Codes.{general_device_error}
 use Rattle.ads_machine.specs.Acts.{Refusal}
 use Rattle.ads_machine.specs.ByName.{MAX_LIVE, MAX_NUMBER, grant_act}
-use Rattle.ads_machine.specs.HandleLaws.{Test, AgreeingPlaces, AgreeingMoves, AgreeingStatus, AgreeingHandles, AgreeingWatch, AgreeingWatches, AgreeAfterReload, TablesAgree, LimitsGrants}
+use Rattle.ads_machine.specs.HandleLaws.{Test, AgreeingPlaces, AgreeingMoves, AgreeingStatus, AgreeingHandles, AgreeingWatch, AgreeingWatches, TablesAgree, LimitsGrants}
 
 places-status : {P Q : Type 0} (test : Test P Q) (port : ℕ) (o : Option P) (u : Option Q) → AgreeingPlaces test port o u → AgreeingStatus test port (live_or_outdated o) (live_or_outdated u)
 places-status test port None None h = tt

@@ -1,5 +1,5 @@
 -- What an access addresses: bytes, or one bit of a byte; what is read there, and what is put there.
-use Rattle.std.specs.Prelude.{ℕ, ◌+◌, ◌-◌, ◌*◌, ◌^◌, ◌/◌, ◌%◌, min, List, [], ◌∷◌, ◌++◌, map}
+use Rattle.std.specs.Prelude.{ℕ, ◌+◌, ◌-◌, ◌*◌, ◌^◌, ◌/◌, ◌%◌, min, List, [], ◌∷◌, map}
 use Rattle.ads_plant.specs.World.{ByteName, Block, byte_or_zero, with_byte}
 
 -- a byte, or one bit of a byte

@@ -4,7 +4,6 @@ use Rattle.std.specs.Prelude.{ℕ, List, [], ◌∷◌, ◌++◌, map, flat_map}
 use Rattle.ads_plant.specs.World.{ByteName, Block}
 use Rattle.ads_formats.specs.Codes.{no_error}
 use Rattle.ads_machine.specs.Access.{Addressed, addressed_name, values_at, Put, memory_after_puts}
-use Rattle.ads_machine.specs.Watches.{Watch}
 use Rattle.ads_machine.specs.Client.{Client, Effect, NoEffect, Grants, Releases, Adds, Deletes, client_after}
 
 -- an accepted request: data that no byte decides, and behind it the bytes that are read; what is

@@ -1,6 +1,6 @@
 -- What the server answers: its commands, and the index groups of each command. The machine takes this
 -- as an argument; everything else stands whole whatever it holds.
-use Rattle.std.specs.Prelude.{ℕ, List, [], ◌∷◌, Bool, true, false, ◌&&◌, ◌==◌, nat_le, if◌then◌else◌}
+use Rattle.std.specs.Prelude.{ℕ, Bool, true, false, ◌&&◌, ◌==◌, nat_le, if◌then◌else◌}
 use Rattle.std.specs.Prelude.{Option, Some, None, option_and_then}
 use Rattle.ads_formats.specs.Groups.{Group, AreaBytes, AreaBit, ValueByHandle, group_of}
 use Rattle.ads_formats.specs.Groups.{is_read, is_written, is_read_written}

@@ -1,6 +1,6 @@
 -- ReadWrite of the groups that take a name: a handle, a value, infos.
 -- Beckhoff Information System, "ADS Read Write".
-use Rattle.std.specs.Prelude.{ℕ, ◌+◌, List, [], ◌∷◌, ◌++◌, length, map, Bool, ◌||◌, nat_lt, nat_le}
+use Rattle.std.specs.Prelude.{ℕ, ◌+◌, List, ◌++◌, length, map, ◌||◌, nat_lt, nat_le}
 use Rattle.std.specs.Prelude.{if◌then◌else◌, Option, Some, None}
 use Rattle.std.specs.Int.{w32, to_le_bytes}
 use Rattle.ads_plant.specs.Sizes.{type_size}

@@ -1,12 +1,12 @@
 -- What the device keeps for one client: its handles and its notifications. Handles stand for parts of
 -- symbols, notifications watch bytes by their names; both go on while a reload keeps the symbol.
-use Rattle.std.specs.Prelude.{ℕ, ◌+◌, List, [], ◌∷◌, ◌++◌, map, Bool, true, false, ◌&&◌, not, ◌==◌}
+use Rattle.std.specs.Prelude.{ℕ, ◌+◌, List, [], ◌∷◌, ◌++◌, Bool, false, ◌&&◌, not, ◌==◌}
 use Rattle.std.specs.Prelude.{filter, if◌then◌else◌, Option, Some, None}
 use Rattle.std.specs.List.{list_all}
 use Rattle.ads_plant.specs.World.{Part, SymbolPart, ByteName, is_same_part}
 use Rattle.ads_machine.specs.World.{symbol_names}
 use Rattle.ads_machine.specs.Access.{Addressed, addressed_name}
-use Rattle.ads_machine.specs.Handles.{Handle, HandleEvent, Grant, Release, Reload, handles_after}
+use Rattle.ads_machine.specs.Handles.{Handle, Grant, Release, Reload, handles_after}
 use Rattle.ads_machine.specs.Watches.{Watch, watches_after_reload, ended_watches}
 
 -- a part of a symbol: the symbol by its name in lower case, the first byte, and how many

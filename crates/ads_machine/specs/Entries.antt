@@ -1,7 +1,7 @@
 -- The entries that uploads and the extended info by name give. Beckhoff Information System,
 -- "AdsSymbolEntry", "AdsDatatypeEntry". Which fields a part has is this project's own choice.
-use Rattle.std.specs.Prelude.{ℕ, ◌+◌, ◌-◌, ◌^◌, List, [], ◌∷◌, ◌++◌, length, map, if◌then◌else◌}
-use Rattle.std.specs.Prelude.{Option, Some, None, ℤ, pos, negsuc}
+use Rattle.std.specs.Prelude.{ℕ, ◌+◌, List, [], ◌∷◌, ◌++◌, length, map, if◌then◌else◌}
+use Rattle.std.specs.Prelude.{Option, Some, None, ℤ}
 use Rattle.std.specs.Int.{w32, to_le_bytes}
 use Rattle.name_paths.specs.Path.{Step, name_step, index_step}
 use Rattle.ads_plant.specs.Description.{Area, Inputs, Outputs, Memory, Process}
@@ -13,7 +13,7 @@ use Rattle.ads_plant.specs.Entries.{type_id}
 use Rattle.ads_plant.specs.World.{PlantSymbol, PlantPort}
 use Rattle.ads_plant.specs.Finding.{Found}
 use Rattle.ads_formats.specs.Groups.{memory_bytes, process_bytes, input_bytes, output_bytes}
-use Rattle.ads_formats.specs.SymbolEntry.{SymbolEntry, entry_bytes, upload_bytes}
+use Rattle.ads_formats.specs.SymbolEntry.{SymbolEntry, upload_bytes}
 
 -- the byte group of an area
 abbrev pub group_of_area : Area → ℕ

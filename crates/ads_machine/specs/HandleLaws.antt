@@ -1,16 +1,15 @@
 -- Laws of handles and notifications over any kind of place.
-use Rattle.std.specs.Prelude.{◌≡◌, ℕ, ◌+◌, ◌≤◌, ◌<◌, ◌⊎◌, List, [], ◌∷◌, ◌++◌, length, true, Bool}
+use Rattle.std.specs.Prelude.{◌≡◌, ℕ, ◌+◌, ◌≤◌, ◌<◌, ◌⊎◌, List, [], ◌∷◌, length, true, Bool}
 use Rattle.std.specs.Prelude.{Option, Some, None}
 use Rattle.std.specs.Int.{w32, to_le_bytes}
 use Rattle.ads_plant.specs.World.{PlantPort}
 use Rattle.ads_formats.specs.Codes.{general_device_error}
-use Rattle.ads_formats.specs.Header.{AmsAddress}
 use Rattle.ads_machine.specs.Handles.{HandleStatus, Never, Released, Outdated, Live, HandleEvent}
 use Rattle.ads_machine.specs.Handles.{Reload}
 use Rattle.ads_machine.specs.Handles.{status_of, Handle, kept_status, live_count, handles_after}
 use Rattle.ads_machine.specs.Watches.{Watch, watches_after_reload, ended_watches}
 use Rattle.ads_machine.specs.Client.{Place, Client, Grants}
-use Rattle.ads_machine.specs.Acts.{Act, Refusal, changing}
+use Rattle.ads_machine.specs.Acts.{Refusal, changing}
 use Rattle.ads_machine.specs.ByName.{MAX_LIVE, MAX_NUMBER, grant_act}
 
 -- the handles of a history, kept along

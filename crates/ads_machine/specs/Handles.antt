@@ -1,6 +1,6 @@
 -- Symbol handles of one client, over any kind of place. What a handle is good for follows from the
 -- client's history: its grants, its releases, and the reloads. Topic: ADSIGRP_SYM_HNDBYNAME.
-use Rattle.std.specs.Prelude.{ℕ, ◌+◌, ◌-◌, List, [], ◌∷◌, ◌++◌, length, map, filter, Bool, true, false}
+use Rattle.std.specs.Prelude.{ℕ, ◌-◌, List, [], ◌∷◌, ◌++◌, length, map, filter, Bool, true, false}
 use Rattle.std.specs.Prelude.{◌||◌, not, ◌==◌, if◌then◌else◌, Option, Some, None, option_and_then}
 
 pub data HandleStatus (P : Type 0) : Type 0 where

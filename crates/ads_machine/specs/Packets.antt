@@ -1,7 +1,7 @@
 -- What one AMS packet leads to: the nine checks of a frame, then its request; and the reply.
 -- Beckhoff Information System, "AMS Header", "ADS Commands". That an unknown route closes is this
 -- project's own choice.
-use Rattle.std.specs.Prelude.{ℕ, ◌-◌, ◌%◌, List, [], ◌∷◌, ◌++◌, length, Bool, not, ◌==◌}
+use Rattle.std.specs.Prelude.{ℕ, ◌%◌, List, [], ◌∷◌, length, not, ◌==◌}
 use Rattle.std.specs.Prelude.{if◌then◌else◌}
 use Rattle.std.specs.Prelude.{Option, Some, None, find, option_map, bytes_eq}
 use Rattle.ads_plant.specs.Description.{Rights, Route}

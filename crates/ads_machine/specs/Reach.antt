@@ -1,6 +1,6 @@
 -- The bytes that an access addresses, or the code that refuses it: by byte group, bit group or handle.
 -- It follows from the description, the client and the request alone.
-use Rattle.std.specs.Prelude.{ℕ, List, [], ◌∷◌, map, Bool, nat_lt, if◌then◌else◌, Option, Some, None}
+use Rattle.std.specs.Prelude.{ℕ, List, [], ◌∷◌, map, nat_lt, if◌then◌else◌, Option, Some}
 use Rattle.std.specs.Prelude.{Result, Ok, Err}
 use Rattle.ads_plant.specs.World.{PlantPort}
 use Rattle.ads_formats.specs.Codes.{invalid_group, invalid_size, symbol_not_found, symbol_version_invalid}

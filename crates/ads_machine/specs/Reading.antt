@@ -2,7 +2,7 @@
 use Rattle.std.specs.Prelude.{ℕ, ◌+◌, ◌++◌, ◌&&◌, Bool, not, List, [], ◌∷◌, Option, Some, None, ◌==◌}
 use Rattle.std.specs.List.{list_any}
 use Rattle.ads_outside.specs.declared.event.Event.TheVariants as event
-use Rattle.ads_machine.specs.ScriptLine.{ScriptLine, Happens, TakesAtMost, FailsNext}
+use Rattle.ads_machine.specs.ScriptLine.{ScriptLine, Happens}
 
 -- the text of a reload: the number of the line `reload`, and the bytes below it so far
 pub record Block : Type 0 where

@@ -1,11 +1,11 @@
 -- An accepted reload: a symbol of the same port, name and type keeps its bytes, as do the state words
 -- of a port that was there; all else is as the new description begins with it.
 use Rattle.std.specs.Prelude.{ℕ, ◌+◌, ◌%◌, List, map, Bool, true, false, if◌then◌else◌}
-use Rattle.std.specs.Prelude.{Option, Some, None}
+use Rattle.std.specs.Prelude.{Option, Some}
 use Rattle.ads_plant.specs.Description.{Description}
 use Rattle.ads_plant.specs.SameTypes.{is_same_type}
 use Rattle.ads_plant.specs.World.{Plant, PlantPort, PlantSymbol, plant_of}
-use Rattle.ads_plant.specs.World.{Part, SymbolPart, AreaPart, StatePart, Block, block_of}
+use Rattle.ads_plant.specs.World.{Part, SymbolPart, StatePart, Block, block_of}
 use Rattle.ads_machine.specs.Device.{ClientOutcome}
 use Rattle.ads_machine.specs.World.{World, port_numbered, first_memory}
 use Rattle.ads_machine.specs.Client.{Client, Kept, client_after_reload, ended_of}

@@ -1,8 +1,7 @@
 -- The reply to an AMS packet. Beckhoff Information System, "AMS Header", "ADS Commands".
 use Rattle.std.specs.Prelude.{ℕ, List, [], ◌∷◌, ◌++◌, length, ◌==◌, if◌then◌else◌, Option, Some, None}
-use Rattle.ads_plant.specs.Description.{Facts}
-use Rattle.ads_plant.specs.World.{PlantPort, Block}
-use Rattle.ads_formats.specs.Codes.{no_error, invalid_size}
+use Rattle.ads_plant.specs.World.{Block}
+use Rattle.ads_formats.specs.Codes.{no_error}
 use Rattle.ads_formats.specs.Header.{AmsHeader, header_of, header_bytes, response_header}
 use Rattle.ads_formats.specs.Numbers.{number16, number32}
 use Rattle.ads_formats.specs.Reply.{Reply, ReadDeviceInfo, Read, Write, ReadState, WriteControl}
@@ -14,7 +13,7 @@ use Rattle.ads_machine.specs.Client.{Client}
 use Rattle.ads_machine.specs.Acts.{Outcome, outcomes_of, memory_after_acts, client_after_acts}
 use Rattle.ads_machine.specs.Sums.{packed}
 use Rattle.ads_machine.specs.Packets.{ReplyForm, Single, Sum, Decision, NoAnswer, EndConnection}
-use Rattle.ads_machine.specs.Packets.{AmsError, Perform, decide, acts_in}
+use Rattle.ads_machine.specs.Packets.{AmsError, Perform, acts_in}
 
 -- a command, and the reply that it makes of how its request ended
 pub record OutcomeForm : Type 0 where

@@ -1,13 +1,12 @@
 -- One request, or one part of a sum: a code in the order of the checks, or what it reads, writes and
 -- changes of its client. The bytes of the device have no part in it.
 -- Beckhoff Information System, "ADS Commands".
-use Rattle.std.specs.Prelude.{ℕ, ◌+◌, List, [], ◌∷◌, length, map, Bool, ◌||◌, ◌&&◌, not, nat_lt}
+use Rattle.std.specs.Prelude.{ℕ, ◌+◌, List, [], length, map, Bool, ◌||◌, ◌&&◌, nat_lt}
 use Rattle.std.specs.Prelude.{nat_le}
 use Rattle.std.specs.Prelude.{◌==◌, if◌then◌else◌, Option, Some, None, Result, Ok, Err}
 use Rattle.std.specs.List.{list_any}
 use Rattle.std.specs.Int.{w32, to_le_bytes}
-use Rattle.ads_plant.specs.World.{PlantPort}
-use Rattle.ads_formats.specs.Codes.{invalid_group, invalid_size, mode_not_supported}
+use Rattle.ads_formats.specs.Codes.{invalid_size, mode_not_supported}
 use Rattle.ads_formats.specs.Codes.{notification_handle_invalid, no_more_notifications}
 use Rattle.ads_formats.specs.Codes.{watch_too_big}
 use Rattle.ads_formats.specs.Request.{Request, ReadDeviceInfo, Read, Write, ReadState, WriteControl}
@@ -24,7 +23,7 @@ use Rattle.ads_machine.specs.Answers.{AnswerTable, answered_group, READ, WRITE, 
 use Rattle.ads_machine.specs.Answers.{ADD_DEVICE_NOTIFICATION}
 use Rattle.ads_machine.specs.Reach.{reach_of}
 use Rattle.ads_machine.specs.Reads.{read_group}
-use Rattle.ads_machine.specs.Writes.{Asker, write_group, control_act, is_value_group}
+use Rattle.ads_machine.specs.Writes.{Asker, write_group, control_act}
 use Rattle.ads_machine.specs.ByName.{MAX_NUMBER, read_write_group}
 
 -- ADSTRANS_SERVERCYCLE and ADSTRANS_SERVERONCHA

@@ -1,13 +1,13 @@
 -- The frames of notifications: at a tick, and of those that a reload ends. One frame for each port and
 -- client address, in the order of the least handle in it.
 -- Beckhoff Information System, "ADS Device Notification".
-use Rattle.std.specs.Prelude.{ℕ, List, [], ◌∷◌, ◌++◌, length, map, flat_map, Bool, true, false}
+use Rattle.std.specs.Prelude.{ℕ, List, [], ◌∷◌, ◌++◌, length, map, flat_map, Bool}
 use Rattle.std.specs.Prelude.{◌&&◌}
 use Rattle.std.specs.Prelude.{◌==◌, bytes_eq, if◌then◌else◌}
 use Rattle.ads_plant.specs.World.{Block}
 use Rattle.ads_formats.specs.Codes.{no_error}
 use Rattle.ads_formats.specs.Header.{AmsAddress, header_bytes, request_flags}
-use Rattle.ads_formats.specs.Notification.{Sample, Stamp, notification_bytes}
+use Rattle.ads_formats.specs.Notification.{Sample, notification_bytes}
 use Rattle.ads_frames.specs.Frame.{frame_bytes}
 use Rattle.ads_machine.specs.Device.{Produced, Notification}
 use Rattle.ads_machine.specs.Access.{Addressed, values_at}

@@ -1,10 +1,10 @@
 -- Sum commands: their parts, one after another, and the packing of what the parts gave.
 -- Beckhoff Information System, "ADS Sum Command".
 use Rattle.std.specs.Prelude.{ℕ, zero, suc, ◌+◌, ◌-◌, ◌*◌, List, [], ◌∷◌, ◌++◌, length, take, drop}
-use Rattle.std.specs.Prelude.{map, flat_map, sum, replicate, nat_lt, not, ◌||◌, ◌==◌, if◌then◌else◌}
+use Rattle.std.specs.Prelude.{flat_map, sum, replicate, nat_lt, not, ◌||◌, ◌==◌, if◌then◌else◌}
 use Rattle.std.specs.Prelude.{Option, Some, None}
 use Rattle.std.specs.Int.{w32, to_le_bytes}
-use Rattle.ads_formats.specs.Codes.{no_error, invalid_size, invalid_value}
+use Rattle.ads_formats.specs.Codes.{invalid_size, invalid_value}
 use Rattle.ads_formats.specs.Numbers.{number32}
 use Rattle.ads_formats.specs.Ranges.{greatest_len}
 use Rattle.ads_formats.specs.Request.{Request, Read, Write, ReadWrite}

@@ -2,7 +2,7 @@
 -- System, "AdsDatatypeEntry"; which fields are set is this project's own profile.
 use Rattle.std.specs.Prelude.{ℕ, ◌+◌, ◌-◌, ◌^◌, List, [], ◌∷◌, ◌++◌, length, map, ℤ, pos, negsuc}
 use Rattle.std.specs.Int.{w32, to_le_bytes}
-use Rattle.ads_plant.specs.Plain.{Kind, kind_name, kind_size, kind_id}
+use Rattle.ads_plant.specs.Plain.{kind_name}
 use Rattle.ads_plant.specs.Listed.{Bound}
 use Rattle.ads_plant.specs.Trees.{TypeTree, PlainTree, TextTree, EnumTree, ArrayTree, StructTree}
 use Rattle.ads_plant.specs.Trees.{MemberTrees, NoMember, MemberTree, trees_of}

@@ -1,6 +1,6 @@
 -- Notifications of one client, over any kind of bytes that they watch.
 -- Beckhoff Information System, "ADS Add Device Notification", "ADS Device Notification".
-use Rattle.std.specs.Prelude.{ℕ, ◌-◌, max, List, [], ◌∷◌, map, Bool, true, false, ◌||◌, ◌&&◌, not}
+use Rattle.std.specs.Prelude.{ℕ, ◌-◌, max, List, [], ◌∷◌, Bool, true, ◌||◌, ◌&&◌, not}
 use Rattle.std.specs.Prelude.{nat_le, bytes_eq, if◌then◌else◌, Option, Some, None, option_map}
 use Rattle.std.specs.Prelude.{filter_map, filter, is_some}
 use Rattle.ads_formats.specs.Header.{AmsAddress}

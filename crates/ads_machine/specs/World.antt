@@ -4,10 +4,10 @@ use Rattle.std.specs.Prelude.{ℕ, zero, suc, ◌+◌, ◌-◌, List, [], ◌∷
 use Rattle.std.specs.Prelude.{Bool, ◌&&◌, ◌==◌, nat_le, nat_lt, if◌then◌else◌, Option, replicate}
 use Rattle.std.specs.Int.{w16, to_le_bytes}
 use Rattle.signals.specs.Wave.{Wave}
-use Rattle.ads_plant.specs.Description.{Area, Inputs, Outputs, Memory, Process, Sizes, size_in}
+use Rattle.ads_plant.specs.Description.{Area, Inputs, Outputs, Memory, Process, size_in}
 use Rattle.ads_plant.specs.Description.{Description}
 use Rattle.ads_plant.specs.World.{Plant, PlantPort, PlantSymbol, plant_of, symbol_size, lower_name}
-use Rattle.ads_plant.specs.World.{Part, SymbolPart, AreaPart, StatePart, ByteName, Block}
+use Rattle.ads_plant.specs.World.{SymbolPart, AreaPart, StatePart, ByteName, Block}
 use Rattle.ads_plant.specs.World.{is_same_area, byte_or_zero}
 
 pub record World : Type 0 where

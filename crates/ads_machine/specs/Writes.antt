@@ -1,6 +1,6 @@
 -- Write and WriteControl: who may write what. Beckhoff Information System, "ADS Write", "ADS Write
 -- Control".
-use Rattle.std.specs.Prelude.{ℕ, List, [], ◌∷◌, length, Bool, true, false, ◌&&◌, ◌||◌, not, ◌==◌}
+use Rattle.std.specs.Prelude.{ℕ, List, [], length, Bool, true, false, ◌&&◌, ◌||◌, not, ◌==◌}
 use Rattle.std.specs.Prelude.{if◌then◌else◌, Option, Some, None, Result, Ok, Err, find, bytes_eq, map}
 use Rattle.std.specs.List.{list_all, list_any}
 use Rattle.ads_plant.specs.Description.{Rights, Read, Write, Control}
