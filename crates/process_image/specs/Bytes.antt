@@ -6,6 +6,8 @@ use Rattle.std.specs.List.{refill}
 abbrev pub with_part : List ℕ → ℕ → ℕ → List ℕ → List ℕ
 with_part bytes at len part = take at bytes ++ (part ++ drop (at + len) bytes)
 
--- the bytes after the len from the place at on were lent, and `left` was left there: a lent slice keeps its length
+-- the bytes after the len from the place at on were lent and `left` was left there;
+-- a lent slice keeps its length
 abbrev pub after_loan : List ℕ → ℕ → ℕ → List ℕ → List ℕ
-after_loan bytes at len left = with_part bytes at len (refill len (take len (drop at bytes)) left)
+after_loan bytes at len left =
+    with_part bytes at len (refill len (take len (drop at bytes)) left)

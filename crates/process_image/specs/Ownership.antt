@@ -1,4 +1,4 @@
--- What the owner of a raw block holds in memory, and what a reference to it lends. No public clause cites this.
+-- What the owner of a raw block holds, and what a reference to it lends. No public clause cites this.
 use Rattle.std.specs.Prelude.{ℕ, ◌+◌, ◌^◌, List, length}
 use base.Fml.{Lft, Fml, ffalse, fsep, flt, froom}
 use mir.Syntax.{Ty, ty_array, ty_int, w8}

@@ -8,9 +8,11 @@ span_at spans i = slice_index_or spans i (record { at = 0; len = 0 })
 
 -- each span lies within so many bytes
 abbrev pub AreWithin : List Span → ℕ → Type 0
-AreWithin spans size = (i : ℕ) → i < length spans → (span_at spans i).at + (span_at spans i).len ≤ size
+AreWithin spans size =
+    (i : ℕ) → i < length spans → (span_at spans i).at + (span_at spans i).len ≤ size
 
--- each span begins at the end of the one before it or later, the first from the place on, and the last ends within so many bytes
+-- each span begins at the end of the one before it or later, the first from the place on,
+-- and the last ends within so many bytes
 abbrev pub IsWalk : List Span → ℕ → ℕ → Type 0
 IsWalk [] from size = from ≤ size
 IsWalk (s ∷ spans) from size = (from ≤ s.at) × IsWalk spans (s.at + s.len) size

@@ -20,12 +20,29 @@ abbrev pub image_after : Parts → List ℕ → List ℕ
 image_after p left = after_loan p.image.now (next_span p).at (next_span p).len left
 
 -- a loan does not shorten the image
-pub no_shorter : (bytes : List ℕ) (at len : ℕ) (left : List ℕ) → length bytes ≤ length (after_loan bytes at len left)
+pub no_shorter : (bytes : List ℕ) (at len : ℕ) (left : List ℕ)
+    → length bytes ≤ length (after_loan bytes at len left)
 no_shorter bytes at len left =
-    let old = take len (drop at bytes) in let new = refill len old left in let rest = drop (at + len) bytes in
+    let old = take len (drop at bytes) in let kept = drop (length left) old in
+    let new = refill len old left in let rest = drop (at + len) bytes in
     let more : length old ≤ length new =
-    omega (arith, length-take len (drop at bytes), length-take len (left ++ drop (length left) old), length-append left (drop (length left) old), length-drop (length left) old) in
-    omega (arith, more, length-append (take at bytes) (new ++ rest), length-append new rest, length-take at bytes, length-take len (drop at bytes), length-drop at bytes, length-drop (at + len) bytes)
+    omega (
+      arith,
+      length-take len (drop at bytes),
+      length-take len (left ++ kept),
+      length-append left kept,
+      length-drop (length left) old,
+    ) in
+    omega (
+      arith,
+      more,
+      length-append (take at bytes) (new ++ rest),
+      length-append new rest,
+      length-take at bytes,
+      length-take len (drop at bytes),
+      length-drop at bytes,
+      length-drop (at + len) bytes,
+    )
 
 -- the walk after that
 abbrev pub parts_after : Parts → List ℕ → Parts
@@ -33,7 +50,8 @@ parts_after p left = record {
   image = record p.image { now = image_after p left };
   spans = p.spans;
   place = p.place + 1;
-  within = λ i below. le_trans (p.within i below) (no_shorter p.image.now (next_span p).at (next_span p).len left);
+  within = λ i below.
+      le_trans (p.within i below) (no_shorter p.image.now (next_span p).at (next_span p).len left);
 }
 
 -- the walk goes on with what was last written through r in the part

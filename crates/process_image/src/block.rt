@@ -1,5 +1,6 @@
 //! One block of raw memory: the bytes that were put there, and behind them the room for more.
-ghost use Rattle.std.specs.Prelude.{◌≡◌, ℕ, ◌+◌, ◌<◌, ◌≤◌, ◌^◌, List, [], ◌∷◌, ◌++◌, length, take, drop, IfOk};
+ghost use Rattle.std.specs.Prelude.{◌≡◌, ℕ, ◌+◌, ◌<◌, ◌≤◌, ◌^◌, List, [], ◌∷◌, ◌++◌};
+ghost use Rattle.std.specs.Prelude.{length, take, drop, IfOk};
 ghost use Rattle.std.specs.Borrow.{sem};
 ghost use base.Fml.{ftrue};
 ghost use denote.RawPtr.{Ptr};
@@ -18,7 +19,8 @@ unsafe impl Send for Place {}
 
 unsafe impl Sync for Place {}
 
-/// The owner of a block's bytes and of the room behind them. It takes no space: who holds it has the pointer.
+/// The owner of a block's bytes and of the room behind them. It takes no space: the pointer is kept
+/// beside it.
 pub(crate) struct Block {
     ghost at: { Ptr },
     ghost bytes: { List ℕ },
@@ -35,7 +37,8 @@ unsafe impl Send for Block {}
 
 unsafe impl Sync for Block {}
 
-/// The right to give a block of `len` bytes back to the allocator that it came from. It takes no space.
+/// The right to give a block of `len` bytes back to the allocator that it came from.
+/// It takes no space.
 pub(crate) struct Deed<A: Allocator> {
     mark: PhantomData<*const A>,
     ghost at: { Ptr },

@@ -49,7 +49,8 @@ impl<'a, T: Scalar> Cell<'a, T> {
         ensures image { self.new.image.ghost_name ≡ self.old.image.ghost_name }
         ensures at { self.new.at ≡ self.old.at }
         ensures bytes { self.new.image.now
-            ≡ with_part self.old.image.now self.old.at T.SIZE (bytes_low_first 0 T.SIZE (T.complement v)) }
+            ≡ with_part self.old.image.now self.old.at T.SIZE
+            (bytes_low_first 0 T.SIZE (T.complement v)) }
     {
         let span = Span {
             at: self.at,

@@ -73,7 +73,8 @@ impl Image {
         self.block.slice(self.place.at, at, len)
     }
 
-    /// Some of the bytes, for writing: what stands there at the end is the image's new content, and all else stays.
+    /// Some of the bytes, for writing: what stands there at the end is the image's new content,
+    /// and all else stays.
     pub fn part_mut(&mut self, s: Span) -> &mut [u8]
         requires { s.at + s.len ≤ length self.old }
         ensures* lends { sem 𝓛 (LendsPart self.entry s.at s.len result) }

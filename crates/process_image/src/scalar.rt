@@ -5,7 +5,8 @@ ghost use Rattle.std.specs.Int.{bytes_low_first};
 mod signed;
 mod unsigned;
 
-/// A number of one, two, four or eight bytes, signed or not. Its bytes are its two's complement, the low byte first.
+/// A number of one, two, four or eight bytes, signed or not. Its bytes are its two's complement,
+/// the low byte first.
 pub trait Scalar: Copy {
     ghost SIZE: { ℕ };
 
@@ -28,5 +29,6 @@ pub trait Scalar: Copy {
         requires { length out.old ≡ SIZE }
         ensures { out.new ≡ bytes_low_first 0 SIZE (complement self) };
 
-    ghost loads_what_was_stored: { (v : Self) → IsValue v → value_of (bytes_low_first 0 SIZE (complement v)) ≡ v };
+    ghost loads_what_was_stored: { (v : Self) → IsValue v
+        → value_of (bytes_low_first 0 SIZE (complement v)) ≡ v };
 }

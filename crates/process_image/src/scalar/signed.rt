@@ -5,7 +5,8 @@ ghost use Rattle.std.proofs.Common.{ap, ◌∙◌};
 ghost use Rattle.std.proofs.Math.Nat.{mod-eq_of_lt};
 ghost use Rattle.std.proofs.Math.Facts.{Fits-of_z};
 ghost use Rattle.std.proofs.lemmas.Int.{to_z-of_z};
-ghost use Rattle.std.proofs.lemmas.Nat.{from_le_bytes-to_le_bytes_2, from_le_bytes-to_le_bytes_4, from_le_bytes-to_le_bytes_8};
+ghost use Rattle.std.proofs.lemmas.Nat.{from_le_bytes-to_le_bytes_2};
+ghost use Rattle.std.proofs.lemmas.Nat.{from_le_bytes-to_le_bytes_4, from_le_bytes-to_le_bytes_8};
 
 use super::Scalar;
 use ads_base::{get16, get32, get64};
@@ -21,7 +22,9 @@ impl Scalar for i8 {
 
     ghost IsValue = { λ v. FitsSigned w8 v };
 
-    ghost loads_what_was_stored = { λ v fits. ap (cast_signed w8) (mod-eq_of_lt (Fits-of_z fits).fits) ∙ to_z-of_z w8 v fits };
+    ghost loads_what_was_stored = { λ v fits.
+        ap (cast_signed w8) (mod-eq_of_lt (Fits-of_z fits).fits)
+        ∙ to_z-of_z w8 v fits };
 
     fn load(bytes: &[u8]) -> i8 {
         bytes[0].cast_signed()
@@ -43,7 +46,9 @@ impl Scalar for i16 {
 
     ghost IsValue = { λ v. FitsSigned w16 v };
 
-    ghost loads_what_was_stored = { λ v fits. ap (cast_signed w16) (from_le_bytes-to_le_bytes_2 (cast_unsigned w16 v) (Fits-of_z fits).fits) ∙ to_z-of_z w16 v fits };
+    ghost loads_what_was_stored = { λ v fits.
+        ap (cast_signed w16) (from_le_bytes-to_le_bytes_2 (cast_unsigned w16 v) (Fits-of_z fits).fits)
+        ∙ to_z-of_z w16 v fits };
 
     fn load(bytes: &[u8]) -> i16 {
         get16(bytes, 0).cast_signed()
@@ -65,7 +70,9 @@ impl Scalar for i32 {
 
     ghost IsValue = { λ v. FitsSigned w32 v };
 
-    ghost loads_what_was_stored = { λ v fits. ap (cast_signed w32) (from_le_bytes-to_le_bytes_4 (cast_unsigned w32 v) (Fits-of_z fits).fits) ∙ to_z-of_z w32 v fits };
+    ghost loads_what_was_stored = { λ v fits.
+        ap (cast_signed w32) (from_le_bytes-to_le_bytes_4 (cast_unsigned w32 v) (Fits-of_z fits).fits)
+        ∙ to_z-of_z w32 v fits };
 
     fn load(bytes: &[u8]) -> i32 {
         get32(bytes, 0).cast_signed()
@@ -87,7 +94,9 @@ impl Scalar for i64 {
 
     ghost IsValue = { λ v. FitsSigned w64 v };
 
-    ghost loads_what_was_stored = { λ v fits. ap (cast_signed w64) (from_le_bytes-to_le_bytes_8 (cast_unsigned w64 v) (Fits-of_z fits).fits) ∙ to_z-of_z w64 v fits };
+    ghost loads_what_was_stored = { λ v fits.
+        ap (cast_signed w64) (from_le_bytes-to_le_bytes_8 (cast_unsigned w64 v) (Fits-of_z fits).fits)
+        ∙ to_z-of_z w64 v fits };
 
     fn load(bytes: &[u8]) -> i64 {
         get64(bytes, 0).cast_signed()

@@ -2,7 +2,8 @@
 ghost use Rattle.std.specs.Prelude.{◌≡◌, ℕ, ◌<◌, ◌^◌, length, slice_index};
 ghost use Rattle.std.specs.Int.{w16, w32, w64, from_le_bytes, bytes_low_first};
 ghost use Rattle.std.proofs.Math.Nat.{mod-eq_of_lt};
-ghost use Rattle.std.proofs.lemmas.Nat.{from_le_bytes-to_le_bytes_2, from_le_bytes-to_le_bytes_4, from_le_bytes-to_le_bytes_8};
+ghost use Rattle.std.proofs.lemmas.Nat.{from_le_bytes-to_le_bytes_2};
+ghost use Rattle.std.proofs.lemmas.Nat.{from_le_bytes-to_le_bytes_4, from_le_bytes-to_le_bytes_8};
 
 use super::Scalar;
 use ads_base::{get16, get32, get64};
