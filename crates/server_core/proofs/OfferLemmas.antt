@@ -1,20 +1,20 @@
 -- What is read of a core, in the code and in the machine.
-use Rattle.std.proofs.Common.{◌≡◌, ◌≢◌, ◌⊎◌, ℕ, ◌<◌, ◌≤◌, List, [], ◌∷◌, length, map, get_or, Bool, true, false, not, cond, Bor, refl, sym, ap, ◌∙◌, subst, inl, inr, arith}
-use Rattle.std.specs.Prelude.{◌&&◌, Option, Some, None, IsNone, IsSomeAnd, IfSome, option_copied, slice_get, unwrap_or}
+use Rattle.std.proofs.Common.{◌≡◌, ℕ, ◌≤◌, List, [], length, map, get_or, Bool, true, false, not, cond, Bor, refl, sym, ap, ◌∙◌, subst, inl, inr}
+use Rattle.std.specs.Prelude.{◌&&◌, Option, Some, None, IsNone, IsSomeAnd, IfSome, option_copied, slice_get}
 use Rattle.std.specs.Option.{option_map}
 use Rattle.std.proofs.lemmas.Bool.{cases_Bool, cond-true, cond-false}
 use Rattle.std.proofs.lemmas.Option.{slice_get-map}
-use Rattle.ads_machine.specs.Connection.{connection_of, bytes_of}
+use Rattle.ads_machine.specs.Connection.{bytes_of}
 use Rattle.ads_machine.specs.MachineState.{present_numbers}
 use Rattle.ads_machine.specs.Offers.{is_among, waiting_of, waiting_at, left_after}
 use Rattle.out_queue.specs.Queue.{front_of}
 use Rattle.server_core.specs.declared.conn.Conn.{Conn}
 use Rattle.server_core.specs.Served.{ServedConnection}
-use Rattle.server_core.specs.ConnStands.{Stands, FitsFirst, first_left}
+use Rattle.server_core.specs.ConnStands.{Stands, FitsFirst}
 use Rattle.server_core.specs.CoreState.{CoreState, offer_at, is_to_be_shut, is_to_be_shut_at}
 use Rattle.server_core.specs.Places.{IsPlace, IsAbsent, offer_of_conn, offer_among}
 use Rattle.server_core.specs.Serves.{present, ServesEach}
-use Rattle.server_core.proofs.PlaceLemmas.{AtPlace, IsGone, IsNotThere, not_there, offer_at_place, offer_absent, numbers-same}
+use Rattle.server_core.proofs.PlaceLemmas.{IsNotThere, not_there, offer_at_place, numbers-same}
 use Rattle.server_core.proofs.ServeLemmas.{served_at, at_mark}
 
 -- the front of a queue, as a reference

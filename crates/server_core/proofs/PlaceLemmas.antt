@@ -1,16 +1,16 @@
 -- A connection of the code at its place, and the one of the machine that it stands for.
-use Rattle.std.proofs.Common.{◌≡◌, ◌≢◌, ◌⊎◌, ℕ, zero, suc, ◌<◌, List, [], ◌∷◌, ◌++◌, length, take, drop, map, set, get_or, Bool, true, false, not, cond, refl, sym, ap, ◌∙◌, subst, inl, inr, arith}
-use Rattle.std.specs.Prelude.{◌==◌, ◌||◌, filter, remove, All, Option, Some, None}
+use Rattle.std.proofs.Common.{◌≡◌, ◌≢◌, ◌⊎◌, ℕ, zero, suc, ◌<◌, List, [], ◌∷◌, ◌++◌, length, map, set, get_or, true, false, refl, sym, ap, ◌∙◌, subst, inl, inr, arith}
+use Rattle.std.specs.Prelude.{◌==◌, remove, Some, None}
 use Rattle.std.proofs.lemmas.Bool.{cases_Bool, cases_eq, cond-true, cond-false}
 use Rattle.std.proofs.lemmas.List.Elements.{All-head, All-tail}
-use Rattle.ads_machine.specs.Connection.{Connection, connection_of, put_back}
+use Rattle.ads_machine.specs.Connection.{connection_of, put_back}
 use Rattle.ads_machine.specs.Offers.{is_among}
-use Rattle.ads_machine.proofs.Find.{test_same, test_other, number_of_found}
+use Rattle.ads_machine.proofs.Find.{test_same, test_other}
 use Rattle.out_queue.specs.Queue.{front_of}
 use Rattle.server_core.specs.declared.conn.Conn.{Conn}
 use Rattle.server_core.specs.Served.{ServedConnection}
 use Rattle.server_core.specs.ConnStands.{Stands}
-use Rattle.server_core.specs.Places.{IsPlace, IsAbsent, offer_of_conn, offer_among, closing_among}
+use Rattle.server_core.specs.Places.{IsPlace, IsAbsent, offer_of_conn, offer_among}
 use Rattle.server_core.specs.Serves.{present, EachStands, AreApart, EachMarked}
 use Rattle.server_core.proofs.StateLemmas.{present-gone, present-there, connection_of-same, connection_of-other, put_back-same, put_back-other, none_of_nil, none_behind, number_differs}
 

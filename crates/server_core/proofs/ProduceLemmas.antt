@@ -1,12 +1,12 @@
 -- A frame that is produced, in the code and in the machine.
 use Rattle.std.proofs.Common.{◌≡◌, ℕ, ◌+◌, ◌-◌, ◌<◌, ◌≤◌, List, [], ◌∷◌, ◌++◌, length, Bool, true, false, cond, refl, sym, ap, ◌∙◌, subst, arith}
-use Rattle.std.specs.Prelude.{map, flat_map, sum, sum_by, nat_le}
+use Rattle.std.specs.Prelude.{map, sum, sum_by}
 use Rattle.std.proofs.lemmas.Bool.{cond-true, cond-false, le-leb, lt-leb}
 use Rattle.std.proofs.lemmas.List.{map-append, length-append}
 use Rattle.std.proofs.lemmas.List.Concat.{flat_map-append}
 use Rattle.std.proofs.lemmas.List.Sums.{sum_by-append, sum_by-cons, sum-map}
 use Rattle.ads_machine.specs.Device.{Produced, Reply}
-use Rattle.ads_machine.specs.Connection.{Connection, bytes_of, bytes_of_all, queued_of, fits, with_frame, with_closing, produce}
+use Rattle.ads_machine.specs.Connection.{bytes_of, bytes_of_all, queued_of, fits, with_frame, with_closing, produce}
 use Rattle.ads_machine.specs.Summary.{count_of, replies_in, samples_in}
 use Rattle.ads_machine.specs.Offers.{left_after}
 use Rattle.ads_machine.proofs.Waiting.{joined, joined_bytes}
@@ -19,7 +19,7 @@ use Rattle.server_core.specs.Served.{ServedConnection}
 use Rattle.server_core.specs.Counts.{Counts, replies_of, samples_of}
 use Rattle.server_core.specs.ConnStands.{history_of, Stands, Goes}
 use Rattle.server_core.proofs.QueueLemmas.{left_after-push, queued-left_after}
-use Rattle.server_core.proofs.CountLemmas.{same_count, one_more, same_counts}
+use Rattle.server_core.proofs.CountLemmas.{same_count, one_more}
 
 -- the bytes that wait in the queue are those of the machine
 pub queued_bytes : (conn : Conn) (k : ServedConnection) → Stands conn k → queued conn.out ≡ queued_of k

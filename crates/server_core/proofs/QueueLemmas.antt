@@ -1,13 +1,11 @@
 -- A queue against the frames that a connection was given and the bytes that it took.
-use Rattle.std.proofs.Common.{◌≡◌, ℕ, ◌+◌, ◌-◌, ◌<◌, ◌≤◌, List, [], ◌∷◌, ◌++◌, length, drop, Bool, true, false, cond, refl, sym, ap, ◌∙◌, subst, ◌⊎◌, inl, inr, arith}
-use Rattle.std.specs.Prelude.{nat_le, ◌==◌, map, sum_by, unwrap_or, Option, Some, None, IsSomeAnd}
+use Rattle.std.proofs.Common.{◌≡◌, ℕ, ◌+◌, ◌-◌, ◌<◌, ◌≤◌, List, [], ◌∷◌, ◌++◌, length, drop, false, refl, sym, ap, ◌∙◌, ◌⊎◌, inl, inr, arith}
+use Rattle.std.specs.Prelude.{nat_le, IsSomeAnd}
 use Rattle.std.proofs.lemmas.Bool.{cases_Bool, leb-true, leb-false, le-leb, lt-leb, eq-eqb, ne_eqb, cases_lt, cond-true, cond-false}
 use Rattle.std.proofs.lemmas.List.Sums.{sum_by-cons}
-use Rattle.std.proofs.lemmas.List.{length-append, length-drop, drop-drop, map-append}
-use Rattle.ads_machine.specs.Device.{Produced}
-use Rattle.ads_machine.specs.Connection.{bytes_of, bytes_of_all}
+use Rattle.std.proofs.lemmas.List.{length-append, length-drop, drop-drop}
 use Rattle.ads_machine.specs.Offers.{left_after}
-use Rattle.ads_machine.proofs.Waiting.{joined, joined_bytes}
+use Rattle.ads_machine.proofs.Waiting.{joined}
 use Rattle.out_queue.specs.Queue.{queued, front_of, frames_after, FitsFront}
 
 -- a frame more waits behind the others

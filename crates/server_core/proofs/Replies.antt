@@ -1,8 +1,7 @@
 -- A reply is an AMS packet.
-use Rattle.std.proofs.Common.{◌≡◌, ℕ, ◌+◌, ◌-◌, ◌≤◌, List, [], ◌∷◌, ◌++◌, length, take, drop, Bool, true, false, refl, sym, ap, ◌∙◌, subst, arith}
+use Rattle.std.proofs.Common.{◌≡◌, ℕ, ◌+◌, ◌≤◌, List, [], length, drop, arith}
 use Rattle.std.proofs.lemmas.Bool.{cond_both}
 use Rattle.std.proofs.lemmas.List.{length-append, length-take-le, length-drop}
-use Rattle.std.specs.Int.{w16, w32, to_le_bytes}
 use Rattle.ads_frames.specs.Frame.{IsAmsPacket}
 use Rattle.ads_machine.specs.Selftest.{field, reply_to, selftest_reply, is_read_state, state_payload, UNKNOWN_COMMAND}
 

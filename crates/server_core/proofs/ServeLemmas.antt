@@ -1,29 +1,27 @@
 -- What the code's connections stand for, after each kind of move.
-use Rattle.std.proofs.Common.{◌≡◌, ◌≢◌, ◌⊎◌, ℕ, zero, suc, ◌+◌, ◌<◌, ◌≤◌, List, [], ◌∷◌, ◌++◌, length, set, get_or, map, Bool, true, false, not, cond, All, refl, sym, ap, ◌∙◌, subst, inl, inr, arith}
-use Rattle.std.specs.Prelude.{◌==◌, ◌||◌, nat_lt, filter, remove, Option, Some, None}
-use Rattle.std.proofs.lemmas.Bool.{cases_eq, cases_Bool, cond-true, cond-false, or_right, or_left, or_from}
+use Rattle.std.proofs.Common.{◌≡◌, ◌≢◌, ℕ, zero, suc, ◌+◌, ◌<◌, List, [], ◌∷◌, ◌++◌, length, set, get_or, map, Bool, true, false, not, cond, refl, sym, ap, ◌∙◌, subst, inl, inr, arith}
+use Rattle.std.specs.Prelude.{◌==◌, ◌||◌, nat_lt, filter, remove, Option, None}
+use Rattle.std.proofs.lemmas.Bool.{cases_eq, cond-true, cond-false, or_right, or_left}
 use Rattle.std.proofs.lemmas.List.Elements.{All-head, All-tail}
 use Rattle.ads_outside.specs.declared.event.Event.TheVariants as event
 use Rattle.ads_outside.specs.declared.moves.Move.TheVariants as move
-use Rattle.ads_machine.specs.Connection.{Connection, connection_of, put_back, fresh_connection, is_deaf, produce_all}
-use Rattle.ads_machine.specs.MachineState.{MachineState, Exchange, exchange_of, with_exchange, after_exchange}
+use Rattle.ads_machine.specs.Connection.{connection_of, put_back, fresh_connection, is_deaf, produce_all}
+use Rattle.ads_machine.specs.MachineState.{exchange_of, with_exchange, after_exchange}
 use Rattle.ads_machine.specs.Piece.{after_piece}
 use Rattle.ads_machine.specs.Moves.{with_gone, with_took, state_after_event, state_after_move, connection_after_tick, moment_of_tick}
-use Rattle.ads_machine.specs.Offers.{is_among, blocked_after_move}
+use Rattle.ads_machine.specs.Offers.{is_among}
 use Rattle.ads_machine.specs.Summary.{count_of, summary_of}
 use Rattle.ads_machine.proofs.Find.{test_same, test_other}
 use Rattle.server_core.specs.declared.conn.Conn.{Conn}
 use Rattle.server_core.specs.declared.summary.Summary.{Summary}
-use Rattle.server_core.specs.Served.{served, World, Client, ServedConnection, ServedExchange, ServedState}
-use Rattle.server_core.specs.Counts.{Counts, counts_in}
+use Rattle.server_core.specs.Served.{served, ServedConnection, ServedExchange, ServedState}
 use Rattle.server_core.specs.ConnStands.{Stands, Goes, KeepsMarks}
-use Rattle.server_core.specs.CoreState.{CoreState, after_event, after_move, OpensNew}
+use Rattle.server_core.specs.CoreState.{CoreState, after_event, after_move}
 use Rattle.server_core.specs.Places.{IsPlace, IsAbsent}
 use Rattle.server_core.specs.Serves.{present, EachStands, AreApart, EachMarked, ServesEach, FollowsEach}
 use Rattle.server_core.proofs.StateLemmas.{AreApart-put_back, AreApart-append, was_none, was_none_append, put_back-itself, present-append, present-there}
-use Rattle.server_core.proofs.PlaceLemmas.{Concerns, AtPlace, at_place, IsGone, IsNotThere, not_there, marked_removed, marked_append, stands_append}
+use Rattle.server_core.proofs.PlaceLemmas.{Concerns, AtPlace, at_place, IsNotThere, not_there, marked_removed, marked_append, stands_append}
 use Rattle.server_core.proofs.SumLemmas.{counted_one, counted_fresh, counted_refused}
-use Rattle.server_core.proofs.CountLemmas.{same_counts, same_count}
 
 -- the connection at a place
 pub served_at : (conns : List Conn) (x : CoreState) (n i : ℕ) (d : Conn) → ServesEach conns x → IsPlace conns n i → AtPlace conns x.state.connections n i (get_or conns i d)

@@ -1,9 +1,8 @@
 -- The connections of a state: those that are there, numbers that differ, one in the place of another.
-use Rattle.std.proofs.Common.{◌≡◌, ◌≢◌, ◌⊎◌, ℕ, List, [], ◌∷◌, ◌++◌, length, Bool, true, false, not, cond, refl, sym, ap, ◌∙◌, subst, inl, inr, arith}
-use Rattle.std.specs.Prelude.{◌==◌, ◌||◌, filter, Option, Some, None}
+use Rattle.std.proofs.Common.{◌≡◌, ◌≢◌, ℕ, List, [], ◌∷◌, ◌++◌, true, false, not, refl, sym, ap, ◌∙◌, subst, inl, inr}
+use Rattle.std.specs.Prelude.{◌==◌, Option, Some, None}
 use Rattle.std.proofs.lemmas.Bool.{cases_Bool, cases_eq, cond-true, cond-false, not_from_true, not_from_false}
-use Rattle.ads_machine.specs.Connection.{Connection, connection_of, put_back}
-use Rattle.ads_machine.specs.Offers.{is_among}
+use Rattle.ads_machine.specs.Connection.{connection_of, put_back}
 use Rattle.ads_machine.proofs.Find.{test_same, test_other, or_else, connection_of-append, number_of_found}
 use Rattle.server_core.specs.Served.{Client, ServedConnection}
 use Rattle.server_core.specs.Serves.{present, AreApart}

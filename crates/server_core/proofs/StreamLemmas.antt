@@ -1,5 +1,5 @@
 -- What an answer of the splitter says of the packets that a connection has left.
-use Rattle.std.proofs.Common.{◌≡◌, ℕ, ◌+◌, ◌<◌, ◌≤◌, List, [], ◌∷◌, ◌++◌, length, drop, get_or, Bool, true, false, refl, sym, ap, ◌∙◌, subst, inl, inr, arith}
+use Rattle.std.proofs.Common.{◌≡◌, ℕ, ◌+◌, List, [], ◌∷◌, length, drop, Bool, true, false, refl, sym, ap, ◌∙◌, subst, inl, inr}
 use Rattle.std.specs.Prelude.{slice_get, Option, Some, None}
 use Rattle.std.proofs.lemmas.Bool.{cases_lt}
 use Rattle.std.proofs.lemmas.List.{drop_more, drop_all}
@@ -7,10 +7,7 @@ use Rattle.std.proofs.lemmas.Option.{slice_get-get_or, slice_get_within, get_or_
 use Rattle.ads_frames.specs.Division.{Front, Whole, Open, Broken, front_of, frames_of, rest_of, is_broken}
 use Rattle.ams_tcp.specs.Held.{Held}
 use Rattle.ams_tcp.specs.History.{History, Represents, answer_of, answer_for, answer_for_rest, after_next, after_answer}
-use Rattle.ams_tcp.specs.declared.cut.Cut.{Cut}
 use Rattle.ams_tcp.specs.declared.cut.Cut.TheVariants as cut
-use Rattle.ads_machine.specs.Piece.{packets_left}
-use Rattle.server_core.specs.Served.{ServedConnection}
 
 -- the rest gives no frame
 no_frame : (packet : List ℕ) (f : Front) → cut.Frame packet ≡ answer_for_rest f → ⊥

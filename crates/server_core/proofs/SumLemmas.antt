@@ -1,12 +1,11 @@
 -- The counts of a state where one of its connections changes.
-use Rattle.std.proofs.Common.{◌≡◌, ◌≢◌, ℕ, suc, ◌+◌, ◌^◌, List, [], ◌∷◌, ◌++◌, length, refl, sym, ap, ◌∙◌, subst, inl, inr, arith}
-use Rattle.std.specs.Prelude.{sum, sum_by, map, flat_map, min, Option, Some, None}
+use Rattle.std.proofs.Common.{◌≡◌, ℕ, suc, ◌+◌, List, [], ◌∷◌, ◌++◌, length, refl, sym, ap, ◌∙◌, subst, inl, inr, arith}
+use Rattle.std.specs.Prelude.{sum, sum_by, map, flat_map, Some}
 use Rattle.std.proofs.lemmas.Bool.{cases_eq}
 use Rattle.std.proofs.lemmas.List.{length-append}
 use Rattle.std.proofs.lemmas.List.Sums.{sum_by-append, sum_by-cons, sum-map}
-use Rattle.std.proofs.lemmas.List.Concat.{flat_map-append}
 use Rattle.ads_machine.specs.Device.{Produced}
-use Rattle.ads_machine.specs.Connection.{Connection, connection_of, put_back, fresh_connection}
+use Rattle.ads_machine.specs.Connection.{connection_of, put_back, fresh_connection}
 use Rattle.ads_machine.specs.Summary.{Summary as CountsOfState, count_of, replies_in, samples_in, summary_of}
 use Rattle.server_core.specs.declared.summary.Summary.{Summary}
 use Rattle.server_core.specs.Served.{served, ServedConnection, ServedState, ServedExchange}

@@ -1,11 +1,10 @@
 -- Taking frame after frame, down to a rest that is open or broken, or until the connection is closing.
-use Rattle.std.proofs.Common.{◌≡◌, ℕ, ◌+◌, ◌<◌, ◌≤◌, List, [], ◌∷◌, length, drop, Bool, true, false, cond, not, refl, sym, ap, ◌∙◌, subst, inl, inr, arith}
+use Rattle.std.proofs.Common.{◌≡◌, ℕ, ◌+◌, List, [], ◌∷◌, drop, Bool, true, false, cond, not, refl, sym, ap, ◌∙◌, subst}
 use Rattle.std.proofs.lemmas.Bool.{cond-true, cond-false, or_left, or_from}
 use Rattle.ads_frames.specs.Frame.{frame_bytes}
 use Rattle.ads_frames.specs.Division.{front_of, frames_of, rest_of, is_broken}
 use Rattle.ads_machine.specs.Device.{Reply}
 use Rattle.ads_machine.specs.Connection.{with_closing, produce, is_deaf}
-use Rattle.ads_machine.specs.MachineState.{Exchange}
 use Rattle.ads_machine.specs.Piece.{packets_left, with_one_taken, after_packet, after_packets, after_rest, end_of_piece, with_received, with_piece, after_piece}
 use Rattle.ads_machine.specs.Selftest.{selftest_reply}
 use Rattle.server_core.specs.Served.{served, ServedConnection, ServedExchange}

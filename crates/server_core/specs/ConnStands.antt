@@ -2,7 +2,7 @@
 -- No public clause cites this file.
 use Rattle.std.specs.Prelude.{◌≡◌, ℕ, ◌≤◌, List, [], length, map, IsSomeAnd, unwrap_or}
 use Rattle.ams_tcp.specs.History.{History, Represents}
-use Rattle.ads_machine.specs.Connection.{Connection, bytes_of, bytes_of_all}
+use Rattle.ads_machine.specs.Connection.{bytes_of, bytes_of_all}
 use Rattle.ads_machine.specs.Offers.{left_after}
 use Rattle.out_queue.specs.Queue.{front_of}
 use Rattle.server_core.specs.declared.conn.Conn.{Conn}

@@ -1,6 +1,6 @@
 -- The connections of the code as a list, found by their numbers.
-use Rattle.std.specs.Prelude.{◌≡◌, ◌≢◌, ℕ, ◌<◌, ◌≤◌, List, [], ◌∷◌, length, slice_index_or, All}
-use Rattle.std.specs.Prelude.{◌==◌, if◌then◌else◌, Bool, false, Option, Some, None, IsSomeAnd}
+use Rattle.std.specs.Prelude.{◌≡◌, ◌≢◌, ℕ, ◌<◌, List, [], ◌∷◌, length, slice_index_or, All}
+use Rattle.std.specs.Prelude.{◌==◌, if◌then◌else◌, Bool, false, Option, None}
 use Rattle.out_queue.specs.Queue.{front_of}
 use Rattle.server_core.specs.declared.conn.Conn.{Conn}
 

@@ -1,4 +1,4 @@
-use Rattle.std.proofs.Common.{refl, ◌∙◌, sym, arith}
+use Rattle.std.proofs.Common.{refl, arith}
 use Rattle.ads_machine.specs.Offers.{left_after}
 use Rattle.server_core.proofs.StreamLemmas.{own_mark}
 use Rattle.server_core.proofs.conn.Conn.fresh.Goals as goal

@@ -1,4 +1,4 @@
-use Rattle.std.proofs.Common.{◌≡◌, refl, ◌∙◌, sym, ap, subst, rules}
+use Rattle.std.proofs.Common.{◌≡◌, refl, ◌∙◌, sym, subst}
 use Rattle.ads_machine.specs.Piece.{with_piece, with_received, after_piece}
 use Rattle.server_core.specs.Served.{served, ServedExchange}
 use Rattle.server_core.specs.ConnStands.{history_of, Goes}

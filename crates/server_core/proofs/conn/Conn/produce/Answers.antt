@@ -1,4 +1,4 @@
-use Rattle.std.proofs.Common.{◌≡◌, ◌≤◌, ◌<◌, ◌+◌, length, Ok, inl, inr, refl, ◌∙◌, sym, ap}
+use Rattle.std.proofs.Common.{◌≤◌, ◌+◌, length, Ok, inl, inr, refl, ◌∙◌, sym, ap}
 use Rattle.std.proofs.lemmas.Bool.{cases_lt}
 use Rattle.out_queue.specs.Queue.{queued}
 use Rattle.server_core.proofs.ProduceLemmas.{goes_with_frame, goes_over}

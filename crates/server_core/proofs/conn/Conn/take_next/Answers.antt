@@ -1,4 +1,4 @@
-use Rattle.std.proofs.Common.{◌≡◌, refl, ◌∙◌, sym, ap, subst}
+use Rattle.std.proofs.Common.{refl, ◌∙◌, sym, ap}
 use Rattle.ads_frames.specs.Frame.{frame_bytes}
 use Rattle.ads_machine.specs.Selftest.{selftest_reply}
 use Rattle.ads_machine.specs.Piece.{with_one_taken}

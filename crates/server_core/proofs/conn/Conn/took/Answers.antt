@@ -1,9 +1,8 @@
-use Rattle.std.proofs.Common.{◌≡◌, ◌≤◌, ℕ, List, length, refl, ◌∙◌, sym, ap, subst, arith}
+use Rattle.std.proofs.Common.{◌≡◌, ℕ, List, length, ◌∙◌, ap, subst, arith}
 use Rattle.std.specs.Prelude.{map}
 use Rattle.ads_machine.specs.Connection.{bytes_of, bytes_of_all}
 use Rattle.ads_machine.proofs.Waiting.{joined, joined_bytes}
 use Rattle.out_queue.specs.Queue.{frames_after, FitsFront}
-use Rattle.server_core.specs.ConnStands.{FitsFirst}
 use Rattle.server_core.proofs.QueueLemmas.{left_after-took, took_fits, fits_front}
 use Rattle.server_core.proofs.conn.Conn.took.Goals as goal
 

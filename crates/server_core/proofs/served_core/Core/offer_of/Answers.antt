@@ -1,8 +1,7 @@
-use Rattle.std.proofs.Common.{◌≡◌, List, ℕ, None, sym, ap, ◌∙◌}
-use Rattle.std.specs.Prelude.{option_copied, Option}
+use Rattle.std.proofs.Common.{None, sym, ap, ◌∙◌}
+use Rattle.std.specs.Prelude.{option_copied}
 use Rattle.std.proofs.lemmas.Bool.{cond-true, cond-false}
 use Rattle.out_queue.specs.Queue.{front_of}
-use Rattle.server_core.specs.Places.{offer_of_conn}
 use Rattle.server_core.proofs.OfferLemmas.{offer_found, none_offered, offer_read, front_is}
 use Rattle.server_core.proofs.PlaceLemmas.{offer_absent}
 use Rattle.server_core.proofs.served_core.Core.offer_of.Goals as goal

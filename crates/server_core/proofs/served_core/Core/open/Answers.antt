@@ -1,4 +1,4 @@
-use Rattle.std.proofs.Common.{◌≡◌, List, sym, subst}
+use Rattle.std.proofs.Common.{List, sym, subst}
 use Rattle.ads_outside.specs.declared.event.Event.TheVariants as event
 use Rattle.server_core.specs.declared.conn.Conn.{Conn}
 use Rattle.server_core.specs.CoreState.{after_event}

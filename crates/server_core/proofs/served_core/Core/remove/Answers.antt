@@ -1,7 +1,6 @@
-use Rattle.std.proofs.Common.{◌≡◌, ◌∙◌, sym, subst}
-use Rattle.ads_outside.specs.declared.event.Event.TheVariants as event
+use Rattle.std.proofs.Common.{◌∙◌, subst}
 use Rattle.server_core.specs.CoreState.{CoreState}
-use Rattle.server_core.specs.Serves.{Follows, FollowsEach}
+use Rattle.server_core.specs.Serves.{FollowsEach}
 use Rattle.server_core.proofs.ServeLemmas.{shut_is_closed, lost_is_closed}
 use Rattle.server_core.proofs.served_core.Core.remove.Goals as goal
 

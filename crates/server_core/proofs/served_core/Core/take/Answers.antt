@@ -1,4 +1,4 @@
-use Rattle.std.proofs.Common.{◌≡◌, sym, subst}
+use Rattle.std.proofs.Common.{sym, subst}
 use Rattle.ads_outside.specs.declared.event.Event.{Event}
 use Rattle.server_core.specs.CoreState.{CoreState, OpensNew, after_event}
 use Rattle.server_core.specs.Serves.{ServesEach, FollowsEach}

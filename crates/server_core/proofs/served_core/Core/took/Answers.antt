@@ -1,6 +1,5 @@
-use Rattle.std.proofs.Common.{◌≡◌, ◌≤◌, ◌+◌, ℕ, List, [], length, Some, None, sym, ap, ◌∙◌, subst}
+use Rattle.std.proofs.Common.{◌≡◌, ◌≤◌, ◌+◌, ℕ, List, [], length, sym, ap, ◌∙◌, subst}
 use Rattle.std.specs.Prelude.{nat_lt, IsSomeAnd, unwrap_or}
-use Rattle.out_queue.specs.Queue.{front_of}
 use Rattle.server_core.specs.Served.{ServedConnection}
 use Rattle.server_core.specs.ConnStands.{Stands}
 use Rattle.server_core.proofs.PlaceLemmas.{is_offer, offer_absent}
