@@ -14,3 +14,6 @@ pub mod FineActs
 pub mod FineDecisions
 pub mod Alike
 pub mod EveryState
+pub mod NextWatches
+pub mod KeptClients
+pub mod Risen

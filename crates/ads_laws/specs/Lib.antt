@@ -3,3 +3,4 @@ pub mod ExactWrites
 pub mod Refusals
 pub mod Soundness
 pub mod Reachable
+pub mod Rising

@@ -9,6 +9,7 @@ ghost use Rattle.ads_laws.specs.Refusals.{RefusedReloadCounts, DeadHandleTouches
 ghost use Rattle.ads_laws.specs.Refusals.{NumbersNeverFall};
 ghost use Rattle.ads_laws.specs.Soundness.{AcceptedAreSound};
 ghost use Rattle.ads_laws.specs.Reachable.{EveryStateFits};
+ghost use Rattle.ads_laws.specs.Rising.{HandlesRise};
 
 /// A client none of whose read or notified bytes another client writes is given, byte for byte, what it
 /// would be given if it were alone: for every table of what is answered, every description, every reading
@@ -56,4 +57,10 @@ pub fn numbers_never_fall()
 pub fn every_state_fits()
     ensures descriptions { AcceptedAreSound }
     ensures states { EveryStateFits }
+{}
+
+/// In every state that a log leads to the notifications of each connection stand by rising handle, none
+/// above the number of additions, and so do the samples of each frame that a tick would send.
+pub fn handles_rise()
+    ensures { HandlesRise }
 {}
