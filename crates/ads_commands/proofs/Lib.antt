@@ -1,3 +1,4 @@
 pub mod RequestLemmas
 pub mod Appends
 pub mod ReplyLemmas
+pub mod LawLemmas

@@ -1,10 +1,8 @@
 -- What a request that is read, or refused, says of its payload.
-use Rattle.std.proofs.Common.{◌≡◌, ℕ, List, Option, Some, None, Result, Ok, Err, refl, sym, ap, ◌∙◌, subst}
+use Rattle.std.proofs.Common.{◌≡◌, ℕ, List, Option, Some, None, Err, refl, sym}
 use Rattle.std.specs.Prelude.{◌↔◌, IfOk, option_map, ok_or}
-use Rattle.std.specs.Result.{result_ok}
 use Rattle.ads_commands.specs.declared.request.Request.{Request}
-use Rattle.ads_commands.specs.declared.fault.ReadFault.{ReadFault}
-use Rattle.ads_commands.specs.declared.fault.ReadFault.TheVariants.{BadCommand, BadSize}
+use Rattle.ads_commands.specs.declared.fault.ReadFault.TheVariants.{BadSize}
 use Rattle.ads_formats.specs.Numbers.{AreBytes}
 use Rattle.ads_formats.specs.Request.{IsRequestPayload, request_of}
 use Rattle.ads_formats.proofs.RequestLemmas.{request_of-of_text, text_of-request_of}

@@ -2,6 +2,7 @@
 #![tactic(auto)]
 
 mod fault;
+mod laws;
 mod lengths;
 mod reply;
 mod reply_reading;
@@ -13,6 +14,7 @@ mod request_writing;
 mod tests;
 
 pub use fault::ReadFault;
+pub use laws::what_is_written_is_read;
 pub use reply::{DeviceFacts, Reply};
 pub use reply_reading::read_reply;
 pub use reply_writing::put_reply;

@@ -1,4 +1,3 @@
-use Rattle.std.proofs.Common.{arith}
 use Rattle.ads_commands.specs.Reply.{reply_meant}
 use Rattle.ads_commands.proofs.ReplyLemmas.{done_parts, refused_parts}
 use Rattle.ads_commands.proofs.reply_writing.append_reply.Goals as goal
