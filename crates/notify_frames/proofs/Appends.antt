@@ -1,9 +1,9 @@
 -- A notification that is written in parts.
-use Rattle.std.proofs.Common.{◌≡◌, ℕ, ◌+◌, List, [], ◌∷◌, ◌++◌, length, refl, sym, ap, subst, ◌∙◌, append_assoc, arith}
+use Rattle.std.proofs.Common.{◌≡◌, ℕ, ◌+◌, List, [], ◌∷◌, ◌++◌, length, sym, ap, subst, ◌∙◌, append_assoc, arith}
 use Rattle.std.specs.List.{flat_map}
 use Rattle.std.specs.Int.{w32, w64, to_le_bytes}
 use Rattle.std.proofs.lemmas.List.{append-nil, length-map}
-use Rattle.ads_formats.specs.Notification.{Sample, Stamp, sample_bytes, stamps_bytes, notification_bytes}
+use Rattle.ads_formats.specs.Notification.{sample_bytes, stamps_bytes, notification_bytes}
 use Rattle.notify_frames.specs.declared.samples.OwnSample.{OwnSample}
 use Rattle.notify_frames.specs.Samples.{sample_of, samples_of, stamp_of}
 

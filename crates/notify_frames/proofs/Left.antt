@@ -1,9 +1,8 @@
 -- What is left of a notification, sample by sample and stamp by stamp.
-use Rattle.std.proofs.Common.{◌≡◌, ℕ, zero, suc, ◌+◌, ◌≤◌, ◌<◌, List, [], ◌∷◌, ◌++◌, map, length, drop, Option, Some, None, refl, sym, ap, subst, ◌∙◌, arith}
+use Rattle.std.proofs.Common.{◌≡◌, ℕ, zero, suc, ◌≤◌, ◌<◌, List, [], ◌∷◌, ◌++◌, length, drop, Option, Some, None, refl, sym, subst, arith}
 use Rattle.std.specs.Prelude.{option_map}
 use Rattle.std.specs.Option.{option_and_then}
 use Rattle.std.proofs.lemmas.Bool.{le-ltb, lt-ltb}
-use Rattle.std.proofs.lemmas.List.{append_assoc}
 use Rattle.ads_formats.specs.Numbers.{number32, number64}
 use Rattle.ads_formats.specs.Notification.{Sample, Stamp}
 use Rattle.ads_formats.specs.NotificationReading.{sample_of, samples_of, stamp_of, stamps_of}

@@ -1,5 +1,5 @@
 -- A payload that was walked over, and the notification that it is.
-use Rattle.std.proofs.Common.{◌≡◌, ◌≢◌, ℕ, ◌+◌, ◌≤◌, ◌<◌, Bool, true, false, ◌||◌, cond, eqb, ltb, List, [], ◌∷◌, ◌++◌, length, drop, Option, Some, None, IsNone, IsSome, refl, sym, ap, subst, ◌∙◌, arith, inl, inr, ◌⊎◌}
+use Rattle.std.proofs.Common.{◌≡◌, ◌≢◌, ℕ, ◌+◌, ◌≤◌, ◌<◌, Bool, true, false, ◌||◌, cond, eqb, List, length, drop, Option, Some, None, IsNone, IsSome, refl, sym, ap, subst, ◌∙◌, inl, inr, ◌⊎◌}
 use Rattle.std.specs.Prelude.{◌↔◌, IfSome, option_map}
 use Rattle.std.specs.Option.{option_and_then}
 use Rattle.std.proofs.Math.Bool.{or-true}
@@ -9,7 +9,7 @@ use Rattle.ads_formats.specs.Numbers.{AreBytes, number32}
 use Rattle.ads_formats.specs.Notification.{Sample, Stamp, IsNotificationPayload}
 use Rattle.ads_formats.specs.NotificationReading.{samples_of, stamps_of, notification_of}
 use Rattle.ads_formats.proofs.NotificationLemmas.{text_of-notification_of, notification_of-of_text}
-use Rattle.notify_frames.specs.Notes.{timed, samples_in, left_in, IsNoNotification}
+use Rattle.notify_frames.specs.Notes.{samples_in, left_in, IsNoNotification}
 use Rattle.notify_frames.specs.Whole.{IsWhole}
 
 -- the stamps, where nothing stands behind them

@@ -1,5 +1,5 @@
 -- The samples of a notification in order, and what is left of them while they are given.
-use Rattle.std.specs.Prelude.{◌≡◌, ℕ, List, [], ◌∷◌, ◌++◌, map, Bool, is_some, Option, Some, None, option_map, option_and_then, unwrap_or, IsTrue}
+use Rattle.std.specs.Prelude.{ℕ, List, ◌++◌, map, Option, option_map, option_and_then}
 use Rattle.std.specs.List.{flat_map}
 use Rattle.ads_formats.specs.Notification.{Sample, Stamp, IsNotificationPayload}
 use Rattle.ads_formats.specs.NotificationReading.{samples_of, stamps_of}

@@ -1,6 +1,5 @@
 -- What is left of a notification where its reading stands. No public clause cites this.
-use Rattle.std.specs.Prelude.{ℕ, List, [], ◌∷◌, Option, Some, None, option_map, IsSome}
-use Rattle.std.specs.Borrow.{Bor}
+use Rattle.std.specs.Prelude.{ℕ, List, [], ◌∷◌, Option, Some, None, option_map}
 use Rattle.notify_frames.specs.declared.place.Place.{Place}
 use Rattle.notify_frames.specs.declared.samples.Sample.{Sample}
 use Rattle.ads_formats.specs.Notification as notification

@@ -1,5 +1,5 @@
 -- Which sample of the protocol a value of `OwnSample` or `Sample` is.
-use Rattle.std.specs.Prelude.{ℕ, ◌≤◌, List, [], ◌∷◌, length, map, All}
+use Rattle.std.specs.Prelude.{ℕ, ◌≤◌, List, length, map, All}
 use Rattle.notify_frames.specs.declared.samples.OwnSample.{OwnSample}
 use Rattle.notify_frames.specs.declared.samples.Sample.{Sample}
 use Rattle.ads_formats.specs.Notification as notification

@@ -1,5 +1,5 @@
 -- An entry that is written in parts.
-use Rattle.std.proofs.Common.{◌≡◌, ℕ, List, ◌++◌, length, ap, ◌∙◌, append_assoc}
+use Rattle.std.proofs.Common.{◌≡◌, ℕ, List, ◌++◌, ap, ◌∙◌, append_assoc}
 use Rattle.ads_formats.specs.SymbolEntry.{SymbolEntry, entry_bytes, entry_len, text_bytes}
 use Rattle.symbol_info.specs.Parts.{words, lengths}
 

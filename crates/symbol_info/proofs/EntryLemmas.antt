@@ -1,5 +1,5 @@
 -- What the parts of an entry that were read say of its bytes.
-use Rattle.std.proofs.Common.{◌≡◌, ℕ, ◌+◌, ◌-◌, ◌<◌, ◌≤◌, Bool, true, false, List, length, take, drop, Option, Some, None, IsNone, refl, sym, ap, subst, ◌∙◌, arith}
+use Rattle.std.proofs.Common.{◌≡◌, ℕ, ◌+◌, ◌-◌, ◌≤◌, true, false, List, length, take, drop, Option, Some, None, IsNone, refl, sym, ap, subst, ◌∙◌, arith}
 use Rattle.std.specs.Prelude.{IsTrue, ◌↔◌, IfSome, option_map}
 use Rattle.std.proofs.lemmas.List.{take_rest}
 use Rattle.symbol_info.specs.declared.entry.Entry.{Entry}

@@ -1,4 +1,4 @@
-use Rattle.std.proofs.Common.{◌≡◌, ◌+◌, ◌-◌, sym, arith}
+use Rattle.std.proofs.Common.{◌-◌, sym, arith}
 use Rattle.std.proofs.lemmas.List.{take_rest}
 use Rattle.notify_frames.proofs.Left.{left_in-short, left_in-next}
 use Rattle.notify_frames.proofs.place.next_stamp.Goals as goal

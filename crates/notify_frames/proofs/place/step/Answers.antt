@@ -1,4 +1,4 @@
-use Rattle.std.proofs.Common.{◌≡◌, sym, ◌∙◌}
+use Rattle.std.proofs.Common.{sym, ◌∙◌}
 use Rattle.notify_frames.proofs.Left.{left_in-last}
 use Rattle.notify_frames.proofs.place.step.Goals as goal
 

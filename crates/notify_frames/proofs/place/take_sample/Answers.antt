@@ -1,4 +1,4 @@
-use Rattle.std.proofs.Common.{◌≡◌, ◌-◌, sym, arith}
+use Rattle.std.proofs.Common.{◌-◌, sym, arith}
 use Rattle.notify_frames.specs.Samples.{sample_meant}
 use Rattle.notify_frames.proofs.Left.{left_in-first, left_in-no_first}
 use Rattle.notify_frames.proofs.place.take_sample.Goals as goal

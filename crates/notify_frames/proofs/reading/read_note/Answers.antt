@@ -1,4 +1,4 @@
-use Rattle.std.proofs.Common.{◌≡◌, Option, Some, List, ℕ, sym, ap, ◌∙◌, arith}
+use Rattle.std.proofs.Common.{Option, Some, List, ℕ, sym, ap, ◌∙◌, arith}
 use Rattle.std.specs.Prelude.{option_map}
 use Rattle.std.proofs.lemmas.List.{take_rest}
 use Rattle.ads_formats.specs.Notification.{Stamp}

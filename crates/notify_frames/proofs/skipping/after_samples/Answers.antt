@@ -1,4 +1,4 @@
-use Rattle.std.proofs.Common.{◌≡◌, ◌+◌, ◌-◌, sym, arith}
+use Rattle.std.proofs.Common.{◌+◌, ◌-◌, sym, arith}
 use Rattle.notify_frames.specs.Samples.{sample_meant}
 use Rattle.notify_frames.proofs.Rests.{samples_go_on, samples_stop, samples_end}
 use Rattle.notify_frames.proofs.skipping.after_samples.Goals as goal

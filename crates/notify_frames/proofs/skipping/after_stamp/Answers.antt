@@ -1,4 +1,4 @@
-use Rattle.std.proofs.Common.{◌≡◌, ◌∙◌, sym, arith}
+use Rattle.std.proofs.Common.{◌∙◌}
 use Rattle.std.proofs.lemmas.List.{take_rest}
 use Rattle.notify_frames.proofs.Rests.{stamp_of-long, stamp_of-short}
 use Rattle.notify_frames.proofs.skipping.after_stamp.Goals as goal

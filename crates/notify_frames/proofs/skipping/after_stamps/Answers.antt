@@ -1,4 +1,4 @@
-use Rattle.std.proofs.Common.{◌≡◌, ◌+◌, ◌-◌, sym, arith}
+use Rattle.std.proofs.Common.{◌+◌, ◌-◌, arith}
 use Rattle.notify_frames.proofs.Rests.{stamps_go_on, stamps_stop, stamps_end}
 use Rattle.notify_frames.proofs.skipping.after_stamps.Goals as goal
 

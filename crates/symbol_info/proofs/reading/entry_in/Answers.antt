@@ -1,10 +1,9 @@
-use Rattle.std.proofs.Common.{◌≡◌, sym, ap, refl, ◌∙◌, arith, inl, inr}
-use Rattle.std.specs.Prelude.{option_map}
+use Rattle.std.proofs.Common.{sym, arith, inl, inr}
 use Rattle.std.proofs.lemmas.List.{take_rest}
-use Rattle.ads_formats.specs.SymbolEntry.{name_place, type_place, comment_place, entry_of}
-use Rattle.ads_formats.specs.Numbers.{number16, number32}
-use Rattle.ads_formats.proofs.EntryLemmas.{Tested, entry_of-refused}
-use Rattle.symbol_info.proofs.EntryLemmas.{TextAt, text_at, no_nul, Numbers, read_is}
+use Rattle.ads_formats.specs.SymbolEntry.{name_place, type_place, comment_place}
+use Rattle.ads_formats.specs.Numbers.{number16}
+use Rattle.ads_formats.proofs.EntryLemmas.{entry_of-refused}
+use Rattle.symbol_info.proofs.EntryLemmas.{text_at, no_nul, Numbers, read_is}
 use Rattle.symbol_info.proofs.reading.entry_in.Goals as goal
 
 pub returns-then-bytes-lt30 : goal.returns-then-bytes-lt30
