@@ -4,6 +4,7 @@ use Rattle.std.specs.Int.{w8, w32, bytes_low_first, cast_unsigned}
 use Rattle.std.proofs.Common.{arith}
 use Rattle.process_image.specs.Bytes.{with_part, after_loan}
 use Rattle.process_image.specs.Spans.{IsWalk}
+use Rattle.process_image.specs.Walked.{walked}
 
 part-written : with_part (1 ∷ 2 ∷ 3 ∷ 4 ∷ []) 1 2 (8 ∷ 9 ∷ []) ≡ 1 ∷ 8 ∷ 9 ∷ 4 ∷ []
 part-written = refl
@@ -19,3 +20,7 @@ minus_one = refl
 
 three_parts : IsWalk (record { at = 0; len = 2 } ∷ record { at = 2; len = 0 } ∷ record { at = 5; len = 3 } ∷ []) 0 8
 three_parts = (omega arith, (omega arith, (omega arith, omega arith)))
+
+two_parts_walked : walked (1 ∷ 2 ∷ 3 ∷ 4 ∷ []) (record { at = 0; len = 1 } ∷ record { at = 2; len = 2 } ∷ []) ((7 ∷ []) ∷ (8 ∷ 9 ∷ []) ∷ [])
+    ≡ 7 ∷ 2 ∷ 8 ∷ 9 ∷ []
+two_parts_walked = refl

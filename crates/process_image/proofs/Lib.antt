@@ -1,4 +1,5 @@
 mod Examples
 pub mod Memory
 pub mod Sharing
+pub mod Walked
 pub mod Walks

@@ -5,3 +5,4 @@ pub mod Ownership
 pub mod Parts
 pub mod Spans
 pub mod Walk
+pub mod Walked

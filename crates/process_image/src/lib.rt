@@ -11,6 +11,6 @@ mod tests;
 
 pub use cell::Cell;
 pub use image::{Image, MAX_IMAGE};
-pub use parts::Parts;
+pub use parts::{Parts, all_else_stays, each_part_stands};
 pub use scalar::Scalar;
 pub use span::Span;

@@ -1,7 +1,9 @@
 //! A walk over parts of an image.
-ghost use Rattle.std.specs.Prelude.{◌≡◌, ◌+◌, ◌<◌, ◌≤◌, ◌↔◌, length, take, drop, IsTrue};
+ghost use Rattle.std.specs.Prelude.{◌≡◌, ◌+◌, ◌<◌, ◌≤◌, ◌↔◌, length, take, drop, IsTrue, ℕ, List, slice_index};
 ghost use Rattle.std.specs.Borrow.{sem};
 ghost use Rattle.process_image.specs.Spans.{AreWithin, IsWalk};
+ghost use Rattle.process_image.specs.Walked.{walked, FitSpans, StandIn, IsOutside};
+ghost use Rattle.process_image.specs.declared.span.Span.{Span};
 
 use crate::image::Image;
 use crate::span::Span;
@@ -52,3 +54,17 @@ impl<'a> Parts<'a> {
         self.image.part_mut(span)
     }
 }
+
+/// After a whole walk each part stands at its span, whatever was written behind it.
+pub fn each_part_stands()
+    ensures { (bytes : List ℕ) (spans : List Span) (parts : List (List ℕ))
+        → IsWalk spans 0 (length bytes) → FitSpans parts spans
+        → StandIn (walked bytes spans parts) parts spans }
+{}
+
+/// After a whole walk every byte outside its spans is as it was.
+pub fn all_else_stays()
+    ensures { (bytes : List ℕ) (spans : List Span) (parts : List (List ℕ)) (k : ℕ)
+        → IsWalk spans 0 (length bytes) → FitSpans parts spans → IsOutside k spans
+        → slice_index (walked bytes spans parts) k ≡ slice_index bytes k }
+{}
