@@ -5,3 +5,6 @@ pub mod SizeLemmas
 mod TypeTextExamples
 pub mod TypeLemmas
 pub mod SameSizes
+pub mod NumberTexts
+pub mod TypeTextLemmas
+pub mod ReadBack

@@ -9,7 +9,7 @@ use Rattle.ads_plant.specs.Listed.{Elem, Plain, Text, Struct, Enum, Shape, One, 
 use Rattle.ads_plant.specs.Trees.{TypeTree, StructTree, EnumTree, NoMember, MemberTrees, tree_at, elem_tree, shape_tree, member_trees, named_tree, trees_behind, trees_of}
 use Rattle.ads_plant.specs.Sizes.{type_size}
 use Rattle.ads_plant.specs.Spelling.{type_text}
-use Rattle.ads_plant.specs.AcceptedTypes.{AreTypes, are_types_behind, is_next_type, has_parts, is_member, is_shape, is_elem, is_structure_at, is_enumeration_at, are_bounds, is_small_type, is_small_shape, LIMIT, elem_within}
+use Rattle.ads_plant.specs.AcceptedTypes.{AreTypes, are_types_behind, is_next_type, has_parts, is_member, is_shape, is_elem, is_structure_at, is_enumeration_at, are_bounds, is_small_type, is_type_name, is_small_shape, LIMIT, elem_within}
 
 -- a longer list has the same at a place
 slice_get-append : {X : Type 0} (xs ys : List X) (p : ℕ) (x : X) → slice_get xs p ≡ Some x → slice_get (xs ++ ys) p ≡ Some x
@@ -88,6 +88,9 @@ named_tree-agree before known more a (Enumeration name base values) h = refl
 next-parts : (before : List NamedType) (t : NamedType) → is_next_type before t ≡ true → has_parts before t ≡ true
 next-parts before t h = (and_parts _ _ ((and_parts _ _ h).0)).1
 
+next-name : (before : List NamedType) (t : NamedType) → is_next_type before t ≡ true → is_type_name (type_name t) ≡ true
+next-name before t h = (and_parts _ _ ((and_parts _ _ ((and_parts _ _ h).0)).0)).0
+
 next-small : (before : List NamedType) (t : NamedType) → is_next_type before t ≡ true → is_small_type (named_tree (trees_of before) t) ≡ true
 next-small before t h = (and_parts _ _ h).1
 
@@ -151,6 +154,7 @@ pub record StandsAt (types : List NamedType) (place : ℕ) (t : NamedType) : Typ
   pub tree : tree_at (trees_of types) place ≡ named_tree (trees_of types) t
   pub parts : has_parts (take place types) t ≡ true
   pub small : type_size (named_tree (trees_of types) t) ≤ LIMIT
+  pub name : is_type_name (type_name t) ≡ true
 
 pub stands_at : (types : List NamedType) (place : ℕ) (t : NamedType) → AreTypes types → slice_get types place ≡ Some t → StandsAt types place t
 unfolding trees_of
@@ -166,6 +170,7 @@ stands_at types place t a e =
       tree = rw zero-add at there;
       parts = next-parts earlier t next;
       small = leb-true _ _ little;
+      name = next-name earlier t next;
     }
   where
     agree : Agree (take place types) (trees_of (take place types)) (trees_of types)

@@ -13,3 +13,4 @@ pub mod World
 pub mod Finding
 pub mod TypeTexts
 pub mod Rights
+pub mod WrittenTypes
