@@ -3,6 +3,7 @@ use Rattle.std.proofs.Common.{◌≡◌, ℕ, ◌-◌, List, [], ◌∷◌, Bool
 use Rattle.std.specs.Prelude.{Option, Some, None, ◌==◌, not}
 use Rattle.std.proofs.lemmas.Bool.{cases_Bool}
 use Rattle.ads_plant.specs.Description.{Rights}
+use Rattle.ads_plant.specs.Rights.{rights_of}
 use Rattle.ads_plant.specs.World.{Plant, PlantPort}
 use Rattle.ads_formats.specs.Codes.{target_port_not_found, target_machine_not_found, unknown_command_id, unknown_ams_command, invalid_ams_length, invalid_size}
 use Rattle.ads_formats.specs.Groups.{Group, SumRead, SumWrite, SumReadWrite}
@@ -18,7 +19,7 @@ use Rattle.ads_machine.specs.Answers.{AnswerTable, answered_group}
 use Rattle.ads_machine.specs.Writes.{Asker}
 use Rattle.ads_machine.specs.Requests.{act_of}
 use Rattle.ads_machine.specs.Sums.{SumRequest, sum_of_reads, sum_of_writes, sum_of_read_writes, given_in_turn}
-use Rattle.ads_machine.specs.Packets.{Decision, NoAnswer, EndConnection, AmsError, refuse, client_after_request, acts_of, decide_parts, decide_single, decide_read_write, decide_request, decide_port, rights_of, decide_target, decide_header, decide, acts_in}
+use Rattle.ads_machine.specs.Packets.{Decision, NoAnswer, EndConnection, AmsError, refuse, client_after_request, acts_of, decide_parts, decide_single, decide_read_write, decide_request, decide_port, decide_target, decide_header, decide, acts_in}
 use Rattle.ads_laws.specs.Soundness.{Each, IsSoundPlant}
 use Rattle.ads_laws.specs.Reachable.{IsPlacedHandle}
 use Rattle.ads_laws.proofs.Footprints.{each_both}

@@ -1,5 +1,5 @@
 -- A client beside a busy one gets what it would get alone, by computation on a short log.
-use Rattle.std.specs.Prelude.{◌≡◌, refl, ℕ, List, [], ◌∷◌, ◌++◌, codes}
+use Rattle.std.specs.Prelude.{◌≡◌, refl, ℕ, List, [], ◌∷◌, ◌++◌, codes, filter}
 use Rattle.ads_formats.specs.Groups.{group_in, group_of}
 use Rattle.ads_formats.specs.Header.{header_of}
 use Rattle.ads_formats.specs.Ranges.{bit_range, byte_range, range_in, size_range}
@@ -48,7 +48,7 @@ use Rattle.ads_machine.specs.Projection.{reads_of, writes_by_others}
 use Rattle.ads_machine.proofs.Plant.{q, named, added, piece, opened, tick, reload, reading, device, start}
 use Rattle.ads_machine.proofs.Hex.{hex}
 
--- connection 1 reads Main.count and watches Flags.bits; connection 2 takes handles, writes Main.axis and Main.title,
+-- connection 1 reads Main.count, watches and writes Flags.bits; connection 2 takes handles, writes Main.axis and Main.title,
 -- watches, and is closed by a broken frame
 abbrev busy : List Move
 busy =
@@ -57,6 +57,7 @@ busy =
     ∷ piece 1 (named 2 0xF003 4 (codes "Main.count")) ∷ piece 2 (q 3 3 (codes "40400000 08000000 02000000 0102"))
     ∷ piece 1 (added 3 (codes "20400000 00000000 01000000 04000000 00000000 00000000")) ∷ piece 2 (added 4 (codes "40400000 08000000 02000000 03000000 00000000 00000000"))
     ∷ tick 1000 ∷ piece 2 (q 3 5 (codes "40400000 48000000 01000000 41"))
+    ∷ piece 1 (q 3 5 (codes "20400000 00000000 01000000 05"))
     ∷ reload (codes "plant2") ∷ piece 2 (hex (codes "0100200000ff")) ∷ tick 2000
     ∷ piece 1 (q 2 4 (codes "05f00000 01000000 04000000")) ∷ []
 

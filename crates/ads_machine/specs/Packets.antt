@@ -3,8 +3,9 @@
 -- project's own choice.
 use Rattle.std.specs.Prelude.{ℕ, ◌%◌, List, [], ◌∷◌, length, not, ◌==◌}
 use Rattle.std.specs.Prelude.{if◌then◌else◌}
-use Rattle.std.specs.Prelude.{Option, Some, None, find, option_map, bytes_eq}
-use Rattle.ads_plant.specs.Description.{Rights, Route}
+use Rattle.std.specs.Prelude.{Option, Some, None, bytes_eq}
+use Rattle.ads_plant.specs.Description.{Rights}
+use Rattle.ads_plant.specs.Rights.{rights_of}
 use Rattle.ads_plant.specs.World.{PlantPort}
 use Rattle.ads_formats.specs.Codes.{target_port_not_found, target_machine_not_found}
 use Rattle.ads_formats.specs.Codes.{unknown_command_id}
@@ -87,11 +88,6 @@ abbrev pub decide_port : AnswerTable → Setup → Client → Rights → AmsHead
 decide_port table d c rights h payload None = AmsError target_port_not_found
 decide_port table d c rights h payload (Some port) =
     decide_command table d c (record { port = port; address = h.source; rights = rights }) h payload
-
--- the rights that the source has by its route; the first route of a machine counts
-abbrev pub rights_of : List ℕ → List Route → Option Rights
-rights_of net routes =
-    option_map (λ (r : Route). r.rights) (find (λ (r : Route). bytes_eq r.net net) routes)
 
 abbrev pub decide_target : AnswerTable → Setup → Client → AmsHeader → List ℕ → Option Rights
     → Decision
