@@ -9,3 +9,4 @@ pub mod PlaceLemmas
 pub mod SumLemmas
 pub mod ServeLemmas
 pub mod OfferLemmas
+pub mod Forgotten

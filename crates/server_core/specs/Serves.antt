@@ -1,5 +1,5 @@
 -- A core stands for a state of the machine.
-use Rattle.std.specs.Prelude.{◌≡◌, ℕ, List, [], ◌∷◌, ◌≤◌, length, filter, not, true, false, Option, None, IsSomeAnd}
+use Rattle.std.specs.Prelude.{◌≡◌, ℕ, List, [], ◌∷◌, ◌≤◌, length, filter, not, is_some, true, false, Option, None, IsSomeAnd}
 use Rattle.ads_machine.specs.Connection.{connection_of}
 use Rattle.ads_machine.specs.Offers.{is_among}
 use Rattle.ads_machine.specs.Summary.{summary_of}
@@ -69,3 +69,10 @@ offer_in core c = offer_among core.connections.items c
 -- at most as many bytes as are offered
 abbrev pub FitsOffer : ℕ → ℕ → Core → Type 0
 FitsOffer n c core = IsSomeAnd (offer_in core c) (λ left. n ≤ length left)
+
+-- a state that has forgotten the connections that are gone
+abbrev pub without_gone : CoreState → CoreState
+without_gone x = record {
+  state = record x.state { connections = present x.state.connections };
+  blocked = filter (λ b. is_some (connection_of b (present x.state.connections))) x.blocked;
+}

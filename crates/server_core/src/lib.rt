@@ -3,12 +3,14 @@
 
 mod answer;
 mod conn;
+mod laws;
 mod outcome;
 mod served_core;
 mod summary;
 #[cfg(test)]
 mod tests;
 
+pub use laws::gone_connections_are_forgotten;
 pub use outcome::Outcome;
 pub use served_core::Core;
 pub use summary::Summary;
