@@ -131,3 +131,54 @@ fn texts_are_read_as_their_values(rt: HostRuntime) -> Result<(), Fail> {
     }
     Ok(())
 }
+
+#[test]
+fn a_text_that_is_cut_is_refused(rt: HostRuntime) -> Result<(), Fail> {
+    let cases: [(u32, u32, &[u8]); 4] = [
+        (30, 9, b"'$27Mix'"),
+        (65, 2, b"16#dead"),
+        (33, 1, b"FALSE"),
+        (33, 1, b"TRUE"),
+    ];
+    for (id, size, text) in cases {
+        for end in 0..text.len() {
+            if size <= 1_048_576 {
+                let value = from_text(rt.alloc(), id, size, &text[..end])?;
+                assert!(rt; value.is_none(), "{id} cut at {end}");
+            }
+        }
+    }
+    Ok(())
+}
+
+fn repeated(alloc: Global, byte: u8, count: u32) -> Result<Octets, Fail> {
+    let mut bytes = Octets::new(alloc);
+    for _ in 0..count {
+        bytes.push(alloc, byte)?;
+    }
+    Ok(bytes)
+}
+
+// The value of the text of a value.
+fn value_again(alloc: Global, id: u32, size: u32, value: &[u8]) -> Result<Octets, Fail> {
+    let mut text = Octets::new(alloc);
+    to_text(alloc, id, value, &mut text)?;
+    if size <= 1_048_576 {
+        if let Some(again) = from_text(alloc, id, size, text.as_slice())? {
+            return Ok(again);
+        }
+    }
+    Ok(Octets::new(alloc))
+}
+
+#[test]
+fn a_mebibyte_comes_back(rt: HostRuntime) -> Result<(), Fail> {
+    let digits = repeated(rt.alloc(), 0xA5, 1_048_576)?;
+    let again = value_again(rt.alloc(), 65, 1_048_576, digits.as_slice())?;
+    assert!(rt; again.as_slice() == digits.as_slice());
+    let mut string = repeated(rt.alloc(), 0xFC, 1_048_575)?;
+    string.push(rt.alloc(), 0)?;
+    let again = value_again(rt.alloc(), 30, 1_048_576, string.as_slice())?;
+    assert!(rt; again.as_slice() == string.as_slice());
+    Ok(())
+}
