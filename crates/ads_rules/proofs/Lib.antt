@@ -1,1 +1,5 @@
 mod Examples
+pub mod FirstWrong
+pub mod ShapesRead
+pub mod TextsRead
+pub mod TypesAccepted

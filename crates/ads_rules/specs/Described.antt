@@ -25,13 +25,13 @@ natural_of (negsuc n) = 0
 abbrev pub rights_of : List ℕ → Option Rights
 rights_of text =
     option_map (λ (r : List ℕ × Rights). r.1) (find (λ (r : List ℕ × Rights). bytes_eq r.0 text)
-      ((codes "read", Read) ∷ (codes "write", Write) ∷ (codes "control", Control) ∷ []))
+    ((codes "read", Read) ∷ (codes "write", Write) ∷ (codes "control", Control) ∷ []))
 
 -- `inputs`, `outputs`, `memory` or `data`
 abbrev pub area_of : List ℕ → Option Area
 area_of text =
     option_map (λ (a : List ℕ × Area). a.1) (find (λ (a : List ℕ × Area). bytes_eq a.0 text)
-      ((codes "inputs", Inputs) ∷ (codes "outputs", Outputs) ∷ (codes "memory", Memory) ∷ (codes "data", Process) ∷ []))
+    ((codes "inputs", Inputs) ∷ (codes "outputs", Outputs) ∷ (codes "memory", Memory) ∷ (codes "data", Process) ∷ []))
 
 -- the base of an enumeration, in any case of letters
 abbrev pub base_of : List ℕ → Option Kind

@@ -45,7 +45,7 @@ is_right_port limit before p =
 unfoldable pub wrong_port : ℤ → List WrittenPort → Option ℕ
 wrong_port schema ports =
     lesser (first_wrong (is_right_port (image_limit schema)) [] ports)
-      (if nat_lt 0 (length ports) && nat_le (length ports) 16 then None else Some 16)
+    (if nat_lt 0 (length ports) && nat_le (length ports) 16 then None else Some 16)
 
 -- rule 15: the upload of each port has at most 2,000,000 bytes
 abbrev pub has_right_upload : List NamedType → WrittenPort → Bool

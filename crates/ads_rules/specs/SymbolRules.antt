@@ -98,7 +98,7 @@ has_other_signal signal s = option_map_or (λ n. not (is_same_number n signal)) 
 abbrev pub is_right_signal : List NamedType → ℕ → List WrittenSymbol → WrittenSymbol → Bool
 is_right_signal types signals before s =
     option_map_or (λ n. is_signal signals n && list_all (has_other_signal n) before
-      && may_have_signal (shape_described types s.type)) s.signal true
+    && may_have_signal (shape_described types s.type)) s.signal true
 
 -- rule 14: signals, each used once through all ports
 unfoldable pub wrong_signal : List NamedType → ℕ → List WrittenPort → Option ℕ

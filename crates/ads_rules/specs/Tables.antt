@@ -64,8 +64,18 @@ symbol_in second t = if_so (only_keys (symbol_keys second) t) (do
   initial ← maybe as_str (codes "initial") t
   signal ← maybe as_integer (codes "signal") t
   writers ← maybe (array_of as_str) (codes "writers") t
-  Some (record { name = name; type = type; area = area; offset = offset; comment = comment;
-    persistent = persistent; read_only = read_only; initial = initial; signal = signal; writers = writers }))
+  Some (record {
+    name = name;
+    type = type;
+    area = area;
+    offset = offset;
+    comment = comment;
+    persistent = persistent;
+    read_only = read_only;
+    initial = initial;
+    signal = signal;
+    writers = writers;
+  }))
 
 abbrev pub port_keys : List (List ℕ)
 port_keys =
@@ -84,8 +94,18 @@ port_in second t = if_so (only_keys port_keys t) (do
   memory ← optional as_integer (pos 0) (codes "memory") t
   process ← optional as_integer (pos 0) (codes "data") t
   symbols ← optional (tables_of (symbol_in second)) [] (codes "symbol") t
-  Some (record { number = number; name = name; major = major; minor = minor; build = build; inputs = inputs;
-    outputs = outputs; memory = memory; process = process; symbols = symbols }))
+  Some (record {
+    number = number;
+    name = name;
+    major = major;
+    minor = minor;
+    build = build;
+    inputs = inputs;
+    outputs = outputs;
+    memory = memory;
+    process = process;
+    symbols = symbols;
+  }))
 
 -- whether `schema` is the integer 2
 abbrev pub is_two : ℤ → Bool
