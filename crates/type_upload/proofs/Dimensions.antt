@@ -1,0 +1,48 @@
+-- Dimensions, read one after another.
+use Rattle.std.proofs.Common.{◌≡◌, ℕ, zero, suc, ◌+◌, ◌-◌, ◌*◌, ◌^◌, ◌<◌, ◌≤◌, List, [], ◌∷◌, ◌++◌, length, drop, refl, sym, ap, subst, ◌∙◌, append_assoc, arith}
+use Rattle.std.specs.Int.{w32, to_le_bytes}
+use Rattle.std.specs.List.{flat_map, AllByRecursion}
+use Rattle.std.proofs.lemmas.List.{length-drop, drop-drop}
+use Rattle.ads_formats.specs.Numbers.{AreBytes, number32}
+use Rattle.ads_formats.specs.TypeEntry.{Dimension, dimension_bytes}
+use Rattle.ads_formats.proofs.Fields.{AreBytes-drop, number32-front, number32-lt, next32}
+
+abbrev pub dimension_at : List ℕ → Dimension
+dimension_at bytes = record { low = number32 0 bytes; count = number32 4 bytes }
+
+abbrev pub dimensions_in : ℕ → List ℕ → List Dimension
+dimensions_in zero bytes = []
+dimensions_in (suc n) bytes = dimension_at bytes ∷ dimensions_in n (drop 8 bytes)
+
+pub length-dimensions_in : (n : ℕ) (bytes : List ℕ) → length (dimensions_in n bytes) ≡ n
+length-dimensions_in zero bytes = refl
+length-dimensions_in (suc n) bytes = ap suc (length-dimensions_in n (drop 8 bytes))
+
+first_dimension : (bytes : List ℕ) → AreBytes bytes → 8 ≤ length bytes → dimension_bytes (dimension_at bytes) ++ drop 8 bytes ≡ bytes
+first_dimension bytes h long =
+    next32 (to_le_bytes w32 (number32 0 bytes)) 4 bytes h long (number32-front 0 bytes h (omega arith))
+
+pub dimensions-front : (n size : ℕ) (bytes : List ℕ) → size ≡ 8 * n → AreBytes bytes → size ≤ length bytes
+    → flat_map dimension_bytes (dimensions_in n bytes) ++ drop size bytes ≡ bytes
+dimensions-front zero size bytes e h long =
+    let none : size ≡ 0 = omega arith in subst (λ (k : ℕ). drop k bytes ≡ bytes) (sym none) refl
+dimensions-front (suc n) size bytes e h long =
+    let first = dimension_bytes (dimension_at bytes) in
+    let others = flat_map dimension_bytes (dimensions_in n (drop 8 bytes)) in
+    let behind : others ++ drop (size - 8) (drop 8 bytes) ≡ drop 8 bytes =
+    dimensions-front n (size - 8) (drop 8 bytes) (omega arith) (AreBytes-drop 8 bytes h) (omega (arith, length-drop 8 bytes)) in
+    let end : 8 + (size - 8) ≡ size = omega arith in
+    let last : drop (size - 8) (drop 8 bytes) ≡ drop size bytes = drop-drop (size - 8) 8 bytes ∙ ap (λ (k : ℕ). drop k bytes) end in
+    append_assoc first others (drop size bytes)
+    ∙ (ap (λ (l : List ℕ). first ++ (others ++ l)) (sym last)
+    ∙ (ap (λ (l : List ℕ). first ++ l) behind ∙ first_dimension bytes h (omega arith)))
+
+pub dimensions_fit : (n : ℕ) (bytes : List ℕ) → AreBytes bytes
+    → AllByRecursion (λ (d : Dimension). (d.low < 2 ^ 32) × (d.count < 2 ^ 32)) (dimensions_in n bytes)
+dimensions_fit zero bytes h = tt
+dimensions_fit (suc n) bytes h =
+    ((number32-lt 0 bytes h, number32-lt 4 bytes h), dimensions_fit n (drop 8 bytes) (AreBytes-drop 8 bytes h))
+
+pub length-dimensions : (ds : List Dimension) → length (flat_map dimension_bytes ds) ≡ 8 * length ds
+length-dimensions [] = refl
+length-dimensions (d ∷ ds) = let others = length-dimensions ds in omega arith

@@ -1,0 +1,5 @@
+pub mod TestLemmas
+pub mod Dimensions
+pub mod FieldLemmas
+pub mod SubLemmas
+pub mod ReadLemmas
