@@ -9,9 +9,10 @@ use crate::places::{Places, places_in};
 use crate::skipping::after_subs;
 use ads_base::{get16, get32};
 
-/// The first entry, and the bytes after it. Version and hashes may be anything. What stands behind the last sub entry up to the entry
-/// length is skipped, and in a sub entry what stands behind its dimensions. `None` where no entry stands in front: a length
-/// does not cover what it counts or goes past the bytes, a text does not end in NUL, or a sub entry has sub items.
+/// The first entry, and the bytes after it. Version and hashes may be anything. What stands behind the last sub entry
+/// up to the entry length is skipped, and in a sub entry what stands behind its dimensions. `None` where no entry
+/// stands in front: a length does not cover what it counts or goes past the bytes, a text does not end in NUL, or a
+/// sub entry has sub items.
 pub fn read_type(bytes: &[u8]) -> Option<(TypeEntry<'_>, &[u8])>
     ensures text { IfSome result (λ (e, rest). IsRead bytes.now e rest.now) }
     ensures none { IsNone result ↔ BeginsWithNone bytes.now }

@@ -10,8 +10,8 @@ const ACTIVE: [u8; 55] = [
     b'L', 0, 0,
 ];
 
-// A structure `S` of 4 bytes, id 65, flags 1, version 9, hashes 7 and 8. Its two sub entries: `a`, 2 INT from index -1 on,
-// id 2, with a further byte behind its dimension, and `b`, of no bytes. Then a further byte, and one behind the entry.
+// A structure `S` of 4 bytes, id 65, flags 1, version 9, hashes 7 and 8. Its two sub entries: `a`, 2 INT from index -1
+// on, id 2, with a further byte behind its dimension, and `b`, of no bytes. Then a further byte, and one behind.
 const STRUCTURE: [u8; 155] = [
     // the entry of `S`: length 154, no dimension, two sub items
     154, 0, 0, 0, 9, 0, 0, 0, 7, 0, 0, 0, 8, 0, 0, 0, 4, 0, 0, 0, 0, 0, 0, 0, 65, 0, 0, 0, 1, 0, 0,
@@ -71,7 +71,7 @@ fn sub_entries_are_read_one_after_another(rt: HostRuntime) {
 
 #[test]
 fn other_texts_are_none(rt: HostRuntime) {
-    // The entry's length, a NUL, the number of sub entries; a sub entry's length, its NULs, its dimensions, its sub items.
+    // The entry's length, NULs and number of sub entries; a sub entry's length, NULs, dimensions and sub items.
     let wrong = [
         (0, 152),
         (3, 1),
