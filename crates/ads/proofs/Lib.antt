@@ -1,0 +1,9 @@
+pub mod EndLemmas
+pub mod FramesLemmas
+pub mod WholePlayLemmas
+pub mod FreshLemmas
+pub mod PlayLemmas
+pub mod ServeLemmas
+pub mod TextLemmas
+pub mod TurnLemmas
+pub mod UnderWayLemmas

@@ -1,0 +1,12 @@
+use Rattle.ads.proofs.EndLemmas.{Prints-memory}
+use Rattle.ads.proofs.FramesLemmas.{gives_frames_in_order}
+use Rattle.ads.proofs.run.run.Goals as goal
+
+pub returns-in-Ok-clause-frames : goal.returns-in-Ok-clause-frames
+returns-in-Ok-clause-frames g c = λ script lines e. gives_frames_in_order lines
+
+pub returns-in-Err-clause-frames : goal.returns-in-Err-clause-frames
+returns-in-Err-clause-frames g c = λ script lines e. gives_frames_in_order lines
+
+pub returns-in-Err-clause-text : goal.returns-in-Err-clause-text
+returns-in-Err-clause-text g c = Prints-memory _ _ _ _ _ c.end_without_memory.ensures.memory c.end_without_memory.ensures.line

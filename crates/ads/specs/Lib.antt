@@ -1,0 +1,11 @@
+pub mod StatusNumber
+pub mod LastLine
+pub mod Selftest
+pub mod Verdict
+pub mod Ends
+pub mod FramesInOrder
+pub mod Outcomes
+pub mod Endings
+pub mod WholePlay
+pub mod Fresh
+pub mod Playing
