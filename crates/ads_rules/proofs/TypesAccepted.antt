@@ -187,7 +187,7 @@ unfolding rest_of
 length-rest known [] = refl
 length-rest known (t ∷ ts) = ap suc (length-rest (known ++ type_described known t ∷ []) ts)
 
-lesser-none : (a b : Option ℕ) → lesser a b ≡ None → (a ≡ None) × (b ≡ None)
+pub lesser-none : (a b : Option ℕ) → lesser a b ≡ None → (a ≡ None) × (b ≡ None)
 lesser-none None b e = (refl, e)
 lesser-none (Some i) None e = cc
 lesser-none (Some i) (Some j) e = cc
@@ -202,7 +202,7 @@ at_most n h =
       | inr t ↦ ltb-false 1000 n t
     ]
 
-when_all : (b : Bool) (o : Option ℕ) → (if b then o else Some 0) ≡ None → (b ≡ true) × (o ≡ None)
+pub when_all : (b : Bool) (o : Option ℕ) → (if b then o else Some 0) ≡ None → (b ≡ true) × (o ≡ None)
 when_all true o h = (refl, h)
 when_all false o h = cc
 
