@@ -15,7 +15,10 @@ fn net(last: u8) -> NetId {
 fn the_first_route_of_a_machine_counts(rt: HostRuntime) -> Result<(), Fail> {
     let mut list = Routes4::new(rt.alloc());
     for (last, rights) in [(9, Rights::Control), (10, Rights::Read), (9, Rights::Write)] {
-        let route = RouteDesc { net: net(last), rights };
+        let route = RouteDesc {
+            net: net(last),
+            rights,
+        };
         list.push(rt.alloc(), route)?;
     }
     let routes = Routes::build(rt.alloc(), &list)?;
