@@ -1,6 +1,6 @@
 -- The place of an element by its two or three indexes.
-use Rattle.std.proofs.Common.{◌≡◌, ℕ, ◌+◌, ◌*◌, ◌<◌, ◌≤◌, List, [], ◌∷◌, length, get_or, refl, sym, ◌∙◌, ap, subst, arith, ◌≢◌}
-use Rattle.std.specs.Prelude.{Option, Some, None, ℤ}
+use Rattle.std.proofs.Common.{◌≡◌, ℕ, ◌+◌, ◌*◌, ◌<◌, ◌≤◌, List, [], ◌∷◌, length, get_or, sym, ◌∙◌, ap, arith, ◌≢◌}
+use Rattle.std.specs.Prelude.{Some, None, ℤ}
 use Rattle.ads_plant.specs.Sizes.{element_count}
 use Rattle.ads_plant.specs.Parts.{within, element_from}
 use Rattle.ads_plant.specs.AcceptedTypes.{LIMIT}

@@ -1,19 +1,19 @@
 -- What stands at a place of the code's list of types.
 use Rattle.std.proofs.Common.{◌≡◌, ℕ, ◌+◌, ◌<◌, ◌≤◌, max, List, [], ◌∷◌, length, get_or, map, drop, true, false, refl, ◌∙◌, ap, arith}
 use Rattle.std.proofs.lemmas.List.{length-map, drop_all}
-use Rattle.std.specs.Prelude.{Option, Some, None, slice_get, option_map, bytes_eq}
+use Rattle.std.specs.Prelude.{Some, None, slice_get, option_map, bytes_eq}
 use Rattle.std.proofs.lemmas.Option.{slice_get_read, slice_get-map}
-use Rattle.ads_plant.specs.Trees.{tree_at, trees_of, EnumTree, named_tree, member_trees, tree_of}
+use Rattle.ads_plant.specs.Trees.{tree_at, trees_of, member_trees, tree_of}
 use Rattle.ads_plant.specs.Sizes.{aligned, member_start, members_end, greatest_align, type_size, type_align}
 use Rattle.name_paths.specs.Identifier.{lower}
 use Rattle.ads_plant.specs.Parts as found
 use Rattle.ads_plant.specs.Parts.{member_from}
 use Rattle.ads_plant.specs.Listed as plain
 use Rattle.ads_plant.proofs.SizeLemmas.{greatest_align-bounds}
-use Rattle.ads_plant.specs.AcceptedTypes.{AreTypes, LIMIT, is_enumeration_at, is_structure_at}
+use Rattle.ads_plant.specs.AcceptedTypes.{AreTypes, LIMIT, is_structure_at}
 use Rattle.ads_plant.specs.Listed.{is_enumeration, is_structure, Structure}
 use Rattle.ads_plant.proofs.TypeLemmas.{StandsAt, stands_at, at-below}
-use Rattle.type_layout.specs.Shapes.{kind_of, shape_of}
+use Rattle.type_layout.specs.Shapes.{shape_of}
 use Rattle.type_layout.specs.NamedTypes.{types_of, named_type_of, enumeration_of, structure_of, member_of}
 use Rattle.type_layout.specs.declared.named_type.NamedType.{NamedType}
 use Rattle.type_layout.specs.declared.named_type.NamedType.TheVariants as named

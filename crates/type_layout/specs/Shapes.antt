@@ -1,5 +1,5 @@
 -- The plain kinds, elements, bounds and shapes that the code's values are.
-use Rattle.std.specs.Prelude.{List, [], ◌∷◌, map}
+use Rattle.std.specs.Prelude.{List, map}
 use Rattle.ads_plant.specs.Plain as plain
 use Rattle.ads_plant.specs.Listed as listed
 use Rattle.type_layout.specs.declared.kind.Kind.{Kind}

@@ -1,7 +1,7 @@
 -- Each member is sized and names earlier types, so the recursion falls and all numbers fit; what is left of the members goes on from where they end.
-use Rattle.std.proofs.Common.{rules, ◌≡◌, ◌+◌, ◌*◌, ◌<◌, ◌≤◌, max, length, drop, map, arith, refl, sym, ◌∙◌, add-zero}
-use Rattle.ads_plant.specs.Sizes.{type_size, type_align, members_end, greatest_align, member_start, aligned, element_count}
-use Rattle.ads_plant.specs.Trees.{trees_of, tree_of, shape_tree, member_trees}
+use Rattle.std.proofs.Common.{rules, ◌≡◌, ◌≤◌, map, arith, refl, ◌∙◌}
+use Rattle.ads_plant.specs.Sizes.{type_size, type_align, member_start}
+use Rattle.ads_plant.specs.Trees.{trees_of, tree_of, member_trees}
 use Rattle.ads_plant.specs.AcceptedTypes.{LIMIT, elem_within}
 use Rattle.ads_plant.proofs.SizeLemmas.{greatest_align-bounds}
 use Rattle.ads_plant.proofs.TypeLemmas.{rank}

@@ -1,5 +1,5 @@
 -- The recursion falls by the places of named types; the loop keeps where the members end and their greatest alignment.
-use Rattle.std.proofs.Common.{◌≡◌, ◌+◌, ◌*◌, ◌<◌, ◌≤◌, max, map, drop}
+use Rattle.std.proofs.Common.{◌≡◌, ◌+◌, ◌*◌, ◌<◌, max, map, drop}
 use Rattle.ads_plant.specs.Trees.{trees_of, member_trees}
 use Rattle.ads_plant.specs.Sizes.{members_end, greatest_align}
 use Rattle.ads_plant.specs.AcceptedTypes.{elem_within}

@@ -1,5 +1,5 @@
 -- The tree at the place is that of the enumeration which stands there.
-use Rattle.std.proofs.Common.{◌<◌, length, arith}
+use Rattle.std.proofs.Common.{◌<◌, length}
 use Rattle.std.proofs.lemmas.List.{length-map}
 use Rattle.ads_plant.specs.Sizes.{type_size, type_align}
 use Rattle.ads_plant.specs.Listed.{is_enumeration}

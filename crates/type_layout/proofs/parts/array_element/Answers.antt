@@ -1,11 +1,8 @@
 -- The element's number is below their number, so it ends within the array.
-use Rattle.std.proofs.Common.{◌≡◌, ◌<◌, ◌≤◌, arith, refl, sym}
-use Rattle.std.specs.Prelude.{Some}
+use Rattle.std.proofs.Common.{arith, refl, sym}
 use Rattle.name_paths.specs.Indexes.{numbers_of_indexes}
-use Rattle.ads_plant.specs.Listed.{Array}
-use Rattle.ads_plant.specs.Trees.{tree_of, elem_tree, trees_of}
+use Rattle.ads_plant.specs.Trees.{elem_tree, trees_of}
 use Rattle.ads_plant.specs.Sizes.{element_count, type_size}
-use Rattle.ads_plant.specs.AcceptedTypes.{LIMIT}
 use Rattle.ads_plant.proofs.PartLemmas.{element_from-lt}
 use Rattle.type_layout.specs.Shapes.{elem_of, bounds_of}
 use Rattle.type_layout.specs.NamedTypes.{types_of}

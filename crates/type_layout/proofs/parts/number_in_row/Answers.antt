@@ -1,5 +1,5 @@
 -- One index needs one dimension.
-use Rattle.std.proofs.Common.{◌≡◌, ◌∷◌, [], length, arith}
+use Rattle.std.proofs.Common.{◌∷◌, [], arith}
 use Rattle.type_layout.proofs.Numbers.{no_number}
 use Rattle.type_layout.proofs.parts.number_in_row.Goals as goal
 

@@ -1,12 +1,11 @@
 -- Each member is sized; the one with the name stands where the members before it end.
-use Rattle.std.proofs.Common.{rules, ◌≡◌, ◌+◌, ◌<◌, ◌≤◌, List, Bool, true, false, length, drop, map, arith, refl, sym, ◌∙◌, ap}
-use Rattle.std.specs.Prelude.{Option, Some, None, option_map, bytes_eq}
+use Rattle.std.proofs.Common.{rules, ◌≡◌, true, false, arith, refl, ◌∙◌}
+use Rattle.std.specs.Prelude.{bytes_eq}
 use Rattle.name_paths.specs.Identifier.{lower}
-use Rattle.ads_plant.specs.Sizes.{type_size, type_align, members_end, member_start}
-use Rattle.ads_plant.specs.Trees.{trees_of, tree_of, tree_at}
-use Rattle.ads_plant.specs.Parts.{TypePart, MemberPart}
-use Rattle.type_layout.specs.Shapes.{shape_of, shape_of_ref}
-use Rattle.type_layout.specs.NamedTypes.{types_of, member_of}
+use Rattle.ads_plant.specs.Sizes.{type_size, type_align, member_start}
+use Rattle.ads_plant.specs.Trees.{tree_of}
+use Rattle.type_layout.specs.Shapes.{shape_of}
+use Rattle.type_layout.specs.NamedTypes.{types_of}
 use Rattle.type_layout.proofs.MemberTurns.{member_start-align}
 use Rattle.type_layout.proofs.Places.{member_turn, member_found, member_passed, member_missing}
 use Rattle.type_layout.proofs.parts.structure_member.Goals as goal

@@ -1,6 +1,6 @@
 -- A route is added at the end where its NetId has none; else nothing changes.
-use Rattle.std.proofs.Common.{◌≡◌, List, [], ◌∷◌, ◌++◌, true, false, map, refl, sym, ◌∙◌, ap}
-use Rattle.std.specs.Prelude.{Option, Some, None, is_some, option_map}
+use Rattle.std.proofs.Common.{◌≡◌, [], ◌∷◌, ◌++◌, true, false, map, refl, sym, ◌∙◌, ap}
+use Rattle.std.specs.Prelude.{None, is_some}
 use Rattle.ads_plant.specs.Rights.{rights_of}
 use Rattle.type_layout.specs.Descriptions as seen
 use Rattle.net_routes.specs.Shown.{shown}
