@@ -1,0 +1,13 @@
+pub mod Built
+pub mod Extents
+pub mod Faults
+pub mod Keys
+pub mod Known
+pub mod KnownTypes
+pub mod Next
+pub mod Numbers
+pub mod Parts
+pub mod Placed
+pub mod TypeNames
+pub mod TypesLeft
+pub mod Views

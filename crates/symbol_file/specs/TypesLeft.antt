@@ -1,0 +1,15 @@
+-- For private contracts, and cited by no public clause: the types that are still to be built.
+use Rattle.std.specs.Prelude.{ℕ, List, [], ◌∷◌, ◌++◌, map, unwrap_or}
+use Rattle.ads_plant.specs.Plain.{SINT}
+use Rattle.ads_plant.specs.Listed.{NamedType, Enumeration}
+use Rattle.ads_rules.specs.Written.{WrittenType, WrittenValue}
+use Rattle.ads_rules.specs.Described.{base_of, type_described, value_described}
+
+abbrev pub enumeration_described : List ℕ → List ℕ → List WrittenValue → NamedType
+enumeration_described name base values =
+    Enumeration name (unwrap_or (base_of base) SINT) (map value_described values)
+
+-- the types that go behind these, each in terms of the ones before it
+unfoldable pub types_left : List NamedType → List WrittenType → List NamedType
+types_left known [] = []
+types_left known (t ∷ ts) = type_described known t ∷ types_left (known ++ type_described known t ∷ []) ts

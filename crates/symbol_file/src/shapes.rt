@@ -1,0 +1,70 @@
+//! The types that texts name.
+ghost use Rattle.std.specs.Prelude.{◌≡◌, ◌≤◌, ◌<◌, length, map, position, option_map, nat_le, not, IfSome, IfOk};
+ghost use Rattle.ads_plant.specs.Listed.{type_name, is_structure};
+ghost use Rattle.ads_plant.specs.TypeTexts as texts;
+ghost use Rattle.ads_rules.specs.Shapes.{place_named, elem_at, elem_named};
+ghost use Rattle.type_layout.specs.Shapes.{elem_of};
+ghost use Rattle.type_layout.specs.ReadTexts.{elem_text_of};
+ghost use Rattle.type_layout.specs.NamedTypes.{types_of, named_type_of};
+
+use crate::names::is_same_word;
+use type_layout::{Elem, ElemText, NamedType};
+
+/// The element that a text names among these types.
+pub fn elem_named(types: &[NamedType], elem: ElemText<'_>) -> Option<Elem>
+    requires { length types.now ≤ 1000 }
+    ensures { option_map elem_of result ≡ elem_named (types_of types.now) (elem_text_of elem.entry) }
+{
+    match elem {
+        ElemText::Plain(kind) => Some(Elem::Plain(kind)),
+        ElemText::Text(n) => Some(Elem::Text(n)),
+        ElemText::Named(name) => {
+            let place = place_named(types, name)?;
+            Some(elem_at(types, place))
+        }
+    }
+}
+
+// The place of the first type with this name, ASCII case aside.
+fn place_named(types: &[NamedType], name: &[u8]) -> Option<usize>
+    ensures place { result ≡ place_named (types_of types.now) name.now }
+    ensures within { IfSome result (λ i. i < length types.now) }
+{
+    for (i, t) in types.iter().enumerate() {
+        if is_same_word(name_of(t), name) {
+            return Some(i);
+        }
+    }
+    None
+}
+
+/// The name of a type.
+pub fn name_of(t: &NamedType) -> &[u8]
+    ensures { result.now ≡ type_name (named_type_of t.now) }
+{
+    match t {
+        NamedType::Struct(s) => s.name.as_slice(),
+        NamedType::Enum(e) => e.name.as_slice(),
+    }
+}
+
+fn elem_at(types: &[NamedType], place: usize) -> Elem
+    requires few { length types.now ≤ 1000 }
+    requires within { place < length types.now }
+    ensures { elem_of result ≡ elem_at (types_of types.now) place }
+{
+    if is_structure(&types[place]) {
+        Elem::Struct(place as u16)
+    } else {
+        Elem::Enum(place as u16)
+    }
+}
+
+fn is_structure(t: &NamedType) -> bool
+    ensures { result ≡ is_structure (named_type_of t.now) }
+{
+    match t {
+        NamedType::Struct(_) => true,
+        NamedType::Enum(_) => false,
+    }
+}
