@@ -90,6 +90,7 @@ impl Core {
         requires { FitsOffer n conn self.old }
         ensures follows { (x : CoreState) (left bytes : List ℕ) → Serves self.old x → offer_in self.old conn ≡ Some left
             → length bytes ≡ n → Follows self.old self.new x (after_move x (move.Took conn (length left) bytes)) }
+        ensures from_then_on { HasFailed self.old → HasFailed self.new }
     {
         if let Some(i) = self.place_of(conn) {
             let conn = &mut self.connections[i];
@@ -111,6 +112,7 @@ impl Core {
     pub fn remove(&mut self, conn: u32)
         ensures shut { (x : CoreState) → Serves self.old x → Follows self.old self.new x (after_move x (move.Shut conn)) }
         ensures lost { (x : CoreState) → Serves self.old x → Follows self.old self.new x (after_move x (move.Lost conn)) }
+        ensures from_then_on { HasFailed self.old → HasFailed self.new }
     {
         self.end(conn);
     }

@@ -28,10 +28,12 @@ returns-in-Some c = record {
       let follows = took_at conns x c.args.conn c.in-Some.i conn new c.args.self.now.summary left bytes s.connections c.in-Some.ensures.found c.index_mut-conn.ensures.value
       goes offer.free mark in
       record { serves = record { working = s.working; connections = follows.serves }; counted = follows.counted };
+  from_then_on = λ failed. failed;
 }
 
 pub returns-in_default : goal.returns-in_default
 returns-in_default c = record {
   follows = λ x left bytes s offered taken.
       absurd (let both = sym (offer_absent c.args.self.now.connections.items c.args.conn c.in_default.ensures.absent) ∙ offered in cc);
+  from_then_on = λ failed. failed;
 }
