@@ -101,8 +101,8 @@ types_behind-left : (known : List NamedType) (ws : List WrittenType) → types_b
 unfolding types_behind types_left
 types_behind-left known [] = sym (append-nil known)
 types_behind-left known (w ∷ ws) =
-  let d = type_described known w in
-  types_behind-left (known ++ d ∷ []) ws ∙ append_assoc known (d ∷ []) (types_left (known ++ d ∷ []) ws)
+    let d = type_described known w in
+    types_behind-left (known ++ d ∷ []) ws ∙ append_assoc known (d ∷ []) (types_left (known ++ d ∷ []) ws)
 
 -- before the first type
 pub types_described-left : (ws : List WrittenType) → types_described ws ≡ types_left [] ws

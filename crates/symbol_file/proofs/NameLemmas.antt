@@ -23,9 +23,9 @@ module _ {X : Type 0} (p : X → Bool) where
   reached_yes x xs e = rw e (lt-ltb 0 (length (x ∷ xs)) (omega arith))
 
   reached_no : (x : X) (xs : List X) → p x ≡ false → nat_lt (position_or_len p xs) (length xs) ≡ list_any p xs
-    → nat_lt (position_or_len p (x ∷ xs)) (length (x ∷ xs)) ≡ list_any p (x ∷ xs)
+      → nat_lt (position_or_len p (x ∷ xs)) (length (x ∷ xs)) ≡ list_any p (x ∷ xs)
   reached_no x xs e h =
-    rw e (⊎_elim (λ k. lt-ltb (1 + position_or_len p xs) (length (x ∷ xs)) (omega arith) ∙ sym (lt-ltb (position_or_len p xs) (length xs) k) ∙ h)
+      rw e (⊎_elim (λ k. lt-ltb (1 + position_or_len p xs) (length (x ∷ xs)) (omega arith) ∙ sym (lt-ltb (position_or_len p xs) (length xs) k) ∙ h)
       (λ k. le-ltb (1 + position_or_len p xs) (length (x ∷ xs)) (omega arith) ∙ sym (le-ltb (position_or_len p xs) (length xs) k) ∙ h)
       (cases_lt (position_or_len p xs) (length xs)))
 
@@ -49,25 +49,25 @@ names-behind : (known : List NamedType) (ws : List WrittenType) → map type_nam
 unfolding types_behind
 names-behind known [] = sym (append-nil (map type_name known))
 names-behind known (w ∷ ws) =
-  let d = type_described known w in
-  names-behind (known ++ d ∷ []) ws ∙ ap (λ (names : List (List ℕ)). names ++ map written_name ws) (map-append type_name known (d ∷ []))
+    let d = type_described known w in
+    names-behind (known ++ d ∷ []) ws ∙ ap (λ (names : List (List ℕ)). names ++ map written_name ws) (map-append type_name known (d ∷ []))
     ∙ append_assoc (map type_name known) (type_name d ∷ []) (map written_name ws)
     ∙ ap (λ (name : List ℕ). map type_name known ++ name ∷ map written_name ws) (type_name-described known w)
 
 names_only-built : (ws : List WrittenType) (ends : List Ends) (elem : ElemText)
-  → names_only ws elem ≡ is_some (option_map (shape_with ends) (elem_named (types_described ws) elem))
+    → names_only ws elem ≡ is_some (option_map (shape_with ends) (elem_named (types_described ws) elem))
 names_only-built ws ends (PlainText kind) = refl
 names_only-built ws ends (StringText n) = refl
 names_only-built ws ends (NamedText name) =
-  let types = types_described ws in
-  let same = λ (other : List ℕ). is_same_word other name in
-  sym (list_any-map same written_name ws) ∙ ap (list_any same) (sym (names-behind [] ws)) ∙ list_any-map same type_name types
+    let types = types_described ws in
+    let same = λ (other : List ℕ). is_same_word other name in
+    sym (list_any-map same written_name ws) ∙ ap (list_any same) (sym (names-behind [] ws)) ∙ list_any-map same type_name types
     ∙ sym (is_some-position (λ t. is_same_word (type_name t) name) types)
     ∙ sym (is_some-option_map (elem_at types) (place_named types name))
     ∙ sym (is_some-option_map (shape_with ends) (option_map (elem_at types) (place_named types name)))
 
 by_text : (ws : List WrittenType) (o : Option TypeText)
-  → option_map_or (λ (t : TypeText). names_only ws t.elem) o false ≡ is_some (option_and_then (shape_named (types_described ws)) o)
+    → option_map_or (λ (t : TypeText). names_only ws t.elem) o false ≡ is_some (option_and_then (shape_named (types_described ws)) o)
 by_text ws None = refl
 by_text ws (Some t) = names_only-built ws t.ends t.elem
 

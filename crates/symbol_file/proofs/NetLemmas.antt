@@ -24,7 +24,7 @@ no_full_stop n small = λ k d below. ne_eqb _ 46 (λ e. decimal-free 46 n (omega
 numerals : IsNumeralModel (AllDigits 10) number_of_digits
 numerals = numerals_by_fold (AllDigits 10) tells_digits number_from (record {
   empty = λ n. refl;
-  more = λ n c cs h. ap (λ m. number_from m cs) (omega arith)
+  more = λ n c cs h. ap (λ m. number_from m cs) (omega arith);
 })
 
 value-decimal : (n : ℕ) → nat_le n 255 ≡ true → number_of_digits (decimal n) ≡ n

@@ -39,7 +39,7 @@ swapped true false false = refl
 swapped false b c = refl
 
 same_use : (o : Option ℤ) (signal other : ℤ → Bool) (may : Bool)
-  → option_map_or (λ n. option_map_or (λ m. signal m && may) o true && other n) o true ≡ option_map_or (λ n. (signal n && other n) && may) o true
+    → option_map_or (λ n. option_map_or (λ m. signal m && may) o true && other n) o true ≡ option_map_or (λ n. (signal n && other n) && may) o true
 same_use None signal other may = refl
 same_use (Some n) signal other may = swapped (signal n) may (other n)
 
