@@ -13,3 +13,4 @@ pub mod KnownLemmas
 pub mod PlaceLemmas
 pub mod NumberLemmas
 pub mod NameLemmas
+pub mod RouteLemmas

@@ -18,6 +18,7 @@ mod port_rules;
 mod ports;
 mod route_rules;
 mod routes;
+mod seen;
 mod shape_building;
 mod shapes;
 mod size_rules;

@@ -1,13 +1,17 @@
 //! Description rules 3 to 5: the schema, NetIds, and the rights of routes.
-ghost use Rattle.std.specs.Prelude.{◌≡◌, ◌<◌, [], length, map, not, bytes_eq, IfSome};
-ghost use Rattle.std.specs.List.{list_all};
+ghost use Rattle.std.specs.Prelude.{◌≡◌, ◌<◌, [], length, map, is_some, IfOk, IfSome};
 ghost use Rattle.ads_rules.specs.Places.{first_wrong};
 ghost use Rattle.ads_rules.specs.RouteRules.{wrong_schema, wrong_net, wrong_rights, is_right_route};
+ghost use Rattle.ads_rules.specs.Nets.{net_of};
+ghost use Rattle.symbol_file.specs.Next.{IsNext};
 ghost use Rattle.symbol_file.specs.Views.{route_view};
 
 use crate::nets::read_net;
+use crate::seen::SeenTexts;
 use crate::words::read_rights;
 use crate::written::WrittenRoute;
+use ads_base::NoMemory;
+use std::alloc::Global;
 
 /// Rule 3: the schema is 1 or 2.
 #[tactic(auto, unfolding(ads_rules::specs::RouteRules::wrong_schema))]
@@ -23,41 +27,46 @@ pub fn wrong_schema(schema: i64) -> Option<usize>
 
 /// Rule 4: NetIds, item 0 for the machine's own and 1 plus the place for a route's.
 #[tactic(auto, unfolding(ads_rules::specs::RouteRules::wrong_net))]
-pub fn wrong_net(net: &[u8], routes: &[WrittenRoute<'_>]) -> Option<usize>
-    ensures { result ≡ wrong_net net.now (map route_view routes.now) }
+pub fn wrong_net(
+    alloc: Global,
+    net: &[u8],
+    routes: &[WrittenRoute<'_>],
+) -> Result<Option<usize>, NoMemory>
+    ensures { IfOk result (λ place. place ≡ wrong_net net.now (map route_view routes.now)) }
 {
     if read_net(net).is_none() {
-        return Some(0);
+        return Ok(Some(0));
     }
-    match wrong_route(routes) {
-        None => None,
-        Some(place) => Some(place + 1),
+    match wrong_route(alloc, routes)? {
+        None => Ok(None),
+        Some(place) => Ok(Some(place + 1)),
     }
 }
 
-fn wrong_route(routes: &[WrittenRoute<'_>]) -> Option<usize>
-    ensures first { result ≡ first_wrong is_right_route [] (map route_view routes.now) }
-    ensures within { IfSome result (λ i. i < length routes.now) }
+fn wrong_route(alloc: Global, routes: &[WrittenRoute<'_>]) -> Result<Option<usize>, NoMemory>
+    ensures first { IfOk result (λ place. place ≡ first_wrong is_right_route [] (map route_view routes.now)) }
+    ensures within { IfOk result (λ place. IfSome place (λ i. i < length routes.now)) }
 {
+    let mut seen = SeenTexts::new(alloc);
     for (i, route) in routes.iter().enumerate() {
-        if !is_right_route(&routes[..i], route) {
-            return Some(i);
+        if !is_right_route(alloc, &mut seen, route)? {
+            return Ok(Some(i));
         }
     }
-    None
+    Ok(None)
 }
 
-#[tactic(auto, using(crate::proofs::Mapped::mapped))]
-fn is_right_route(before: &[WrittenRoute<'_>], route: &WrittenRoute<'_>) -> bool
-    ensures { result ≡ is_right_route (map route_view before.now) (route_view route.now) }
+fn is_right_route(
+    alloc: Global,
+    seen: &mut SeenTexts,
+    route: &WrittenRoute<'_>,
+) -> Result<bool, NoMemory>
+    ensures { IfOk result (λ right. IsNext (is_some (net_of route.now.net.now)) seen.old seen.new route.now.net.now right) }
 {
-    read_net(route.net).is_some() && is_new_net(before, route.net)
-}
-
-fn is_new_net(before: &[WrittenRoute<'_>], net: &[u8]) -> bool
-    ensures { result ≡ list_all (λ e. not (bytes_eq e.net.now net.now)) before.now }
-{
-    before.iter().all(|e| e.net != net)
+    if read_net(route.net).is_none() {
+        return Ok(false);
+    }
+    seen.add(Vec::from_slice(alloc, route.net)?)
 }
 
 /// Rule 5: the rights of each route.

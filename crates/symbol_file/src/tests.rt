@@ -11,7 +11,7 @@ fn fault_of(alloc: Global, text: &str, signals: u32) -> Result<(u8, u32), NoMemo
     let Some(document) = document_in(alloc, &table)? else {
         return Ok((2, 0));
     };
-    if let Some(fault) = fault_in_types(&document) {
+    if let Some(fault) = fault_in_types(alloc, &document)? {
         return Ok((fault.number, fault.item));
     }
     if document.types.len() > 1000 {

@@ -31,29 +31,29 @@ pub struct BrokenRule {
 }
 
 /// The least broken rule of rules 3 to 7, and in it the least item.
-pub fn fault_in_types(d: &Document<'_>) -> Option<BrokenRule>
-    ensures fault { option_map fault_view result ≡ first_broken (
+pub fn fault_in_types(alloc: Global, d: &Document<'_>) -> Result<Option<BrokenRule>, NoMemory>
+    ensures { IfOk result (λ fault. option_map fault_view fault ≡ first_broken (
         (3, routes.wrong_schema (document_view d.now).schema)
         ∷ (4, routes.wrong_net (document_view d.now).net (document_view d.now).routes)
         ∷ (5, routes.wrong_rights (document_view d.now).routes)
         ∷ (6, types.wrong_type_name (document_view d.now).types)
-        ∷ (7, types.wrong_part (document_view d.now).types) ∷ []) }
+        ∷ (7, types.wrong_part (document_view d.now).types) ∷ [])) }
 {
     if let Some(place) = wrong_schema(d.schema) {
-        return Some(broken_at(3, place as u128));
+        return Ok(Some(broken_at(3, place as u128)));
     }
-    if let Some(place) = wrong_net(d.net, d.routes.as_slice()) {
-        return Some(broken_at(4, place as u128));
+    if let Some(place) = wrong_net(alloc, d.net, d.routes.as_slice())? {
+        return Ok(Some(broken_at(4, place as u128)));
     }
     if let Some(place) = wrong_rights(d.routes.as_slice()) {
-        return Some(broken_at(5, place as u128));
+        return Ok(Some(broken_at(5, place as u128)));
     }
     if let Some(place) = wrong_type_name(d.types.as_slice()) {
-        return Some(broken_at(6, place as u128));
+        return Ok(Some(broken_at(6, place as u128)));
     }
     match wrong_part(d.types.as_slice()) {
-        None => None,
-        Some(place) => Some(broken_at(7, place)),
+        None => Ok(None),
+        Some(place) => Ok(Some(broken_at(7, place))),
     }
 }
 

@@ -1,0 +1,51 @@
+//! Texts that came before.
+ghost use Rattle.std.specs.Prelude.{◌≡◌, ◌∷◌, ◌++◌, [], not, bytes_eq, IfOk, if◌then◌else◌};
+ghost use Rattle.std.specs.List.{list_all};
+
+use ads_base::NoMemory;
+use indexmap::IndexMap;
+use std::alloc::Global;
+use std::marker::Model;
+
+/// Texts, each of them once, in the order in which they came.
+#[derive(Drop)]
+pub struct SeenTexts {
+    texts: IndexMap<Vec<u8>, u8>,
+}
+
+impl Model for SeenTexts {
+    ghost use Rattle.std.specs.Prelude.{List, ℕ, map};
+
+    ghost Value = { List (List ℕ) };
+
+    ghost view = { λ s. map (λ e. e.0.items) s.texts.entries };
+}
+
+impl SeenTexts {
+    pub fn new(alloc: Global) -> Self
+        ensures { result ≡ [] }
+    {
+        SeenTexts {
+            texts: IndexMap::new(alloc),
+        }
+    }
+
+    /// Whether no text that came before is this one.
+    pub fn is_new(&self, text: &[u8]) -> bool
+        ensures { result ≡ list_all (λ e. not (bytes_eq e text.now)) self.now }
+    {
+        self.texts.get(text).is_none()
+    }
+
+    /// Notes a text, and tells whether it is new.
+    pub fn add(&mut self, text: Vec<u8>) -> Result<bool, NoMemory>
+        ensures new { IfOk result (λ new. new ≡ list_all (λ e. not (bytes_eq e text.items)) self.old) }
+        ensures noted { IfOk result (λ new. self.new ≡ (if new then self.old ++ text.items ∷ [] else self.old)) }
+    {
+        let new = self.is_new(text.as_slice());
+        if new {
+            self.texts.insert(text, 0)?;
+        }
+        Ok(new)
+    }
+}
