@@ -103,9 +103,9 @@ abbrev ConnFits : Plant → Connection Client → Type 0
 ConnFits plant k = is_deaf k ≡ false → FitsPlant plant k.client
 
 -- frames: the plant stays, the parts keep their lengths, and the client fits
-record Goes (x y : Exchange World Client) : Type 0 where
-  plant : y.world.plant ≡ x.world.plant
-  memory : Alike y.world.memory x.world.memory
+pub record Goes (x y : Exchange World Client) : Type 0 where
+  pub plant : y.world.plant ≡ x.world.plant
+  pub memory : Alike y.world.memory x.world.memory
 
 goes_then : (x y z : Exchange World Client) → Goes x y → Goes y z → Goes x z
 goes_then x y z p q = record { plant = q.plant ∙ p.plant; memory = alike_then z.world.memory y.world.memory x.world.memory q.memory p.memory }
@@ -128,7 +128,7 @@ packets-go table reading (p ∷ ps) x =
     let y = after_packet (ads_device table reading) p x in
     goes_then x y (after_packets (ads_device table reading) ps y) (packet-goes table reading p x) (packets-go table reading ps y)
 
-piece-goes : (table : AnswerTable) (reading : DescriptionReading) (bytes : List ℕ) (x : Exchange World Client) → Goes x (after_piece (ads_device table reading) bytes x)
+pub piece-goes : (table : AnswerTable) (reading : DescriptionReading) (bytes : List ℕ) (x : Exchange World Client) → Goes x (after_piece (ads_device table reading) bytes x)
 unfolding after_piece
 piece-goes table reading bytes x = go (is_deaf x.connection)
   where
@@ -227,7 +227,7 @@ exchange-good f goes fits s c (Some k) e g =
       all = subst (λ q. Each (ConnFits q) (put_back (f x).connection s.connections)) back (put_back-fits s.world.plant (f x).connection s.connections here g.all);
     }
 
-gone-goes : (x : Exchange World Client) → Goes x (with_gone x)
+pub gone-goes : (x : Exchange World Client) → Goes x (with_gone x)
 gone-goes x = record { plant = refl; memory = alike_itself x.world.memory }
 
 gone-fits : (x : Exchange World Client) → IsSoundPlant x.world.plant → ConnFits x.world.plant x.connection → ConnFits x.world.plant (with_gone x).connection
@@ -237,7 +237,7 @@ gone-fits x sound f = λ heard. absurd (false≢true (sym heard ∙ or_true x.co
     or_true true = refl
     or_true false = refl
 
-took-goes : (n : ℕ) (x : Exchange World Client) → Goes x (with_took n x)
+pub took-goes : (n : ℕ) (x : Exchange World Client) → Goes x (with_took n x)
 took-goes n x =
     elim (cases_Bool x.connection.gone) [
       | inl b ↦ subst (λ (t : Bool). Goes x (cond t x (record x { connection = record x.connection { took = x.connection.took + n } }))) (sym b) (record { plant = refl; memory = alike_itself x.world.memory })

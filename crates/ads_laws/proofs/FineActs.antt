@@ -120,7 +120,7 @@ status-fine plant port sound Outdated h len = fine_err plant _
 status-fine plant port sound (Live place) h len = place-fine plant port place sound h len
 
 -- the status of a handle that is placed
-kept-placed : (plant : Plant) (hs : List (Handle Place)) (n port : ℕ) → Each (IsPlacedHandle plant) hs → IsPlacedStatus plant port (kept_status hs n port)
+pub kept-placed : (plant : Plant) (hs : List (Handle Place)) (n port : ℕ) → Each (IsPlacedHandle plant) hs → IsPlacedStatus plant port (kept_status hs n port)
 unfolding handle_in
 kept-placed plant [] n port e = tt
 kept-placed plant (h ∷ hs) n port e =
@@ -141,7 +141,7 @@ reach-fine plant c p k e g offset len = fine_err plant _
 
 -- a name leads to a place within a symbol of the port
 
-found-placed : (plant : Plant) (p : PlantPort) → IsAsked plant p → (name : List ℕ) (f : Found) → found_of p.symbols name ≡ Some f → IsPlaced plant p.number (place_of f)
+pub found-placed : (plant : Plant) (p : PlantPort) → IsAsked plant p → (name : List ℕ) (f : Found) → found_of p.symbols name ≡ Some f → IsPlaced plant p.number (place_of f)
 unfolding found_of
 found-placed plant p k name f e = steps_go (steps_of (without_nul name)) e
   where

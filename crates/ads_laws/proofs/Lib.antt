@@ -17,3 +17,8 @@ pub mod EveryState
 pub mod NextWatches
 pub mod KeptClients
 pub mod Risen
+pub mod ShortActs
+pub mod Modest
+pub mod ShortSums
+pub mod ShortReplies
+pub mod RepliesFit

@@ -4,3 +4,4 @@ pub mod Refusals
 pub mod Soundness
 pub mod Reachable
 pub mod Rising
+pub mod RepliesFit
