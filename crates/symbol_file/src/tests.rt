@@ -14,9 +14,6 @@ fn fault_of(alloc: Global, text: &str, signals: u32) -> Result<(u8, u32), NoMemo
     if let Some(fault) = fault_in_types(alloc, &document)? {
         return Ok((fault.number, fault.item));
     }
-    if document.types.len() > 1000 {
-        return Ok((6, 1000));
-    }
     match read_types(alloc, document.types.as_slice())? {
         Err(_) => Ok((8, 0)),
         Ok(known) => match fault_in_ports(alloc, &known, signals, &document)? {

@@ -1,5 +1,5 @@
 //! Description rules 6 and 7: the names of types, and their members and values.
-ghost use Rattle.std.specs.Prelude.{is_some, ◌≡◌, ◌<◌, [], length, map, not, bytes_eq, IfSome, is_none, ◌&&◌, false};
+ghost use Rattle.std.specs.Prelude.{IsNone, ◌≤◌, is_some, ◌≡◌, ◌<◌, [], length, map, not, bytes_eq, IfSome, is_none, ◌&&◌, false};
 ghost use Rattle.std.specs.List.{list_all, list_any};
 ghost use Rattle.std.specs.Option.{option_map_or};
 ghost use Rattle.ads_plant.specs.AcceptedTypes.{differ, is_same_number, is_short_identifier, is_comment, is_in_range, is_count};
@@ -29,7 +29,8 @@ use type_layout::{ElemText, Kind, read_type_text};
 /// Rule 6: the names of types; there are at most 1,000 (item 1,000).
 #[tactic(auto, unfolding(ads_rules::specs::TypeRules::wrong_type_name))]
 pub fn wrong_type_name(types: &[WrittenType<'_>]) -> Option<usize>
-    ensures { result ≡ wrong_type_name (map type_view types.now) }
+    ensures place { result ≡ wrong_type_name (map type_view types.now) }
+    ensures few { IsNone result → length types.now ≤ 1000 }
 {
     let many = if types.len() > 1000 { Some(1000) } else { None };
     lesser(first_wrong_name(types), many)

@@ -1,5 +1,5 @@
 //! The least broken rule of a document, for the rules that are decided here.
-ghost use Rattle.std.specs.Prelude.{◌≡◌, ◌≤◌, ◌∷◌, [], length, map, option_map, IfOk, IfNone};
+ghost use Rattle.std.specs.Prelude.{◌≡◌, ◌≤◌, ◌∷◌, [], length, map, option_map, IfOk, IsNone};
 ghost use Rattle.ads_rules.specs.RouteRules as routes;
 ghost use Rattle.ads_rules.specs.TypeRules as types;
 ghost use Rattle.ads_rules.specs.PortRules as ports;
@@ -32,12 +32,13 @@ pub struct BrokenRule {
 
 /// The least broken rule of rules 3 to 7, and in it the least item.
 pub fn fault_in_types(alloc: Global, d: &Document<'_>) -> Result<Option<BrokenRule>, NoMemory>
-    ensures { IfOk result (λ fault. option_map fault_view fault ≡ first_broken (
+    ensures fault { IfOk result (λ fault. option_map fault_view fault ≡ first_broken (
         (3, routes.wrong_schema (document_view d.now).schema)
         ∷ (4, routes.wrong_net (document_view d.now).net (document_view d.now).routes)
         ∷ (5, routes.wrong_rights (document_view d.now).routes)
         ∷ (6, types.wrong_type_name (document_view d.now).types)
         ∷ (7, types.wrong_part (document_view d.now).types) ∷ [])) }
+    ensures few { IfOk result (λ fault. IsNone fault → length d.now.types.items ≤ 1000) }
 {
     if let Some(place) = wrong_schema(d.schema) {
         return Ok(Some(broken_at(3, place as u128)));
