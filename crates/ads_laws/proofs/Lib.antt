@@ -22,3 +22,5 @@ pub mod Modest
 pub mod ShortSums
 pub mod ShortReplies
 pub mod RepliesFit
+pub mod TameTypes
+pub mod TameTrees

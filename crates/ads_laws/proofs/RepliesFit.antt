@@ -1,7 +1,7 @@
--- Each reply but the entry of a part by its name has at most 2,000,000 bytes of data.
+-- Each reply has at most 2,000,000 bytes of data.
 use Rattle.std.proofs.Common.{◌≡◌, ℕ, ◌+◌, ◌≤◌, List, [], ◌∷◌, map, length, Bool, true, false, cond, refl, sym, ◌∙◌, ap, subst, arith, inl, inr}
 use Rattle.std.specs.Prelude.{Option, Some, None, Result, Ok, Err, nat_lt, not, ◌==◌, ◌%◌, bytes_eq}
-use Rattle.std.proofs.lemmas.Bool.{cases_Bool, ltb-false, false≢true}
+use Rattle.std.proofs.lemmas.Bool.{cases_Bool, ltb-false}
 use Rattle.signals.specs.Wave.{Wave}
 use Rattle.ads_plant.specs.AcceptedTypes.{LIMIT}
 use Rattle.ads_plant.specs.Accepted.{IsAccepted}
@@ -29,7 +29,8 @@ use Rattle.ads_machine.specs.Answers.{AnswerTable, answered_group, DEVICE_NOTIFI
 use Rattle.ads_machine.specs.Reach.{reach_of}
 use Rattle.ads_machine.specs.Reads.{fixed_reply, type_upload_reply, read_group}
 use Rattle.std.specs.Int.{w32, to_le_bytes}
-use Rattle.ads_machine.specs.Entries.{symbol_upload_of, upload_info_of}
+use Rattle.ads_formats.specs.SymbolEntry.{entry_bytes}
+use Rattle.ads_machine.specs.Entries.{symbol_upload_of, upload_info_of, entry_of_part}
 use Rattle.ads_machine.specs.TypeEntries.{type_upload_of, upload_info_with_types_of}
 use Rattle.ads_machine.specs.Writes.{Asker, write_act, release_act, write_group, control_act}
 use Rattle.ads_machine.specs.ByName.{place_of, grant_act, value_act, info_of, read_write_group}
@@ -41,12 +42,12 @@ use Rattle.ads_machine.specs.AdsDevice.{DescriptionReading, ads_device}
 use Rattle.ads_laws.specs.Isolation.{start}
 use Rattle.ads_laws.specs.Soundness.{Each, IsSoundPlant, ReadsAccepted}
 use Rattle.ads_laws.specs.Reachable.{IsPlacedStatus, IsPlacedHandle, ConnectionFits, AllFits}
-use Rattle.ads_laws.specs.RepliesFit.{is_entry_group, is_entry_request, asks_entry_behind, AnswerFits, AnswersFit, RepliesFitButEntries}
+use Rattle.ads_laws.specs.RepliesFit.{AnswerFits, AnswersFit, RepliesFit}
 use Rattle.ads_laws.proofs.Accepted.{accepted_are_sound}
 use Rattle.ads_laws.proofs.EveryState.{every_state_fits}
 use Rattle.ads_laws.proofs.FirstMemory.{port_number}
 use Rattle.ads_laws.proofs.FineActs.{IsAsked, kept-placed, found-placed}
-use Rattle.ads_laws.proofs.Modest.{IsModestPort, IsModestPlant, accepted_are_modest, found_has, placed-small, every_plant}
+use Rattle.ads_laws.proofs.Modest.{IsModestPort, IsModestPlant, accepted_are_modest, found_has, placed-small, entry-short, every_plant}
 use Rattle.ads_laws.proofs.ShortActs.{IsShort, short_if, short_refusal, short_fixed, short_reading, short_writing, short_changing, fixed-within, reach-short, read-short, value-short, if_found-short, grant-short, least-short, given-short}
 use Rattle.ads_laws.proofs.ShortSums.{IsPackedShort, reads-packed, writes-packed, read_writes-packed, unrefused-short}
 use Rattle.ads_laws.proofs.ShortReplies.{payload-short, IsShortHeader, MaybeShort, header-short, response-short}
@@ -111,29 +112,31 @@ add-limit : (c : Client) (k : Asker) (g : Option Group) (offset len cycle : ℕ)
 add-limit c k g offset len cycle None = short_refusal greatest_len _
 add-limit c k g offset len cycle (Some mode) = short_if greatest_len _ _ _ (short_refusal greatest_len _) (add_reached-limit c k mode len cycle (reach_of c k.port g offset len))
 
-read_write-limit : (plant : Plant) (c : Client) (p : PlantPort) → IsKnown plant c p → (g : Option Group) (len : ℕ) (name : List ℕ) → is_entry_group g ≡ false → IsShort greatest_len (read_write_group c p g len name)
+read_write-limit : (plant : Plant) (c : Client) (p : PlantPort) → IsKnown plant c p → (g : Option Group) (len : ℕ) (name : List ℕ) → IsShort greatest_len (read_write_group c p g len name)
 unfolding read_write_group
-read_write-limit plant c p k (Some HandleByName) len name other =
+read_write-limit plant c p k (Some HandleByName) len name =
     least-short greatest_len 4 len invalid_size _ (λ h. if_found-short greatest_len (found_of p.symbols name) (λ f. grant_act c p (place_of f)) (λ f e. grant-short greatest_len c p (place_of f) (omega arith)))
-read_write-limit plant c p k (Some ValueByName) len name other =
+read_write-limit plant c p k (Some ValueByName) len name =
     if_found-short greatest_len (found_of p.symbols name) (λ f. value_act p len (place_of f))
     (λ f e. value-short greatest_len p len (place_of f) (λ h. let l = placed-small plant k.modest p.number (place_of f) (found-placed plant p k.asked name f e) in omega (arith, l, h)))
-read_write-limit plant c p k (Some InfoByName) len name other =
+read_write-limit plant c p k (Some InfoByName) len name =
     least-short greatest_len 12 len invalid_size _ (λ h. if_found-short greatest_len (found_of p.symbols name) (λ f. fixed_data (info_of f)) (λ f e. short_fixed greatest_len (info_of f) (omega arith)))
-read_write-limit plant c p k (Some ExtendedInfoByName) len name other = absurd (false≢true (sym other))
-read_write-limit plant c p k g len name other = short_refusal greatest_len _
+read_write-limit plant c p k (Some ExtendedInfoByName) len name =
+    if_found-short greatest_len (found_of p.symbols name) (λ f. fixed_reply len (entry_bytes (entry_of_part f)))
+    (λ f e. fixed-within greatest_len len (entry_bytes (entry_of_part f)) (entry-short p (port-modest plant c p k) name f e))
+read_write-limit plant c p k g len name = short_refusal greatest_len _
 
-act-limit : (table : AnswerTable) (d : Setup) (c : Client) (k : Asker) → IsKnown d.plant c k.port → (r : Request) → is_entry_request table (Some r) ≡ false → IsShort greatest_len (act_of table d c k r)
+act-limit : (table : AnswerTable) (d : Setup) (c : Client) (k : Asker) → IsKnown d.plant c k.port → (r : Request) → IsShort greatest_len (act_of table d c k r)
 unfolding act_of
-act-limit table d c k i ReadDeviceInfo other = let n = (port-modest d.plant c k.port i).facts in short_fixed greatest_len (facts_bytes k.port.facts) (omega (arith, n))
-act-limit table d c k i (Read group offset len) other = read-limit d c k.port i (answered_group table _ group) offset len
-act-limit table d c k i (Write group offset bytes) other = write_group-limit greatest_len c k (answered_group table _ group) offset bytes
-act-limit table d c k i ReadState other = short_reading greatest_len (map WholeByte (state_names k.port)) (omega arith)
-act-limit table d c k i (WriteControl ads device bytes) other = control-limit greatest_len k ads device
-act-limit table d c k i (AddDeviceNotification group offset len mode delay cycle) other = add-limit c k (answered_group table _ group) offset len cycle _
-act-limit table d c k i (DeleteDeviceNotification handle) other = short_if greatest_len _ _ _ (short_changing greatest_len [] (Deletes handle) (omega arith)) (short_refusal greatest_len _)
-act-limit table d c k i (DeviceNotification bytes) other = short_fixed greatest_len [] (omega arith)
-act-limit table d c k i (ReadWrite group offset len bytes) other = read_write-limit d.plant c k.port i (answered_group table _ group) len bytes other
+act-limit table d c k i ReadDeviceInfo = let n = (port-modest d.plant c k.port i).facts in short_fixed greatest_len (facts_bytes k.port.facts) (omega (arith, n))
+act-limit table d c k i (Read group offset len) = read-limit d c k.port i (answered_group table _ group) offset len
+act-limit table d c k i (Write group offset bytes) = write_group-limit greatest_len c k (answered_group table _ group) offset bytes
+act-limit table d c k i ReadState = short_reading greatest_len (map WholeByte (state_names k.port)) (omega arith)
+act-limit table d c k i (WriteControl ads device bytes) = control-limit greatest_len k ads device
+act-limit table d c k i (AddDeviceNotification group offset len mode delay cycle) = add-limit c k (answered_group table _ group) offset len cycle _
+act-limit table d c k i (DeleteDeviceNotification handle) = short_if greatest_len _ _ _ (short_changing greatest_len [] (Deletes handle) (omega arith)) (short_refusal greatest_len _)
+act-limit table d c k i (DeviceNotification bytes) = short_fixed greatest_len [] (omega arith)
+act-limit table d c k i (ReadWrite group offset len bytes) = read_write-limit d.plant c k.port i (answered_group table _ group) len bytes
 
 -- how many bytes a decision gives
 
@@ -163,34 +166,34 @@ refuse_short : (code : ℕ) → IsShortDecision (refuse code)
 unfolding outcomes_of outcome_in_all
 refuse_short code = record { short = λ memory. omega arith }
 
-single-limit : (table : AnswerTable) (d : Setup) (c : Client) (k : Asker) → IsKnown d.plant c k.port → (r : Request) → is_entry_request table (Some r) ≡ false → IsShortDecision (decide_single table d c k r)
+single-limit : (table : AnswerTable) (d : Setup) (c : Client) (k : Asker) → IsKnown d.plant c k.port → (r : Request) → IsShortDecision (decide_single table d c k r)
 unfolding acts_of given_in_turn outcomes_of outcome_in_all
-single-limit table d c k i r other = record { short = λ memory. given-short greatest_len memory (act_of table d c k r) (act-limit table d c k i r other) }
+single-limit table d c k i r = record { short = λ memory. given-short greatest_len memory (act_of table d c k r) (act-limit table d c k i r) }
 
 parts-limit : (table : AnswerTable) (d : Setup) (c : Client) (k : Asker) (s : SumRequest) → IsPackedShort table d k c s → (o : Option ℕ) → (o ≡ None → s.reply_len ≤ greatest_len) → IsShortDecision (decide_parts table d c k s o)
 unfolding outcome_in_all
 parts-limit table d c k s h (Some code) l = refuse_short code
 parts-limit table d c k s h None l = record { short = λ memory. let a = h.short memory in let b = l refl in omega (arith, a, b) }
 
-sum_or_one : (table : AnswerTable) (d : Setup) (c : Client) (k : Asker) → IsKnown d.plant c k.port → (g : Option Group) (r : Request) (n len : ℕ) (bytes : List ℕ) → is_entry_request table (Some r) ≡ false
+sum_or_one : (table : AnswerTable) (d : Setup) (c : Client) (k : Asker) → IsKnown d.plant c k.port → (g : Option Group) (r : Request) (n len : ℕ) (bytes : List ℕ)
     → IsShortDecision (decide_read_write table d c k g r n len bytes)
-sum_or_one table d c k i (Some SumRead) r n len bytes other = parts-limit table d c k (sum_of_reads n bytes) (reads-packed table d k c n bytes) _ (unrefused-short n _ _ _ len)
-sum_or_one table d c k i (Some SumWrite) r n len bytes other = parts-limit table d c k (sum_of_writes n bytes) (writes-packed table d k c n bytes) _ (unrefused-short n _ _ _ len)
-sum_or_one table d c k i (Some SumReadWrite) r n len bytes other = parts-limit table d c k (sum_of_read_writes n bytes) (read_writes-packed table d k c n bytes) _ (unrefused-short n _ _ _ len)
-sum_or_one table d c k i g r n len bytes other = single-limit table d c k i r other
+sum_or_one table d c k i (Some SumRead) r n len bytes = parts-limit table d c k (sum_of_reads n bytes) (reads-packed table d k c n bytes) _ (unrefused-short n _ _ _ len)
+sum_or_one table d c k i (Some SumWrite) r n len bytes = parts-limit table d c k (sum_of_writes n bytes) (writes-packed table d k c n bytes) _ (unrefused-short n _ _ _ len)
+sum_or_one table d c k i (Some SumReadWrite) r n len bytes = parts-limit table d c k (sum_of_read_writes n bytes) (read_writes-packed table d k c n bytes) _ (unrefused-short n _ _ _ len)
+sum_or_one table d c k i g r n len bytes = single-limit table d c k i r
 
-request-limit : (table : AnswerTable) (d : Setup) (c : Client) (k : Asker) → IsKnown d.plant c k.port → (o : Option Request) → is_entry_request table o ≡ false → IsShortDecision (decide_request table d c k o)
+request-limit : (table : AnswerTable) (d : Setup) (c : Client) (k : Asker) → IsKnown d.plant c k.port → (o : Option Request) → IsShortDecision (decide_request table d c k o)
 unfolding decide_request
-request-limit table d c k i None other = refuse_short invalid_size
-request-limit table d c k i (Some (ReadWrite group offset len bytes)) other = sum_or_one table d c k i (answered_group table _ group) (ReadWrite group offset len bytes) offset len bytes other
-request-limit table d c k i (Some ReadDeviceInfo) other = single-limit table d c k i ReadDeviceInfo other
-request-limit table d c k i (Some (Read g o l)) other = single-limit table d c k i (Read g o l) other
-request-limit table d c k i (Some (Write g o b)) other = single-limit table d c k i (Write g o b) other
-request-limit table d c k i (Some ReadState) other = single-limit table d c k i ReadState other
-request-limit table d c k i (Some (WriteControl a s b)) other = single-limit table d c k i (WriteControl a s b) other
-request-limit table d c k i (Some (AddDeviceNotification g o l m y t)) other = single-limit table d c k i (AddDeviceNotification g o l m y t) other
-request-limit table d c k i (Some (DeleteDeviceNotification h)) other = single-limit table d c k i (DeleteDeviceNotification h) other
-request-limit table d c k i (Some (DeviceNotification b)) other = single-limit table d c k i (DeviceNotification b) other
+request-limit table d c k i None = refuse_short invalid_size
+request-limit table d c k i (Some (ReadWrite group offset len bytes)) = sum_or_one table d c k i (answered_group table _ group) (ReadWrite group offset len bytes) offset len bytes
+request-limit table d c k i (Some ReadDeviceInfo) = single-limit table d c k i ReadDeviceInfo
+request-limit table d c k i (Some (Read g o l)) = single-limit table d c k i (Read g o l)
+request-limit table d c k i (Some (Write g o b)) = single-limit table d c k i (Write g o b)
+request-limit table d c k i (Some ReadState) = single-limit table d c k i ReadState
+request-limit table d c k i (Some (WriteControl a s b)) = single-limit table d c k i (WriteControl a s b)
+request-limit table d c k i (Some (AddDeviceNotification g o l m y t)) = single-limit table d c k i (AddDeviceNotification g o l m y t)
+request-limit table d c k i (Some (DeleteDeviceNotification h)) = single-limit table d c k i (DeleteDeviceNotification h)
+request-limit table d c k i (Some (DeviceNotification b)) = single-limit table d c k i (DeviceNotification b)
 
 -- what is known of a world and a client
 record IsServed (plant : Plant) (c : Client) : Type 0 where
@@ -198,28 +201,28 @@ record IsServed (plant : Plant) (c : Client) : Type 0 where
   modest : IsModestPlant plant
   handles : Each (IsPlacedHandle plant) c.handles
 
-port-limit : (table : AnswerTable) (d : Setup) (c : Client) (rights : Rights) (h : AmsHeader) (payload : List ℕ) → IsServed d.plant c → is_entry_request table (request_of h.command payload) ≡ false
+port-limit : (table : AnswerTable) (d : Setup) (c : Client) (rights : Rights) (h : AmsHeader) (payload : List ℕ) → IsServed d.plant c
     → (o : Option PlantPort) → port_numbered h.target.port d.plant.ports ≡ o → IsShortDecision (decide_port table d c rights h payload o)
-port-limit table d c rights h payload s other None e = error_short target_port_not_found
-port-limit table d c rights h payload s other (Some p) e =
+port-limit table d c rights h payload s None e = error_short target_port_not_found
+port-limit table d c rights h payload s (Some p) e =
     let number = port_number h.target.port d.plant.ports p e in
     let P : ℕ → Type 0 = λ m. port_numbered m d.plant.ports ≡ Some p in
     let k : Asker = record { port = p; address = h.source; rights = rights } in
     let known : IsKnown d.plant c p = record { asked = record { sound = s.sound; found = subst P (sym number) e }; modest = s.modest; handles = s.handles } in
-    let r = request-limit table d c k known (request_of h.command payload) other in
+    let r = request-limit table d c k known (request_of h.command payload) in
     let answered = decision_if (not (table.is_answered h.command)) (AmsError unknown_command_id) (decide_request table d c k (request_of h.command payload)) (error_short unknown_command_id) r in
     decision_if _ NoAnswer _ silent_short answered
 
-target-limit : (table : AnswerTable) (d : Setup) (c : Client) (h : AmsHeader) (payload : List ℕ) → IsServed d.plant c → is_entry_request table (request_of h.command payload) ≡ false
+target-limit : (table : AnswerTable) (d : Setup) (c : Client) (h : AmsHeader) (payload : List ℕ) → IsServed d.plant c
     → (o : Option Rights) → IsShortDecision (decide_target table d c h payload o)
-target-limit table d c h payload s other None = end_short
-target-limit table d c h payload s other (Some rights) =
-    decision_if _ (AmsError target_machine_not_found) _ (error_short target_machine_not_found) (port-limit table d c rights h payload s other (port_numbered h.target.port d.plant.ports) refl)
+target-limit table d c h payload s None = end_short
+target-limit table d c h payload s (Some rights) =
+    decision_if _ (AmsError target_machine_not_found) _ (error_short target_machine_not_found) (port-limit table d c rights h payload s (port_numbered h.target.port d.plant.ports) refl)
 
-header-limit : (table : AnswerTable) (d : Setup) (c : Client) (payload : List ℕ) → IsServed d.plant c → (o : Option AmsHeader) → asks_entry_behind table payload o ≡ false → IsShortDecision (decide_header table d c payload o)
-header-limit table d c payload s None other = silent_short
-header-limit table d c payload s (Some h) other =
-    let t = target-limit table d c h payload s other (rights_of h.source.net d.plant.routes) in
+header-limit : (table : AnswerTable) (d : Setup) (c : Client) (payload : List ℕ) → IsServed d.plant c → (o : Option AmsHeader) → IsShortDecision (decide_header table d c payload o)
+header-limit table d c payload s None = silent_short
+header-limit table d c payload s (Some h) =
+    let t = target-limit table d c h payload s (rights_of h.source.net d.plant.routes) in
     let flags = decision_if _ (AmsError unknown_ams_command) (decide_target table d c h payload (rights_of h.source.net d.plant.routes)) (error_short unknown_ams_command) t in
     decision_if _ (AmsError invalid_ams_length) _ (error_short invalid_ams_length) (decision_if _ NoAnswer _ silent_short flags)
 
@@ -237,15 +240,15 @@ maybe-fits (Some h) x memory s d = answer-fits h x memory s d
 
 answers-fit : (table : AnswerTable) (w : World) (k : Connection Client) → IsSoundPlant w.plant → IsModestPlant w.plant → ConnectionFits w k → AnswersFit table w k
 unfolding performed decide
-answers-fit table w k sound modest f = λ heard packet other.
+answers-fit table w k sound modest f = λ heard packet.
     maybe-fits (header_of packet) (decide_header table (setup_of w) k.client (payload_of packet) (header_of packet)) w.memory (header-short packet)
-    (header-limit table (setup_of w) k.client (payload_of packet) (record { sound = sound; modest = modest; handles = (f heard).handles }) (header_of packet) other)
+    (header-limit table (setup_of w) k.client (payload_of packet) (record { sound = sound; modest = modest; handles = (f heard).handles }) (header_of packet))
 
 all-fit : (table : AnswerTable) (w : World) → IsSoundPlant w.plant → IsModestPlant w.plant → (ks : List (Connection Client)) → Each (ConnectionFits w) ks → Each (AnswersFit table w) ks
 all-fit table w sound modest [] e = tt
 all-fit table w sound modest (k ∷ ks) e = (answers-fit table w k sound modest (e.0), all-fit table w sound modest ks (e.1))
 
-pub replies_fit : RepliesFitButEntries
+pub replies_fit : RepliesFit
 replies_fit table reading h d signals accepted log =
     let s = state_after (ads_device table reading) (start d signals) log in
     let sound = every_plant IsSoundPlant accepted_are_sound table reading h d signals accepted log in

@@ -1,14 +1,12 @@
 -- How long replies are: a request is given at most as many bytes as it asks, and a reply has at most
 -- 2,000,000 bytes of data.
-use Rattle.std.specs.Prelude.{◌≡◌, ℕ, ◌+◌, ◌≤◌, List, length, Bool, true, false, Option, Some, None}
+use Rattle.std.specs.Prelude.{◌≡◌, ℕ, ◌+◌, ◌≤◌, List, length, false}
 use Rattle.signals.specs.Wave.{Wave}
 use Rattle.ads_plant.specs.Description.{Description}
 use Rattle.ads_plant.specs.Accepted.{IsAccepted}
 use Rattle.ads_plant.specs.World.{Block}
-use Rattle.ads_formats.specs.Header.{AmsHeader, header_of, payload_of}
-use Rattle.ads_formats.specs.Groups.{Group, ExtendedInfoByName}
 use Rattle.ads_formats.specs.Ranges.{greatest_len}
-use Rattle.ads_formats.specs.Request.{Request, Read, ReadWrite, request_of}
+use Rattle.ads_formats.specs.Request.{Read, ReadWrite}
 use Rattle.ads_outside.specs.declared.moves.Move.{Move}
 use Rattle.ads_machine.specs.Device.{Answer, Answered, Silent, Closing}
 use Rattle.ads_machine.specs.Connection.{Connection, is_deaf}
@@ -16,7 +14,7 @@ use Rattle.ads_machine.specs.Moves.{state_after}
 use Rattle.ads_machine.specs.World.{World, Setup, setup_of}
 use Rattle.ads_machine.specs.Client.{Client}
 use Rattle.ads_machine.specs.Acts.{outcome_of}
-use Rattle.ads_machine.specs.Answers.{AnswerTable, answered_group, READ_WRITE}
+use Rattle.ads_machine.specs.Answers.{AnswerTable}
 use Rattle.ads_machine.specs.Writes.{Asker}
 use Rattle.ads_machine.specs.Requests.{act_of}
 use Rattle.ads_machine.specs.Packets.{decide}
@@ -43,34 +41,15 @@ AnswerFits Silent = Unit {0}
 AnswerFits Closing = Unit {0}
 AnswerFits (Answered packet) = length packet ≤ 32 + 8 + greatest_len
 
-abbrev pub is_entry_group : Option Group → Bool
-is_entry_group (Some ExtendedInfoByName) = true
-is_entry_group group = false
-
--- one ReadWrite that asks the entry of a part by its name; a part of a sum is none
-abbrev pub is_entry_request : AnswerTable → Option Request → Bool
-is_entry_request table (Some (ReadWrite group offset len bytes)) =
-    is_entry_group (answered_group table READ_WRITE group)
-is_entry_request table request = false
-
-abbrev pub asks_entry_behind : AnswerTable → List ℕ → Option AmsHeader → Bool
-asks_entry_behind table payload None = false
-asks_entry_behind table payload (Some h) = is_entry_request table (request_of h.command payload)
-
--- whether a packet is such a request
-abbrev pub asks_entry : AnswerTable → List ℕ → Bool
-asks_entry table packet = asks_entry_behind table (payload_of packet) (header_of packet)
-
--- what the device answers to any packet but such a one; a connection that is closing or gone is not
--- heard any more
+-- what the device answers to any packet; a connection that is closing or gone is not heard any more
 abbrev pub AnswersFit : AnswerTable → World → Connection Client → Type 0
-AnswersFit table w k = is_deaf k ≡ false → (packet : List ℕ) → asks_entry table packet ≡ false
+AnswersFit table w k = is_deaf k ≡ false → (packet : List ℕ)
     → AnswerFits (performed (decide table (setup_of w) k.client packet) packet w k.client).answer
 
 -- This holds after every log, where the first description is accepted and the reading gives accepted
 -- ones alone.
-abbrev pub RepliesFitButEntries : Type 0
-RepliesFitButEntries = (table : AnswerTable) (reading : DescriptionReading) → ReadsAccepted reading
+abbrev pub RepliesFit : Type 0
+RepliesFit = (table : AnswerTable) (reading : DescriptionReading) → ReadsAccepted reading
     → (d : Description) (signals : List Wave) → IsAccepted d (length signals) → (log : List Move)
     → Each (AnswersFit table (state_after (ads_device table reading) (start d signals) log).world)
     (state_after (ads_device table reading) (start d signals) log).connections

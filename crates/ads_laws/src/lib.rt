@@ -10,7 +10,7 @@ ghost use Rattle.ads_laws.specs.Refusals.{NumbersNeverFall};
 ghost use Rattle.ads_laws.specs.Soundness.{AcceptedAreSound};
 ghost use Rattle.ads_laws.specs.Reachable.{EveryStateFits};
 ghost use Rattle.ads_laws.specs.Rising.{HandlesRise};
-ghost use Rattle.ads_laws.specs.RepliesFit.{NoMoreThanAsked, RepliesFitButEntries};
+ghost use Rattle.ads_laws.specs.RepliesFit.{NoMoreThanAsked, RepliesFit};
 
 /// A client none of whose read or notified bytes another client writes is given, byte for byte, what it
 /// would be given if it were alone: for every table of what is answered, every description, every reading
@@ -68,9 +68,8 @@ pub fn handles_rise()
 
 /// A Read and a ReadWrite, and each such part of a sum, is given at most as many bytes as it asks; and in
 /// every state that a log leads to, where the first description is accepted and the reading of
-/// descriptions gives accepted ones alone, each reply has at most 2,000,000 bytes of data, unless the
-/// request is one that asks the entry of a part by its name.
+/// descriptions gives accepted ones alone, each reply has at most 2,000,000 bytes of data.
 pub fn replies_fit()
     ensures asked { NoMoreThanAsked }
-    ensures replies { RepliesFitButEntries }
+    ensures replies { RepliesFit }
 {}
