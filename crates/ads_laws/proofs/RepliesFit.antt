@@ -238,15 +238,15 @@ maybe-fits : (o : Option AmsHeader) (x : Decision) (memory : List Block) → May
 maybe-fits None x memory s d = tt
 maybe-fits (Some h) x memory s d = answer-fits h x memory s d
 
-answers-fit : (table : AnswerTable) (w : World) (k : Connection Client) → IsSoundPlant w.plant → IsModestPlant w.plant → ConnectionFits w k → AnswersFit table w k
+answers-fit : (table : AnswerTable) (reading : DescriptionReading) (w : World) (k : Connection Client) → IsSoundPlant w.plant → IsModestPlant w.plant → ConnectionFits w k → AnswersFit (ads_device table reading) w k
 unfolding performed decide
-answers-fit table w k sound modest f = λ heard packet.
+answers-fit table reading w k sound modest f = λ heard packet.
     maybe-fits (header_of packet) (decide_header table (setup_of w) k.client (payload_of packet) (header_of packet)) w.memory (header-short packet)
     (header-limit table (setup_of w) k.client (payload_of packet) (record { sound = sound; modest = modest; handles = (f heard).handles }) (header_of packet))
 
-all-fit : (table : AnswerTable) (w : World) → IsSoundPlant w.plant → IsModestPlant w.plant → (ks : List (Connection Client)) → Each (ConnectionFits w) ks → Each (AnswersFit table w) ks
-all-fit table w sound modest [] e = tt
-all-fit table w sound modest (k ∷ ks) e = (answers-fit table w k sound modest (e.0), all-fit table w sound modest ks (e.1))
+all-fit : (table : AnswerTable) (reading : DescriptionReading) (w : World) → IsSoundPlant w.plant → IsModestPlant w.plant → (ks : List (Connection Client)) → Each (ConnectionFits w) ks → Each (AnswersFit (ads_device table reading) w) ks
+all-fit table reading w sound modest [] e = tt
+all-fit table reading w sound modest (k ∷ ks) e = (answers-fit table reading w k sound modest (e.0), all-fit table reading w sound modest ks (e.1))
 
 pub replies_fit : RepliesFit
 replies_fit table reading h d signals accepted log =
@@ -254,4 +254,4 @@ replies_fit table reading h d signals accepted log =
     let sound = every_plant IsSoundPlant accepted_are_sound table reading h d signals accepted log in
     let modest = every_plant IsModestPlant accepted_are_modest table reading h d signals accepted log in
     let all = every_state_fits table reading h d signals accepted log in
-    all-fit table s.world sound modest s.connections all.connections
+    all-fit table reading s.world sound modest s.connections all.connections

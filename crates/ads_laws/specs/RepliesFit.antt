@@ -8,17 +8,16 @@ use Rattle.ads_plant.specs.World.{Block}
 use Rattle.ads_formats.specs.Ranges.{greatest_len}
 use Rattle.ads_formats.specs.Request.{Read, ReadWrite}
 use Rattle.ads_outside.specs.declared.moves.Move.{Move}
-use Rattle.ads_machine.specs.Device.{Answer, Answered, Silent, Closing}
+use Rattle.ads_machine.specs.Device.{Device, Answer, Answered, Silent, Closing}
 use Rattle.ads_machine.specs.Connection.{Connection, is_deaf}
+use Rattle.ads_machine.specs.MachineState.{MachineState}
 use Rattle.ads_machine.specs.Moves.{state_after}
-use Rattle.ads_machine.specs.World.{World, Setup, setup_of}
+use Rattle.ads_machine.specs.World.{World, Setup}
 use Rattle.ads_machine.specs.Client.{Client}
 use Rattle.ads_machine.specs.Acts.{outcome_of}
 use Rattle.ads_machine.specs.Answers.{AnswerTable}
 use Rattle.ads_machine.specs.Writes.{Asker}
 use Rattle.ads_machine.specs.Requests.{act_of}
-use Rattle.ads_machine.specs.Packets.{decide}
-use Rattle.ads_machine.specs.Replies.{performed}
 use Rattle.ads_machine.specs.AdsDevice.{DescriptionReading, ads_device}
 use Rattle.ads_laws.specs.Isolation.{start}
 use Rattle.ads_laws.specs.Soundness.{Each, ReadsAccepted}
@@ -42,14 +41,17 @@ AnswerFits Closing = Unit {0}
 AnswerFits (Answered packet) = length packet ≤ 32 + 8 + greatest_len
 
 -- what the device answers to any packet; a connection that is closing or gone is not heard any more
-abbrev pub AnswersFit : AnswerTable → World → Connection Client → Type 0
-AnswersFit table w k = is_deaf k ≡ false → (packet : List ℕ)
-    → AnswerFits (performed (decide table (setup_of w) k.client packet) packet w k.client).answer
+abbrev pub AnswersFit : Device World Client → World → Connection Client → Type 0
+AnswersFit device w k = is_deaf k ≡ false → (packet : List ℕ)
+    → AnswerFits (device.take w k.client packet).answer
+
+abbrev pub AllAnswersFit : Device World Client → MachineState World Client → Type 0
+AllAnswersFit device s = Each (AnswersFit device s.world) s.connections
 
 -- This holds after every log, where the first description is accepted and the reading gives accepted
 -- ones alone.
 abbrev pub RepliesFit : Type 0
 RepliesFit = (table : AnswerTable) (reading : DescriptionReading) → ReadsAccepted reading
     → (d : Description) (signals : List Wave) → IsAccepted d (length signals) → (log : List Move)
-    → Each (AnswersFit table (state_after (ads_device table reading) (start d signals) log).world)
-    (state_after (ads_device table reading) (start d signals) log).connections
+    → AllAnswersFit (ads_device table reading)
+    (state_after (ads_device table reading) (start d signals) log)
