@@ -1,7 +1,8 @@
 -- The play of events, one turn after another: connections that no line opened yet are not there.
-use Rattle.std.proofs.Common.{◌≡◌, ℕ, Bool, true, false, ◌||◌, List, [], ◌∷◌, ◌++◌, length, map, Option, Some, None, refl, sym, ap, ◌∙◌, subst, append_assoc, append-nil, eqb, arith}
-use Rattle.std.specs.Prelude.{option_map}
+use Rattle.std.proofs.Common.{◌≡◌, ℕ, Bool, true, false, List, [], ◌∷◌, ◌++◌, length, map, Option, Some, None, refl, sym, ap, ◌∙◌, subst, append_assoc, append-nil, arith}
+use Rattle.std.specs.Prelude.{option_map, ◌==◌}
 use Rattle.std.proofs.lemmas.Bool.Decides.{nat_tests}
+use Rattle.std.proofs.lemmas.List.Folds.{list_any-append}
 use Rattle.ads_outside.specs.declared.event.Event.{Event}
 use Rattle.ads_outside.specs.declared.event.Event.TheVariants as event
 use Rattle.ads_outside.specs.declared.moves.Move.{Move}
@@ -14,6 +15,7 @@ use Rattle.ads_machine.specs.Offers.{waiting_at, is_closing_at}
 use Rattle.ads_machine.specs.Peers.{served_moves}
 use Rattle.ads_machine.specs.Reading.{is_among, opened_by}
 use Rattle.ads_machine.specs.ScriptLine.{Happens}
+use Rattle.ads_machine.proofs.Emptied.{or_false}
 use Rattle.ads_machine.proofs.Changes.{state_after-append}
 use Rattle.ads_machine.proofs.Find.{or_else, connection_of-append, connection_of-map}
 use Rattle.ads_machine.proofs.Growth.{connection_after_tick-grows}
@@ -95,21 +97,6 @@ turn-absent n e log other none =
     let s = state_after_event served (selftest_after log) e in
     numbers-absent n (present_numbers s) s (event-absent n e (selftest_after log) other none)
 
-among-append : (n : ℕ) (cs ds : List ℕ) → is_among n (cs ++ ds) ≡ (is_among n cs || is_among n ds)
-among-append n [] ds = refl
-among-append n (c ∷ cs) ds =
-    let rest = among-append n cs ds in
-    first (eqb c n) rest
-  where
-    first : (b : Bool) → is_among n (cs ++ ds) ≡ (is_among n cs || is_among n ds) → (b || is_among n (cs ++ ds)) ≡ ((b || is_among n cs) || is_among n ds)
-    first true e = refl
-    first false e = e
-
-neither : (a b : Bool) → (a || b) ≡ false → (a ≡ false) × (b ≡ false)
-neither false false e = (refl, refl)
-neither false true e = cc
-neither true b e = cc
-
 -- the play begins
 first_way : (core : Core) (events : List Event) → Serves core started → HasCounts core started → OpenNew [] (map Happens events) → IsUnderWay core [] events events
 unfolding state_after
@@ -151,7 +138,7 @@ one_turn core new log later e left all way on =
           ∙ (append_assoc log turn (played served (state_after served s turn) left) ∙ way.same_log));
       opened = way.opened ++ opened_by (Happens e);
       only = λ n apart.
-          let both = neither (is_among n way.opened) (is_among n (opened_by (Happens e))) (sym (among-append n way.opened (opened_by (Happens e))) ∙ apart) in
+          let both = or_false (is_among n way.opened) (is_among n (opened_by (Happens e))) (sym (list_any-append (λ m. m == n) way.opened (opened_by (Happens e))) ∙ apart) in
           ap (λ (t : ServedState). connection_of n t.connections) after ∙ turn-absent n e log both.1 (way.only n both.0);
       left_new = way.left_new.1;
     }

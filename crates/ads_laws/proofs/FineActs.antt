@@ -13,6 +13,7 @@ use Rattle.ads_formats.specs.Codes.{invalid_size, invalid_group, symbol_not_foun
 use Rattle.ads_formats.specs.Groups.{Group, AreaBytes, AreaBit, AreaSize, HandleByName, ValueByName, ValueByHandle, ReleaseHandle, InfoByName, SymbolVersion, ExtendedInfoByName, SymbolUpload, UploadInfo, TypeUpload, UploadInfoWithTypes}
 use Rattle.ads_formats.specs.Ranges.{greatest_len, byte_range, bit_range, range_in}
 use Rattle.ads_formats.specs.Request.{Request, ReadDeviceInfo, Read, Write, ReadState, WriteControl, AddDeviceNotification, DeleteDeviceNotification, DeviceNotification, ReadWrite}
+use Rattle.ads_machine.proofs.Emptied.{or_false}
 use Rattle.ads_machine.specs.World.{Setup, port_numbered, numbers_from, name_at, names_at}
 use Rattle.ads_machine.specs.Access.{Addressed, WholeByte, addressed_name, Put}
 use Rattle.ads_machine.specs.Handles.{HandleStatus, Never, Released, Outdated, Live, Handle, handle_in, kept_status}
@@ -74,10 +75,6 @@ fine_if : (plant : Plant) (b : Bool) (x y : Result (List Addressed) ℕ) → Fin
 fine_if plant true x y p q = p
 fine_if plant false x y p q = q
 
-or_false : (a b : Bool) → (a || b) ≡ false → a ≡ false
-or_false true b e = cc
-or_false false b e = refl
-
 bytes-fine : (plant : Plant) (p : PlantPort) → IsAsked plant p → (a : Area) (offset len : ℕ) → FineReach plant (addressed_by_range p (byte_range a (size_in p.sizes a) offset len))
 unfolding byte_range names_at
 bytes-fine plant p k a offset len =
@@ -86,7 +83,7 @@ bytes-fine plant p k a offset len =
       | inr t ↦ rw t (elim (cases_Bool (nat_lt (size_in p.sizes a) (offset + len) || nat_lt greatest_len len)) [
         | inl u ↦ rw u (fine_err plant _)
         | inr u ↦
-            let l = ltb-false (size_in p.sizes a) (offset + len) (or_false (nat_lt (size_in p.sizes a) (offset + len)) (nat_lt greatest_len len) u) in
+            let l = ltb-false (size_in p.sizes a) (offset + len) (or_false (nat_lt (size_in p.sizes a) (offset + len)) (nat_lt greatest_len len) u).0 in
             rw u (fine_ok plant _ (names-fine (IsNamed plant) (name_at p a) len offset (λ i low high. area-named plant k.sound p k.found a i (omega (arith, l, high)))))
       ])
     ]

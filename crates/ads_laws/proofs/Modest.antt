@@ -1,7 +1,7 @@
 -- Accepted descriptions are modest: names of devices have 16 bytes, and symbols and uploads have their limits; and what
 -- holds of each accepted plant holds of the plant of every state.
-use Rattle.std.proofs.Common.{◌≡◌, ℕ, ◌+◌, ◌≤◌, List, [], ◌∷◌, ◌++◌, map, length, Bool, true, refl, sym, ◌∙◌, ap, subst, arith, inl, inr}
-use Rattle.std.specs.Prelude.{Option, Some, None, Result, Ok, Err, nat_lt, nat_le, ◌==◌, ◌&&◌, sum_by, find, option_map, option_and_then}
+use Rattle.std.proofs.Common.{◌≡◌, ℕ, ◌≤◌, List, [], ◌∷◌, map, length, Bool, true, refl, sym, subst, arith, inl, inr}
+use Rattle.std.specs.Prelude.{Option, Some, None, Result, Ok, Err, nat_le, ◌==◌, ◌&&◌, find, option_map, option_and_then}
 use Rattle.std.specs.List.{list_all}
 use Rattle.std.proofs.lemmas.Bool.{cases_Bool, and_parts, eqb-true, leb-true}
 use Rattle.std.proofs.lemmas.List.{length-append}
@@ -18,8 +18,8 @@ use Rattle.ads_plant.specs.Trees.{trees_of}
 use Rattle.ads_plant.specs.Parts.{TypePart, part_behind}
 use Rattle.ads_plant.specs.Finding.{Found, whole_of, is_named_by, steps_behind_name, found_in_symbol, found_of_steps, without_nul, found_of}
 use Rattle.ads_plant.specs.AcceptedTypes.{AreTypes, LIMIT, all_pairs, is_comment, is_shape, is_small_shape}
-use Rattle.ads_plant.specs.Accepted.{IsAccepted, is_port, is_symbol, are_facts, is_device_name, image_size, size_of_symbol, are_two_names, are_apart}
-use Rattle.ads_formats.specs.SymbolEntry.{SymbolEntry, entry_bytes, entry_fields, entry_len, upload_bytes}
+use Rattle.ads_plant.specs.Accepted.{IsAccepted, is_port, is_symbol, are_facts, is_device_name, size_of_symbol, are_two_names, are_apart}
+use Rattle.ads_formats.specs.SymbolEntry.{entry_bytes, upload_bytes}
 use Rattle.ads_formats.proofs.EntryLemmas.{length-entry_fields}
 use Rattle.ads_outside.specs.declared.event.Event.{Event}
 use Rattle.ads_outside.specs.declared.event.Event.TheVariants as event
@@ -29,7 +29,7 @@ use Rattle.ads_machine.specs.Connection.{Connection, connection_of}
 use Rattle.ads_machine.specs.MachineState.{MachineState, Exchange, exchange_of, after_exchange}
 use Rattle.ads_machine.specs.Piece.{after_piece}
 use Rattle.ads_machine.specs.Moves.{after_reload, with_gone, with_took, state_after_event, state_after_move, state_after}
-use Rattle.ads_machine.specs.World.{World, port_numbered}
+use Rattle.ads_machine.specs.World.{World}
 use Rattle.ads_machine.specs.Client.{Place, Client}
 use Rattle.ads_machine.specs.Entries.{entry_of_symbol, symbol_upload_of, entry_of_part}
 use Rattle.ads_machine.specs.Answers.{AnswerTable}
@@ -39,7 +39,7 @@ use Rattle.ads_machine.specs.AdsDevice.{DescriptionReading, reloading, ads_devic
 use Rattle.ads_laws.specs.Isolation.{start}
 use Rattle.ads_laws.specs.Soundness.{Each, ReadsAccepted}
 use Rattle.ads_laws.specs.Reachable.{IsPlaced}
-use Rattle.ads_laws.proofs.TameTypes.{IsTame, path_len, text-short, IsTamePart, tame-steps}
+use Rattle.ads_laws.proofs.TameTypes.{IsTame, path_len, text-short, tame-steps}
 use Rattle.ads_laws.proofs.TameTrees.{shape-tame, short-comment, trees-tame}
 use Rattle.ads_laws.proofs.EveryState.{Goes, piece-goes, took-goes, gone-goes}
 

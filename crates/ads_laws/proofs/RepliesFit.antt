@@ -1,31 +1,27 @@
 -- Each reply has at most 2,000,000 bytes of data.
-use Rattle.std.proofs.Common.{◌≡◌, ℕ, ◌+◌, ◌≤◌, List, [], ◌∷◌, map, length, Bool, true, false, cond, refl, sym, ◌∙◌, ap, subst, arith, inl, inr}
-use Rattle.std.specs.Prelude.{Option, Some, None, Result, Ok, Err, nat_lt, not, ◌==◌, ◌%◌, bytes_eq}
+use Rattle.std.proofs.Common.{◌≡◌, ℕ, ◌≤◌, List, [], ◌∷◌, map, length, Bool, true, false, cond, refl, sym, subst, arith, inl, inr}
+use Rattle.std.specs.Prelude.{Option, Some, None, Result, Ok, Err, nat_lt, not, ◌==◌}
 use Rattle.std.proofs.lemmas.Bool.{cases_Bool, ltb-false}
-use Rattle.signals.specs.Wave.{Wave}
 use Rattle.ads_plant.specs.AcceptedTypes.{LIMIT}
-use Rattle.ads_plant.specs.Accepted.{IsAccepted}
-use Rattle.ads_plant.specs.Description.{Rights, Description, size_in}
+use Rattle.ads_plant.specs.Description.{Rights, size_in}
 use Rattle.ads_plant.specs.Rights.{rights_of}
-use Rattle.ads_plant.specs.World.{Plant, PlantPort, Block, plant_of}
+use Rattle.ads_plant.specs.World.{Plant, PlantPort, Block}
 use Rattle.ads_plant.specs.Finding.{found_of}
-use Rattle.ads_formats.specs.Codes.{invalid_size, invalid_group, target_port_not_found, target_machine_not_found, unknown_command_id, unknown_ams_command, invalid_ams_length}
+use Rattle.ads_formats.specs.Codes.{invalid_size, target_port_not_found, target_machine_not_found, unknown_command_id, unknown_ams_command, invalid_ams_length}
 use Rattle.ads_formats.specs.Groups.{Group, AreaSize, HandleByName, ValueByName, InfoByName, SymbolVersion, ExtendedInfoByName, SymbolUpload, UploadInfo, TypeUpload, UploadInfoWithTypes, ReleaseHandle, SumRead, SumWrite, SumReadWrite}
-use Rattle.ads_formats.specs.Header.{AmsHeader, header_of, payload_of, request_flags}
+use Rattle.ads_formats.specs.Header.{AmsHeader, header_of, payload_of}
 use Rattle.ads_formats.specs.Ranges.{greatest_len}
 use Rattle.ads_formats.specs.Reply.{facts_bytes}
 use Rattle.ads_formats.specs.Request.{Request, ReadDeviceInfo, Read, Write, ReadState, WriteControl, AddDeviceNotification, DeleteDeviceNotification, DeviceNotification, ReadWrite, request_of}
-use Rattle.ads_outside.specs.declared.moves.Move.{Move}
-use Rattle.ads_machine.specs.Connection.{Connection, is_deaf}
-use Rattle.ads_machine.specs.MachineState.{MachineState}
+use Rattle.ads_machine.specs.Connection.{Connection}
 use Rattle.ads_machine.specs.Moves.{state_after}
 use Rattle.ads_machine.specs.World.{World, Setup, setup_of, port_numbered, state_names}
 use Rattle.ads_machine.specs.Access.{Addressed, WholeByte}
 use Rattle.ads_machine.specs.Handles.{Live, kept_status}
-use Rattle.ads_machine.specs.Watches.{Watch, Mode}
+use Rattle.ads_machine.specs.Watches.{Mode}
 use Rattle.ads_machine.specs.Client.{Place, Client, Deletes}
-use Rattle.ads_machine.specs.Acts.{Act, Refusal, fixed_data, outcome_of, outcomes_of}
-use Rattle.ads_machine.specs.Answers.{AnswerTable, answered_group, DEVICE_NOTIFICATION}
+use Rattle.ads_machine.specs.Acts.{Refusal, fixed_data, outcomes_of}
+use Rattle.ads_machine.specs.Answers.{AnswerTable, answered_group}
 use Rattle.ads_machine.specs.Reach.{reach_of}
 use Rattle.ads_machine.specs.Reads.{fixed_reply, type_upload_reply, read_group}
 use Rattle.std.specs.Int.{w32, to_le_bytes}
@@ -35,13 +31,13 @@ use Rattle.ads_machine.specs.TypeEntries.{type_upload_of, upload_info_with_types
 use Rattle.ads_machine.specs.Writes.{Asker, write_act, release_act, write_group, control_act}
 use Rattle.ads_machine.specs.ByName.{place_of, grant_act, value_act, info_of, read_write_group}
 use Rattle.ads_machine.specs.Requests.{next_watch, add_watch, add_reached, add_act, act_of}
-use Rattle.ads_machine.specs.Sums.{SumRequest, sum_of_reads, sum_of_writes, sum_of_read_writes, sum_refusal, given_in_turn}
-use Rattle.ads_machine.specs.Packets.{Decision, NoAnswer, EndConnection, AmsError, Perform, refuse, acts_of, decide_parts, decide_single, decide_read_write, decide_request, decide_command, decide_port, decide_target, decide_header, decide}
+use Rattle.ads_machine.specs.Sums.{SumRequest, sum_of_reads, sum_of_writes, sum_of_read_writes, given_in_turn}
+use Rattle.ads_machine.specs.Packets.{Decision, NoAnswer, EndConnection, AmsError, Perform, refuse, acts_of, decide_parts, decide_single, decide_read_write, decide_request, decide_port, decide_target, decide_header, decide}
 use Rattle.ads_machine.specs.Replies.{outcome_in_all, answer_to, answer_of, performed}
 use Rattle.ads_machine.specs.AdsDevice.{DescriptionReading, ads_device}
 use Rattle.ads_laws.specs.Isolation.{start}
-use Rattle.ads_laws.specs.Soundness.{Each, IsSoundPlant, ReadsAccepted}
-use Rattle.ads_laws.specs.Reachable.{IsPlacedStatus, IsPlacedHandle, ConnectionFits, AllFits}
+use Rattle.ads_laws.specs.Soundness.{Each, IsSoundPlant}
+use Rattle.ads_laws.specs.Reachable.{IsPlacedStatus, IsPlacedHandle, ConnectionFits}
 use Rattle.ads_laws.specs.RepliesFit.{AnswerFits, AnswersFit, RepliesFit}
 use Rattle.ads_laws.proofs.Accepted.{accepted_are_sound}
 use Rattle.ads_laws.proofs.EveryState.{every_state_fits}

@@ -1,5 +1,5 @@
 -- A request is given at most as many bytes as it asks.
-use Rattle.std.proofs.Common.{◌≡◌, ℕ, zero, suc, ◌+◌, ◌≤◌, List, [], ◌∷◌, ◌++◌, map, length, Bool, true, false, cond, refl, sym, ◌∙◌, ap, subst, arith, inl, inr}
+use Rattle.std.proofs.Common.{◌≡◌, ℕ, zero, suc, ◌+◌, ◌≤◌, List, [], ◌∷◌, map, length, Bool, true, false, cond, refl, ◌∙◌, ap, arith, inl, inr}
 use Rattle.std.specs.Prelude.{Option, Some, None, Result, Ok, Err, nat_lt, nat_le, ◌==◌, ◌/◌, ◌||◌}
 use Rattle.std.proofs.lemmas.Bool.{cases_Bool, ltb-false, eqb-true}
 use Rattle.std.proofs.lemmas.List.{length-append, length-map}
@@ -9,7 +9,7 @@ use Rattle.ads_plant.specs.Finding.{Found, found_of}
 use Rattle.ads_formats.specs.Codes.{invalid_size, symbol_not_found}
 use Rattle.ads_formats.specs.Groups.{Group, AreaBytes, AreaBit, AreaSize, HandleByName, ValueByName, ValueByHandle, InfoByName, SymbolVersion, ExtendedInfoByName, SymbolUpload, UploadInfo, TypeUpload, UploadInfoWithTypes}
 use Rattle.ads_formats.specs.Ranges.{greatest_len, byte_range, bit_range, range_in}
-use Rattle.ads_formats.specs.Request.{Request, Read, ReadWrite}
+use Rattle.ads_formats.specs.Request.{Read, ReadWrite}
 use Rattle.ads_formats.specs.SymbolEntry.{entry_bytes}
 use Rattle.ads_machine.specs.World.{Setup, numbers_from, name_at, names_at}
 use Rattle.ads_machine.specs.Access.{Addressed, WholeByte, Put, value_at}
@@ -21,7 +21,7 @@ use Rattle.ads_machine.specs.Entries.{entry_of_part, symbol_upload_of, upload_in
 use Rattle.ads_machine.specs.TypeEntries.{type_upload_of, upload_info_with_types_of}
 use Rattle.std.specs.Int.{w32, to_le_bytes}
 use Rattle.ads_machine.specs.Reach.{addressed_by_range, addressed_in_place, addressed_by_status, reach_of}
-use Rattle.ads_machine.specs.Reads.{fixed_reply, type_upload_reply, read_act, read_group}
+use Rattle.ads_machine.specs.Reads.{fixed_reply, read_act, read_group}
 use Rattle.ads_machine.specs.Writes.{Asker}
 use Rattle.ads_machine.specs.ByName.{place_of, grant_act, value_act, info_of, if_found, read_write_group}
 use Rattle.ads_machine.specs.Requests.{act_of}

@@ -3,7 +3,7 @@ use Rattle.std.proofs.Common.{◌≡◌, ℕ, ◌+◌, ◌-◌, ◌≤◌, List,
 use Rattle.std.specs.Prelude.{Option, Some, None, drop, take, nat_lt, ◌==◌}
 use Rattle.std.specs.Int.{w16, w32, to_le_bytes}
 use Rattle.std.proofs.lemmas.Bool.{cases_Bool}
-use Rattle.std.proofs.lemmas.List.{length-append, length-drop, length-take}
+use Rattle.std.proofs.lemmas.List.{length-append, length-drop}
 use Rattle.ads_formats.specs.Header.{AmsAddress, AmsHeader, header_of, header_bytes, address_bytes, response_header, response_flags}
 use Rattle.ads_formats.specs.Ranges.{greatest_len}
 use Rattle.ads_formats.specs.Reply.{Reply, ReadDeviceInfo, Read, Write, ReadState, WriteControl, AddDeviceNotification, DeleteDeviceNotification, ReadWrite, facts_at, result_of, reply_bytes, refused_bytes, written_bytes}

@@ -1,6 +1,6 @@
 -- What a sum gives has the length that its refusal is decided by.
-use Rattle.std.proofs.Common.{◌≡◌, ℕ, zero, suc, ◌+◌, ◌-◌, ◌*◌, ◌≤◌, List, [], ◌∷◌, ◌++◌, length, Bool, true, false, cond, refl, sym, ◌∙◌, ap, subst, arith, inl, inr}
-use Rattle.std.specs.Prelude.{Option, Some, None, drop, take, sum, sum_by, flat_map, replicate, nat_lt, not, ◌==◌, ◌||◌}
+use Rattle.std.proofs.Common.{◌≡◌, ℕ, zero, suc, ◌-◌, ◌*◌, ◌≤◌, List, [], ◌∷◌, ◌++◌, length, Bool, true, false, refl, ap, arith, inl, inr}
+use Rattle.std.specs.Prelude.{None, drop, take, sum, flat_map, replicate, nat_lt, not, ◌==◌, ◌||◌}
 use Rattle.std.specs.Int.{w32, to_le_bytes}
 use Rattle.std.proofs.lemmas.Bool.{cases_Bool, ltb-false}
 use Rattle.std.proofs.lemmas.List.{length-append, length-replicate}
@@ -8,14 +8,14 @@ use Rattle.std.proofs.lemmas.List.Sums.{sum_by-cons}
 use Rattle.ads_plant.specs.World.{Block}
 use Rattle.ads_formats.specs.Numbers.{number32}
 use Rattle.ads_formats.specs.Ranges.{greatest_len}
-use Rattle.ads_formats.specs.Request.{Request, Read, Write, ReadWrite}
+use Rattle.ads_formats.specs.Request.{Request, Read, ReadWrite}
 use Rattle.ads_machine.specs.World.{Setup}
 use Rattle.ads_machine.specs.Client.{Client}
-use Rattle.ads_machine.specs.Acts.{Act, Outcome, outcome_of, memory_after, outcomes_of}
+use Rattle.ads_machine.specs.Acts.{Outcome, outcome_of, memory_after, outcomes_of}
 use Rattle.ads_machine.specs.Answers.{AnswerTable}
 use Rattle.ads_machine.specs.Writes.{Asker}
 use Rattle.ads_machine.specs.Requests.{act_of}
-use Rattle.ads_machine.specs.Sums.{SumRequest, SumForm, OfReads, OfWrites, OfReadWrites, numbers_of_heads, read_parts, write_parts, read_write_parts, sum_of_reads, sum_of_writes, sum_of_read_writes, sum_refusal, MAX_PARTS, codes_of, filled, filled_data, packed, given_in_turn}
+use Rattle.ads_machine.specs.Sums.{SumRequest, numbers_of_heads, read_parts, write_parts, read_write_parts, sum_of_reads, sum_of_writes, sum_of_read_writes, sum_refusal, MAX_PARTS, codes_of, filled, filled_data, packed, given_in_turn}
 use Rattle.ads_machine.specs.Packets.{client_after_request, acts_of}
 use Rattle.ads_laws.proofs.ShortActs.{given-short, read-act-asked, read_write-act-asked}
 

@@ -1,15 +1,14 @@
 -- The trees of an accepted list of types are tame, and the name of a part grows by 296 bytes a type at most.
-use Rattle.std.proofs.Common.{◌≡◌, ℕ, zero, suc, ◌+◌, ◌*◌, ◌≤◌, List, [], ◌∷◌, ◌++◌, length, Bool, true, refl, arith}
-use Rattle.std.specs.Prelude.{nat_lt, nat_le, ◌&&◌, codes, decimal, slice_get, max}
+use Rattle.std.proofs.Common.{◌≡◌, ℕ, zero, suc, ◌+◌, ◌*◌, ◌≤◌, List, [], ◌∷◌, ◌++◌, length, true, arith}
+use Rattle.std.specs.Prelude.{nat_le, ◌&&◌, codes, decimal}
 use Rattle.std.specs.List.{list_all}
 use Rattle.std.proofs.Math.Nat.{max-le}
 use Rattle.std.proofs.lemmas.Bool.{and_parts, leb-true}
 use Rattle.std.proofs.lemmas.List.{length-append}
 use Rattle.std.proofs.lemmas.Fmt.{length-decimal-le}
 use Rattle.name_paths.specs.Identifier.{is_identifier}
-use Rattle.ads_plant.specs.Plain.{is_base}
-use Rattle.ads_plant.specs.Listed.{Elem, Plain, Text, Struct, Enum, Shape, One, Array, Member, EnumValue, NamedType, Structure, Enumeration, type_name}
-use Rattle.ads_plant.specs.Trees.{TypeTree, PlainTree, TextTree, EnumTree, ArrayTree, StructTree, NoMember, MemberTree, tree_at, elem_tree, shape_tree, member_trees, named_tree, trees_behind, trees_of, tree_of}
+use Rattle.ads_plant.specs.Listed.{Elem, Plain, Text, Struct, Enum, Shape, One, Array, Member, NamedType, Structure, Enumeration, type_name}
+use Rattle.ads_plant.specs.Trees.{TypeTree, tree_at, elem_tree, shape_tree, member_trees, named_tree, trees_behind, trees_of}
 use Rattle.ads_plant.specs.Spelling.{type_text}
 use Rattle.ads_plant.specs.AcceptedTypes.{AreTypes, are_types_behind, is_next_type, has_parts, is_member, is_shape, is_elem, are_bounds, is_type_name, is_short_identifier, is_comment, is_small_shape, is_small_type, is_count, all_pairs, differ, type_words}
 use Rattle.ads_laws.specs.Soundness.{Each}

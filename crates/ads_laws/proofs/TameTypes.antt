@@ -1,13 +1,12 @@
 -- The types of an accepted description have short texts, and so have the names of their parts.
-use Rattle.std.proofs.Common.{◌≡◌, ℕ, zero, suc, ◌+◌, ◌-◌, ◌*◌, ◌<◌, ◌≤◌, List, [], ◌∷◌, ◌++◌, map, length, Bool, true, false, cond, refl, sym, ◌∙◌, ap, subst, arith, inl, inr}
-use Rattle.std.specs.Prelude.{Option, Some, None, nat_lt, nat_le, ◌==◌, ◌&&◌, ◌^◌, max, flat_map, codes, decimal, bytes_eq, option_map, option_and_then, slice_get, ℤ, pos, negsuc, ◌+ℤ◌, ◌-ℤ◌}
+use Rattle.std.proofs.Common.{◌≡◌, ℕ, suc, ◌+◌, ◌-◌, ◌*◌, ◌<◌, ◌≤◌, List, [], ◌∷◌, ◌++◌, map, length, true, refl, sym, ◌∙◌, ap, subst, arith, inl, inr}
+use Rattle.std.specs.Prelude.{Option, Some, None, nat_lt, nat_le, ◌&&◌, ◌^◌, max, flat_map, codes, decimal, bytes_eq, option_map, option_and_then, ℤ, pos, negsuc, ◌+ℤ◌, ◌-ℤ◌}
 use Rattle.std.specs.List.{list_all}
 use Rattle.std.specs.Int.Signed.{mag}
-use Rattle.std.specs.Fmt.{signed_decimal}
 use Rattle.std.proofs.Math.IntN.{ -ℤ-+ℤ_cancel}
 use Rattle.std.proofs.lemmas.Bool.{cases_Bool, and_parts, ltb-true, leb-true, leb-false, le-ltb}
 use Rattle.std.proofs.lemmas.List.{length-append}
-use Rattle.std.proofs.Math.Nat.{le-max_left, le-max_right, max-le}
+use Rattle.std.proofs.Math.Nat.{le-max_left, le-max_right}
 use Rattle.std.proofs.lemmas.Fmt.{length_signed_le, length-decimal-le}
 use Rattle.name_paths.specs.Identifier.{lower}
 use Rattle.name_paths.specs.Path.{Step, name_step, index_step}
@@ -18,7 +17,7 @@ use Rattle.ads_plant.specs.Sizes.{type_size, member_start}
 use Rattle.ads_plant.specs.Parts.{TypePart, MemberPart, below, within, element_from, element_of, member_from, member_of, part_of, part_of_member, part_behind, within_part}
 use Rattle.ads_plant.specs.Spelling.{integer_text, high_of, bound_text, joined_by_comma, type_text}
 use Rattle.ads_plant.specs.AcceptedTypes.{is_index, is_bound, are_bounds}
-use Rattle.ads_machine.specs.Entries.{PartText, member_text, index_text, step_text, type_behind, text_behind, text_of_steps}
+use Rattle.ads_machine.specs.Entries.{PartText, step_text, type_behind, text_behind, text_of_steps}
 
 -- numbers
 
