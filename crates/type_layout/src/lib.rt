@@ -16,6 +16,7 @@ mod spelling;
 mod structures;
 #[cfg(test)]
 mod tests;
+mod upload;
 mod words;
 
 pub use description::{Description, Rights, RouteDesc, Routes4};
@@ -31,3 +32,4 @@ pub use reading::read_type_text;
 pub use shape::{Bound, Bounds, Elem, Shape, TypeRef};
 pub use spelling::type_text;
 pub use structures::{Member, Members, StructType};
+pub use upload::upload_size;
