@@ -1,0 +1,6 @@
+-- The entries so far are ranked.
+use Rattle.symbol_table.specs.Ranks.{RanksFirst, rank_by_byte, has_any_byte}
+use Rattle.symbol_table.proofs.index.index_by_byte.Given as goal
+
+abbrev pub invariant-loop-entry : goal.invariant-loop-entry
+invariant-loop-entry l = RanksFirst rank_by_byte has_any_byte l.kept l.entry l.ranked.items
