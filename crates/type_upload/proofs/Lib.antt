@@ -3,3 +3,9 @@ pub mod Dimensions
 pub mod FieldLemmas
 pub mod SubLemmas
 pub mod ReadLemmas
+pub mod Appends
+pub mod TextLengths
+pub mod LayoutLemmas
+pub mod MemberLemmas
+pub mod EntryLemmas
+pub mod TestedTypes

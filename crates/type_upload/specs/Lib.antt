@@ -1,2 +1,6 @@
 pub mod Entry
 pub mod Places
+pub mod Layouts
+pub mod WrittenFields
+pub mod NextMembers
+pub mod TestTypes

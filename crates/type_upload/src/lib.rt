@@ -2,11 +2,16 @@
 #![tactic(auto)]
 
 mod entry;
+mod fields;
+mod layouts;
+mod members;
 mod places;
 mod reading;
 mod skipping;
 #[cfg(test)]
 mod tests;
+mod writing;
 
 pub use entry::TypeEntry;
 pub use reading::read_type;
+pub use writing::put_types;
