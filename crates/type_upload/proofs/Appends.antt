@@ -10,7 +10,7 @@ use Rattle.ads_formats.specs.TypeEntry.{TypeFields, dimension_bytes, fields_len,
 use Rattle.ads_machine.specs.TypeEntries.{dimension_of}
 use Rattle.type_layout.specs.Shapes.{bounds_of}
 use Rattle.type_layout.specs.declared.shape.Bound.{Bound}
-use Rattle.type_upload.specs.WrittenFields.{front_bytes, words, numbers, lengths, texts, bound_bytes}
+use Rattle.type_upload.specs.WrittenFields.{front_bytes, numbers, lengths, texts, bound_bytes}
 
 -- bytes behind those that were there, and whatever follows them
 pub extends_behind : (old more mid new : List ℕ) → mid ≡ old ++ more → Extends mid new → Extends old new

@@ -1,13 +1,12 @@
 -- Entries, and the upload.
-use Rattle.std.proofs.Common.{◌≡◌, ℕ, zero, suc, ◌+◌, ◌<◌, ◌≤◌, List, [], ◌∷◌, ◌++◌, length, get_or, drop, take, map, refl, sym, ap, ◌∙◌, arith, append_assoc, length-append, add-zero, zero-add}
-use Rattle.std.specs.Prelude.{Some, slice_get, flat_map, unwrap_or}
+use Rattle.std.proofs.Common.{◌≡◌, ℕ, ◌+◌, ◌<◌, ◌≤◌, List, [], ◌∷◌, ◌++◌, length, get_or, take, refl, sym, ap, ◌∙◌, arith, append_assoc, length-append, add-zero, zero-add}
+use Rattle.std.specs.Prelude.{flat_map}
 use Rattle.std.proofs.lemmas.List.{append-nil, take_more, take_all, flat_map_more}
 use Rattle.std.proofs.lemmas.Grind.{flat_map-append}
 use Rattle.std.proofs.lemmas.Option.{unwrap_or-slice_get}
 use Rattle.ads_formats.specs.TypeEntry.{TypeFields, TypeEntry, sub_bytes, type_bytes, type_upload_bytes}
-use Rattle.ads_plant.specs.Plain.{Kind, kind_name}
 use Rattle.ads_plant.specs.Listed.{NamedType}
-use Rattle.ads_plant.specs.Trees.{TypeTree, StructTree, EnumTree, MemberTrees, NoMember, named_tree, tree_at, trees_behind, trees_of}
+use Rattle.ads_plant.specs.Trees.{TypeTree, StructTree, MemberTrees, NoMember, named_tree, tree_at, trees_behind, trees_of}
 use Rattle.ads_plant.specs.Sizes.{type_size}
 use Rattle.ads_plant.specs.Entries.{type_id}
 use Rattle.ads_machine.specs.TypeEntries.{members_fields, named_fields, entry_of_type, entries_of_types}

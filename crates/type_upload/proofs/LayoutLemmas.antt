@@ -1,14 +1,9 @@
 -- Layouts of the first types of a list, and what the elements of types name.
-use Rattle.std.proofs.Common.{◌≡◌, ℕ, zero, suc, ◌+◌, ◌<◌, ◌≤◌, List, [], ◌∷◌, ◌++◌, length, map, true, inl, inr, ◌⊎◌, refl, sym, ap, ◌∙◌, subst, arith}
-use Rattle.std.specs.Prelude.{Some, None, slice_get}
-use Rattle.std.proofs.lemmas.Option.{slice_get_within}
-use Rattle.ads_formats.specs.TypeEntry.{Dimension}
-use Rattle.ads_plant.specs.Plain.{Kind, kind_size}
+use Rattle.std.proofs.Common.{◌≡◌, ℕ, zero, suc, ◌≤◌, List, [], ◌∷◌, ◌++◌, length, map, true, inl, inr, ◌⊎◌, refl, sym, ap, ◌∙◌, subst}
+use Rattle.std.specs.Prelude.{Some, slice_get}
 use Rattle.ads_plant.specs.Listed.{Elem, Plain, Text, Struct, Enum, Shape, One, Array, NamedType, Structure, Enumeration, is_structure, is_enumeration}
-use Rattle.ads_plant.specs.Trees.{TypeTree, PlainTree, tree_at, tree_of, trees_of, elem_tree}
-use Rattle.ads_plant.specs.Sizes.{type_size}
-use Rattle.ads_plant.specs.AcceptedTypes.{AreTypes, IsSized, LIMIT, is_elem, elem_within}
-use Rattle.ads_plant.proofs.SizeLemmas.{kind_size-bounds}
+use Rattle.ads_plant.specs.Trees.{tree_at, tree_of, trees_of, elem_tree}
+use Rattle.ads_plant.specs.AcceptedTypes.{AreTypes, IsSized, is_elem, elem_within}
 use Rattle.ads_plant.proofs.TypeLemmas.{rank, at-below, stands_at}
 use Rattle.ads_machine.specs.TypeEntries.{dimension_of, dimensions_of}
 use Rattle.type_layout.specs.Spelled.{IsThere, NamesThere}

@@ -1,12 +1,12 @@
 -- The members of an accepted structure, one after another.
-use Rattle.std.proofs.Common.{◌≡◌, ℕ, suc, ◌+◌, ◌<◌, ◌≤◌, min, max, List, [], ◌∷◌, ◌++◌, length, drop, take, map, true, refl, sym, ap, ◌∙◌, arith, append_assoc, length-append}
+use Rattle.std.proofs.Common.{◌≡◌, ℕ, suc, ◌+◌, ◌<◌, ◌≤◌, max, List, [], ◌∷◌, ◌++◌, length, drop, take, true, refl, sym, ap, ◌∙◌, arith, append_assoc}
 use Rattle.std.specs.Prelude.{Some, slice_get, nat_le, ◌&&◌}
 use Rattle.std.specs.List.{list_all}
 use Rattle.std.proofs.lemmas.Bool.{and_parts, leb-true}
-use Rattle.std.proofs.lemmas.List.{drop_all, append-nil, length-map}
+use Rattle.std.proofs.lemmas.List.{drop_all, length-map}
 use Rattle.ads_formats.specs.TypeEntry.{Dimension, TypeFields, Stamps, fields_len, sub_bytes}
 use Rattle.ads_plant.specs.Listed.{Shape, One, Array, Member, NamedType, Structure}
-use Rattle.ads_plant.specs.Trees.{TypeTree, StructTree, MemberTrees, shape_tree, tree_of, trees_of, member_trees}
+use Rattle.ads_plant.specs.Trees.{TypeTree, StructTree, shape_tree, tree_of, trees_of, member_trees}
 use Rattle.ads_plant.specs.Sizes.{aligned, type_size, type_align, greatest_align, members_end, member_start}
 use Rattle.ads_plant.specs.Spelling.{type_text}
 use Rattle.ads_plant.specs.Entries.{type_id}

@@ -1,5 +1,5 @@
 -- An array is as small as its type, so the product fits.
-use Rattle.std.proofs.Common.{rules, ◌≡◌, ◌≤◌, arith}
+use Rattle.std.proofs.Common.{rules, ◌≤◌, arith}
 use Rattle.ads_plant.specs.Sizes.{type_size, type_align}
 use Rattle.ads_plant.specs.Trees.{tree_of}
 use Rattle.ads_plant.specs.AcceptedTypes.{LIMIT}

@@ -1,8 +1,8 @@
 -- The member ends within the limit; what is written of it is its sub entry.
-use Rattle.std.proofs.Common.{◌≡◌, ◌+◌, ◌<◌, ◌≤◌, [], map, ap, ◌∙◌, arith}
+use Rattle.std.proofs.Common.{◌≡◌, map, ap, ◌∙◌, arith}
 use Rattle.ads_plant.specs.Listed.{Shape}
 use Rattle.ads_plant.specs.Trees.{tree_of}
-use Rattle.ads_plant.specs.Sizes.{type_size, type_align, member_start}
+use Rattle.ads_plant.specs.Sizes.{type_size, type_align}
 use Rattle.ads_plant.specs.Spelling.{type_text}
 use Rattle.ads_plant.proofs.SizeLemmas.{type_align-bounds}
 use Rattle.ads_machine.specs.TypeEntries.{dimension_of, dimensions_of}

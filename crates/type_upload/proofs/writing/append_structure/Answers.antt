@@ -1,5 +1,5 @@
 -- The fields are short; with the sub entries behind them they are the entry.
-use Rattle.std.proofs.Common.{◌≡◌, ◌≤◌, [], length, map, take, ap, sym, ◌∙◌, arith}
+use Rattle.std.proofs.Common.{◌≡◌, length, map, take, ap, sym, ◌∙◌, arith}
 use Rattle.std.proofs.lemmas.List.{length-map}
 use Rattle.ads_plant.specs.Listed.{Structure}
 use Rattle.ads_plant.specs.Trees.{trees_of, member_trees}
