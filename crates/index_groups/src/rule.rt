@@ -1,0 +1,90 @@
+//! What an access names, or the code that refuses it.
+
+ghost use Rattle.std.specs.Prelude.{◌≡◌, IfOk};
+ghost use Rattle.ads_plant.specs.Description.{size_in};
+ghost use Rattle.ads_formats.specs.Ranges.{range_of, byte_range, bit_range, size_range};
+ghost use Rattle.type_layout.specs.Descriptions.{area_of, sizes_of};
+ghost use Rattle.index_groups.specs.Access.{answer_meant, IsWithin};
+
+use crate::Reach;
+use crate::areas::area_size;
+use crate::groups::{AreaGroup, area_group};
+use return_codes::Code;
+use type_layout::{Area, Sizes};
+
+// The most bytes that one access may ask.
+const MAX_LEN: u32 = 2_000_000;
+
+/// What an access to a byte, bit or size group names, where the areas have these sizes, or the code that refuses it.
+///
+/// | groups | offset | refused by |
+/// |---|---|---|
+/// | 0x4020 memory, 0x4040 data, 0xF020 inputs, 0xF030 outputs | the first byte | 0x703 above the size, then 0x705 where the end is above the size or the length above 2,000,000 |
+/// | 0x4021, 0xF021, 0xF031: one bit | byte number times 8 plus bit number | 0x703 where the byte number is not below the size, then 0x705 for a length other than 1 |
+/// | 0x4025, 0x4045, 0xF025, 0xF035: the size | not looked at | 0x705 for a length below 4 |
+/// | any other | | 0x702 |
+///
+/// Beckhoff Information System, "Index Group/Offset Specification".
+#[tactic(auto, unfolding(ads_formats::specs::Ranges::range_of, ads_formats::specs::Ranges::range_in))]
+pub fn reach(sizes: &Sizes, group: u32, offset: u32, len: u32) -> Result<Reach, Code>
+    ensures rule { answer_meant result ≡ range_of (sizes_of sizes.now) group offset len }
+    ensures within { IfOk result (IsWithin (sizes_of sizes.now)) }
+{
+    match area_group(group) {
+        Some(AreaGroup::Bytes(area)) => byte_reach(sizes, area, offset, len),
+        Some(AreaGroup::Bit(area)) => bit_reach(sizes, area, offset, len),
+        Some(AreaGroup::Size(area)) => size_reach(area, len),
+        None => Err(Code::C702),
+    }
+}
+
+#[tactic(auto, unfolding(ads_formats::specs::Ranges::byte_range))]
+fn byte_reach(sizes: &Sizes, area: Area, offset: u32, len: u32) -> Result<Reach, Code>
+    ensures rule { answer_meant result
+        ≡ byte_range (area_of area) (size_in (sizes_of sizes.now) (area_of area)) offset len }
+    ensures within { IfOk result (IsWithin (sizes_of sizes.now)) }
+{
+    let size = area_size(sizes, area);
+    if offset > size {
+        return Err(Code::C703);
+    }
+    if offset as u64 + len as u64 > size as u64 || len > MAX_LEN {
+        return Err(Code::C705);
+    }
+    Ok(Reach::Bytes {
+        area,
+        at: offset,
+        len,
+    })
+}
+
+#[tactic(auto, unfolding(ads_formats::specs::Ranges::bit_range))]
+fn bit_reach(sizes: &Sizes, area: Area, offset: u32, len: u32) -> Result<Reach, Code>
+    ensures rule { answer_meant result
+        ≡ bit_range (area_of area) (size_in (sizes_of sizes.now) (area_of area)) offset len }
+    ensures within { IfOk result (IsWithin (sizes_of sizes.now)) }
+{
+    let size = area_size(sizes, area);
+    if offset / 8 >= size {
+        return Err(Code::C703);
+    }
+    if len != 1 {
+        return Err(Code::C705);
+    }
+    Ok(Reach::Bit {
+        area,
+        at: offset / 8,
+        bit: (offset % 8) as u8,
+    })
+}
+
+#[tactic(auto, unfolding(ads_formats::specs::Ranges::size_range))]
+fn size_reach(area: Area, len: u32) -> Result<Reach, Code>
+    ensures rule { answer_meant result ≡ size_range (area_of area) len }
+    ensures size { IfOk result (λ reach. reach ≡ Reach.Size area) }
+{
+    if len < 4 {
+        return Err(Code::C705);
+    }
+    Ok(Reach::Size { area })
+}
