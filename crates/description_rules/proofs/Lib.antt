@@ -1,0 +1,14 @@
+pub mod TextLemmas
+pub mod FirstLemmas
+pub mod NetLemmas
+pub mod Mapped
+pub mod WordLemmas
+pub mod ThroughLemmas
+pub mod PartLemmas
+pub mod ExtentLemmas
+pub mod StructLemmas
+pub mod KnownLemmas
+pub mod PlaceLemmas
+pub mod NumberLemmas
+pub mod NameLemmas
+pub mod RouteLemmas

@@ -1,0 +1,27 @@
+use Rattle.std.proofs.Common.{◌≡◌, [], ◌∷◌, ◌++◌, ap, sym, ◌∙◌, map, true, arith}
+use Rattle.std.proofs.lemmas.List.{map-append}
+use Rattle.ads_rules.specs.Described.{type_described}
+use Rattle.ads_rules.specs.SizeRules.{members_of}
+use Rattle.type_layout.specs.NamedTypes.{types_of, named_type_of}
+use Rattle.description_rules.specs.Built.{IsTypeOrLarge, are_small_members}
+use Rattle.description_table.specs.Views.{type_view}
+use Rattle.description_rules.proofs.KnownLemmas.{AreKnown-push, is_right_size-from}
+use Rattle.description_rules.proofs.size_rules.add_type.Goals as goal
+
+pub returns : goal.returns
+returns c =
+    let types = types_of c.args.known.now.types in
+    let type = type_described types (type_view c.args.kind.now) in
+    let built : (named_type_of c.in-Some.named ≡ type) × (are_small_members (members_of type) ≡ true) =
+    rw c.as_slice.ensures at (rw c.in-Some.is at c.in_ok-named.ensures) in
+    let extent = c.type_extent-extent.result in
+    let longer : types_of c.push.new.self ≡ types ++ type ∷ [] =
+    ap (map named_type_of) c.in_ok-push.ensures.ok ∙ map-append named_type_of c.args.known.now.types (c.in-Some.named ∷ [])
+    ∙ ap (λ t. types ++ t ∷ []) built.0 in
+    record {
+      answer = is_right_size-from types type extent built.1 c.type_extent-extent.ensures.extent c.if-extent-gt1048576.false c.if-extent-gt16.false;
+      types = λ _. longer;
+      extents = λ _. AreKnown-push types (types_of c.push.new.self) c.args.known.now.extents.items c.push-2.new.self.items type extent c.requires.known
+          c.type_extent-extent.ensures.extent c.if-extent-gt1048576.false c.type_extent-extent.ensures.fair.1 c.type_extent-extent.ensures.fair.0 c.if-extent-gt16.false
+          longer c.in_ok-push-2.ensures.items;
+    }

@@ -1,0 +1,10 @@
+pub mod Built
+pub mod Extents
+pub mod Faults
+pub mod Known
+pub mod KnownTypes
+pub mod Next
+pub mod Numbers
+pub mod Placed
+pub mod TypeNames
+pub mod TypesLeft

@@ -1,0 +1,154 @@
+//! The types of a description, and how each lies in memory.
+ghost use Rattle.std.specs.Prelude.{◌≡◌, ◌≤◌, ◌<◌, ◌*◌, ◌^◌, length, slice_get, true, false};
+ghost use Rattle.ads_plant.specs.Trees.{trees_of, elem_tree, tree_at, tree_of};
+ghost use Rattle.ads_plant.specs.AcceptedTypes.{is_small_shape};
+ghost use Rattle.ads_plant.specs.Sizes.{type_size};
+ghost use Rattle.std.specs.Option.{option_map_or};
+ghost use Rattle.ads_rules.specs.Shapes.{shape_of_text};
+ghost use Rattle.ads_rules.specs.SymbolRules.{is_small};
+ghost use Rattle.ads_rules.specs.Described.{shape_described};
+ghost use Rattle.type_layout.specs.Shapes.{elem_of};
+ghost use Rattle.type_layout.specs.NamedTypes.{types_of};
+ghost use Rattle.description_rules.specs.Extents.{extent_view, extent_of};
+ghost use Rattle.description_rules.specs.Known.{AreKnown, IsFair, IsFairArray};
+
+use crate::dimensions::{MAX_ELEMENTS, element_count};
+use crate::extents::{Extent, kind_size};
+use crate::shapes::elem_named;
+use type_layout::{Elem, Kind, Types, read_type_text};
+
+/// Types, and how each of them lies in memory.
+#[derive(Debug, Drop)]
+pub struct KnownTypes {
+    pub types: Types,
+    pub extents: Vec<Extent>,
+}
+
+/// How the type that a text names lies in memory.
+#[tactic(auto, unfolding(ads_rules::specs::Shapes::shape_of_text, ads_plant::specs::Sizes::type_size, ads_plant::specs::Sizes::type_align, ads_plant::specs::Sizes::type_depth))]
+pub fn text_extent(known: &KnownTypes, text: &[u8]) -> Extent
+    requires known { AreKnown (types_of known.now.types) known.now.extents.items }
+    requires few { length known.now.types ≤ 1000 }
+    requires small { is_small_shape (shape_described (types_of known.now.types) text.now) ≡ true }
+    ensures extent { extent_view result
+        ≡ extent_of (tree_of (types_of known.now.types) (shape_described (types_of known.now.types) text.now)) }
+    ensures fair { IsFairArray result }
+{
+    let Some(t) = read_type_text(text) else {
+        return elem_extent(known, Elem::Plain(Kind::Bool));
+    };
+    let Some(elem) = elem_named(known.types.as_slice(), t.elem) else {
+        return elem_extent(known, Elem::Plain(Kind::Bool));
+    };
+    let e = elem_extent(known, elem);
+    if t.count == 0 {
+        return e;
+    }
+    let size = product(element_count(&t), e.size);
+    Extent {
+        size,
+        align: e.align,
+        depth: e.depth,
+    }
+}
+
+/// The number of bytes of the type that a text names.
+#[tactic(auto, unfolding(ads_rules::specs::Shapes::shape_of_text, ads_plant::specs::Sizes::type_size))]
+pub fn text_size(known: &KnownTypes, text: &[u8]) -> u128
+    requires known { AreKnown (types_of known.now.types) known.now.extents.items }
+    requires few { length known.now.types ≤ 1000 }
+    ensures size { result ≡ type_size (tree_of (types_of known.now.types) (shape_described (types_of known.now.types) text.now)) }
+    ensures bound { result ≤ 2 ^ 120 }
+{
+    let Some(t) = read_type_text(text) else {
+        return elem_extent(known, Elem::Plain(Kind::Bool)).size;
+    };
+    let Some(elem) = elem_named(known.types.as_slice(), t.elem) else {
+        return elem_extent(known, Elem::Plain(Kind::Bool)).size;
+    };
+    let size = elem_extent(known, elem).size;
+    if t.count == 0 {
+        return size;
+    }
+    large_product(element_count(&t), size)
+}
+
+fn large_product(elements: u128, size: u128) -> u128
+    requires elements { elements ≤ 2 ^ 96 }
+    requires size { size ≤ 2 ^ 20 }
+    ensures value { result ≡ elements * size }
+    ensures bound { result ≤ 2 ^ 120 }
+{
+    elements * size
+}
+
+/// Whether a text names a type of at most 1,048,576 elements and bytes.
+#[tactic(auto, unfolding(ads_rules::specs::Shapes::shape_of_text))]
+pub fn is_small_type(known: &KnownTypes, text: &[u8]) -> bool
+    requires known { AreKnown (types_of known.now.types) known.now.extents.items }
+    requires few { length known.now.types ≤ 1000 }
+    ensures { result ≡ option_map_or (is_small (types_of known.now.types)) (shape_of_text (types_of known.now.types) text.now) false }
+{
+    let Some(t) = read_type_text(text) else {
+        return false;
+    };
+    if elem_named(known.types.as_slice(), t.elem).is_none() {
+        return false;
+    }
+    element_count(&t) <= MAX_ELEMENTS && text_size(known, text) <= 1_048_576
+}
+
+fn product(elements: u128, size: u128) -> u128
+    requires elements { elements ≤ 1048576 }
+    requires size { size ≤ 1048576 }
+    ensures value { result ≡ elements * size }
+    ensures bound { result ≤ 2 ^ 40 }
+{
+    elements * size
+}
+
+#[tactic(auto, unfolding(ads_plant::specs::Sizes::type_size, ads_plant::specs::Sizes::type_align, ads_plant::specs::Sizes::type_depth))]
+fn elem_extent(known: &KnownTypes, elem: Elem) -> Extent
+    requires { AreKnown (types_of known.now.types) known.now.extents.items }
+    ensures extent { extent_view result ≡ extent_of (elem_tree (trees_of (types_of known.now.types)) (elem_of elem)) }
+    ensures fair { IsFair result }
+{
+    match elem {
+        Elem::Plain(kind) => {
+            let size = kind_size(kind);
+            Extent {
+                size,
+                align: size,
+                depth: 0,
+            }
+        }
+        Elem::Text(n) => Extent {
+            size: n as u128 + 1,
+            align: 1,
+            depth: 0,
+        },
+        Elem::Struct(place) => extent_at(known, place as usize),
+        Elem::Enum(place) => extent_at(known, place as usize),
+    }
+}
+
+fn extent_at(known: &KnownTypes, place: usize) -> Extent
+    requires { AreKnown (types_of known.now.types) known.now.extents.items }
+    ensures extent { extent_view result ≡ extent_of (tree_at (trees_of (types_of known.now.types)) place) }
+    ensures fair { IsFair result }
+{
+    match extent_in(known.extents.as_slice(), place) {
+        Some(extent) => extent,
+        None => Extent {
+            size: 0,
+            align: 1,
+            depth: 1,
+        },
+    }
+}
+
+fn extent_in(extents: &[Extent], place: usize) -> Option<Extent>
+    ensures { result ≡ slice_get extents.now place }
+{
+    extents.get(place).copied()
+}

@@ -1,0 +1,33 @@
+//! The rules of a description, decided over the records of its document.
+#![tactic(auto)]
+
+mod building;
+mod dimensions;
+mod enum_values;
+mod extents;
+mod known_types;
+mod names;
+mod nets;
+mod numbers;
+mod places;
+mod port_rules;
+mod route_rules;
+mod seen;
+mod shape_building;
+mod shapes;
+mod size_rules;
+mod structure;
+mod symbol_contents;
+mod symbol_names;
+mod symbol_places;
+mod symbol_signals;
+mod symbol_types;
+mod type_building;
+mod type_rules;
+mod verdict;
+mod words;
+
+pub use known_types::{KnownTypes, text_size};
+pub use shape_building::small_shape;
+pub use size_rules::read_types;
+pub use verdict::{BrokenRule, fault_in_ports, fault_in_types};

@@ -1,0 +1,109 @@
+//! Description rule 9: ports.
+ghost use Rattle.std.specs.Prelude.{◌≡◌, ◌&&◌, [], length, map, not, nat_le};
+ghost use Rattle.std.specs.List.{list_all};
+ghost use Rattle.ads_plant.specs.AcceptedTypes.{is_same_number};
+ghost use Rattle.ads_rules.specs.Written as rules;
+ghost use Rattle.ads_rules.specs.Places.{first_wrong};
+ghost use Rattle.ads_rules.specs.PortRules.{wrong_port, is_right_port, image_limit, has_right_sizes, is_port_name, is_between, is_natural};
+ghost use Rattle.ads_rules.specs.Described.{sizes_described};
+ghost use Rattle.ads_plant.specs.Accepted.{image_size};
+ghost use Rattle.description_table.specs.Views.{port_view};
+
+use crate::names::is_port_name;
+use crate::numbers::{is_between, is_natural, is_same_number, natural_of};
+use crate::places::lesser;
+use description_table::WrittenPort;
+
+/// Rule 9: each port; there are 1 to 16 (item 16).
+#[tactic(auto, unfolding(ads_rules::specs::PortRules::wrong_port))]
+pub fn wrong_port(schema: i64, ports: &[WrittenPort<'_>]) -> Option<usize>
+    ensures { result ≡ wrong_port schema (map port_view ports.now) }
+{
+    let number = if 0 < ports.len() && ports.len() <= 16 {
+        None
+    } else {
+        Some(16)
+    };
+    lesser(first_wrong_port(image_limit(schema), ports), number)
+}
+
+fn image_limit(schema: i64) -> u32
+    ensures { result ≡ image_limit schema }
+{
+    if schema == 2 { 4_194_304 } else { 1_048_576 }
+}
+
+fn first_wrong_port(limit: u32, ports: &[WrittenPort<'_>]) -> Option<usize>
+    ensures { result ≡ first_wrong (is_right_port limit) [] (map port_view ports.now) }
+{
+    for (i, port) in ports.iter().enumerate() {
+        if !is_right_port(limit, &ports[..i], port) {
+            return Some(i);
+        }
+    }
+    None
+}
+
+fn is_right_port(limit: u32, before: &[WrittenPort<'_>], port: &WrittenPort<'_>) -> bool
+    ensures { result ≡ is_right_port limit (map port_view before.now) (port_view port.now) }
+{
+    is_numbered(before, port)
+        && is_port_name(port.name)
+        && is_version(port)
+        && has_right_sizes(limit, port)
+        && has_right_count(port)
+}
+
+#[tactic(auto, using(crate::proofs::Mapped::mapped))]
+fn is_numbered(before: &[WrittenPort<'_>], port: &WrittenPort<'_>) -> bool
+    ensures { result ≡ (is_between 1 65535 port.now.number
+        && list_all (λ (e : rules.WrittenPort). not (is_same_number e.number port.now.number)) (map port_view before.now)) }
+{
+    is_between(1, 65535, port.number) && is_new_number(before, port)
+}
+
+fn is_new_number(before: &[WrittenPort<'_>], port: &WrittenPort<'_>) -> bool
+    ensures { result ≡ list_all (λ e. not (is_same_number e.number port.now.number)) before.now }
+{
+    let number = port.number;
+    before.iter().all(|e| !is_same_number(e.number, number))
+}
+
+fn has_right_count(port: &WrittenPort<'_>) -> bool
+    ensures { result ≡ nat_le (length (port_view port.now).symbols) 10000 }
+{
+    port.symbols.len() <= 10_000
+}
+
+fn is_version(port: &WrittenPort<'_>) -> bool
+    ensures { result ≡ (is_between 0 255 port.now.major && is_between 0 255 port.now.minor && is_between 0 65535 port.now.build) }
+{
+    is_between(0, 255, port.major)
+        && is_between(0, 255, port.minor)
+        && is_between(0, 65535, port.build)
+}
+
+fn has_right_sizes(limit: u32, port: &WrittenPort<'_>) -> bool
+    ensures { result ≡ has_right_sizes limit (port_view port.now) }
+{
+    are_natural(port) && image_size(port) <= limit as u128
+}
+
+fn are_natural(port: &WrittenPort<'_>) -> bool
+    ensures { result ≡ (is_natural port.now.inputs && is_natural port.now.outputs && is_natural port.now.memory && is_natural port.now.process) }
+{
+    is_natural(port.inputs)
+        && is_natural(port.outputs)
+        && is_natural(port.memory)
+        && is_natural(port.process)
+}
+
+fn image_size(port: &WrittenPort<'_>) -> u128
+    ensures { result ≡ image_size (sizes_described (port_view port.now)) }
+{
+    let inputs = natural_of(port.inputs) as u128;
+    let outputs = natural_of(port.outputs) as u128;
+    let memory = natural_of(port.memory) as u128;
+    let process = natural_of(port.process) as u128;
+    inputs + outputs + memory + process
+}

@@ -1,0 +1,36 @@
+//! Types of members and symbols, built where they have not too many elements.
+ghost use Rattle.std.specs.Prelude.{◌≡◌, ◌≤◌, length, nat_le, true, false, MatchOption, IfOk};
+ghost use Rattle.ads_plant.specs.AcceptedTypes.{is_small_shape};
+ghost use Rattle.ads_rules.specs.Described.{shape_described};
+ghost use Rattle.type_layout.specs.Shapes.{shape_of};
+ghost use Rattle.type_layout.specs.NamedTypes.{types_of};
+ghost use Rattle.description_rules.specs.Built.{IsShapeOrLarge};
+
+use crate::dimensions::{MAX_ELEMENTS, build_shape, element_count};
+use crate::shapes::elem_named;
+use ads_base::NoMemory;
+use std::alloc::Global;
+use type_layout::{Elem, Kind, NamedType, Shape, read_type_text};
+
+/// The type that a text names among these; None where it is an array of too many elements.
+#[tactic(auto, unfolding(ads_rules::specs::Shapes::shape_of_text))]
+pub fn small_shape(
+    alloc: Global,
+    types: &[NamedType],
+    text: &[u8],
+) -> Result<Option<Shape>, NoMemory>
+    requires { length types.now ≤ 1000 }
+    ensures { IfOk result (IsShapeOrLarge (shape_described (types_of types.now) text.now)) }
+{
+    let Some(t) = read_type_text(text) else {
+        return Ok(Some(Shape::One(Elem::Plain(Kind::Bool))));
+    };
+    let Some(elem) = elem_named(types, t.elem) else {
+        return Ok(Some(Shape::One(Elem::Plain(Kind::Bool))));
+    };
+    if element_count(&t) <= MAX_ELEMENTS {
+        Ok(Some(build_shape(alloc, &t, elem)?))
+    } else {
+        Ok(None)
+    }
+}

@@ -1,0 +1,153 @@
+//! Description rule 14: signals of symbols.
+ghost use Rattle.std.specs.Prelude.{◌≡◌, ◌≤◌, ◌++◌, [], length, map, flat_map, true, not, IfOk, OnOk};
+ghost use Rattle.std.specs.List.{list_all};
+ghost use Rattle.std.specs.Option.{option_map_or};
+ghost use Rattle.ads_plant.specs.Accepted.{may_have_signal};
+ghost use Rattle.ads_plant.specs.AcceptedTypes.{is_same_number};
+ghost use Rattle.ads_rules.specs.Written as rules;
+ghost use Rattle.ads_rules.specs.Places.{first_wrong};
+ghost use Rattle.ads_rules.specs.SymbolRules.{wrong_signal};
+ghost use Rattle.ads_rules.specs.Described.{shape_described};
+ghost use Rattle.ads_plant.specs.Listed as listed;
+ghost use Rattle.type_layout.specs.Shapes.{elem_of};
+ghost use Rattle.type_layout.specs.NamedTypes.{types_of};
+ghost use Rattle.description_rules.specs.Placed.{use_view, use_of, is_right_use, names_other};
+ghost use Rattle.description_table.specs.Views.{port_view, symbol_view};
+
+use crate::known_types::KnownTypes;
+use crate::numbers::{is_same_number, is_signal};
+use crate::shapes::elem_named;
+use description_table::{WrittenPort, WrittenSymbol};
+use ads_base::NoMemory;
+use std::alloc::Global;
+use type_layout::{Elem, read_type_text};
+
+/// The signal that a symbol names, and whether it is there and the symbol may have one.
+#[derive(Clone, Copy, Debug)]
+pub struct SignalUse {
+    pub right: bool,
+    pub signal: Option<i64>,
+}
+
+/// Rule 14: signals, each used once through all ports.
+pub fn wrong_signal(
+    alloc: Global,
+    known: &KnownTypes,
+    signals: u32,
+    ports: &[WrittenPort<'_>],
+) -> Result<Option<usize>, NoMemory>
+    requires few { length known.now.types ≤ 1000 }
+    ensures { IfOk result (λ place. place ≡ wrong_signal (types_of known.now.types) signals (map port_view ports.now)) }
+{
+    let uses = uses_of(alloc, known, signals, ports)?;
+    Ok(first_wrong_use(uses.as_slice()))
+}
+
+fn uses_of(
+    alloc: Global,
+    known: &KnownTypes,
+    signals: u32,
+    ports: &[WrittenPort<'_>],
+) -> Result<Vec<SignalUse>, NoMemory>
+    requires few { length known.now.types ≤ 1000 }
+    ensures { IfOk result (λ uses. map use_view uses.items
+        ≡ map (use_of (types_of known.now.types) signals) (flat_map (λ (p : rules.WrittenPort). p.symbols) (map port_view ports.now))) }
+{
+    let mut uses = Vec::new(alloc);
+    for port in ports {
+        add_uses(&mut uses, known, signals, port.symbols.as_slice())?;
+    }
+    Ok(uses)
+}
+
+fn add_uses(
+    uses: &mut Vec<SignalUse>,
+    known: &KnownTypes,
+    signals: u32,
+    symbols: &[WrittenSymbol<'_>],
+) -> Result<(), NoMemory>
+    requires few { length known.now.types ≤ 1000 }
+    ensures { OnOk result (map use_view uses.new.items
+        ≡ map use_view uses.old.items ++ map (use_of (types_of known.now.types) signals) (map symbol_view symbols.now)) }
+{
+    for symbol in symbols {
+        let one = use_of(known, signals, symbol);
+        uses.push(one)?;
+    }
+    Ok(())
+}
+
+fn use_of(known: &KnownTypes, signals: u32, symbol: &WrittenSymbol<'_>) -> SignalUse
+    requires few { length known.now.types ≤ 1000 }
+    ensures { use_view result ≡ use_of (types_of known.now.types) signals (symbol_view symbol.now) }
+{
+    match symbol.signal {
+        None => SignalUse {
+            right: true,
+            signal: None,
+        },
+        Some(n) => SignalUse {
+            right: is_signal(signals, n) && may_have_signal(known, symbol.kind),
+            signal: Some(n),
+        },
+    }
+}
+
+#[tactic(auto, unfolding(ads_rules::specs::Shapes::shape_of_text))]
+fn may_have_signal(known: &KnownTypes, text: &[u8]) -> bool
+    requires few { length known.now.types ≤ 1000 }
+    ensures { result ≡ may_have_signal (shape_described (types_of known.now.types) text.now) }
+{
+    let Some(t) = read_type_text(text) else {
+        return true;
+    };
+    let Some(elem) = elem_named(known.types.as_slice(), t.elem) else {
+        return true;
+    };
+    if t.count == 0 { is_plain(elem) } else { false }
+}
+
+fn is_plain(elem: Elem) -> bool
+    ensures { result ≡ may_have_signal (listed.One (elem_of elem)) }
+{
+    match elem {
+        Elem::Plain(_) => true,
+        _ => false,
+    }
+}
+
+fn first_wrong_use(uses: &[SignalUse]) -> Option<usize>
+    ensures { result ≡ first_wrong is_right_use [] (map use_view uses.now) }
+{
+    for (i, one) in uses.iter().enumerate() {
+        if !is_right_use(&uses[..i], one) {
+            return Some(i);
+        }
+    }
+    None
+}
+
+#[tactic(auto, using(crate::proofs::Mapped::mapped))]
+fn is_right_use(before: &[SignalUse], one: &SignalUse) -> bool
+    ensures { result ≡ is_right_use (map use_view before.now) (use_view one.now) }
+{
+    match one.signal {
+        None => true,
+        Some(n) => one.right && is_new_signal(before, n),
+    }
+}
+
+fn is_new_signal(before: &[SignalUse], n: i64) -> bool
+    ensures { result ≡ list_all (λ e. names_other n (use_view e)) before.now }
+{
+    before.iter().all(|e| names_other(n, e))
+}
+
+fn names_other(n: i64, one: &SignalUse) -> bool
+    ensures { result ≡ names_other n (use_view one.now) }
+{
+    match one.signal {
+        None => true,
+        Some(m) => !is_same_number(m, n),
+    }
+}

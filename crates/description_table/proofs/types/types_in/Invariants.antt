@@ -1,0 +1,12 @@
+use Rattle.std.proofs.Common.{◌≡◌, ◌++◌, map, drop, option_map}
+use Rattle.toml.specs.View.{items_view}
+use Rattle.ads_rules.specs.Fields.{items_in, table_of}
+use Rattle.ads_rules.specs.Tables.{type_in}
+use Rattle.description_table.specs.Views.{type_view}
+use Rattle.description_table.proofs.types.types_in.Given as goal
+
+-- those so far, and those of the items that are left
+abbrev pub invariant-loop-item : goal.invariant-loop-item
+invariant-loop-item l =
+    items_in (table_of (type_in l.second)) (items_view l.items)
+    ≡ option_map (λ xs. map type_view l.types.items ++ xs) (items_in (table_of (type_in l.second)) (items_view (drop l.item-index l.items)))

@@ -1,6 +1,0 @@
--- The broken rule that the code answers.
-use Rattle.ads_rules.specs.Verdict as rules
-use Rattle.symbol_file.specs.declared.verdict.BrokenRule.{BrokenRule}
-
-abbrev pub fault_view : BrokenRule → rules.BrokenRule
-fault_view f = record { number = f.number; item = f.item }
