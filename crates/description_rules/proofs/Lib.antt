@@ -12,3 +12,4 @@ pub mod PlaceLemmas
 pub mod NumberLemmas
 pub mod NameLemmas
 pub mod RouteLemmas
+pub mod LengthLemmas

@@ -8,3 +8,5 @@ pub mod Numbers
 pub mod Placed
 pub mod TypeNames
 pub mod TypesLeft
+pub mod Uploads
+pub mod Within

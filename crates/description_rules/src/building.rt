@@ -7,8 +7,8 @@ ghost use Rattle.description_rules.specs.TypesLeft.{enumeration_described};
 ghost use Rattle.description_table.specs.Views.{value_view};
 
 use crate::words::read_base;
-use description_table::{WrittenEnumeration, WrittenValue};
 use ads_base::{ListOf, NoMemory, Octets};
+use description_table::{WrittenEnumeration, WrittenValue};
 use std::alloc::Global;
 use type_layout::{EnumType, EnumValue, EnumValues, Kind};
 

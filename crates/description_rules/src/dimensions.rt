@@ -29,8 +29,8 @@ pub fn element_count(t: &TypeText<'_>) -> u128
     }
 }
 
-// The number of indexes of one dimension.
-fn index_count(e: Ends) -> u64
+/// The number of indexes of one dimension.
+pub fn index_count(e: Ends) -> u64
     ensures count { result ≡ (bound_between (ends_of e)).count }
     ensures small { result ≤ 4294967296 }
 {

@@ -2,6 +2,7 @@
 #![tactic(auto)]
 
 mod building;
+mod decimal_lens;
 mod dimensions;
 mod enum_values;
 mod extents;
@@ -22,12 +23,16 @@ mod symbol_names;
 mod symbol_places;
 mod symbol_signals;
 mod symbol_types;
+#[cfg(test)]
+mod tests;
 mod type_building;
 mod type_rules;
+mod type_text_lens;
+mod uploads;
 mod verdict;
 mod words;
 
 pub use known_types::{KnownTypes, text_size};
 pub use shape_building::small_shape;
 pub use size_rules::read_types;
-pub use verdict::{BrokenRule, fault_in_ports, fault_in_types};
+pub use verdict::{BrokenRule, fault_in_ports, fault_in_types, fault_in_uploads};

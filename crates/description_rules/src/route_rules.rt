@@ -9,8 +9,8 @@ ghost use Rattle.description_table.specs.Views.{route_view};
 use crate::nets::read_net;
 use crate::seen::SeenTexts;
 use crate::words::read_rights;
-use description_table::WrittenRoute;
 use ads_base::NoMemory;
+use description_table::WrittenRoute;
 use std::alloc::Global;
 
 /// Rule 3: the schema is 1 or 2.

@@ -6,6 +6,7 @@ ghost use Rattle.ads_rules.specs.Shapes.{place_named, elem_at, elem_named};
 ghost use Rattle.type_layout.specs.Shapes.{elem_of};
 ghost use Rattle.type_layout.specs.ReadTexts.{elem_text_of};
 ghost use Rattle.type_layout.specs.NamedTypes.{types_of, named_type_of};
+ghost use Rattle.description_rules.specs.Within.{IsWithin};
 
 use crate::names::is_same_word;
 use type_layout::{Elem, ElemText, NamedType};
@@ -13,7 +14,8 @@ use type_layout::{Elem, ElemText, NamedType};
 /// The element that a text names among these types.
 pub fn elem_named(types: &[NamedType], elem: ElemText<'_>) -> Option<Elem>
     requires { length types.now ≤ 1000 }
-    ensures { option_map elem_of result ≡ elem_named (types_of types.now) (elem_text_of elem.entry) }
+    ensures value { option_map elem_of result ≡ elem_named (types_of types.now) (elem_text_of elem.entry) }
+    ensures within { IfSome result (IsWithin (length types.now)) }
 {
     match elem {
         ElemText::Plain(kind) => Some(Elem::Plain(kind)),
@@ -51,7 +53,8 @@ pub fn name_of(t: &NamedType) -> &[u8]
 fn elem_at(types: &[NamedType], place: usize) -> Elem
     requires few { length types.now ≤ 1000 }
     requires within { place < length types.now }
-    ensures { elem_of result ≡ elem_at (types_of types.now) place }
+    ensures value { elem_of result ≡ elem_at (types_of types.now) place }
+    ensures within { IsWithin (length types.now) result }
 {
     if is_structure(&types[place]) {
         Elem::Struct(place as u16)

@@ -16,8 +16,8 @@ use crate::known_types::KnownTypes;
 use crate::structure::struct_extent;
 use crate::type_building::build_type;
 use crate::words::read_base;
-use description_table::{WrittenEnumeration, WrittenType};
 use ads_base::{ListOf, NoMemory};
+use description_table::{WrittenEnumeration, WrittenType};
 use std::alloc::Global;
 use type_layout::Kind;
 

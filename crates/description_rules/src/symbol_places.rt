@@ -15,8 +15,8 @@ ghost use Rattle.description_table.specs.Views.{port_view, symbol_view};
 use crate::known_types::{KnownTypes, text_size};
 use crate::numbers::{is_natural, natural_of};
 use crate::words::read_area;
-use description_table::{WrittenPort, WrittenSymbol};
 use ads_base::NoMemory;
+use description_table::{WrittenPort, WrittenSymbol};
 use std::alloc::Global;
 use type_layout::Area;
 

@@ -17,8 +17,8 @@ ghost use Rattle.description_table.specs.Views.{port_view, symbol_view};
 use crate::known_types::KnownTypes;
 use crate::numbers::{is_same_number, is_signal};
 use crate::shapes::elem_named;
-use description_table::{WrittenPort, WrittenSymbol};
 use ads_base::NoMemory;
+use description_table::{WrittenPort, WrittenSymbol};
 use std::alloc::Global;
 use type_layout::{Elem, read_type_text};
 

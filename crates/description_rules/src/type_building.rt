@@ -7,8 +7,8 @@ ghost use Rattle.description_table.specs.Views.{member_view, structure_view, typ
 
 use crate::building::enumeration_of;
 use crate::shape_building::small_shape;
-use description_table::{WrittenMember, WrittenStructure, WrittenType};
 use ads_base::{ListOf, NoMemory, Octets};
+use description_table::{WrittenMember, WrittenStructure, WrittenType};
 use std::alloc::Global;
 use type_layout::{Member, Members, NamedType, StructType};
 

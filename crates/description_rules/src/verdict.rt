@@ -19,8 +19,9 @@ use crate::symbol_places::wrong_place;
 use crate::symbol_signals::wrong_signal;
 use crate::symbol_types::wrong_type;
 use crate::type_rules::{wrong_part, wrong_type_name};
-use description_table::Document;
+use crate::uploads::wrong_upload;
 use ads_base::NoMemory;
+use description_table::Document;
 use std::alloc::Global;
 
 /// A broken rule, and the least item at which it is broken.
@@ -104,5 +105,17 @@ pub fn fault_in_ports(
     match wrong_signal(alloc, known, signals, ports)? {
         None => Ok(None),
         Some(place) => Ok(Some(broken_at(14, place as u128))),
+    }
+}
+
+/// Rule 15 as the broken one, and in it the least port whose upload is too large; or none.
+pub fn fault_in_uploads(known: &KnownTypes, d: &Document<'_>) -> Option<BrokenRule>
+    requires few { length known.now.types ≤ 1000 }
+    ensures { option_map fault_view result ≡ first_broken (
+        (15, ports.wrong_upload (types_of known.now.types) (document_view d.now).ports) ∷ []) }
+{
+    match wrong_upload(known.types.as_slice(), d.ports.as_slice()) {
+        None => None,
+        Some(place) => Some(broken_at(15, place as u128)),
     }
 }

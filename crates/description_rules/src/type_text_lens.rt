@@ -1,0 +1,116 @@
+//! How long canonical texts of types are.
+ghost use Rattle.std.specs.Prelude.{◌≡◌, ◌≤◌, ◌<◌, ◌+◌, ◌^◌, length, map};
+ghost use Rattle.std.specs.Fmt.{signed_decimal};
+ghost use Rattle.ads_plant.specs.Plain.{kind_name};
+ghost use Rattle.ads_plant.specs.Spelling.{type_text, bound_text, high_of, joined_by_comma};
+ghost use Rattle.ads_plant.specs.Trees.{trees_of, elem_tree, tree_at, tree_of};
+ghost use Rattle.ads_rules.specs.Shapes.{bound_between};
+ghost use Rattle.ads_rules.specs.Described.{shape_described};
+ghost use Rattle.type_layout.specs.Shapes.{kind_of, elem_of};
+ghost use Rattle.type_layout.specs.ReadTexts.{ends_of, text_of};
+ghost use Rattle.type_layout.specs.NamedTypes.{types_of};
+ghost use Rattle.description_rules.specs.Within.{IsWithin};
+
+use crate::decimal_lens::{decimal_len, signed_decimal_len};
+use crate::dimensions::index_count;
+use crate::shapes::{elem_named, name_of};
+use type_layout::{Elem, Ends, Kind, NamedType, TypeText, read_type_text};
+
+/// The length of the canonical text of the type that a text names.
+#[tactic(auto, using(crate::proofs::LengthLemmas::lengths), unfolding(ads_rules::specs::Shapes::shape_of_text, ads_plant::specs::Spelling::type_text))]
+pub fn type_text_len(types: &[NamedType], text: &[u8]) -> u128
+    requires few { length types.now ≤ 1000 }
+    ensures value { result ≡ length (type_text (tree_of (types_of types.now) (shape_described (types_of types.now) text.now))) }
+    ensures bound { result ≤ 2 ^ 69 }
+{
+    let Some(t) = read_type_text(text) else {
+        return kind_name_len(Kind::Bool);
+    };
+    let Some(elem) = elem_named(types, t.elem) else {
+        return kind_name_len(Kind::Bool);
+    };
+    let element = elem_text_len(types, elem);
+    if t.count == 0 {
+        return element;
+    }
+    12 + bounds_len(&t) + element
+}
+
+// The length of the dimensions of an array, with commas between them.
+#[tactic(auto, using(crate::proofs::LengthLemmas::lengths))]
+fn bounds_len(t: &TypeText<'_>) -> u128
+    ensures value { result ≡ length (joined_by_comma (map bound_text (map bound_between (text_of t.now).ends))) }
+    ensures bound { result ≤ 2 ^ 68 }
+{
+    let first = bound_len(t.first);
+    let second = bound_len(t.second);
+    let third = bound_len(t.third);
+    match t.count {
+        0 => 0,
+        1 => first,
+        2 => first + 1 + second,
+        _ => first + 1 + second + 1 + third,
+    }
+}
+
+// The length of one dimension, as `1..3`.
+#[tactic(auto, using(crate::proofs::LengthLemmas::lengths))]
+fn bound_len(e: Ends) -> u128
+    ensures value { result ≡ length (bound_text (bound_between (ends_of e))) }
+    ensures bound { result ≤ 2 ^ 66 + 2 }
+{
+    low_len(e) + 2 + high_len(e)
+}
+
+fn low_len(e: Ends) -> u128
+    ensures value { result ≡ length (signed_decimal e.low) }
+    ensures bound { result ≤ 2 ^ 65 }
+{
+    signed_decimal_len(e.low as i64)
+}
+
+fn high_len(e: Ends) -> u128
+    ensures value { result ≡ length (signed_decimal (high_of (bound_between (ends_of e)))) }
+    ensures bound { result ≤ 2 ^ 65 }
+{
+    signed_decimal_len(high_of(e))
+}
+
+fn high_of(e: Ends) -> i64
+    ensures { result ≡ high_of (bound_between (ends_of e)) }
+{
+    e.low as i64 + index_count(e) as i64 - 1
+}
+
+#[tactic(auto, using(crate::proofs::LengthLemmas::lengths), unfolding(ads_plant::specs::Spelling::type_text))]
+fn elem_text_len(types: &[NamedType], elem: Elem) -> u128
+    requires { IsWithin (length types.now) elem }
+    ensures value { result ≡ length (type_text (elem_tree (trees_of (types_of types.now)) (elem_of elem))) }
+    ensures bound { result ≤ 2 ^ 64 + 8 }
+{
+    match elem {
+        Elem::Plain(kind) => kind_name_len(kind),
+        Elem::Text(n) => 8 + decimal_len(n as u64),
+        Elem::Struct(place) => name_len_at(types, place as usize) as u128,
+        Elem::Enum(place) => name_len_at(types, place as usize) as u128,
+    }
+}
+
+fn name_len_at(types: &[NamedType], place: usize) -> usize
+    requires { place < length types.now }
+    ensures { result ≡ length (type_text (tree_at (trees_of (types_of types.now)) place)) }
+{
+    name_of(&types[place]).len()
+}
+
+fn kind_name_len(kind: Kind) -> u128
+    ensures value { result ≡ length (kind_name (kind_of kind)) }
+    ensures small { result ≤ 5 }
+{
+    match kind {
+        Kind::Int => 3,
+        Kind::Bool | Kind::Sint | Kind::Byte | Kind::Uint | Kind::Word | Kind::Dint => 4,
+        Kind::Time | Kind::Lint | Kind::Real => 4,
+        Kind::Usint | Kind::Udint | Kind::Dword | Kind::Ulint | Kind::Lword | Kind::Lreal => 5,
+    }
+}

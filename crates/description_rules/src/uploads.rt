@@ -1,0 +1,57 @@
+//! Description rule 15: the uploads of ports.
+ghost use Rattle.std.specs.Prelude.{◌≡◌, ◌≤◌, ◌^◌, [], length, map, nat_le, sum_by};
+ghost use Rattle.ads_rules.specs.Places.{first_wrong};
+ghost use Rattle.ads_rules.specs.PortRules.{wrong_upload, has_right_upload};
+ghost use Rattle.type_layout.specs.NamedTypes.{types_of};
+ghost use Rattle.description_rules.specs.Uploads.{written_length};
+ghost use Rattle.description_table.specs.Views.{port_view, symbol_view};
+
+use crate::type_text_lens::type_text_len;
+use description_table::{WrittenPort, WrittenSymbol};
+use type_layout::NamedType;
+
+/// Rule 15: the upload of each port has at most 2,000,000 bytes.
+#[tactic(auto, unfolding(ads_rules::specs::PortRules::wrong_upload))]
+pub fn wrong_upload(types: &[NamedType], ports: &[WrittenPort<'_>]) -> Option<usize>
+    requires few { length types.now ≤ 1000 }
+    ensures { result ≡ wrong_upload (types_of types.now) (map port_view ports.now) }
+{
+    for (i, port) in ports.iter().enumerate() {
+        if !has_right_upload(types, port) {
+            return Some(i);
+        }
+    }
+    None
+}
+
+fn has_right_upload(types: &[NamedType], port: &WrittenPort<'_>) -> bool
+    requires few { length types.now ≤ 1000 }
+    ensures { result ≡ has_right_upload (types_of types.now) (port_view port.now) }
+{
+    fits_upload(types, port.symbols.as_slice())
+}
+
+// Whether the entries of symbols have at most 2,000,000 bytes.
+fn fits_upload(types: &[NamedType], symbols: &[WrittenSymbol<'_>]) -> bool
+    requires few { length types.now ≤ 1000 }
+    ensures { result ≡ nat_le (sum_by (written_length (types_of types.now)) (map symbol_view symbols.now)) 2000000 }
+{
+    let mut room: u128 = 2_000_000;
+    for symbol in symbols {
+        let length = entry_len(types, symbol);
+        if length > room {
+            return false;
+        }
+        room -= length;
+    }
+    true
+}
+
+// The bytes of a symbol's entry: 33 for numbers and ends of texts, and its name, type and comment.
+fn entry_len(types: &[NamedType], symbol: &WrittenSymbol<'_>) -> u128
+    requires few { length types.now ≤ 1000 }
+    ensures { result ≡ written_length (types_of types.now) (symbol_view symbol.now) }
+{
+    let kind = type_text_len(types, symbol.kind);
+    33 + symbol.name.len() as u128 + kind + symbol.comment.len() as u128
+}
