@@ -51,14 +51,14 @@ fn has_bytes(base: Kind, number: i64, bytes: &[u8]) -> bool
     first_bytes(&all, size_of(base)) == bytes
 }
 
-fn first_bytes(all: &[u8; 8], size: usize) -> &[u8]
+pub fn first_bytes(all: &[u8; 8], size: usize) -> &[u8]
     requires { size ≤ 8 }
     ensures { result.now ≡ take size all.now }
 {
     &all[..size]
 }
 
-fn size_of(kind: Kind) -> usize
+pub fn size_of(kind: Kind) -> usize
     ensures value { result ≡ kind_size (kind_of kind) }
     ensures small { result ≤ 8 }
 {
@@ -71,7 +71,7 @@ fn size_of(kind: Kind) -> usize
 }
 
 // A number in two's complement.
-fn unsigned_of(n: i64) -> u64
+pub fn unsigned_of(n: i64) -> u64
     ensures { result ≡ unsigned_of n }
 {
     if 0 <= n {

@@ -32,7 +32,12 @@ mod uploads;
 mod verdict;
 mod words;
 
+pub use enum_values::{first_bytes, size_of, unsigned_of};
 pub use known_types::{KnownTypes, text_size};
+pub use nets::read_net;
+pub use numbers::natural_of;
 pub use shape_building::small_shape;
 pub use size_rules::read_types;
-pub use verdict::{BrokenRule, fault_in_ports, fault_in_types, fault_in_uploads};
+pub use symbol_contents::read_hex;
+pub use verdict::{BrokenRule, broken_at, fault_in_ports, fault_in_types, fault_in_uploads};
+pub use words::{read_area, read_rights};

@@ -132,7 +132,7 @@ fn begins_elem(known: &KnownTypes, elem: Elem, bytes: &[u8]) -> bool
 }
 
 // The bytes of hexadecimal text.
-fn read_hex(alloc: Global, text: &[u8]) -> Result<Option<Vec<u8>>, NoMemory>
+pub fn read_hex(alloc: Global, text: &[u8]) -> Result<Option<Vec<u8>>, NoMemory>
     ensures { IfOk result (λ found. option_map (λ bytes. bytes.items) found ≡ bytes_of_hex text.now) }
 {
     match hex::decode(alloc, text) {
