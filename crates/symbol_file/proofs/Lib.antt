@@ -1,0 +1,4 @@
+pub mod FitLemmas
+pub mod AnswerLemmas
+pub mod NameLemmas
+pub mod InitialLemmas

@@ -1,0 +1,18 @@
+//! Reads the text of a description.
+#![tactic(auto)]
+
+mod building;
+mod fault;
+mod initial;
+mod judging;
+mod nets;
+mod numbers;
+mod ports;
+mod reading;
+mod routes;
+mod symbols;
+#[cfg(test)]
+mod tests;
+
+pub use fault::DescFault;
+pub use reading::read;

@@ -1,0 +1,91 @@
+//! The symbols of a port.
+ghost use Rattle.std.specs.Prelude.{◌≡◌, ◌≤◌, length, map, true, unwrap_or, IfOk};
+ghost use Rattle.std.specs.List.{All};
+ghost use Rattle.ads_plant.specs.Description as plant;
+ghost use Rattle.ads_plant.specs.AcceptedTypes.{is_small_shape};
+ghost use Rattle.ads_rules.specs.Described as described;
+ghost use Rattle.type_layout.specs.Shapes.{shape_of};
+ghost use Rattle.type_layout.specs.NamedTypes.{types_of};
+ghost use Rattle.type_layout.specs.Descriptions.{symbol_of, symbols_of, area_of};
+ghost use Rattle.description_rules.specs.Known.{AreKnown};
+ghost use Rattle.description_table.specs.Views.{symbol_view};
+ghost use Rattle.symbol_file.specs.Fitting.{SymbolFits};
+
+use crate::initial::initial_bytes;
+use crate::nets::maybe_nets;
+use crate::numbers::{maybe_number32, number32};
+use ads_base::{ListOf, NoMemory, Octets};
+use description_rules::{KnownTypes, read_area, small_shape, text_size};
+use description_table::WrittenSymbol;
+use std::alloc::Global;
+use type_layout::{Area, NamedType, Shape, SymbolDesc, Symbols};
+
+/// The symbols that a document writes under one port.
+pub fn symbols_of(
+    alloc: Global,
+    known: &KnownTypes,
+    symbols: &[WrittenSymbol<'_>],
+) -> Result<Symbols, NoMemory>
+    requires known { AreKnown (types_of known.now.types) known.now.extents.items }
+    requires few { length known.now.types ≤ 1000 }
+    requires fit { All (SymbolFits (types_of known.now.types)) symbols.now }
+    ensures { IfOk result (λ built. symbols_of built
+        ≡ map (described.symbol_described (types_of known.now.types)) (map symbol_view symbols.now)) }
+{
+    let mut built = ListOf::new(alloc);
+    for symbol in symbols {
+        let one = symbol_of(alloc, known, symbol)?;
+        built.push(alloc, one)?;
+    }
+    Ok(built)
+}
+
+fn symbol_of(
+    alloc: Global,
+    known: &KnownTypes,
+    symbol: &WrittenSymbol<'_>,
+) -> Result<SymbolDesc, NoMemory>
+    requires known { AreKnown (types_of known.now.types) known.now.extents.items }
+    requires few { length known.now.types ≤ 1000 }
+    requires fits { SymbolFits (types_of known.now.types) symbol.now }
+    ensures { IfOk result (λ s. symbol_of s ≡ described.symbol_described (types_of known.now.types) (symbol_view symbol.now)) }
+{
+    let kind = shape_of(alloc, known.types.as_slice(), symbol.kind)?;
+    let size = text_size(known, symbol.kind) as u32;
+    let initial = initial_bytes(alloc, known.types.as_slice(), &kind, size, symbol.initial)?;
+    let name = Octets::copy_of(alloc, symbol.name)?;
+    let comment = Octets::copy_of(alloc, symbol.comment)?;
+    let writers = maybe_nets(alloc, &symbol.writers)?;
+    Ok(SymbolDesc {
+        name,
+        kind,
+        area: area_of(symbol.area),
+        at: number32(symbol.offset),
+        comment,
+        persistent: symbol.persistent,
+        read_only: symbol.read_only,
+        initial,
+        signal: maybe_number32(symbol.signal),
+        writers,
+    })
+}
+
+fn shape_of(alloc: Global, types: &[NamedType], text: &[u8]) -> Result<Shape, NoMemory>
+    requires few { length types.now ≤ 1000 }
+    requires small { is_small_shape (described.shape_described (types_of types.now) text.now) ≡ true }
+    ensures { IfOk result (λ s. shape_of s ≡ described.shape_described (types_of types.now) text.now) }
+{
+    match small_shape(alloc, types, text)? {
+        Some(shape) => Ok(shape),
+        None => unreachable!(),
+    }
+}
+
+fn area_of(text: &[u8]) -> Area
+    ensures { area_of result ≡ unwrap_or (described.area_of text.now) plant.Inputs }
+{
+    match read_area(text) {
+        Some(area) => area,
+        None => Area::Inputs,
+    }
+}
