@@ -14,7 +14,7 @@ use Rattle.symbol_table.specs.declared.kept.KeptPlace.{KeptPlace}
 use Rattle.symbol_table.specs.declared.ranks.Ranked.{Ranked}
 use Rattle.symbol_table.specs.Moves.{AreKept, IsSameSymbol, Overlap, is_symbol, has_bytes}
 use Rattle.symbol_table.specs.Ranks.{area_rank, symbol_rank, byte_rank, rank_by_symbol, rank_by_byte, is_any, has_any_byte, Ranks, RanksFirst, IsIndex, IsLastAtMost}
-use Rattle.symbol_table.proofs.Found.{find-none, find-only, find-passes, one_place}
+use Rattle.symbol_table.proofs.OnlyOne.{find-none, find-only, find-passes, one_place}
 
 -- nothing is ranked before the first entry
 pub ranks_none : (rank : KeptPlace → ℕ) (is_in : KeptPlace → Bool) (kept : List KeptPlace) → RanksFirst rank is_in kept 0 []

@@ -1,2 +1,15 @@
 pub mod Moves
 pub mod Ranks
+pub mod Comments
+pub mod FoundParts
+pub mod FoundPlaces
+pub mod NameKeys
+pub mod Names
+pub mod NamesInOrder
+pub mod PlaceKeys
+pub mod PlaceOrders
+pub mod Rows
+pub mod Sound
+pub mod Tables
+pub mod Tiles
+pub mod Tiling

@@ -1,14 +1,27 @@
 //! The symbols of a port: where a name leads, whose a byte is, and where a reload puts the bytes of kept symbols.
 #![tactic(auto)]
 
+mod by_place;
+mod comments;
+mod found;
 mod index;
 mod kept;
 mod moves;
 #[cfg(test)]
 mod moves_tests;
+mod name_order;
+mod names;
+mod parts;
 mod place;
 mod ranks;
+mod row;
+mod table;
+mod tile;
+mod tiling;
 
+pub use found::Found;
 pub use kept::{KeptList, KeptPlace};
 pub use moves::Moves;
 pub use place::Place;
+pub use table::Table;
+pub use tile::Tile;

@@ -1,0 +1,8 @@
+-- The names so far are those of the rows so far.
+use Rattle.std.proofs.Common.{take}
+use Rattle.symbol_table.specs.Names.{AreNamesOf}
+use Rattle.symbol_table.specs.Rows.{symbols_of_rows}
+use Rattle.symbol_table.proofs.names.Names.build.Given as goal
+
+abbrev pub invariant-loop-number : goal.invariant-loop-number
+invariant-loop-number l = AreNamesOf (symbols_of_rows (take l.number l.rows)) l.names

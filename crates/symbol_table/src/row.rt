@@ -1,0 +1,78 @@
+//! A symbol as the table keeps it.
+
+ghost use Rattle.std.specs.Prelude.{◌≡◌, IsTrue, IfOk, map};
+ghost use Rattle.std.specs.List.{list_all};
+ghost use Rattle.ads_plant.specs.AcceptedTypes.{AreTypes};
+ghost use Rattle.type_layout.specs.Shapes.{shape_of};
+ghost use Rattle.type_layout.specs.NamedTypes.{types_of};
+ghost use Rattle.type_layout.specs.Descriptions.{symbol_of, symbols_of};
+ghost use Rattle.symbol_table.specs.Tables.{table_symbol, is_typed};
+ghost use Rattle.symbol_table.specs.Rows.{symbol_of_row, symbols_of_rows};
+
+use ads_base::{NoMemory, Octets};
+use std::alloc::Global;
+use type_layout::{Area, Bounds, Shape, SymbolDesc, Types, size};
+
+/// What the table keeps of a symbol.
+#[derive(Debug, Drop)]
+pub struct SymbolRow {
+    pub name: Octets,
+    pub kind: Shape,
+    pub area: Area,
+    /// The first byte within the area.
+    pub at: u32,
+    /// The number of bytes.
+    pub len: u32,
+    pub comment: Octets,
+}
+
+/// The rows of a port's symbols, in the same order.
+pub fn rows_of(
+    alloc: Global,
+    symbols: &[SymbolDesc],
+    types: &Types,
+) -> Result<Vec<SymbolRow>, NoMemory>
+    requires types { AreTypes (types_of types.now) }
+    requires each { IsTrue (list_all (is_typed (types_of types.now)) (symbols_of symbols.now)) }
+    ensures { IfOk result (λ rows. symbols_of_rows rows.items
+        ≡ map (table_symbol (types_of types.now)) (symbols_of symbols.now)) }
+{
+    let mut rows = Vec::new(alloc);
+    for symbol in symbols {
+        let row = row_of(alloc, symbol, types)?;
+        rows.push(row)?;
+    }
+    Ok(rows)
+}
+
+fn row_of(alloc: Global, symbol: &SymbolDesc, types: &Types) -> Result<SymbolRow, NoMemory>
+    requires types { AreTypes (types_of types.now) }
+    requires typed { IsTrue (is_typed (types_of types.now) (symbol_of symbol.now)) }
+    ensures { IfOk result (λ row. symbol_of_row row
+        ≡ table_symbol (types_of types.now) (symbol_of symbol.now)) }
+{
+    let len = size(types, symbol.kind.as_ref());
+    let name = Octets::copy_of(alloc, symbol.name.as_slice())?;
+    let kind = copy_of_shape(alloc, &symbol.kind)?;
+    let comment = Octets::copy_of(alloc, symbol.comment.as_slice())?;
+    Ok(SymbolRow {
+        name,
+        kind,
+        area: symbol.area,
+        at: symbol.at,
+        len,
+        comment,
+    })
+}
+
+fn copy_of_shape(alloc: Global, shape: &Shape) -> Result<Shape, NoMemory>
+    ensures { IfOk result (λ copy. shape_of copy ≡ shape_of shape.now) }
+{
+    match shape {
+        Shape::One(elem) => Ok(Shape::One(*elem)),
+        Shape::Array(bounds, elem) => {
+            let copy = bounds.as_slice().to_vec(alloc)?;
+            Ok(Shape::Array(Bounds::from_vec(copy), *elem))
+        }
+    }
+}

@@ -1,0 +1,158 @@
+//! The table of a port's symbols.
+
+ghost use Rattle.std.specs.Prelude.{◌≡◌, ℕ, ◌+◌, ◌-◌, ◌*◌, ◌^◌, ◌<◌, ◌≤◌, List, length, map, slice_get, Some, IfOk};
+ghost use Rattle.ads_plant.specs.Description.{Port, size_in};
+ghost use Rattle.ads_plant.specs.Finding.{found_of_steps};
+ghost use Rattle.ads_plant.specs.Parts.{part_behind};
+ghost use Rattle.ads_plant.specs.Trees.{tree_of};
+ghost use Rattle.ads_plant.specs.World.{plant_symbol};
+ghost use Rattle.type_layout.specs.Descriptions.{area_of, port_of};
+ghost use Rattle.type_layout.specs.NamedTypes.{types_of};
+ghost use Rattle.symbol_table.specs.Comments.{comment_behind};
+ghost use Rattle.symbol_table.specs.FoundParts.{TellsPlace};
+ghost use Rattle.symbol_table.specs.FoundPlaces.{Finds};
+ghost use Rattle.symbol_table.specs.PlaceOrders.{IsPlaceOrder};
+ghost use Rattle.symbol_table.specs.Tables.{TableSymbol, table_of, IsPlaced, IsTableOf, IsTableWith, number_called};
+ghost use Rattle.symbol_table.specs.Tiles.{IsTileAt};
+
+use crate::by_place::place_order;
+use crate::name_order::NameOrder;
+use crate::names::Names;
+use crate::parts::{Part, part_behind, steps_behind};
+use crate::row::{SymbolRow, rows_of};
+use crate::tiling::{size_of_area, tile_at};
+use crate::{Found, Place, Tile};
+use ads_base::{NoMemory, Steps};
+use name_paths::{LaterSteps, Path};
+use std::alloc::Global;
+use std::marker::Model;
+use std::sync::ledger::Ledger;
+use type_layout::{Area, PortDesc, Sizes, Types, size};
+
+/// The symbols of a port, found by their names, by paths and by their places. Contracts see the sizes of the areas and,
+/// of each symbol in the order of the description, what is kept of it.
+#[derive(Drop)]
+pub struct Table {
+    sizes: Sizes,
+    rows: Vec<SymbolRow>,
+    names: Names,
+    by_name: NameOrder,
+    by_place: Vec<u32>,
+}
+
+impl Model for Table {
+    ghost use Rattle.symbol_table.specs.Tables.{SymbolTable};
+    ghost use Rattle.symbol_table.specs.Rows.{symbols_of_rows};
+    ghost use Rattle.symbol_table.specs.Sound.{IsSoundTable};
+    ghost use Rattle.type_layout.specs.Descriptions.{sizes_of};
+
+    ghost Value = { SymbolTable };
+
+    ghost view = { λ t. record { sizes = sizes_of t.sizes; symbols = symbols_of_rows t.rows.items } };
+
+    ghost invariant = { λ t. IsSoundTable (sizes_of t.sizes) (symbols_of_rows t.rows.items) t.names t.by_name t.by_place.items };
+}
+
+impl Table {
+    /// The table of a port of an accepted description with these types.
+    pub fn build(alloc: Global, port: &PortDesc, types: &Types) -> Result<Table, NoMemory>
+        requires { IsPlaced (types_of types.now) (port_of port.now) }
+        ensures { IfOk result (λ table. table ≡ table_of (types_of types.now) (port_of port.now)) }
+    {
+        let rows = rows_of(alloc, port.symbols.as_slice(), types)?;
+        let names = Names::build(alloc, rows.as_slice())?;
+        let by_name = NameOrder::build(alloc, rows.as_slice())?;
+        let by_place = place_order(alloc, rows.as_slice())?;
+        Ok(Table {
+            sizes: port.sizes,
+            rows,
+            names,
+            by_name,
+            by_place,
+        })
+    }
+
+    /// The symbol, or the part of one, that a path leads to, ASCII case aside. `types` is the list of types that the
+    /// table was built with. The path is compared with at most as many names as the number of symbols has binary
+    /// digits, and one more; each comparison is a step.
+    pub fn find<'a, L: Ledger>(
+        &'a self,
+        types: &'a Types,
+        path: &Path<'_>,
+        steps: &mut Steps<L>,
+    ) -> Option<Found<'a>>
+        requires { IsTableWith (types_of types.now) self.now }
+        ensures found { (port : Port) → IsTableOf (types_of types.now) port self.now
+            → Finds (types_of types.now) (map (plant_symbol (types_of types.now)) port.symbols)
+            (found_of_steps (map (plant_symbol (types_of types.now)) port.symbols) path.now) result }
+        ensures steps_rise { steps.old ≤ steps.new }
+        ensures few_steps { 2 ^ (steps.new - steps.old) ≤ 2 * (length self.now.symbols + 1) }
+    {
+        match self.by_name.search(path, steps) {
+            None => None,
+            Some((number, count)) => self.part(types, number, steps_behind(path, count)),
+        }
+    }
+
+    // The part of a symbol that the steps behind its name lead to.
+    fn part<'a>(&'a self, types: &'a Types, number: u32, steps: LaterSteps<'_>) -> Option<Found<'a>>
+        requires types { IsTableWith (types_of types.now) self.now }
+        requires there { number < length self.now.symbols }
+        ensures { (s : TableSymbol) → slice_get self.now.symbols number ≡ Some s
+            → TellsPlace (types_of types.now) s number
+            (comment_behind s.comment (tree_of (types_of types.now) s.shape) steps.entry)
+            (part_behind (record { first = 0; type = tree_of (types_of types.now) s.shape }) steps.entry) result }
+    {
+        let row = &self.rows[number as usize];
+        let whole = Part {
+            first: 0,
+            kind: row.kind.as_ref(),
+            comment: row.comment.as_slice(),
+        };
+        match part_behind(types, whole, &steps) {
+            None => None,
+            Some(part) => {
+                let area_size = size_of_area(self.sizes, row.area);
+                prove!(row.at <= area_size);
+                Some(Found {
+                    place: Place {
+                        symbol: number,
+                        area: row.area,
+                        at: row.at + part.first,
+                        len: size(types, part.kind),
+                    },
+                    kind: part.kind,
+                    comment: part.comment,
+                })
+            }
+        }
+    }
+
+    /// What stands at a byte of an area: a symbol, or a gap between symbols.
+    pub fn tile(&self, area: Area, at: u32) -> Tile
+        requires { at < size_in self.now.sizes (area_of area) }
+        ensures { IsTileAt self.now (area_of area) at result }
+    {
+        tile_at(
+            self.rows.as_slice(),
+            self.by_place.as_slice(),
+            self.sizes,
+            area,
+            at,
+        )
+    }
+
+    /// The number of the symbol with this whole name, ASCII case aside.
+    pub fn named(&self, alloc: Global, name: &[u8]) -> Result<Option<u32>, NoMemory>
+        ensures { IfOk result (λ number. number ≡ number_called name.now self.now.symbols) }
+    {
+        self.names.find(alloc, name)
+    }
+
+    /// The numbers of the symbols in the order of their places: by area, and by offset in an area.
+    pub fn by_place(&self) -> &[u32]
+        ensures { IsPlaceOrder self.now.symbols result.now }
+    {
+        self.by_place.as_slice()
+    }
+}
