@@ -1,0 +1,4 @@
+pub mod Found
+pub mod History
+pub mod Kept
+pub mod Records
