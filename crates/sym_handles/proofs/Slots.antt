@@ -11,7 +11,7 @@ use Rattle.sym_handles.specs.declared.records.Record.{Record}
 use Rattle.sym_handles.specs.declared.entries.Entry.{Entry}
 use Rattle.sym_handles.specs.Kept.{KeptHandle, moved_handle, without}
 use Rattle.std.specs.List.Sorted.{IsNonDecreasingBy}
-use Rattle.symbol_table.proofs.Found.{find-none, find-only}
+use Rattle.symbol_table.proofs.OnlyOne.{find-none, find-only}
 use Rattle.sym_handles.specs.Found.{is_handle, kept_handle, IsHandleAt}
 use Rattle.sym_handles.specs.Records.{IsAt, Slots, record_in, held, all_held, is_live, live_among, live_in, IsIndex, moved_record}
 
