@@ -15,3 +15,4 @@ pub mod Matching
 pub mod PositiveSizes
 pub mod PlacedSymbols
 pub mod FoundParts
+pub mod MovedWithin
