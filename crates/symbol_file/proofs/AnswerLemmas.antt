@@ -1,6 +1,6 @@
 -- What the reader's answers are.
-use Rattle.std.proofs.Common.{◌≡◌, ℕ, ◌<◌, ◌≤◌, List, length, Bool, true, false, refl, sym, ap, ◌∙◌, Option, Some, None, inl, inr, arith}
-use Rattle.std.specs.Prelude.{Result, Ok, Err, nat_lt, if◌then◌else◌, IfOk}
+use Rattle.std.proofs.Common.{◌≡◌, ℕ, ◌<◌, ◌≤◌, List, length, refl, sym, ap, ◌∙◌, Option, Some, None, inl, inr, arith}
+use Rattle.std.specs.Prelude.{Result, Ok, Err, nat_lt, IfOk}
 use Rattle.std.specs.Str.{is_utf8, IsUtf8}
 use Rattle.std.proofs.lemmas.Bool.{cases_Bool, ltb-true, ltb-false}
 use Rattle.std.proofs.lemmas.Str.{IsUtf8-from_is_utf8, is_utf8-from_IsUtf8}
@@ -13,8 +13,7 @@ use Rattle.ads_rules.proofs.Accepts.{table_verdict-accepted}
 use Rattle.type_layout.specs.Descriptions.{description_of}
 use Rattle.type_layout.specs.declared.description.Description as layout
 use Rattle.symbol_file.specs.declared.fault.DescFault.{DescFault}
-use Rattle.symbol_file.specs.declared.fault.DescFault.TheVariants.{Syntax, Rule}
-use Rattle.symbol_file.specs.Reading.{TextVerdict, Described, Breaks, NoDocument, text_verdict, verdict_of_rules, verdict_of_document, document_of, answer_of, IsVerdict}
+use Rattle.symbol_file.specs.Reading.{Described, Breaks, text_verdict, verdict_of_rules, verdict_of_document, document_of, answer_of, IsVerdict}
 
 described-accepted : (signals : ℕ) (table : Members) (x : Description) → verdict_of_rules (table_verdict signals table) ≡ Described x → IsAccepted x signals
 described-accepted signals table x h = go (table_verdict signals table) refl h

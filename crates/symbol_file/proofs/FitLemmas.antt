@@ -1,33 +1,31 @@
 -- Where no rule is broken, the numbers and texts of a document fit the values of a description.
-use Rattle.std.proofs.Common.{◌≡◌, ℕ, ◌+◌, ◌-◌, ◌^◌, ◌<◌, ◌≤◌, Bool, true, false, List, [], ◌∷◌, ◌++◌, length, map, replicate, refl, sym, ap, ◌∙◌, arith, length-append, Vec, Global, Bor}
-use Rattle.std.specs.Prelude.{Option, Some, None, Result, Ok, Err, is_some, is_none, option_map, ◌&&◌, nat_lt, nat_le, IfSome, IsTrue, ℤ, if◌then◌else◌}
+use Rattle.std.proofs.Common.{◌≡◌, ℕ, ◌+◌, ◌-◌, ◌^◌, ◌<◌, ◌≤◌, Bool, true, List, [], ◌∷◌, ◌++◌, length, map, replicate, refl, sym, ap, ◌∙◌, arith, length-append, Vec, Global, Bor}
+use Rattle.std.specs.Prelude.{Option, Some, None, Ok, is_some, is_none, option_map, IfSome, ℤ}
 use Rattle.std.specs.List.{All, list_all}
-use Rattle.std.specs.Option.{option_map_or}
 use Rattle.std.proofs.lemmas.Bool.{and_parts, leb-true, ltb-true, eqb-true}
 use Rattle.std.proofs.lemmas.Simd.{map-map}
 use Rattle.std.proofs.lemmas.List.Elements.{All-nil, All-cons}
 use Rattle.toml.specs.Data.{Members}
 use Rattle.ads_plant.specs.Listed.{NamedType, Shape}
 use Rattle.ads_plant.specs.Description as plant
-use Rattle.ads_plant.specs.Accepted.{IsAccepted, is_port, is_symbol, is_signal_right, image_size, size_of_symbol}
+use Rattle.ads_plant.specs.Accepted.{is_port, is_symbol, is_signal_right, image_size, size_of_symbol}
 use Rattle.ads_rules.specs.Written as rules
 use Rattle.ads_rules.specs.Places.{first_wrong, first_through}
 use Rattle.ads_rules.specs.Nets.{net_of}
-use Rattle.ads_rules.specs.Described.{natural_of, types_described, port_described, symbol_described, shape_described, sizes_described, description_of}
+use Rattle.ads_rules.specs.Described.{natural_of, types_described, port_described, symbol_described, sizes_described, description_of}
 use Rattle.ads_rules.specs.Tables.{document_in}
 use Rattle.ads_rules.specs.RouteRules.{wrong_net, is_right_route}
-use Rattle.ads_rules.specs.SymbolRules.{wrong_content, is_right_content, is_right_initial, is_right_writer, are_right_writers}
-use Rattle.ads_rules.specs.Verdict.{BrokenRule, first_broken, rules_of, judged, verdict_behind, table_verdict}
+use Rattle.ads_rules.specs.SymbolRules.{wrong_content, is_right_content, is_right_writer, are_right_writers}
+use Rattle.ads_rules.specs.Verdict.{first_broken, rules_of, judged, verdict_behind, table_verdict}
 use Rattle.ads_rules.proofs.FirstWrong.{first_right, first_through-none, option_map-none}
 use Rattle.ads_rules.proofs.TypesAccepted.{when_all}
 use Rattle.ads_rules.proofs.Accepts.{table_verdict-accepted}
-use Rattle.description_table.specs.Views.{document_view, port_view, symbol_view, route_view, text_view, type_view}
+use Rattle.description_table.specs.Views.{document_view, port_view, symbol_view, route_view, text_view}
 use Rattle.description_table.specs.declared.written.WrittenSymbol.{WrittenSymbol}
 use Rattle.description_table.specs.declared.written.WrittenPort.{WrittenPort}
-use Rattle.description_table.specs.declared.written.WrittenRoute.{WrittenRoute}
 use Rattle.description_table.specs.declared.written.Document.{Document}
 use Rattle.symbol_file.specs.Judged.{fault_of}
-use Rattle.symbol_file.specs.Fitting.{IsNetText, SymbolFits, FactsFit, SizesFit, PortFits, DocumentFits}
+use Rattle.symbol_file.specs.Fitting.{IsNetText, SymbolFits, PortFits, DocumentFits}
 
 -- what holds of each that passes a test, where all pass
 All-passing : {X Y : Type 0} (test : Y → Bool) (f : X → Y) (P : X → Type 0) → ((x : X) → test (f x) ≡ true → P x) → (xs : List X) → list_all test (map f xs) ≡ true → All P xs

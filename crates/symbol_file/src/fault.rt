@@ -2,7 +2,7 @@
 
 /// Why a text is no description.
 ///
-/// The rules are numbered from 1 to 15, as the document on formats has them.
+/// The rules are numbered from 1 to 15; `docs/FORMATS.md` lists them.
 #[derive(Clone, Copy, Debug, PartialEq, Eq)]
 pub enum DescFault {
     /// It is no TOML document.

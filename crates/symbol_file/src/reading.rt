@@ -21,7 +21,7 @@ const MAX_TEXT: usize = 16_777_216;
 /// Reads the text of a description, a TOML document, for this number of signals.
 ///
 /// The rules are looked at in their order, the length of the text first, and within a rule the items in theirs: the
-/// first broken one is the fault. A text that is long enough and no TOML document is `Syntax`.
+/// first broken one is the fault. A text that keeps rule 1 and is no TOML document is `Syntax`.
 pub fn read(
     alloc: Global,
     bytes: &[u8],

@@ -1,4 +1,4 @@
-use Rattle.std.proofs.Common.{None, Some, option_map, sym, ap, ◌∙◌}
+use Rattle.std.proofs.Common.{None, option_map, sym, ap, ◌∙◌}
 use Rattle.toml.specs.View.{table_view}
 use Rattle.symbol_file.proofs.AnswerLemmas.{text_verdict-long, text_verdict-short, verdict-behind, accepted-behind}
 use Rattle.symbol_file.proofs.reading.read.Goals as goal
