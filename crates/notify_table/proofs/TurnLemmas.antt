@@ -1,0 +1,50 @@
+-- Turns that are due stand in front of the others.
+use Rattle.std.proofs.Common.{◌≡◌, ℕ, ◌+◌, ◌<◌, ◌≤◌, ◌++◌, [], ◌∷◌, map, List, length, take, drop, get_or, true, false, refl, sym, ap, ◌∙◌, arith}
+use Rattle.std.specs.List.{All, filter}
+use Rattle.std.proofs.lemmas.Bool.{lt-leb, leb-false}
+use Rattle.std.proofs.lemmas.List.{append-nil, get_or_default, map_more, get_or-drop, length-drop, length-take-le, length-append, drop_all}
+use Rattle.std.proofs.lemmas.List.Elements.{All-get_or}
+use Rattle.notify_table.proofs.Filtered.{filter_none, filter_behind}
+use Rattle.notify_table.specs.declared.turn.Turn.{Turn}
+use Rattle.notify_table.specs.Turns.{AreInTurn, AllDue, HasHandle, is_turn_due, turn_rank, handle_of_turn}
+
+-- a turn that stands behind one that is not due is not due
+none_due_behind : (now : ℕ) (turns : List Turn) (i : ℕ) (d : Turn) → AreInTurn turns → i < length turns
+    → is_turn_due now (get_or turns i d) ≡ false → All (λ t. is_turn_due now t ≡ false) (drop i turns)
+none_due_behind now turns i d in_turn within not_due k e below =
+    let there : i + k < length turns = omega (arith, length-drop i turns) in
+    let rank = in_turn.rise i (i + k) d (omega arith) there in
+    let handle = All-get_or HasHandle turns (i + k) d there in_turn.handles in
+    let later = leb-false _ _ not_due in
+    let same : get_or turns (i + k) d ≡ get_or turns (i + k) e = get_or_default turns (i + k) d e there in
+    rw (get_or-drop i turns k e, ← same) (lt-leb _ _ (omega arith))
+
+-- where the first i turns are due and the next is not, these are all that are
+pub due_before : (now : ℕ) (turns : List Turn) (i : ℕ) (d : Turn) → AreInTurn turns → i < length turns
+    → AllDue now (take i turns) → is_turn_due now (get_or turns i d) ≡ false
+    → filter (is_turn_due now) turns ≡ take i turns
+due_before now turns i d in_turn within due not_due =
+    filter_behind (is_turn_due now) turns i due
+    ∙ ap (λ ys. take i turns ++ ys) (filter_none (is_turn_due now) (drop i turns) (none_due_behind now turns i d in_turn within not_due))
+    ∙ append-nil (take i turns)
+
+-- as many are due
+pub due_at_least : (now : ℕ) (turns : List Turn) (i : ℕ) → i ≤ length turns → AllDue now (take i turns)
+    → i ≤ length (filter (is_turn_due now) turns)
+due_at_least now turns i within due =
+    rw (filter_behind (is_turn_due now) turns i due)
+    (omega (arith, length-append (take i turns) (filter (is_turn_due now) (drop i turns)), length-take-le i turns within))
+
+-- where all turns are due
+pub due_all : (now : ℕ) (turns : List Turn) (i : ℕ) → length turns ≤ i → AllDue now (take i turns)
+    → filter (is_turn_due now) turns ≡ take i turns
+due_all now turns i past due =
+    filter_behind (is_turn_due now) turns i due
+    ∙ rw (drop_all i turns past) (append-nil (take i turns))
+
+-- the handle of one more turn
+pub handles_more : (turns : List Turn) (i : ℕ) (d : Turn) (handles : List ℕ) → i < length turns
+    → handles ≡ map handle_of_turn (take i turns)
+    → handles ++ handle_of_turn (get_or turns i d) ∷ [] ≡ map handle_of_turn (take (i + 1) turns)
+handles_more turns i d handles within so_far =
+    rw so_far (sym (map_more handle_of_turn turns i d within))

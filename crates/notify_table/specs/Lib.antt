@@ -1,0 +1,5 @@
+pub mod Access
+pub mod Specs
+pub mod Table
+pub mod Records
+pub mod Turns

@@ -1,0 +1,35 @@
+-- Which notification a `Spec` asks for. Beckhoff Information System, "ADS Add Device Notification".
+use Rattle.std.specs.Prelude.{ℕ, [], None}
+use Rattle.ads_formats.specs.Header.{AmsAddress}
+use Rattle.ads_formats.specs.Ranges.{Range}
+use Rattle.ads_machine.specs.Watches as machine
+use Rattle.ads_base.specs.declared.ams_addr.AmsAddr.{AmsAddr}
+use Rattle.notify_table.specs.Access.{range_meant}
+use Rattle.notify_table.specs.declared.spec.Mode.{Mode}
+use Rattle.notify_table.specs.declared.spec.Mode.TheVariants as mode
+use Rattle.notify_table.specs.declared.spec.Spec.{Spec}
+use Rattle.notify_table.specs.declared.spec.Ended.{Ended}
+
+abbrev pub address_of : AmsAddr → AmsAddress
+address_of a = record { net = a.net.bytes; port = a.port }
+
+abbrev pub mode_meant : Mode → machine.Mode
+mode_meant mode.Cycle = machine.Cyclic
+mode_meant mode.Change = machine.OnChange
+
+-- the notification that is added with this handle
+abbrev pub new_watch : ℕ → Spec → machine.Watch Range
+new_watch handle s = record {
+  handle = handle;
+  port = s.port;
+  address = address_of s.to;
+  watched = range_meant s.reach;
+  mode = mode_meant s.mode;
+  cycle = s.cycle;
+  last = None;
+  sent = [];
+}
+
+-- a notification before its first check
+abbrev pub before_checks : machine.Watch Range → machine.Watch Range
+before_checks w = record w { last = None; sent = [] }

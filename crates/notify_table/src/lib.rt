@@ -1,0 +1,10 @@
+//! Notifications of one connection: what they watch, when their checks are due, and which of them a reload ends.
+#![tactic(auto)]
+
+mod access;
+mod record;
+mod spec;
+mod turn;
+
+pub use access::Reach;
+pub use spec::{Ended, EndedList, Handles32, Mode, Spec, WatchFull};

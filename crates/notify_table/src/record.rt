@@ -1,0 +1,103 @@
+//! One notification, with the bytes that it last sent.
+
+ghost use Rattle.std.specs.Prelude.{◌≡◌, ℕ, length, IfOk};
+ghost use Rattle.ads_machine.specs.Watches.{is_sent, after_check};
+ghost use Rattle.notify_table.specs.Access.{range_meant};
+ghost use Rattle.notify_table.specs.Specs.{new_watch, before_checks, address_of};
+ghost use Rattle.notify_table.specs.Table.{watched_len, CanBeWatched};
+
+use crate::{Ended, Mode, Reach, Spec};
+use ads_base::NoMemory;
+use std::alloc::Global;
+use std::marker::Model;
+
+// A live notification.
+#[derive(Drop)]
+pub(crate) struct Record {
+    handle: u32,
+    spec: Spec,
+    last: Option<u64>,
+    // As many bytes as are watched, from the addition on; sent where there was a check.
+    sent: Vec<u8>,
+}
+
+impl Model for Record {
+    ghost use Rattle.ads_formats.specs.Ranges.{Range};
+    ghost use Rattle.ads_machine.specs.Watches.{Watch};
+
+    ghost Value = { Watch Range };
+
+    ghost use Rattle.notify_table.specs.Records.{watch_of, IsSound};
+
+    ghost view = { watch_of };
+
+    ghost invariant = { IsSound };
+}
+
+impl Record {
+    ghost use Rattle.notify_table.specs.Turns.{next_moment};
+
+    // A notification before its first check. All memory that its checks need is taken here.
+    pub fn new(alloc: Global, handle: u32, spec: Spec) -> Result<Record, NoMemory>
+        requires { CanBeWatched (range_meant spec.reach) }
+        ensures { IfOk result (λ w. w ≡ new_watch handle spec) }
+    {
+        let sent = Vec::from_elem(alloc, 0, len_of(spec.reach))?;
+        Ok(Record {
+            handle,
+            spec,
+            last: None,
+            sent,
+        })
+    }
+
+    pub fn spec(&self) -> Spec
+        ensures { new_watch self.now.handle result ≡ before_checks self.now }
+    {
+        self.spec
+    }
+
+    // The moment from which on the next check is due.
+    pub fn next(&self) -> u128
+        ensures { result ≡ next_moment self.now }
+    {
+        match self.last {
+            None => 0,
+            Some(last) => u128::from(last) + u128::from(self.spec.cycle.max(1)),
+        }
+    }
+
+    // A check at a moment: whether its bytes are to be sent. They are kept where they are.
+    pub fn check(&mut self, now: u64, bytes: &[u8]) -> bool
+        requires { length bytes.now ≡ watched_len self.old.watched }
+        ensures sent { result ≡ is_sent bytes.now self.old }
+        ensures new { self.new ≡ after_check now bytes.now self.old }
+    {
+        let sent = self.sends(bytes);
+        self.last = Some(now);
+        if sent {
+            self.sent.as_mut_slice().copy_from_slice(bytes);
+        }
+        sent
+    }
+
+    fn sends(&self, bytes: &[u8]) -> bool
+        ensures { result ≡ is_sent bytes.now self.now }
+    {
+        match self.last {
+            None => true,
+            Some(_) => self.spec.mode == Mode::Cycle || bytes != self.sent.as_slice(),
+        }
+    }
+}
+
+// How many bytes a check takes.
+fn len_of(reach: Reach) -> usize
+    ensures { result ≡ watched_len (range_meant reach) }
+{
+    match reach {
+        Reach::Bytes { len, .. } => len as usize,
+        Reach::Bit { .. } => 1,
+        Reach::Size { .. } => 0,
+    }
+}

@@ -1,0 +1,76 @@
+//! The order in which checks become due.
+
+ghost use Rattle.std.specs.Prelude.{◌≡◌, ℕ, ◌+◌, ◌<◌, ◌≤◌, map, filter, length, insert, nat_lt, nat_le, IfOk, vec_len, vec_capacity};
+ghost use Rattle.notify_table.specs.Turns.{AreInTurn, IsPlaceOf, turn_rank, is_turn_due, handle_of_turn};
+
+use ads_base::{NoMemory, Steps};
+use std::alloc::Global;
+use std::sync::ledger::Ledger;
+
+// When the next check of a notification is due, and where its record is.
+#[derive(Clone, Copy)]
+pub(crate) struct Turn {
+    // The moment from which on the check is due.
+    pub next: u128,
+    pub handle: u32,
+    pub key: usize,
+}
+
+// Whether one turn comes before another: at an earlier moment, or at the same with a lesser handle.
+fn is_before(t: Turn, u: Turn) -> bool
+    ensures { result ≡ nat_lt (turn_rank t) (turn_rank u) }
+{
+    if t.next == u.next {
+        t.handle < u.handle
+    } else {
+        t.next < u.next
+    }
+}
+
+fn place_of(turns: &[Turn], turn: Turn) -> usize
+    requires { AreInTurn turns.now }
+    ensures { IsPlaceOf turn turns.now result }
+{
+    turns.partition_point(|t| is_before(*t, turn))
+}
+
+// Puts a turn where it belongs. There is room.
+pub(crate) fn put_turn(turns: &mut Vec<Turn>, turn: Turn)
+    requires in_turn { AreInTurn turns.old.items }
+    requires room { vec_len turns.old < vec_capacity turns.old }
+    ensures put { (place : ℕ) × (place ≤ vec_len turns.old) × (turns.new.items ≡ insert turns.old.items place turn) }
+    ensures in_turn { AreInTurn turns.new.items }
+{
+    let place = place_of(turns, turn);
+    // There is room, so this cannot fail.
+    let _ = turns.insert(place, turn);
+}
+
+// The handles of the turns that are due, in their order. One step for each turn that is looked at.
+pub(crate) fn due_turns<L: Ledger>(
+    alloc: Global,
+    turns: &[Turn],
+    now: u64,
+    steps: &mut Steps<L>,
+) -> Result<Vec<u32>, NoMemory>
+    requires { AreInTurn turns.now }
+    ensures due { IfOk result (λ handles. handles.items ≡ map handle_of_turn (filter (is_turn_due now) turns.now)) }
+    ensures cost { steps.new ≤ steps.old + (length (filter (is_turn_due now) turns.now) + 1) }
+{
+    let mut handles = Vec::new(alloc);
+    for turn in turns {
+        if !is_due(turn, now, steps) {
+            return Ok(handles);
+        }
+        handles.push(turn.handle)?;
+    }
+    Ok(handles)
+}
+
+fn is_due<L: Ledger>(turn: &Turn, now: u64, steps: &mut Steps<L>) -> bool
+    ensures value { result ≡ is_turn_due now turn.now }
+    ensures step { steps.new ≡ steps.old + 1 }
+{
+    steps.tick();
+    turn.next <= u128::from(now)
+}
