@@ -1,2 +1,3 @@
 pub mod Filtered
 pub mod TurnLemmas
+pub mod ScheduleLemmas

@@ -3,3 +3,4 @@ pub mod Specs
 pub mod Table
 pub mod Records
 pub mod Turns
+pub mod Schedules

@@ -3,6 +3,7 @@
 
 mod access;
 mod record;
+mod schedule;
 mod spec;
 mod turn;
 

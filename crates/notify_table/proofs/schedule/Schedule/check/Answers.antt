@@ -1,0 +1,37 @@
+use Rattle.std.proofs.Common.{◌≡◌, sym, refl, ap, subst, ◌∙◌}
+use Rattle.notify_table.proofs.ScheduleLemmas.{others_in_turn, changed_scheduled, changed_watches, within_turns, nth_is, Keeps-checked, keeps_of}
+use Rattle.slab.specs.Slab.{get}
+use Rattle.ads_machine.specs.Watches.{after_check}
+use Rattle.notify_table.specs.Schedules.{watch_at}
+use Rattle.notify_table.proofs.schedule.Schedule.check.Goals as goal
+
+pub put_turn-requires-clause-in_turn : goal.put_turn-requires-clause-in_turn
+put_turn-requires-clause-in_turn c =
+    others_in_turn c.self.inside.records c.self.inside.records c.self.inside.turns.items c.remove-turn.new.self.items c.args.self.now c.args.at c.remove-turn.result
+    c.self.invariant (within_turns c.self.inside.records c.self.inside.turns.items c.args.self.now c.args.at c.self.view_is c.requires.there) c.remove-turn.ensures.items
+
+pub invariant_of-self : goal.invariant_of-self
+invariant_of-self c =
+    let within = within_turns c.self.inside.records c.self.inside.turns.items c.args.self.now c.args.at c.self.view_is c.requires.there in
+    changed_scheduled c.self.inside.records c.check_record-sent.new.records c.self.inside.turns.items c.remove-turn.new.self.items c.args.self.now c.args.at
+    c.remove-turn.result c.put_turn.new.turns.items c.put_turn.ensures.put.0
+    (record { next = c.check_record-sent.result.1; handle = c.remove-turn.result.handle; key = c.remove-turn.result.key })
+    (after_check c.args.now c.args.bytes.now (watch_at c.self.inside.records c.remove-turn.result))
+    c.self.invariant within c.remove-turn.ensures.value c.remove-turn.ensures.items c.put_turn.ensures.put.2 refl c.check_record-sent.ensures.updates
+    (Keeps-checked c.args.now c.args.bytes.now (get c.self.inside.records c.remove-turn.result.key) c.remove-turn.result _
+        (keeps_of c.self.inside.records c.self.inside.turns.items c.args.at c.remove-turn.result c.self.invariant within c.remove-turn.ensures.value)
+        refl c.check_record-sent.ensures.next)
+    c.put_turn.ensures.in_turn
+
+pub returns-clause-new : goal.returns-clause-new
+returns-clause-new c =
+    let within = within_turns c.self.inside.records c.self.inside.turns.items c.args.self.now c.args.at c.self.view_is c.requires.there in
+    (
+      c.put_turn.ensures.put.0,
+      rw (nth_is c.self.inside.records c.self.inside.turns.items c.args.self.now c.args.at c.remove-turn.result c.self.view_is within c.remove-turn.ensures.value)
+      (changed_watches c.self.inside.records c.check_record-sent.new.records c.self.inside.turns.items c.remove-turn.new.self.items c.args.self.now c.args.at
+        c.remove-turn.result c.put_turn.new.turns.items c.put_turn.ensures.put.0
+        (record { next = c.check_record-sent.result.1; handle = c.remove-turn.result.handle; key = c.remove-turn.result.key })
+        (after_check c.args.now c.args.bytes.now (watch_at c.self.inside.records c.remove-turn.result))
+        c.self.view_is c.self.invariant within c.remove-turn.ensures.value c.remove-turn.ensures.items c.put_turn.ensures.put.2 refl c.check_record-sent.ensures.updates),
+    )

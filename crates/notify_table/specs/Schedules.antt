@@ -1,0 +1,53 @@
+-- The notifications of a schedule. Private: no public clause cites this file.
+use Rattle.std.specs.Prelude.{◌≡◌, ℕ, ◌≤◌, List, [], ◌==◌, Option, None, IsSome, unwrap_or, All, count_by, slice_index_or}
+use Rattle.slab.specs.Slab.{Slab, get}
+use Rattle.ads_plant.specs.Description.{Process}
+use Rattle.ads_formats.specs.Ranges.{Range, Bytes}
+use Rattle.ads_machine.specs.Watches.{Watch, Cyclic}
+use Rattle.notify_table.specs.declared.turn.Turn.{Turn}
+use Rattle.notify_table.specs.Turns.{AreInTurn, next_moment}
+
+abbrev pub no_watch : Watch Range
+no_watch = record {
+  handle = 0;
+  port = 0;
+  address = record { net = []; port = 0 };
+  watched = Bytes Process 0 0;
+  mode = Cyclic;
+  cycle = 0;
+  last = None;
+  sent = [];
+}
+
+abbrev pub watch_in : Option (Watch Range) → Watch Range
+watch_in slot = unwrap_or slot no_watch
+
+-- the notification of a turn
+abbrev pub watch_at : Slab (Watch Range) → Turn → Watch Range
+watch_at records t = watch_in (get records t.key)
+
+-- the notification at a place
+abbrev pub nth_watch : List (Watch Range) → ℕ → Watch Range
+nth_watch watches place = slice_index_or watches place no_watch
+
+-- what a slot holds is the notification of a turn
+pub record Keeps (slot : Option (Watch Range)) (t : Turn) : Type 0 where
+  pub there : IsSome slot
+  pub handle_is : (watch_in slot).handle ≡ t.handle
+  pub next_is : t.next ≡ next_moment (watch_in slot)
+
+abbrev pub IsKept : Slab (Watch Range) → Turn → Type 0
+IsKept records t = Keeps (get records t.key) t
+
+abbrev pub key_of : Turn → ℕ
+key_of t = t.key
+
+-- at most one has each number
+abbrev pub OncePer : {X : Type 0} → (X → ℕ) → List X → Type 0
+OncePer n xs = (k : ℕ) → count_by (λ x. n x == k) xs ≤ 1
+
+-- each turn has a record of its own, and the turns stand in their order
+pub record AreScheduled (records : Slab (Watch Range)) (turns : List Turn) : Type 0 where
+  pub in_turn : AreInTurn turns
+  pub kept : All (IsKept records) turns
+  pub apart : OncePer key_of turns

@@ -1,0 +1,163 @@
+//! The live notifications of one connection, in the order in which their checks become due.
+
+ghost use Rattle.std.specs.Prelude.{◌≡◌, ℕ, ◌+◌, ◌<◌, ◌≤◌, [], map, filter, length, insert, remove, position, nat_eq, IsSome, Some, None, IfOk, OnOk, OnErr};
+ghost use Rattle.slab.specs.Slab.{get, Updates};
+ghost use Rattle.ads_machine.specs.Watches.{is_due, is_sent, after_check};
+ghost use Rattle.notify_table.specs.Access.{range_meant};
+ghost use Rattle.notify_table.specs.Specs.{new_watch, before_checks};
+ghost use Rattle.notify_table.specs.Table.{watched_len, CanBeWatched, handle_of, is_numbered};
+ghost use Rattle.notify_table.specs.Turns.{next_moment, handle_of_turn};
+ghost use Rattle.notify_table.specs.Schedules.{watch_in, nth_watch};
+
+use crate::Spec;
+use crate::record::Record;
+use crate::turn::{Turn, due_turns, put_turn};
+use ads_base::{NoMemory, Steps};
+use slab::Slab;
+use std::alloc::Global;
+use std::marker::Model;
+use std::sync::ledger::Ledger;
+
+// The notifications, which contracts see as their list in the order of their turns.
+#[derive(Drop)]
+pub(crate) struct Schedule {
+    records: Slab<Record>,
+    // By the moment from which on the next check is due, and by handle.
+    turns: Vec<Turn>,
+}
+
+impl Model for Schedule {
+    ghost use Rattle.std.specs.Prelude.{List, map};
+    ghost use Rattle.ads_formats.specs.Ranges.{Range};
+    ghost use Rattle.ads_machine.specs.Watches.{Watch};
+    ghost use Rattle.notify_table.specs.Schedules.{watch_at, AreScheduled};
+
+    ghost Value = { List (Watch Range) };
+
+    ghost view = { λ s. map (watch_at s.records) s.turns.items };
+
+    ghost invariant = { λ s. AreScheduled s.records s.turns.items };
+}
+
+impl Schedule {
+    pub fn new(alloc: Global) -> Schedule
+        ensures { result ≡ [] }
+    {
+        Schedule {
+            records: Slab::new(alloc),
+            turns: Vec::new(alloc),
+        }
+    }
+
+    pub fn len(&self) -> usize
+        ensures { result ≡ length self.now }
+    {
+        self.turns.len()
+    }
+
+    // Adds a notification, whose first check is due at once. All memory that its checks need is taken here.
+    pub fn add(&mut self, alloc: Global, handle: u32, spec: Spec) -> Result<(), NoMemory>
+        requires { CanBeWatched (range_meant spec.reach) }
+        ensures ok { OnOk result ((place : ℕ) × (self.new ≡ insert self.old place (new_watch handle spec))) }
+        ensures no_memory { OnErr result (self.new ≡ self.old) }
+    {
+        let record = Record::new(alloc, handle, spec)?;
+        self.turns.reserve(1)?;
+        let key = self.records.insert(record)?;
+        let turn = Turn {
+            next: 0,
+            handle,
+            key,
+        };
+        put_turn(&mut self.turns, turn);
+        Ok(())
+    }
+
+    // The place of the notification with a handle.
+    pub fn find(&self, handle: u32) -> Option<usize>
+        ensures { result ≡ position (is_numbered handle) self.now }
+    {
+        place_of_handle(&self.turns, handle)
+    }
+
+    pub fn spec(&self, at: usize) -> Spec
+        requires { at < length self.now }
+        ensures { new_watch (nth_watch self.now at).handle result ≡ before_checks (nth_watch self.now at) }
+    {
+        let turn = self.turns[at];
+        spec_of(&self.records, turn.key)
+    }
+
+    pub fn remove(&mut self, at: usize)
+        requires { at < length self.old }
+        ensures { self.new ≡ remove self.old at }
+    {
+        let turn = self.turns.remove(at);
+        let _ = self.records.remove(turn.key);
+    }
+
+    // Checks a notification at a moment: whether its bytes are to be sent.
+    pub fn check(&mut self, at: usize, now: u64, bytes: &[u8]) -> bool
+        requires there { at < length self.old }
+        requires len { length bytes.now ≡ watched_len (nth_watch self.old at).watched }
+        ensures sent { result ≡ is_sent bytes.now (nth_watch self.old at) }
+        ensures new { (place : ℕ) × (self.new ≡ insert (remove self.old at) place
+            (after_check now bytes.now (nth_watch self.old at))) }
+    {
+        let turn = self.turns.remove(at);
+        let (sent, next) = check_record(&mut self.records, turn.key, now, bytes);
+        let turn = Turn {
+            next,
+            handle: turn.handle,
+            key: turn.key,
+        };
+        put_turn(&mut self.turns, turn);
+        sent
+    }
+
+    // The handles of the notifications that are due, in the order of their turns. One step for each that is looked at.
+    pub fn due<L: Ledger>(
+        &self,
+        alloc: Global,
+        now: u64,
+        steps: &mut Steps<L>,
+    ) -> Result<Vec<u32>, NoMemory>
+        ensures due { IfOk result (λ handles. handles.items ≡ map handle_of (filter (λ w. is_due now w) self.now)) }
+        ensures cost { steps.new ≤ steps.old + (length (map handle_of (filter (λ w. is_due now w) self.now)) + 1) }
+    {
+        due_turns(alloc, &self.turns, now, steps)
+    }
+}
+
+fn place_of_handle(turns: &[Turn], handle: u32) -> Option<usize>
+    ensures { result ≡ position (λ t. nat_eq (handle_of_turn t) handle) turns.now }
+{
+    turns.iter().position(|turn| turn.handle == handle)
+}
+
+fn spec_of(records: &Slab<Record>, key: usize) -> Spec
+    requires { IsSome (get records.now key) }
+    ensures { new_watch (watch_in (get records.now key)).handle result ≡ before_checks (watch_in (get records.now key)) }
+{
+    match records.get(key) {
+        Some(record) => record.spec(),
+        None => unreachable!(),
+    }
+}
+
+// Checks the notification of a key: whether its bytes are to be sent, and from when on it is due again.
+fn check_record(records: &mut Slab<Record>, key: usize, now: u64, bytes: &[u8]) -> (bool, u128)
+    requires there { IsSome (get records.old key) }
+    requires len { length bytes.now ≡ watched_len (watch_in (get records.old key)).watched }
+    ensures sent { result.0 ≡ is_sent bytes.now (watch_in (get records.old key)) }
+    ensures next { result.1 ≡ next_moment (after_check now bytes.now (watch_in (get records.old key))) }
+    ensures updates { Updates records.old records.new key (Some (after_check now bytes.now (watch_in (get records.old key)))) }
+{
+    match records.get_mut(key) {
+        Some(record) => {
+            let sent = record.check(now, bytes);
+            (sent, record.next())
+        }
+        None => unreachable!(),
+    }
+}
