@@ -1,3 +1,5 @@
 pub mod Filtered
 pub mod TurnLemmas
 pub mod ScheduleLemmas
+pub mod NumberedLemmas
+pub mod TableLemmas

@@ -4,3 +4,4 @@ pub mod Table
 pub mod Records
 pub mod Turns
 pub mod Schedules
+pub mod Numbered

@@ -6,6 +6,8 @@ mod record;
 mod schedule;
 mod spec;
 mod turn;
+mod watches;
 
 pub use access::Reach;
 pub use spec::{Ended, EndedList, Handles32, Mode, Spec, WatchFull};
+pub use watches::{MAX_LIVE, Watches};

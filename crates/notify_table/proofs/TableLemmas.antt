@@ -1,0 +1,300 @@
+-- The notifications of a connection by rising handle, while those of its schedule change.
+use Rattle.std.proofs.Common.{◌≡◌, ◌≢◌, ℕ, suc, ◌+◌, ◌-◌, ◌<◌, ◌≤◌, max, Bool, true, false, not, ◌&&◌, ◌||◌, cond, nat_eq, nat_lt, nat_le, List, [], ◌∷◌, ◌++◌, length, map, get_or, Option, Some, None, option_map, IsSomeAnd, IsTrue, refl, sym, ap, ◌∙◌, arith, inl, inr, subst}
+use Rattle.std.specs.List.{All, filter, find, list_any, insert, remove, position, position_or_len, count_by}
+use Rattle.std.specs.List.Sorted.{IsPermutation, IsNonDecreasing}
+use Rattle.std.proofs.lemmas.Bool.{cases_Bool, cases_eq, eq-eqb, ne_eqb, eqb-true, ltb-false, lt-leb}
+use Rattle.std.proofs.lemmas.List.{length-map}
+use Rattle.std.proofs.lemmas.List.Elements.{All-head, All-tail, All-get_or, All-filter, All-weaker, filter_passes, filter_agree}
+use Rattle.std.proofs.lemmas.List.Quantifiers.{position-Some}
+use Rattle.std.proofs.lemmas.List.Sums.{fails_before_first}
+use Rattle.ads_formats.specs.Ranges.{Range}
+use Rattle.ads_machine.specs.Watches.{Watch, is_due, is_due_after, is_sent, after_check, checked_watch}
+use Rattle.notify_table.specs.Table.{handle_of, watched_len, is_numbered, is_of_port, is_live, is_full, watch_of_handle, due_handles, table_after, checked_where, Added, Deleted, Checked, WatchTable}
+use Rattle.notify_table.specs.Schedules.{nth_watch, no_watch, OncePer}
+use Rattle.notify_table.specs.Numbered.{by_number, HasNumber, AreGranted, table_from}
+use Rattle.notify_table.proofs.Filtered.{All-insert, All-remove, insert-remove, filter_none, filter_all, filter_one, filter-insert_no, filter-insert_yes, filter-remove_no, OncePer-others, OncePer-remove, OncePer-insert}
+use Rattle.notify_table.proofs.NumberedLemmas.{by_number-nil, by_number-same, by_number-upto, by_number-filter, by_number-one, by_number-above, by_number-map, by_number-permuted, length-by_number, filter-map}
+
+-- where no place was found, none passes
+none_at : {X : Type 0} (p : X → Bool) (xs : List X) → position p xs ≡ None → All (λ x. p x ≡ false) xs
+none_at p xs missing =
+    elim (cases_Bool (nat_lt (position_or_len p xs) (length xs))) [
+      | inl there ↦ absurd (let found = rw there at missing in cc)
+      | inr past ↦ λ k d below. fails_before_first p xs k d (let far = ltb-false _ _ past in omega arith)
+    ]
+
+find-none : {X : Type 0} (p : X → Bool) (xs : List X) → filter p xs ≡ [] → find p xs ≡ None
+find-none p [] empty = refl
+find-none p (x ∷ xs) empty =
+    elim (cases_Bool (p x)) [
+      | inl passes ↦ absurd (let there = rw passes at empty in cc)
+      | inr fails ↦ rw fails (find-none p xs (rw fails at empty))
+    ]
+
+find-one : {X : Type 0} (p : X → Bool) (xs : List X) (y : X) → filter p xs ≡ y ∷ [] → find p xs ≡ Some y
+find-one p [] y one = absurd (cc)
+find-one p (x ∷ xs) y one =
+    elim (cases_Bool (p x)) [
+      | inl passes ↦ rw passes (let there = rw passes at one in cc)
+      | inr fails ↦ rw fails (find-one p xs y (rw fails at one))
+    ]
+
+-- an element that passes two tests is among those that pass the first
+list_any-both : {X : Type 0} (p q : X → Bool) (xs : List X) → list_any (λ x. p x && q x) xs ≡ list_any q (filter p xs)
+list_any-both p q [] = refl
+list_any-both p q (x ∷ xs) =
+    let rest = list_any-both p q xs in
+    elim (cases_Bool (p x)) [
+      | inl passes ↦ rw (passes, rest) refl
+      | inr fails ↦ rw fails rest
+    ]
+
+-- the notification with a handle stands at a place of the schedule
+pub record IsFound (watches : List (Watch Range)) (granted handle place : ℕ) : Type 0 where
+  pub within : place < length watches
+  pub numbered : (nth_watch watches place).handle ≡ handle
+  pub others : All (λ (w : Watch Range). w.handle ≢ handle) (remove watches place)
+  pub alone : filter (is_numbered handle) watches ≡ nth_watch watches place ∷ []
+  pub listed : filter (is_numbered handle) (by_number handle_of granted watches) ≡ nth_watch watches place ∷ []
+  pub live : watch_of_handle handle (table_from watches granted) ≡ Some (nth_watch watches place)
+
+pub found : (ws : List (Watch Range)) (n h i : ℕ) → AreGranted ws n → position (is_numbered h) ws ≡ Some i → IsFound ws n h i
+found ws n h i granted at_place =
+    let there = position-Some (is_numbered h) ws i no_watch at_place in
+    let same : (nth_watch ws i).handle ≡ h = eqb-true _ _ there.1 in
+    let apart : All (λ (w : Watch Range). w.handle ≢ h) (remove ws i) =
+        λ k d below e. OncePer-others handle_of ws i no_watch granted.once there.0 k d below (e ∙ sym same) in
+    let one : filter (is_numbered h) ws ≡ nth_watch ws i ∷ [] =
+        filter_one (is_numbered h) ws i no_watch there.0 there.1 (λ k d below. ne_eqb _ _ (apart k d below)) in
+    let all : filter (is_numbered h) (by_number handle_of n ws) ≡ nth_watch ws i ∷ [] =
+        by_number-filter handle_of (is_numbered h) n ws ∙ ap (by_number handle_of n) one
+        ∙ by_number-one handle_of n (nth_watch ws i) (All-get_or (HasNumber handle_of n) ws i no_watch there.0 granted.within) in
+    record {
+      within = there.0;
+      numbered = same;
+      others = apart;
+      alone = one;
+      listed = all;
+      live = find-one (is_numbered h) (by_number handle_of n ws) (nth_watch ws i) all;
+    }
+
+module _ (ws : List (Watch Range)) (n h : ℕ) where
+  missing_listed : position (is_numbered h) ws ≡ None → filter (is_numbered h) (by_number handle_of n ws) ≡ []
+  missing_listed missing =
+      by_number-filter handle_of (is_numbered h) n ws
+      ∙ ap (by_number handle_of n) (filter_none (is_numbered h) ws (none_at (is_numbered h) ws missing))
+      ∙ by_number-nil handle_of n
+
+  pub missing : position (is_numbered h) ws ≡ None → watch_of_handle h (table_from ws n) ≡ None
+  missing at_none = find-none (is_numbered h) (by_number handle_of n ws) (missing_listed at_none)
+
+  -- no notification of any port
+  pub missing_live : (port : ℕ) → position (is_numbered h) ws ≡ None → is_live port h (table_from ws n) ≡ false
+  missing_live port at_none =
+      list_any-both (is_numbered h) (λ (w : Watch Range). nat_eq w.port port) (by_number handle_of n ws)
+      ∙ rw (missing_listed at_none) refl
+
+  pub found_live : (i port : ℕ) → IsFound ws n h i → is_live port h (table_from ws n) ≡ nat_eq (nth_watch ws i).port port
+  found_live i port f =
+      list_any-both (is_numbered h) (λ (w : Watch Range). nat_eq w.port port) (by_number handle_of n ws)
+      ∙ rw f.listed (or_false (nat_eq (nth_watch ws i).port port))
+    where
+      or_false : (b : Bool) → (b || false) ≡ b
+      or_false true = refl
+      or_false false = refl
+
+  -- one is deleted
+  pub removed_granted : (i : ℕ) → AreGranted ws n → IsFound ws n h i → AreGranted (remove ws i) n
+  removed_granted i granted f = record {
+    within = All-remove (HasNumber handle_of n) ws i granted.within;
+    once = OncePer-remove handle_of ws i no_watch granted.once f.within;
+  }
+
+  removed_filter : (i : ℕ) → IsFound ws n h i → filter (λ w. not (is_numbered h w)) ws ≡ remove ws i
+  removed_filter i f =
+      let p : Watch Range → Bool = λ w. not (is_numbered h w) in
+      sym (ap (filter p) (insert-remove ws i no_watch f.within))
+      ∙ filter-insert_no p (remove ws i) i (nth_watch ws i) (ap not (eq-eqb _ _ f.numbered))
+      ∙ filter_all p (remove ws i) (λ k d below. ap not (ne_eqb _ _ (f.others k d below)))
+
+  pub removed_table : (i : ℕ) → IsFound ws n h i → table_from (remove ws i) n ≡ table_after (table_from ws n) (Deleted h)
+  removed_table i f =
+      let same : by_number handle_of n (remove ws i) ≡ filter (λ w. not (is_numbered h w)) (by_number handle_of n ws) =
+          ap (by_number handle_of n) (sym (removed_filter i f)) ∙ sym (by_number-filter handle_of (λ w. not (is_numbered h w)) n ws) in
+      ap (λ (l : List (Watch Range)). let t : WatchTable = record { watches = l; additions = n } in t) same
+
+-- how many are live
+pub full_table : (ws : List (Watch Range)) (n : ℕ) → AreGranted ws n
+    → is_full (table_from ws n) ≡ (nat_le 512 (length ws) || nat_le 4294967295 n)
+full_table ws n granted =
+    ap (λ k. nat_le 512 k || nat_le 4294967295 n) (length-by_number handle_of n ws granted.within)
+
+-- one is added with the next handle
+module _ (ws : List (Watch Range)) (n place : ℕ) (w : Watch Range) where
+  pub added_granted : AreGranted ws n → w.handle ≡ n + 1 → AreGranted (insert ws place w) (n + 1)
+  added_granted granted next = record {
+    within = All-insert (HasNumber handle_of (n + 1)) ws place w
+        (All-weaker (HasNumber handle_of n) (HasNumber handle_of (n + 1)) (λ v h. (h.0, omega (arith, h.1))) ws granted.within)
+        (omega arith, omega arith);
+    once = OncePer-insert handle_of ws place w granted.once (λ k d below e. let most = (granted.within k d below).1 in omega arith);
+  }
+
+  pub added_table : AreGranted ws n → w.handle ≡ n + 1 → table_from (insert ws place w) (n + 1) ≡ table_after (table_from ws n) (Added w)
+  added_table granted next =
+      let older : by_number handle_of n (insert ws place w) ≡ by_number handle_of n ws =
+          by_number-upto handle_of n (insert ws place w) ws
+          (λ j most. filter-insert_no (is_numbered j) ws place w (ne_eqb _ _ (λ e. omega arith))) in
+      let last : filter (is_numbered (suc n)) (insert ws place w) ≡ w ∷ [] =
+          filter-insert_yes (is_numbered (suc n)) ws place w (eq-eqb _ _ (omega arith))
+          (λ k d below. ne_eqb _ _ (λ e. let most = (granted.within k d below).1 in omega arith)) in
+      let next_is : n + 1 ≡ suc n = omega arith in
+      let same : by_number handle_of (n + 1) (insert ws place w) ≡ by_number handle_of n ws ++ w ∷ [] =
+          rw next_is (rw (older, last) refl) in
+      ap (λ (l : List (Watch Range)). let t : WatchTable = record { watches = l; additions = n + 1 } in t) same
+
+-- all pass a test and are left by a change that changes none that passes
+map_same : {X : Type 0} (f : X → X) (xs : List X) → All (λ x. f x ≡ x) xs → map f xs ≡ xs
+map_same f [] same = refl
+map_same f (x ∷ xs) same =
+    let head : f x ≡ x = All-head (λ y. f y ≡ y) x xs same in
+    let rest = map_same f xs (All-tail (λ y. f y ≡ y) x xs same) in
+    cc
+
+-- a check keeps the handle
+handle-after_check : (now : ℕ) (bytes : List ℕ) (w : Watch Range) → (after_check now bytes w).handle ≡ w.handle
+handle-after_check now bytes w = by_sent (is_sent bytes w)
+  where
+    by_sent : (sent : Bool) → (cond sent (record w { last = Some now; sent = bytes }) (record w { last = Some now })).handle ≡ w.handle
+    by_sent true = refl
+    by_sent false = refl
+
+handle-checked_where : (h now : ℕ) (bytes : List ℕ) (w : Watch Range) → (checked_where h now bytes w).handle ≡ w.handle
+handle-checked_where h now bytes w =
+    elim (cases_Bool (is_numbered h w)) [
+      | inl numbered ↦ elim (cases_Bool (is_due now w)) [
+          | inl due ↦ rw (numbered, due) (handle-after_check now bytes w)
+          | inr early ↦ rw (numbered, early) refl
+        ]
+      | inr other ↦ rw other refl
+    ]
+
+-- after its check a notification is not due
+not_due-checked : (h now : ℕ) (bytes : List ℕ) (w : Watch Range) → is_numbered h w ≡ true → is_due now (checked_where h now bytes w) ≡ false
+not_due-checked h now bytes w numbered =
+    elim (cases_Bool (is_due now w)) [
+      | inl due ↦ rw (numbered, due) (by_sent (is_sent bytes w))
+      | inr early ↦ rw (numbered, early) early
+    ]
+  where
+    past : is_due_after now w.cycle (Some now) ≡ false
+    past = lt-leb (max w.cycle 1) (now - now) (omega arith)
+    by_sent : (sent : Bool) → is_due now (cond sent (record w { last = Some now; sent = bytes }) (record w { last = Some now })) ≡ false
+    by_sent true = past
+    by_sent false = past
+
+pub others_due : (h now : ℕ) (bytes : List ℕ) (ws : List (Watch Range))
+    → map handle_of (filter (λ (w : Watch Range). is_due now w) (map (checked_where h now bytes) ws))
+      ≡ filter (λ k. not (nat_eq k h)) (map handle_of (filter (λ (w : Watch Range). is_due now w) ws))
+others_due h now bytes [] = refl
+others_due h now bytes (w ∷ ws) =
+    let rest = others_due h now bytes ws in
+    elim (cases_Bool (is_numbered h w)) [
+      | inl numbered ↦ rw (not_due-checked h now bytes w numbered)
+          (elim (cases_Bool (is_due now w)) [
+            | inl due ↦ rw (due, numbered) rest
+            | inr early ↦ rw early rest
+          ])
+      | inr other ↦
+          let as_it_was : checked_where h now bytes w ≡ w = rw other refl in
+          rw as_it_was (elim (cases_Bool (is_due now w)) [
+            | inl due ↦ rw (due, other, rest) refl
+            | inr early ↦ rw early rest
+          ])
+    ]
+
+-- one is checked, and stands elsewhere in the schedule
+module _ (ws : List (Watch Range)) (n h now : ℕ) (bytes : List ℕ) (i place : ℕ) where
+
+  checked_handle : IsFound ws n h i → (after_check now bytes (nth_watch ws i)).handle ≡ h
+  checked_handle f = handle-after_check now bytes (nth_watch ws i) ∙ f.numbered
+
+  pub checked_granted : AreGranted ws n → IsFound ws n h i → AreGranted (insert (remove ws i) place (after_check now bytes (nth_watch ws i))) n
+  checked_granted granted f =
+      let w : Watch Range = after_check now bytes (nth_watch ws i) in
+      let same : w.handle ≡ h = checked_handle f in
+      let in_range : HasNumber handle_of n (nth_watch ws i) = All-get_or (HasNumber handle_of n) ws i no_watch f.within granted.within in
+      record {
+        within = All-insert (HasNumber handle_of n) (remove ws i) place w (All-remove (HasNumber handle_of n) ws i granted.within)
+            (rw (handle-after_check now bytes (nth_watch ws i)) in_range);
+        once = OncePer-insert handle_of (remove ws i) place w (OncePer-remove handle_of ws i no_watch granted.once f.within)
+            (λ k d below e. f.others k d below (e ∙ same));
+      }
+
+  checked_numbered : IsFound ws n h i → is_due now (nth_watch ws i) ≡ true → (j : ℕ)
+      → filter (is_numbered j) (insert (remove ws i) place (after_check now bytes (nth_watch ws i)))
+        ≡ filter (is_numbered j) (map (checked_where h now bytes) ws)
+  checked_numbered f due j =
+      let w : Watch Range = after_check now bytes (nth_watch ws i) in
+      let mapped : filter (is_numbered j) (map (checked_where h now bytes) ws) ≡ map (checked_where h now bytes) (filter (is_numbered j) ws) =
+          filter-map (is_numbered j) (checked_where h now bytes) ws
+          ∙ ap (map (checked_where h now bytes)) (filter_agree (λ v. is_numbered j (checked_where h now bytes v)) (is_numbered j)
+              (λ v. ap (λ k. nat_eq k j) (handle-checked_where h now bytes v)) ws) in
+      elim (cases_eq j h) [
+        | inl same ↦
+            let put : filter (is_numbered j) (insert (remove ws i) place w) ≡ w ∷ [] =
+                filter-insert_yes (is_numbered j) (remove ws i) place w (eq-eqb _ _ (checked_handle f ∙ sym same))
+                (λ k d below. ne_eqb _ _ (λ e. f.others k d below (e ∙ same))) in
+            let alone : filter (is_numbered j) ws ≡ nth_watch ws i ∷ [] = rw same f.alone in
+            let here : checked_where h now bytes (nth_watch ws i) ≡ w = rw (eq-eqb _ _ f.numbered, due) refl in
+            put ∙ sym (mapped ∙ rw (alone, here) refl)
+        | inr other ↦
+            let put : filter (is_numbered j) (insert (remove ws i) place w) ≡ filter (is_numbered j) ws =
+                filter-insert_no (is_numbered j) (remove ws i) place w (ne_eqb _ _ (λ e. other (sym e ∙ checked_handle f)))
+                ∙ filter-remove_no (is_numbered j) ws i no_watch f.within (ne_eqb _ _ (λ e. other (sym e ∙ f.numbered))) in
+            let left : map (checked_where h now bytes) (filter (is_numbered j) ws) ≡ filter (is_numbered j) ws =
+                map_same (checked_where h now bytes) (filter (is_numbered j) ws)
+                (λ k d below. let number = eqb-true _ _ (filter_passes (is_numbered j) ws k d below) in
+                  rw (ne_eqb (get_or (filter (is_numbered j) ws) k d).handle h (λ e. other (sym number ∙ e))) refl) in
+            put ∙ sym (mapped ∙ left)
+      ]
+
+  pub checked_table : IsFound ws n h i → is_due now (nth_watch ws i) ≡ true
+      → table_from (insert (remove ws i) place (after_check now bytes (nth_watch ws i))) n ≡ table_after (table_from ws n) (Checked h now bytes)
+  checked_table f due =
+      let same : by_number handle_of n (insert (remove ws i) place (after_check now bytes (nth_watch ws i))) ≡ map (checked_where h now bytes) (by_number handle_of n ws) =
+          by_number-same handle_of n _ (map (checked_where h now bytes) ws) (checked_numbered f due)
+          ∙ sym (by_number-map handle_of handle_of (checked_where h now bytes) (handle-checked_where h now bytes) n ws) in
+      ap (λ (l : List (Watch Range)). let t : WatchTable = record { watches = l; additions = n } in t) same
+
+-- the handles of those that are due, once they are in order
+pub due_sorted : (now : ℕ) (ws : List (Watch Range)) (n : ℕ) (hs : List ℕ) → AreGranted ws n
+    → IsPermutation (map handle_of (filter (λ (w : Watch Range). is_due now w) ws)) hs → IsNonDecreasing hs → hs ≡ due_handles now (table_from ws n)
+due_sorted now ws n hs granted permuted rises =
+    by_number-permuted handle_of n (filter (λ (w : Watch Range). is_due now w) ws) hs permuted rises
+    (All-filter (λ (w : Watch Range). is_due now w) (HasNumber handle_of n) ws granted.within)
+    ∙ ap (map handle_of) (sym (by_number-filter handle_of (λ (w : Watch Range). is_due now w) n ws))
+
+pub due_count : (now : ℕ) (ws : List (Watch Range)) (n : ℕ) → AreGranted ws n
+    → length (due_handles now (table_from ws n)) ≡ length (map handle_of (filter (λ (w : Watch Range). is_due now w) ws))
+due_count now ws n granted =
+    let due : Watch Range → Bool = λ w. is_due now w in
+    length-map (filter due (by_number handle_of n ws)) handle_of
+    ∙ ap length (by_number-filter handle_of due n ws)
+    ∙ length-by_number handle_of n (filter due ws) (All-filter due (HasNumber handle_of n) ws granted.within)
+    ∙ sym (length-map (filter due ws) handle_of)
+
+-- what may be checked is found
+module _ (ws : List (Watch Range)) (n h now : ℕ) (bytes : List ℕ) (t : WatchTable) where
+  pub checkable : (i : ℕ) → table_from ws n ≡ t → IsFound ws n h i
+      → IsSomeAnd (watch_of_handle h t) (λ (w : Watch Range). IsTrue (is_due now w) × (length bytes ≡ watched_len w.watched))
+      → (is_due now (nth_watch ws i) ≡ true) × (length bytes ≡ watched_len (nth_watch ws i).watched)
+  checkable i view f asked =
+      let live : watch_of_handle h t ≡ Some (nth_watch ws i) = ap (watch_of_handle h) (sym view) ∙ f.live in
+      subst (λ (o : Option (Watch Range)). IsSomeAnd o (λ w. IsTrue (is_due now w) × (length bytes ≡ watched_len w.watched))) live asked
+
+  pub not_missing : table_from ws n ≡ t → position (is_numbered h) ws ≡ None
+      → IsSomeAnd (watch_of_handle h t) (λ (w : Watch Range). IsTrue (is_due now w) × (length bytes ≡ watched_len w.watched)) → ⊥
+  not_missing view at_none asked =
+      let live : watch_of_handle h t ≡ None = ap (watch_of_handle h) (sym view) ∙ missing ws n h at_none in
+      let none = subst (λ (o : Option (Watch Range)). IsSomeAnd o (λ w. IsTrue (is_due now w) × (length bytes ≡ watched_len w.watched))) live asked in
+      none

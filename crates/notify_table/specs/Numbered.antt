@@ -1,0 +1,23 @@
+-- Notifications by rising handle. Private: no public clause cites this file.
+use Rattle.std.specs.Prelude.{ℕ, zero, suc, ◌<◌, ◌≤◌, List, [], ◌++◌, ◌==◌, filter, All}
+use Rattle.ads_formats.specs.Ranges.{Range}
+use Rattle.ads_machine.specs.Watches.{Watch}
+use Rattle.notify_table.specs.Table.{WatchTable, handle_of}
+use Rattle.notify_table.specs.Schedules.{OncePer}
+
+-- those with a number from 1 to this one, by their numbers
+abbrev pub by_number : {X : Type 0} → (X → ℕ) → ℕ → List X → List X
+by_number n zero xs = []
+by_number n (suc k) xs = by_number n k xs ++ filter (λ x. n x == suc k) xs
+
+abbrev pub HasNumber : {X : Type 0} → (X → ℕ) → ℕ → X → Type 0
+HasNumber n most x = (0 < n x) × (n x ≤ most)
+
+-- each live notification has a granted handle of its own
+pub record AreGranted (watches : List (Watch Range)) (granted : ℕ) : Type 0 where
+  pub within : All (HasNumber handle_of granted) watches
+  pub once : OncePer handle_of watches
+
+-- what is live, and how many were granted
+abbrev pub table_from : List (Watch Range) → ℕ → WatchTable
+table_from watches granted = record { watches = by_number handle_of granted watches; additions = granted }
