@@ -1,10 +1,11 @@
 -- A schedule while its turns and records change.
-use Rattle.std.proofs.Common.{◌≡◌, ◌≢◌, ℕ, ◌+◌, ◌*◌, ◌<◌, ◌≤◌, max, Bool, true, false, cond, nat_eq, nat_le, List, [], ◌∷◌, length, map, get_or, Option, Some, None, IsSome, refl, sym, ap, ◌∙◌, subst, arith, inl, inr}
-use Rattle.std.specs.List.{All, filter, insert, remove, position, position_or_len}
+use Rattle.std.proofs.Common.{◌≡◌, ◌≢◌, ℕ, suc, ◌+◌, ◌-◌, ◌*◌, ◌<◌, ◌≤◌, max, Bool, true, false, cond, nat_eq, nat_le, List, [], ◌∷◌, ◌++◌, length, map, take, drop, get_or, Option, Some, None, IsSome, refl, sym, ap, ◌∙◌, subst, arith, inl, inr}
+use Rattle.std.specs.List.{All, filter, filter_map, insert, remove, position, position_or_len}
 use Rattle.std.proofs.lemmas.Bool.{cases_lt, cases_Bool, false≢true, le-leb, lt-leb}
-use Rattle.std.proofs.lemmas.List.{length-map, get_or-map}
+use Rattle.std.proofs.lemmas.List.{length-map, get_or-map, append_assoc, take_at, drop_at, length-take-le, length-append}
+use Rattle.std.proofs.Math.Seq.{drop-cons}
 use Rattle.std.proofs.lemmas.List.Elements.{All-head, All-tail, All-get_or}
-use Rattle.std.proofs.lemmas.List.Edits.{get_or-remove_below, get_or-remove_above, length-remove}
+use Rattle.std.proofs.lemmas.List.Edits.{get_or-remove_below, get_or-remove_above, length-remove, length-insert}
 use Rattle.std.specs.List.Sorted.{IsNonDecreasingBy}
 use Rattle.slab.specs.Slab.{Slab, get, Updates}
 use Rattle.ads_formats.specs.Ranges.{Range}
@@ -12,8 +13,8 @@ use Rattle.ads_machine.specs.Watches.{Watch, is_due, is_due_after, is_sent, afte
 use Rattle.notify_table.specs.declared.turn.Turn.{Turn}
 use Rattle.notify_table.specs.Table.{handle_of, is_numbered}
 use Rattle.notify_table.specs.Turns.{AreInTurn, HasHandle, turn_rank, moment_after, next_moment, is_turn_due, handle_of_turn}
-use Rattle.notify_table.specs.Schedules.{no_watch, nth_watch, watch_in, watch_at, Keeps, IsKept, key_of, OncePer, AreScheduled}
-use Rattle.notify_table.proofs.Filtered.{All-insert, All-remove, map-insert, map-remove, OncePer-others, OncePer-insert, OncePer-remove}
+use Rattle.notify_table.specs.Schedules.{no_watch, nth_watch, watch_in, watch_at, Keeps, IsKept, key_of, OncePer, AreScheduled, IsSettled}
+use Rattle.notify_table.proofs.Filtered.{insert-remove, All-insert, All-remove, map-insert, map-remove, OncePer-others, OncePer-insert, OncePer-remove}
 
 module _ (old new : Slab (Watch Range)) (key : ℕ) (slot : Option (Watch Range)) where
   -- where the record of one key changes, the others are as they were
@@ -213,3 +214,46 @@ put_into ts us vs place t same put = put ∙ ap (λ ws. insert ws place t) same
 pub keeps_of : (records : Slab (Watch Range)) (ts : List Turn) (i : ℕ) (t : Turn) → AreScheduled records ts → i < length ts → t ≡ get_or ts i t
     → IsKept records t
 keeps_of records ts i t scheduled within t_is = subst (IsKept records) (sym t_is) (All-get_or (IsKept records) ts i t within scheduled.kept)
+
+-- a step through the notifications after a reload
+pub record IsStep (g : Watch Range → Option (Watch Range)) (old new : List (Watch Range)) (place next : ℕ) : Type 0 where
+  pub within : next ≤ length new
+  pub left : take next new ++ filter_map g (drop next new) ≡ take place old ++ filter_map g (drop place old)
+  pub less : length new - next < length old - place
+
+pub settled : (g : Watch Range → Option (Watch Range)) (old new : List (Watch Range)) (place next : ℕ) → place < length old
+    → IsSettled (g (nth_watch old place)) old new place next → IsStep g old new place next
+settled g old new place next within step = by_answer (g (nth_watch old place)) refl step
+  where
+    front : length (take place old) ≡ place
+    front = length-take-le place old (omega (arith, within))
+    same_front : take place (remove old place) ≡ take place old
+    same_front = take_at (take place old) (drop (suc place) old) place front
+    same_back : drop place (remove old place) ≡ drop (suc place) old
+    same_back = drop_at (take place old) (drop (suc place) old) place front
+    shorter : length (remove old place) + 1 ≡ length old
+    shorter = length-remove old place within
+    cell : drop place old ≡ nth_watch old place ∷ drop (suc place) old
+    cell = drop-cons old place no_watch within
+    by_answer : (o : Option (Watch Range)) → g (nth_watch old place) ≡ o → IsSettled o old new place next → IsStep g old new place next
+    by_answer None ended (new_is, next_is) = record {
+      within = rw (new_is, next_is) (omega (arith, shorter, within));
+      left = rw (new_is, next_is, same_front, same_back, cell, ended) refl;
+      less = rw (new_is, next_is) (omega (arith, shorter, within));
+    }
+    by_answer (Some w) moved (new_is, next_is) =
+        let parts : new ≡ (take place old ++ w ∷ []) ++ drop (suc place) old =
+            new_is ∙ rw (same_front, same_back, append_assoc (take place old) (w ∷ []) (drop (suc place) old)) refl in
+        let long : length (take place old ++ w ∷ []) ≡ place + 1 = omega (arith, length-append (take place old) (w ∷ []), front) in
+        let total = ap length new_is ∙ length-insert (remove old place) place w (omega (arith, shorter, within)) in
+        record {
+          within = omega (arith, total, next_is, shorter);
+          left = rw (next_is, parts, take_at (take place old ++ w ∷ []) (drop (suc place) old) (place + 1) long,
+            drop_at (take place old ++ w ∷ []) (drop (suc place) old) (place + 1) long, cell, moved)
+            (append_assoc (take place old) (w ∷ []) (filter_map g (drop (suc place) old)));
+          less = omega (arith, total, next_is, shorter, within);
+        }
+
+-- turns of which one is taken out and put back
+pub put_back : (ts : List Turn) (i : ℕ) (t : Turn) → i < length ts → t ≡ get_or ts i t → ts ≡ insert (remove ts i) i t
+put_back ts i t within t_is = sym (insert-remove ts i t within) ∙ ap (insert (remove ts i) i) (sym t_is)

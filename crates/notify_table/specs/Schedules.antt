@@ -1,5 +1,5 @@
 -- The notifications of a schedule. Private: no public clause cites this file.
-use Rattle.std.specs.Prelude.{◌≡◌, ℕ, ◌≤◌, List, [], ◌==◌, Option, None, IsSome, unwrap_or, All, count_by, slice_index_or}
+use Rattle.std.specs.Prelude.{◌≡◌, ℕ, ◌+◌, ◌≤◌, List, [], insert, remove, ◌==◌, Option, None, Some, IsSome, unwrap_or, All, count_by, slice_index_or}
 use Rattle.slab.specs.Slab.{Slab, get}
 use Rattle.ads_plant.specs.Description.{Process}
 use Rattle.ads_formats.specs.Ranges.{Range, Bytes}
@@ -51,3 +51,8 @@ pub record AreScheduled (records : Slab (Watch Range)) (turns : List Turn) : Typ
   pub in_turn : AreInTurn turns
   pub kept : All (IsKept records) turns
   pub apart : OncePer key_of turns
+
+-- the notification at a place goes on like this or is gone, and the next is looked at
+abbrev pub IsSettled : Option (Watch Range) → List (Watch Range) → List (Watch Range) → ℕ → ℕ → Type 0
+IsSettled None old new place next = (new ≡ remove old place) × (next ≡ place)
+IsSettled (Some w) old new place next = (new ≡ insert (remove old place) place w) × (next ≡ place + 1)

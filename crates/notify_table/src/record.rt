@@ -1,15 +1,19 @@
 //! One notification, with the bytes that it last sent.
 
-ghost use Rattle.std.specs.Prelude.{◌≡◌, ℕ, length, IfOk};
+ghost use Rattle.std.specs.Prelude.{◌≡◌, ◌<◌, length, IfOk, IfSome, option_map};
+ghost use Rattle.symbol_table.specs.Moves.{moved_span};
 ghost use Rattle.ads_machine.specs.Watches.{is_sent, after_check};
 ghost use Rattle.notify_table.specs.Access.{range_meant};
-ghost use Rattle.notify_table.specs.Specs.{new_watch, before_checks, address_of};
+ghost use Rattle.notify_table.specs.Specs.{new_watch, before_checks};
+ghost use Rattle.notify_table.specs.Reloads.{range_after, bytes_at, bit_at, end_of, ended_meant};
 ghost use Rattle.notify_table.specs.Table.{watched_len, CanBeWatched};
 
 use crate::{Ended, Mode, Reach, Spec};
 use ads_base::NoMemory;
 use std::alloc::Global;
 use std::marker::Model;
+use symbol_table::Moves;
+use type_layout::Area;
 
 // A live notification.
 #[derive(Drop)]
@@ -81,6 +85,32 @@ impl Record {
         sent
     }
 
+    // What it watches after a reload; none where that is not all of one kept symbol.
+    pub fn moved(&self, m: &Moves) -> Option<Reach>
+        ensures moved { option_map range_meant result ≡ range_after m.now self.now.port self.now.watched }
+        ensures len { IfSome result (λ reach. watched_len (range_meant reach) ≡ watched_len self.now.watched) }
+    {
+        moved_reach(m, self.spec.port, self.spec.reach)
+    }
+
+    // As many bytes are watched elsewhere.
+    pub fn put(&mut self, reach: Reach)
+        requires { watched_len (range_meant reach) ≡ watched_len self.old.watched }
+        ensures { self.new ≡ record self.old { watched = range_meant reach } }
+    {
+        self.spec.reach = reach;
+    }
+
+    pub fn ended(&self) -> Ended
+        ensures { ended_meant result ≡ end_of self.now }
+    {
+        Ended {
+            handle: self.handle,
+            port: self.spec.port,
+            to: self.spec.to,
+        }
+    }
+
     fn sends(&self, bytes: &[u8]) -> bool
         ensures { result ≡ is_sent bytes.now self.now }
     {
@@ -100,4 +130,34 @@ fn len_of(reach: Reach) -> usize
         Reach::Bit { .. } => 1,
         Reach::Size { .. } => 0,
     }
+}
+
+// Where a reload puts what is watched.
+fn moved_reach(m: &Moves, port: u16, reach: Reach) -> Option<Reach>
+    requires { 0 < watched_len (range_meant reach) }
+    ensures moved { option_map range_meant result ≡ range_after m.now port (range_meant reach) }
+    ensures len { IfSome result (λ there. watched_len (range_meant there) ≡ watched_len (range_meant reach)) }
+{
+    match reach {
+        Reach::Bytes { area, at, len } => moved_bytes(m, port, area, at, len),
+        Reach::Bit { area, at, bit } => moved_bit(m, port, area, at, bit),
+        Reach::Size { .. } => None,
+    }
+}
+
+fn moved_bytes(m: &Moves, port: u16, area: Area, at: u32, len: u32) -> Option<Reach>
+    requires { 0 < len }
+    ensures moved { option_map range_meant result ≡ option_map (bytes_at len) (moved_span m.now port area at len) }
+    ensures len { IfSome result (λ there. watched_len (range_meant there) ≡ len) }
+{
+    let (area, at) = m.span(port, area, at, len)?;
+    Some(Reach::Bytes { area, at, len })
+}
+
+fn moved_bit(m: &Moves, port: u16, area: Area, at: u32, bit: u8) -> Option<Reach>
+    ensures moved { option_map range_meant result ≡ option_map (bit_at bit) (moved_span m.now port area at 1) }
+    ensures len { IfSome result (λ there. watched_len (range_meant there) ≡ 1) }
+{
+    let (area, at) = m.span(port, area, at, 1)?;
+    Some(Reach::Bit { area, at, bit })
 }

@@ -1,15 +1,16 @@
 //! The live notifications of one connection, in the order in which their checks become due.
 
-ghost use Rattle.std.specs.Prelude.{◌≡◌, ℕ, ◌+◌, ◌<◌, ◌≤◌, [], map, filter, length, insert, remove, position, nat_eq, IsSome, Some, None, IfOk, OnOk, OnErr};
+ghost use Rattle.std.specs.Prelude.{◌≡◌, ℕ, ◌+◌, ◌<◌, ◌≤◌, [], map, filter, length, insert, remove, position, nat_eq, IsSome, IfSome, Some, None, All, option_map, IfOk, OnOk, OnErr};
 ghost use Rattle.slab.specs.Slab.{get, Updates};
-ghost use Rattle.ads_machine.specs.Watches.{is_due, is_sent, after_check};
+ghost use Rattle.ads_machine.specs.Watches.{is_due, is_sent, after_check, watch_after_reload, watches_after_reload};
 ghost use Rattle.notify_table.specs.Access.{range_meant};
 ghost use Rattle.notify_table.specs.Specs.{new_watch, before_checks};
 ghost use Rattle.notify_table.specs.Table.{watched_len, CanBeWatched, handle_of, is_numbered};
 ghost use Rattle.notify_table.specs.Turns.{next_moment, handle_of_turn};
-ghost use Rattle.notify_table.specs.Schedules.{watch_in, nth_watch};
+ghost use Rattle.notify_table.specs.Schedules.{watch_in, watch_at, nth_watch, IsKept, IsSettled};
+ghost use Rattle.notify_table.specs.Reloads.{range_after, is_ended, end_of, ended_meant};
 
-use crate::Spec;
+use crate::{Ended, Reach, Spec};
 use crate::record::Record;
 use crate::turn::{Turn, due_turns, put_turn};
 use ads_base::{NoMemory, Steps};
@@ -17,6 +18,7 @@ use slab::Slab;
 use std::alloc::Global;
 use std::marker::Model;
 use std::sync::ledger::Ledger;
+use symbol_table::Moves;
 
 // The notifications, which contracts see as their list in the order of their turns.
 #[derive(Drop)]
@@ -127,6 +129,49 @@ impl Schedule {
     {
         due_turns(alloc, &self.turns, now, steps)
     }
+
+    // The handles of the notifications that a reload ends, in the order of their turns.
+    pub fn ending(&self, alloc: Global, m: &Moves) -> Result<Vec<u32>, NoMemory>
+        ensures { IfOk result (λ handles. handles.items ≡ map handle_of (filter (is_ended m.now) self.now)) }
+    {
+        ending_turns(alloc, &self.records, &self.turns, m)
+    }
+
+    pub fn ended(&self, at: usize) -> Ended
+        requires { at < length self.now }
+        ensures { ended_meant result ≡ end_of (nth_watch self.now at) }
+    {
+        let turn = self.turns[at];
+        ended_of(&self.records, turn.key)
+    }
+
+    // After a reload: those that it ends are gone, and the others watch their bytes at their new place.
+    pub fn settle_all(&mut self, m: &Moves)
+        ensures { self.new ≡ watches_after_reload (range_after m.now) self.old }
+    {
+        let mut at = 0;
+        while at < self.len() {
+            at = self.settle(at, m);
+        }
+    }
+
+    // After a reload one goes on or is gone: the place of the next.
+    fn settle(&mut self, at: usize, m: &Moves) -> usize
+        requires { at < length self.old }
+        ensures { IsSettled (watch_after_reload (range_after m.now) (nth_watch self.old at)) self.old self.new at result }
+    {
+        let turn = self.turns[at];
+        match moved_of(&self.records, turn.key, m) {
+            Some(reach) => {
+                put_reach(&mut self.records, turn.key, reach);
+                at + 1
+            }
+            None => {
+                self.remove(at);
+                at
+            }
+        }
+    }
 }
 
 fn place_of_handle(turns: &[Turn], handle: u32) -> Option<usize>
@@ -160,4 +205,65 @@ fn check_record(records: &mut Slab<Record>, key: usize, now: u64, bytes: &[u8]) 
         }
         None => unreachable!(),
     }
+}
+
+fn ended_of(records: &Slab<Record>, key: usize) -> Ended
+    requires { IsSome (get records.now key) }
+    ensures { ended_meant result ≡ end_of (watch_in (get records.now key)) }
+{
+    match records.get(key) {
+        Some(record) => record.ended(),
+        None => unreachable!(),
+    }
+}
+
+// What the notification of a key watches after a reload.
+fn moved_of(records: &Slab<Record>, key: usize, m: &Moves) -> Option<Reach>
+    requires { IsSome (get records.now key) }
+    ensures moved { option_map range_meant result
+        ≡ range_after m.now (watch_in (get records.now key)).port (watch_in (get records.now key)).watched }
+    ensures len { IfSome result (λ reach. watched_len (range_meant reach) ≡ watched_len (watch_in (get records.now key)).watched) }
+{
+    match records.get(key) {
+        Some(record) => record.moved(m),
+        None => unreachable!(),
+    }
+}
+
+fn put_reach(records: &mut Slab<Record>, key: usize, reach: Reach)
+    requires there { IsSome (get records.old key) }
+    requires len { watched_len (range_meant reach) ≡ watched_len (watch_in (get records.old key)).watched }
+    ensures { Updates records.old records.new key
+        (Some (record (watch_in (get records.old key)) { watched = range_meant reach })) }
+{
+    match records.get_mut(key) {
+        Some(record) => record.put(reach),
+        None => unreachable!(),
+    }
+}
+
+fn ending_turns(
+    alloc: Global,
+    records: &Slab<Record>,
+    turns: &[Turn],
+    m: &Moves,
+) -> Result<Vec<u32>, NoMemory>
+    requires { All (IsKept records.now) turns.now }
+    ensures { IfOk result (λ handles. handles.items ≡ map handle_of (filter (is_ended m.now) (map (watch_at records.now) turns.now))) }
+{
+    let mut handles = Vec::new(alloc);
+    for turn in turns {
+        if ends(records, turn.key, m) {
+            handles.push(turn.handle)?;
+        }
+    }
+    Ok(handles)
+}
+
+// Whether a reload ends the notification of a key.
+fn ends(records: &Slab<Record>, key: usize, m: &Moves) -> bool
+    requires { IsSome (get records.now key) }
+    ensures { result ≡ is_ended m.now (watch_in (get records.now key)) }
+{
+    moved_of(records, key, m).is_none()
 }
