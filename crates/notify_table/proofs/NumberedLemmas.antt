@@ -1,6 +1,6 @@
 -- Lists by the numbers of their elements.
 use Rattle.std.proofs.Common.{◌≡◌, ◌≢◌, ℕ, zero, suc, ◌+◌, ◌<◌, ◌≤◌, Bool, true, false, cond, nat_eq, List, [], ◌∷◌, ◌++◌, length, map, replicate, get_or, Option, Some, None, refl, sym, ap, ◌∙◌, arith, inl, inr}
-use Rattle.std.specs.List.{All, filter, filter_map, count_by}
+use Rattle.std.specs.List.{All, filter, filter_map, cons_option, count_by}
 use Rattle.std.specs.List.Sorted.{IsPermutation, IsNonDecreasing}
 use Rattle.std.proofs.lemmas.Bool.{cases_Bool, cases_eq, cases_lt, eq-eqb, ne_eqb, eqb-true}
 use Rattle.std.proofs.lemmas.List.{map-append, append-nil, append_assoc, length-append}
@@ -148,3 +148,45 @@ by_number-permuted n k vs xs permuted rises numbered =
         ∙ sym (copies j (map n vs)) in
     sym (by_number-sorted k xs rises all) ∙ by_number-same (λ y. y) k xs (map n vs) same
     ∙ sym (by_number-map n (λ y. y) n (λ x. refl) k vs)
+
+-- what may leave an element out, and keeps the numbers of the others
+module _ {X : Type 0} (n : X → ℕ) (g : X → Option X) (keeps : (x y : X) → g x ≡ Some y → n y ≡ n x) where
+  pub filter-filter_map : (j : ℕ) (xs : List X) → filter (λ x. nat_eq (n x) j) (filter_map g xs) ≡ filter_map g (filter (λ x. nat_eq (n x) j) xs)
+  filter-filter_map j [] = refl
+  filter-filter_map j (x ∷ xs) = by_answer (g x) refl (filter-filter_map j xs)
+    where
+      by_answer : (o : Option X) → g x ≡ o → filter (λ y. nat_eq (n y) j) (filter_map g xs) ≡ filter_map g (filter (λ y. nat_eq (n y) j) xs)
+          → filter (λ y. nat_eq (n y) j) (filter_map g (x ∷ xs)) ≡ filter_map g (filter (λ y. nat_eq (n y) j) (x ∷ xs))
+      by_answer None gone rest =
+          elim (cases_Bool (nat_eq (n x) j)) [
+            | inl numbered ↦ rw (gone, numbered, gone) rest
+            | inr other ↦ rw (gone, other) rest
+          ]
+      by_answer (Some y) there rest =
+          elim (cases_Bool (nat_eq (n x) j)) [
+            | inl numbered ↦ rw (there, numbered, there, keeps x y there, numbered, rest) refl
+            | inr other ↦ rw (there, other, keeps x y there, other) rest
+          ]
+
+  pub by_number-filter_map : (k : ℕ) (xs : List X) → filter_map g (by_number n k xs) ≡ by_number n k (filter_map g xs)
+  by_number-filter_map zero xs = refl
+  by_number-filter_map (suc k) xs =
+      filter_map-append g (by_number n k xs) (filter (λ x. nat_eq (n x) (suc k)) xs)
+      ∙ rw (by_number-filter_map k xs, filter-filter_map (suc k) xs) refl
+
+module _ {X : Type 0} (g : X → Option X) where
+  pub length-filter_map-le : (xs : List X) → length (filter_map g xs) ≤ length xs
+  length-filter_map-le [] = omega arith
+  length-filter_map-le (x ∷ xs) = by_answer (g x) (length-filter_map-le xs)
+    where
+      by_answer : (o : Option X) → length (filter_map g xs) ≤ length xs → length (cons_option o (filter_map g xs)) ≤ length (x ∷ xs)
+      by_answer None rest = omega arith
+      by_answer (Some y) rest = omega arith
+
+  pub All-filter_map : (P : X → Type 0) → ((x y : X) → g x ≡ Some y → P x → P y) → (xs : List X) → All P xs → All P (filter_map g xs)
+  All-filter_map P keeps [] all = all
+  All-filter_map P keeps (x ∷ xs) all = by_answer (g x) refl (All-filter_map P keeps xs (All-tail P x xs all))
+    where
+      by_answer : (o : Option X) → g x ≡ o → All P (filter_map g xs) → All P (cons_option o (filter_map g xs))
+      by_answer None gone rest = rest
+      by_answer (Some y) there rest = All-cons P y (filter_map g xs) (keeps x y there (All-head P x xs all)) rest

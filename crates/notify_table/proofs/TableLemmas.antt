@@ -1,19 +1,20 @@
 -- The notifications of a connection by rising handle, while those of its schedule change.
-use Rattle.std.proofs.Common.{◌≡◌, ◌≢◌, ℕ, suc, ◌+◌, ◌-◌, ◌<◌, ◌≤◌, max, Bool, true, false, not, ◌&&◌, ◌||◌, cond, nat_eq, nat_lt, nat_le, List, [], ◌∷◌, ◌++◌, length, map, get_or, Option, Some, None, option_map, IsSomeAnd, IsTrue, refl, sym, ap, ◌∙◌, arith, inl, inr, subst}
-use Rattle.std.specs.List.{All, filter, find, list_any, insert, remove, position, position_or_len, count_by}
+use Rattle.std.proofs.Common.{◌≡◌, ◌≢◌, ℕ, suc, ◌+◌, ◌-◌, ◌<◌, ◌≤◌, max, Bool, true, false, not, ◌&&◌, ◌||◌, cond, nat_eq, nat_lt, nat_le, List, [], ◌∷◌, ◌++◌, length, map, get_or, Option, Some, None, option_map, IsSome, IsSomeAnd, IsTrue, refl, sym, ap, ◌∙◌, arith, inl, inr, subst}
+use Rattle.std.specs.List.{All, filter, filter_map, find, list_any, insert, remove, position, position_or_len, count_by}
 use Rattle.std.specs.List.Sorted.{IsPermutation, IsNonDecreasing}
 use Rattle.std.proofs.lemmas.Bool.{cases_Bool, cases_eq, eq-eqb, ne_eqb, eqb-true, ltb-false, lt-leb}
 use Rattle.std.proofs.lemmas.List.{length-map}
-use Rattle.std.proofs.lemmas.List.Elements.{All-head, All-tail, All-get_or, All-filter, All-weaker, filter_passes, filter_agree}
+use Rattle.std.proofs.lemmas.List.Elements.{All-head, All-tail, All-get_or, All-filter, All-weaker, All-map, filter_passes, filter_agree}
 use Rattle.std.proofs.lemmas.List.Quantifiers.{position-Some}
-use Rattle.std.proofs.lemmas.List.Sums.{fails_before_first}
+use Rattle.std.proofs.lemmas.List.Sums.{fails_before_first, length-filter}
 use Rattle.ads_formats.specs.Ranges.{Range}
-use Rattle.ads_machine.specs.Watches.{Watch, is_due, is_due_after, is_sent, after_check, checked_watch}
-use Rattle.notify_table.specs.Table.{handle_of, watched_len, is_numbered, is_of_port, is_live, is_full, watch_of_handle, due_handles, table_after, checked_where, Added, Deleted, Checked, WatchTable}
-use Rattle.notify_table.specs.Schedules.{nth_watch, no_watch, OncePer}
-use Rattle.notify_table.specs.Numbered.{by_number, HasNumber, AreGranted, table_from}
+use Rattle.ads_machine.specs.Watches.{Watch, is_due, is_due_after, is_sent, after_check, checked_watch, watch_after_reload, watches_after_reload}
+use Rattle.notify_table.specs.Table.{handle_of, watched_len, is_numbered, is_of_port, is_live, is_full, watch_of_handle, due_handles, table_after, checked_where, Added, Deleted, Checked, Reloaded, WatchTable}
+use Rattle.notify_table.specs.Schedules.{nth_watch, no_watch, watch_in, OncePer}
+use Rattle.notify_table.specs.Numbered.{by_number, HasNumber, AreGranted, table_from, IsLive, end_of_handle}
+use Rattle.notify_table.specs.Reloads.{end_of}
 use Rattle.notify_table.proofs.Filtered.{All-insert, All-remove, insert-remove, filter_none, filter_all, filter_one, filter-insert_no, filter-insert_yes, filter-remove_no, OncePer-others, OncePer-remove, OncePer-insert}
-use Rattle.notify_table.proofs.NumberedLemmas.{by_number-nil, by_number-same, by_number-upto, by_number-filter, by_number-one, by_number-above, by_number-map, by_number-permuted, length-by_number, filter-map}
+use Rattle.notify_table.proofs.NumberedLemmas.{by_number-nil, by_number-same, by_number-upto, by_number-filter, by_number-one, by_number-above, by_number-map, by_number-permuted, length-by_number, filter-map, filter-filter_map, by_number-filter_map, length-filter_map-le, All-filter_map}
 
 -- where no place was found, none passes
 none_at : {X : Type 0} (p : X → Bool) (xs : List X) → position p xs ≡ None → All (λ x. p x ≡ false) xs
@@ -266,13 +267,12 @@ module _ (ws : List (Watch Range)) (n h now : ℕ) (bytes : List ℕ) (i place :
           ∙ sym (by_number-map handle_of handle_of (checked_where h now bytes) (handle-checked_where h now bytes) n ws) in
       ap (λ (l : List (Watch Range)). let t : WatchTable = record { watches = l; additions = n } in t) same
 
--- the handles of those that are due, once they are in order
-pub due_sorted : (now : ℕ) (ws : List (Watch Range)) (n : ℕ) (hs : List ℕ) → AreGranted ws n
-    → IsPermutation (map handle_of (filter (λ (w : Watch Range). is_due now w) ws)) hs → IsNonDecreasing hs → hs ≡ due_handles now (table_from ws n)
-due_sorted now ws n hs granted permuted rises =
-    by_number-permuted handle_of n (filter (λ (w : Watch Range). is_due now w) ws) hs permuted rises
-    (All-filter (λ (w : Watch Range). is_due now w) (HasNumber handle_of n) ws granted.within)
-    ∙ ap (map handle_of) (sym (by_number-filter handle_of (λ (w : Watch Range). is_due now w) n ws))
+-- the handles of those that pass a test, once they are in order
+pub handles_sorted : (p : Watch Range → Bool) (ws : List (Watch Range)) (n : ℕ) (hs : List ℕ) → AreGranted ws n
+    → IsPermutation (map handle_of (filter p ws)) hs → IsNonDecreasing hs → hs ≡ map handle_of (filter p (by_number handle_of n ws))
+handles_sorted p ws n hs granted permuted rises =
+    by_number-permuted handle_of n (filter p ws) hs permuted rises (All-filter p (HasNumber handle_of n) ws granted.within)
+    ∙ ap (map handle_of) (sym (by_number-filter handle_of p n ws))
 
 pub due_count : (now : ℕ) (ws : List (Watch Range)) (n : ℕ) → AreGranted ws n
     → length (due_handles now (table_from ws n)) ≡ length (map handle_of (filter (λ (w : Watch Range). is_due now w) ws))
@@ -298,3 +298,64 @@ module _ (ws : List (Watch Range)) (n h now : ℕ) (bytes : List ℕ) (t : Watch
       let live : watch_of_handle h t ≡ None = ap (watch_of_handle h) (sym view) ∙ missing ws n h at_none in
       let none = subst (λ (o : Option (Watch Range)). IsSomeAnd o (λ w. IsTrue (is_due now w) × (length bytes ≡ watched_len w.watched))) live asked in
       none
+
+-- each listed notification is the live one with its handle
+listed_once : (ws : List (Watch Range)) (n : ℕ) → AreGranted ws n → OncePer handle_of (by_number handle_of n ws)
+listed_once ws n granted k =
+    let p : Watch Range → Bool = is_numbered k in
+    let listed = length-filter p (by_number handle_of n ws) in
+    let same = ap length (by_number-filter handle_of p n ws)
+        ∙ length-by_number handle_of n (filter p ws) (All-filter p (HasNumber handle_of n) ws granted.within) in
+    omega (arith, listed, same, length-filter p ws, granted.once k)
+
+pub live_listed : (ws : List (Watch Range)) (n : ℕ) → AreGranted ws n
+    → All (λ (w : Watch Range). watch_of_handle w.handle (table_from ws n) ≡ Some w) (by_number handle_of n ws)
+live_listed ws n granted k d below =
+    let vs : List (Watch Range) = by_number handle_of n ws in
+    let w : Watch Range = get_or vs k d in
+    let apart = OncePer-others handle_of vs k d (listed_once ws n granted) below in
+    find-one (is_numbered w.handle) vs w
+    (filter_one (is_numbered w.handle) vs k d below (eq-eqb w.handle w.handle refl) (λ j e under. ne_eqb _ _ (apart j e under)))
+
+module _ (t : WatchTable) where
+  pub all_live : (vs : List (Watch Range)) → All (λ (w : Watch Range). watch_of_handle w.handle t ≡ Some w) vs → All (IsLive t) (map handle_of vs)
+  all_live vs live =
+      All-map (IsLive t) handle_of vs (λ k d below. subst IsSome (sym (live k d below)) refl)
+
+  pub told_list : (vs : List (Watch Range)) → All (λ (w : Watch Range). watch_of_handle w.handle t ≡ Some w) vs
+      → map (end_of_handle t) (map handle_of vs) ≡ map end_of vs
+  told_list [] live = refl
+  told_list (w ∷ vs) live =
+      let head = All-head (λ (v : Watch Range). watch_of_handle v.handle t ≡ Some v) w vs live in
+      let here : end_of_handle t w.handle ≡ end_of w = ap (λ o. end_of (watch_in o)) head in
+      let rest = told_list vs (All-tail (λ (v : Watch Range). watch_of_handle v.handle t ≡ Some v) w vs live) in
+      cc
+
+-- what goes on keeps its handle
+kept_handle : (moves : ℕ → Range → Option Range) (w v : Watch Range) → watch_after_reload moves w ≡ Some v → v.handle ≡ w.handle
+kept_handle moves w v = by_answer (moves w.port w.watched)
+  where
+    moved : Range → Watch Range
+    moved watched = record w { watched = watched }
+    by_answer : (o : Option Range) → option_map (λ (watched : Range). let u : Watch Range = record w { watched = watched } in u) o ≡ Some v → v.handle ≡ w.handle
+    by_answer None gone = absurd (cc)
+    by_answer (Some there) same = let e : (let u : Watch Range = record w { watched = there } in u) ≡ v = cc in sym (ap handle_of e)
+
+-- a reload
+module _ (moves : ℕ → Range → Option Range) (ws : List (Watch Range)) (n : ℕ) where
+  pub reloaded_granted : AreGranted ws n → AreGranted (watches_after_reload moves ws) n
+  unfolding watches_after_reload
+  reloaded_granted granted = record {
+    within = All-filter_map (watch_after_reload moves) (HasNumber handle_of n) (λ w v e h. rw (kept_handle moves w v e) h) ws granted.within;
+    once = λ k.
+        let p : Watch Range → Bool = is_numbered k in
+        let fewer = length-filter_map-le (watch_after_reload moves) (filter p ws) in
+        let same = ap length (filter-filter_map handle_of (watch_after_reload moves) (kept_handle moves) k ws) in
+        omega (arith, same, fewer, length-filter p ws, length-filter p (filter_map (watch_after_reload moves) ws), granted.once k);
+  }
+
+  pub reloaded_table : table_from (watches_after_reload moves ws) n ≡ table_after (table_from ws n) (Reloaded moves)
+  unfolding watches_after_reload
+  reloaded_table =
+      ap (λ (l : List (Watch Range)). let t : WatchTable = record { watches = l; additions = n } in t)
+      (sym (by_number-filter_map handle_of (watch_after_reload moves) (kept_handle moves) n ws))

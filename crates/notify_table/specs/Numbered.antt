@@ -1,9 +1,10 @@
 -- Notifications by rising handle. Private: no public clause cites this file.
-use Rattle.std.specs.Prelude.{ℕ, zero, suc, ◌<◌, ◌≤◌, List, [], ◌++◌, ◌==◌, filter, All}
+use Rattle.std.specs.Prelude.{ℕ, zero, suc, ◌<◌, ◌≤◌, List, [], ◌++◌, ◌==◌, filter, All, IsSome}
 use Rattle.ads_formats.specs.Ranges.{Range}
 use Rattle.ads_machine.specs.Watches.{Watch}
-use Rattle.notify_table.specs.Table.{WatchTable, handle_of}
-use Rattle.notify_table.specs.Schedules.{OncePer}
+use Rattle.notify_table.specs.Table.{WatchTable, handle_of, watch_of_handle}
+use Rattle.notify_table.specs.Schedules.{OncePer, watch_in}
+use Rattle.notify_table.specs.Reloads.{EndedWatch, end_of}
 
 -- those with a number from 1 to this one, by their numbers
 abbrev pub by_number : {X : Type 0} → (X → ℕ) → ℕ → List X → List X
@@ -21,3 +22,10 @@ pub record AreGranted (watches : List (Watch Range)) (granted : ℕ) : Type 0 wh
 -- what is live, and how many were granted
 abbrev pub table_from : List (Watch Range) → ℕ → WatchTable
 table_from watches granted = record { watches = by_number handle_of granted watches; additions = granted }
+
+abbrev pub IsLive : WatchTable → ℕ → Type 0
+IsLive t handle = IsSome (watch_of_handle handle t)
+
+-- what is told of the notification with a handle
+abbrev pub end_of_handle : WatchTable → ℕ → EndedWatch
+end_of_handle t handle = end_of (watch_in (watch_of_handle handle t))

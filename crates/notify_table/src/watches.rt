@@ -1,18 +1,21 @@
 //! The notifications of one connection.
 
-ghost use Rattle.std.specs.Prelude.{◌≡◌, ◌+◌, ◌<◌, ◌≤◌, ◌↔◌, ◌==◌, not, false, filter, length, option_map, IsTrue, IsOk, IsErr, IsSomeAnd, IfSome, IfOk, IfErr, OnOk, OnErr};
-ghost use Rattle.ads_machine.specs.Watches.{is_due, is_sent};
+ghost use Rattle.std.specs.Prelude.{◌≡◌, ◌+◌, ◌<◌, ◌≤◌, ◌↔◌, ◌==◌, not, false, filter, map, All, length, option_map, IsTrue, IsOk, IsErr, IsSomeAnd, IfSome, IfOk, IfErr, OnOk, OnErr};
+ghost use Rattle.ads_machine.specs.Watches.{is_due, is_sent, ended_watches};
 ghost use Rattle.notify_table.specs.Access.{range_meant};
 ghost use Rattle.notify_table.specs.Specs.{new_watch, before_checks};
-ghost use Rattle.notify_table.specs.Table.{watched_len, CanBeWatched, no_watches, is_full, is_live, watch_of_handle, due_handles, table_after, Added, Deleted, Checked};
+ghost use Rattle.notify_table.specs.Table.{watched_len, CanBeWatched, no_watches, is_full, is_live, watch_of_handle, due_handles, table_after, Added, Deleted, Checked, Reloaded};
+ghost use Rattle.notify_table.specs.Reloads.{range_after, end_of, ended_meant};
+ghost use Rattle.notify_table.specs.Numbered.{IsLive, end_of_handle};
 
 use crate::schedule::Schedule;
-use crate::{Handles32, Spec, WatchFull};
+use crate::{Ended, EndedList, Handles32, Spec, WatchFull};
 use ads_base::{NoMemory, Steps};
 use return_codes::Code;
 use std::alloc::Global;
 use std::marker::Model;
 use std::sync::ledger::Ledger;
+use symbol_table::Moves;
 
 /// How many notifications may be live.
 pub const MAX_LIVE: usize = 512;
@@ -130,6 +133,52 @@ impl Watches {
     {
         match self.schedule.find(handle) {
             Some(at) => self.schedule.check(at, now, bytes),
+            None => unreachable!(),
+        }
+    }
+
+    /// A reload. A notification all of whose bytes, or the byte of whose bit, are of one kept symbol goes on at its new
+    /// place, with the moment of its last check and the bytes that it last sent. All others end, and are given by
+    /// rising handle.
+    pub fn moved(&mut self, alloc: Global, m: &Moves) -> Result<EndedList, NoMemory>
+        ensures ended { IfOk result (λ ended. map ended_meant ended
+            ≡ map end_of (ended_watches (range_after m.now) self.old.watches)) }
+        ensures watches { OnOk result (self.new ≡ table_after self.old (Reloaded (range_after m.now))) }
+        ensures no_memory { OnErr result (self.new ≡ self.old) }
+    {
+        let ended = self.ended(alloc, m)?;
+        self.schedule.settle_all(m);
+        Ok(ended)
+    }
+
+    // Those that a reload ends, by rising handle.
+    fn ended(&self, alloc: Global, m: &Moves) -> Result<EndedList, NoMemory>
+        ensures { IfOk result (λ ended. map ended_meant ended
+            ≡ map end_of (ended_watches (range_after m.now) self.now.watches)) }
+    {
+        let mut handles = self.schedule.ending(alloc, m)?;
+        handles.sort_unstable();
+        self.told(alloc, &handles)
+    }
+
+    // What is told of notifications that end.
+    fn told(&self, alloc: Global, handles: &[u32]) -> Result<EndedList, NoMemory>
+        requires { All (IsLive self.now) handles.now }
+        ensures { IfOk result (λ ended. map ended_meant ended ≡ map (end_of_handle self.now) handles.now) }
+    {
+        let mut ended = EndedList::new(alloc);
+        for handle in handles {
+            ended.push(alloc, self.told_of(*handle))?;
+        }
+        Ok(ended)
+    }
+
+    fn told_of(&self, handle: u32) -> Ended
+        requires { IsLive self.now handle }
+        ensures { ended_meant result ≡ end_of_handle self.now handle }
+    {
+        match self.schedule.find(handle) {
+            Some(at) => self.schedule.ended(at),
             None => unreachable!(),
         }
     }

@@ -1,7 +1,8 @@
 use Rattle.std.proofs.Common.{◌≡◌, ◌≤◌, refl, sym, ap, ◌∙◌, arith, length}
 use Rattle.std.proofs.lemmas.List.Sorted.{IsNonDecreasingBy-from_sort}
-use Rattle.notify_table.specs.Table.{due_handles}
-use Rattle.notify_table.proofs.TableLemmas.{due_sorted, due_count}
+use Rattle.ads_formats.specs.Ranges.{Range}
+use Rattle.ads_machine.specs.Watches.{Watch, is_due}
+use Rattle.notify_table.proofs.TableLemmas.{handles_sorted, due_count}
 use Rattle.notify_table.proofs.watches.Watches.due.Goals as goal
 
 pub returns-in_err-handles-clause-cost : goal.returns-in_err-handles-clause-cost
@@ -12,7 +13,7 @@ pub returns-clause-due : goal.returns-clause-due
 returns-clause-due g c =
     rw (← c.self.view_is)
     (c.from_vec.ensures
-      ∙ due_sorted c.args.now c.self.inside.schedule c.self.inside.granted c.sort_unstable.new.self.items c.self.invariant
+      ∙ handles_sorted (λ (w : Watch Range). is_due c.args.now w) c.self.inside.schedule c.self.inside.granted c.sort_unstable.new.self.items c.self.invariant
         (rw (← c.in_ok-handles.ensures.due) c.sort_unstable.ensures.permutation)
         (IsNonDecreasingBy-from_sort (λ x. x) c.sort_unstable.new.self.items c.sort_unstable.ensures.sorted))
 
