@@ -1,12 +1,13 @@
 -- Lists by the numbers of their elements.
-use Rattle.std.proofs.Common.{◌≡◌, ◌≢◌, ℕ, zero, suc, ◌+◌, ◌<◌, ◌≤◌, Bool, true, false, cond, nat_eq, List, [], ◌∷◌, ◌++◌, length, map, replicate, get_or, Option, Some, None, refl, sym, ap, ◌∙◌, arith, inl, inr}
+use Rattle.std.proofs.Common.{◌≡◌, ◌≢◌, ℕ, zero, suc, ◌+◌, ◌-◌, ◌<◌, ◌≤◌, Bool, true, false, cond, nat_eq, List, [], ◌∷◌, ◌++◌, length, map, replicate, get_or, Option, Some, None, refl, sym, ap, ◌∙◌, arith, inl, inr}
 use Rattle.std.specs.List.{All, filter, filter_map, cons_option, count_by}
-use Rattle.std.specs.List.Sorted.{IsPermutation, IsNonDecreasing}
+use Rattle.std.specs.List.Sorted.{IsPermutation, IsNonDecreasing, IsStrictlyIncreasing}
 use Rattle.std.proofs.lemmas.Bool.{cases_Bool, cases_eq, cases_lt, eq-eqb, ne_eqb, eqb-true}
-use Rattle.std.proofs.lemmas.List.{map-append, append-nil, append_assoc, length-append}
-use Rattle.std.proofs.lemmas.List.Elements.{All-head, All-tail, All-cons, All-map, All-from_get_or, filter-append, filter_map-append, filter_agree, filter_passes}
-use Rattle.std.proofs.lemmas.List.Sums.{sum_by-cons}
+use Rattle.std.proofs.lemmas.List.{map-append, length-append, length-map, get_or_append_left, get_or-append_right}
+use Rattle.std.proofs.lemmas.List.Elements.{All-head, All-tail, All-cons, All-nil, All-append, All-weaker, All-filter, All-map, filter-append, filter_map-append, filter_agree, filter_passes}
+use Rattle.std.proofs.lemmas.List.Sums.{sum_by-cons, length-filter}
 use Rattle.std.proofs.lemmas.List.Sorted.{All-permutation, sum_by-IsPermutation}
+use Rattle.notify_table.specs.Schedules.{OncePer}
 use Rattle.notify_table.specs.Numbered.{by_number, HasNumber}
 use Rattle.notify_table.proofs.Filtered.{filter_none, filter_all}
 
@@ -149,6 +150,22 @@ by_number-permuted n k vs xs permuted rises numbered =
     sym (by_number-sorted k xs rises all) ∙ by_number-same (λ y. y) k xs (map n vs) same
     ∙ sym (by_number-map n (λ y. y) n (λ x. refl) k vs)
 
+-- rising numbers, and behind them one that is greater or none
+rises_more : (k : ℕ) (xs ys : List ℕ) → IsStrictlyIncreasing xs → All (λ y. y ≤ k) xs → All (λ y. y ≡ suc k) ys → length ys ≤ 1
+    → IsStrictlyIncreasing (xs ++ ys)
+rises_more k xs ys rises most last short j below =
+    let total = length-append xs ys in
+    elim (cases_lt (j + 1) (length xs)) [
+      | inl inside ↦
+          rw (get_or_append_left xs ys 0 j (omega arith), get_or_append_left xs ys 0 (j + 1) inside) (rises j inside)
+      | inr behind ↦
+          let here : get_or (xs ++ ys) j 0 ≡ get_or xs j 0 = get_or_append_left xs ys 0 j (omega arith) in
+          let next : get_or (xs ++ ys) (j + 1) 0 ≡ get_or ys (j + 1 - length xs) 0 = get_or-append_right xs ys (length xs) (j + 1) 0 refl behind in
+          let low : get_or xs j 0 ≤ k = most j 0 (omega arith) in
+          let high : get_or ys (j + 1 - length xs) 0 ≡ suc k = last (j + 1 - length xs) 0 (omega arith) in
+          omega (arith, here, next, low, high)
+    ]
+
 -- what may leave an element out, and keeps the numbers of the others
 module _ {X : Type 0} (n : X → ℕ) (g : X → Option X) (keeps : (x y : X) → g x ≡ Some y → n y ≡ n x) where
   pub filter-filter_map : (j : ℕ) (xs : List X) → filter (λ x. nat_eq (n x) j) (filter_map g xs) ≡ filter_map g (filter (λ x. nat_eq (n x) j) xs)
@@ -190,3 +207,28 @@ module _ {X : Type 0} (g : X → Option X) where
       by_answer : (o : Option X) → g x ≡ o → All P (filter_map g xs) → All P (cons_option o (filter_map g xs))
       by_answer None gone rest = rest
       by_answer (Some y) there rest = All-cons P y (filter_map g xs) (keeps x y there (All-head P x xs all)) rest
+
+module _ {X : Type 0} (n : X → ℕ) where
+  pub All-by_number : (k : ℕ) (P : X → Type 0) (xs : List X) → All P xs → All P (by_number n k xs)
+  All-by_number zero P xs all = All-nil P
+  All-by_number (suc k) P xs all =
+      All-append P (by_number n k xs) (filter (λ x. nat_eq (n x) (suc k)) xs) (All-by_number k P xs all) (All-filter (λ x. nat_eq (n x) (suc k)) P xs all)
+
+  -- no number is above the last
+  by_number-most : (k : ℕ) (xs : List X) → All (λ x. n x ≤ k) (by_number n k xs)
+  by_number-most zero xs = All-nil (λ x. n x ≤ 0)
+  by_number-most (suc k) xs =
+      All-append (λ x. n x ≤ suc k) (by_number n k xs) (filter (λ x. nat_eq (n x) (suc k)) xs)
+      (All-weaker (λ x. n x ≤ k) (λ x. n x ≤ suc k) (λ x h. omega arith) (by_number n k xs) (by_number-most k xs))
+      (λ j d below. let same = eqb-true _ _ (filter_passes (λ x. nat_eq (n x) (suc k)) xs j d below) in omega arith)
+
+  -- where each number stands once, they rise
+  pub by_number-rises : (k : ℕ) (xs : List X) → OncePer n xs → IsStrictlyIncreasing (map n (by_number n k xs))
+  by_number-rises zero xs once = λ j below. absurd (omega arith)
+  by_number-rises (suc k) xs once =
+      rw (map-append n (by_number n k xs) (filter (λ x. nat_eq (n x) (suc k)) xs))
+      (rises_more k (map n (by_number n k xs)) (map n (filter (λ x. nat_eq (n x) (suc k)) xs)) (by_number-rises k xs once)
+        (All-map (λ y. y ≤ k) n (by_number n k xs) (by_number-most k xs))
+        (All-map (λ y. y ≡ suc k) n (filter (λ x. nat_eq (n x) (suc k)) xs)
+          (λ j d below. eqb-true _ _ (filter_passes (λ x. nat_eq (n x) (suc k)) xs j d below)))
+        (omega (arith, length-map (filter (λ x. nat_eq (n x) (suc k)) xs) n, length-filter (λ x. nat_eq (n x) (suc k)) xs, once (suc k))))

@@ -1,20 +1,24 @@
 -- The notifications of a connection by rising handle, while those of its schedule change.
 use Rattle.std.proofs.Common.{◌≡◌, ◌≢◌, ℕ, suc, ◌+◌, ◌-◌, ◌<◌, ◌≤◌, max, Bool, true, false, not, ◌&&◌, ◌||◌, cond, nat_eq, nat_lt, nat_le, List, [], ◌∷◌, ◌++◌, length, map, get_or, Option, Some, None, option_map, IsSome, IsSomeAnd, IsTrue, refl, sym, ap, ◌∙◌, arith, inl, inr, subst}
 use Rattle.std.specs.List.{All, filter, filter_map, find, list_any, insert, remove, position, position_or_len, count_by}
-use Rattle.std.specs.List.Sorted.{IsPermutation, IsNonDecreasing}
+use Rattle.std.specs.List.Sorted.{IsPermutation, IsNonDecreasing, IsStrictlyIncreasing}
 use Rattle.std.proofs.lemmas.Bool.{cases_Bool, cases_eq, eq-eqb, ne_eqb, eqb-true, ltb-false, lt-leb}
 use Rattle.std.proofs.lemmas.List.{length-map}
+use Rattle.std.proofs.lemmas.List.Edits.{length-insert, length-remove}
 use Rattle.std.proofs.lemmas.List.Elements.{All-head, All-tail, All-get_or, All-filter, All-weaker, All-map, filter_passes, filter_agree}
 use Rattle.std.proofs.lemmas.List.Quantifiers.{position-Some}
-use Rattle.std.proofs.lemmas.List.Sums.{fails_before_first, length-filter}
-use Rattle.ads_formats.specs.Ranges.{Range}
+use Rattle.std.proofs.lemmas.List.Sums.{fails_before_first, length-filter, count_by-le-length}
+use Rattle.ads_formats.specs.Ranges.{Range, Bytes, Bit, Size}
 use Rattle.ads_machine.specs.Watches.{Watch, is_due, is_due_after, is_sent, after_check, checked_watch, watch_after_reload, watches_after_reload}
-use Rattle.notify_table.specs.Table.{handle_of, watched_len, is_numbered, is_of_port, is_live, is_full, watch_of_handle, due_handles, table_after, checked_where, Added, Deleted, Checked, Reloaded, WatchTable}
+use Rattle.notify_table.specs.Table.{handle_of, watched_len, IsWatchable, IsTable, is_numbered, is_of_port, is_live, is_full, watch_of_handle, due_handles, table_after, checked_where, Added, Deleted, Checked, Reloaded, WatchTable}
 use Rattle.notify_table.specs.Schedules.{nth_watch, no_watch, watch_in, OncePer}
 use Rattle.notify_table.specs.Numbered.{by_number, HasNumber, AreGranted, table_from, IsLive, end_of_handle}
-use Rattle.notify_table.specs.Reloads.{end_of}
+use Rattle.notify_table.specs.Reloads.{end_of, range_after, value_of_area, bytes_at, bit_at}
+use Rattle.symbol_table.specs.declared.kept.KeptPlace.{KeptPlace}
+use Rattle.symbol_table.specs.Moves.{moved_span}
+use Rattle.type_layout.specs.declared.port.Area.{Area}
 use Rattle.notify_table.proofs.Filtered.{All-insert, All-remove, insert-remove, filter_none, filter_all, filter_one, filter-insert_no, filter-insert_yes, filter-remove_no, OncePer-others, OncePer-remove, OncePer-insert}
-use Rattle.notify_table.proofs.NumberedLemmas.{by_number-nil, by_number-same, by_number-upto, by_number-filter, by_number-one, by_number-above, by_number-map, by_number-permuted, length-by_number, filter-map, filter-filter_map, by_number-filter_map, length-filter_map-le, All-filter_map}
+use Rattle.notify_table.proofs.NumberedLemmas.{by_number-nil, by_number-same, by_number-upto, by_number-filter, by_number-one, by_number-above, by_number-map, by_number-permuted, length-by_number, by_number-rises, All-by_number, filter-map, filter-filter, filter-filter_map, by_number-filter_map, length-filter_map-le, All-filter_map}
 
 -- where no place was found, none passes
 none_at : {X : Type 0} (p : X → Bool) (xs : List X) → position p xs ≡ None → All (λ x. p x ≡ false) xs
@@ -109,6 +113,8 @@ module _ (ws : List (Watch Range)) (n h : ℕ) where
   removed_granted i granted f = record {
     within = All-remove (HasNumber handle_of n) ws i granted.within;
     once = OncePer-remove handle_of ws i no_watch granted.once f.within;
+    few = let fewer = length-remove ws i f.within in let most = granted.few in omega arith;
+    watched = All-remove IsWatchable ws i granted.watched;
   }
 
   removed_filter : (i : ℕ) → IsFound ws n h i → filter (λ w. not (is_numbered h w)) ws ≡ remove ws i
@@ -132,12 +138,15 @@ full_table ws n granted =
 
 -- one is added with the next handle
 module _ (ws : List (Watch Range)) (n place : ℕ) (w : Watch Range) where
-  pub added_granted : AreGranted ws n → w.handle ≡ n + 1 → AreGranted (insert ws place w) (n + 1)
-  added_granted granted next = record {
+  pub added_granted : AreGranted ws n → w.handle ≡ n + 1 → length (by_number handle_of n ws) < 512 → place ≤ length ws → IsWatchable w
+      → AreGranted (insert ws place w) (n + 1)
+  added_granted granted next room within can = record {
     within = All-insert (HasNumber handle_of (n + 1)) ws place w
         (All-weaker (HasNumber handle_of n) (HasNumber handle_of (n + 1)) (λ v h. (h.0, omega (arith, h.1))) ws granted.within)
         (omega arith, omega arith);
     once = OncePer-insert handle_of ws place w granted.once (λ k d below e. let most = (granted.within k d below).1 in omega arith);
+    few = omega (arith, length-insert ws place w within, length-by_number handle_of n ws granted.within);
+    watched = All-insert IsWatchable ws place w granted.watched can;
   }
 
   pub added_table : AreGranted ws n → w.handle ≡ n + 1 → table_from (insert ws place w) (n + 1) ≡ table_after (table_from ws n) (Added w)
@@ -166,6 +175,13 @@ handle-after_check : (now : ℕ) (bytes : List ℕ) (w : Watch Range) → (after
 handle-after_check now bytes w = by_sent (is_sent bytes w)
   where
     by_sent : (sent : Bool) → (cond sent (record w { last = Some now; sent = bytes }) (record w { last = Some now })).handle ≡ w.handle
+    by_sent true = refl
+    by_sent false = refl
+
+watched-after_check : (now : ℕ) (bytes : List ℕ) (w : Watch Range) → (after_check now bytes w).watched ≡ w.watched
+watched-after_check now bytes w = by_sent (is_sent bytes w)
+  where
+    by_sent : (sent : Bool) → (cond sent (record w { last = Some now; sent = bytes }) (record w { last = Some now })).watched ≡ w.watched
     by_sent true = refl
     by_sent false = refl
 
@@ -219,16 +235,21 @@ module _ (ws : List (Watch Range)) (n h now : ℕ) (bytes : List ℕ) (i place :
   checked_handle : IsFound ws n h i → (after_check now bytes (nth_watch ws i)).handle ≡ h
   checked_handle f = handle-after_check now bytes (nth_watch ws i) ∙ f.numbered
 
-  pub checked_granted : AreGranted ws n → IsFound ws n h i → AreGranted (insert (remove ws i) place (after_check now bytes (nth_watch ws i))) n
-  checked_granted granted f =
+  pub checked_granted : place ≤ length (remove ws i) → AreGranted ws n → IsFound ws n h i
+      → AreGranted (insert (remove ws i) place (after_check now bytes (nth_watch ws i))) n
+  checked_granted placed granted f =
       let w : Watch Range = after_check now bytes (nth_watch ws i) in
       let same : w.handle ≡ h = checked_handle f in
       let in_range : HasNumber handle_of n (nth_watch ws i) = All-get_or (HasNumber handle_of n) ws i no_watch f.within granted.within in
+      let can : IsWatchable (nth_watch ws i) = All-get_or IsWatchable ws i no_watch f.within granted.watched in
       record {
         within = All-insert (HasNumber handle_of n) (remove ws i) place w (All-remove (HasNumber handle_of n) ws i granted.within)
             (rw (handle-after_check now bytes (nth_watch ws i)) in_range);
         once = OncePer-insert handle_of (remove ws i) place w (OncePer-remove handle_of ws i no_watch granted.once f.within)
             (λ k d below e. f.others k d below (e ∙ same));
+        few = omega (arith, length-insert (remove ws i) place w placed, length-remove ws i f.within, granted.few);
+        watched = All-insert IsWatchable (remove ws i) place w (All-remove IsWatchable ws i granted.watched)
+            (rw (watched-after_check now bytes (nth_watch ws i)) can);
       }
 
   checked_numbered : IsFound ws n h i → is_due now (nth_watch ws i) ≡ true → (j : ℕ)
@@ -335,27 +356,73 @@ module _ (t : WatchTable) where
 kept_handle : (moves : ℕ → Range → Option Range) (w v : Watch Range) → watch_after_reload moves w ≡ Some v → v.handle ≡ w.handle
 kept_handle moves w v = by_answer (moves w.port w.watched)
   where
-    moved : Range → Watch Range
-    moved watched = record w { watched = watched }
     by_answer : (o : Option Range) → option_map (λ (watched : Range). let u : Watch Range = record w { watched = watched } in u) o ≡ Some v → v.handle ≡ w.handle
     by_answer None gone = absurd (cc)
     by_answer (Some there) same = let e : (let u : Watch Range = record w { watched = there } in u) ≡ v = cc in sym (ap handle_of e)
 
--- a reload
-module _ (moves : ℕ → Range → Option Range) (ws : List (Watch Range)) (n : ℕ) where
-  pub reloaded_granted : AreGranted ws n → AreGranted (watches_after_reload moves ws) n
-  unfolding watches_after_reload
-  reloaded_granted granted = record {
-    within = All-filter_map (watch_after_reload moves) (HasNumber handle_of n) (λ w v e h. rw (kept_handle moves w v e) h) ws granted.within;
-    once = λ k.
-        let p : Watch Range → Bool = is_numbered k in
-        let fewer = length-filter_map-le (watch_after_reload moves) (filter p ws) in
-        let same = ap length (filter-filter_map handle_of (watch_after_reload moves) (kept_handle moves) k ws) in
-        omega (arith, same, fewer, length-filter p ws, length-filter p (filter_map (watch_after_reload moves) ws), granted.once k);
-  }
+-- and watches as many bytes
+kept_len : (kept : List KeptPlace) (port : ℕ) (r there : Range) → range_after kept port r ≡ Some there → watched_len there ≡ watched_len r
+kept_len kept port (Bytes area offset len) there = by_answer (moved_span kept port (value_of_area area) offset len)
+  where
+    by_answer : (o : Option (Area × ℕ)) → option_map (bytes_at len) o ≡ Some there → watched_len there ≡ len
+    by_answer None gone = absurd (cc)
+    by_answer (Some first) same = let e : bytes_at len first ≡ there = cc in sym (ap watched_len e)
+kept_len kept port (Bit area offset bit) there = by_answer (moved_span kept port (value_of_area area) offset 1)
+  where
+    by_answer : (o : Option (Area × ℕ)) → option_map (bit_at bit) o ≡ Some there → watched_len there ≡ 1
+    by_answer None gone = absurd (cc)
+    by_answer (Some byte) same = let e : bit_at bit byte ≡ there = cc in sym (ap watched_len e)
+kept_len kept port (Size area) there = λ gone. absurd (cc)
 
-  pub reloaded_table : table_from (watches_after_reload moves ws) n ≡ table_after (table_from ws n) (Reloaded moves)
+kept_watchable : (kept : List KeptPlace) (w v : Watch Range) → watch_after_reload (range_after kept) w ≡ Some v → IsWatchable w → IsWatchable v
+kept_watchable kept w v = by_answer (range_after kept w.port w.watched) (λ there. kept_len kept w.port w.watched there)
+  where
+    by_answer : (o : Option Range) → ((there : Range) → o ≡ Some there → watched_len there ≡ watched_len w.watched)
+        → option_map (λ (watched : Range). let u : Watch Range = record w { watched = watched } in u) o ≡ Some v → IsWatchable w → IsWatchable v
+    by_answer None same_len gone can = absurd (cc)
+    by_answer (Some there) same_len same can =
+        let e : (let u : Watch Range = record w { watched = there } in u) ≡ v = cc in
+        let len : watched_len v.watched ≡ watched_len w.watched = ap (λ (u : Watch Range). watched_len u.watched) (sym e) ∙ same_len there refl in
+        (omega (arith, len, can.0), omega (arith, len, can.1))
+
+-- a reload
+module _ (kept : List KeptPlace) (ws : List (Watch Range)) (n : ℕ) where
+  pub reloaded_granted : AreGranted ws n → AreGranted (watches_after_reload (range_after kept) ws) n
+  unfolding watches_after_reload
+  reloaded_granted granted =
+      let g : Watch Range → Option (Watch Range) = watch_after_reload (range_after kept) in
+      record {
+        within = All-filter_map g (HasNumber handle_of n) (λ w v e h. rw (kept_handle (range_after kept) w v e) h) ws granted.within;
+        once = λ k.
+            let p : Watch Range → Bool = is_numbered k in
+            let fewer = length-filter_map-le g (filter p ws) in
+            let same = ap length (filter-filter_map handle_of g (kept_handle (range_after kept)) k ws) in
+            omega (arith, same, fewer, length-filter p ws, length-filter p (filter_map g ws), granted.once k);
+        few = omega (arith, length-filter_map-le g ws, granted.few);
+        watched = All-filter_map g IsWatchable (kept_watchable kept) ws granted.watched;
+      }
+
+  pub reloaded_table : table_from (watches_after_reload (range_after kept) ws) n ≡ table_after (table_from ws n) (Reloaded (range_after kept))
   unfolding watches_after_reload
   reloaded_table =
       ap (λ (l : List (Watch Range)). let t : WatchTable = record { watches = l; additions = n } in t)
-      (sym (by_number-filter_map handle_of (watch_after_reload moves) (kept_handle moves) n ws))
+      (sym (by_number-filter_map handle_of (watch_after_reload (range_after kept)) (kept_handle (range_after kept)) n ws))
+
+-- what holds of every table
+pub table_holds : (ws : List (Watch Range)) (n : ℕ) → AreGranted ws n → IsTable (table_from ws n)
+table_holds ws n granted = record {
+  rise = by_number-rises handle_of n ws granted.once;
+  granted = All-by_number handle_of n (HasNumber handle_of n) ws granted.within;
+  few = omega (arith, length-by_number handle_of n ws granted.within, granted.few);
+  watched = All-by_number handle_of n IsWatchable ws granted.watched;
+}
+
+-- the handles of those that pass a test rise
+pub handles_rise : (p : Watch Range → Bool) (ws : List (Watch Range)) (n : ℕ) → AreGranted ws n
+    → IsStrictlyIncreasing (map handle_of (filter p (by_number handle_of n ws)))
+handles_rise p ws n granted =
+    subst (λ (vs : List (Watch Range)). IsStrictlyIncreasing (map handle_of vs)) (sym (by_number-filter handle_of p n ws))
+    (by_number-rises handle_of n (filter p ws) (λ k.
+        let q : Watch Range → Bool = is_numbered k in
+        let same = ap length (filter-filter q p ws) in
+        omega (arith, length-filter q (filter p ws), length-filter q ws, same, count_by-le-length p (filter q ws), length-filter p (filter q ws), granted.once k)))

@@ -1,8 +1,9 @@
 -- Notifications by rising handle. Private: no public clause cites this file.
-use Rattle.std.specs.Prelude.{ℕ, zero, suc, ◌<◌, ◌≤◌, List, [], ◌++◌, ◌==◌, filter, All, IsSome}
+use Rattle.std.specs.Prelude.{ℕ, zero, suc, ◌<◌, ◌≤◌, List, [], ◌++◌, ◌==◌, length, filter, All, IsSome}
 use Rattle.ads_formats.specs.Ranges.{Range}
 use Rattle.ads_machine.specs.Watches.{Watch}
-use Rattle.notify_table.specs.Table.{WatchTable, handle_of, watch_of_handle}
+use Rattle.notify_table.specs.Table.{WatchTable, handle_of, watch_of_handle, IsWatchable}
+use Rattle.ads_machine.specs.Requests.{MAX_WATCHES}
 use Rattle.notify_table.specs.Schedules.{OncePer, watch_in}
 use Rattle.notify_table.specs.Reloads.{EndedWatch, end_of}
 
@@ -14,10 +15,12 @@ by_number n (suc k) xs = by_number n k xs ++ filter (λ x. n x == suc k) xs
 abbrev pub HasNumber : {X : Type 0} → (X → ℕ) → ℕ → X → Type 0
 HasNumber n most x = (0 < n x) × (n x ≤ most)
 
--- each live notification has a granted handle of its own
+-- each live notification has a granted handle of its own; they are few, and each may be watched
 pub record AreGranted (watches : List (Watch Range)) (granted : ℕ) : Type 0 where
   pub within : All (HasNumber handle_of granted) watches
   pub once : OncePer handle_of watches
+  pub few : length watches ≤ MAX_WATCHES
+  pub watched : All IsWatchable watches
 
 -- what is live, and how many were granted
 abbrev pub table_from : List (Watch Range) → ℕ → WatchTable

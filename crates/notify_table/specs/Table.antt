@@ -1,8 +1,9 @@
 -- The notifications of one connection, and what becomes of them.
 -- Beckhoff Information System, "ADS Add Device Notification", "ADS Delete Device Notification".
-use Rattle.std.specs.Prelude.{◌≡◌, ℕ, ◌+◌, ◌<◌, ◌≤◌, List, [], ◌∷◌, ◌++◌, length, map, filter, fold, find}
+use Rattle.std.specs.Prelude.{◌≡◌, ℕ, ◌+◌, ◌<◌, ◌≤◌, List, [], ◌∷◌, ◌++◌, length, map, filter, fold, find, All}
 use Rattle.std.specs.Prelude.{Bool, ◌||◌, ◌&&◌, not, ◌==◌, nat_le, if◌then◌else◌, Option}
 use Rattle.std.specs.List.{list_any}
+use Rattle.std.specs.List.Sorted.{IsStrictlyIncreasing}
 use Rattle.ads_formats.specs.Ranges.{Range, Bytes, Bit, Size}
 use Rattle.ads_machine.specs.Watches.{Watch, is_due, checked_watch, watches_after_reload}
 use Rattle.ads_machine.specs.Requests.{MAX_WATCHED, MAX_WATCHES}
@@ -50,6 +51,17 @@ handle_of w = w.handle
 -- the handles of the notifications whose check is due at a moment
 abbrev pub due_handles : ℕ → WatchTable → List ℕ
 due_handles now t = map handle_of (filter (λ (w : Watch Range). is_due now w) t.watches)
+
+abbrev pub IsWatchable : Watch Range → Type 0
+IsWatchable w = CanBeWatched w.watched
+
+-- what holds of the notifications of a connection, whatever happened to them: handles rise and were
+-- granted, at most 512 are live, and each may be watched
+pub record IsTable (t : WatchTable) : Type 0 where
+  pub rise : IsStrictlyIncreasing (map handle_of t.watches)
+  pub granted : All (λ w. (0 < w.handle) × (w.handle ≤ t.additions)) t.watches
+  pub few : length t.watches ≤ MAX_WATCHES
+  pub watched : All IsWatchable t.watches
 
 -- what changes the notifications of a connection: one is added; one is deleted; the one with this
 -- handle is checked at a moment, where these are its bytes; a reload, which tells what is watched

@@ -60,7 +60,8 @@ impl Schedule {
     // Adds a notification, whose first check is due at once. All memory that its checks need is taken here.
     pub fn add(&mut self, alloc: Global, handle: u32, spec: Spec) -> Result<(), NoMemory>
         requires { CanBeWatched (range_meant spec.reach) }
-        ensures ok { OnOk result ((place : ℕ) × (self.new ≡ insert self.old place (new_watch handle spec))) }
+        ensures ok { OnOk result ((place : ℕ) × (place ≤ length self.old)
+            × (self.new ≡ insert self.old place (new_watch handle spec))) }
         ensures no_memory { OnErr result (self.new ≡ self.old) }
     {
         let record = Record::new(alloc, handle, spec)?;
@@ -103,7 +104,7 @@ impl Schedule {
         requires there { at < length self.old }
         requires len { length bytes.now ≡ watched_len (nth_watch self.old at).watched }
         ensures sent { result ≡ is_sent bytes.now (nth_watch self.old at) }
-        ensures new { (place : ℕ) × (self.new ≡ insert (remove self.old at) place
+        ensures new { (place : ℕ) × (place ≤ length (remove self.old at)) × (self.new ≡ insert (remove self.old at) place
             (after_check now bytes.now (nth_watch self.old at))) }
     {
         let turn = self.turns.remove(at);

@@ -1,10 +1,11 @@
 //! The notifications of one connection.
 
 ghost use Rattle.std.specs.Prelude.{◌≡◌, ◌+◌, ◌<◌, ◌≤◌, ◌↔◌, ◌==◌, not, false, filter, map, All, length, option_map, IsTrue, IsOk, IsErr, IsSomeAnd, IfSome, IfOk, IfErr, OnOk, OnErr};
+ghost use Rattle.std.specs.List.Sorted.{IsStrictlyIncreasing};
 ghost use Rattle.ads_machine.specs.Watches.{is_due, is_sent, ended_watches};
 ghost use Rattle.notify_table.specs.Access.{range_meant};
 ghost use Rattle.notify_table.specs.Specs.{new_watch, before_checks};
-ghost use Rattle.notify_table.specs.Table.{watched_len, CanBeWatched, no_watches, is_full, is_live, watch_of_handle, due_handles, table_after, Added, Deleted, Checked, Reloaded};
+ghost use Rattle.notify_table.specs.Table.{watched_len, CanBeWatched, no_watches, is_full, is_live, watch_of_handle, due_handles, table_after, IsTable, Added, Deleted, Checked, Reloaded};
 ghost use Rattle.notify_table.specs.Reloads.{range_after, end_of, ended_meant};
 ghost use Rattle.notify_table.specs.Numbered.{IsLive, end_of_handle};
 
@@ -74,7 +75,7 @@ impl Watches {
 
     fn is_full(&self) -> bool
         ensures full { result ≡ is_full self.now }
-        ensures room { result ≡ false → self.now.additions < 4294967295 }
+        ensures room { result ≡ false → (length self.now.watches < 512) × (self.now.additions < 4294967295) }
     {
         self.schedule.len() >= MAX_LIVE || self.granted == u32::MAX
     }
@@ -99,7 +100,8 @@ impl Watches {
 
     /// What a live notification was added as, and what it watches now.
     pub fn spec(&self, handle: u32) -> Option<Spec>
-        ensures { option_map (new_watch handle) result ≡ option_map before_checks (watch_of_handle handle self.now) }
+        ensures spec { option_map (new_watch handle) result ≡ option_map before_checks (watch_of_handle handle self.now) }
+        ensures table { IsTable self.now }
     {
         let at = self.schedule.find(handle)?;
         Some(self.schedule.spec(at))
@@ -115,6 +117,8 @@ impl Watches {
         steps: &mut Steps<L>,
     ) -> Result<Handles32, NoMemory>
         ensures due { IfOk result (λ handles. handles ≡ due_handles now self.now) }
+        ensures rising { IfOk result IsStrictlyIncreasing }
+        ensures table { IsTable self.now }
         ensures cost { steps.new ≤ steps.old + (length (due_handles now self.now) + 1) }
     {
         let mut handles = self.schedule.due(alloc, now, steps)?;

@@ -1,4 +1,6 @@
-use Rattle.std.proofs.Common.{◌≡◌, sym, refl, ap, subst, ◌∙◌}
+use Rattle.std.proofs.Common.{◌≡◌, sym, refl, ap, subst, ◌∙◌, arith, length}
+use Rattle.std.proofs.lemmas.List.{length-map}
+use Rattle.std.proofs.lemmas.List.Edits.{length-remove}
 use Rattle.notify_table.proofs.ScheduleLemmas.{others_in_turn, changed_scheduled, changed_watches, within_turns, nth_is, Keeps-checked, keeps_of}
 use Rattle.slab.specs.Slab.{get}
 use Rattle.ads_machine.specs.Watches.{after_check}
@@ -28,6 +30,8 @@ returns-clause-new c =
     let within = within_turns c.self.inside.records c.self.inside.turns.items c.args.self.now c.args.at c.self.view_is c.requires.there in
     (
       c.put_turn.ensures.put.0,
+      omega (arith, c.put_turn.ensures.put.1, c.remove-turn.ensures.len, length-map c.self.inside.turns.items (watch_at c.self.inside.records), ap length c.self.view_is,
+        length-remove c.args.self.now c.args.at c.requires.there),
       rw (nth_is c.self.inside.records c.self.inside.turns.items c.args.self.now c.args.at c.remove-turn.result c.self.view_is within c.remove-turn.ensures.value)
       (changed_watches c.self.inside.records c.check_record-sent.new.records c.self.inside.turns.items c.remove-turn.new.self.items c.args.self.now c.args.at
         c.remove-turn.result c.put_turn.new.turns.items c.put_turn.ensures.put.0

@@ -11,7 +11,7 @@ check-requires-clause-len c =
 pub invariant_of-self : goal.invariant_of-self
 invariant_of-self c =
     let f = found c.self.inside.schedule c.self.inside.granted c.args.handle c.in-Some.at c.self.invariant (sym c.in-Some.ensures) in
-    rw c.check.ensures.new.1 (checked_granted c.self.inside.schedule c.self.inside.granted c.args.handle c.args.now c.args.bytes.now c.in-Some.at c.check.ensures.new.0 c.self.invariant f)
+    rw c.check.ensures.new.2 (checked_granted c.self.inside.schedule c.self.inside.granted c.args.handle c.args.now c.args.bytes.now c.in-Some.at c.check.ensures.new.0 c.check.ensures.new.1 c.self.invariant f)
 
 pub unreachable-requires : goal.unreachable-requires
 unreachable-requires c =
@@ -27,7 +27,7 @@ pub returns-clause-watches : goal.returns-clause-watches
 returns-clause-watches c =
     let f = found c.self.inside.schedule c.self.inside.granted c.args.handle c.in-Some.at c.self.invariant (sym c.in-Some.ensures) in
     let due = (checkable c.self.inside.schedule c.self.inside.granted c.args.handle c.args.now c.args.bytes.now c.args.self.now c.in-Some.at c.self.view_is f c.requires).0 in
-    rw (← c.self.view_is, c.check.ensures.new.1)
+    rw (← c.self.view_is, c.check.ensures.new.2)
     (checked_table c.self.inside.schedule c.self.inside.granted c.args.handle c.args.now c.args.bytes.now c.in-Some.at c.check.ensures.new.0 f due)
 
 pub returns-clause-others_due : goal.returns-clause-others_due

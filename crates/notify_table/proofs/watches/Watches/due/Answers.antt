@@ -1,8 +1,9 @@
-use Rattle.std.proofs.Common.{◌≡◌, ◌≤◌, refl, sym, ap, ◌∙◌, arith, length}
+use Rattle.std.proofs.Common.{◌≡◌, ◌≤◌, refl, sym, ap, ◌∙◌, arith, length, subst}
+use Rattle.std.specs.List.Sorted.{IsStrictlyIncreasing}
 use Rattle.std.proofs.lemmas.List.Sorted.{IsNonDecreasingBy-from_sort}
 use Rattle.ads_formats.specs.Ranges.{Range}
 use Rattle.ads_machine.specs.Watches.{Watch, is_due}
-use Rattle.notify_table.proofs.TableLemmas.{handles_sorted, due_count}
+use Rattle.notify_table.proofs.TableLemmas.{handles_sorted, due_count, table_holds, handles_rise}
 use Rattle.notify_table.proofs.watches.Watches.due.Goals as goal
 
 pub returns-in_err-handles-clause-cost : goal.returns-in_err-handles-clause-cost
@@ -20,3 +21,14 @@ returns-clause-due g c =
 pub returns-clause-cost : goal.returns-clause-cost
 returns-clause-cost g c =
     rw (← c.self.view_is, due_count c.args.now c.self.inside.schedule c.self.inside.granted c.self.invariant) c.due.ensures.cost
+
+pub returns-in_err-handles-clause-table : goal.returns-in_err-handles-clause-table
+returns-in_err-handles-clause-table g c = rw (← c.self.view_is) (table_holds c.self.inside.schedule c.self.inside.granted c.self.invariant)
+
+pub returns-clause-table : goal.returns-clause-table
+returns-clause-table g c = rw (← c.self.view_is) (table_holds c.self.inside.schedule c.self.inside.granted c.self.invariant)
+
+pub returns-clause-rising : goal.returns-clause-rising
+returns-clause-rising g c =
+    subst IsStrictlyIncreasing (sym (returns-clause-due g c))
+    (rw (← c.self.view_is) (handles_rise (λ (w : Watch Range). is_due c.args.now w) c.self.inside.schedule c.self.inside.granted c.self.invariant))
