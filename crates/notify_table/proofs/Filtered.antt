@@ -97,7 +97,7 @@ module _ {X : Type 0} (n : X → ℕ) where
       let here : cond {A = ℕ} (nat_eq number number) 1 0 ≡ 1 = rw (eq-eqb number number refl) refl in
       let most = once number in
       let misses : nat_eq (n (get_or (remove xs i) k e)) number ≡ false =
-          none_counted (λ x. nat_eq (n x) number) (remove xs i) (omega (arith, taken, here, most)) k e below in
+      none_counted (λ x. nat_eq (n x) number) (remove xs i) (omega (arith, taken, here, most)) k e below in
       eqb-false _ _ misses same
 
   pub OncePer-remove : (xs : List X) (i : ℕ) (d : X) → OncePer n xs → i < length xs → OncePer n (remove xs i)
@@ -111,7 +111,7 @@ module _ {X : Type 0} (n : X → ℕ) where
       elim (cases_eq (n y) k) [
         | inl same ↦
             let none : count_by (λ x. nat_eq (n x) k) xs ≡ 0 =
-                counted_none (λ x. nat_eq (n x) k) xs (λ j d below. ne_eqb _ _ (λ e. fresh j d below (e ∙ sym same))) in
+            counted_none (λ x. nat_eq (n x) k) xs (λ j d below. ne_eqb _ _ (λ e. fresh j d below (e ∙ sym same))) in
             let one : cond {A = ℕ} (nat_eq (n y) k) 1 0 ≤ 1 = rw (eq-eqb _ _ same) (omega arith) in
             omega (arith, put, none, one)
         | inr other ↦

@@ -3,3 +3,4 @@ pub mod TurnLemmas
 pub mod ScheduleLemmas
 pub mod NumberedLemmas
 pub mod TableLemmas
+pub mod CallerLemmas

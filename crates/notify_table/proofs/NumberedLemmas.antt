@@ -18,13 +18,13 @@ filter-filter p q (x ∷ xs) =
     let rest = filter-filter p q xs in
     elim (cases_Bool (p x)) [
       | inl passes ↦ elim (cases_Bool (q x)) [
-          | inl both ↦ rw (both, passes, both, rest) refl
-          | inr one ↦ rw (one, passes, one) rest
-        ]
+        | inl both ↦ rw (both, passes, both, rest) refl
+        | inr one ↦ rw (one, passes, one) rest
+      ]
       | inr fails ↦ elim (cases_Bool (q x)) [
-          | inl one ↦ rw (one, fails) rest
-          | inr neither ↦ rw (neither, fails) rest
-        ]
+        | inl one ↦ rw (one, fails) rest
+        | inr neither ↦ rw (neither, fails) rest
+      ]
     ]
 
 pub filter-map : {X Y : Type 0} (q : Y → Bool) (f : X → Y) (xs : List X) → filter q (map f xs) ≡ map f (filter (λ x. q (f x)) xs)
@@ -97,8 +97,8 @@ pub by_number-map : {X Y : Type 0} (n : X → ℕ) (m : Y → ℕ) (f : X → Y)
 by_number-map n m f keeps zero xs = refl
 by_number-map n m f keeps (suc k) xs =
     let here : filter (λ y. nat_eq (m y) (suc k)) (map f xs) ≡ map f (filter (λ x. nat_eq (n x) (suc k)) xs) =
-        filter-map (λ y. nat_eq (m y) (suc k)) f xs
-        ∙ ap (map f) (filter_agree (λ x. nat_eq (m (f x)) (suc k)) (λ x. nat_eq (n x) (suc k)) (λ x. ap (λ v. nat_eq v (suc k)) (keeps x)) xs) in
+    filter-map (λ y. nat_eq (m y) (suc k)) f xs
+    ∙ ap (map f) (filter_agree (λ x. nat_eq (m (f x)) (suc k)) (λ x. nat_eq (n x) (suc k)) (λ x. ap (λ v. nat_eq v (suc k)) (keeps x)) xs) in
     map-append f (by_number n k xs) (filter (λ x. nat_eq (n x) (suc k)) xs) ∙ rw (by_number-map n m f keeps k xs, here) refl
 
 -- numbers that do not fall stand by number
@@ -142,11 +142,11 @@ pub by_number-permuted : {X : Type 0} (n : X → ℕ) (k : ℕ) (vs : List X) (x
     → All (HasNumber n k) vs → xs ≡ map n (by_number n k vs)
 by_number-permuted n k vs xs permuted rises numbered =
     let all : All (HasNumber (λ y. y) k) xs =
-        All-permutation (HasNumber (λ y. y) k) (map n vs) xs permuted (All-map (HasNumber (λ y. y) k) n vs numbered) in
+    All-permutation (HasNumber (λ y. y) k) (map n vs) xs permuted (All-map (HasNumber (λ y. y) k) n vs numbered) in
     let same : (j : ℕ) → filter (λ y. nat_eq y j) xs ≡ filter (λ y. nat_eq y j) (map n vs) = λ j.
-        copies j xs
-        ∙ ap (λ c. replicate c j) (sum_by-IsPermutation (λ y. cond (nat_eq y j) 1 0) (map n vs) xs permuted)
-        ∙ sym (copies j (map n vs)) in
+    copies j xs
+    ∙ ap (λ c. replicate c j) (sum_by-IsPermutation (λ y. cond (nat_eq y j) 1 0) (map n vs) xs permuted)
+    ∙ sym (copies j (map n vs)) in
     sym (by_number-sorted k xs rises all) ∙ by_number-same (λ y. y) k xs (map n vs) same
     ∙ sym (by_number-map n (λ y. y) n (λ x. refl) k vs)
 
@@ -228,7 +228,7 @@ module _ {X : Type 0} (n : X → ℕ) where
   by_number-rises (suc k) xs once =
       rw (map-append n (by_number n k xs) (filter (λ x. nat_eq (n x) (suc k)) xs))
       (rises_more k (map n (by_number n k xs)) (map n (filter (λ x. nat_eq (n x) (suc k)) xs)) (by_number-rises k xs once)
-        (All-map (λ y. y ≤ k) n (by_number n k xs) (by_number-most k xs))
-        (All-map (λ y. y ≡ suc k) n (filter (λ x. nat_eq (n x) (suc k)) xs)
-          (λ j d below. eqb-true _ _ (filter_passes (λ x. nat_eq (n x) (suc k)) xs j d below)))
-        (omega (arith, length-map (filter (λ x. nat_eq (n x) (suc k)) xs) n, length-filter (λ x. nat_eq (n x) (suc k)) xs, once (suc k))))
+      (All-map (λ y. y ≤ k) n (by_number n k xs) (by_number-most k xs))
+      (All-map (λ y. y ≡ suc k) n (filter (λ x. nat_eq (n x) (suc k)) xs)
+      (λ j d below. eqb-true _ _ (filter_passes (λ x. nat_eq (n x) (suc k)) xs j d below)))
+      (omega (arith, length-map (filter (λ x. nat_eq (n x) (suc k)) xs) n, length-filter (λ x. nat_eq (n x) (suc k)) xs, once (suc k))))

@@ -61,11 +61,11 @@ in_turn-remove ts i within in_turn = record {
       let shorter = length-remove ts i within in
       elim (cases_lt j i) [
         | inl j_below ↦ elim (cases_lt k i) [
-            | inl k_below ↦ rw (get_or-remove_below ts i d j j_below within, get_or-remove_below ts i d k k_below within)
-                (in_turn.rise j k d before (omega arith))
-            | inr k_above ↦ rw (get_or-remove_below ts i d j j_below within, get_or-remove_above ts i d k k_above within)
-                (in_turn.rise j (k + 1) d (omega arith) (omega arith))
-          ]
+          | inl k_below ↦ rw (get_or-remove_below ts i d j j_below within, get_or-remove_below ts i d k k_below within)
+              (in_turn.rise j k d before (omega arith))
+          | inr k_above ↦ rw (get_or-remove_below ts i d j j_below within, get_or-remove_above ts i d k k_above within)
+              (in_turn.rise j (k + 1) d (omega arith) (omega arith))
+        ]
         | inr j_above ↦
             let k_above : i ≤ k = omega arith in
             rw (get_or-remove_above ts i d j j_above within, get_or-remove_above ts i d k k_above within)
@@ -227,14 +227,19 @@ settled g old new place next within step = by_answer (g (nth_watch old place)) r
   where
     front : length (take place old) ≡ place
     front = length-take-le place old (omega (arith, within))
+
     same_front : take place (remove old place) ≡ take place old
     same_front = take_at (take place old) (drop (suc place) old) place front
+
     same_back : drop place (remove old place) ≡ drop (suc place) old
     same_back = drop_at (take place old) (drop (suc place) old) place front
+
     shorter : length (remove old place) + 1 ≡ length old
     shorter = length-remove old place within
+
     cell : drop place old ≡ nth_watch old place ∷ drop (suc place) old
     cell = drop-cons old place no_watch within
+
     by_answer : (o : Option (Watch Range)) → g (nth_watch old place) ≡ o → IsSettled o old new place next → IsStep g old new place next
     by_answer None ended (new_is, next_is) = record {
       within = rw (new_is, next_is) (omega (arith, shorter, within));
@@ -243,14 +248,20 @@ settled g old new place next within step = by_answer (g (nth_watch old place)) r
     }
     by_answer (Some w) moved (new_is, next_is) =
         let parts : new ≡ (take place old ++ w ∷ []) ++ drop (suc place) old =
-            new_is ∙ rw (same_front, same_back, append_assoc (take place old) (w ∷ []) (drop (suc place) old)) refl in
+        new_is ∙ rw (same_front, same_back, append_assoc (take place old) (w ∷ []) (drop (suc place) old)) refl in
         let long : length (take place old ++ w ∷ []) ≡ place + 1 = omega (arith, length-append (take place old) (w ∷ []), front) in
         let total = ap length new_is ∙ length-insert (remove old place) place w (omega (arith, shorter, within)) in
         record {
           within = omega (arith, total, next_is, shorter);
-          left = rw (next_is, parts, take_at (take place old ++ w ∷ []) (drop (suc place) old) (place + 1) long,
-            drop_at (take place old ++ w ∷ []) (drop (suc place) old) (place + 1) long, cell, moved)
-            (append_assoc (take place old) (w ∷ []) (filter_map g (drop (suc place) old)));
+          left = rw (
+            next_is,
+            parts,
+            take_at (take place old ++ w ∷ []) (drop (suc place) old) (place + 1) long,
+            drop_at (take place old ++ w ∷ []) (drop (suc place) old) (place + 1) long,
+            cell,
+            moved,
+          )
+              (append_assoc (take place old) (w ∷ []) (filter_map g (drop (suc place) old)));
           less = omega (arith, total, next_is, shorter, within);
         }
 

@@ -68,12 +68,12 @@ found ws n h i granted at_place =
     let there = position-Some (is_numbered h) ws i no_watch at_place in
     let same : (nth_watch ws i).handle ≡ h = eqb-true _ _ there.1 in
     let apart : All (λ (w : Watch Range). w.handle ≢ h) (remove ws i) =
-        λ k d below e. OncePer-others handle_of ws i no_watch granted.once there.0 k d below (e ∙ sym same) in
+    λ k d below e. OncePer-others handle_of ws i no_watch granted.once there.0 k d below (e ∙ sym same) in
     let one : filter (is_numbered h) ws ≡ nth_watch ws i ∷ [] =
-        filter_one (is_numbered h) ws i no_watch there.0 there.1 (λ k d below. ne_eqb _ _ (apart k d below)) in
+    filter_one (is_numbered h) ws i no_watch there.0 there.1 (λ k d below. ne_eqb _ _ (apart k d below)) in
     let all : filter (is_numbered h) (by_number handle_of n ws) ≡ nth_watch ws i ∷ [] =
-        by_number-filter handle_of (is_numbered h) n ws ∙ ap (by_number handle_of n) one
-        ∙ by_number-one handle_of n (nth_watch ws i) (All-get_or (HasNumber handle_of n) ws i no_watch there.0 granted.within) in
+    by_number-filter handle_of (is_numbered h) n ws ∙ ap (by_number handle_of n) one
+    ∙ by_number-one handle_of n (nth_watch ws i) (All-get_or (HasNumber handle_of n) ws i no_watch there.0 granted.within) in
     record {
       within = there.0;
       numbered = same;
@@ -127,7 +127,7 @@ module _ (ws : List (Watch Range)) (n h : ℕ) where
   pub removed_table : (i : ℕ) → IsFound ws n h i → table_from (remove ws i) n ≡ table_after (table_from ws n) (Deleted h)
   removed_table i f =
       let same : by_number handle_of n (remove ws i) ≡ filter (λ w. not (is_numbered h w)) (by_number handle_of n ws) =
-          ap (by_number handle_of n) (sym (removed_filter i f)) ∙ sym (by_number-filter handle_of (λ w. not (is_numbered h w)) n ws) in
+      ap (by_number handle_of n) (sym (removed_filter i f)) ∙ sym (by_number-filter handle_of (λ w. not (is_numbered h w)) n ws) in
       ap (λ (l : List (Watch Range)). let t : WatchTable = record { watches = l; additions = n } in t) same
 
 -- how many are live
@@ -152,14 +152,14 @@ module _ (ws : List (Watch Range)) (n place : ℕ) (w : Watch Range) where
   pub added_table : AreGranted ws n → w.handle ≡ n + 1 → table_from (insert ws place w) (n + 1) ≡ table_after (table_from ws n) (Added w)
   added_table granted next =
       let older : by_number handle_of n (insert ws place w) ≡ by_number handle_of n ws =
-          by_number-upto handle_of n (insert ws place w) ws
-          (λ j most. filter-insert_no (is_numbered j) ws place w (ne_eqb _ _ (λ e. omega arith))) in
+      by_number-upto handle_of n (insert ws place w) ws
+      (λ j most. filter-insert_no (is_numbered j) ws place w (ne_eqb _ _ (λ e. omega arith))) in
       let last : filter (is_numbered (suc n)) (insert ws place w) ≡ w ∷ [] =
-          filter-insert_yes (is_numbered (suc n)) ws place w (eq-eqb _ _ (omega arith))
-          (λ k d below. ne_eqb _ _ (λ e. let most = (granted.within k d below).1 in omega arith)) in
+      filter-insert_yes (is_numbered (suc n)) ws place w (eq-eqb _ _ (omega arith))
+      (λ k d below. ne_eqb _ _ (λ e. let most = (granted.within k d below).1 in omega arith)) in
       let next_is : n + 1 ≡ suc n = omega arith in
       let same : by_number handle_of (n + 1) (insert ws place w) ≡ by_number handle_of n ws ++ w ∷ [] =
-          rw next_is (rw (older, last) refl) in
+      rw next_is (rw (older, last) refl) in
       ap (λ (l : List (Watch Range)). let t : WatchTable = record { watches = l; additions = n + 1 } in t) same
 
 -- all pass a test and are left by a change that changes none that passes
@@ -189,9 +189,9 @@ handle-checked_where : (h now : ℕ) (bytes : List ℕ) (w : Watch Range) → (c
 handle-checked_where h now bytes w =
     elim (cases_Bool (is_numbered h w)) [
       | inl numbered ↦ elim (cases_Bool (is_due now w)) [
-          | inl due ↦ rw (numbered, due) (handle-after_check now bytes w)
-          | inr early ↦ rw (numbered, early) refl
-        ]
+        | inl due ↦ rw (numbered, due) (handle-after_check now bytes w)
+        | inr early ↦ rw (numbered, early) refl
+      ]
       | inr other ↦ rw other refl
     ]
 
@@ -205,13 +205,14 @@ not_due-checked h now bytes w numbered =
   where
     past : is_due_after now w.cycle (Some now) ≡ false
     past = lt-leb (max w.cycle 1) (now - now) (omega arith)
+
     by_sent : (sent : Bool) → is_due now (cond sent (record w { last = Some now; sent = bytes }) (record w { last = Some now })) ≡ false
     by_sent true = past
     by_sent false = past
 
 pub others_due : (h now : ℕ) (bytes : List ℕ) (ws : List (Watch Range))
     → map handle_of (filter (λ (w : Watch Range). is_due now w) (map (checked_where h now bytes) ws))
-      ≡ filter (λ k. not (nat_eq k h)) (map handle_of (filter (λ (w : Watch Range). is_due now w) ws))
+    ≡ filter (λ k. not (nat_eq k h)) (map handle_of (filter (λ (w : Watch Range). is_due now w) ws))
 others_due h now bytes [] = refl
 others_due h now bytes (w ∷ ws) =
     let rest = others_due h now bytes ws in
@@ -231,7 +232,6 @@ others_due h now bytes (w ∷ ws) =
 
 -- one is checked, and stands elsewhere in the schedule
 module _ (ws : List (Watch Range)) (n h now : ℕ) (bytes : List ℕ) (i place : ℕ) where
-
   checked_handle : IsFound ws n h i → (after_check now bytes (nth_watch ws i)).handle ≡ h
   checked_handle f = handle-after_check now bytes (nth_watch ws i) ∙ f.numbered
 
@@ -254,29 +254,29 @@ module _ (ws : List (Watch Range)) (n h now : ℕ) (bytes : List ℕ) (i place :
 
   checked_numbered : IsFound ws n h i → is_due now (nth_watch ws i) ≡ true → (j : ℕ)
       → filter (is_numbered j) (insert (remove ws i) place (after_check now bytes (nth_watch ws i)))
-        ≡ filter (is_numbered j) (map (checked_where h now bytes) ws)
+      ≡ filter (is_numbered j) (map (checked_where h now bytes) ws)
   checked_numbered f due j =
       let w : Watch Range = after_check now bytes (nth_watch ws i) in
       let mapped : filter (is_numbered j) (map (checked_where h now bytes) ws) ≡ map (checked_where h now bytes) (filter (is_numbered j) ws) =
-          filter-map (is_numbered j) (checked_where h now bytes) ws
-          ∙ ap (map (checked_where h now bytes)) (filter_agree (λ v. is_numbered j (checked_where h now bytes v)) (is_numbered j)
-              (λ v. ap (λ k. nat_eq k j) (handle-checked_where h now bytes v)) ws) in
+      filter-map (is_numbered j) (checked_where h now bytes) ws
+      ∙ ap (map (checked_where h now bytes)) (filter_agree (λ v. is_numbered j (checked_where h now bytes v)) (is_numbered j)
+      (λ v. ap (λ k. nat_eq k j) (handle-checked_where h now bytes v)) ws) in
       elim (cases_eq j h) [
         | inl same ↦
             let put : filter (is_numbered j) (insert (remove ws i) place w) ≡ w ∷ [] =
-                filter-insert_yes (is_numbered j) (remove ws i) place w (eq-eqb _ _ (checked_handle f ∙ sym same))
-                (λ k d below. ne_eqb _ _ (λ e. f.others k d below (e ∙ same))) in
+            filter-insert_yes (is_numbered j) (remove ws i) place w (eq-eqb _ _ (checked_handle f ∙ sym same))
+            (λ k d below. ne_eqb _ _ (λ e. f.others k d below (e ∙ same))) in
             let alone : filter (is_numbered j) ws ≡ nth_watch ws i ∷ [] = rw same f.alone in
             let here : checked_where h now bytes (nth_watch ws i) ≡ w = rw (eq-eqb _ _ f.numbered, due) refl in
             put ∙ sym (mapped ∙ rw (alone, here) refl)
         | inr other ↦
             let put : filter (is_numbered j) (insert (remove ws i) place w) ≡ filter (is_numbered j) ws =
-                filter-insert_no (is_numbered j) (remove ws i) place w (ne_eqb _ _ (λ e. other (sym e ∙ checked_handle f)))
-                ∙ filter-remove_no (is_numbered j) ws i no_watch f.within (ne_eqb _ _ (λ e. other (sym e ∙ f.numbered))) in
+            filter-insert_no (is_numbered j) (remove ws i) place w (ne_eqb _ _ (λ e. other (sym e ∙ checked_handle f)))
+            ∙ filter-remove_no (is_numbered j) ws i no_watch f.within (ne_eqb _ _ (λ e. other (sym e ∙ f.numbered))) in
             let left : map (checked_where h now bytes) (filter (is_numbered j) ws) ≡ filter (is_numbered j) ws =
-                map_same (checked_where h now bytes) (filter (is_numbered j) ws)
-                (λ k d below. let number = eqb-true _ _ (filter_passes (is_numbered j) ws k d below) in
-                  rw (ne_eqb (get_or (filter (is_numbered j) ws) k d).handle h (λ e. other (sym number ∙ e))) refl) in
+            map_same (checked_where h now bytes) (filter (is_numbered j) ws)
+            (λ k d below. let number = eqb-true _ _ (filter_passes (is_numbered j) ws k d below) in
+            rw (ne_eqb (get_or (filter (is_numbered j) ws) k d).handle h (λ e. other (sym number ∙ e))) refl) in
             put ∙ sym (mapped ∙ left)
       ]
 
@@ -284,8 +284,8 @@ module _ (ws : List (Watch Range)) (n h now : ℕ) (bytes : List ℕ) (i place :
       → table_from (insert (remove ws i) place (after_check now bytes (nth_watch ws i))) n ≡ table_after (table_from ws n) (Checked h now bytes)
   checked_table f due =
       let same : by_number handle_of n (insert (remove ws i) place (after_check now bytes (nth_watch ws i))) ≡ map (checked_where h now bytes) (by_number handle_of n ws) =
-          by_number-same handle_of n _ (map (checked_where h now bytes) ws) (checked_numbered f due)
-          ∙ sym (by_number-map handle_of handle_of (checked_where h now bytes) (handle-checked_where h now bytes) n ws) in
+      by_number-same handle_of n _ (map (checked_where h now bytes) ws) (checked_numbered f due)
+      ∙ sym (by_number-map handle_of handle_of (checked_where h now bytes) (handle-checked_where h now bytes) n ws) in
       ap (λ (l : List (Watch Range)). let t : WatchTable = record { watches = l; additions = n } in t) same
 
 -- the handles of those that pass a test, once they are in order
@@ -326,7 +326,7 @@ listed_once ws n granted k =
     let p : Watch Range → Bool = is_numbered k in
     let listed = length-filter p (by_number handle_of n ws) in
     let same = ap length (by_number-filter handle_of p n ws)
-        ∙ length-by_number handle_of n (filter p ws) (All-filter p (HasNumber handle_of n) ws granted.within) in
+    ∙ length-by_number handle_of n (filter p ws) (All-filter p (HasNumber handle_of n) ws granted.within) in
     omega (arith, listed, same, length-filter p ws, granted.once k)
 
 pub live_listed : (ws : List (Watch Range)) (n : ℕ) → AreGranted ws n
@@ -423,6 +423,6 @@ pub handles_rise : (p : Watch Range → Bool) (ws : List (Watch Range)) (n : ℕ
 handles_rise p ws n granted =
     subst (λ (vs : List (Watch Range)). IsStrictlyIncreasing (map handle_of vs)) (sym (by_number-filter handle_of p n ws))
     (by_number-rises handle_of n (filter p ws) (λ k.
-        let q : Watch Range → Bool = is_numbered k in
-        let same = ap length (filter-filter q p ws) in
-        omega (arith, length-filter q (filter p ws), length-filter q ws, same, count_by-le-length p (filter q ws), length-filter p (filter q ws), granted.once k)))
+    let q : Watch Range → Bool = is_numbered k in
+    let same = ap length (filter-filter q p ws) in
+    omega (arith, length-filter q (filter p ws), length-filter q ws, same, count_by-le-length p (filter q ws), length-filter p (filter q ws), granted.once k)))

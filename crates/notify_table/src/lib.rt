@@ -2,12 +2,16 @@
 #![tactic(auto)]
 
 mod access;
+mod laws;
 mod record;
 mod schedule;
 mod spec;
+#[cfg(test)]
+mod tests;
 mod turn;
 mod watches;
 
 pub use access::Reach;
+pub use laws::histories_determine_notifications;
 pub use spec::{Ended, EndedList, Handles32, Mode, Spec, WatchFull};
 pub use watches::{MAX_LIVE, Watches};

@@ -10,9 +10,9 @@ ghost use Rattle.notify_table.specs.Turns.{next_moment, handle_of_turn};
 ghost use Rattle.notify_table.specs.Schedules.{watch_in, watch_at, nth_watch, IsKept, IsSettled};
 ghost use Rattle.notify_table.specs.Reloads.{range_after, is_ended, end_of, ended_meant};
 
-use crate::{Ended, Reach, Spec};
 use crate::record::Record;
 use crate::turn::{Turn, due_turns, put_turn};
+use crate::{Ended, Reach, Spec};
 use ads_base::{NoMemory, Steps};
 use slab::Slab;
 use std::alloc::Global;

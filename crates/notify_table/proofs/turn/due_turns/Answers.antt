@@ -10,7 +10,7 @@ returns-then-not-is_due-clause-due g c =
     let within : c.loop-turn.turn-index < length c.args.turns.now = omega arith in
     c.loop-turn.invariant.handles
     ∙ ap (map handle_of_turn) (sym (due_before c.args.now c.args.turns.now c.loop-turn.turn-index _ c.requires within
-        c.loop-turn.invariant.due (sym c.is_due.ensures.value ∙ c.if-not-is_due.true)))
+    c.loop-turn.invariant.due (sym c.is_due.ensures.value ∙ c.if-not-is_due.true)))
 
 pub returns-then-not-is_due-clause-cost : goal.returns-then-not-is_due-clause-cost
 returns-then-not-is_due-clause-cost g c =

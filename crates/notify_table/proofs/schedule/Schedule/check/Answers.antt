@@ -21,21 +21,26 @@ invariant_of-self c =
     (after_check c.args.now c.args.bytes.now (watch_at c.self.inside.records c.remove-turn.result))
     c.self.invariant within c.remove-turn.ensures.value c.remove-turn.ensures.items c.put_turn.ensures.put.2 refl c.check_record-sent.ensures.updates
     (Keeps-checked c.args.now c.args.bytes.now (get c.self.inside.records c.remove-turn.result.key) c.remove-turn.result _
-        (keeps_of c.self.inside.records c.self.inside.turns.items c.args.at c.remove-turn.result c.self.invariant within c.remove-turn.ensures.value)
-        refl c.check_record-sent.ensures.next)
+    (keeps_of c.self.inside.records c.self.inside.turns.items c.args.at c.remove-turn.result c.self.invariant within c.remove-turn.ensures.value)
+    refl c.check_record-sent.ensures.next)
     c.put_turn.ensures.in_turn
 
 pub returns-clause-new : goal.returns-clause-new
 returns-clause-new c =
-    let within = within_turns c.self.inside.records c.self.inside.turns.items c.args.self.now c.args.at c.self.view_is c.requires.there in
-    (
+    let within = within_turns c.self.inside.records c.self.inside.turns.items c.args.self.now c.args.at c.self.view_is c.requires.there in (
       c.put_turn.ensures.put.0,
-      omega (arith, c.put_turn.ensures.put.1, c.remove-turn.ensures.len, length-map c.self.inside.turns.items (watch_at c.self.inside.records), ap length c.self.view_is,
-        length-remove c.args.self.now c.args.at c.requires.there),
+      omega (
+        arith,
+        c.put_turn.ensures.put.1,
+        c.remove-turn.ensures.len,
+        length-map c.self.inside.turns.items (watch_at c.self.inside.records),
+        ap length c.self.view_is,
+        length-remove c.args.self.now c.args.at c.requires.there,
+      ),
       rw (nth_is c.self.inside.records c.self.inside.turns.items c.args.self.now c.args.at c.remove-turn.result c.self.view_is within c.remove-turn.ensures.value)
-      (changed_watches c.self.inside.records c.check_record-sent.new.records c.self.inside.turns.items c.remove-turn.new.self.items c.args.self.now c.args.at
-        c.remove-turn.result c.put_turn.new.turns.items c.put_turn.ensures.put.0
-        (record { next = c.check_record-sent.result.1; handle = c.remove-turn.result.handle; key = c.remove-turn.result.key })
-        (after_check c.args.now c.args.bytes.now (watch_at c.self.inside.records c.remove-turn.result))
-        c.self.view_is c.self.invariant within c.remove-turn.ensures.value c.remove-turn.ensures.items c.put_turn.ensures.put.2 refl c.check_record-sent.ensures.updates),
+          (changed_watches c.self.inside.records c.check_record-sent.new.records c.self.inside.turns.items c.remove-turn.new.self.items c.args.self.now c.args.at
+          c.remove-turn.result c.put_turn.new.turns.items c.put_turn.ensures.put.0
+          (record { next = c.check_record-sent.result.1; handle = c.remove-turn.result.handle; key = c.remove-turn.result.key })
+          (after_check c.args.now c.args.bytes.now (watch_at c.self.inside.records c.remove-turn.result))
+          c.self.view_is c.self.invariant within c.remove-turn.ensures.value c.remove-turn.ensures.items c.put_turn.ensures.put.2 refl c.check_record-sent.ensures.updates),
     )

@@ -14,9 +14,9 @@ pub returns-clause-due : goal.returns-clause-due
 returns-clause-due g c =
     rw (← c.self.view_is)
     (c.from_vec.ensures
-      ∙ handles_sorted (λ (w : Watch Range). is_due c.args.now w) c.self.inside.schedule c.self.inside.granted c.sort_unstable.new.self.items c.self.invariant
-        (rw (← c.in_ok-handles.ensures.due) c.sort_unstable.ensures.permutation)
-        (IsNonDecreasingBy-from_sort (λ x. x) c.sort_unstable.new.self.items c.sort_unstable.ensures.sorted))
+    ∙ handles_sorted (λ (w : Watch Range). is_due c.args.now w) c.self.inside.schedule c.self.inside.granted c.sort_unstable.new.self.items c.self.invariant
+    (rw (← c.in_ok-handles.ensures.due) c.sort_unstable.ensures.permutation)
+    (IsNonDecreasingBy-from_sort (λ x. x) c.sort_unstable.new.self.items c.sort_unstable.ensures.sorted))
 
 pub returns-clause-cost : goal.returns-clause-cost
 returns-clause-cost g c =

@@ -7,7 +7,7 @@ use Rattle.notify_table.proofs.watches.Watches.told_of.Goals as goal
 pub unreachable-requires : goal.unreachable-requires
 unreachable-requires c =
     let dead : watch_of_handle c.args.handle c.args.self.now ≡ None =
-        rw (← c.self.view_is) (missing c.self.inside.schedule c.self.inside.granted c.args.handle (sym c.find.ensures ∙ c.in-None.is)) in
+    rw (← c.self.view_is) (missing c.self.inside.schedule c.self.inside.granted c.args.handle (sym c.find.ensures ∙ c.in-None.is)) in
     false≢true (subst IsSome dead c.requires)
 
 pub returns : goal.returns

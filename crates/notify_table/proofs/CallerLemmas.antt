@@ -1,0 +1,59 @@
+-- For callers: what is due is live, and what the checks of all that are due make of the notifications.
+use Rattle.std.proofs.Common.{◌≡◌, ◌≢◌, ℕ, zero, suc, ◌+◌, ◌<◌, ◌≤◌, Bool, true, false, ◌||◌, nat_eq, List, [], ◌∷◌, length, map, get_or, Option, Some, None, IsSomeAnd, IsTrue, refl, sym, ap, ◌∙◌, arith, inl, inr}
+use Rattle.std.specs.List.{All, filter, find, list_any}
+use Rattle.std.specs.List.Sorted.{IsStrictlyIncreasing}
+use Rattle.std.proofs.lemmas.Bool.{cases_Bool, cases_eq, eq-eqb, ne_eqb, eqb-true, false≢true}
+use Rattle.std.proofs.lemmas.List.{length-map, get_or-map}
+use Rattle.std.proofs.lemmas.List.Elements.{All-head, All-tail, All-cons, All-nil, All-weaker}
+use Rattle.ads_formats.specs.Ranges.{Range}
+use Rattle.ads_machine.specs.Watches.{Watch, is_due}
+use Rattle.notify_table.specs.Table.{WatchTable, IsTable, handle_of, is_numbered, due_handles, watch_of_handle}
+
+rises_tail : (x : ℕ) (xs : List ℕ) → IsStrictlyIncreasing (x ∷ xs) → IsStrictlyIncreasing xs
+rises_tail x xs rises k below = rises (suc k) (omega arith)
+
+above_first : (x : ℕ) (xs : List ℕ) → IsStrictlyIncreasing (x ∷ xs) → All (λ y. x < y) xs
+above_first x [] rises = All-nil (λ y. x < y)
+above_first x (y ∷ ys) rises =
+    let step : x < y = rises 0 (omega arith) in
+    All-cons (λ z. x < z) y ys step
+    (All-weaker (λ z. y < z) (λ z. x < z) (λ z h. omega arith) ys (above_first y ys (rises_tail x (y ∷ ys) rises)))
+
+none_due : (now handle : ℕ) (ws : List (Watch Range)) → All (λ (w : Watch Range). handle < w.handle) ws
+    → list_any (λ h. nat_eq h handle) (map handle_of (filter (λ (w : Watch Range). is_due now w) ws)) ≡ false
+none_due now handle [] above = refl
+none_due now handle (w ∷ ws) above =
+    let rest = none_due now handle ws (All-tail (λ (v : Watch Range). handle < v.handle) w ws above) in
+    let more = All-head (λ (v : Watch Range). handle < v.handle) w ws above in
+    elim (cases_Bool (is_due now w)) [
+      | inl due ↦ rw (due, ne_eqb w.handle handle (omega arith)) rest
+      | inr early ↦ rw early rest
+    ]
+
+due_among : (now handle : ℕ) (ws : List (Watch Range)) → IsStrictlyIncreasing (map handle_of ws)
+    → list_any (λ h. nat_eq h handle) (map handle_of (filter (λ (w : Watch Range). is_due now w) ws)) ≡ true
+    → IsSomeAnd (find (is_numbered handle) ws) (λ (w : Watch Range). IsTrue (is_due now w))
+due_among now handle [] rises listed = absurd (false≢true listed)
+due_among now handle (w ∷ ws) rises listed =
+    elim (cases_eq w.handle handle) [
+      | inl same ↦ rw (eq-eqb w.handle handle same) (elim (cases_Bool (is_due now w)) [
+        | inl due ↦ due
+        | inr early ↦
+            let others : All (λ (v : Watch Range). handle < v.handle) ws = λ k d below.
+            let more = above_first w.handle (map handle_of ws) rises k (handle_of d) (omega (arith, length-map ws handle_of)) in
+            let at_place = get_or-map handle_of ws k d (handle_of d) below in
+            omega (arith, more, at_place, same) in
+            absurd (false≢true (sym (none_due now handle ws others) ∙ rw early at listed))
+      ])
+      | inr other ↦
+          rw (ne_eqb w.handle handle other)
+          (due_among now handle ws (rises_tail w.handle (map handle_of ws) rises) (elim (cases_Bool (is_due now w)) [
+            | inl due ↦ rw (due, ne_eqb w.handle handle other) at listed
+            | inr early ↦ rw early at listed
+          ]))
+    ]
+
+-- a handle among those that are due is that of a live notification whose check is due
+pub due_is_live : (now handle : ℕ) (t : WatchTable) → IsTable t → list_any (λ h. nat_eq h handle) (due_handles now t) ≡ true
+    → IsSomeAnd (watch_of_handle handle t) (λ (w : Watch Range). IsTrue (is_due now w))
+due_is_live now handle t table listed = due_among now handle t.watches table.rise listed
