@@ -1,5 +1,5 @@
 -- For callers: what is due is live, and what the checks of all that are due make of the notifications.
-use Rattle.std.proofs.Common.{◌≡◌, ◌≢◌, ℕ, zero, suc, ◌+◌, ◌<◌, ◌≤◌, Bool, true, false, ◌||◌, nat_eq, List, [], ◌∷◌, length, map, get_or, Option, Some, None, IsSomeAnd, IsTrue, refl, sym, ap, ◌∙◌, arith, inl, inr}
+use Rattle.std.proofs.Common.{◌≡◌, ◌≢◌, ℕ, zero, suc, ◌+◌, ◌<◌, ◌≤◌, Bool, true, false, ◌||◌, nat_eq, List, [], ◌∷◌, length, map, get_or, Option, Some, None, option_map, IsSomeAnd, IsTrue, refl, sym, ap, ◌∙◌, arith, inl, inr}
 use Rattle.std.specs.List.{All, filter, find, list_any}
 use Rattle.std.specs.List.Sorted.{IsStrictlyIncreasing}
 use Rattle.std.proofs.lemmas.Bool.{cases_Bool, cases_eq, eq-eqb, ne_eqb, eqb-true, false≢true}
@@ -7,10 +7,17 @@ use Rattle.std.proofs.lemmas.List.{length-map, get_or-map}
 use Rattle.std.proofs.lemmas.List.Elements.{All-head, All-tail, All-cons, All-nil, All-weaker}
 use Rattle.ads_formats.specs.Ranges.{Range}
 use Rattle.ads_machine.specs.Watches.{Watch, is_due}
-use Rattle.notify_table.specs.Table.{WatchTable, IsTable, handle_of, is_numbered, due_handles, watch_of_handle}
+use Rattle.notify_table.specs.Table.{WatchTable, IsTable, handle_of, is_numbered, due_handles, watch_of_handle, watched_len}
+use Rattle.std.specs.Option.{option_map_or}
+use Rattle.index_groups.specs.Access.{range_meant}
+use Rattle.notify_table.specs.declared.spec.Spec.{Spec}
+use Rattle.notify_table.specs.Specs.{new_watch, before_checks}
 
 rises_tail : (x : ℕ) (xs : List ℕ) → IsStrictlyIncreasing (x ∷ xs) → IsStrictlyIncreasing xs
-rises_tail x xs rises k below = rises (suc k) (omega arith)
+rises_tail x xs rises k below =
+    let step = rises (suc k) (omega arith) in
+    let next : suc k + 1 ≡ suc (k + 1) = omega arith in
+    rw next at step
 
 above_first : (x : ℕ) (xs : List ℕ) → IsStrictlyIncreasing (x ∷ xs) → All (λ y. x < y) xs
 above_first x [] rises = All-nil (λ y. x < y)
@@ -57,3 +64,23 @@ due_among now handle (w ∷ ws) rises listed =
 pub due_is_live : (now handle : ℕ) (t : WatchTable) → IsTable t → list_any (λ h. nat_eq h handle) (due_handles now t) ≡ true
     → IsSomeAnd (watch_of_handle handle t) (λ (w : Watch Range). IsTrue (is_due now w))
 due_is_live now handle t table listed = due_among now handle t.watches table.rise listed
+
+-- and may be checked with one byte, where it was added for one
+pub checkable_byte : (now handle byte : ℕ) (t : WatchTable) (spec : Option Spec) → IsTable t
+    → list_any (λ h. nat_eq h handle) (due_handles now t) ≡ true
+    → option_map (new_watch handle) spec ≡ option_map before_checks (watch_of_handle handle t)
+    → option_map_or (λ (s : Spec). nat_eq (watched_len (range_meant s.reach)) 1) spec false ≡ true
+    → IsSomeAnd (watch_of_handle handle t) (λ (w : Watch Range). IsTrue (is_due now w) × (length (byte ∷ []) ≡ watched_len w.watched))
+checkable_byte now handle byte t spec table listed asked one =
+    by_watch (watch_of_handle handle t) spec (due_is_live now handle t table listed) asked one
+  where
+    by_watch : (o : Option (Watch Range)) (s : Option Spec) → IsSomeAnd o (λ (w : Watch Range). IsTrue (is_due now w))
+        → option_map (new_watch handle) s ≡ option_map before_checks o
+        → option_map_or (λ (s : Spec). nat_eq (watched_len (range_meant s.reach)) 1) s false ≡ true
+        → IsSomeAnd o (λ (w : Watch Range). IsTrue (is_due now w) × (length (byte ∷ []) ≡ watched_len w.watched))
+    by_watch None s dead same len = dead
+    by_watch (Some w) None due same len = absurd (false≢true len)
+    by_watch (Some w) (Some s) due same len =
+        let e : new_watch handle s ≡ before_checks w = cc in
+        let watched : range_meant s.reach ≡ w.watched = ap (λ (v : Watch Range). v.watched) e in
+        (due, sym (eqb-true _ _ len) ∙ ap watched_len watched)

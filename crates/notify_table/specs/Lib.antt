@@ -1,4 +1,3 @@
-pub mod Access
 pub mod Specs
 pub mod Table
 pub mod Records

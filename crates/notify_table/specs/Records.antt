@@ -2,7 +2,7 @@
 use Rattle.std.specs.Prelude.{◌≡◌, ℕ, List, [], length, Option, None, Some}
 use Rattle.ads_formats.specs.Ranges.{Range}
 use Rattle.ads_machine.specs.Watches.{Watch}
-use Rattle.notify_table.specs.Access.{range_meant}
+use Rattle.index_groups.specs.Access.{range_meant}
 use Rattle.notify_table.specs.Specs.{address_of, mode_meant}
 use Rattle.notify_table.specs.Table.{watched_len, CanBeWatched}
 use Rattle.notify_table.specs.declared.record.Record.TheInside.{Inside}

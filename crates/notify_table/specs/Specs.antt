@@ -4,7 +4,7 @@ use Rattle.ads_formats.specs.Header.{AmsAddress}
 use Rattle.ads_formats.specs.Ranges.{Range}
 use Rattle.ads_machine.specs.Watches as machine
 use Rattle.ads_base.specs.declared.ams_addr.AmsAddr.{AmsAddr}
-use Rattle.notify_table.specs.Access.{range_meant}
+use Rattle.index_groups.specs.Access.{range_meant}
 use Rattle.notify_table.specs.declared.spec.Mode.{Mode}
 use Rattle.notify_table.specs.declared.spec.Mode.TheVariants as mode
 use Rattle.notify_table.specs.declared.spec.Spec.{Spec}

@@ -1,7 +1,6 @@
 //! Notifications of one connection: what they watch, when their checks are due, and which of them a reload ends.
 #![tactic(auto)]
 
-mod access;
 mod laws;
 mod record;
 mod schedule;
@@ -11,7 +10,6 @@ mod tests;
 mod turn;
 mod watches;
 
-pub use access::Reach;
 pub use laws::histories_determine_notifications;
 pub use spec::{Ended, EndedList, Handles32, Mode, Spec, WatchFull};
-pub use watches::{MAX_LIVE, Watches};
+pub use watches::Watches;

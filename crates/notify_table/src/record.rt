@@ -3,13 +3,14 @@
 ghost use Rattle.std.specs.Prelude.{◌≡◌, ◌<◌, length, IfOk, IfSome, option_map};
 ghost use Rattle.symbol_table.specs.Moves.{moved_span};
 ghost use Rattle.ads_machine.specs.Watches.{is_sent, after_check};
-ghost use Rattle.notify_table.specs.Access.{range_meant};
+ghost use Rattle.index_groups.specs.Access.{range_meant};
 ghost use Rattle.notify_table.specs.Specs.{new_watch, before_checks};
 ghost use Rattle.notify_table.specs.Reloads.{range_after, bytes_at, bit_at, end_of, ended_meant};
 ghost use Rattle.notify_table.specs.Table.{watched_len, CanBeWatched};
 
-use crate::{Ended, Mode, Reach, Spec};
+use crate::{Ended, Mode, Spec};
 use ads_base::NoMemory;
+use index_groups::Reach;
 use std::alloc::Global;
 use std::marker::Model;
 use symbol_table::Moves;

@@ -3,7 +3,7 @@
 ghost use Rattle.std.specs.Prelude.{◌≡◌, ℕ, ◌+◌, ◌<◌, ◌≤◌, [], map, filter, length, insert, remove, position, nat_eq, IsSome, IfSome, Some, None, All, option_map, IfOk, OnOk, OnErr};
 ghost use Rattle.slab.specs.Slab.{get, Updates};
 ghost use Rattle.ads_machine.specs.Watches.{is_due, is_sent, after_check, watch_after_reload, watches_after_reload};
-ghost use Rattle.notify_table.specs.Access.{range_meant};
+ghost use Rattle.index_groups.specs.Access.{range_meant};
 ghost use Rattle.notify_table.specs.Specs.{new_watch, before_checks};
 ghost use Rattle.notify_table.specs.Table.{watched_len, CanBeWatched, handle_of, is_numbered};
 ghost use Rattle.notify_table.specs.Turns.{next_moment, handle_of_turn};
@@ -12,8 +12,9 @@ ghost use Rattle.notify_table.specs.Reloads.{range_after, is_ended, end_of, ende
 
 use crate::record::Record;
 use crate::turn::{Turn, due_turns, put_turn};
-use crate::{Ended, Reach, Spec};
+use crate::{Ended, Spec};
 use ads_base::{NoMemory, Steps};
+use index_groups::Reach;
 use slab::Slab;
 use std::alloc::Global;
 use std::marker::Model;

@@ -1,7 +1,7 @@
 //! What a client asks of a notification, and what it is told of one that ended.
 
-use crate::Reach;
 use ads_base::{AmsAddr, ListOf};
+use index_groups::Reach;
 
 /// What the checks of a notification send, but for its first check, which always sends its bytes.
 ///

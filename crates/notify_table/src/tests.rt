@@ -1,19 +1,20 @@
 //! The table beside a plain list that answers the same calls, and calls at the ends of their ranges.
 
-ghost use Rattle.std.specs.Prelude.{◌≡◌, ◌<◌, ◌≤◌, ◌==◌, length, IfOk};
+ghost use Rattle.std.specs.Prelude.{◌≡◌, ◌+◌, ◌<◌, ◌≤◌, ◌==◌, ◌&&◌, true, false, nat_lt, nat_le, IfOk, Ok};
 ghost use Rattle.std.specs.Option.{option_map_or};
 ghost use Rattle.std.specs.List.{list_any};
-ghost use Rattle.notify_table.specs.Access.{range_meant};
-ghost use Rattle.notify_table.specs.Table.{watched_len, CanBeWatched, IsTable, due_handles};
+ghost use Rattle.index_groups.specs.Access.{range_meant};
+ghost use Rattle.notify_table.specs.Table.{watched_len, IsTable, due_handles};
 
 mod plain;
 
 use crate::*;
 use ads_base::{AmsAddr, NetId, NoMemory, Steps};
+use index_groups::Reach;
 use plain::Plain;
-use return_codes::Code;
 use std::alloc::Global;
 use std::marker::Brand;
+use std::process::Abort;
 use std::sync::ledger::{Blank, Ledger};
 use std::test::Fail;
 use symbol_table::{KeptList, KeptPlace, Moves, Place};
@@ -27,9 +28,7 @@ const CLIENT: AmsAddr = AmsAddr {
 };
 
 // A notification of bit 3 of the flags' byte 7.
-fn of_bit(port: u16, mode: Mode, cycle: u32) -> Spec
-    ensures { CanBeWatched (range_meant result.reach) }
-{
+fn of_bit(port: u16, mode: Mode, cycle: u32) -> Spec {
     Spec {
         port,
         to: CLIENT,
@@ -44,10 +43,7 @@ fn of_bit(port: u16, mode: Mode, cycle: u32) -> Spec
 }
 
 // A notification of bytes of the data area.
-fn of_bytes(at: u32, len: u32) -> Spec
-    requires { (0 < len) × (len ≤ 2048) }
-    ensures { CanBeWatched (range_meant result.reach) }
-{
+fn of_bytes(at: u32, len: u32) -> Spec {
     Spec {
         port: 851,
         to: CLIENT,
@@ -107,18 +103,18 @@ fn has_one_byte(spec: &Option<Spec>) -> bool
     ensures { result ≡ option_map_or (λ s. watched_len (range_meant s.reach) == 1) spec.now false }
 {
     match spec {
-        Some(spec) => is_one_byte(spec.reach),
+        Some(spec) => len_of(spec.reach) == 1,
         None => false,
     }
 }
 
-fn is_one_byte(reach: Reach) -> bool
-    ensures { result ≡ (watched_len (range_meant reach) == 1) }
+fn len_of(reach: Reach) -> u32
+    ensures { result ≡ watched_len (range_meant reach) }
 {
     match reach {
-        Reach::Bytes { len, .. } => len == 1,
-        Reach::Bit { .. } => true,
-        Reach::Size { .. } => false,
+        Reach::Bytes { len, .. } => len,
+        Reach::Bit { .. } => 1,
+        Reach::Size { .. } => 0,
     }
 }
 
@@ -141,6 +137,19 @@ fn check(
     Ok(Some(watches.checked(handle, now, &[byte])))
 }
 
+// Adds a notification, where it may be watched.
+fn add(
+    alloc: Global,
+    watches: &mut Watches,
+    spec: Spec,
+) -> Result<Option<Result<u32, WatchFull>>, NoMemory> {
+    let len = len_of(spec.reach);
+    if len == 0 || len > 2048 {
+        return Ok(None);
+    }
+    Ok(Some(watches.add(alloc, spec)?))
+}
+
 #[derive(Drop)]
 struct Both {
     watches: Watches,
@@ -154,9 +163,9 @@ fn same_add(
     mode: Mode,
     cycle: u32,
 ) -> Result<bool, NoMemory> {
-    let answer = both.watches.add(alloc, of_bit(port, mode, cycle))?;
+    let answer = add(alloc, &mut both.watches, of_bit(port, mode, cycle))?;
     let expected = both.plain.add(port, mode, cycle)?;
-    Ok(answer == Ok(expected))
+    Ok(answer == Some(Ok(expected)))
 }
 
 fn same_delete(both: &mut Both, handle: u32, port: u16) -> bool {
@@ -229,58 +238,110 @@ fn a_plain_list_answers_the_same(rt: HostRuntime) -> Result<(), Fail> {
     Ok(())
 }
 
-#[test]
-fn handles_and_moments_at_the_ends_of_their_ranges(rt: HostRuntime) -> Result<(), Fail> {
-    let alloc = rt.alloc();
-    let mut watches = Watches::new(alloc)?;
-    assert_eq!(rt; watches.add(alloc, of_bit(851, Mode::Change, 0))?, Ok(1));
-    assert_eq!(rt;
-        watches.add(alloc, of_bit(851, Mode::Cycle, u32::MAX))?,
-        Ok(2)
-    );
-    for handle in [0, 3, u32::MAX] {
-        assert_eq!(rt; watches.spec(handle), None, "{handle}");
-        assert_eq!(rt; watches.delete(handle, 851), Err(Code::C714), "{handle}");
+// A call, and what it answers.
+#[derive(Clone, Copy)]
+enum Call<'a> {
+    Adds(Spec, u32),
+    IsFull(Spec),
+    Deletes(u32, u16),
+    Refuses(u32, u16),
+    Lives(u32, Spec),
+    IsGone(u32),
+    Due(u64, &'a [u32]),
+    Checks(u32, u64, u8, Option<bool>),
+}
+
+fn holds(alloc: Global, watches: &mut Watches, call: Call<'_>) -> Result<bool, NoMemory> {
+    match call {
+        Call::Adds(spec, handle) => Ok(add(alloc, watches, spec)? == Some(Ok(handle))),
+        Call::IsFull(spec) => Ok(add(alloc, watches, spec)? == Some(Err(WatchFull))),
+        Call::Deletes(handle, port) => Ok(watches.delete(handle, port).is_ok()),
+        Call::Refuses(handle, port) => Ok(watches.delete(handle, port).is_err()),
+        Call::Lives(handle, spec) => Ok(watches.spec(handle) == Some(spec)),
+        Call::IsGone(handle) => Ok(watches.spec(handle).is_none()),
+        Call::Due(now, handles) => Ok(due(alloc, watches, now)?.as_slice() == handles),
+        Call::Checks(handle, now, byte, sent) => Ok(
+            check(alloc, watches, handle, now, byte)? == sent,
+        ),
     }
-    let last = u64::MAX - 1;
-    assert_eq!(rt; due(alloc, &watches, 0)?.as_slice(), [1, 2].as_slice());
-    assert_eq!(rt; check(alloc, &mut watches, 2, last, 1)?, Some(true));
-    assert_eq!(rt; check(alloc, &mut watches, 1, last, 1)?, Some(true));
-    // The cycle 0 counts as 1; the other cycle is over behind the last moment. A moment that goes back is none.
-    assert_eq!(rt; due(alloc, &watches, last)?.as_slice(), [].as_slice());
-    assert_eq!(rt; due(alloc, &watches, 0)?.as_slice(), [].as_slice());
-    assert_eq!(rt; due(alloc, &watches, u64::MAX)?.as_slice(), [1].as_slice());
-    assert_eq!(rt; check(alloc, &mut watches, 1, u64::MAX, 1)?, Some(false));
-    assert_eq!(rt; check(alloc, &mut watches, 1, u64::MAX, 0)?, None);
-    assert_eq!(rt; watches.delete(1, 852), Err(Code::C714), "another port");
-    assert_eq!(rt; watches.delete(1, 851), Ok(()));
-    assert_eq!(rt; watches.delete(1, 851), Err(Code::C714), "deleted twice");
-    assert_eq!(rt; watches.add(alloc, of_bit(852, Mode::Cycle, 5))?, Ok(3));
-    assert_eq!(rt; watches.spec(3), Some(of_bit(852, Mode::Cycle, 5)));
+}
+
+fn all_hold(
+    rt: &impl Abort,
+    alloc: Global,
+    watches: &mut Watches,
+    calls: &[Call<'_>],
+) -> Result<(), NoMemory> {
+    for (place, call) in calls.iter().enumerate() {
+        let is_right = holds(alloc, watches, *call)?;
+        assert!(rt; is_right, "call {place}");
+    }
     Ok(())
 }
 
 #[test]
+fn handles_and_moments_at_the_ends_of_their_ranges(rt: HostRuntime) -> Result<(), Fail> {
+    let mut watches = Watches::new(rt.alloc())?;
+    let last = u64::MAX - 1;
+    let at_change = of_bit(851, Mode::Change, 0);
+    let at_each = of_bit(851, Mode::Cycle, u32::MAX);
+    let calls = [
+        Call::Adds(at_change, 1),
+        Call::Adds(at_each, 2),
+        Call::IsGone(0),
+        Call::IsGone(u32::MAX),
+        Call::Refuses(0, 851),
+        Call::Refuses(u32::MAX, 851),
+        Call::Due(0, &[1, 2]),
+        Call::Checks(2, last, 1, Some(true)),
+        Call::Checks(1, last, 1, Some(true)),
+        // A moment that goes back is none; the cycle 0 counts as 1, and the other one ends behind the last moment.
+        Call::Due(last, &[]),
+        Call::Due(0, &[]),
+        Call::Due(u64::MAX, &[1]),
+        Call::Checks(1, u64::MAX, 1, Some(false)),
+        Call::Checks(1, u64::MAX, 0, None),
+        // On another port, then twice.
+        Call::Refuses(1, 852),
+        Call::Deletes(1, 851),
+        Call::Refuses(1, 851),
+        Call::Adds(at_change, 3),
+        Call::Lives(3, at_change),
+    ];
+    all_hold(&rt, rt.alloc(), &mut watches, &calls)?;
+    Ok(())
+}
+
+fn fills(alloc: Global, watches: &mut Watches, spec: Spec) -> Result<bool, NoMemory> {
+    for handle in 1..513 {
+        if !holds(alloc, watches, Call::Adds(spec, handle))?
+            || !holds(alloc, watches, Call::Checks(handle, 0, 1, Some(true)))?
+        {
+            return Ok(false);
+        }
+    }
+    Ok(true)
+}
+
+#[test]
 fn three_of_512_are_due(rt: HostRuntime) -> Result<(), Fail> {
-    let alloc = rt.alloc();
-    let mut watches = Watches::new(alloc)?;
+    let mut watches = Watches::new(rt.alloc())?;
     let spec = of_bit(851, Mode::Cycle, 1000);
-    for handle in 1..513u32 {
-        assert_eq!(rt; watches.add(alloc, spec)?, Ok(handle));
-        assert_eq!(rt; check(alloc, &mut watches, handle, 0, 1)?, Some(true));
-    }
-    assert_eq!(rt; watches.add(alloc, spec)?, Err(WatchFull));
-    assert_eq!(rt; due(alloc, &watches, 999)?.as_slice(), [].as_slice());
-    for handle in [7, 512, 1] {
-        assert_eq!(rt; watches.delete(handle, 851), Ok(()));
-        assert!(rt; watches.add(alloc, spec)?.is_ok());
-    }
-    assert_eq!(rt;
-        due(alloc, &watches, 999)?.as_slice(),
-        [513, 514, 515].as_slice()
-    );
-    assert_eq!(rt; watches.add(alloc, spec)?, Err(WatchFull));
-    assert_eq!(rt; due(alloc, &watches, 1000)?.len(), 512);
+    let is_filled = fills(rt.alloc(), &mut watches, spec)?;
+    assert!(rt; is_filled);
+    let calls = [
+        Call::IsFull(spec),
+        Call::Due(999, &[]),
+        Call::Deletes(512, 851),
+        Call::Adds(spec, 513),
+        Call::Deletes(1, 851),
+        Call::Deletes(7, 851),
+        Call::Adds(spec, 514),
+        Call::Adds(spec, 515),
+        Call::IsFull(spec),
+        Call::Due(999, &[513, 514, 515]),
+    ];
+    all_hold(&rt, rt.alloc(), &mut watches, &calls)?;
     Ok(())
 }
 
@@ -315,39 +376,55 @@ fn moves(alloc: Global) -> Result<Moves, NoMemory> {
     Moves::build(alloc, &kept)
 }
 
+// The calls before a reload, those that it ends, and the calls behind it.
+fn reloads(
+    rt: &impl Abort,
+    alloc: Global,
+    before: &[Call<'_>],
+    ended: &[u32],
+    behind: &[Call<'_>],
+) -> Result<(), NoMemory> {
+    let mut watches = Watches::new(alloc)?;
+    all_hold(rt, alloc, &mut watches, before)?;
+    let moves = moves(alloc)?;
+    let told = watches.moved(alloc, &moves)?;
+    let are_told = tell(told.as_slice(), ended);
+    assert!(rt; are_told);
+    all_hold(rt, alloc, &mut watches, behind)
+}
+
+fn tell(told: &[Ended], handles: &[u32]) -> bool {
+    told.len() == handles.len()
+        && told.iter().zip(handles).all(|(e, handle)| e.handle == *handle
+            && e.port == 851
+            && e.to == CLIENT)
+}
+
 #[test]
 fn notifications_go_on_or_end_at_a_reload(rt: HostRuntime) -> Result<(), Fail> {
-    let alloc = rt.alloc();
-    let moves = moves(alloc)?;
-    let mut watches = Watches::new(alloc)?;
-    let both_symbols = of_bytes(0, 8);
-    let no_symbol = of_bit(851, Mode::Cycle, 5);
-    assert_eq!(rt; watches.add(alloc, of_bytes(1, 3))?, Ok(1));
-    assert_eq!(rt; watches.add(alloc, both_symbols)?, Ok(2));
-    assert_eq!(rt; watches.add(alloc, of_bytes(11, 1))?, Ok(3));
-    assert_eq!(rt; watches.add(alloc, no_symbol)?, Ok(4));
-    assert_eq!(rt; check(alloc, &mut watches, 3, 20, 9)?, Some(true));
-    let ended = watches.moved(alloc, &moves)?;
-    assert_eq!(rt; ended.len(), 2);
-    for (place, handle) in [2, 4].iter().enumerate() {
-        let told = ended.as_slice().get(place).copied();
-        let expected = Ended {
-            handle: *handle,
-            port: 851,
-            to: CLIENT,
-        };
-        assert_eq!(rt; told, Some(expected));
-    }
-    let there = Reach::Bytes {
+    let mut there = of_bytes(101, 3);
+    there.reach = Reach::Bytes {
         area: Area::Memory,
         at: 101,
         len: 3,
     };
-    assert_eq!(rt; watches.spec(1).map(|spec| spec.reach), Some(there));
-    assert_eq!(rt; watches.spec(2), None);
-    assert_eq!(rt; watches.spec(3), Some(of_bytes(7, 1)));
-    // The last moment and the bytes last sent are those from before.
-    assert_eq!(rt; due(alloc, &watches, 29)?.as_slice(), [1].as_slice());
-    assert_eq!(rt; check(alloc, &mut watches, 3, 30, 9)?, Some(false));
+    let before = [
+        Call::Adds(of_bytes(1, 3), 1),
+        // Bytes of two symbols, and a bit of none.
+        Call::Adds(of_bytes(0, 8), 2),
+        Call::Adds(of_bytes(11, 1), 3),
+        Call::Adds(of_bit(851, Mode::Cycle, 5), 4),
+        Call::Checks(3, 20, 9, Some(true)),
+    ];
+    let behind = [
+        Call::Lives(1, there),
+        Call::IsGone(2),
+        Call::Lives(3, of_bytes(7, 1)),
+        Call::IsGone(4),
+        // The last moment and the bytes last sent are those from before.
+        Call::Due(29, &[1]),
+        Call::Checks(3, 30, 9, Some(false)),
+    ];
+    reloads(&rt, rt.alloc(), &before, &[2, 4], &behind)?;
     Ok(())
 }

@@ -3,7 +3,7 @@
 ghost use Rattle.std.specs.Prelude.{◌≡◌, ◌+◌, ◌<◌, ◌≤◌, ◌↔◌, ◌==◌, not, false, filter, map, All, length, option_map, IsTrue, IsOk, IsErr, IsSomeAnd, IfSome, IfOk, IfErr, OnOk, OnErr};
 ghost use Rattle.std.specs.List.Sorted.{IsStrictlyIncreasing};
 ghost use Rattle.ads_machine.specs.Watches.{is_due, is_sent, ended_watches};
-ghost use Rattle.notify_table.specs.Access.{range_meant};
+ghost use Rattle.index_groups.specs.Access.{range_meant};
 ghost use Rattle.notify_table.specs.Specs.{new_watch, before_checks};
 ghost use Rattle.notify_table.specs.Table.{watched_len, CanBeWatched, no_watches, is_full, is_live, watch_of_handle, due_handles, table_after, IsTable, Added, Deleted, Checked, Reloaded};
 ghost use Rattle.notify_table.specs.Reloads.{range_after, end_of, ended_meant};
@@ -18,8 +18,8 @@ use std::marker::Model;
 use std::sync::ledger::Ledger;
 use symbol_table::Moves;
 
-/// How many notifications may be live.
-pub const MAX_LIVE: usize = 512;
+// How many notifications may be live.
+const MAX_LIVE: usize = 512;
 
 /// The notifications of one connection. Contracts see the live ones by rising handle, each with the moment of its last
 /// check and the bytes that it last sent, and how many were added.

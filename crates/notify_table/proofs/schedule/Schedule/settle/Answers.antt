@@ -2,7 +2,7 @@ use Rattle.std.proofs.Common.{◌≡◌, refl, sym, ap, ◌∙◌, Some, option_
 use Rattle.std.specs.List.{remove}
 use Rattle.ads_formats.specs.Ranges.{Range}
 use Rattle.ads_machine.specs.Watches.{Watch, watch_after_reload}
-use Rattle.notify_table.specs.Access.{range_meant}
+use Rattle.index_groups.specs.Access.{range_meant}
 use Rattle.notify_table.specs.Reloads.{range_after}
 use Rattle.notify_table.specs.Schedules.{watch_at}
 use Rattle.notify_table.proofs.ScheduleLemmas.{within_turns, nth_is, changed_watches, put_back}
