@@ -8,6 +8,6 @@ use Rattle.notify_table.proofs.tests.check.Goals as goal
 pub checked-requires : goal.checked-requires
 checked-requires c =
     let listed : list_any (λ h. nat_eq h c.args.handle) (due_handles c.args.now c.args.watches.now) ≡ true =
-        ap (list_any (λ h. nat_eq h c.args.handle)) (sym c.in_ok-handles.ensures.due ∙ sym c.as_slice.ensures) ∙ sym c.is_among.ensures ∙ c.if-not-is_among.false in
+    ap (list_any (λ h. nat_eq h c.args.handle)) (sym c.in_ok-handles.ensures.due ∙ sym c.as_slice.ensures) ∙ sym c.is_among.ensures ∙ c.if-not-is_among.false in
     checkable_byte c.args.now c.args.handle c.args.byte c.args.watches.now c.spec-spec.result c.spec-spec.ensures.table listed c.spec-spec.ensures.spec
     (sym c.has_one_byte.ensures ∙ c.if-not-has_one_byte.false)
