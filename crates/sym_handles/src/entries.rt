@@ -14,7 +14,8 @@ pub(crate) struct Entry {
 /// Where a handle stands in the list.
 pub(crate) fn position_of(entries: &[Entry], handle: u32) -> Option<usize>
     requires { AllPairs (λ (e f : Entry). e.handle < f.handle) entries.now }
-    ensures { MatchOption result (All (λ (e : Entry). e.handle ≢ handle) entries.now) (IsAt entries.now handle) }
+    ensures { MatchOption result (All (λ (e : Entry). e.handle ≢ handle) entries.now)
+        (IsAt entries.now handle) }
 {
     let before = entries.partition_point(|e| e.handle < handle);
     if before < entries.len() && entries[before].handle == handle {

@@ -25,7 +25,8 @@ pub const MAX_LIVE: usize = 4096;
 #[derive(Clone, Copy, Debug, PartialEq, Eq)]
 pub struct Full;
 
-/// The handles of one client, which contracts see as those that are not released, by rising number. Calls are told of every history that it stands for.
+/// The handles of one client, which contracts see as those that are not released, by rising number.
+/// What a call answers is said of every history that they stand for.
 #[derive(Debug, Drop)]
 pub struct Handles {
     records: Slab<Record>,
@@ -60,14 +61,16 @@ impl Handles {
         })
     }
 
-    /// Grants a handle for a place: one more than those granted before, from 1 on.
+    /// Grants a handle for a place of a port: one more than those granted before, from 1 on. After want
+    /// of memory nothing has changed. Beckhoff Information System, index group 0xF003.
     pub fn grant(
         &mut self,
         _alloc: Global,
         port: u16,
         place: Place,
     ) -> Result<Result<u32, Full>, NoMemory>
-        ensures full { IfOk result (λ answer. (history : History) → Represents self.old history → (IsErr answer ↔ IsFull history)) }
+        ensures full { IfOk result (λ answer. (history : History) → Represents self.old history
+            → (IsErr answer ↔ IsFull history)) }
         ensures err { IfOk result (λ answer. OnErr answer (self.new ≡ self.old)) }
         ensures number { IfOk result (λ answer. IfOk answer (λ handle. handle ≡ self.old.granted + 1)) }
         ensures fits { IfOk result (λ answer. IfOk answer (λ handle. handle < 2 ^ 32)) }
@@ -90,10 +93,13 @@ impl Handles {
         Ok(Ok(handle))
     }
 
-    /// The place of a handle. 0x710 where it was never granted, was granted on another port or is released; 0x711 where it is outdated.
+    /// The place of a handle. 0x710 where it was never granted, was granted on another port or is
+    /// released; 0x711 where it is outdated. Beckhoff Information System, index group 0xF005.
     pub fn look(&self, handle: u32, port: u16) -> Result<Place, Code>
-        ensures answer { (history : History) → Represents self.now history → result ≡ look_up (status_of history handle port) }
-        ensures kept { IfOk result (λ place. Contains self.now.handles (record { number = handle; port = port; place = Some place })) }
+        ensures answer { (history : History) → Represents self.now history
+            → result ≡ look_up (status_of history handle port) }
+        ensures kept { IfOk result (λ place. Contains self.now.handles
+            (record { number = handle; port = port; place = Some place })) }
     {
         match self.position(handle, port) {
             None => Err(Code::C710),
@@ -101,9 +107,11 @@ impl Handles {
         }
     }
 
-    /// Releases a handle, once; an outdated one too. 0x710 as for `look`.
+    /// Releases a handle, once; an outdated one too. 0x710 as for `look`, and then nothing has changed.
+    /// Beckhoff Information System, index group 0xF006.
     pub fn release(&mut self, handle: u32, port: u16) -> Result<(), Code>
-        ensures answer { (history : History) → Represents self.old history → result ≡ release_of (status_of history handle port) }
+        ensures answer { (history : History) → Represents self.old history
+            → result ≡ release_of (status_of history handle port) }
         ensures ok { OnOk result ((history : History) → Represents self.old history
             → Represents self.new (history ++ Release handle ∷ [])) }
         ensures kept { OnOk result (self.new ≡ record self.old { handles = without handle self.old.handles }) }
@@ -118,7 +126,8 @@ impl Handles {
         Ok(())
     }
 
-    /// Each live handle goes on with its place after the reload; one that has none there is outdated, for good.
+    /// Each live handle goes on with its place after the reload; one that has none there is outdated,
+    /// for good. The places of the live handles lie in the reload's old world. It takes no memory.
     pub fn moved(&mut self, m: &Moves)
         requires { All (HasPlaceInOldWorld m.now) self.old.handles }
         ensures moved { (history : History) → Represents self.old history
@@ -138,7 +147,8 @@ impl Handles {
 
     // Where the handle of this port stands in the list.
     fn position(&self, handle: u32, port: u16) -> Option<usize>
-        ensures { MatchOption result (kept_handle handle port self.now.handles ≡ None) (IsHandleAt self.now.handles handle port) }
+        ensures { MatchOption result (kept_handle handle port self.now.handles ≡ None)
+            (IsHandleAt self.now.handles handle port) }
     {
         let place = position_of(self.entries.as_slice(), handle)?;
         if self.record_at(place).port == port {

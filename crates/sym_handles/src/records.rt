@@ -33,7 +33,8 @@ pub(crate) fn add(
     ensures index { OnOk result (IsIndex records.new.slots entries.new.items) }
     ensures numbered { OnOk result (All (λ (e : Entry). e.handle ≤ handle) entries.new.items) }
     ensures held { OnOk result (all_held records.new.slots entries.new.items
-        ≡ all_held records.old.slots entries.old.items ++ record { number = handle; port = granted.port; place = granted.place } ∷ []) }
+        ≡ all_held records.old.slots entries.old.items
+        ++ record { number = handle; port = granted.port; place = granted.place } ∷ []) }
     ensures same_records { OnErr result (records.new.slots ≡ records.old.slots) }
     ensures same_entries { OnErr result (entries.new.items ≡ entries.old.items) }
 {
@@ -48,9 +49,11 @@ pub(crate) fn take(records: &mut Slab<Record>, entries: &mut Vec<Entry>, place: 
     requires index { IsIndex records.old.slots entries.old.items }
     requires inside { place < length entries.old.items }
     ensures index { IsIndex records.new.slots entries.new.items }
-    ensures numbered { (most : ℕ) → All (λ (e : Entry). e.handle ≤ most) entries.old.items → All (λ (e : Entry). e.handle ≤ most) entries.new.items }
+    ensures numbered { (most : ℕ) → All (λ (e : Entry). e.handle ≤ most) entries.old.items
+        → All (λ (e : Entry). e.handle ≤ most) entries.new.items }
     ensures held { (d : Entry) → all_held records.new.slots entries.new.items
-        ≡ without (slice_index_or entries.old.items place d).handle (all_held records.old.slots entries.old.items) }
+        ≡ without (slice_index_or entries.old.items place d).handle
+        (all_held records.old.slots entries.old.items) }
     ensures counted { live_among (all_held records.new.slots entries.new.items) + live_in result
         ≡ live_among (all_held records.old.slots entries.old.items) }
 {
@@ -70,7 +73,8 @@ pub(crate) fn move_all(records: &mut Slab<Record>, entries: &[Entry], moves: &Mo
     requires index { IsIndex records.old.slots entries.now }
     requires in_range { All (HasPlaceInOldWorld moves.now) (all_held records.old.slots entries.now) }
     ensures index { IsIndex records.new.slots entries.now }
-    ensures held { all_held records.new.slots entries.now ≡ map (moved_handle moves.now) (all_held records.old.slots entries.now) }
+    ensures held { all_held records.new.slots entries.now
+        ≡ map (moved_handle moves.now) (all_held records.old.slots entries.now) }
     ensures live { result ≡ live_among (all_held records.new.slots entries.now) }
 {
     let mut live = 0;
@@ -83,8 +87,10 @@ pub(crate) fn move_all(records: &mut Slab<Record>, entries: &[Entry], moves: &Mo
 // The record goes on with its place after the reload, if there is one. How many live handles it then stands for.
 fn move_record(records: &mut Slab<Record>, key: usize, moves: &Moves) -> usize
     requires there { IsSome (slice_index_or records.old.slots key None) }
-    requires in_range { ForSome (record_in records.old.slots key).place (IsInOldWorld moves.now (record_in records.old.slots key).port) }
-    ensures moved { Updates records.old records.new key (Some (moved_record moves.now (record_in records.old.slots key))) }
+    requires in_range { ForSome (record_in records.old.slots key).place
+        (IsInOldWorld moves.now (record_in records.old.slots key).port) }
+    ensures moved { Updates records.old records.new key
+        (Some (moved_record moves.now (record_in records.old.slots key))) }
     ensures live { result ≡ live_in (moved_record moves.now (record_in records.old.slots key)) }
 {
     let Some(record) = records.get_mut(key) else {

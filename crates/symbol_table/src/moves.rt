@@ -11,7 +11,8 @@ use std::alloc::Global;
 use std::marker::Model;
 use type_layout::Area;
 
-/// Where a reload puts the bytes of kept symbols. Contracts see the list of the entries that it was built of. A look-up takes no memory, and halves a sorted list.
+/// Where a reload puts the bytes of kept symbols. Contracts see the list of the entries that it was
+/// built of. A look-up takes no memory, and halves a sorted list.
 #[derive(Debug, Drop)]
 pub struct Moves {
     kept: Vec<KeptPlace>,
@@ -34,7 +35,8 @@ impl Model for Moves {
 }
 
 impl Moves {
-    /// The moves of kept symbols. Both places of an entry have the same length and end before byte 4,294,967,296, no symbol has two entries, and no byte of the old world is in two.
+    /// The moves of kept symbols. Both places of an entry have the same length and end before byte
+    /// 4,294,967,296, no symbol has two entries, and no byte of the old world is in two.
     pub fn build(alloc: Global, kept: &KeptList) -> Result<Moves, NoMemory>
         requires { AreKept kept.now }
         ensures { IfOk result (λ moves. moves ≡ kept.now) }
@@ -49,7 +51,8 @@ impl Moves {
         })
     }
 
-    /// Where a place is after the reload: as far from its symbol's first byte as before. None exactly where its symbol is not kept.
+    /// Where a place is after the reload: as far from its symbol's first byte as before. None exactly
+    /// where its symbol is not kept.
     pub fn place(&self, port: u16, p: Place) -> Option<Place>
         requires { IsInOldWorld self.now port p }
         ensures { result ≡ moved_place self.now port p }
@@ -63,7 +66,8 @@ impl Moves {
         })
     }
 
-    /// The area and the first byte of bytes after the reload. None exactly where they are not all of one kept symbol.
+    /// The area and the first byte of bytes after the reload. None exactly where they are not all of
+    /// one kept symbol.
     pub fn span(&self, port: u16, area: Area, at: u32, len: u32) -> Option<(Area, u32)>
         requires { 0 < len }
         ensures { result ≡ moved_span self.now port area at len }

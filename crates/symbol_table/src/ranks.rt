@@ -42,7 +42,8 @@ fn rank_of_area(area: Area) -> u64
 /// The last of those whose rank is at most this one.
 pub(crate) fn last_at_most(ranked: &[Ranked], rank: u64) -> Option<Ranked>
     requires { IsNonDecreasingBy (λ (r : Ranked). r.rank) ranked.now }
-    ensures { MatchOption result (All (λ (r : Ranked). rank < r.rank) ranked.now) (IsLastAtMost ranked.now rank) }
+    ensures { MatchOption result (All (λ (r : Ranked). rank < r.rank) ranked.now)
+        (IsLastAtMost ranked.now rank) }
 {
     let count = ranked.partition_point(|r| r.rank <= rank);
     if count == 0 {
