@@ -1,18 +1,17 @@
 -- A schedule while its turns and records change.
-use Rattle.std.proofs.Common.{◌≡◌, ◌≢◌, ℕ, suc, ◌+◌, ◌-◌, ◌*◌, ◌<◌, ◌≤◌, max, Bool, true, false, cond, nat_eq, nat_le, List, [], ◌∷◌, ◌++◌, length, map, take, drop, get_or, Option, Some, None, IsSome, refl, sym, ap, ◌∙◌, subst, arith, inl, inr}
+use Rattle.std.proofs.Common.{◌≡◌, ◌≢◌, ℕ, suc, ◌+◌, ◌-◌, ◌<◌, ◌≤◌, max, Bool, true, false, cond, nat_eq, nat_le, List, [], ◌∷◌, ◌++◌, length, map, take, drop, get_or, Option, Some, None, IsSome, refl, sym, ap, ◌∙◌, subst, arith, inl, inr}
 use Rattle.std.specs.List.{All, filter, filter_map, insert, remove, position, position_or_len}
 use Rattle.std.proofs.lemmas.Bool.{cases_lt, cases_Bool, false≢true, le-leb, lt-leb}
 use Rattle.std.proofs.lemmas.List.{length-map, get_or-map, append_assoc, take_at, drop_at, length-take-le, length-append}
 use Rattle.std.proofs.Math.Seq.{drop-cons}
 use Rattle.std.proofs.lemmas.List.Elements.{All-head, All-tail, All-get_or}
 use Rattle.std.proofs.lemmas.List.Edits.{get_or-remove_below, get_or-remove_above, length-remove, length-insert}
-use Rattle.std.specs.List.Sorted.{IsNonDecreasingBy}
 use Rattle.slab.specs.Slab.{Slab, get, Updates}
 use Rattle.ads_formats.specs.Ranges.{Range}
 use Rattle.ads_machine.specs.Watches.{Watch, is_due, is_due_after, is_sent, after_check}
 use Rattle.notify_table.specs.declared.turn.Turn.{Turn}
 use Rattle.notify_table.specs.Table.{handle_of, is_numbered}
-use Rattle.notify_table.specs.Turns.{AreInTurn, HasHandle, turn_rank, moment_after, next_moment, is_turn_due, handle_of_turn}
+use Rattle.notify_table.specs.Turns.{AreInTurn, HasHandle, moment_after, next_moment, is_turn_due, handle_of_turn}
 use Rattle.notify_table.specs.Schedules.{no_watch, nth_watch, watch_in, watch_at, Keeps, IsKept, key_of, OncePer, AreScheduled, IsSettled}
 use Rattle.notify_table.proofs.Filtered.{insert-remove, All-insert, All-remove, map-insert, map-remove, OncePer-others, OncePer-insert, OncePer-remove}
 

@@ -1,6 +1,6 @@
 -- The notifications of a connection by rising handle, while those of its schedule change.
 use Rattle.std.proofs.Common.{◌≡◌, ◌≢◌, ℕ, suc, ◌+◌, ◌-◌, ◌<◌, ◌≤◌, max, Bool, true, false, not, ◌&&◌, ◌||◌, cond, nat_eq, nat_lt, nat_le, List, [], ◌∷◌, ◌++◌, length, map, get_or, Option, Some, None, option_map, IsSome, IsSomeAnd, IsTrue, refl, sym, ap, ◌∙◌, arith, inl, inr, subst}
-use Rattle.std.specs.List.{All, filter, filter_map, find, list_any, insert, remove, position, position_or_len, count_by}
+use Rattle.std.specs.List.{All, filter, filter_map, find, list_any, insert, remove, position, position_or_len}
 use Rattle.std.specs.List.Sorted.{IsPermutation, IsNonDecreasing, IsStrictlyIncreasing}
 use Rattle.std.proofs.lemmas.Bool.{cases_Bool, cases_eq, eq-eqb, ne_eqb, eqb-true, ltb-false, lt-leb}
 use Rattle.std.proofs.lemmas.List.{length-map}
@@ -9,8 +9,8 @@ use Rattle.std.proofs.lemmas.List.Elements.{All-head, All-tail, All-get_or, All-
 use Rattle.std.proofs.lemmas.List.Quantifiers.{position-Some}
 use Rattle.std.proofs.lemmas.List.Sums.{fails_before_first, length-filter, count_by-le-length}
 use Rattle.ads_formats.specs.Ranges.{Range, Bytes, Bit, Size}
-use Rattle.ads_machine.specs.Watches.{Watch, is_due, is_due_after, is_sent, after_check, checked_watch, watch_after_reload, watches_after_reload}
-use Rattle.notify_table.specs.Table.{handle_of, watched_len, IsWatchable, IsTable, is_numbered, is_of_port, is_live, is_full, watch_of_handle, due_handles, table_after, checked_where, Added, Deleted, Checked, Reloaded, WatchTable}
+use Rattle.ads_machine.specs.Watches.{Watch, is_due, is_due_after, is_sent, after_check, watch_after_reload, watches_after_reload}
+use Rattle.notify_table.specs.Table.{handle_of, watched_len, IsWatchable, IsTable, is_numbered, is_live, is_full, watch_of_handle, due_handles, table_after, checked_where, Added, Deleted, Checked, Reloaded, WatchTable}
 use Rattle.notify_table.specs.Schedules.{nth_watch, no_watch, watch_in, OncePer}
 use Rattle.notify_table.specs.Numbered.{by_number, HasNumber, AreGranted, table_from, IsLive, end_of_handle}
 use Rattle.notify_table.specs.Reloads.{end_of, range_after, value_of_area, bytes_at, bit_at}
@@ -18,7 +18,7 @@ use Rattle.symbol_table.specs.declared.kept.KeptPlace.{KeptPlace}
 use Rattle.symbol_table.specs.Moves.{moved_span}
 use Rattle.type_layout.specs.declared.port.Area.{Area}
 use Rattle.notify_table.proofs.Filtered.{All-insert, All-remove, insert-remove, filter_none, filter_all, filter_one, filter-insert_no, filter-insert_yes, filter-remove_no, OncePer-others, OncePer-remove, OncePer-insert}
-use Rattle.notify_table.proofs.NumberedLemmas.{by_number-nil, by_number-same, by_number-upto, by_number-filter, by_number-one, by_number-above, by_number-map, by_number-permuted, length-by_number, by_number-rises, All-by_number, filter-map, filter-filter, filter-filter_map, by_number-filter_map, length-filter_map-le, All-filter_map}
+use Rattle.notify_table.proofs.NumberedLemmas.{by_number-nil, by_number-same, by_number-upto, by_number-filter, by_number-one, by_number-map, by_number-permuted, length-by_number, by_number-rises, All-by_number, filter-map, filter-filter, filter-filter_map, by_number-filter_map, length-filter_map-le, All-filter_map}
 
 -- where no place was found, none passes
 none_at : {X : Type 0} (p : X → Bool) (xs : List X) → position p xs ≡ None → All (λ x. p x ≡ false) xs

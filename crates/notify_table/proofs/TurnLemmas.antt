@@ -1,12 +1,12 @@
 -- Turns that are due stand in front of the others.
-use Rattle.std.proofs.Common.{◌≡◌, ℕ, ◌+◌, ◌<◌, ◌≤◌, ◌++◌, [], ◌∷◌, map, List, length, take, drop, get_or, true, false, refl, sym, ap, ◌∙◌, arith}
+use Rattle.std.proofs.Common.{◌≡◌, ℕ, ◌+◌, ◌<◌, ◌≤◌, ◌++◌, [], ◌∷◌, map, List, length, take, drop, get_or, false, sym, ap, ◌∙◌, arith}
 use Rattle.std.specs.List.{All, filter}
 use Rattle.std.proofs.lemmas.Bool.{lt-leb, leb-false}
 use Rattle.std.proofs.lemmas.List.{append-nil, get_or_default, map_more, get_or-drop, length-drop, length-take-le, length-append, drop_all}
 use Rattle.std.proofs.lemmas.List.Elements.{All-get_or}
 use Rattle.notify_table.proofs.Filtered.{filter_none, filter_behind}
 use Rattle.notify_table.specs.declared.turn.Turn.{Turn}
-use Rattle.notify_table.specs.Turns.{AreInTurn, AllDue, HasHandle, is_turn_due, turn_rank, handle_of_turn}
+use Rattle.notify_table.specs.Turns.{AreInTurn, AllDue, HasHandle, is_turn_due, handle_of_turn}
 
 -- a turn that stands behind one that is not due is not due
 none_due_behind : (now : ℕ) (turns : List Turn) (i : ℕ) (d : Turn) → AreInTurn turns → i < length turns

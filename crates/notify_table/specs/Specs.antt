@@ -8,7 +8,6 @@ use Rattle.index_groups.specs.Access.{range_meant}
 use Rattle.notify_table.specs.declared.spec.Mode.{Mode}
 use Rattle.notify_table.specs.declared.spec.Mode.TheVariants as mode
 use Rattle.notify_table.specs.declared.spec.Spec.{Spec}
-use Rattle.notify_table.specs.declared.spec.Ended.{Ended}
 
 abbrev pub address_of : AmsAddr → AmsAddress
 address_of a = record { net = a.net.bytes; port = a.port }

@@ -1,4 +1,4 @@
-use Rattle.std.proofs.Common.{◌≡◌, refl, sym, ap, ◌∙◌, nat_eq, true}
+use Rattle.std.proofs.Common.{◌≡◌, sym, ap, ◌∙◌, nat_eq, true}
 use Rattle.std.specs.List.{list_any}
 use Rattle.notify_table.specs.Table.{due_handles}
 use Rattle.notify_table.proofs.CallerLemmas.{checkable_byte}

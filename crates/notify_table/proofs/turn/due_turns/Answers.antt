@@ -1,5 +1,4 @@
-use Rattle.std.proofs.Common.{◌≡◌, ◌≤◌, ◌<◌, ap, sym, ◌∙◌, arith, map, length, true}
-use Rattle.std.specs.List.{filter}
+use Rattle.std.proofs.Common.{◌≡◌, ◌<◌, ap, sym, ◌∙◌, arith, map, length, true}
 use Rattle.std.proofs.lemmas.List.Elements.{All-more}
 use Rattle.notify_table.specs.Turns.{handle_of_turn, is_turn_due}
 use Rattle.notify_table.proofs.TurnLemmas.{due_before, due_at_least, due_all, handles_more}

@@ -1,5 +1,5 @@
 use Rattle.std.proofs.Common.{◌≡◌, ◌+◌, map, take}
-use Rattle.notify_table.specs.Turns.{is_turn_due, handle_of_turn, AllDue}
+use Rattle.notify_table.specs.Turns.{handle_of_turn, AllDue}
 use Rattle.notify_table.proofs.turn.due_turns.Given as goal
 
 -- all turns so far are due

@@ -1,6 +1,6 @@
-use Rattle.std.proofs.Common.{◌≡◌, sym, refl, ap, subst, ◌∙◌, arith, length}
+use Rattle.std.proofs.Common.{sym, refl, ap, subst, arith, length}
 use Rattle.std.proofs.lemmas.List.{length-map}
-use Rattle.notify_table.specs.Schedules.{AreScheduled, watch_at, Keeps}
+use Rattle.notify_table.specs.Schedules.{AreScheduled, watch_at}
 use Rattle.notify_table.proofs.ScheduleLemmas.{any_capacity, put_into, added_scheduled, added_watches}
 use Rattle.notify_table.proofs.schedule.Schedule.add.Goals as goal
 

@@ -1,4 +1,4 @@
-use Rattle.std.proofs.Common.{◌≡◌, sym, refl, ap, subst, ◌∙◌, arith, length}
+use Rattle.std.proofs.Common.{refl, ap, arith, length}
 use Rattle.std.proofs.lemmas.List.{length-map}
 use Rattle.std.proofs.lemmas.List.Edits.{length-remove}
 use Rattle.notify_table.proofs.ScheduleLemmas.{others_in_turn, changed_scheduled, changed_watches, within_turns, nth_is, Keeps-checked, keeps_of}

@@ -1,4 +1,3 @@
-use Rattle.std.proofs.Common.{◌≡◌, sym, refl}
 use Rattle.std.proofs.lemmas.List.{length-map}
 use Rattle.notify_table.proofs.ScheduleLemmas.{due_watches}
 use Rattle.notify_table.proofs.schedule.Schedule.due.Goals as goal

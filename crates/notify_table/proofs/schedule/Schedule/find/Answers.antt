@@ -1,4 +1,4 @@
-use Rattle.std.proofs.Common.{◌≡◌, ◌∙◌, ap, refl, nat_eq}
+use Rattle.std.proofs.Common.{◌∙◌, ap, nat_eq}
 use Rattle.std.specs.List.{position}
 use Rattle.notify_table.specs.Turns.{handle_of_turn}
 use Rattle.notify_table.specs.Table.{is_numbered}

@@ -1,6 +1,3 @@
-use Rattle.std.proofs.Common.{◌<◌, length, arith, ◌≡◌, ap, sym, subst}
-use Rattle.std.proofs.lemmas.List.{length-map}
-use Rattle.notify_table.specs.Schedules.{watch_at}
 use Rattle.notify_table.proofs.ScheduleLemmas.{removed_scheduled, removed_watches, within_turns}
 use Rattle.notify_table.proofs.schedule.Schedule.remove.Goals as goal
 

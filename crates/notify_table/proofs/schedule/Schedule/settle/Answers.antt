@@ -1,4 +1,4 @@
-use Rattle.std.proofs.Common.{◌≡◌, refl, sym, ap, ◌∙◌, Some, option_map}
+use Rattle.std.proofs.Common.{◌≡◌, refl, sym, ap, Some, option_map}
 use Rattle.std.specs.List.{remove}
 use Rattle.ads_formats.specs.Ranges.{Range}
 use Rattle.ads_machine.specs.Watches.{Watch, watch_after_reload}

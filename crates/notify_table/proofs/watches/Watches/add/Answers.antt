@@ -1,4 +1,4 @@
-use Rattle.std.proofs.Common.{◌≡◌, ◌+◌, ◌<◌, length, refl}
+use Rattle.std.proofs.Common.{◌+◌, ◌<◌, length, refl}
 use Rattle.notify_table.specs.Table.{handle_of}
 use Rattle.notify_table.specs.Numbered.{by_number}
 use Rattle.notify_table.specs.Specs.{new_watch}

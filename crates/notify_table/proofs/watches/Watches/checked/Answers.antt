@@ -1,4 +1,4 @@
-use Rattle.std.proofs.Common.{◌≡◌, refl, sym, ap, ◌∙◌, Some, length}
+use Rattle.std.proofs.Common.{sym, ap, ◌∙◌}
 use Rattle.notify_table.specs.Table.{due_handles}
 use Rattle.notify_table.proofs.TableLemmas.{found, checkable, not_missing, checked_granted, checked_table, others_due}
 use Rattle.notify_table.proofs.watches.Watches.checked.Goals as goal

@@ -1,4 +1,3 @@
-use Rattle.std.proofs.Common.{◌≡◌, refl}
 use Rattle.notify_table.proofs.TableLemmas.{reloaded_granted, reloaded_table}
 use Rattle.notify_table.proofs.watches.Watches.moved.Goals as goal
 

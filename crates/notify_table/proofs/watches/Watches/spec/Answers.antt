@@ -1,4 +1,4 @@
-use Rattle.std.proofs.Common.{◌≡◌, refl, sym, ◌∙◌}
+use Rattle.std.proofs.Common.{refl, sym, ◌∙◌}
 use Rattle.notify_table.proofs.TableLemmas.{found, missing, table_holds}
 use Rattle.notify_table.proofs.watches.Watches.spec.Goals as goal
 

@@ -1,4 +1,4 @@
-use Rattle.std.proofs.Common.{◌≡◌, sym, ap, ◌∙◌, subst, IsSome, None}
+use Rattle.std.proofs.Common.{◌≡◌, sym, ◌∙◌, subst, IsSome, None}
 use Rattle.std.proofs.lemmas.Bool.{false≢true}
 use Rattle.notify_table.specs.Table.{watch_of_handle}
 use Rattle.notify_table.proofs.TableLemmas.{found, missing}
