@@ -7,3 +7,4 @@ pub mod ServeLemmas
 pub mod TextLemmas
 pub mod TurnLemmas
 pub mod UnderWayLemmas
+pub mod ToldLemmas

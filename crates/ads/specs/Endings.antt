@@ -9,6 +9,7 @@ use Rattle.ads.specs.Ends.{AppendsTwoParts}
 abbrev pub PrintsText : List ℕ → Status → Option (List ℕ) → Option (List ℕ) → Type 0
 PrintsText text status.Done old new = Appends old new text
 PrintsText text status.Usage old new = Appends old new text
+PrintsText text (status.BadDescription number item) old new = Appends old new text
 PrintsText text (status.BadScript number) old new = Appends old new text
 PrintsText text status.ReadFault old new = Appends old new text
 PrintsText text status.WriteFault old new = AppendsPart old new text
@@ -19,6 +20,7 @@ PrintsText text status.TooLong old new = Appends old new text
 abbrev pub IsPlain : Status → Type 0
 IsPlain status.Done = Unit {0}
 IsPlain status.Usage = Unit {0}
+IsPlain (status.BadDescription number item) = Unit {0}
 IsPlain (status.BadScript number) = Unit {0}
 IsPlain status.ReadFault = Unit {0}
 IsPlain status.WriteFault = ⊥

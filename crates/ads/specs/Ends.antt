@@ -27,6 +27,8 @@ AppendsTwoParts (Some old) new text =
 abbrev pub Prints : Verdict → Status → Option (List ℕ) → Option (List ℕ) → Type 0
 Prints verdict status.Done old new = Appends old new verdict.text
 Prints verdict status.Usage old new = Appends old new (last_line_of status.Usage)
+Prints verdict (status.BadDescription number item) old new =
+    Appends old new (last_line_of (status.BadDescription number item))
 Prints verdict (status.BadScript number) old new =
     Appends old new (last_line_of (status.BadScript number))
 Prints verdict status.ReadFault old new = Appends old new (last_line_of status.ReadFault)
@@ -40,6 +42,8 @@ Prints verdict status.Memory old new =
 abbrev pub PrintsLine : Status → Option (List ℕ) → Option (List ℕ) → Type 0
 PrintsLine status.Done old new = Unit {0}
 PrintsLine status.Usage old new = Appends old new (last_line_of status.Usage)
+PrintsLine (status.BadDescription number item) old new =
+    Appends old new (last_line_of (status.BadDescription number item))
 PrintsLine (status.BadScript number) old new = Appends old new (last_line_of (status.BadScript number))
 PrintsLine status.ReadFault old new = Appends old new (last_line_of status.ReadFault)
 PrintsLine status.WriteFault old new = Unit {0}

@@ -1,6 +1,9 @@
 pub mod StatusNumber
 pub mod LastLine
 pub mod Selftest
+pub mod Tasks
+pub mod Report
+pub mod Told
 pub mod Verdict
 pub mod Ends
 pub mod FramesInOrder

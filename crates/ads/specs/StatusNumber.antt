@@ -6,6 +6,7 @@ use Rattle.ads.specs.declared.status.Status.TheVariants as status
 abbrev pub number_of : Status → ℕ
 number_of status.Done = 0
 number_of status.Usage = 1
+number_of (status.BadDescription rule item) = 2
 number_of (status.BadScript line) = 3
 number_of status.ReadFault = 4
 number_of status.WriteFault = 5

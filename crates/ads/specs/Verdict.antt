@@ -6,13 +6,16 @@ use Rattle.ads_outside.specs.Named.{bytes_of}
 use Rattle.ads_machine.specs.ScriptLine.{ScriptLine}
 use Rattle.ads_machine.specs.BuiltLines.{built_lines}
 use Rattle.ads_machine.specs.Script.{script_of}
-use Rattle.cli_words.specs.declared.command.Command.{Command}
-use Rattle.cli_words.specs.declared.command.Command.TheVariants as command
-use Rattle.cli_words.specs.Commands.{command_of}
+use Rattle.symbol_file.specs.Reading.{TextVerdict, Described, Breaks, NoDocument, text_verdict}
 use Rattle.ads.specs.declared.status.Status.{Status}
 use Rattle.ads.specs.declared.status.Status.TheVariants as status
+use Rattle.ads.specs.declared.task.Job.{Job}
+use Rattle.ads.specs.declared.task.Job.TheVariants as job
+use Rattle.ads.specs.declared.task.Task.{Task}
 use Rattle.ads.specs.LastLine.{last_line_of}
+use Rattle.ads.specs.Report.{report_of}
 use Rattle.ads.specs.Selftest.{selftest_text}
+use Rattle.ads.specs.Tasks.{asked_task}
 
 pub record Verdict : Type 0 where
   pub status : Status
@@ -27,31 +30,27 @@ abbrev pub verdict_of_script : Result (List ScriptLine) ℕ → Verdict
 verdict_of_script (Ok lines) = record { status = status.Done; text = selftest_text lines }
 verdict_of_script (Err number) = ended (status.BadScript number)
 
--- a file that is too long, or a script
-abbrev pub verdict_of_bytes : List ℕ → Verdict
-verdict_of_bytes bytes =
-    if nat_lt file_limit (length bytes) then ended status.TooLong
-    else verdict_of_script (script_of built_lines bytes)
+-- the description's report, or what is wrong with it; 0 stands for no TOML document
+abbrev pub verdict_of_description : TextVerdict → Verdict
+verdict_of_description (Described d) = record { status = status.Done; text = report_of d }
+verdict_of_description (Breaks number item) = ended (status.BadDescription number item)
+verdict_of_description NoDocument = ended (status.BadDescription 0 0)
 
--- a file that is not there cannot be read
-abbrev pub verdict_of_file : Option (List ℕ) → Verdict
-verdict_of_file None = ended status.ReadFault
-verdict_of_file (Some bytes) = verdict_of_bytes bytes
+-- the job, done with the bytes of its file, for this number of signals
+abbrev pub verdict_of_bytes : ℕ → Job → List ℕ → Verdict
+verdict_of_bytes signals job.Selftest bytes = verdict_of_script (script_of built_lines bytes)
+verdict_of_bytes signals job.Check bytes = verdict_of_description (text_verdict signals bytes)
 
--- the script that a command plays; the other commands are not built
-unfoldable pub script_name_of : Option Command → Option (List ℕ)
-script_name_of None = None
-script_name_of (Some (command.Selftest script)) = Some script
-script_name_of (Some c) = None
-
--- the name of the script that the words ask for, if they are a command that is built
-abbrev pub asked_script : List (List ℕ) → Option (List ℕ)
-asked_script words = script_name_of (command_of words)
+-- a file that is not there cannot be read; one above the limit is too long
+abbrev pub verdict_of_file : ℕ → Job → Option (List ℕ) → Verdict
+verdict_of_file signals j None = ended status.ReadFault
+verdict_of_file signals j (Some bytes) =
+    if nat_lt file_limit (length bytes) then ended status.TooLong else verdict_of_bytes signals j bytes
 
 -- words that are no command are told so
-abbrev pub verdict_of_name : Option (List ℕ) → List NamedFile → Verdict
-verdict_of_name None files = ended status.Usage
-verdict_of_name (Some name) files = verdict_of_file (bytes_of files name)
+abbrev pub verdict_of_task : ℕ → Option Task → List NamedFile → Verdict
+verdict_of_task signals None files = ended status.Usage
+verdict_of_task signals (Some task) files = verdict_of_file signals task.job (bytes_of files task.file)
 
-abbrev pub verdict_of : List (List ℕ) → List NamedFile → Verdict
-verdict_of words files = verdict_of_name (asked_script words) files
+abbrev pub verdict_of : ℕ → List (List ℕ) → List NamedFile → Verdict
+verdict_of signals words files = verdict_of_task signals (asked_task words) files

@@ -1,20 +1,27 @@
 //! The program: it takes the words, makes the real files and the standard output, and ends with the status of `run`.
 #![tactic(auto)]
 
+mod check;
 mod ending;
 mod last_line;
 mod outcome;
 mod play;
+mod report;
 mod run;
 mod selftest;
 mod status;
+mod task;
 #[cfg(test)]
 mod tests;
 
-use crate::ending::print_and_end;
+use crate::ending::{end_without_memory, print_and_end};
 use crate::last_line::USAGE_LINE;
 use crate::status::Status;
+use ads_base::NoMemory;
 use ads_edge::{RealFiles, RealSink};
+use ads_outside::{Files, Sink};
+use signals::{Ramp, Signal, Square, Table8};
+use std::alloc::Global;
 use std::env;
 use std::process::ExitCode;
 
@@ -40,5 +47,24 @@ fn status_of(rt: &HostRuntime) -> Status {
     let Ok(mut files) = RealFiles::new(rt.alloc(), runtime) else {
         return Status::Memory;
     };
-    run::run(rt.alloc(), words.as_slice(), &mut files, &mut out)
+    match status_over(rt.alloc(), words.as_slice(), &mut files, &mut out) {
+        Ok(status) => status,
+        Err(NoMemory) => end_without_memory(&mut out),
+    }
+}
+
+// The status of the run with the signals that the program has: a ramp of 1,000 values, a square of ten 0 and ten
+// 1, and a table of eight values.
+fn status_over<F: Files, S: Sink>(
+    alloc: Global,
+    words: &[String],
+    files: &mut F,
+    out: &mut S,
+) -> Result<Status, NoMemory> {
+    let table = Table8::new(alloc, &[3, 1, 4, 1, 5, 9, 2, 6])?;
+    let mut signals: Vec<Box<dyn Signal>> = Vec::new(alloc);
+    signals.push(Box::new(alloc, Ramp::new(1000))?)?;
+    signals.push(Box::new(alloc, Square::new(0, 1, 10))?)?;
+    signals.push(Box::new(alloc, table)?)?;
+    Ok(run::run(alloc, words, files, out, signals))
 }

@@ -1,12 +1,13 @@
 //! The top call: a command, from its words to its status.
 
-ghost use Rattle.std.specs.Prelude.{◌≡◌, List, ℕ, Ok, None, map, string_bytes};
+ghost use Rattle.std.specs.Prelude.{◌≡◌, ◌≤◌, length, List, ℕ, Ok, None, map, string_bytes};
 ghost use Rattle.ads_outside.specs.Rose.{Rose};
 ghost use Rattle.ads_machine.specs.ScriptLine.{ScriptLine};
 ghost use Rattle.ads_machine.specs.BuiltLines.{built_lines};
 ghost use Rattle.ads_machine.specs.Script.{script_of};
 ghost use Rattle.ads.specs.Selftest.{selftest_log};
-ghost use Rattle.ads.specs.Verdict.{asked_script, verdict_of};
+ghost use Rattle.ads.specs.Tasks.{asked_task};
+ghost use Rattle.ads.specs.Verdict.{verdict_of};
 ghost use Rattle.ads.specs.Ends.{EndsAs, Prints, PrintsLine, IsTold};
 ghost use Rattle.ads.specs.FramesInOrder.{GivesFramesInOrder};
 
@@ -15,14 +16,17 @@ use crate::outcome::outcome_of;
 use crate::status::Status;
 use ads_base::NoMemory;
 use ads_outside::{Files, Sink};
+use signals::Signal;
 use std::alloc::Global;
 
-/// Runs the command of some words over files and a sink, and says how it ended.
+/// Runs the command of some words over files and a sink, and says how it ended. A description may name the
+/// signals, which are numbered from 0.
 ///
 /// | status | comes |
 /// |---|---|
 /// | Done | the command ended; all that it prints is in the sink |
 /// | Usage | the words are no command that is built |
+/// | BadDescription | the least broken rule of the description, and in it the least item; or it is no TOML document |
 /// | BadScript | the script's first line off the grammar has this number |
 /// | ReadFault | a file could not be read |
 /// | WriteFault | the sink could not be written |
@@ -30,20 +34,27 @@ use std::alloc::Global;
 /// | TooLong | a file has more than 16,777,216 bytes |
 ///
 /// Each status but Done, WriteFault and Memory prints its last line and nothing else.
-pub fn run<F: Files, S: Sink>(alloc: Global, words: &[String], files: &mut F, out: &mut S) -> Status
+pub fn run<F: Files, S: Sink>(
+    alloc: Global,
+    words: &[String],
+    files: &mut F,
+    out: &mut S,
+    signals: Vec<Box<dyn Signal>>,
+) -> Status
+    requires signals { length signals.items ≤ 4294967295 }
     // The words: usage exactly where they are no command, want of memory and a failed writing aside.
-    ensures usage { result ≡ Status.Usage → asked_script (map string_bytes words.now) ≡ None }
-    ensures no_command { asked_script (map string_bytes words.now) ≡ None
+    ensures usage { result ≡ Status.Usage → asked_task (map string_bytes words.now) ≡ None }
+    ensures no_command { asked_task (map string_bytes words.now) ≡ None
         → EndsAs Status.Usage result ⊥ (Rose (S.fault_count out.old) (S.fault_count out.new)) }
-    ensures unread { asked_script (map string_bytes words.now) ≡ None → files.new ≡ files.old }
+    ensures unread { asked_task (map string_bytes words.now) ≡ None → files.new ≡ files.old }
 
     // Where the files tell what they hold: the status and all that is printed.
     ensures status { IsTold (F.contents files.old) (λ held.
-        EndsAs (verdict_of (map string_bytes words.now) held).status result
+        EndsAs (verdict_of (length signals.items) (map string_bytes words.now) held).status result
         (Rose (F.fault_count files.old) (F.fault_count files.new))
         (Rose (S.fault_count out.old) (S.fault_count out.new))) }
     ensures text { IsTold (F.contents files.old) (λ held.
-        Prints (verdict_of (map string_bytes words.now) held) result
+        Prints (verdict_of (length signals.items) (map string_bytes words.now) held) result
         (S.contents out.old) (S.contents out.new)) }
 
     // Told or not: the last line, and the causes of faults.
@@ -58,7 +69,7 @@ pub fn run<F: Files, S: Sink>(alloc: Global, words: &[String], files: &mut F, ou
     ensures frames { (script : List ℕ) (lines : List ScriptLine)
         → script_of built_lines script ≡ Ok lines → GivesFramesInOrder (selftest_log lines) }
 {
-    match outcome_of(alloc, words, files) {
+    match outcome_of(alloc, words, signals.len() as u32, files) {
         Ok(outcome) => print_and_end(out, outcome.text.as_slice(), outcome.status),
         Err(NoMemory) => end_without_memory(out),
     }

@@ -9,6 +9,8 @@ pub enum Status {
     Done,
     /// The words are no command.
     Usage,
+    /// The least broken rule of the description, and in it the least item; rule 0 for no TOML document.
+    BadDescription { number: u8, item: u32 },
     /// The script's first line off the grammar has this number, counted from 1.
     BadScript(u32),
     /// A file could not be read.
@@ -31,6 +33,7 @@ impl Status {
         match self {
             Status::Done => 0,
             Status::Usage => 1,
+            Status::BadDescription { .. } => 2,
             Status::BadScript(_) => 3,
             Status::ReadFault => 4,
             Status::WriteFault => 5,

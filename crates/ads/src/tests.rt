@@ -34,7 +34,13 @@ fn outcome(
     named.push(alloc, file)?;
     let mut files = MemFiles::new(alloc, named, Calls::from_vec(failing_reads.to_vec(alloc)?));
     let mut sink = MemSink::new(alloc, Calls::from_vec(failing_puts.to_vec(alloc)?));
-    let status = run(alloc, list.as_slice(), &mut files, &mut sink);
+    let status = run(
+        alloc,
+        list.as_slice(),
+        &mut files,
+        &mut sink,
+        Vec::new(alloc),
+    );
     Ok((status, Octets::copy_of(alloc, sink.bytes())?))
 }
 
@@ -165,7 +171,7 @@ fn each_status_comes_by_its_cause(rt: HostRuntime) -> Result<(), Fail> {
         &[],
         &["selftest"],
         &["selftest", "a", "b"],
-        &["check", "it.script"],
+        &["check"],
         &["--help"],
     ];
     for case in words {
@@ -208,5 +214,42 @@ fn a_file_above_the_limit_is_too_long(rt: HostRuntime) -> Result<(), Fail> {
     )?;
     assert_eq!(rt; status, Status::TooLong);
     assert_eq!(rt; text.as_slice(), b"ads: file too long\n".as_slice());
+    Ok(())
+}
+
+// The status of `check` over one description without signals, and what the sink then holds.
+fn checked(alloc: Global, text: &str) -> Result<(Status, Octets), Fail> {
+    outcome(alloc, &["check", "it.script"], text.as_bytes(), &[], &[])
+}
+
+#[test]
+fn a_description_is_told_of_or_its_fault(rt: HostRuntime) -> Result<(), Fail> {
+    let head = "schema = 1\nnet = \"5.1.2.3.1.1\"\n";
+    let port =
+        "[[port]]\nport = 851\nname = \"Plc30 App\"\nmajor = 3\nminor = 1\nbuild = 1711\ndata = 8\n";
+    let count =
+        "[[port.symbol]]\nname = \"Main.count\"\ntype = \"DINT\"\narea = \"data\"\noffset = 0\n";
+    let good = format!(in rt.alloc(); "{head}{port}{count}")?;
+    let (status, text) = checked(rt.alloc(), good.as_str())?;
+    assert_eq!(rt; status, Status::Done);
+    // an entry of `Main.count`: 33 bytes, 10 of the name, 4 of `DINT`
+    assert_eq!(rt;
+        text.as_slice(),
+        b"port 851 name Plc30 App image 8 symbols 1 upload 47\nok ports 1 symbols 1 types 0\n".as_slice()
+    );
+    let twice = format!(in rt.alloc(); "{good}{count}")?;
+    let cases = [
+        (twice.as_str(), 10, 1, "ads: description rule 10 item 1\n"),
+        ("schema = 2", 2, 0, "ads: description rule 2 item 0\n"),
+        ("schema =", 0, 0, "ads: description syntax\n"),
+    ];
+    for (text, number, item, line) in cases {
+        let (status, printed) = checked(rt.alloc(), text)?;
+        assert_eq!(rt; status, Status::BadDescription { number, item }, "{text}");
+        assert_eq!(rt; printed.as_slice(), line.as_bytes(), "{text}");
+    }
+    let (status, printed) = outcome(rt.alloc(), &["check", "it.script"], b"\xff", &[], &[])?;
+    assert_eq!(rt; status, Status::BadDescription { number: 0, item: 0 });
+    assert_eq!(rt; printed.as_slice(), b"ads: description syntax\n".as_slice());
     Ok(())
 }

@@ -20,3 +20,4 @@ pub use log_lines::log_text;
 pub use reader::read_script;
 pub use script::Script;
 pub use summary_line::summary_text;
+pub use texts::put_counted;

@@ -1,0 +1,92 @@
+#!/usr/bin/env python3
+"""Time of `ads check` per symbol, for descriptions of many symbols, types, members and routes.
+
+Build the program first: in crates/ads, `rt run -- selftest ../../examples/state.script`.
+
+One port of 1,000, 2,000, 5,000 and 10,000 symbols, and 16 ports of 10,000: the ratio of the greatest time per symbol to the least is to be at most 1.6. The
+other descriptions show that no rule goes over pairs: their times per element are printed for two sizes each.
+"""
+import os
+import subprocess
+import sys
+import tempfile
+import time
+
+HERE = os.path.dirname(os.path.abspath(__file__))
+PROGRAM = os.path.join(HERE, "..", "crates", "ads", "out", "ads")
+HEAD = 'schema = 1\nnet = "5.1.2.3.1.1"\n'
+
+
+def port(number, symbols, data):
+    head = f'[[port]]\nport = {number}\nname = "Plc"\nmajor = 1\nminor = 0\nbuild = 0\ndata = {data}\n'
+    return head + "".join(symbols)
+
+
+def symbol(name, kind, offset):
+    return f'[[port.symbol]]\nname = "{name}"\ntype = "{kind}"\narea = "data"\noffset = {offset}\n'
+
+
+def plain_port(number, count):
+    return port(number, [symbol(f"Plant.Line.Station.v{i}", "INT", 2 * i) for i in range(count)], 2 * count)
+
+
+def of_symbols(ports, count):
+    return HEAD + "".join(plain_port(851 + p, count) for p in range(ports))
+
+
+def of_types(types, members):
+    rows = []
+    for t in range(types):
+        inner = ", ".join(f'{{ name = "m{i}", type = "BOOL" }}' for i in range(members))
+        rows.append(f'[[type]]\nname = "Type{t}"\nmember = [{inner}]\n')
+    return HEAD + "".join(rows) + plain_port(851, 1)
+
+
+def of_routes(count):
+    rows = [f'[[route]]\nnet = "{i >> 16 & 255}.{i >> 8 & 255}.{i & 255}.1.1.1"\nrights = "read"\n' for i in range(count)]
+    return HEAD + "".join(rows) + plain_port(851, 1)
+
+
+def nested_at_zero(count):
+    """Symbols that all stand at offset 0, of a type that nests 16 structures of two members each."""
+    rows = ['[[type]]\nname = "T0"\nmember = [{ name = "a", type = "BOOL" }, { name = "b", type = "BOOL" }]\n']
+    for t in range(1, 16):
+        rows.append(f'[[type]]\nname = "T{t}"\nmember = [{{ name = "a", type = "T{t - 1}" }}, {{ name = "b", type = "T{t - 1}" }}]\n')
+    return HEAD + "".join(rows) + port(851, [symbol(f"v{i}", "T15", 0) for i in range(count)], 1 << 16)
+
+
+def seconds(text):
+    with tempfile.NamedTemporaryFile("w", suffix=".toml") as file:
+        file.write(text)
+        file.flush()
+        best = None
+        for _ in range(3):
+            start = time.perf_counter()
+            done = subprocess.run([PROGRAM, "check", file.name], capture_output=True, check=False)
+            taken = time.perf_counter() - start
+            best = taken if best is None else min(best, taken)
+        return best, done.stdout.decode().splitlines()[-1]
+
+
+def row(name, count, text):
+    taken, last = seconds(text)
+    print(f"{name}  {len(text) / (1 << 20):.2f} MiB  {taken:.3f} s  {1e6 * taken / count:.2f} us each  {last}")
+    return taken / count
+
+
+def main():
+    if not os.path.exists(PROGRAM):
+        sys.exit("build the program first: cd crates/ads && rt run -- selftest ../../examples/state.script")
+    each = [row(f"{count} symbols", count, of_symbols(1, count)) for count in (1000, 2000, 5000, 10000)]
+    each.append(row("16 ports of 10000 symbols", 160000, of_symbols(16, 10000)))
+    print(f"ratio of the greatest to the least: {max(each) / min(each):.2f} (at most 1.6)")
+    for members in (100, 1000):
+        row(f"100 types of {members} members", 100 * members, of_types(100, members))
+    for types in (100, 1000):
+        row(f"{types} types of 100 members", 100 * types, of_types(types, 100))
+    for routes in (10000, 100000, 250000):
+        row(f"{routes} routes", routes, of_routes(routes))
+    row("10000 symbols of nested structures, all at offset 0", 10000, nested_at_zero(10000))
+
+
+main()
