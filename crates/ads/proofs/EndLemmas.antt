@@ -33,7 +33,7 @@ Prints-line verdict s old new e part =
     subst P (sym e) (verdict.text, inl refl, AppendsTwoParts-line old new verdict.text part)
 
 -- a run that ended for want of memory before anything was printed
-pub Prints-memory : (files : Option (List NamedFile)) (words : List (List ℕ)) (s : Status) (old new : Option (List ℕ)) → s ≡ status.Memory → AppendsPart old new (last_line_of status.Memory)
-    → IsTold files (λ held. Prints (verdict_of words held) s old new)
-Prints-memory None words s old new e part = tt
-Prints-memory (Some held) words s old new e part = Prints-line (verdict_of words held) s old new e part
+pub Prints-memory : (signals : ℕ) (files : Option (List NamedFile)) (words : List (List ℕ)) (s : Status) (old new : Option (List ℕ)) → s ≡ status.Memory → AppendsPart old new (last_line_of status.Memory)
+    → IsTold files (λ held. Prints (verdict_of signals words held) s old new)
+Prints-memory signals None words s old new e part = tt
+Prints-memory signals (Some held) words s old new e part = Prints-line (verdict_of signals words held) s old new e part

@@ -5,8 +5,8 @@ use Rattle.ads.proofs.run.run.Goals as goal
 pub returns-in-Ok-clause-frames : goal.returns-in-Ok-clause-frames
 returns-in-Ok-clause-frames g c = λ script lines e. gives_frames_in_order lines
 
-pub returns-in-Err-clause-frames : goal.returns-in-Err-clause-frames
-returns-in-Err-clause-frames g c = λ script lines e. gives_frames_in_order lines
+pub returns-clause-frames : goal.returns-clause-frames
+returns-clause-frames g c = λ script lines e. gives_frames_in_order lines
 
-pub returns-in-Err-clause-text : goal.returns-in-Err-clause-text
-returns-in-Err-clause-text g c = Prints-memory _ _ _ _ _ c.end_without_memory.ensures.memory c.end_without_memory.ensures.line
+pub returns-clause-text : goal.returns-clause-text
+returns-clause-text g c = Prints-memory _ _ _ _ _ _ c.end_without_memory.ensures.memory c.end_without_memory.ensures.line
