@@ -1,4 +1,4 @@
--- For callers: what is due is live, and what the checks of all that are due make of the notifications.
+-- For callers: what is due is live, and may be checked.
 use Rattle.std.proofs.Common.{◌≡◌, ℕ, suc, ◌+◌, ◌<◌, true, false, nat_eq, List, [], ◌∷◌, length, map, Option, Some, None, option_map, IsSomeAnd, IsTrue, refl, sym, ap, ◌∙◌, arith, inl, inr}
 use Rattle.std.specs.List.{All, filter, find, list_any}
 use Rattle.std.specs.List.Sorted.{IsStrictlyIncreasing}

@@ -4,3 +4,4 @@ pub mod ScheduleLemmas
 pub mod NumberedLemmas
 pub mod TableLemmas
 pub mod CallerLemmas
+pub mod TickLemmas
