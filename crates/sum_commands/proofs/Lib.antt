@@ -1,0 +1,3 @@
+pub mod HeadLemmas
+pub mod PartLemmas
+pub mod ReplyLemmas

@@ -1,0 +1,171 @@
+-- What n parts run after one another give, by the first part and those behind it.
+use Rattle.std.proofs.Common.{◌≡◌, ℕ, zero, suc, ◌+◌, ◌*◌, ◌≤◌, List, [], ◌∷◌, ◌++◌, drop, length, sum, refl, sym, ◌∙◌, ap, subst, arith, append_assoc, length-append, length-drop}
+use Rattle.std.proofs.Math.Nat.{mul-suc}
+use Rattle.std.proofs.lemmas.List.{append-nil}
+use Rattle.std.proofs.lemmas.List.Sums.{sum_by-cons}
+use Rattle.std.proofs.lemmas.List.Concat.{flat_map-cons}
+use Rattle.std.specs.Int.{w32, to_le_bytes}
+use Rattle.ads_formats.specs.Numbers.{number32}
+use Rattle.ads_formats.specs.Request.{Request}
+use Rattle.ads_machine.specs.Acts.{Outcome}
+use Rattle.ads_machine.specs.Sums.{given_in_turn, left_in_turn, numbers_of_heads, read_parts, write_parts, read_write_parts}
+use Rattle.sum_commands.specs.declared.form.Form.{Form}
+use Rattle.sum_commands.specs.declared.form.Form.TheVariants as form
+use Rattle.sum_commands.specs.Parts.{Runs, front_of, data_of, asked_of}
+use Rattle.sum_commands.specs.Forms.{HasParts, RunsAll, head_width, front_width, written_len, all_written, all_asked, part_of, parts_of, fronts_in, data_in}
+use Rattle.sum_commands.proofs.HeadLemmas.{heads-step, HasHead, numbers-step}
+
+-- the first part can be taken, and the others behind it
+pub record HasFirst (form : Form) (k : ℕ) (heads written : List ℕ) : Type 0 where
+  pub head : head_width form ≤ length heads
+  pub written_there : written_len form heads ≤ length written
+  pub behind : HasParts form k (drop (head_width form) heads) (drop (written_len form heads) written)
+
+all_written-step : (form : Form) (m k : ℕ) (heads : List ℕ) → m ≡ suc k
+    → all_written form m heads ≡ written_len form heads + all_written form k (drop (head_width form) heads)
+all_written-step form.Reads m k heads e = refl
+all_written-step form.Writes m k heads e = numbers-step m k 12 8 heads e
+all_written-step form.ReadWrites m k heads e = numbers-step m k 16 12 heads e
+
+all_asked-step : (form : Form) (m k : ℕ) (heads written : List ℕ) → m ≡ suc k
+    → all_asked form m heads
+    ≡ asked_of (part_of form heads written) + all_asked form k (drop (head_width form) heads)
+all_asked-step form.Reads m k heads written e = numbers-step m k 12 8 heads e
+all_asked-step form.Writes m k heads written e = refl
+all_asked-step form.ReadWrites m k heads written e = numbers-step m k 16 8 heads e
+
+pub parts-step : (form : Form) (m k : ℕ) (heads written : List ℕ) → m ≡ suc k → HasParts form m heads written
+    → HasFirst form k heads written
+parts-step form m k heads written e has =
+    let first = heads-step m k (head_width form) heads e has.heads_there in
+    let all = all_written-step form m k heads e in
+    record {
+      head = first.head;
+      written_there = omega (arith, all, has.written_there);
+      behind = record {
+        heads_there = first.behind;
+        written_there = omega (arith, all, has.written_there, length-drop (written_len form heads) written);
+      };
+    }
+
+front-len : (form : Form) (heads written : List ℕ) (o : Outcome)
+    → length (front_of (part_of form heads written) o) ≡ front_width form
+front-len form.Reads heads written o = refl
+front-len form.Writes heads written o = refl
+front-len form.ReadWrites heads written o = refl
+
+parts_of-suc : (form : Form) (k : ℕ) (heads written : List ℕ)
+    → parts_of form (suc k) heads written
+    ≡ part_of form heads written ∷ parts_of form k (drop (head_width form) heads) (drop (written_len form heads) written)
+parts_of-suc form.Reads k heads written = refl
+parts_of-suc form.Writes k heads written = refl
+parts_of-suc form.ReadWrites k heads written = refl
+
+fronts_in-cons : (form : Form) (heads written : List ℕ) (o : Outcome) (os : List Outcome)
+    → fronts_in form (o ∷ os) ≡ front_of (part_of form heads written) o ++ fronts_in form os
+fronts_in-cons form.Reads heads written o os = flat_map-cons (λ (x : Outcome). to_le_bytes w32 x.code) o os
+fronts_in-cons form.Writes heads written o os = flat_map-cons (λ (x : Outcome). to_le_bytes w32 x.code) o os
+fronts_in-cons form.ReadWrites heads written o os =
+    flat_map-cons (λ (x : Outcome). to_le_bytes w32 x.code ++ to_le_bytes w32 (length x.bytes)) o os
+
+data_in-cons : (form : Form) (k : ℕ) (heads written : List ℕ) (o : Outcome) (os : List Outcome)
+    → data_in form (suc k) heads (o ∷ os)
+    ≡ data_of (part_of form heads written) o ++ data_in form k (drop (head_width form) heads) os
+data_in-cons form.Reads k heads written o os = refl
+data_in-cons form.Writes k heads written o os = refl
+data_in-cons form.ReadWrites k heads written o os = flat_map-cons (λ (x : Outcome). x.bytes) o os
+
+given_in_turn-cons : {S : Type 0} (given : S → Request → Outcome) (leaves : S → Request → S) (s : S) (r : Request)
+    (rs : List Request)
+    → given_in_turn given leaves s (r ∷ rs) ≡ given s r ∷ given_in_turn given leaves (leaves s r) rs
+unfolding given_in_turn
+given_in_turn-cons given leaves s r rs = refl
+
+left_in_turn-cons : {S : Type 0} (leaves : S → Request → S) (s : S) (r : Request) (rs : List Request)
+    → left_in_turn leaves s (r ∷ rs) ≡ left_in_turn leaves (leaves s r) rs
+unfolding left_in_turn
+left_in_turn-cons leaves s r rs = refl
+
+-- a part is run, and then those behind it
+pub runs-suc : {S : Type 0} (given : S → Request → Outcome) (leaves : S → Request → S) (form : Form) (k : ℕ)
+    (heads written : List ℕ) (s s1 s2 : S) (f f1 f2 out out1 out2 : List ℕ)
+    → Runs given leaves (part_of form heads written) s s1 f f1 out out1
+    → RunsAll given leaves form k (drop (head_width form) heads) (drop (written_len form heads) written) s1 s2 f1 f2 out1 out2
+    → RunsAll given leaves form (suc k) heads written s s2 f f2 out out2
+runs-suc given leaves form k heads written s s1 s2 f f1 f2 out out1 out2 one more =
+    let r = part_of form heads written in
+    let rs = parts_of form k (drop (head_width form) heads) (drop (written_len form heads) written) in
+    let o = given s r in
+    let os = given_in_turn given leaves (leaves s r) rs in
+    let parts = parts_of-suc form k heads written in
+    let gave : given_in_turn given leaves s (parts_of form (suc k) heads written) ≡ o ∷ os =
+        ap (given_in_turn given leaves s) parts ∙ given_in_turn-cons given leaves s r rs in
+    let left : left_in_turn leaves s (parts_of form (suc k) heads written) ≡ left_in_turn leaves (leaves s r) rs =
+        ap (left_in_turn leaves s) parts ∙ left_in_turn-cons leaves s r rs in
+    let fronts = fronts_in-cons form heads written o os in
+    let bytes = data_in-cons form k heads written o os in
+    record {
+      state = cc (left, one.state, more.state);
+      front = cc (gave, fronts, one.state, one.front, more.front, append_assoc f (front_of r o) (fronts_in form os));
+      bytes = cc (gave, bytes, one.state, one.bytes, more.bytes, append_assoc out (data_of r o) (data_in form k (drop (head_width form) heads) os));
+      asked = omega (arith, one.asked, more.asked, all_asked-step form (suc k) k heads written refl);
+      room = omega (arith, more.room, ap length one.front, length-append f (front_of r o), front-len form heads written o, mul-suc (front_width form) k);
+    }
+
+pub runs-step : {S : Type 0} (given : S → Request → Outcome) (leaves : S → Request → S) (form : Form) (m k : ℕ)
+    (heads written : List ℕ) (s s1 s2 : S) (f f1 f2 out out1 out2 : List ℕ) → m ≡ suc k
+    → Runs given leaves (part_of form heads written) s s1 f f1 out out1
+    → RunsAll given leaves form k (drop (head_width form) heads) (drop (written_len form heads) written) s1 s2 f1 f2 out1 out2
+    → RunsAll given leaves form m heads written s s2 f f2 out out2
+runs-step given leaves form m k heads written s s1 s2 f f1 f2 out out1 out2 e one more =
+    subst (λ x. RunsAll given leaves form x heads written s s2 f f2 out out2) (sym e)
+    (runs-suc given leaves form k heads written s s1 s2 f f1 f2 out out1 out2 one more)
+
+-- no part is run
+runs-zero : {S : Type 0} (given : S → Request → Outcome) (leaves : S → Request → S) (form : Form)
+    (heads written : List ℕ) (s : S) (f out : List ℕ)
+    → RunsAll given leaves form zero heads written s s f f out out
+unfolding given_in_turn left_in_turn
+runs-zero given leaves form.Reads heads written s f out = record {
+  state = refl; front = sym (append-nil f); bytes = sym (append-nil out); asked = omega arith; room = omega arith;
+}
+runs-zero given leaves form.Writes heads written s f out = record {
+  state = refl; front = sym (append-nil f); bytes = sym (append-nil out); asked = omega arith; room = omega arith;
+}
+runs-zero given leaves form.ReadWrites heads written s f out = record {
+  state = refl; front = sym (append-nil f); bytes = sym (append-nil out); asked = omega arith; room = omega arith;
+}
+
+pub runs-none : {S : Type 0} (given : S → Request → Outcome) (leaves : S → Request → S) (form : Form) (m : ℕ)
+    (heads written : List ℕ) (s : S) (f out : List ℕ) → m ≡ 0
+    → RunsAll given leaves form m heads written s s f f out out
+runs-none given leaves form m heads written s f out e =
+    subst (λ x. RunsAll given leaves form x heads written s s f f out out) (sym e)
+    (runs-zero given leaves form heads written s f out)
+
+-- where the parts that are left are said by equations
+pub record IsBehind (form : Form) (heads written : List ℕ) (form' : Form) (heads' written' : List ℕ) : Type 0 where
+  pub form_same : form' ≡ form
+  pub heads_left : heads' ≡ drop (head_width form) heads
+  pub written_left : written' ≡ drop (written_len form heads) written
+
+pub parts-next : (form form' : Form) (m k : ℕ) (heads written heads' written' : List ℕ) → m ≡ suc k
+    → IsBehind form heads written form' heads' written' → HasParts form m heads written
+    → HasParts form' k heads' written'
+parts-next form form' m k heads written heads' written' e b has =
+    rw (b.form_same, b.heads_left, b.written_left) (parts-step form m k heads written e has).behind
+
+pub runs-next : {S : Type 0} (given : S → Request → Outcome) (leaves : S → Request → S) (form form' : Form) (m k : ℕ)
+    (heads written heads' written' : List ℕ) (r : Request) (s s1 s2 : S) (f f1 f2 out out1 out2 : List ℕ) → m ≡ suc k
+    → IsBehind form heads written form' heads' written' → r ≡ part_of form heads written
+    → Runs given leaves r s s1 f f1 out out1
+    → RunsAll given leaves form' k heads' written' s1 s2 f1 f2 out1 out2
+    → RunsAll given leaves form m heads written s s2 f f2 out out2
+runs-next given leaves form form' m k heads written heads' written' r s s1 s2 f f1 f2 out out1 out2 e b first one more =
+    let here : Runs given leaves (part_of form heads written) s s1 f f1 out out1 =
+        subst (λ x. Runs given leaves x s s1 f f1 out out1) first one in
+    let behind : RunsAll given leaves form k (drop (head_width form) heads) (drop (written_len form heads) written) s1 s2 f1 f2 out1 out2 =
+        subst (λ x. RunsAll given leaves x k (drop (head_width form) heads) (drop (written_len form heads) written) s1 s2 f1 f2 out1 out2) b.form_same
+        (subst (λ x. RunsAll given leaves form' k x (drop (written_len form heads) written) s1 s2 f1 f2 out1 out2) b.heads_left
+        (subst (λ x. RunsAll given leaves form' k heads' x s1 s2 f1 f2 out1 out2) b.written_left more)) in
+    runs-step given leaves form m k heads written s s1 s2 f f1 f2 out out1 out2 e here behind

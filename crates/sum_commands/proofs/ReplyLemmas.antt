@@ -1,0 +1,20 @@
+-- The reply of a sum: its results in front, and its data behind them.
+use Rattle.std.proofs.Common.{◌≡◌, ℕ, ◌*◌, List, ◌++◌, drop, refl, sym}
+use Rattle.std.proofs.lemmas.List.{append-nil}
+use Rattle.ads_formats.specs.Request.{Request}
+use Rattle.ads_machine.specs.Acts.{Outcome}
+use Rattle.ads_machine.specs.Sums.{given_in_turn, packed}
+use Rattle.sum_commands.specs.declared.form.Form.{Form}
+use Rattle.sum_commands.specs.declared.form.Form.TheVariants as form
+use Rattle.sum_commands.specs.SumCommand.{sum_reply}
+use Rattle.sum_commands.specs.Forms.{sum_in, head_width, parts_of, fronts_in, data_in}
+
+pub sum_reply-parts : {S : Type 0} (given : S → Request → Outcome) (leaves : S → Request → S) (s : S) (form : Form)
+    (n : ℕ) (bytes : List ℕ)
+    → sum_reply given leaves s (sum_in form n bytes)
+    ≡ fronts_in form (given_in_turn given leaves s (parts_of form n bytes (drop (head_width form * n) bytes)))
+    ++ data_in form n bytes (given_in_turn given leaves s (parts_of form n bytes (drop (head_width form * n) bytes)))
+unfolding packed
+sum_reply-parts given leaves s form.Reads n bytes = refl
+sum_reply-parts given leaves s form.Writes n bytes = sym (append-nil _)
+sum_reply-parts given leaves s form.ReadWrites n bytes = refl

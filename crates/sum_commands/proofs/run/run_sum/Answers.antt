@@ -1,0 +1,9 @@
+use Rattle.std.proofs.Common.{◌≡◌}
+use Rattle.sum_commands.proofs.ReplyLemmas.{sum_reply-parts}
+use Rattle.sum_commands.proofs.run.run_sum.Goals as goal
+
+pub returns-in-Ok-clause-reply : goal.returns-in-Ok-clause-reply
+returns-in-Ok-clause-reply g c =
+    let reply = sum_reply-parts g.P.PartService.given g.P.PartService.left (g.P.PartService.state c.args.service.now) c.of-form.result c.args.n c.args.bytes.now in
+    let put = c.in-Ok.ensures.ok.bytes in
+    cc (reply, put, c.of-form.ensures c.args.n c.args.bytes.now, c.bytes_behind.ensures, c.heads.ensures.len)

@@ -1,0 +1,45 @@
+-- How a part of a sum ends, and what the sum's reply has of it.
+-- Beckhoff Information System, "ADS Sum Command".
+use Rattle.std.specs.Prelude.{◌≡◌, ◌≤◌, ℕ, ◌+◌, List, [], ◌++◌, length, Result, Ok, Err}
+use Rattle.std.specs.Int.{w32, to_le_bytes}
+use Rattle.ads_formats.specs.Codes.{no_error}
+use Rattle.ads_formats.specs.Request.{Request, Read, ReadWrite}
+use Rattle.ads_machine.specs.Acts.{Outcome}
+use Rattle.ads_machine.specs.Sums.{filled}
+use Rattle.return_codes.specs.declared.code.Code.{Code}
+use Rattle.return_codes.specs.Code.{number_of}
+
+-- the number of an answer: 0, or that of the code that refuses
+abbrev pub code_in : {X : Type 0} → Result X Code → ℕ
+code_in (Ok x) = no_error
+code_in (Err code) = number_of code
+
+-- a part ended so: the answer has its code, and its bytes were appended
+pub record Gives {X : Type 0} (o : Outcome) (answer : Result X Code) (old new : List ℕ) : Type 0 where
+  pub code : code_in answer ≡ o.code
+  pub bytes : new ≡ old ++ o.bytes
+
+-- what stands in front: the result, and behind that of a read-write the length of its data
+abbrev pub front_of : Request → Outcome → List ℕ
+front_of (ReadWrite group offset read_len bytes) o = to_le_bytes w32 o.code ++ to_le_bytes w32 (length o.bytes)
+front_of _ o = to_le_bytes w32 o.code
+
+-- what stands behind all fronts: a read is filled to the length that it asked, and a write has no data
+abbrev pub data_of : Request → Outcome → List ℕ
+data_of (Read group offset len) o = filled len o.bytes
+data_of (ReadWrite group offset read_len bytes) o = o.bytes
+data_of _ o = []
+
+-- the most bytes of that
+abbrev pub asked_of : Request → ℕ
+asked_of (Read group offset len) = len
+asked_of (ReadWrite group offset read_len bytes) = read_len
+asked_of _ = 0
+
+-- a part is run: the state that it leaves, and what was appended to the fronts and to the data
+pub record Runs {S : Type 0} (given : S → Request → Outcome) (leaves : S → Request → S) (r : Request)
+    (before after : S) (fronts fronts' : List ℕ) (out out' : List ℕ) : Type 0 where
+  pub state : after ≡ leaves before r
+  pub front : fronts' ≡ fronts ++ front_of r (given before r)
+  pub bytes : out' ≡ out ++ data_of r (given before r)
+  pub asked : length out' ≤ length out + asked_of r

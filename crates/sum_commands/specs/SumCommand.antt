@@ -1,0 +1,34 @@
+-- A sum by its group: its parts, the code that refuses it, its reply.
+-- Beckhoff Information System, "ADS Sum Command".
+use Rattle.std.specs.Prelude.{ℕ, List, length, Option, Some, None, Result, Ok, Err, ◌==◌, if◌then◌else◌}
+use Rattle.ads_formats.specs.Groups.{sum_read, sum_write}
+use Rattle.ads_formats.specs.Request.{Request}
+use Rattle.ads_machine.specs.Acts.{Outcome}
+use Rattle.ads_machine.specs.Sums.{SumRequest, sum_of_reads, sum_of_writes, sum_of_read_writes, sum_refusal, packed}
+use Rattle.ads_machine.specs.Sums.{given_in_turn, left_in_turn}
+use Rattle.return_codes.specs.declared.code.Code.{Code}
+use Rattle.return_codes.specs.Code.{number_of}
+
+-- the sum of n parts in these bytes: reads, writes or read-writes
+abbrev pub sum_of : ℕ → ℕ → List ℕ → SumRequest
+sum_of group n bytes =
+    if group == sum_read then sum_of_reads n bytes
+    else if group == sum_write then sum_of_writes n bytes
+    else sum_of_read_writes n bytes
+
+-- the code that refuses a sum
+abbrev pub refusal_in : SumRequest → ℕ → ℕ → ℕ → Option ℕ
+refusal_in s n len read_len = sum_refusal n s.data_len len s.reply_len read_len
+
+-- the code of a refusal, and none of what was not refused
+abbrev pub refused_by : {X : Type 0} → Result X Code → Option ℕ
+refused_by (Ok x) = None
+refused_by (Err code) = Some (number_of code)
+
+-- the reply of parts that run one after another
+abbrev pub sum_reply : {S : Type 0} → (S → Request → Outcome) → (S → Request → S) → S → SumRequest → List ℕ
+sum_reply given leaves before s = packed s.form (given_in_turn given leaves before s.parts)
+
+-- the state that the parts leave
+abbrev pub left_by_sum : {S : Type 0} → (S → Request → S) → S → SumRequest → S
+left_by_sum leaves before s = left_in_turn leaves before s.parts

@@ -1,0 +1,67 @@
+//! The three forms of a sum.
+
+ghost use Rattle.std.specs.Prelude.{◌≡◌, ◌≤◌, ◌*◌, ℕ, List};
+ghost use Rattle.ads_machine.specs.Sums.{MAX_PARTS};
+ghost use Rattle.sum_commands.specs.SumCommand.{sum_of};
+
+// How the parts of a sum are packed.
+#[derive(Clone, Copy)]
+pub(crate) enum Form {
+    // 0xF080: heads of group 4, offset 4, length 4.
+    Reads,
+    // 0xF081: the same heads, and the data to be written behind them.
+    Writes,
+    // 0xF082: heads of group 4, offset 4, read length 4, write length 4, and the data behind them.
+    ReadWrites,
+}
+
+impl Form {
+    ghost use Rattle.sum_commands.specs.Forms.{sum_in, head_width, front_width};
+
+    // The form of the sums of a group.
+    pub(crate) fn of(group: u32) -> Form
+        requires from { 0xF080 ≤ group }
+        requires to { group ≤ 0xF082 }
+        ensures { (n : ℕ) (bytes : List ℕ) → sum_in result n bytes ≡ sum_of group n bytes }
+    {
+        match group {
+            0xF080 => Form::Reads,
+            0xF081 => Form::Writes,
+            _ => Form::ReadWrites,
+        }
+    }
+
+    // How long a head is.
+    pub(crate) fn head(self) -> usize
+        ensures { result ≡ head_width self }
+    {
+        match self {
+            Form::Reads | Form::Writes => 12,
+            Form::ReadWrites => 16,
+        }
+    }
+
+    // How long n heads are.
+    pub(crate) fn heads(self, n: u32) -> usize
+        requires { n ≤ MAX_PARTS }
+        ensures len { result ≡ head_width self * n }
+        ensures small { result ≤ 8000 }
+    {
+        match self {
+            Form::Reads | Form::Writes => 12 * n as usize,
+            Form::ReadWrites => 16 * n as usize,
+        }
+    }
+
+    // How long n results are in the reply, each with the length of its data where that is returned.
+    pub(crate) fn fronts(self, n: u32) -> u32
+        requires { n ≤ MAX_PARTS }
+        ensures len { result ≡ front_width self * n }
+        ensures small { result ≤ 4000 }
+    {
+        match self {
+            Form::Reads | Form::Writes => 4 * n,
+            Form::ReadWrites => 8 * n,
+        }
+    }
+}

@@ -1,0 +1,17 @@
+//! Sum commands: many reads, writes or read-writes in one, over any service of the single commands.
+#![tactic(auto)]
+
+mod answers;
+mod form;
+mod heads;
+mod part;
+mod part_service;
+mod refusals;
+mod room;
+mod run;
+mod running;
+#[cfg(test)]
+mod tests;
+
+pub use part_service::PartService;
+pub use run::run_sum;

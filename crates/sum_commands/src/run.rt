@@ -1,0 +1,106 @@
+//! A sum command is run.
+
+ghost use Rattle.std.specs.Prelude.{◌≡◌, ◌≤◌, ◌+◌, ◌++◌, length, OnOk, OnErr, IfOk};
+ghost use Rattle.ads_base.specs.Octets.{Extends};
+ghost use Rattle.ads_formats.specs.Groups.{sum_read, sum_read_write};
+ghost use Rattle.ads_formats.specs.Ranges.{greatest_len};
+ghost use Rattle.ads_machine.specs.Sums.{MAX_PARTS};
+ghost use Rattle.sum_commands.specs.Forms.{HasParts, RunsAll, Replies};
+ghost use Rattle.sum_commands.specs.SumCommand.{sum_of, refusal_in, refused_by, sum_reply, left_by_sum};
+
+use crate::PartService;
+use crate::form::Form;
+use crate::heads::{Rest, behind_first, bytes_behind, first_part};
+use crate::refusals::refusal;
+use crate::room::{put_zeros, write_at};
+use crate::running::run_part;
+use ads_base::{NoMemory, Octets};
+use return_codes::Code;
+use std::alloc::Global;
+
+/// Runs the n parts of a sum command one after another, each on the state that the part before left, and appends the
+/// data of its reply.
+pub fn run_sum<P: PartService>(
+    alloc: Global,
+    service: &mut P,
+    group: u32,
+    n: u32,
+    read_len: u32,
+    bytes: &[u8],
+    out: &mut Octets,
+) -> Result<Result<(), Code>, NoMemory>
+    requires from { sum_read ≤ group }
+    requires to { group ≤ sum_read_write }
+    ensures code { IfOk result (λ answer. refused_by answer
+        ≡ refusal_in (sum_of group n bytes.now) n (length bytes.now) read_len) }
+    ensures reply { IfOk result (λ answer. OnOk answer (out.new
+        ≡ out.old ++ sum_reply P.given P.left (P.state service.old) (sum_of group n bytes.now))) }
+    ensures leaves { IfOk result (λ answer. OnOk answer (P.state service.new
+        ≡ left_by_sum P.left (P.state service.old) (sum_of group n bytes.now))) }
+    ensures asked { IfOk result (λ answer. length out.new ≤ length out.old + read_len) }
+    ensures short { IfOk result (λ answer. length out.new ≤ length out.old + greatest_len) }
+    ensures err { IfOk result (λ answer. OnErr answer ((service.new ≡ service.old) × (out.new ≡ out.old))) }
+    ensures no_memory { OnErr result (out.new ≡ out.old) }
+{
+    let form = Form::of(group);
+    if let Some(code) = refusal(form, n, read_len, bytes) {
+        return Ok(Err(code));
+    }
+    let rest = Rest {
+        form,
+        heads: bytes,
+        written: bytes_behind(bytes, form.heads(n)),
+    };
+    let before = out.len();
+    match put_reply(alloc, service, rest, n, out) {
+        Ok(()) => Ok(Ok(())),
+        Err(no_memory) => {
+            out.cut(before);
+            Err(no_memory)
+        }
+    }
+}
+
+// Appends the reply of n parts: the room of the results, which are filled in at the end, and the data.
+fn put_reply<P: PartService>(
+    alloc: Global,
+    service: &mut P,
+    rest: Rest<'_>,
+    n: u32,
+    out: &mut Octets,
+) -> Result<(), NoMemory>
+    requires few { n ≤ MAX_PARTS }
+    requires parts { HasParts rest.form n rest.heads.now rest.written.now }
+    ensures ok { OnOk result (Replies P.given P.left rest.entry.form n rest.entry.heads.now rest.entry.written.now
+        (P.state service.old) (P.state service.new) out.old out.new) }
+    ensures no_memory { OnErr result (Extends out.old out.new) }
+{
+    let start = out.len();
+    put_zeros(alloc, out, rest.form.fronts(n))?;
+    let mut fronts = Octets::new(alloc);
+    run_parts(alloc, service, rest, n, &mut fronts, out)?;
+    write_at(out, start, fronts.as_slice());
+    Ok(())
+}
+
+// Runs n parts. Their results are appended to the fronts, and their data to `out`.
+fn run_parts<P: PartService>(
+    alloc: Global,
+    service: &mut P,
+    rest: Rest<'_>,
+    n: u32,
+    fronts: &mut Octets,
+    out: &mut Octets,
+) -> Result<(), NoMemory>
+    requires { HasParts rest.form n rest.heads.now rest.written.now }
+    ensures ok { OnOk result (RunsAll P.given P.left rest.entry.form n rest.entry.heads.now rest.entry.written.now
+        (P.state service.old) (P.state service.new) fronts.old fronts.new out.old out.new) }
+    ensures no_memory { OnErr result (Extends out.old out.new) }
+{
+    let mut rest = rest;
+    for _ in 0..n {
+        run_part(alloc, service, first_part(rest), fronts, out)?;
+        rest = behind_first(rest);
+    }
+    Ok(())
+}

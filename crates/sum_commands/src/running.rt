@@ -1,0 +1,105 @@
+//! One part is run.
+
+ghost use Rattle.std.specs.Prelude.{OnOk, OnErr};
+ghost use Rattle.ads_base.specs.Octets.{Extends};
+ghost use Rattle.ads_formats.specs.Request.{Read, Write, ReadWrite};
+ghost use Rattle.sum_commands.specs.Parts.{Runs};
+ghost use Rattle.sum_commands.specs.PartValues.{part_meant};
+
+use crate::PartService;
+use crate::answers::number_in;
+use crate::part::Part;
+use crate::room::put_zeros;
+use ads_base::{NoMemory, Octets, put32};
+use std::alloc::Global;
+
+// Runs a part. Its result is appended to the fronts, and its data to `out`.
+pub(crate) fn run_part<P: PartService>(
+    alloc: Global,
+    service: &mut P,
+    part: Part<'_>,
+    fronts: &mut Octets,
+    out: &mut Octets,
+) -> Result<(), NoMemory>
+    ensures ok { OnOk result (Runs P.given P.left (part_meant part.entry)
+        (P.state service.old) (P.state service.new) fronts.old fronts.new out.old out.new) }
+    ensures no_memory { OnErr result (Extends out.old out.new) }
+{
+    match part {
+        Part::Read { group, offset, len } => {
+            run_read(alloc, service, group, offset, len, fronts, out)
+        }
+        Part::Write {
+            group,
+            offset,
+            bytes,
+        } => run_write(alloc, service, group, offset, bytes, fronts, out),
+        Part::ReadWrite {
+            group,
+            offset,
+            read_len,
+            bytes,
+        } => run_read_write(
+            alloc, service, group, offset, read_len, bytes, fronts, out,
+        ),
+    }
+}
+
+fn run_read<P: PartService>(
+    alloc: Global,
+    service: &mut P,
+    group: u32,
+    offset: u32,
+    len: u32,
+    fronts: &mut Octets,
+    out: &mut Octets,
+) -> Result<(), NoMemory>
+    ensures ok { OnOk result (Runs P.given P.left (Read group offset len)
+        (P.state service.old) (P.state service.new) fronts.old fronts.new out.old out.new) }
+    ensures no_memory { OnErr result (Extends out.old out.new) }
+{
+    let before = out.len();
+    let answer = service.read(alloc, group, offset, len, out)?;
+    let gave = out.len() - before;
+    put_zeros(alloc, out, len - gave as u32)?;
+    put32(alloc, fronts, number_in(answer))
+}
+
+fn run_write<P: PartService>(
+    alloc: Global,
+    service: &mut P,
+    group: u32,
+    offset: u32,
+    bytes: &[u8],
+    fronts: &mut Octets,
+    out: &mut Octets,
+) -> Result<(), NoMemory>
+    ensures ok { OnOk result (Runs P.given P.left (Write group offset bytes.now)
+        (P.state service.old) (P.state service.new) fronts.old fronts.new out.old out.new) }
+    ensures no_memory { OnErr result (Extends out.old out.new) }
+{
+    let answer = service.write(group, offset, bytes);
+    put32(alloc, fronts, number_in(answer))
+}
+
+fn run_read_write<P: PartService>(
+    alloc: Global,
+    service: &mut P,
+    group: u32,
+    offset: u32,
+    read_len: u32,
+    bytes: &[u8],
+    fronts: &mut Octets,
+    out: &mut Octets,
+) -> Result<(), NoMemory>
+    ensures ok { OnOk result (Runs P.given P.left (ReadWrite group offset read_len bytes.now)
+        (P.state service.old) (P.state service.new) fronts.old fronts.new out.old out.new) }
+    ensures no_memory { OnErr result (Extends out.old out.new) }
+{
+    let before = out.len();
+    let answer = service.read_write(alloc, group, offset, read_len, bytes, out)?;
+    let gave = out.len() - before;
+    put32(alloc, fronts, number_in(answer))?;
+    put32(alloc, fronts, gave as u32)?;
+    Ok(())
+}
