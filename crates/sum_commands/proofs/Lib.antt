@@ -1,3 +1,4 @@
 pub mod HeadLemmas
 pub mod PartLemmas
 pub mod ReplyLemmas
+pub mod StopLemmas

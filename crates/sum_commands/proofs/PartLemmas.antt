@@ -54,7 +54,7 @@ front-len form.Reads heads written o = refl
 front-len form.Writes heads written o = refl
 front-len form.ReadWrites heads written o = refl
 
-parts_of-suc : (form : Form) (k : ℕ) (heads written : List ℕ)
+pub parts_of-suc : (form : Form) (k : ℕ) (heads written : List ℕ)
     → parts_of form (suc k) heads written
     ≡ part_of form heads written ∷ parts_of form k (drop (head_width form) heads) (drop (written_len form heads) written)
 parts_of-suc form.Reads k heads written = refl
@@ -99,9 +99,9 @@ runs-suc given leaves form k heads written s s1 s2 f f1 f2 out out1 out2 one mor
     let os = given_in_turn given leaves (leaves s r) rs in
     let parts = parts_of-suc form k heads written in
     let gave : given_in_turn given leaves s (parts_of form (suc k) heads written) ≡ o ∷ os =
-        ap (given_in_turn given leaves s) parts ∙ given_in_turn-cons given leaves s r rs in
+    ap (given_in_turn given leaves s) parts ∙ given_in_turn-cons given leaves s r rs in
     let left : left_in_turn leaves s (parts_of form (suc k) heads written) ≡ left_in_turn leaves (leaves s r) rs =
-        ap (left_in_turn leaves s) parts ∙ left_in_turn-cons leaves s r rs in
+    ap (left_in_turn leaves s) parts ∙ left_in_turn-cons leaves s r rs in
     let fronts = fronts_in-cons form heads written o os in
     let bytes = data_in-cons form k heads written o os in
     record {
@@ -127,13 +127,25 @@ runs-zero : {S : Type 0} (given : S → Request → Outcome) (leaves : S → Req
     → RunsAll given leaves form zero heads written s s f f out out
 unfolding given_in_turn left_in_turn
 runs-zero given leaves form.Reads heads written s f out = record {
-  state = refl; front = sym (append-nil f); bytes = sym (append-nil out); asked = omega arith; room = omega arith;
+  state = refl;
+  front = sym (append-nil f);
+  bytes = sym (append-nil out);
+  asked = omega arith;
+  room = omega arith;
 }
 runs-zero given leaves form.Writes heads written s f out = record {
-  state = refl; front = sym (append-nil f); bytes = sym (append-nil out); asked = omega arith; room = omega arith;
+  state = refl;
+  front = sym (append-nil f);
+  bytes = sym (append-nil out);
+  asked = omega arith;
+  room = omega arith;
 }
 runs-zero given leaves form.ReadWrites heads written s f out = record {
-  state = refl; front = sym (append-nil f); bytes = sym (append-nil out); asked = omega arith; room = omega arith;
+  state = refl;
+  front = sym (append-nil f);
+  bytes = sym (append-nil out);
+  asked = omega arith;
+  room = omega arith;
 }
 
 pub runs-none : {S : Type 0} (given : S → Request → Outcome) (leaves : S → Request → S) (form : Form) (m : ℕ)
@@ -163,9 +175,9 @@ pub runs-next : {S : Type 0} (given : S → Request → Outcome) (leaves : S →
     → RunsAll given leaves form m heads written s s2 f f2 out out2
 runs-next given leaves form form' m k heads written heads' written' r s s1 s2 f f1 f2 out out1 out2 e b first one more =
     let here : Runs given leaves (part_of form heads written) s s1 f f1 out out1 =
-        subst (λ x. Runs given leaves x s s1 f f1 out out1) first one in
+    subst (λ x. Runs given leaves x s s1 f f1 out out1) first one in
     let behind : RunsAll given leaves form k (drop (head_width form) heads) (drop (written_len form heads) written) s1 s2 f1 f2 out1 out2 =
-        subst (λ x. RunsAll given leaves x k (drop (head_width form) heads) (drop (written_len form heads) written) s1 s2 f1 f2 out1 out2) b.form_same
-        (subst (λ x. RunsAll given leaves form' k x (drop (written_len form heads) written) s1 s2 f1 f2 out1 out2) b.heads_left
-        (subst (λ x. RunsAll given leaves form' k heads' x s1 s2 f1 f2 out1 out2) b.written_left more)) in
+    subst (λ x. RunsAll given leaves x k (drop (head_width form) heads) (drop (written_len form heads) written) s1 s2 f1 f2 out1 out2) b.form_same
+    (subst (λ x. RunsAll given leaves form' k x (drop (written_len form heads) written) s1 s2 f1 f2 out1 out2) b.heads_left
+    (subst (λ x. RunsAll given leaves form' k heads' x s1 s2 f1 f2 out1 out2) b.written_left more)) in
     runs-step given leaves form m k heads written s s1 s2 f f1 f2 out out1 out2 e here behind

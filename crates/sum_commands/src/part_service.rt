@@ -9,7 +9,7 @@ use std::alloc::Global;
 
 /// The single commands, which the parts of a sum are. What a part gives and leaves follows from the state before it.
 ///
-/// After want of memory of `read` or `read_write` nothing is said of the state.
+/// After want of memory of `read` or `read_write` the state is one that `may_leave` has.
 /// Beckhoff Information System, "ADS Read", "ADS Write", "ADS ReadWrite".
 pub trait PartService {
     ghost use Rattle.ads_machine.specs.Acts.{Outcome};
@@ -25,6 +25,9 @@ pub trait PartService {
 
     ghost left: { State → Request → State };
 
+    // The states that a part may leave where memory is wanting; a fact that always holds promises nothing.
+    ghost may_leave: { State → Request → State → Type 0 };
+
     /// Appends the bytes read, at most `len`; a refusal appends nothing.
     fn read(
         &mut self,
@@ -36,6 +39,7 @@ pub trait PartService {
     ) -> Result<Result<(), Code>, NoMemory>
         ensures gives { IfOk result (λ answer. Gives (given (state self.old) (Read group offset len)) answer out.old out.new) }
         ensures leaves { OnOk result (state self.new ≡ left (state self.old) (Read group offset len)) }
+        ensures wants { OnErr result (may_leave (state self.old) (Read group offset len) (state self.new)) }
         ensures asked { OnOk result (length out.new ≤ length out.old + len) }
         ensures refused { IfOk result (λ answer. OnErr answer (out.new ≡ out.old)) }
         ensures no_memory { OnErr result (out.new ≡ out.old) };
@@ -58,6 +62,8 @@ pub trait PartService {
         ensures gives { IfOk result (λ answer. Gives
             (given (state self.old) (ReadWrite group offset read_len bytes.now)) answer out.old out.new) }
         ensures leaves { OnOk result (state self.new ≡ left (state self.old) (ReadWrite group offset read_len bytes.now)) }
+        ensures wants { OnErr result
+            (may_leave (state self.old) (ReadWrite group offset read_len bytes.now) (state self.new)) }
         ensures asked { OnOk result (length out.new ≤ length out.old + read_len) }
         ensures refused { IfOk result (λ answer. OnErr answer (out.new ≡ out.old)) }
         ensures no_memory { OnErr result (out.new ≡ out.old) };

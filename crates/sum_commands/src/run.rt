@@ -5,7 +5,8 @@ ghost use Rattle.ads_base.specs.Octets.{Extends};
 ghost use Rattle.ads_formats.specs.Groups.{sum_read, sum_read_write};
 ghost use Rattle.ads_formats.specs.Ranges.{greatest_len};
 ghost use Rattle.ads_machine.specs.Sums.{MAX_PARTS};
-ghost use Rattle.sum_commands.specs.Forms.{HasParts, RunsAll, Replies};
+ghost use Rattle.sum_commands.specs.Forms.{HasParts, RunsAll, Replies, parts_of};
+ghost use Rattle.sum_commands.specs.Stops.{StopsAmong};
 ghost use Rattle.sum_commands.specs.SumCommand.{sum_of, refusal_in, refused_by, sum_reply, left_by_sum};
 
 use crate::PartService;
@@ -19,7 +20,17 @@ use return_codes::Code;
 use std::alloc::Global;
 
 /// Runs the n parts of a sum command one after another, each on the state that the part before left, and appends the
-/// data of its reply.
+/// data of its reply. The group is 0xF080 for reads, 0xF081 for writes and 0xF082 for read-writes.
+///
+/// | group | bytes | reply |
+/// |---|---|---|
+/// | 0xF080 | n times group 4, offset 4, length 4 | n results of 4, then the data, each filled with zeros to its length |
+/// | 0xF081 | n times group 4, offset 4, length 4, then the data | n results of 4 |
+/// | 0xF082 | n times group 4, offset 4, read length 4, write length 4, then the data | n times result 4 and length 4, then the data |
+///
+/// Refused, before a part is run: n above 500, 0x706; bytes that are not as long as the heads say, 0x705; `read_len`
+/// below the greatest length of the reply, or that above 2,000,000, 0x705. A part that is refused hinders no later one.
+/// After want of memory the parts that ran stay done. Beckhoff Information System, "ADS Sum Command".
 pub fn run_sum<P: PartService>(
     alloc: Global,
     service: &mut P,
@@ -40,6 +51,8 @@ pub fn run_sum<P: PartService>(
     ensures asked { IfOk result (λ answer. length out.new ≤ length out.old + read_len) }
     ensures short { IfOk result (λ answer. length out.new ≤ length out.old + greatest_len) }
     ensures err { IfOk result (λ answer. OnErr answer ((service.new ≡ service.old) × (out.new ≡ out.old))) }
+    ensures wants { OnErr result (StopsAmong P.left P.may_leave
+        (sum_of group n bytes.now).parts (P.state service.old) (P.state service.new)) }
     ensures no_memory { OnErr result (out.new ≡ out.old) }
 {
     let form = Form::of(group);
@@ -73,6 +86,8 @@ fn put_reply<P: PartService>(
     requires parts { HasParts rest.form n rest.heads.now rest.written.now }
     ensures ok { OnOk result (Replies P.given P.left rest.entry.form n rest.entry.heads.now rest.entry.written.now
         (P.state service.old) (P.state service.new) out.old out.new) }
+    ensures wants { OnErr result (StopsAmong P.left P.may_leave
+        (parts_of rest.entry.form n rest.entry.heads.now rest.entry.written.now) (P.state service.old) (P.state service.new)) }
     ensures no_memory { OnErr result (Extends out.old out.new) }
 {
     let start = out.len();
@@ -95,6 +110,8 @@ fn run_parts<P: PartService>(
     requires { HasParts rest.form n rest.heads.now rest.written.now }
     ensures ok { OnOk result (RunsAll P.given P.left rest.entry.form n rest.entry.heads.now rest.entry.written.now
         (P.state service.old) (P.state service.new) fronts.old fronts.new out.old out.new) }
+    ensures wants { OnErr result (StopsAmong P.left P.may_leave
+        (parts_of rest.entry.form n rest.entry.heads.now rest.entry.written.now) (P.state service.old) (P.state service.new)) }
     ensures no_memory { OnErr result (Extends out.old out.new) }
 {
     let mut rest = rest;

@@ -4,6 +4,7 @@ ghost use Rattle.std.specs.Prelude.{OnOk, OnErr};
 ghost use Rattle.ads_base.specs.Octets.{Extends};
 ghost use Rattle.ads_formats.specs.Request.{Read, Write, ReadWrite};
 ghost use Rattle.sum_commands.specs.Parts.{Runs};
+ghost use Rattle.sum_commands.specs.Stops.{MayStop};
 ghost use Rattle.sum_commands.specs.PartValues.{part_meant};
 
 use crate::PartService;
@@ -23,6 +24,8 @@ pub(crate) fn run_part<P: PartService>(
 ) -> Result<(), NoMemory>
     ensures ok { OnOk result (Runs P.given P.left (part_meant part.entry)
         (P.state service.old) (P.state service.new) fronts.old fronts.new out.old out.new) }
+    ensures wants { OnErr result
+        (MayStop P.left P.may_leave (part_meant part.entry) (P.state service.old) (P.state service.new)) }
     ensures no_memory { OnErr result (Extends out.old out.new) }
 {
     match part {
@@ -39,9 +42,7 @@ pub(crate) fn run_part<P: PartService>(
             offset,
             read_len,
             bytes,
-        } => run_read_write(
-            alloc, service, group, offset, read_len, bytes, fronts, out,
-        ),
+        } => run_read_write(alloc, service, group, offset, read_len, bytes, fronts, out),
     }
 }
 
@@ -56,6 +57,8 @@ fn run_read<P: PartService>(
 ) -> Result<(), NoMemory>
     ensures ok { OnOk result (Runs P.given P.left (Read group offset len)
         (P.state service.old) (P.state service.new) fronts.old fronts.new out.old out.new) }
+    ensures wants { OnErr result
+        (MayStop P.left P.may_leave (Read group offset len) (P.state service.old) (P.state service.new)) }
     ensures no_memory { OnErr result (Extends out.old out.new) }
 {
     let before = out.len();
@@ -76,6 +79,8 @@ fn run_write<P: PartService>(
 ) -> Result<(), NoMemory>
     ensures ok { OnOk result (Runs P.given P.left (Write group offset bytes.now)
         (P.state service.old) (P.state service.new) fronts.old fronts.new out.old out.new) }
+    ensures wants { OnErr result
+        (MayStop P.left P.may_leave (Write group offset bytes.now) (P.state service.old) (P.state service.new)) }
     ensures no_memory { OnErr result (Extends out.old out.new) }
 {
     let answer = service.write(group, offset, bytes);
@@ -94,6 +99,8 @@ fn run_read_write<P: PartService>(
 ) -> Result<(), NoMemory>
     ensures ok { OnOk result (Runs P.given P.left (ReadWrite group offset read_len bytes.now)
         (P.state service.old) (P.state service.new) fronts.old fronts.new out.old out.new) }
+    ensures wants { OnErr result
+        (MayStop P.left P.may_leave (ReadWrite group offset read_len bytes.now) (P.state service.old) (P.state service.new)) }
     ensures no_memory { OnErr result (Extends out.old out.new) }
 {
     let before = out.len();

@@ -1,8 +1,8 @@
-use Rattle.std.proofs.Common.{◌≡◌, ◌+◌, ◌-◌, suc, zero, arith}
+use Rattle.std.proofs.Common.{◌≡◌, ◌+◌, ◌-◌, suc, zero, drop, refl, arith}
+use Rattle.sum_commands.specs.Forms.{head_width, written_len}
 use Rattle.ads_base.proofs.OctetsLemmas.{Extends-append}
-use Rattle.sum_commands.specs.Parts.{data_of}
 use Rattle.sum_commands.specs.PartValues.{part_meant}
-use Rattle.sum_commands.specs.Forms.{part_of}
+use Rattle.sum_commands.proofs.StopLemmas.{parts_of-next, stops-here, stops-later, on_err}
 use Rattle.sum_commands.proofs.PartLemmas.{IsBehind, parts-step, parts-next, runs-next, runs-none}
 use Rattle.sum_commands.proofs.run.run_parts.Goals as goal
 
@@ -21,19 +21,34 @@ loop-preserved g c =
     let given = g.P.PartService.given in
     let more : c.args.n - c.loop.counter ≡ suc (c.args.n - (c.loop.counter + 1)) = omega arith in
     let behind : IsBehind c.loop.rest.form c.loop.rest.heads.now c.loop.rest.written.now
-        c.behind_first-rest.result.form c.behind_first-rest.result.heads.now c.behind_first-rest.result.written.now
-        = record {
-          form_same = c.behind_first-rest.ensures.form;
-          heads_left = c.behind_first-rest.ensures.heads;
-          written_left = c.behind_first-rest.ensures.written;
-        } in
+    c.behind_first-rest.result.form c.behind_first-rest.result.heads.now c.behind_first-rest.result.written.now
+    = record {
+      form_same = c.behind_first-rest.ensures.form;
+      heads_left = c.behind_first-rest.ensures.heads;
+      written_left = c.behind_first-rest.ensures.written;
+    } in
     let one = c.in_ok-run_part.ensures.ok in
     record {
       parts = parts-next _ _ _ _ _ _ _ _ more behind c.loop.invariant.parts;
       runs = λ s fronts out rest. c.loop.invariant.runs s fronts out
           (runs-next given g.P.PartService.left _ _ _ _ _ _ _ _ (part_meant c.first_part.result) _ _ _ _ _ _ _ _ _ more behind c.first_part.ensures one rest);
+      stops = λ s later. c.loop.invariant.stops s
+          (stops-later g.P.PartService.left g.P.PartService.may_leave _ (part_meant c.first_part.result) _ _ _ s
+          (parts_of-next _ _ _ _ _ _ _ _ (part_meant c.first_part.result) more behind c.first_part.ensures) one.state later);
       begun = Extends-append _ _ _ _ c.loop.invariant.begun one.bytes;
     }
+
+pub returns-in_err-run_part-clause-wants : goal.returns-in_err-run_part-clause-wants
+returns-in_err-run_part-clause-wants g c =
+    let more : c.args.n - c.loop.counter ≡ suc (c.args.n - (c.loop.counter + 1)) = omega arith in
+    let form = c.loop.rest.form in
+    let heads = c.loop.rest.heads.now in
+    let written = c.loop.rest.written.now in
+    let same : IsBehind form heads written form (drop (head_width form) heads) (drop (written_len form heads) written) =
+    record { form_same = refl; heads_left = refl; written_left = refl } in
+    on_err c.from_residual.result (c.loop.invariant.stops _
+    (stops-here g.P.PartService.left g.P.PartService.may_leave _ (part_meant c.first_part.result) _ _ _
+    (parts_of-next _ _ _ _ _ _ _ _ (part_meant c.first_part.result) more same c.first_part.ensures) c.in_err-run_part.ensures.wants))
 
 pub returns-clause-ok : goal.returns-clause-ok
 returns-clause-ok g c =
