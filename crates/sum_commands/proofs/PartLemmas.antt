@@ -1,19 +1,17 @@
 -- What n parts run after one another give, by the first part and those behind it.
-use Rattle.std.proofs.Common.{◌≡◌, ℕ, zero, suc, ◌+◌, ◌*◌, ◌≤◌, List, [], ◌∷◌, ◌++◌, drop, length, sum, refl, sym, ◌∙◌, ap, subst, arith, append_assoc, length-append, length-drop}
+use Rattle.std.proofs.Common.{◌≡◌, ℕ, zero, suc, ◌+◌, ◌≤◌, List, ◌∷◌, ◌++◌, drop, length, refl, sym, ◌∙◌, ap, subst, arith, append_assoc, length-append, length-drop}
 use Rattle.std.proofs.Math.Nat.{mul-suc}
 use Rattle.std.proofs.lemmas.List.{append-nil}
-use Rattle.std.proofs.lemmas.List.Sums.{sum_by-cons}
 use Rattle.std.proofs.lemmas.List.Concat.{flat_map-cons}
 use Rattle.std.specs.Int.{w32, to_le_bytes}
-use Rattle.ads_formats.specs.Numbers.{number32}
 use Rattle.ads_formats.specs.Request.{Request}
 use Rattle.ads_machine.specs.Acts.{Outcome}
-use Rattle.ads_machine.specs.Sums.{given_in_turn, left_in_turn, numbers_of_heads, read_parts, write_parts, read_write_parts}
+use Rattle.ads_machine.specs.Sums.{given_in_turn, left_in_turn}
 use Rattle.sum_commands.specs.declared.form.Form.{Form}
 use Rattle.sum_commands.specs.declared.form.Form.TheVariants as form
 use Rattle.sum_commands.specs.Parts.{Runs, front_of, data_of, asked_of}
 use Rattle.sum_commands.specs.Forms.{HasParts, RunsAll, head_width, front_width, written_len, all_written, all_asked, part_of, parts_of, fronts_in, data_in}
-use Rattle.sum_commands.proofs.HeadLemmas.{heads-step, HasHead, numbers-step}
+use Rattle.sum_commands.proofs.HeadLemmas.{heads-step, numbers-step}
 
 -- the first part can be taken, and the others behind it
 pub record HasFirst (form : Form) (k : ℕ) (heads written : List ℕ) : Type 0 where

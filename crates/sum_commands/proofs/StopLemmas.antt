@@ -1,5 +1,5 @@
 -- Where parts stop, by the first part and those behind it.
-use Rattle.std.proofs.Common.{◌≡◌, ◌⊎◌, inl, inr, ℕ, suc, ◌*◌, List, ◌∷◌, ◌++◌, drop, length, refl, sym, ◌∙◌, ap, subst}
+use Rattle.std.proofs.Common.{◌≡◌, inl, inr, ℕ, suc, ◌*◌, List, ◌∷◌, ◌++◌, drop, length, refl, sym, ◌∙◌, ap, subst}
 use Rattle.std.proofs.lemmas.List.{take-append-drop}
 use Rattle.std.specs.Prelude.{Result, Ok, Err, OnErr}
 use Rattle.ads_base.specs.Octets.{Extends}
@@ -7,7 +7,7 @@ use Rattle.ads_base.proofs.OctetsLemmas.{Extends-append}
 use Rattle.ads_formats.specs.Request.{Request}
 use Rattle.sum_commands.specs.declared.form.Form.{Form}
 use Rattle.sum_commands.specs.declared.form.Form.TheVariants as form
-use Rattle.sum_commands.specs.Forms.{sum_in, head_width, written_len, part_of, parts_of}
+use Rattle.sum_commands.specs.Forms.{sum_in, head_width, part_of, parts_of}
 use Rattle.sum_commands.specs.Stops.{StopsAmong, Stops, Wants, Done, MayStop}
 use Rattle.sum_commands.proofs.PartLemmas.{IsBehind, parts_of-suc}
 

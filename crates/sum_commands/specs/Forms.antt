@@ -1,5 +1,5 @@
 -- The three forms of a sum, part by part. No public clause cites it.
-use Rattle.std.specs.Prelude.{◌≡◌, ◌≤◌, ℕ, ◌+◌, ◌*◌, List, [], ◌++◌, length, take, drop, sum, flat_map}
+use Rattle.std.specs.Prelude.{◌≡◌, ◌≤◌, ℕ, ◌+◌, ◌*◌, List, [], ◌++◌, length, take, sum, flat_map}
 use Rattle.std.specs.Int.{w32, to_le_bytes}
 use Rattle.ads_formats.specs.Numbers.{number32}
 use Rattle.ads_formats.specs.Ranges.{greatest_len}

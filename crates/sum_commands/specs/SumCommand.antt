@@ -1,6 +1,6 @@
 -- A sum by its group: its parts, the code that refuses it, its reply.
 -- Beckhoff Information System, "ADS Sum Command".
-use Rattle.std.specs.Prelude.{ℕ, List, length, Option, Some, None, Result, Ok, Err, ◌==◌, if◌then◌else◌}
+use Rattle.std.specs.Prelude.{ℕ, List, Option, Some, None, Result, Ok, Err, ◌==◌, if◌then◌else◌}
 use Rattle.ads_formats.specs.Groups.{sum_read, sum_write}
 use Rattle.ads_formats.specs.Request.{Request}
 use Rattle.ads_machine.specs.Acts.{Outcome}

@@ -20,6 +20,9 @@ pub trait PartService {
 
     ghost state: { Self → State };
 
+    // The states in which a part may be run; each part that is run leaves one.
+    ghost can_run: { State → Type 0 };
+
     // How a part ends in a state, and the state that it leaves.
     ghost given: { State → Request → Outcome };
 
@@ -37,17 +40,21 @@ pub trait PartService {
         len: u32,
         out: &mut Octets,
     ) -> Result<Result<(), Code>, NoMemory>
+        requires { can_run (state self.old) }
         ensures gives { IfOk result (λ answer. Gives (given (state self.old) (Read group offset len)) answer out.old out.new) }
         ensures leaves { OnOk result (state self.new ≡ left (state self.old) (Read group offset len)) }
         ensures wants { OnErr result (may_leave (state self.old) (Read group offset len) (state self.new)) }
         ensures asked { OnOk result (length out.new ≤ length out.old + len) }
         ensures refused { IfOk result (λ answer. OnErr answer (out.new ≡ out.old)) }
+        ensures can_run { OnOk result (can_run (state self.new)) }
         ensures no_memory { OnErr result (out.new ≡ out.old) };
 
     /// Writes the bytes.
     fn write(&mut self, group: u32, offset: u32, bytes: &[u8]) -> Result<(), Code>
+        requires { can_run (state self.old) }
         ensures code { code_in result ≡ (given (state self.old) (Write group offset bytes.now)).code }
-        ensures leaves { state self.new ≡ left (state self.old) (Write group offset bytes.now) };
+        ensures leaves { state self.new ≡ left (state self.old) (Write group offset bytes.now) }
+        ensures can_run { can_run (state self.new) };
 
     /// Writes the bytes and appends those read, at most `read_len`; a refusal appends nothing.
     fn read_write(
@@ -59,6 +66,7 @@ pub trait PartService {
         bytes: &[u8],
         out: &mut Octets,
     ) -> Result<Result<(), Code>, NoMemory>
+        requires { can_run (state self.old) }
         ensures gives { IfOk result (λ answer. Gives
             (given (state self.old) (ReadWrite group offset read_len bytes.now)) answer out.old out.new) }
         ensures leaves { OnOk result (state self.new ≡ left (state self.old) (ReadWrite group offset read_len bytes.now)) }
@@ -66,5 +74,6 @@ pub trait PartService {
             (may_leave (state self.old) (ReadWrite group offset read_len bytes.now) (state self.new)) }
         ensures asked { OnOk result (length out.new ≤ length out.old + read_len) }
         ensures refused { IfOk result (λ answer. OnErr answer (out.new ≡ out.old)) }
+        ensures can_run { OnOk result (can_run (state self.new)) }
         ensures no_memory { OnErr result (out.new ≡ out.old) };
 }

@@ -42,12 +42,14 @@ pub fn run_sum<P: PartService>(
 ) -> Result<Result<(), Code>, NoMemory>
     requires from { sum_read ≤ group }
     requires to { group ≤ sum_read_write }
+    requires can_run { P.can_run (P.state service.old) }
     ensures code { IfOk result (λ answer. refused_by answer
         ≡ refusal_in (sum_of group n bytes.now) n (length bytes.now) read_len) }
     ensures reply { IfOk result (λ answer. OnOk answer (out.new
         ≡ out.old ++ sum_reply P.given P.left (P.state service.old) (sum_of group n bytes.now))) }
     ensures leaves { IfOk result (λ answer. OnOk answer (P.state service.new
         ≡ left_by_sum P.left (P.state service.old) (sum_of group n bytes.now))) }
+    ensures can_run { IfOk result (λ answer. P.can_run (P.state service.new)) }
     ensures asked { IfOk result (λ answer. length out.new ≤ length out.old + read_len) }
     ensures short { IfOk result (λ answer. length out.new ≤ length out.old + greatest_len) }
     ensures err { IfOk result (λ answer. OnErr answer ((service.new ≡ service.old) × (out.new ≡ out.old))) }
@@ -84,8 +86,10 @@ fn put_reply<P: PartService>(
 ) -> Result<(), NoMemory>
     requires few { n ≤ MAX_PARTS }
     requires parts { HasParts rest.form n rest.heads.now rest.written.now }
+    requires can_run { P.can_run (P.state service.old) }
     ensures ok { OnOk result (Replies P.given P.left rest.entry.form n rest.entry.heads.now rest.entry.written.now
         (P.state service.old) (P.state service.new) out.old out.new) }
+    ensures can_run { OnOk result (P.can_run (P.state service.new)) }
     ensures wants { OnErr result (StopsAmong P.left P.may_leave
         (parts_of rest.entry.form n rest.entry.heads.now rest.entry.written.now) (P.state service.old) (P.state service.new)) }
     ensures no_memory { OnErr result (Extends out.old out.new) }
@@ -107,9 +111,11 @@ fn run_parts<P: PartService>(
     fronts: &mut Octets,
     out: &mut Octets,
 ) -> Result<(), NoMemory>
-    requires { HasParts rest.form n rest.heads.now rest.written.now }
+    requires parts { HasParts rest.form n rest.heads.now rest.written.now }
+    requires can_run { P.can_run (P.state service.old) }
     ensures ok { OnOk result (RunsAll P.given P.left rest.entry.form n rest.entry.heads.now rest.entry.written.now
         (P.state service.old) (P.state service.new) fronts.old fronts.new out.old out.new) }
+    ensures can_run { OnOk result (P.can_run (P.state service.new)) }
     ensures wants { OnErr result (StopsAmong P.left P.may_leave
         (parts_of rest.entry.form n rest.entry.heads.now rest.entry.written.now) (P.state service.old) (P.state service.new)) }
     ensures no_memory { OnErr result (Extends out.old out.new) }

@@ -22,8 +22,10 @@ pub(crate) fn run_part<P: PartService>(
     fronts: &mut Octets,
     out: &mut Octets,
 ) -> Result<(), NoMemory>
+    requires { P.can_run (P.state service.old) }
     ensures ok { OnOk result (Runs P.given P.left (part_meant part.entry)
         (P.state service.old) (P.state service.new) fronts.old fronts.new out.old out.new) }
+    ensures can_run { OnOk result (P.can_run (P.state service.new)) }
     ensures wants { OnErr result
         (MayStop P.left P.may_leave (part_meant part.entry) (P.state service.old) (P.state service.new)) }
     ensures no_memory { OnErr result (Extends out.old out.new) }
@@ -55,8 +57,10 @@ fn run_read<P: PartService>(
     fronts: &mut Octets,
     out: &mut Octets,
 ) -> Result<(), NoMemory>
+    requires { P.can_run (P.state service.old) }
     ensures ok { OnOk result (Runs P.given P.left (Read group offset len)
         (P.state service.old) (P.state service.new) fronts.old fronts.new out.old out.new) }
+    ensures can_run { OnOk result (P.can_run (P.state service.new)) }
     ensures wants { OnErr result
         (MayStop P.left P.may_leave (Read group offset len) (P.state service.old) (P.state service.new)) }
     ensures no_memory { OnErr result (Extends out.old out.new) }
@@ -77,8 +81,10 @@ fn run_write<P: PartService>(
     fronts: &mut Octets,
     out: &mut Octets,
 ) -> Result<(), NoMemory>
+    requires { P.can_run (P.state service.old) }
     ensures ok { OnOk result (Runs P.given P.left (Write group offset bytes.now)
         (P.state service.old) (P.state service.new) fronts.old fronts.new out.old out.new) }
+    ensures can_run { OnOk result (P.can_run (P.state service.new)) }
     ensures wants { OnErr result
         (MayStop P.left P.may_leave (Write group offset bytes.now) (P.state service.old) (P.state service.new)) }
     ensures no_memory { OnErr result (Extends out.old out.new) }
@@ -97,8 +103,10 @@ fn run_read_write<P: PartService>(
     fronts: &mut Octets,
     out: &mut Octets,
 ) -> Result<(), NoMemory>
+    requires { P.can_run (P.state service.old) }
     ensures ok { OnOk result (Runs P.given P.left (ReadWrite group offset read_len bytes.now)
         (P.state service.old) (P.state service.new) fronts.old fronts.new out.old out.new) }
+    ensures can_run { OnOk result (P.can_run (P.state service.new)) }
     ensures wants { OnErr result
         (MayStop P.left P.may_leave (ReadWrite group offset read_len bytes.now) (P.state service.old) (P.state service.new)) }
     ensures no_memory { OnErr result (Extends out.old out.new) }

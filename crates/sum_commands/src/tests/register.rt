@@ -21,6 +21,8 @@ impl PartService for Register {
 
     ghost state = { λ r. r.number };
 
+    ghost can_run = { λ _. Unit {0} };
+
     ghost given = { register_given };
 
     ghost left = { register_left };

@@ -1,6 +1,6 @@
 use Rattle.std.proofs.Common.{refl}
 use Rattle.ads_base.proofs.OctetsLemmas.{Extends-append, Extends-same}
-use Rattle.sum_commands.specs.Stops.{StopsAmong, Stops}
+use Rattle.sum_commands.specs.Stops.{Stops}
 use Rattle.sum_commands.proofs.StopLemmas.{on_err, Extends-trans}
 use Rattle.sum_commands.proofs.run.put_reply.Goals as goal
 

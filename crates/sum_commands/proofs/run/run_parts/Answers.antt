@@ -35,6 +35,7 @@ loop-preserved g c =
       stops = λ s later. c.loop.invariant.stops s
           (stops-later g.P.PartService.left g.P.PartService.may_leave _ (part_meant c.first_part.result) _ _ _ s
           (parts_of-next _ _ _ _ _ _ _ _ (part_meant c.first_part.result) more behind c.first_part.ensures) one.state later);
+      ready = c.in_ok-run_part.ensures.can_run;
       begun = Extends-append _ _ _ _ c.loop.invariant.begun one.bytes;
     }
 

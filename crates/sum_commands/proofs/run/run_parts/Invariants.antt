@@ -19,5 +19,6 @@ invariant-loop g l =
       stops : (s : g.P.PartService.State)
           → StopsAmong leaves may_leave (parts_of l.rest.form (l.n - l.counter) l.rest.heads.now l.rest.written.now) (state l.service) s
           → StopsAmong leaves may_leave (parts_of l.initial.rest.form l.n l.initial.rest.heads.now l.initial.rest.written.now) (state l.initial.service) s;
+      ready : g.P.PartService.can_run (state l.service);
       begun : Extends l.initial.out l.out;
     }

@@ -1,4 +1,3 @@
-use Rattle.std.proofs.Common.{◌≡◌}
 use Rattle.sum_commands.proofs.ReplyLemmas.{sum_reply-parts}
 use Rattle.sum_commands.proofs.run.run_sum.Goals as goal
 
