@@ -43,8 +43,13 @@ pub fn run_sum<P: PartService>(
     requires from { sum_read ≤ group }
     requires to { group ≤ sum_read_write }
     requires can_run { P.can_run (P.state service.old) }
+
+    // Refused exactly by the code of the definition, with no part run.
     ensures code { IfOk result (λ answer. refused_by answer
         ≡ refusal_in (sum_of group n bytes.now) n (length bytes.now) read_len) }
+    ensures err { IfOk result (λ answer. OnErr answer ((service.new ≡ service.old) × (out.new ≡ out.old))) }
+
+    // Else the parts run one after another.
     ensures reply { IfOk result (λ answer. OnOk answer (out.new
         ≡ out.old ++ sum_reply P.given P.left (P.state service.old) (sum_of group n bytes.now))) }
     ensures leaves { IfOk result (λ answer. OnOk answer (P.state service.new
@@ -52,7 +57,8 @@ pub fn run_sum<P: PartService>(
     ensures can_run { IfOk result (λ answer. P.can_run (P.state service.new)) }
     ensures asked { IfOk result (λ answer. length out.new ≤ length out.old + read_len) }
     ensures short { IfOk result (λ answer. length out.new ≤ length out.old + greatest_len) }
-    ensures err { IfOk result (λ answer. OnErr answer ((service.new ≡ service.old) × (out.new ≡ out.old))) }
+
+    // Where memory is wanting the parts that ran stay done.
     ensures wants { OnErr result (StopsAmong P.left P.may_leave
         (sum_of group n bytes.now).parts (P.state service.old) (P.state service.new)) }
     ensures no_memory { OnErr result (out.new ≡ out.old) }
