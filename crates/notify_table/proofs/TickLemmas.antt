@@ -1,5 +1,5 @@
 -- For callers: the checks of a tick, one after another, are the tick of the machine.
-use Rattle.std.proofs.Common.{◌≡◌, ℕ, zero, suc, ◌+◌, ◌<◌, ◌≤◌, Bool, true, false, ◌||◌, cond, nat_eq, List, [], ◌∷◌, ◌++◌, length, map, take, get_or, Option, Some, None, refl, sym, ap, ◌∙◌, arith, inl, inr}
+use Rattle.std.proofs.Common.{◌≡◌, ℕ, zero, suc, ◌+◌, ◌<◌, Bool, true, false, ◌||◌, cond, nat_eq, List, [], ◌∷◌, ◌++◌, length, map, take, get_or, refl, sym, ap, ◌∙◌, arith, inl, inr}
 use Rattle.std.specs.List.{All, filter, find, list_any}
 use Rattle.std.specs.List.Sorted.{IsStrictlyIncreasing}
 use Rattle.std.proofs.lemmas.Bool.{cases_Bool, cases_eq, eq-eqb, ne_eqb}
@@ -8,7 +8,7 @@ use Rattle.std.proofs.lemmas.List.Elements.{All-head, All-tail}
 use Rattle.std.proofs.lemmas.List.Folds.{list_any-append, list_any_none}
 use Rattle.ads_formats.specs.Ranges.{Range}
 use Rattle.ads_machine.specs.Watches.{Watch, is_due, is_sent, checked_watch}
-use Rattle.notify_table.specs.Table.{WatchTable, handle_of, is_numbered, due_handles, watch_of_handle, checked_where}
+use Rattle.notify_table.specs.Table.{WatchTable, handle_of, is_numbered, due_handles, checked_where}
 
 or_false : (b : Bool) → (b || false) ≡ b
 or_false true = refl
