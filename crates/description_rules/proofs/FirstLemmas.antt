@@ -11,6 +11,16 @@ pub place_from-suc : (i : ℕ) (place : Option ℕ) → place_from i (option_map
 place_from-suc i None = refl
 place_from-suc i (Some j) = ap Some (omega arith)
 
+from_zero : (place : Option ℕ) → place ≡ place_from 0 place
+from_zero None = refl
+from_zero (Some j) = ap Some (omega arith)
+
+-- those before the i-th, and the i-th
+pub take-more : {A X : Type 0} (view : A → X) (xs : List A) (i : ℕ) (a : A) → i < length xs → a ≡ get_or xs i a
+    → map view (take (i + 1) xs) ≡ map view (take i xs) ++ view a ∷ []
+take-more view xs i a below is =
+    rw add-one (ap (map view) (take-suc xs i a below ∙ ap (λ y. take i xs ++ y ∷ []) (sym is)) ∙ map-append view (take i xs) (a ∷ []))
+
 module _ {A X : Type 0} (is_right : List X → X → Bool) (view : A → X) where
   -- what is found from the i-th element on, where those before it are right
   abbrev pub first_from : List A → ℕ → Option ℕ
@@ -22,8 +32,7 @@ module _ {A X : Type 0} (is_right : List X → X → Bool) (view : A → X) wher
   turn xs i a below is =
       let left : drop i xs ≡ a ∷ drop (i + 1) xs =
       rw add-one (drop-cons xs i a below ∙ ap (λ y. y ∷ drop (suc i) xs) (sym is)) in
-      let before : map view (take (i + 1) xs) ≡ map view (take i xs) ++ view a ∷ [] =
-      rw add-one (ap (map view) (take-suc xs i a below ∙ ap (λ y. take i xs ++ y ∷ []) (sym is)) ∙ map-append view (take i xs) (a ∷ [])) in
+      let before = take-more view xs i a below is in
       ap (λ ys. first_wrong is_right (map view (take i xs)) (map view ys)) left
       ∙ ap (λ ys. cond (is_right (map view (take i xs)) (view a)) (option_map suc (first_wrong is_right ys (map view (drop (i + 1) xs)))) (Some 0)) (sym before)
 
@@ -43,3 +52,7 @@ module _ {A X : Type 0} (is_right : List X → X → Bool) (view : A → X) wher
   pub first_from-end : (xs : List A) (i : ℕ) (place : Option ℕ) → length xs ≤ i → place ≡ first_from xs i → place ≡ None
   first_from-end xs i place end so_far =
       so_far ∙ ap (λ ys. place_from i (first_wrong is_right (map view (take i xs)) (map view ys))) (drop_all i xs end)
+
+  -- before the first element
+  pub first_from-start : (xs : List A) → first_wrong is_right [] (map view xs) ≡ first_from xs 0
+  first_from-start xs = from_zero (first_wrong is_right [] (map view xs))

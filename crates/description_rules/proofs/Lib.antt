@@ -13,3 +13,5 @@ pub mod NumberLemmas
 pub mod NameLemmas
 pub mod RouteLemmas
 pub mod LengthLemmas
+pub mod TakenLemmas
+pub mod TakenPlaceLemmas

@@ -6,6 +6,8 @@ pub mod KnownTypes
 pub mod Next
 pub mod Numbers
 pub mod Placed
+pub mod Taken
+pub mod TakenPlaces
 pub mod TypeNames
 pub mod TypesLeft
 pub mod Uploads

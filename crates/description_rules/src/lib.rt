@@ -23,6 +23,7 @@ mod symbol_names;
 mod symbol_places;
 mod symbol_signals;
 mod symbol_types;
+mod taken;
 #[cfg(test)]
 mod tests;
 mod type_building;

@@ -1,19 +1,21 @@
 //! Description rule 12: places of symbols.
-ghost use Rattle.std.specs.Prelude.{◌≡◌, ◌≤◌, ◌+◌, [], length, map, nat_le, IfOk};
-ghost use Rattle.std.specs.List.{list_all};
+ghost use Rattle.std.specs.Prelude.{◌≡◌, ◌≤◌, ◌<◌, ◌+◌, ◌^◌, [], length, map, true, IfOk};
 ghost use Rattle.ads_plant.specs.Description.{size_in};
-ghost use Rattle.ads_plant.specs.World.{is_same_area, area_number};
+ghost use Rattle.ads_plant.specs.World.{area_number};
 ghost use Rattle.ads_rules.specs.Places.{first_wrong};
 ghost use Rattle.ads_rules.specs.SymbolRules.{wrong_place, is_right_place};
 ghost use Rattle.ads_rules.specs.Described.{sizes_described};
 ghost use Rattle.type_layout.specs.Descriptions.{area_of};
 ghost use Rattle.type_layout.specs.NamedTypes.{types_of};
 ghost use Rattle.description_rules.specs.Known.{AreKnown};
-ghost use Rattle.description_rules.specs.Placed.{place_view, place_of, are_apart_places, is_right_behind};
+ghost use Rattle.description_rules.specs.Placed.{place_view, place_of, is_right_behind};
+ghost use Rattle.description_rules.specs.Taken.{AreInOrder};
+ghost use Rattle.description_rules.specs.TakenPlaces.{TakesPlace, range_of, symbol_place};
 ghost use Rattle.description_table.specs.Views.{port_view, symbol_view};
 
 use crate::known_types::{KnownTypes, text_size};
 use crate::numbers::{is_natural, natural_of};
+use crate::taken::{ByteRange, take_range};
 use crate::words::read_area;
 use ads_base::NoMemory;
 use description_table::{WrittenPort, WrittenSymbol};
@@ -60,32 +62,59 @@ fn wrong_place_in(
     ensures { IfOk result (λ place. place ≡ first_wrong (is_right_place (types_of known.now.types) (port_view port.now)) []
         (map symbol_view port.now.symbols.items)) }
 {
-    let places = places_of(alloc, known, port)?;
-    Ok(first_wrong_place(places.as_slice()))
+    first_wrong_place(alloc, known, port, port.symbols.as_slice())
 }
 
-fn places_of(
+fn first_wrong_place(
     alloc: Global,
     known: &KnownTypes,
     port: &WrittenPort<'_>,
-) -> Result<Vec<Placed>, NoMemory>
+    symbols: &[WrittenSymbol<'_>],
+) -> Result<Option<usize>, NoMemory>
     requires known { AreKnown (types_of known.now.types) known.now.extents.items }
     requires few { length known.now.types ≤ 1000 }
-    ensures { IfOk result (λ places. map place_view places.items
-        ≡ map (place_of (types_of known.now.types) (sizes_described (port_view port.now))) (map symbol_view port.now.symbols.items)) }
+    ensures { IfOk result (λ place. place ≡ first_wrong is_right_behind []
+        (map (symbol_place (types_of known.now.types) (sizes_described (port_view port.now))) symbols.now)) }
 {
-    let mut places = Vec::new(alloc);
-    for symbol in port.symbols.as_slice() {
+    let mut taken = Vec::new(alloc);
+    for (i, symbol) in symbols.iter().enumerate() {
         let place = place_of(known, port, symbol);
-        places.push(place)?;
+        if !take_place(&mut taken, place)? {
+            return Ok(Some(i));
+        }
     }
-    Ok(places)
+    Ok(None)
+}
+
+// Takes the bytes of a symbol, and tells whether it is rightly placed and none of them was taken before.
+fn take_place(taken: &mut Vec<ByteRange>, place: Placed) -> Result<bool, NoMemory>
+    requires order { AreInOrder taken.old.items }
+    requires within { place.right ≡ true → place.offset + place.size < 2 ^ 64 }
+    ensures { IfOk result (TakesPlace (place_view place) taken.old.items taken.new.items) }
+{
+    if !place.right {
+        return Ok(false);
+    }
+    take_range(taken, range_of(place))
+}
+
+// The bytes of a symbol among those of all areas, each of which has room for 64 bits.
+fn range_of(place: Placed) -> ByteRange
+    requires { place.offset + place.size < 2 ^ 64 }
+    ensures { result ≡ range_of (place_view place) }
+{
+    let start = area_number(place.area) as u128 * 18_446_744_073_709_551_616 + place.offset as u128;
+    ByteRange {
+        start,
+        end: start + place.size,
+    }
 }
 
 fn place_of(known: &KnownTypes, port: &WrittenPort<'_>, symbol: &WrittenSymbol<'_>) -> Placed
     requires known { AreKnown (types_of known.now.types) known.now.extents.items }
     requires few { length known.now.types ≤ 1000 }
-    ensures { place_view result ≡ place_of (types_of known.now.types) (sizes_described (port_view port.now)) (symbol_view symbol.now) }
+    ensures place { place_view result ≡ place_of (types_of known.now.types) (sizes_described (port_view port.now)) (symbol_view symbol.now) }
+    ensures within { result.right ≡ true → result.offset + result.size < 2 ^ 64 }
 {
     let size = text_size(known, symbol.kind);
     let offset = natural_of(symbol.offset);
@@ -117,51 +146,9 @@ fn area_size(port: &WrittenPort<'_>, area: Area) -> u64
     }
 }
 
-fn first_wrong_place(places: &[Placed]) -> Option<usize>
-    ensures { result ≡ first_wrong is_right_behind [] (map place_view places.now) }
-{
-    for (i, place) in places.iter().enumerate() {
-        if !is_right_behind(&places[..i], place) {
-            return Some(i);
-        }
-    }
-    None
-}
-
-#[tactic(auto, using(crate::proofs::Mapped::mapped))]
-fn is_right_behind(before: &[Placed], place: &Placed) -> bool
-    ensures { result ≡ is_right_behind (map place_view before.now) (place_view place.now) }
-{
-    place.right && are_all_apart(before, place)
-}
-
-fn are_all_apart(before: &[Placed], place: &Placed) -> bool
-    ensures { result ≡ list_all (λ e. are_apart_places (place_view e) (place_view place.now)) before.now }
-{
-    before.iter().all(|e| are_apart(e, place))
-}
-
-fn are_apart(s: &Placed, t: &Placed) -> bool
-    ensures { result ≡ are_apart_places (place_view s.now) (place_view t.now) }
-{
-    !is_same_area(s.area, t.area) || ends_before(s, t) || ends_before(t, s)
-}
-
-fn ends_before(s: &Placed, t: &Placed) -> bool
-    ensures { result ≡ nat_le (s.now.offset + s.now.size) t.now.offset }
-{
-    let room = (t.offset as u128).saturating_sub(s.offset as u128);
-    s.offset <= t.offset && s.size <= room
-}
-
-fn is_same_area(a: Area, b: Area) -> bool
-    ensures { result ≡ is_same_area (area_of a) (area_of b) }
-{
-    area_number(a) == area_number(b)
-}
-
 fn area_number(area: Area) -> u8
-    ensures { result ≡ area_number (area_of area) }
+    ensures value { result ≡ area_number (area_of area) }
+    ensures bound { result < 4 }
 {
     match area {
         Area::Inputs => 0,
