@@ -4,7 +4,6 @@ pub mod NetLemmas
 pub mod Mapped
 pub mod WordLemmas
 pub mod ThroughLemmas
-pub mod PartLemmas
 pub mod ExtentLemmas
 pub mod StructLemmas
 pub mod KnownLemmas
@@ -15,3 +14,5 @@ pub mod RouteLemmas
 pub mod LengthLemmas
 pub mod TakenLemmas
 pub mod TakenPlaceLemmas
+pub mod NameStartLemmas
+pub mod StartTurns

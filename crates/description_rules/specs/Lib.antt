@@ -3,7 +3,9 @@ pub mod Extents
 pub mod Faults
 pub mod Known
 pub mod KnownTypes
+pub mod NameStarts
 pub mod Next
+pub mod NextName
 pub mod Numbers
 pub mod Placed
 pub mod Taken

@@ -7,6 +7,7 @@ mod dimensions;
 mod enum_values;
 mod extents;
 mod known_types;
+mod lower;
 mod names;
 mod nets;
 mod numbers;

@@ -1,91 +1,136 @@
 //! Description rule 10: names of symbols.
-ghost use Rattle.std.specs.Prelude.{◌≡◌, ◌<◌, ◌∷◌, [], length, map, not, ◌&&◌, bytes_eq, position, MatchOption, IfSome};
-ghost use Rattle.std.specs.List.{list_all, slice_split, starts_with};
-ghost use Rattle.name_paths.specs.Name.{is_full_stop, lower_identifiers};
+ghost use Rattle.std.specs.Prelude.{◌≡◌, ◌<◌, ◌&&◌, ◌∷◌, [], length, map, IfOk, OnOk};
 ghost use Rattle.ads_rules.specs.Places.{first_wrong};
-ghost use Rattle.ads_rules.specs.SymbolRules.{wrong_name, is_right_name, neither_begins};
+ghost use Rattle.ads_rules.specs.SymbolRules.{wrong_name, is_right_name};
+ghost use Rattle.description_rules.specs.NameStarts.{starts_of, start_at, is_none_of, share_none, IsAdded};
+ghost use Rattle.description_rules.specs.NextName.{IsNextName, NotesText};
 ghost use Rattle.description_table.specs.Views.{port_view, symbol_view};
 
-use crate::names::is_same_word;
+use crate::lower::lower_of;
+use crate::seen::SeenTexts;
+use ads_base::NoMemory;
 use description_table::{WrittenPort, WrittenSymbol};
 use name_paths::is_symbol_name;
+use std::alloc::Global;
 
 /// Rule 10: names of symbols.
 #[tactic(auto, unfolding(ads_rules::specs::SymbolRules::wrong_name))]
-pub fn wrong_name(ports: &[WrittenPort<'_>]) -> Option<u128>
-    ensures { result ≡ wrong_name (map port_view ports.now) }
+pub fn wrong_name(alloc: Global, ports: &[WrittenPort<'_>]) -> Result<Option<u128>, NoMemory>
+    ensures { IfOk result (λ place. place ≡ wrong_name (map port_view ports.now)) }
 {
     let mut count: u128 = 0;
     for port in ports {
-        if let Some(place) = wrong_name_in(port.symbols.as_slice()) {
-            return Some(count + place as u128);
+        if let Some(place) = wrong_name_in(alloc, port.symbols.as_slice())? {
+            return Ok(Some(count + place as u128));
         }
         count += port.symbols.len() as u128;
     }
-    None
+    Ok(None)
 }
 
-fn wrong_name_in(symbols: &[WrittenSymbol<'_>]) -> Option<usize>
-    ensures { result ≡ first_wrong is_right_name [] (map symbol_view symbols.now) }
+fn wrong_name_in(alloc: Global, symbols: &[WrittenSymbol<'_>]) -> Result<Option<usize>, NoMemory>
+    ensures { IfOk result (λ place. place ≡ first_wrong is_right_name [] (map symbol_view symbols.now)) }
 {
+    let mut whole = SeenTexts::new(alloc);
+    let mut starts = SeenTexts::new(alloc);
     for (i, symbol) in symbols.iter().enumerate() {
-        if !is_right_name(&symbols[..i], symbol) {
-            return Some(i);
+        if !is_right_name(alloc, &mut whole, &mut starts, symbol.name)? {
+            return Ok(Some(i));
         }
     }
-    None
+    Ok(None)
 }
 
-#[tactic(auto, using(crate::proofs::Mapped::mapped))]
-fn is_right_name(before: &[WrittenSymbol<'_>], symbol: &WrittenSymbol<'_>) -> bool
-    ensures { result ≡ is_right_name (map symbol_view before.now) (symbol_view symbol.now) }
+// Whether a name is right behind those that came before, of which all are noted whole, and by what they start with.
+fn is_right_name(
+    alloc: Global,
+    whole: &mut SeenTexts,
+    starts: &mut SeenTexts,
+    name: &[u8],
+) -> Result<bool, NoMemory>
+    ensures { IfOk result (IsNextName name.now whole.old starts.old whole.new starts.new) }
 {
-    is_symbol_name(symbol.name) && is_apart(before, symbol.name)
-}
-
-fn is_apart(before: &[WrittenSymbol<'_>], name: &[u8]) -> bool
-    ensures { result ≡ list_all (λ e. neither_begins e.name.now name.now) before.now }
-{
-    before.iter().all(|e| neither_begins(e.name, name))
-}
-
-// Whether neither name begins with all identifiers of the other, ASCII case aside.
-fn neither_begins(a: &[u8], b: &[u8]) -> bool
-    ensures { result ≡ neither_begins a.now b.now }
-{
-    !begins_with(a, b) && !begins_with(b, a)
-}
-
-// Whether a name begins with all identifiers of another, ASCII case aside.
-fn begins_with(name: &[u8], front: &[u8]) -> bool
-    ensures { result ≡ starts_with bytes_eq (lower_identifiers name.now) (lower_identifiers front.now) }
-{
-    let (first, rest) = before_full_stop(name);
-    let (wanted, more) = before_full_stop(front);
-    if !is_same_word(first, wanted) {
-        return false;
+    if !is_symbol_name(name) {
+        return Ok(false);
     }
-    match (rest, more) {
-        (_, None) => true,
-        (None, Some(_)) => false,
-        (Some(rest), Some(more)) => begins_with(rest, more),
+    let text = lower_of(alloc, name)?;
+    note_text(alloc, whole, starts, text.as_slice())
+}
+
+// Notes a text that is apart from those that are noted, and tells whether it is.
+fn note_text(
+    alloc: Global,
+    whole: &mut SeenTexts,
+    starts: &mut SeenTexts,
+    text: &[u8],
+) -> Result<bool, NoMemory>
+    ensures { IfOk result (NotesText text.now whole.old starts.old whole.new starts.new) }
+{
+    if !is_apart(whole, starts, text) {
+        return Ok(false);
+    }
+    note(alloc, whole, text)?;
+    note_starts(alloc, starts, text)?;
+    Ok(true)
+}
+
+// Whether no text that is noted starts with this one, and this one with none of them.
+fn is_apart(whole: &SeenTexts, starts: &SeenTexts, text: &[u8]) -> bool
+    ensures { result ≡ (is_none_of starts.now text.now && share_none whole.now (starts_of text.now)) }
+{
+    starts.is_new(text) && starts_with_none(whole, text)
+}
+
+// Whether neither a text nor what stands before one of its full stops is there.
+fn starts_with_none(texts: &SeenTexts, text: &[u8]) -> bool
+    ensures { result ≡ share_none texts.now (starts_of text.now) }
+{
+    for (i, c) in text.iter().enumerate() {
+        if !is_new_start(texts, text, i, *c) {
+            return false;
+        }
+    }
+    texts.is_new(text)
+}
+
+fn is_new_start(texts: &SeenTexts, text: &[u8], i: usize, c: u8) -> bool
+    requires { i < length text.now }
+    ensures { result ≡ share_none texts.now (start_at text.now i c) }
+{
+    c != b'.' || texts.is_new(&text[..i])
+}
+
+fn note_starts(alloc: Global, texts: &mut SeenTexts, text: &[u8]) -> Result<(), NoMemory>
+    ensures { OnOk result (IsAdded (starts_of text.now) texts.old texts.new) }
+{
+    for (i, c) in text.iter().enumerate() {
+        note_start(alloc, texts, text, i, *c)?;
+    }
+    note(alloc, texts, text)
+}
+
+fn note_start(
+    alloc: Global,
+    texts: &mut SeenTexts,
+    text: &[u8],
+    i: usize,
+    c: u8,
+) -> Result<(), NoMemory>
+    requires { i < length text.now }
+    ensures { OnOk result (IsAdded (start_at text.now i c) texts.old texts.new) }
+{
+    if c == b'.' {
+        note(alloc, texts, &text[..i])
+    } else {
+        Ok(())
     }
 }
 
-// The text before the first full stop, and what stands behind that full stop.
-fn before_full_stop(text: &[u8]) -> (&[u8], Option<&[u8]>)
-    ensures parts { MatchOption result.1 (slice_split is_full_stop text.now ≡ result.0.now ∷ [])
-        (λ rest. slice_split is_full_stop text.now ≡ result.0.now ∷ slice_split is_full_stop rest.now) }
-    ensures shorter { IfSome result.1 (λ rest. length rest.now < length text.now) }
+// Notes a text, which may be there already.
+fn note(alloc: Global, texts: &mut SeenTexts, text: &[u8]) -> Result<(), NoMemory>
+    ensures { OnOk result (IsAdded (text.now ∷ []) texts.old texts.new) }
 {
-    match first_full_stop(text) {
-        None => (text, None),
-        Some(at) => (&text[..at], Some(&text[at + 1..])),
-    }
-}
-
-fn first_full_stop(text: &[u8]) -> Option<usize>
-    ensures { result ≡ position is_full_stop text.now }
-{
-    text.iter().position(|c| *c == b'.')
+    let copy = Vec::from_slice(alloc, text)?;
+    texts.add(copy)?;
+    Ok(())
 }

@@ -90,7 +90,7 @@ pub fn fault_in_ports(
     if let Some(place) = wrong_port(d.schema, ports) {
         return Ok(Some(broken_at(9, place as u128)));
     }
-    if let Some(place) = wrong_name(ports) {
+    if let Some(place) = wrong_name(alloc, ports)? {
         return Ok(Some(broken_at(10, place)));
     }
     if let Some(place) = wrong_type(known, ports) {
