@@ -16,3 +16,5 @@ pub mod TakenLemmas
 pub mod TakenPlaceLemmas
 pub mod NameStartLemmas
 pub mod StartTurns
+pub mod NumberSeenLemmas
+pub mod PortSeenLemmas

@@ -6,6 +6,8 @@ pub mod KnownTypes
 pub mod NameStarts
 pub mod Next
 pub mod NextName
+pub mod NextNumber
+pub mod NextPort
 pub mod Numbers
 pub mod Placed
 pub mod Taken

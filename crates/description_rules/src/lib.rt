@@ -15,6 +15,7 @@ mod places;
 mod port_rules;
 mod route_rules;
 mod seen;
+mod seen_numbers;
 mod shape_building;
 mod shapes;
 mod size_rules;

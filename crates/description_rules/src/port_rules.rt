@@ -1,30 +1,37 @@
 //! Description rule 9: ports.
-ghost use Rattle.std.specs.Prelude.{◌≡◌, ◌&&◌, [], length, map, not, nat_le};
-ghost use Rattle.std.specs.List.{list_all};
-ghost use Rattle.ads_plant.specs.AcceptedTypes.{is_same_number};
-ghost use Rattle.ads_rules.specs.Written as rules;
+ghost use Rattle.std.specs.Prelude.{◌≡◌, ◌&&◌, [], length, map, nat_le, IfOk};
 ghost use Rattle.ads_rules.specs.Places.{first_wrong};
-ghost use Rattle.ads_rules.specs.PortRules.{wrong_port, is_right_port, image_limit, has_right_sizes, is_port_name, is_between, is_natural};
+ghost use Rattle.ads_rules.specs.PortRules.{wrong_port, is_right_port, image_limit, has_right_sizes, is_between, is_natural};
 ghost use Rattle.ads_rules.specs.Described.{sizes_described};
 ghost use Rattle.ads_plant.specs.Accepted.{image_size};
+ghost use Rattle.description_rules.specs.NextNumber.{IsNextNumber};
+ghost use Rattle.description_rules.specs.NextPort.{is_right_alone};
 ghost use Rattle.description_table.specs.Views.{port_view};
 
 use crate::names::is_port_name;
-use crate::numbers::{is_between, is_natural, is_same_number, natural_of};
+use crate::numbers::{is_between, is_natural, natural_of};
 use crate::places::lesser;
+use crate::seen_numbers::{SeenNumbers, note_number};
+use ads_base::NoMemory;
 use description_table::WrittenPort;
+use std::alloc::Global;
 
 /// Rule 9: each port; there are 1 to 16 (item 16).
 #[tactic(auto, unfolding(ads_rules::specs::PortRules::wrong_port))]
-pub fn wrong_port(schema: i64, ports: &[WrittenPort<'_>]) -> Option<usize>
-    ensures { result ≡ wrong_port schema (map port_view ports.now) }
+pub fn wrong_port(
+    alloc: Global,
+    schema: i64,
+    ports: &[WrittenPort<'_>],
+) -> Result<Option<usize>, NoMemory>
+    ensures { IfOk result (λ place. place ≡ wrong_port schema (map port_view ports.now)) }
 {
     let number = if 0 < ports.len() && ports.len() <= 16 {
         None
     } else {
         Some(16)
     };
-    lesser(first_wrong_port(image_limit(schema), ports), number)
+    let first = first_wrong_port(alloc, image_limit(schema), ports)?;
+    Ok(lesser(first, number))
 }
 
 fn image_limit(schema: i64) -> u32
@@ -33,40 +40,42 @@ fn image_limit(schema: i64) -> u32
     if schema == 2 { 4_194_304 } else { 1_048_576 }
 }
 
-fn first_wrong_port(limit: u32, ports: &[WrittenPort<'_>]) -> Option<usize>
-    ensures { result ≡ first_wrong (is_right_port limit) [] (map port_view ports.now) }
+fn first_wrong_port(
+    alloc: Global,
+    limit: u32,
+    ports: &[WrittenPort<'_>],
+) -> Result<Option<usize>, NoMemory>
+    ensures { IfOk result (λ place. place ≡ first_wrong (is_right_port limit) [] (map port_view ports.now)) }
 {
+    let mut seen = SeenNumbers::new(alloc);
     for (i, port) in ports.iter().enumerate() {
-        if !is_right_port(limit, &ports[..i], port) {
-            return Some(i);
+        if !is_right_port(&mut seen, limit, port)? {
+            return Ok(Some(i));
         }
     }
-    None
+    Ok(None)
 }
 
-fn is_right_port(limit: u32, before: &[WrittenPort<'_>], port: &WrittenPort<'_>) -> bool
-    ensures { result ≡ is_right_port limit (map port_view before.now) (port_view port.now) }
+fn is_right_port(
+    seen: &mut SeenNumbers,
+    limit: u32,
+    port: &WrittenPort<'_>,
+) -> Result<bool, NoMemory>
+    ensures { IfOk result (IsNextNumber (is_right_alone limit (port_view port.now)) seen.old seen.new port.now.number) }
 {
-    is_numbered(before, port)
+    let right = is_right_alone(limit, port);
+    note_number(seen, right, port.number)
+}
+
+// Whether a port is right but for the numbers of those before.
+fn is_right_alone(limit: u32, port: &WrittenPort<'_>) -> bool
+    ensures { result ≡ is_right_alone limit (port_view port.now) }
+{
+    is_between(1, 65535, port.number)
         && is_port_name(port.name)
         && is_version(port)
         && has_right_sizes(limit, port)
         && has_right_count(port)
-}
-
-#[tactic(auto, using(crate::proofs::Mapped::mapped))]
-fn is_numbered(before: &[WrittenPort<'_>], port: &WrittenPort<'_>) -> bool
-    ensures { result ≡ (is_between 1 65535 port.now.number
-        && list_all (λ (e : rules.WrittenPort). not (is_same_number e.number port.now.number)) (map port_view before.now)) }
-{
-    is_between(1, 65535, port.number) && is_new_number(before, port)
-}
-
-fn is_new_number(before: &[WrittenPort<'_>], port: &WrittenPort<'_>) -> bool
-    ensures { result ≡ list_all (λ e. not (is_same_number e.number port.now.number)) before.now }
-{
-    let number = port.number;
-    before.iter().all(|e| !is_same_number(e.number, number))
 }
 
 fn has_right_count(port: &WrittenPort<'_>) -> bool

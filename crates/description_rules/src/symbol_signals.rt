@@ -1,9 +1,6 @@
 //! Description rule 14: signals of symbols.
-ghost use Rattle.std.specs.Prelude.{◌≡◌, ◌≤◌, ◌++◌, [], length, map, flat_map, true, not, IfOk, OnOk};
-ghost use Rattle.std.specs.List.{list_all};
-ghost use Rattle.std.specs.Option.{option_map_or};
+ghost use Rattle.std.specs.Prelude.{◌≡◌, ◌≤◌, ◌++◌, [], length, map, flat_map, IfOk, OnOk};
 ghost use Rattle.ads_plant.specs.Accepted.{may_have_signal};
-ghost use Rattle.ads_plant.specs.AcceptedTypes.{is_same_number};
 ghost use Rattle.ads_rules.specs.Written as rules;
 ghost use Rattle.ads_rules.specs.Places.{first_wrong};
 ghost use Rattle.ads_rules.specs.SymbolRules.{wrong_signal};
@@ -11,11 +8,13 @@ ghost use Rattle.ads_rules.specs.Described.{shape_described};
 ghost use Rattle.ads_plant.specs.Listed as listed;
 ghost use Rattle.type_layout.specs.Shapes.{elem_of};
 ghost use Rattle.type_layout.specs.NamedTypes.{types_of};
-ghost use Rattle.description_rules.specs.Placed.{use_view, use_of, is_right_use, names_other};
+ghost use Rattle.description_rules.specs.Placed.{use_view, use_of, is_right_use};
+ghost use Rattle.description_rules.specs.NextNumber.{IsNextUse};
 ghost use Rattle.description_table.specs.Views.{port_view, symbol_view};
 
 use crate::known_types::KnownTypes;
-use crate::numbers::{is_same_number, is_signal};
+use crate::numbers::is_signal;
+use crate::seen_numbers::{SeenNumbers, note_number};
 use crate::shapes::elem_named;
 use ads_base::NoMemory;
 use description_table::{WrittenPort, WrittenSymbol};
@@ -40,7 +39,7 @@ pub fn wrong_signal(
     ensures { IfOk result (λ place. place ≡ wrong_signal (types_of known.now.types) signals (map port_view ports.now)) }
 {
     let uses = uses_of(alloc, known, signals, ports)?;
-    Ok(first_wrong_use(uses.as_slice()))
+    first_wrong_use(alloc, uses.as_slice())
 }
 
 fn uses_of(
@@ -116,38 +115,23 @@ fn is_plain(elem: Elem) -> bool
     }
 }
 
-fn first_wrong_use(uses: &[SignalUse]) -> Option<usize>
-    ensures { result ≡ first_wrong is_right_use [] (map use_view uses.now) }
+fn first_wrong_use(alloc: Global, uses: &[SignalUse]) -> Result<Option<usize>, NoMemory>
+    ensures { IfOk result (λ place. place ≡ first_wrong is_right_use [] (map use_view uses.now)) }
 {
+    let mut seen = SeenNumbers::new(alloc);
     for (i, one) in uses.iter().enumerate() {
-        if !is_right_use(&uses[..i], one) {
-            return Some(i);
+        if !is_right_use(&mut seen, one)? {
+            return Ok(Some(i));
         }
     }
-    None
+    Ok(None)
 }
 
-#[tactic(auto, using(crate::proofs::Mapped::mapped))]
-fn is_right_use(before: &[SignalUse], one: &SignalUse) -> bool
-    ensures { result ≡ is_right_use (map use_view before.now) (use_view one.now) }
+fn is_right_use(seen: &mut SeenNumbers, one: &SignalUse) -> Result<bool, NoMemory>
+    ensures { IfOk result (IsNextUse (use_view one.now) seen.old seen.new) }
 {
     match one.signal {
-        None => true,
-        Some(n) => one.right && is_new_signal(before, n),
-    }
-}
-
-fn is_new_signal(before: &[SignalUse], n: i64) -> bool
-    ensures { result ≡ list_all (λ e. names_other n (use_view e)) before.now }
-{
-    before.iter().all(|e| names_other(n, e))
-}
-
-fn names_other(n: i64, one: &SignalUse) -> bool
-    ensures { result ≡ names_other n (use_view one.now) }
-{
-    match one.signal {
-        None => true,
-        Some(m) => !is_same_number(m, n),
+        None => Ok(true),
+        Some(n) => note_number(seen, one.right, n),
     }
 }

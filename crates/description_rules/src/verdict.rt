@@ -87,7 +87,7 @@ pub fn fault_in_ports(
         ∷ (14, symbols.wrong_signal (types_of known.now.types) signals (document_view d.now).ports) ∷ [])) }
 {
     let ports = d.ports.as_slice();
-    if let Some(place) = wrong_port(d.schema, ports) {
+    if let Some(place) = wrong_port(alloc, d.schema, ports)? {
         return Ok(Some(broken_at(9, place as u128)));
     }
     if let Some(place) = wrong_name(alloc, ports)? {
