@@ -18,3 +18,6 @@ pub mod NameStartLemmas
 pub mod StartTurns
 pub mod NumberSeenLemmas
 pub mod PortSeenLemmas
+pub mod LowerLemmas
+pub mod MemberLemmas
+pub mod ValueLemmas

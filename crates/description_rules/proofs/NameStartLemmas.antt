@@ -153,7 +153,7 @@ begins-starts name front =
     ∙ ap (λ parts. not (begins (slice_split is_full_stop (lower name)) parts)) (lower_split front)
     ∙ ap not (split_begins (lower name) (lower front)) ∙ sym (starts_go_on (lower name) (lower front))
 
-list_all_both : {X : Type 0} (f g : X → Bool) (xs : List X) → list_all (λ x. f x && g x) xs ≡ (list_all f xs && list_all g xs)
+pub list_all_both : {X : Type 0} (f g : X → Bool) (xs : List X) → list_all (λ x. f x && g x) xs ≡ (list_all f xs && list_all g xs)
 list_all_both f g [] = refl
 list_all_both f g (x ∷ xs) = ap (λ b. (f x && g x) && b) (list_all_both f g xs) ∙ crossed (f x) (g x) (list_all f xs) (list_all g xs)
   where

@@ -7,6 +7,10 @@ use Rattle.ads_rules.specs.Places.{first_through, or_else}
 abbrev pub behind : ℕ → Option ℕ → Option ℕ
 behind n place = option_map (λ j. n + j) place
 
+behind_none : (place : Option ℕ) → place ≡ behind 0 place
+behind_none None = refl
+behind_none (Some j) = ap Some (omega arith)
+
 behind-behind : (n m : ℕ) (place : Option ℕ) → behind n (behind m place) ≡ behind (n + m) place
 behind-behind n m None = refl
 behind-behind n m (Some j) = ap Some (omega arith)
@@ -44,3 +48,7 @@ module _ {A X : Type 0} (count : X → ℕ) (wrong : List X → X → Option ℕ
   pub through_from-end : (xs : List A) (i n : ℕ) (place : Option ℕ) → length xs ≤ i → place ≡ through_from xs i n → place ≡ None
   through_from-end xs i n place end so_far =
       so_far ∙ ap (λ ys. behind n (first_through count wrong (map view (take i xs)) (map view ys))) (drop_all i xs end)
+
+  -- before the first group
+  pub through_from-start : (xs : List A) → first_through count wrong [] (map view xs) ≡ through_from xs 0 0
+  through_from-start xs = behind_none (first_through count wrong [] (map view xs))

@@ -5,9 +5,11 @@ pub mod Known
 pub mod KnownTypes
 pub mod NameStarts
 pub mod Next
+pub mod NextMember
 pub mod NextName
 pub mod NextNumber
 pub mod NextPort
+pub mod NextValue
 pub mod Numbers
 pub mod Placed
 pub mod Taken

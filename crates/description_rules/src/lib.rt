@@ -8,6 +8,7 @@ mod enum_values;
 mod extents;
 mod known_types;
 mod lower;
+mod member_rules;
 mod names;
 mod nets;
 mod numbers;
@@ -32,6 +33,7 @@ mod type_building;
 mod type_rules;
 mod type_text_lens;
 mod uploads;
+mod value_rules;
 mod verdict;
 mod words;
 

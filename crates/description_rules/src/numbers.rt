@@ -1,19 +1,12 @@
 //! Numbers of a document.
 ghost use Rattle.std.specs.Prelude.{◌≡◌};
 ghost use Rattle.type_layout.specs.Shapes.{kind_of};
-ghost use Rattle.ads_plant.specs.AcceptedTypes.{is_same_number, is_in_range};
+ghost use Rattle.ads_plant.specs.AcceptedTypes.{is_in_range};
 ghost use Rattle.ads_rules.specs.PortRules.{is_between, is_natural};
 ghost use Rattle.ads_rules.specs.SymbolRules.{is_signal};
 ghost use Rattle.ads_rules.specs.Described.{natural_of};
 
 use type_layout::Kind;
-
-/// Whether two numbers are the same.
-pub fn is_same_number(a: i64, b: i64) -> bool
-    ensures { result ≡ is_same_number a b }
-{
-    a == b
-}
 
 /// Whether a number is from the least to the greatest.
 pub fn is_between(least: u32, greatest: u32, n: i64) -> bool

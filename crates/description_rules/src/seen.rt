@@ -1,7 +1,11 @@
 //! Texts that came before.
-ghost use Rattle.std.specs.Prelude.{◌≡◌, ◌∷◌, ◌++◌, [], not, bytes_eq, IfOk, if◌then◌else◌};
+ghost use Rattle.std.specs.Prelude.{◌≡◌, ◌∷◌, ◌++◌, [], not, bytes_eq, IfOk, OnOk, if◌then◌else◌};
 ghost use Rattle.std.specs.List.{list_all};
+ghost use Rattle.name_paths.specs.Identifier.{lower};
+ghost use Rattle.description_rules.specs.Next.{IsNext};
+ghost use Rattle.description_rules.specs.NameStarts.{IsAdded};
 
+use crate::lower::lower_of;
 use ads_base::NoMemory;
 use indexmap::IndexMap;
 use std::alloc::Global;
@@ -48,4 +52,29 @@ impl SeenTexts {
         }
         Ok(new)
     }
+}
+
+/// Notes a text, which may be there already.
+pub fn note(alloc: Global, texts: &mut SeenTexts, text: &[u8]) -> Result<(), NoMemory>
+    ensures { OnOk result (IsAdded (text.now ∷ []) texts.old texts.new) }
+{
+    let copy = Vec::from_slice(alloc, text)?;
+    texts.add(copy)?;
+    Ok(())
+}
+
+/// Notes a text in lower case that is right by itself and new, and tells whether it is.
+pub fn note_lower(
+    alloc: Global,
+    texts: &mut SeenTexts,
+    allowed: bool,
+    text: &[u8],
+) -> Result<bool, NoMemory>
+    ensures { IfOk result (IsNext allowed texts.old texts.new (lower text.now)) }
+{
+    if !allowed {
+        return Ok(false);
+    }
+    let copy = lower_of(alloc, text)?;
+    texts.add(copy)
 }

@@ -7,7 +7,7 @@ ghost use Rattle.description_rules.specs.NextName.{IsNextName, NotesText};
 ghost use Rattle.description_table.specs.Views.{port_view, symbol_view};
 
 use crate::lower::lower_of;
-use crate::seen::SeenTexts;
+use crate::seen::{SeenTexts, note};
 use ads_base::NoMemory;
 use description_table::{WrittenPort, WrittenSymbol};
 use name_paths::is_symbol_name;
@@ -124,13 +124,4 @@ fn note_start(
     } else {
         Ok(())
     }
-}
-
-// Notes a text, which may be there already.
-fn note(alloc: Global, texts: &mut SeenTexts, text: &[u8]) -> Result<(), NoMemory>
-    ensures { OnOk result (IsAdded (text.now ∷ []) texts.old texts.new) }
-{
-    let copy = Vec::from_slice(alloc, text)?;
-    texts.add(copy)?;
-    Ok(())
 }

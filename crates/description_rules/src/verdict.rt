@@ -50,10 +50,10 @@ pub fn fault_in_types(alloc: Global, d: &Document<'_>) -> Result<Option<BrokenRu
     if let Some(place) = wrong_rights(d.routes.as_slice()) {
         return Ok(Some(broken_at(5, place as u128)));
     }
-    if let Some(place) = wrong_type_name(d.types.as_slice()) {
+    if let Some(place) = wrong_type_name(alloc, d.types.as_slice())? {
         return Ok(Some(broken_at(6, place as u128)));
     }
-    match wrong_part(d.types.as_slice()) {
+    match wrong_part(alloc, d.types.as_slice())? {
         None => Ok(None),
         Some(place) => Ok(Some(broken_at(7, place))),
     }

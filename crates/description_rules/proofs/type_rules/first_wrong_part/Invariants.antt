@@ -1,15 +1,17 @@
-use Rattle.std.proofs.Common.{◌≡◌, ◌≤◌, ◌*◌, ◌+◌, ◌^◌, [], length, map, take, drop, option_map}
+use Rattle.std.proofs.Common.{◌≡◌, ◌≤◌, ◌*◌, ◌^◌, [], length, map, take}
 use Rattle.ads_rules.specs.Places.{first_through}
 use Rattle.ads_rules.specs.Written.{written_members}
 use Rattle.ads_rules.specs.TypeRules.{wrong_member_of}
 use Rattle.description_table.specs.Views.{type_view}
+use Rattle.description_rules.specs.NextMember.{AreTypeNames}
 use Rattle.description_rules.proofs.ThroughLemmas.{through_from}
 use Rattle.description_rules.proofs.type_rules.first_wrong_part.Given as goal
 
--- the members of the types before this one are right
-abbrev pub invariant-loop-i : goal.invariant-loop-i
-invariant-loop-i l = record {
+-- the members of the types before this one are right, and the names of these types noted
+abbrev pub invariant-loop-kind : goal.invariant-loop-kind
+invariant-loop-kind l = record {
   first : first_through (λ t. length (written_members t)) wrong_member_of [] (map type_view l.types)
-      ≡ through_from (λ t. length (written_members t)) wrong_member_of type_view l.types l.i l.count;
-  small : l.count ≤ l.i * 2 ^ 64;
+      ≡ through_from (λ t. length (written_members t)) wrong_member_of type_view l.types l.kind-index l.count;
+  small : l.count ≤ l.kind-index * 2 ^ 64;
+  named : AreTypeNames (map type_view (take l.kind-index l.types)) l.names;
 }

@@ -1,7 +1,7 @@
 use Rattle.std.proofs.Common.{◌≡◌, List, ℕ, [], ◌∷◌, subst}
 use Rattle.description_rules.specs.NameStarts.{IsAdded}
 use Rattle.description_rules.proofs.NameStartLemmas.{added-one}
-use Rattle.description_rules.proofs.symbol_names.note.Goals as goal
+use Rattle.description_rules.proofs.seen.note.Goals as goal
 
 pub returns : goal.returns
 returns c =
