@@ -1,5 +1,6 @@
 -- For callers: what is due is live, and may be checked.
-use Rattle.std.proofs.Common.{◌≡◌, ℕ, suc, ◌+◌, ◌<◌, true, false, nat_eq, List, [], ◌∷◌, length, map, Option, Some, None, option_map, IsSomeAnd, IsTrue, refl, sym, ap, ◌∙◌, arith, inl, inr}
+use Rattle.std.proofs.Common.{◌≡◌, ℕ, suc, ◌+◌, ◌<◌, true, false, nat_eq, List, [], ◌∷◌, length, map, Option, Some}
+use Rattle.std.proofs.Common.{None, option_map, IsSomeAnd, IsTrue, refl, sym, ap, ◌∙◌, arith, inl, inr}
 use Rattle.std.specs.List.{All, filter, find, list_any}
 use Rattle.std.specs.List.Sorted.{IsStrictlyIncreasing}
 use Rattle.std.proofs.lemmas.Bool.{cases_Bool, cases_eq, eq-eqb, ne_eqb, eqb-true, false≢true}
@@ -7,7 +8,8 @@ use Rattle.std.proofs.lemmas.List.{length-map, get_or-map}
 use Rattle.std.proofs.lemmas.List.Elements.{All-head, All-tail, All-cons, All-nil, All-weaker}
 use Rattle.ads_formats.specs.Ranges.{Range}
 use Rattle.ads_machine.specs.Watches.{Watch, is_due}
-use Rattle.notify_table.specs.Table.{WatchTable, IsTable, handle_of, is_numbered, due_handles, watch_of_handle, watched_len}
+use Rattle.notify_table.specs.Table.{WatchTable, IsTable, handle_of, is_numbered, due_handles, watch_of_handle}
+use Rattle.notify_table.specs.Table.{watched_len}
 use Rattle.std.specs.Option.{option_map_or}
 use Rattle.index_groups.specs.Access.{range_meant}
 use Rattle.notify_table.specs.declared.spec.Spec.{Spec}

@@ -1,8 +1,11 @@
 -- A schedule while its turns and records change.
-use Rattle.std.proofs.Common.{◌≡◌, ◌≢◌, ℕ, suc, ◌+◌, ◌-◌, ◌<◌, ◌≤◌, max, Bool, true, false, cond, nat_eq, nat_le, List, [], ◌∷◌, ◌++◌, length, map, take, drop, get_or, Option, Some, None, IsSome, refl, sym, ap, ◌∙◌, subst, arith, inl, inr}
+use Rattle.std.proofs.Common.{◌≡◌, ◌≢◌, ℕ, suc, ◌+◌, ◌-◌, ◌<◌, ◌≤◌, max, Bool, true, false, cond, nat_eq, nat_le, List}
+use Rattle.std.proofs.Common.{[], ◌∷◌, ◌++◌, length, map, take, drop, get_or, Option, Some, None, IsSome, refl, sym, ap}
+use Rattle.std.proofs.Common.{◌∙◌, subst, arith, inl, inr}
 use Rattle.std.specs.List.{All, filter, filter_map, insert, remove, position, position_or_len}
 use Rattle.std.proofs.lemmas.Bool.{cases_lt, cases_Bool, false≢true, le-leb, lt-leb}
-use Rattle.std.proofs.lemmas.List.{length-map, get_or-map, append_assoc, take_at, drop_at, length-take-le, length-append}
+use Rattle.std.proofs.lemmas.List.{length-map, get_or-map, append_assoc, take_at, drop_at, length-take-le}
+use Rattle.std.proofs.lemmas.List.{length-append}
 use Rattle.std.proofs.Math.Seq.{drop-cons}
 use Rattle.std.proofs.lemmas.List.Elements.{All-head, All-tail, All-get_or}
 use Rattle.std.proofs.lemmas.List.Edits.{get_or-remove_below, get_or-remove_above, length-remove, length-insert}
@@ -12,8 +15,10 @@ use Rattle.ads_machine.specs.Watches.{Watch, is_due, is_due_after, is_sent, afte
 use Rattle.notify_table.specs.declared.turn.Turn.{Turn}
 use Rattle.notify_table.specs.Table.{handle_of, is_numbered}
 use Rattle.notify_table.specs.Turns.{AreInTurn, HasHandle, moment_after, next_moment, is_turn_due, handle_of_turn}
-use Rattle.notify_table.specs.Schedules.{no_watch, nth_watch, watch_in, watch_at, Keeps, IsKept, key_of, OncePer, AreScheduled, IsSettled}
-use Rattle.notify_table.proofs.Filtered.{insert-remove, All-insert, All-remove, map-insert, map-remove, OncePer-others, OncePer-insert, OncePer-remove}
+use Rattle.notify_table.specs.Schedules.{no_watch, nth_watch, watch_in, watch_at, Keeps, IsKept, key_of, OncePer}
+use Rattle.notify_table.specs.Schedules.{AreScheduled, IsSettled}
+use Rattle.notify_table.proofs.Filtered.{insert-remove, All-insert, All-remove, map-insert, map-remove, OncePer-others}
+use Rattle.notify_table.proofs.Filtered.{OncePer-insert, OncePer-remove}
 
 module _ (old new : Slab (Watch Range)) (key : ℕ) (slot : Option (Watch Range)) where
   -- where the record of one key changes, the others are as they were
@@ -157,7 +162,8 @@ Keeps-checked now bytes slot t u keeps handle next = record {
   next_is = next;
 }
   where
-    kept : (sent : Bool) → (cond sent (record (watch_in slot) { last = Some now; sent = bytes }) (record (watch_in slot) { last = Some now })).handle ≡ (watch_in slot).handle
+    kept : (sent : Bool) → (cond sent (record (watch_in slot) { last = Some now; sent = bytes }) (record (watch_in slot) { last = Some now })).handle
+        ≡ (watch_in slot).handle
     kept true = refl
     kept false = refl
 

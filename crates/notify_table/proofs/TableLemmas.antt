@@ -1,24 +1,36 @@
 -- The notifications of a connection by rising handle, while those of its schedule change.
-use Rattle.std.proofs.Common.{◌≡◌, ◌≢◌, ℕ, suc, ◌+◌, ◌-◌, ◌<◌, ◌≤◌, max, Bool, true, false, not, ◌&&◌, ◌||◌, cond, nat_eq, nat_lt, nat_le, List, [], ◌∷◌, ◌++◌, length, map, get_or, Option, Some, None, option_map, IsSome, IsSomeAnd, IsTrue, refl, sym, ap, ◌∙◌, arith, inl, inr, subst}
+use Rattle.std.proofs.Common.{◌≡◌, ◌≢◌, ℕ, suc, ◌+◌, ◌-◌, ◌<◌, ◌≤◌, max, Bool, true, false, not, ◌&&◌, ◌||◌, cond}
+use Rattle.std.proofs.Common.{nat_eq, nat_lt, nat_le, List, [], ◌∷◌, ◌++◌, length, map, get_or, Option, Some, None}
+use Rattle.std.proofs.Common.{option_map, IsSome, IsSomeAnd, IsTrue, refl, sym, ap, ◌∙◌, arith, inl, inr, subst}
 use Rattle.std.specs.List.{All, filter, filter_map, find, list_any, insert, remove, position, position_or_len}
 use Rattle.std.specs.List.Sorted.{IsPermutation, IsNonDecreasing, IsStrictlyIncreasing}
 use Rattle.std.proofs.lemmas.Bool.{cases_Bool, cases_eq, eq-eqb, ne_eqb, eqb-true, ltb-false, lt-leb}
 use Rattle.std.proofs.lemmas.List.{length-map}
 use Rattle.std.proofs.lemmas.List.Edits.{length-insert, length-remove}
-use Rattle.std.proofs.lemmas.List.Elements.{All-head, All-tail, All-get_or, All-filter, All-weaker, All-map, filter_passes, filter_agree}
+use Rattle.std.proofs.lemmas.List.Elements.{All-head, All-tail, All-get_or, All-filter, All-weaker, All-map}
+use Rattle.std.proofs.lemmas.List.Elements.{filter_passes, filter_agree}
 use Rattle.std.proofs.lemmas.List.Quantifiers.{position-Some}
 use Rattle.std.proofs.lemmas.List.Sums.{fails_before_first, length-filter, count_by-le-length}
 use Rattle.ads_formats.specs.Ranges.{Range, Bytes, Bit, Size}
-use Rattle.ads_machine.specs.Watches.{Watch, is_due, is_due_after, is_sent, after_check, watch_after_reload, watches_after_reload}
-use Rattle.notify_table.specs.Table.{handle_of, watched_len, IsWatchable, IsTable, is_numbered, is_live, is_full, watch_of_handle, due_handles, table_after, checked_where, Added, Deleted, Checked, Reloaded, WatchTable}
+use Rattle.ads_machine.specs.Watches.{Watch, is_due, is_due_after, is_sent, after_check, watch_after_reload}
+use Rattle.ads_machine.specs.Watches.{watches_after_reload}
+use Rattle.notify_table.specs.Table.{handle_of, watched_len, IsWatchable, IsTable, is_numbered, is_live, is_full}
+use Rattle.notify_table.specs.Table.{watch_of_handle, due_handles, table_after, checked_where, Added, Deleted, Checked}
+use Rattle.notify_table.specs.Table.{Reloaded, WatchTable}
 use Rattle.notify_table.specs.Schedules.{nth_watch, no_watch, watch_in, OncePer}
 use Rattle.notify_table.specs.Numbered.{by_number, HasNumber, AreGranted, table_from, IsLive, end_of_handle}
 use Rattle.notify_table.specs.Reloads.{end_of, range_after, value_of_area, bytes_at, bit_at}
 use Rattle.symbol_table.specs.declared.kept.KeptPlace.{KeptPlace}
 use Rattle.symbol_table.specs.Moves.{moved_span}
 use Rattle.type_layout.specs.declared.port.Area.{Area}
-use Rattle.notify_table.proofs.Filtered.{All-insert, All-remove, insert-remove, filter_none, filter_all, filter_one, filter-insert_no, filter-insert_yes, filter-remove_no, OncePer-others, OncePer-remove, OncePer-insert}
-use Rattle.notify_table.proofs.NumberedLemmas.{by_number-nil, by_number-same, by_number-upto, by_number-filter, by_number-one, by_number-map, by_number-permuted, length-by_number, by_number-rises, All-by_number, filter-map, filter-filter, filter-filter_map, by_number-filter_map, length-filter_map-le, All-filter_map}
+use Rattle.notify_table.proofs.Filtered.{All-insert, All-remove, insert-remove, filter_none, filter_all, filter_one}
+use Rattle.notify_table.proofs.Filtered.{filter-insert_no, filter-insert_yes, filter-remove_no, OncePer-others}
+use Rattle.notify_table.proofs.Filtered.{OncePer-remove, OncePer-insert}
+use Rattle.notify_table.proofs.NumberedLemmas.{by_number-nil, by_number-same, by_number-upto, by_number-filter}
+use Rattle.notify_table.proofs.NumberedLemmas.{by_number-one, by_number-map, by_number-permuted, length-by_number}
+use Rattle.notify_table.proofs.NumberedLemmas.{by_number-rises, All-by_number, filter-map, filter-filter}
+use Rattle.notify_table.proofs.NumberedLemmas.{filter-filter_map, by_number-filter_map, length-filter_map-le}
+use Rattle.notify_table.proofs.NumberedLemmas.{All-filter_map}
 
 -- where no place was found, none passes
 none_at : {X : Type 0} (p : X → Bool) (xs : List X) → position p xs ≡ None → All (λ x. p x ≡ false) xs
@@ -283,7 +295,8 @@ module _ (ws : List (Watch Range)) (n h now : ℕ) (bytes : List ℕ) (i place :
   pub checked_table : IsFound ws n h i → is_due now (nth_watch ws i) ≡ true
       → table_from (insert (remove ws i) place (after_check now bytes (nth_watch ws i))) n ≡ table_after (table_from ws n) (Checked h now bytes)
   checked_table f due =
-      let same : by_number handle_of n (insert (remove ws i) place (after_check now bytes (nth_watch ws i))) ≡ map (checked_where h now bytes) (by_number handle_of n ws) =
+      let same : by_number handle_of n (insert (remove ws i) place (after_check now bytes (nth_watch ws i))) ≡ map (checked_where h now bytes)
+      (by_number handle_of n ws) =
       by_number-same handle_of n _ (map (checked_where h now bytes) ws) (checked_numbered f due)
       ∙ sym (by_number-map handle_of handle_of (checked_where h now bytes) (handle-checked_where h now bytes) n ws) in
       ap (λ (l : List (Watch Range)). let t : WatchTable = record { watches = l; additions = n } in t) same
@@ -356,7 +369,8 @@ module _ (t : WatchTable) where
 kept_handle : (moves : ℕ → Range → Option Range) (w v : Watch Range) → watch_after_reload moves w ≡ Some v → v.handle ≡ w.handle
 kept_handle moves w v = by_answer (moves w.port w.watched)
   where
-    by_answer : (o : Option Range) → option_map (λ (watched : Range). let u : Watch Range = record w { watched = watched } in u) o ≡ Some v → v.handle ≡ w.handle
+    by_answer : (o : Option Range) → option_map (λ (watched : Range). let u : Watch Range = record w { watched = watched } in u) o ≡ Some v → v.handle
+        ≡ w.handle
     by_answer None gone = absurd (cc)
     by_answer (Some there) same = let e : (let u : Watch Range = record w { watched = there } in u) ≡ v = cc in sym (ap handle_of e)
 

@@ -1,5 +1,6 @@
 -- For callers: the checks of a tick, one after another, are the tick of the machine.
-use Rattle.std.proofs.Common.{◌≡◌, ℕ, zero, suc, ◌+◌, ◌<◌, Bool, true, false, ◌||◌, cond, nat_eq, List, [], ◌∷◌, ◌++◌, length, map, take, get_or, refl, sym, ap, ◌∙◌, arith, inl, inr}
+use Rattle.std.proofs.Common.{◌≡◌, ℕ, zero, suc, ◌+◌, ◌<◌, Bool, true, false, ◌||◌, cond, nat_eq, List, [], ◌∷◌, ◌++◌}
+use Rattle.std.proofs.Common.{length, map, take, get_or, refl, sym, ap, ◌∙◌, arith, inl, inr}
 use Rattle.std.specs.List.{All, filter, find, list_any}
 use Rattle.std.specs.List.Sorted.{IsStrictlyIncreasing}
 use Rattle.std.proofs.lemmas.Bool.{cases_Bool, cases_eq, eq-eqb, ne_eqb}
@@ -56,7 +57,14 @@ module _ (now : ℕ) (found : Watch Range → List ℕ) where
         | inl same ↦
             let bytes_are = All-head (λ (v : Watch Range). v.handle ≡ handle → bytes ≡ found v) w ws finds same in
             let before : list_any (λ h. nat_eq h w.handle) handles ≡ false = rw same new in
-            rw (list_any-append (λ h. nat_eq h w.handle) handles (handle ∷ []), before, eq-eqb w.handle handle same, eq-eqb handle w.handle (sym same), bytes_are) refl
+            rw (
+              list_any-append (λ h. nat_eq h w.handle) handles (handle ∷ []),
+              before,
+              eq-eqb w.handle handle same,
+              eq-eqb handle w.handle
+                  (sym same),
+              bytes_are,
+            ) refl
         | inr other ↦
             let kept : is_numbered handle (checked_among handles w) ≡ false =
             ne_eqb _ _ (λ e. other (sym (handle-checked_among handles w) ∙ e)) in
@@ -82,7 +90,8 @@ module _ (now : ℕ) (found : Watch Range → List ℕ) where
 
   -- a due notification is among those that are due
   due_listed : (w : Watch Range) (ws : List (Watch Range)) (handles : List ℕ)
-      → ((v : ℕ) → list_any (λ h. nat_eq h v) (map handle_of (filter (λ (u : Watch Range). is_due now u) (w ∷ ws))) ≡ true → list_any (λ h. nat_eq h v) handles ≡ true)
+      → ((v : ℕ) → list_any (λ h. nat_eq h v) (map handle_of (filter (λ (u : Watch Range). is_due now u) (w ∷ ws))) ≡ true → list_any
+      (λ h. nat_eq h v) handles ≡ true)
       → checked_among handles w ≡ checked_watch now (found w) w
   due_listed w ws handles covers =
       elim (cases_Bool (is_due now w)) [
@@ -96,7 +105,8 @@ module _ (now : ℕ) (found : Watch Range → List ℕ) where
       ]
 
   checked_covered : (ws : List (Watch Range)) (handles : List ℕ)
-      → ((v : ℕ) → list_any (λ h. nat_eq h v) (map handle_of (filter (λ (u : Watch Range). is_due now u) ws)) ≡ true → list_any (λ h. nat_eq h v) handles ≡ true)
+      → ((v : ℕ) → list_any (λ h. nat_eq h v) (map handle_of (filter (λ (u : Watch Range). is_due now u) ws)) ≡ true → list_any (λ h. nat_eq h v)
+      handles ≡ true)
       → map (checked_among handles) ws ≡ map (λ (w : Watch Range). checked_watch now (found w) w) ws
   checked_covered [] handles covers = refl
   checked_covered (w ∷ ws) handles covers =

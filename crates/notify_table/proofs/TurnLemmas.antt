@@ -1,8 +1,10 @@
 -- Turns that are due stand in front of the others.
-use Rattle.std.proofs.Common.{◌≡◌, ℕ, ◌+◌, ◌<◌, ◌≤◌, ◌++◌, [], ◌∷◌, map, List, length, take, drop, get_or, false, sym, ap, ◌∙◌, arith}
+use Rattle.std.proofs.Common.{◌≡◌, ℕ, ◌+◌, ◌<◌, ◌≤◌, ◌++◌, [], ◌∷◌, map, List, length, take, drop, get_or, false, sym}
+use Rattle.std.proofs.Common.{ap, ◌∙◌, arith}
 use Rattle.std.specs.List.{All, filter}
 use Rattle.std.proofs.lemmas.Bool.{lt-leb, leb-false}
-use Rattle.std.proofs.lemmas.List.{append-nil, get_or_default, map_more, get_or-drop, length-drop, length-take-le, length-append, drop_all}
+use Rattle.std.proofs.lemmas.List.{append-nil, get_or_default, map_more, get_or-drop, length-drop, length-take-le}
+use Rattle.std.proofs.lemmas.List.{length-append, drop_all}
 use Rattle.std.proofs.lemmas.List.Elements.{All-get_or}
 use Rattle.notify_table.proofs.Filtered.{filter_none, filter_behind}
 use Rattle.notify_table.specs.declared.turn.Turn.{Turn}

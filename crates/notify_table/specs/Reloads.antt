@@ -28,8 +28,10 @@ bit_at bit byte = Bit (area_of byte.0) byte.1 bit
 -- where what is watched lies after the reload: all its bytes, or the byte of its bit, are of one kept
 -- symbol; else nowhere
 abbrev pub range_after : List KeptPlace → ℕ → Range → Option Range
-range_after kept port (Bytes area offset len) = option_map (bytes_at len) (moved_span kept port (value_of_area area) offset len)
-range_after kept port (Bit area offset bit) = option_map (bit_at bit) (moved_span kept port (value_of_area area) offset 1)
+range_after kept port (Bytes area offset len) =
+    option_map (bytes_at len) (moved_span kept port (value_of_area area) offset len)
+range_after kept port (Bit area offset bit) =
+    option_map (bit_at bit) (moved_span kept port (value_of_area area) offset 1)
 range_after kept port (Size area) = None
 
 -- what is told of a notification that ended

@@ -1,5 +1,6 @@
 -- The notifications of a schedule. Private: no public clause cites this file.
-use Rattle.std.specs.Prelude.{◌≡◌, ℕ, ◌+◌, ◌≤◌, List, [], insert, remove, ◌==◌, Option, None, Some, IsSome, unwrap_or, All, count_by, slice_index_or}
+use Rattle.std.specs.Prelude.{◌≡◌, ℕ, ◌+◌, ◌≤◌, List, [], insert, remove, ◌==◌}
+use Rattle.std.specs.Prelude.{Option, None, Some, IsSome, unwrap_or, All, count_by, slice_index_or}
 use Rattle.slab.specs.Slab.{Slab, get}
 use Rattle.ads_plant.specs.Description.{Process}
 use Rattle.ads_formats.specs.Ranges.{Range, Bytes}
@@ -22,9 +23,13 @@ no_watch = record {
 abbrev pub watch_in : Option (Watch Range) → Watch Range
 watch_in slot = unwrap_or slot no_watch
 
+-- the notification under a key
+abbrev pub watch_under : Slab (Watch Range) → ℕ → Watch Range
+watch_under records key = watch_in (get records key)
+
 -- the notification of a turn
 abbrev pub watch_at : Slab (Watch Range) → Turn → Watch Range
-watch_at records t = watch_in (get records t.key)
+watch_at records t = watch_under records t.key
 
 -- the notification at a place
 abbrev pub nth_watch : List (Watch Range) → ℕ → Watch Range

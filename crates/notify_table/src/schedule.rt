@@ -1,13 +1,14 @@
 //! The live notifications of one connection, in the order in which their checks become due.
 
-ghost use Rattle.std.specs.Prelude.{◌≡◌, ℕ, ◌+◌, ◌<◌, ◌≤◌, [], map, filter, length, insert, remove, position, nat_eq, IsSome, IfSome, Some, None, All, option_map, IfOk, OnOk, OnErr};
+ghost use Rattle.std.specs.Prelude.{◌≡◌, ℕ, ◌+◌, ◌<◌, ◌≤◌, [], map, filter, length, insert, remove, position};
+ghost use Rattle.std.specs.Prelude.{nat_eq, IsSome, IfSome, Some, All, option_map, IfOk, OnOk, OnErr};
 ghost use Rattle.slab.specs.Slab.{get, Updates};
 ghost use Rattle.ads_machine.specs.Watches.{is_due, is_sent, after_check, watch_after_reload, watches_after_reload};
 ghost use Rattle.index_groups.specs.Access.{range_meant};
 ghost use Rattle.notify_table.specs.Specs.{new_watch, before_checks};
 ghost use Rattle.notify_table.specs.Table.{watched_len, CanBeWatched, handle_of, is_numbered};
 ghost use Rattle.notify_table.specs.Turns.{next_moment, handle_of_turn};
-ghost use Rattle.notify_table.specs.Schedules.{watch_in, watch_at, nth_watch, IsKept, IsSettled};
+ghost use Rattle.notify_table.specs.Schedules.{watch_under, watch_at, nth_watch, IsKept, IsSettled};
 ghost use Rattle.notify_table.specs.Reloads.{range_after, is_ended, end_of, ended_meant};
 
 use crate::record::Record;
@@ -105,8 +106,8 @@ impl Schedule {
         requires there { at < length self.old }
         requires len { length bytes.now ≡ watched_len (nth_watch self.old at).watched }
         ensures sent { result ≡ is_sent bytes.now (nth_watch self.old at) }
-        ensures new { (place : ℕ) × (place ≤ length (remove self.old at)) × (self.new ≡ insert (remove self.old at) place
-            (after_check now bytes.now (nth_watch self.old at))) }
+        ensures new { (place : ℕ) × (place ≤ length (remove self.old at))
+            × (self.new ≡ insert (remove self.old at) place (after_check now bytes.now (nth_watch self.old at))) }
     {
         let turn = self.turns.remove(at);
         let (sent, next) = check_record(&mut self.records, turn.key, now, bytes);
@@ -160,7 +161,8 @@ impl Schedule {
     // After a reload one goes on or is gone: the place of the next.
     fn settle(&mut self, at: usize, m: &Moves) -> usize
         requires { at < length self.old }
-        ensures { IsSettled (watch_after_reload (range_after m.now) (nth_watch self.old at)) self.old self.new at result }
+        ensures { IsSettled (watch_after_reload (range_after m.now) (nth_watch self.old at))
+            self.old self.new at result }
     {
         let turn = self.turns[at];
         match moved_of(&self.records, turn.key, m) {
@@ -184,7 +186,7 @@ fn place_of_handle(turns: &[Turn], handle: u32) -> Option<usize>
 
 fn spec_of(records: &Slab<Record>, key: usize) -> Spec
     requires { IsSome (get records.now key) }
-    ensures { new_watch (watch_in (get records.now key)).handle result ≡ before_checks (watch_in (get records.now key)) }
+    ensures { new_watch (watch_under records.now key).handle result ≡ before_checks (watch_under records.now key) }
 {
     match records.get(key) {
         Some(record) => record.spec(),
@@ -195,10 +197,11 @@ fn spec_of(records: &Slab<Record>, key: usize) -> Spec
 // Checks the notification of a key: whether its bytes are to be sent, and from when on it is due again.
 fn check_record(records: &mut Slab<Record>, key: usize, now: u64, bytes: &[u8]) -> (bool, u128)
     requires there { IsSome (get records.old key) }
-    requires len { length bytes.now ≡ watched_len (watch_in (get records.old key)).watched }
-    ensures sent { result.0 ≡ is_sent bytes.now (watch_in (get records.old key)) }
-    ensures next { result.1 ≡ next_moment (after_check now bytes.now (watch_in (get records.old key))) }
-    ensures updates { Updates records.old records.new key (Some (after_check now bytes.now (watch_in (get records.old key)))) }
+    requires len { length bytes.now ≡ watched_len (watch_under records.old key).watched }
+    ensures sent { result.0 ≡ is_sent bytes.now (watch_under records.old key) }
+    ensures next { result.1 ≡ next_moment (after_check now bytes.now (watch_under records.old key)) }
+    ensures updates { Updates records.old records.new key
+        (Some (after_check now bytes.now (watch_under records.old key))) }
 {
     match records.get_mut(key) {
         Some(record) => {
@@ -211,7 +214,7 @@ fn check_record(records: &mut Slab<Record>, key: usize, now: u64, bytes: &[u8]) 
 
 fn ended_of(records: &Slab<Record>, key: usize) -> Ended
     requires { IsSome (get records.now key) }
-    ensures { ended_meant result ≡ end_of (watch_in (get records.now key)) }
+    ensures { ended_meant result ≡ end_of (watch_under records.now key) }
 {
     match records.get(key) {
         Some(record) => record.ended(),
@@ -223,8 +226,9 @@ fn ended_of(records: &Slab<Record>, key: usize) -> Ended
 fn moved_of(records: &Slab<Record>, key: usize, m: &Moves) -> Option<Reach>
     requires { IsSome (get records.now key) }
     ensures moved { option_map range_meant result
-        ≡ range_after m.now (watch_in (get records.now key)).port (watch_in (get records.now key)).watched }
-    ensures len { IfSome result (λ reach. watched_len (range_meant reach) ≡ watched_len (watch_in (get records.now key)).watched) }
+        ≡ range_after m.now (watch_under records.now key).port (watch_under records.now key).watched }
+    ensures len { IfSome result (λ reach.
+        watched_len (range_meant reach) ≡ watched_len (watch_under records.now key).watched) }
 {
     match records.get(key) {
         Some(record) => record.moved(m),
@@ -234,9 +238,9 @@ fn moved_of(records: &Slab<Record>, key: usize, m: &Moves) -> Option<Reach>
 
 fn put_reach(records: &mut Slab<Record>, key: usize, reach: Reach)
     requires there { IsSome (get records.old key) }
-    requires len { watched_len (range_meant reach) ≡ watched_len (watch_in (get records.old key)).watched }
+    requires len { watched_len (range_meant reach) ≡ watched_len (watch_under records.old key).watched }
     ensures { Updates records.old records.new key
-        (Some (record (watch_in (get records.old key)) { watched = range_meant reach })) }
+        (Some (record (watch_under records.old key) { watched = range_meant reach })) }
 {
     match records.get_mut(key) {
         Some(record) => record.put(reach),
@@ -251,7 +255,8 @@ fn ending_turns(
     m: &Moves,
 ) -> Result<Vec<u32>, NoMemory>
     requires { All (IsKept records.now) turns.now }
-    ensures { IfOk result (λ handles. handles.items ≡ map handle_of (filter (is_ended m.now) (map (watch_at records.now) turns.now))) }
+    ensures { IfOk result (λ handles. handles.items
+        ≡ map handle_of (filter (is_ended m.now) (map (watch_at records.now) turns.now))) }
 {
     let mut handles = Vec::new(alloc);
     for turn in turns {
@@ -265,7 +270,7 @@ fn ending_turns(
 // Whether a reload ends the notification of a key.
 fn ends(records: &Slab<Record>, key: usize, m: &Moves) -> bool
     requires { IsSome (get records.now key) }
-    ensures { result ≡ is_ended m.now (watch_in (get records.now key)) }
+    ensures { result ≡ is_ended m.now (watch_under records.now key) }
 {
     moved_of(records, key, m).is_none()
 }

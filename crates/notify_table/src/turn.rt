@@ -1,6 +1,7 @@
 //! The order in which checks become due.
 
-ghost use Rattle.std.specs.Prelude.{◌≡◌, ℕ, ◌+◌, ◌<◌, ◌≤◌, map, filter, length, insert, nat_lt, nat_le, IfOk, vec_len, vec_capacity};
+ghost use Rattle.std.specs.Prelude.{◌≡◌, ℕ, ◌+◌, ◌<◌, ◌≤◌, map, filter, length, insert, nat_lt, IfOk};
+ghost use Rattle.std.specs.Prelude.{vec_len, vec_capacity};
 ghost use Rattle.notify_table.specs.Turns.{AreInTurn, IsPlaceOf, turn_rank, is_turn_due, handle_of_turn};
 
 use ads_base::{NoMemory, Steps};
@@ -38,7 +39,8 @@ fn place_of(turns: &[Turn], turn: Turn) -> usize
 pub(crate) fn put_turn(turns: &mut Vec<Turn>, turn: Turn)
     requires in_turn { AreInTurn turns.old.items }
     requires room { vec_len turns.old < vec_capacity turns.old }
-    ensures put { (place : ℕ) × (place ≤ vec_len turns.old) × (turns.new.items ≡ insert turns.old.items place turn) }
+    ensures put { (place : ℕ) × (place ≤ vec_len turns.old)
+        × (turns.new.items ≡ insert turns.old.items place turn) }
     ensures in_turn { AreInTurn turns.new.items }
 {
     let place = place_of(turns, turn);
@@ -54,7 +56,8 @@ pub(crate) fn due_turns<L: Ledger>(
     steps: &mut Steps<L>,
 ) -> Result<Vec<u32>, NoMemory>
     requires { AreInTurn turns.now }
-    ensures due { IfOk result (λ handles. handles.items ≡ map handle_of_turn (filter (is_turn_due now) turns.now)) }
+    ensures due { IfOk result (λ handles. handles.items
+        ≡ map handle_of_turn (filter (is_turn_due now) turns.now)) }
     ensures cost { steps.new ≤ steps.old + (length (filter (is_turn_due now) turns.now) + 1) }
 {
     let mut handles = Vec::new(alloc);

@@ -1,11 +1,14 @@
 //! The notifications of one connection.
 
-ghost use Rattle.std.specs.Prelude.{◌≡◌, ◌+◌, ◌<◌, ◌≤◌, ◌↔◌, ◌==◌, not, false, filter, map, All, length, option_map, IsTrue, IsOk, IsErr, IsSomeAnd, IfSome, IfOk, IfErr, OnOk, OnErr};
+ghost use Rattle.std.specs.Prelude.{◌≡◌, ◌+◌, ◌<◌, ◌≤◌, ◌↔◌, ◌==◌, not, false, filter, map, All, length};
+ghost use Rattle.std.specs.Prelude.{option_map, IsTrue, IsOk, IsErr, IsSomeAnd, IfSome, IfOk, IfErr, OnOk, OnErr};
 ghost use Rattle.std.specs.List.Sorted.{IsStrictlyIncreasing};
 ghost use Rattle.ads_machine.specs.Watches.{is_due, is_sent, ended_watches};
 ghost use Rattle.index_groups.specs.Access.{range_meant};
 ghost use Rattle.notify_table.specs.Specs.{new_watch, before_checks};
-ghost use Rattle.notify_table.specs.Table.{watched_len, CanBeWatched, no_watches, is_full, is_live, watch_of_handle, due_handles, table_after, IsTable, Added, Deleted, Checked, Reloaded};
+ghost use Rattle.notify_table.specs.Table.{watched_len, CanBeWatched, no_watches, is_full, is_live};
+ghost use Rattle.notify_table.specs.Table.{watch_of_handle, due_handles, IsTable};
+ghost use Rattle.notify_table.specs.Table.{table_after, Added, Deleted, Checked, Reloaded};
 ghost use Rattle.notify_table.specs.Reloads.{range_after, end_of, ended_meant};
 ghost use Rattle.notify_table.specs.Numbered.{IsLive, end_of_handle};
 
@@ -100,7 +103,8 @@ impl Watches {
 
     /// What a live notification was added as, and what it watches now.
     pub fn spec(&self, handle: u32) -> Option<Spec>
-        ensures spec { option_map (new_watch handle) result ≡ option_map before_checks (watch_of_handle handle self.now) }
+        ensures spec { option_map (new_watch handle) result
+            ≡ option_map before_checks (watch_of_handle handle self.now) }
         ensures table { IsTable self.now }
     {
         let at = self.schedule.find(handle)?;

@@ -23,7 +23,8 @@ pub loop-turn-preserved : goal.loop-turn-preserved
 loop-turn-preserved g c =
     let within : c.loop-turn.turn-index < length c.args.turns.now = omega arith in
     record {
-      handles = c.in_ok-push.ensures.items ∙ handles_more c.args.turns.now c.loop-turn.turn-index _ c.loop-turn.handles.items within c.loop-turn.invariant.handles;
+      handles = c.in_ok-push.ensures.items ∙ handles_more c.args.turns.now c.loop-turn.turn-index _ c.loop-turn.handles.items within
+          c.loop-turn.invariant.handles;
       due = All-more (λ t. is_turn_due c.args.now t ≡ true) c.args.turns.now c.loop-turn.turn-index _ within
           c.loop-turn.invariant.due (sym c.is_due.ensures.value ∙ c.if-not-is_due.false);
       steps = omega arith;

@@ -20,8 +20,16 @@ invariant_of-self-2 c =
 pub returns-clause-ok : goal.returns-clause-ok
 returns-clause-ok c = (
   c.put_turn.ensures.put.0,
-  omega (arith, c.put_turn.ensures.put.1, c.reserve.ensures.len, length-map c.self.inside.turns.items (watch_at c.self.inside.records), ap length c.self.view_is),
-  rw (← c.in_ok-record.ensures) (added_watches c.self.inside.records c.insert.new.self c.self.inside.turns.items c.put_turn.new.turns.items c.put_turn.ensures.put.0
+  omega (
+    arith,
+    c.put_turn.ensures.put.1,
+    c.reserve.ensures.len,
+    length-map c.self.inside.turns.items (watch_at c.self.inside.records),
+    ap length
+        c.self.view_is,
+  ),
+  rw (← c.in_ok-record.ensures) (added_watches c.self.inside.records c.insert.new.self c.self.inside.turns.items c.put_turn.new.turns.items
+      c.put_turn.ensures.put.0
       (record { next = 0; handle = c.args.handle; key = c.in_ok-key.key }) c.in_ok-record.record c.args.self.now c.self.view_is c.self.invariant
       c.in_ok-key.ensures.was_vacant c.in_ok-key.ensures.updates (put_into _ _ _ _ _ c.reserve.ensures.items c.put_turn.ensures.put.2)),
 )

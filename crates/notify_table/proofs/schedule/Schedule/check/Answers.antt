@@ -1,7 +1,8 @@
 use Rattle.std.proofs.Common.{refl, ap, arith, length}
 use Rattle.std.proofs.lemmas.List.{length-map}
 use Rattle.std.proofs.lemmas.List.Edits.{length-remove}
-use Rattle.notify_table.proofs.ScheduleLemmas.{others_in_turn, changed_scheduled, changed_watches, within_turns, nth_is, Keeps-checked, keeps_of}
+use Rattle.notify_table.proofs.ScheduleLemmas.{others_in_turn, changed_scheduled, changed_watches, within_turns, nth_is}
+use Rattle.notify_table.proofs.ScheduleLemmas.{Keeps-checked, keeps_of}
 use Rattle.slab.specs.Slab.{get}
 use Rattle.ads_machine.specs.Watches.{after_check}
 use Rattle.notify_table.specs.Schedules.{watch_at}
@@ -9,8 +10,10 @@ use Rattle.notify_table.proofs.schedule.Schedule.check.Goals as goal
 
 pub put_turn-requires-clause-in_turn : goal.put_turn-requires-clause-in_turn
 put_turn-requires-clause-in_turn c =
-    others_in_turn c.self.inside.records c.self.inside.records c.self.inside.turns.items c.remove-turn.new.self.items c.args.self.now c.args.at c.remove-turn.result
-    c.self.invariant (within_turns c.self.inside.records c.self.inside.turns.items c.args.self.now c.args.at c.self.view_is c.requires.there) c.remove-turn.ensures.items
+    others_in_turn c.self.inside.records c.self.inside.records c.self.inside.turns.items c.remove-turn.new.self.items c.args.self.now c.args.at
+    c.remove-turn.result
+    c.self.invariant (within_turns c.self.inside.records c.self.inside.turns.items c.args.self.now c.args.at c.self.view_is c.requires.there)
+    c.remove-turn.ensures.items
 
 pub invariant_of-self : goal.invariant_of-self
 invariant_of-self c =
@@ -37,10 +40,13 @@ returns-clause-new c =
         ap length c.self.view_is,
         length-remove c.args.self.now c.args.at c.requires.there,
       ),
-      rw (nth_is c.self.inside.records c.self.inside.turns.items c.args.self.now c.args.at c.remove-turn.result c.self.view_is within c.remove-turn.ensures.value)
-          (changed_watches c.self.inside.records c.check_record-sent.new.records c.self.inside.turns.items c.remove-turn.new.self.items c.args.self.now c.args.at
+      rw (nth_is c.self.inside.records c.self.inside.turns.items c.args.self.now c.args.at c.remove-turn.result c.self.view_is within
+          c.remove-turn.ensures.value)
+          (changed_watches c.self.inside.records c.check_record-sent.new.records c.self.inside.turns.items c.remove-turn.new.self.items
+          c.args.self.now c.args.at
           c.remove-turn.result c.put_turn.new.turns.items c.put_turn.ensures.put.0
           (record { next = c.check_record-sent.result.1; handle = c.remove-turn.result.handle; key = c.remove-turn.result.key })
           (after_check c.args.now c.args.bytes.now (watch_at c.self.inside.records c.remove-turn.result))
-          c.self.view_is c.self.invariant within c.remove-turn.ensures.value c.remove-turn.ensures.items c.put_turn.ensures.put.2 refl c.check_record-sent.ensures.updates),
+          c.self.view_is c.self.invariant within c.remove-turn.ensures.value c.remove-turn.ensures.items c.put_turn.ensures.put.2 refl
+          c.check_record-sent.ensures.updates),
     )

@@ -12,14 +12,17 @@ use Rattle.notify_table.proofs.schedule.Schedule.settle.Goals as goal
 pub returns-in-Some : goal.returns-in-Some
 returns-in-Some c =
     let within = within_turns c.self.inside.records c.self.inside.turns.items c.args.self.now c.args.at c.self.view_is c.requires in
-    let place = nth_is c.self.inside.records c.self.inside.turns.items c.args.self.now c.args.at c.index-turn.result.now c.self.view_is within c.index-turn.ensures in
+    let place = nth_is c.self.inside.records c.self.inside.turns.items c.args.self.now c.args.at c.index-turn.result.now c.self.view_is within
+    c.index-turn.ensures in
     let w : Watch Range = watch_at c.self.inside.records c.index-turn.result.now in
     let there : Watch Range = record w { watched = range_meant c.in-Some.reach } in
     let moved : watch_after_reload (range_after c.args.m.now) w ≡ Some there =
     ap (option_map (λ (watched : Range). let v : Watch Range = record w { watched = watched } in v)) (sym c.in-Some.ensures.moved) in
     rw (place, moved) (
-      changed_watches c.self.inside.records c.put_reach.new.records c.self.inside.turns.items (remove c.self.inside.turns.items c.args.at) c.args.self.now c.args.at
-          c.index-turn.result.now c.self.inside.turns.items c.args.at c.index-turn.result.now there c.self.view_is c.self.invariant within c.index-turn.ensures refl
+      changed_watches c.self.inside.records c.put_reach.new.records c.self.inside.turns.items (remove c.self.inside.turns.items c.args.at)
+          c.args.self.now c.args.at
+          c.index-turn.result.now c.self.inside.turns.items c.args.at c.index-turn.result.now there c.self.view_is c.self.invariant within
+          c.index-turn.ensures refl
           (put_back c.self.inside.turns.items c.args.at c.index-turn.result.now within c.index-turn.ensures) refl c.put_reach.ensures,
       refl,
     )

@@ -7,7 +7,8 @@ use Rattle.notify_table.proofs.schedule.Schedule.settle_all.Goals as goal
 
 pub loop-at-preserved : goal.loop-at-preserved
 loop-at-preserved c =
-    let step = settled (watch_after_reload (range_after c.args.m.now)) c.loop-at.self c.settle-at.new.self c.loop-at.at c.settle-at.result (omega arith) c.settle-at.ensures in
+    let step = settled (watch_after_reload (range_after c.args.m.now)) c.loop-at.self c.settle-at.new.self c.loop-at.at c.settle-at.result
+    (omega arith) c.settle-at.ensures in
     record { within = step.within; left = step.left ∙ c.loop-at.invariant.left }
 
 pub returns : goal.returns

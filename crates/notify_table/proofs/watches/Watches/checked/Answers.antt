@@ -6,12 +6,14 @@ use Rattle.notify_table.proofs.watches.Watches.checked.Goals as goal
 pub check-requires-clause-len : goal.check-requires-clause-len
 check-requires-clause-len c =
     let f = found c.self.inside.schedule c.self.inside.granted c.args.handle c.in-Some.at c.self.invariant (sym c.in-Some.ensures) in
-    (checkable c.self.inside.schedule c.self.inside.granted c.args.handle c.args.now c.args.bytes.now c.args.self.now c.in-Some.at c.self.view_is f c.requires).1
+    (checkable c.self.inside.schedule c.self.inside.granted c.args.handle c.args.now c.args.bytes.now c.args.self.now c.in-Some.at c.self.view_is f
+    c.requires).1
 
 pub invariant_of-self : goal.invariant_of-self
 invariant_of-self c =
     let f = found c.self.inside.schedule c.self.inside.granted c.args.handle c.in-Some.at c.self.invariant (sym c.in-Some.ensures) in
-    rw c.check.ensures.new.2 (checked_granted c.self.inside.schedule c.self.inside.granted c.args.handle c.args.now c.args.bytes.now c.in-Some.at c.check.ensures.new.0 c.check.ensures.new.1 c.self.invariant f)
+    rw c.check.ensures.new.2 (checked_granted c.self.inside.schedule c.self.inside.granted c.args.handle c.args.now c.args.bytes.now c.in-Some.at
+    c.check.ensures.new.0 c.check.ensures.new.1 c.self.invariant f)
 
 pub unreachable-requires : goal.unreachable-requires
 unreachable-requires c =
@@ -26,7 +28,8 @@ returns-clause-sent c =
 pub returns-clause-watches : goal.returns-clause-watches
 returns-clause-watches c =
     let f = found c.self.inside.schedule c.self.inside.granted c.args.handle c.in-Some.at c.self.invariant (sym c.in-Some.ensures) in
-    let due = (checkable c.self.inside.schedule c.self.inside.granted c.args.handle c.args.now c.args.bytes.now c.args.self.now c.in-Some.at c.self.view_is f c.requires).0 in
+    let due = (checkable c.self.inside.schedule c.self.inside.granted c.args.handle c.args.now c.args.bytes.now c.args.self.now c.in-Some.at
+    c.self.view_is f c.requires).0 in
     rw (← c.self.view_is, c.check.ensures.new.2)
     (checked_table c.self.inside.schedule c.self.inside.granted c.args.handle c.args.now c.args.bytes.now c.in-Some.at c.check.ensures.new.0 f due)
 

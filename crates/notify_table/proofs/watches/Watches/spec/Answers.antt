@@ -4,7 +4,11 @@ use Rattle.notify_table.proofs.watches.Watches.spec.Goals as goal
 
 pub returns-in_err-at-clause-spec : goal.returns-in_err-at-clause-spec
 returns-in_err-at-clause-spec c =
-    rw (← c.self.view_is, missing c.self.inside.schedule c.self.inside.granted c.args.handle (sym c.find.ensures ∙ c.in_err-at.was), c.from_residual.ensures) refl
+    rw (
+      ← c.self.view_is,
+      missing c.self.inside.schedule c.self.inside.granted c.args.handle (sym c.find.ensures ∙ c.in_err-at.was),
+      c.from_residual.ensures,
+    ) refl
 
 pub returns-clause-spec : goal.returns-clause-spec
 returns-clause-spec c =
