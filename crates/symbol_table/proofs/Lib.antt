@@ -16,3 +16,4 @@ pub mod PositiveSizes
 pub mod PlacedSymbols
 pub mod FoundParts
 pub mod MovedWithin
+pub mod TestTables

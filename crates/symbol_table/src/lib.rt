@@ -16,6 +16,10 @@ mod place;
 mod ranks;
 mod row;
 mod table;
+#[cfg(test)]
+mod table_tests;
+#[cfg(test)]
+mod test_ports;
 mod tile;
 mod tiling;
 
