@@ -141,7 +141,7 @@ trees_behind-split known ts zero = refl
 trees_behind-split known [] (suc i) = refl
 trees_behind-split known (t ∷ ts) (suc i) = trees_behind-split (known ++ named_tree known t ∷ []) ts i
 
-length-trees_behind : (known : List TypeTree) (ts : List NamedType) → length (trees_behind known ts) ≡ length known + length ts
+pub length-trees_behind : (known : List TypeTree) (ts : List NamedType) → length (trees_behind known ts) ≡ length known + length ts
 unfolding trees_behind
 length-trees_behind known [] = sym (add-zero (length known))
 length-trees_behind known (t ∷ ts) =

@@ -1,14 +1,15 @@
 -- Entries, and the upload.
-use Rattle.std.proofs.Common.{◌≡◌, ℕ, ◌+◌, ◌<◌, ◌≤◌, List, [], ◌∷◌, ◌++◌, length, get_or, take, refl, sym, ap, ◌∙◌, arith, append_assoc, length-append, add-zero, zero-add}
+use Rattle.std.proofs.Common.{◌≡◌, ℕ, ◌+◌, ◌<◌, ◌≤◌, List, [], ◌∷◌, ◌++◌, length, get_or, take, refl, sym, ap, ◌∙◌, arith, append_assoc, zero-add}
 use Rattle.std.specs.Prelude.{flat_map}
 use Rattle.std.proofs.lemmas.List.{append-nil, take_more, take_all, flat_map_more}
 use Rattle.std.proofs.lemmas.Grind.{flat_map-append}
 use Rattle.std.proofs.lemmas.Option.{unwrap_or-slice_get}
 use Rattle.ads_formats.specs.TypeEntry.{TypeFields, TypeEntry, sub_bytes, type_bytes, type_upload_bytes}
 use Rattle.ads_plant.specs.Listed.{NamedType}
-use Rattle.ads_plant.specs.Trees.{TypeTree, StructTree, MemberTrees, NoMember, named_tree, tree_at, trees_behind, trees_of}
+use Rattle.ads_plant.specs.Trees.{TypeTree, StructTree, MemberTrees, NoMember, tree_at, trees_of}
 use Rattle.ads_plant.specs.Sizes.{type_size}
 use Rattle.ads_plant.specs.Entries.{type_id}
+use Rattle.ads_plant.proofs.TypeLemmas.{length-trees_behind}
 use Rattle.ads_machine.specs.TypeEntries.{members_fields, named_fields, entry_of_type, entries_of_types}
 use Rattle.type_upload.specs.WrittenFields.{front_bytes}
 use Rattle.type_upload.specs.NextMembers.{tree_bytes}
@@ -31,14 +32,6 @@ structure_written name members size id count read subs old mid new es ei en ec e
 pub upload-trees : (ts : List TypeTree) → type_upload_bytes (entries_of_types ts) ≡ flat_map tree_bytes ts
 upload-trees [] = refl
 upload-trees (t ∷ ts) = flat_map-append type_bytes (entry_of_type t) (entries_of_types ts) ∙ ap (λ (l : List ℕ). tree_bytes t ++ l) (upload-trees ts)
-
-length-trees_behind : (known : List TypeTree) (ts : List NamedType) → length (trees_behind known ts) ≡ length known + length ts
-unfolding trees_behind
-length-trees_behind known [] = sym (add-zero (length known))
-length-trees_behind known (t ∷ ts) =
-    let rest = length-trees_behind (known ++ named_tree known t ∷ []) ts in
-    let longer = length-append known (named_tree known t ∷ []) in
-    omega (arith, rest, longer)
 
 pub length-trees_of : (types : List NamedType) → length (trees_of types) ≡ length types
 unfolding trees_of
