@@ -221,7 +221,8 @@ pub record IsGoodMember (types : List NamedType) (place : ℕ) (m : Member) : Ty
   pub names : IsEarlier types place (elem_within m.shape)
   pub few_elements : is_small_shape m.shape ≡ true
 
-shape-elem : (before : List NamedType) (s : Shape) → is_shape before s ≡ true → is_elem before (elem_within s) ≡ true
+-- the type within an accepted shape
+pub shape-elem : (before : List NamedType) (s : Shape) → is_shape before s ≡ true → is_elem before (elem_within s) ≡ true
 shape-elem before (One e) h = h
 shape-elem before (Array bs e) h = (and_parts (are_bounds bs) (is_elem before e) h).1
 

@@ -3,15 +3,14 @@ use Rattle.std.proofs.Common.{◌≡◌, ℕ, ◌+◌, ◌≤◌, true, List, []
 use Rattle.std.specs.Prelude.{Bool, Some, slice_get, nat_lt, nat_le, ◌&&◌}
 use Rattle.std.specs.List.{list_all}
 use Rattle.std.proofs.lemmas.Bool.{and_parts, leb-true, lt-ltb}
-use Rattle.ads_plant.specs.Listed.{NamedType, Shape}
+use Rattle.ads_plant.specs.Listed.{NamedType}
 use Rattle.ads_plant.specs.Description.{Symbol, Port, Sizes, size_in, Description}
 use Rattle.ads_plant.specs.Trees.{tree_of}
 use Rattle.ads_plant.specs.Sizes.{type_size}
-use Rattle.ads_plant.specs.AcceptedTypes.{AreTypes, IsSized, LIMIT, all_pairs, is_shape, is_elem, is_small_shape, are_bounds, elem_within}
+use Rattle.ads_plant.specs.AcceptedTypes.{AreTypes, IsSized, LIMIT, all_pairs, is_shape, is_small_shape}
 use Rattle.ads_plant.specs.Accepted.{size_of_symbol, are_apart, are_two_names, is_symbol, is_port, IsAccepted}
 use Rattle.name_paths.specs.Name.{is_symbol_name}
-use Rattle.ads_plant.specs.Listed.{One, Array}
-use Rattle.ads_plant.proofs.TypeLemmas.{list_all-get}
+use Rattle.ads_plant.proofs.TypeLemmas.{list_all-get, shape-elem}
 use Rattle.symbol_table.specs.Tables.{TableSymbol, SymbolTable, table_symbol, table_of, is_typed, is_placed, IsPlaced, IsTableWith}
 use Rattle.symbol_table.specs.PlaceOrders.{has_bytes, is_within, lie_apart}
 use Rattle.symbol_table.proofs.PlacesInOrder.{mapped_at}
@@ -26,10 +25,6 @@ typed_placed types sizes (s ∷ symbols) h =
 
 typed-shape : (types : List NamedType) (s : Symbol) → is_typed types s ≡ true → is_shape types s.shape ≡ true
 typed-shape types s h = (and_parts (is_shape types s.shape) (is_small_shape s.shape) ((and_parts (is_shape types s.shape && is_small_shape s.shape) _ h).0)).0
-
-shape-elem : (types : List NamedType) (s : Shape) → is_shape types s ≡ true → is_elem types (elem_within s) ≡ true
-shape-elem types (One e) h = h
-shape-elem types (Array bs e) h = (and_parts (are_bounds bs) (is_elem types e) h).1
 
 pub typed-sized : (types : List NamedType) (s : Symbol) → is_typed types s ≡ true → IsSized types s.shape
 typed-sized types s h =

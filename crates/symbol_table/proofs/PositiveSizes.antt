@@ -10,7 +10,7 @@ use Rattle.ads_plant.specs.Trees.{TypeTree, tree_at, trees_of, elem_tree, shape_
 use Rattle.ads_plant.specs.Sizes.{type_size, members_end, greatest_align, element_count, member_start, aligned}
 use Rattle.ads_plant.specs.AcceptedTypes.{AreTypes, is_elem, is_shape, is_bound, are_bounds, is_member, is_count, elem_within}
 use Rattle.ads_plant.proofs.SizeLemmas.{kind_size-bounds, members_end-le}
-use Rattle.ads_plant.proofs.TypeLemmas.{stands_at, rank, good_members, member-shape}
+use Rattle.ads_plant.proofs.TypeLemmas.{stands_at, rank, good_members, member-shape, shape-elem}
 
 mul_pos : {m n : ℕ} → 0 < m → 0 < n → 0 < m * n
 mul_pos {m} {n} some other = let le = le-mul_of_pos_right m other in omega (arith, some, le)
@@ -75,10 +75,6 @@ elem-positive types a (suc fuel) (Enum p) below h = go (slice_get types p) refl 
     go (Some (Enumeration name base values)) e f =
         let tree = (stands_at types p (Enumeration name base values) a e).tree in
         rw tree ((kind_size-bounds base).0)
-
-shape-elem : (types : List NamedType) (s : Shape) → is_shape types s ≡ true → is_elem types (elem_within s) ≡ true
-shape-elem types (One e) h = h
-shape-elem types (Array bs e) h = (and_parts (are_bounds bs) (is_elem types e) h).1
 
 pub size-positive : (types : List NamedType) (s : Shape) → AreTypes types → is_shape types s ≡ true → 0 < type_size (tree_of types s)
 size-positive types s a h =
