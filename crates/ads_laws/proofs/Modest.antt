@@ -30,6 +30,7 @@ use Rattle.ads_machine.specs.MachineState.{MachineState, Exchange, exchange_of, 
 use Rattle.ads_machine.specs.Piece.{after_piece}
 use Rattle.ads_machine.specs.Moves.{after_reload, with_gone, with_took, state_after_event, state_after_move, state_after}
 use Rattle.ads_machine.specs.World.{World}
+use Rattle.ads_plant.proofs.TextLengths.{short_comment}
 use Rattle.ads_machine.specs.Client.{Place, Client}
 use Rattle.ads_machine.specs.Entries.{entry_of_symbol, symbol_upload_of, entry_of_part}
 use Rattle.ads_machine.specs.Answers.{AnswerTable}
@@ -40,7 +41,7 @@ use Rattle.ads_laws.specs.Isolation.{start}
 use Rattle.ads_laws.specs.Soundness.{Each, ReadsAccepted}
 use Rattle.ads_laws.specs.Reachable.{IsPlaced}
 use Rattle.ads_laws.proofs.TameTypes.{IsTame, path_len, text-short, tame-steps}
-use Rattle.ads_laws.proofs.TameTrees.{shape-tame, short-comment, trees-tame}
+use Rattle.ads_laws.proofs.TameTrees.{shape-tame, trees-tame}
 use Rattle.ads_laws.proofs.EveryState.{Goes, piece-goes, took-goes, gone-goes}
 
 pub record IsModestSymbol (s : PlantSymbol) : Type 0 where
@@ -87,7 +88,7 @@ symbol-modest types a sizes signals s e =
     record {
       size = leb-true (size_of_symbol types s) LIMIT (p.1);
       name = leb-true (length s.name) 255 (n.0);
-      comment = short-comment s.comment (d.2);
+      comment = short_comment s.comment (d.2);
       tame = t.0;
       path = t.1;
     }

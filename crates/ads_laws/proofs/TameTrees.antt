@@ -1,19 +1,17 @@
 -- The trees of an accepted list of types are tame, and the name of a part grows by 296 bytes a type at most.
 use Rattle.std.proofs.Common.{◌≡◌, ℕ, zero, suc, ◌+◌, ◌*◌, ◌≤◌, List, [], ◌∷◌, ◌++◌, length, true, arith}
-use Rattle.std.specs.Prelude.{nat_le, ◌&&◌, codes, decimal}
+use Rattle.std.specs.Prelude.{◌&&◌}
 use Rattle.std.specs.List.{list_all}
 use Rattle.std.proofs.Math.Nat.{max-le}
 use Rattle.std.proofs.lemmas.Bool.{and_parts, leb-true}
-use Rattle.std.proofs.lemmas.List.{length-append}
-use Rattle.std.proofs.lemmas.Fmt.{length-decimal-le}
-use Rattle.name_paths.specs.Identifier.{is_identifier}
 use Rattle.ads_plant.specs.Listed.{Elem, Plain, Text, Struct, Enum, Shape, One, Array, Member, NamedType, Structure, Enumeration, type_name}
 use Rattle.ads_plant.specs.Trees.{TypeTree, tree_at, elem_tree, shape_tree, member_trees, named_tree, trees_behind, trees_of}
 use Rattle.ads_plant.specs.Spelling.{type_text}
-use Rattle.ads_plant.specs.AcceptedTypes.{AreTypes, are_types_behind, is_next_type, has_parts, is_member, is_shape, is_elem, are_bounds, is_type_name, is_short_identifier, is_comment, is_small_shape, is_small_type, is_count, all_pairs, differ, type_words}
+use Rattle.ads_plant.specs.AcceptedTypes.{AreTypes, are_types_behind, is_next_type, has_parts, is_member, is_shape, is_elem, are_bounds, is_type_name, is_short_identifier, is_comment, is_small_shape, is_small_type, is_count, all_pairs, differ}
+use Rattle.ads_plant.proofs.TextLengths.{short_name, short_type_name, short_comment, kind-short, string-short}
 use Rattle.ads_laws.specs.Soundness.{Each}
 use Rattle.ads_laws.proofs.Footprints.{each_both}
-use Rattle.ads_laws.proofs.TameTypes.{IsTame, AreTame, path_len, members_path, kind-short}
+use Rattle.ads_laws.proofs.TameTypes.{IsTame, AreTame, path_len, members_path}
 
 pub record IsTameTree (most : ℕ) (t : TypeTree) : Type 0 where
   pub tame : IsTame t
@@ -35,10 +33,8 @@ unfolding type_text
 elem-tame most before known (Plain kind) e h = let k = kind-short kind in record { tame = tt; path = omega arith; text = omega (arith, k) }
 elem-tame most before known (Text n) e h =
     let l = leb-true n 65534 h in
-    let d = length-decimal-le 5 n (omega arith) (omega (arith, l)) (omega (arith, l)) in
-    let a = length-append (codes "STRING(" ++ decimal n) (codes ")") in
-    let b = length-append (codes "STRING(") (decimal n) in
-    record { tame = l; path = omega arith; text = omega (arith, d, a, b) }
+    let t = string-short n l in
+    record { tame = l; path = omega arith; text = omega (arith, t) }
 elem-tame most before known (Struct place) e h = at-tame most known place e
 elem-tame most before known (Enum place) e h = at-tame most known place e
 
@@ -49,12 +45,6 @@ shape-tame most before known (Array bounds x) e h =
     let t = elem-tame most before known x e (q.1) in
     let p = t.path in
     ((q.0, (t.text, t.tame)), omega (arith, p))
-
-short-name : (name : List ℕ) → is_short_identifier name ≡ true → length name ≤ 255
-short-name name h = let p = and_parts (is_identifier name) (nat_le (length name) 255) h in leb-true (length name) 255 (p.1)
-
-pub short-comment : (text : List ℕ) → is_comment text ≡ true → length text ≤ 255
-short-comment text h = let p = and_parts (nat_le (length text) 255) (list_all (λ c. nat_le 0x20 c && nat_le c 0x7E) text) h in leb-true (length text) 255 (p.0)
 
 members-tame : (most : ℕ) (before : List NamedType) (known : List TypeTree) (ms : List Member) → Each (IsTameTree most) known → list_all (is_member before) ms ≡ true
     → AreTame (member_trees known ms) × (members_path (member_trees known ms) ≤ 296 + most)
@@ -67,7 +57,7 @@ members-tame most before known (m ∷ ms) e h =
     let here = shape-tame most before known m.shape e (r.1) in
     let rest = members-tame most before known ms e (p.1) in
     let l = here.1 in
-    ((short-name m.name (s.0), (short-comment m.comment (s.1), (here.0, rest.0))), max-le (omega (arith, l)) (rest.1))
+    ((short_name m.name (s.0), (short_comment m.comment (s.1), (here.0, rest.0))), max-le (omega (arith, l)) (rest.1))
 
 named-tame : (most : ℕ) (before : List NamedType) (known : List TypeTree) (t : NamedType) → Each (IsTameTree most) known → (length (type_name t) ≤ 255) → has_parts before t ≡ true → IsTameTree (296 + most) (named_tree known t)
 unfolding type_text
@@ -83,8 +73,7 @@ next-tame most before known t e h =
     let p = and_parts (is_type_name (type_name t) && list_all (λ u. differ (type_name u) (type_name t)) before && has_parts before t) (is_small_type (named_tree (trees_of before) t)) h in
     let q = and_parts (is_type_name (type_name t) && list_all (λ u. differ (type_name u) (type_name t)) before) (has_parts before t) (p.0) in
     let r = and_parts (is_type_name (type_name t)) (list_all (λ u. differ (type_name u) (type_name t)) before) (q.0) in
-    let s = and_parts (is_short_identifier (type_name t)) (list_all (differ (type_name t)) type_words) (r.0) in
-    named-tame most before known t e (short-name (type_name t) (s.0)) (q.1)
+    named-tame most before known t e (short_type_name (type_name t) (r.0)) (q.1)
 
 behind-tame : (ts before : List NamedType) (known : List TypeTree) (most : ℕ) → Each (IsTameTree most) known → are_types_behind before ts ≡ true → Each (IsTameTree (most + 296 * length ts)) (trees_behind known ts)
 unfolding trees_behind

@@ -1,29 +1,24 @@
 -- The types of an accepted description have short texts, and so have the names of their parts.
-use Rattle.std.proofs.Common.{◌≡◌, ℕ, suc, ◌+◌, ◌-◌, ◌*◌, ◌<◌, ◌≤◌, List, [], ◌∷◌, ◌++◌, map, length, true, refl, sym, ◌∙◌, ap, subst, arith, inl, inr}
-use Rattle.std.specs.Prelude.{Option, Some, None, nat_lt, nat_le, ◌&&◌, ◌^◌, max, flat_map, codes, decimal, bytes_eq, option_map, option_and_then, ℤ, pos, negsuc, ◌+ℤ◌, ◌-ℤ◌}
+use Rattle.std.proofs.Common.{◌≡◌, ℕ, suc, ◌+◌, ◌-◌, ◌*◌, ◌<◌, ◌≤◌, List, [], ◌∷◌, map, length, true, refl, sym, ◌∙◌, ap, subst, arith, inl, inr}
+use Rattle.std.specs.Prelude.{Option, Some, None, nat_lt, nat_le, ◌^◌, max, bytes_eq, option_map, option_and_then, ℤ, pos, negsuc, ◌+ℤ◌, ◌-ℤ◌}
 use Rattle.std.specs.List.{list_all}
 use Rattle.std.specs.Int.Signed.{mag}
 use Rattle.std.proofs.Math.IntN.{ -ℤ-+ℤ_cancel}
 use Rattle.std.proofs.lemmas.Bool.{cases_Bool, and_parts, ltb-true, leb-true, leb-false, le-ltb}
 use Rattle.std.proofs.lemmas.List.{length-append}
 use Rattle.std.proofs.Math.Nat.{le-max_left, le-max_right}
-use Rattle.std.proofs.lemmas.Fmt.{length_signed_le, length-decimal-le}
 use Rattle.name_paths.specs.Identifier.{lower}
 use Rattle.name_paths.specs.Path.{Step, name_step, index_step}
-use Rattle.ads_plant.specs.Plain.{Kind, BOOL, SINT, USINT, BYTE, INT, UINT, WORD, DINT, UDINT, DWORD, TIME, LINT, ULINT, LWORD, REAL, LREAL, kind_name}
 use Rattle.ads_plant.specs.Listed.{Bound}
 use Rattle.ads_plant.specs.Trees.{TypeTree, PlainTree, TextTree, EnumTree, ArrayTree, StructTree, MemberTrees, NoMember, MemberTree}
 use Rattle.ads_plant.specs.Sizes.{type_size, member_start}
 use Rattle.ads_plant.specs.Parts.{TypePart, MemberPart, below, within, element_from, element_of, member_from, member_of, part_of, part_of_member, part_behind, within_part}
-use Rattle.ads_plant.specs.Spelling.{integer_text, high_of, bound_text, joined_by_comma, type_text}
-use Rattle.ads_plant.specs.AcceptedTypes.{is_index, is_bound, are_bounds}
+use Rattle.ads_plant.specs.Spelling.{integer_text, high_of, joined_by_comma, type_text}
+use Rattle.ads_plant.specs.AcceptedTypes.{is_bound, are_bounds}
+use Rattle.ads_plant.proofs.TextLengths.{index-mag, integer-short, bound_parts, three_bounds, commas, joined-short, kind-short, string-short, array-short}
 use Rattle.ads_machine.specs.Entries.{PartText, step_text, type_behind, text_behind, text_of_steps}
 
 -- numbers
-
-index-mag : (z : ℤ) → is_index z ≡ true → mag z < 2 ^ 31
-index-mag (pos n) h = ltb-true n (2 ^ 31) h
-index-mag (negsuc n) h = ltb-true n (2 ^ 31) h
 
 sum-mag : (k : ℕ) (z : ℤ) → mag (pos k +ℤ z) ≤ k + mag z + 1
 sum-mag k (pos n) = omega arith
@@ -32,50 +27,6 @@ sum-mag k (negsuc n) =
       | inl t ↦ rw t (omega arith)
       | inr t ↦ rw t (omega arith)
     ]
-
--- of a magnitude below 2^33
-integer-short : (z : ℤ) → mag z < 8589934592 → length (integer_text z) ≤ 11
-integer-short z h = length_signed_le 10 z (omega (arith, h)) (omega (arith, h))
-
-bound-parts : (b : Bound) → is_bound b ≡ true → (is_index b.low ≡ true) × (is_index (high_of b) ≡ true)
-bound-parts b e =
-    let p = and_parts (nat_lt 0 b.count && is_index b.low) (is_index (high_of b)) e in
-    let q = and_parts (nat_lt 0 b.count) (is_index b.low) (p.0) in
-    (q.1, p.1)
-
-abbrev commas : List (List ℕ) → List ℕ
-commas ts = flat_map (λ (u : List ℕ). 44 ∷ u) ts
-
-joined-short : (ts : List (List ℕ)) → length (joined_by_comma ts) ≤ length (commas ts)
-joined-short [] = omega arith
-joined-short (t ∷ ts) =
-    let a = length-append t (commas ts) in
-    let b = length-append (44 ∷ t) (commas ts) in
-    omega (arith, a, b)
-
-bound-short : (b : Bound) → is_bound b ≡ true → length (bound_text b) ≤ 24
-bound-short b e =
-    let p = bound-parts b e in
-    let low = integer-short b.low (let m = index-mag b.low (p.0) in omega (arith, m)) in
-    let high = integer-short (high_of b) (let m = index-mag (high_of b) (p.1) in omega (arith, m)) in
-    let x = length-append (integer_text b.low ++ codes "..") (integer_text (high_of b)) in
-    let y = length-append (integer_text b.low) (codes "..") in
-    omega (arith, low, high, x, y)
-
-bounds-short : (bs : List Bound) → list_all is_bound bs ≡ true → length (commas (map bound_text bs)) ≤ 25 * length bs
-bounds-short [] e = omega arith
-bounds-short (b ∷ bs) e =
-    let p = and_parts (is_bound b) (list_all is_bound bs) e in
-    let one = bound-short b (p.0) in
-    let rest = bounds-short bs (p.1) in
-    let all = length-append (44 ∷ bound_text b) (commas (map bound_text bs)) in
-    omega (arith, one, rest, all)
-
-three-bounds : (bs : List Bound) → are_bounds bs ≡ true → (length bs ≤ 3) × (list_all is_bound bs ≡ true)
-three-bounds bs e =
-    let p = and_parts (nat_lt 0 (length bs) && nat_le (length bs) 3) (list_all is_bound bs) e in
-    let q = and_parts (nat_lt 0 (length bs)) (nat_le (length bs) 3) (p.0) in
-    (leb-true (length bs) 3 (q.1), p.1)
 
 -- an index within a bound whose count is small
 below-is : (count : ℕ) (z : ℤ) (k : ℕ) → below count z ≡ Some k → (z ≡ pos k) × (k < count)
@@ -108,7 +59,7 @@ few (negsuc a) n h g l =
 
 count-small : (b : Bound) → is_bound b ≡ true → b.count ≤ 4294967296
 count-small b e =
-    let p = bound-parts b e in
+    let p = bound_parts b e in
     elim (cases_Bool (nat_le b.count 4294967296)) [
       | inl t ↦ leb-true b.count 4294967296 t
       | inr t ↦ absurd (few b.low b.count (index-mag b.low (p.0)) (index-mag (high_of b) (p.1)) (leb-false b.count 4294967296 t))
@@ -117,7 +68,7 @@ count-small b e =
 index-short : (b : Bound) (z : ℤ) (k : ℕ) → is_bound b ≡ true → within b z ≡ Some k → length (integer_text z) ≤ 11
 index-short b z k e w =
     let q = below-is b.count (z -ℤ b.low) k w in
-    let p = bound-parts b e in
+    let p = bound_parts b e in
     let same : z ≡ pos k +ℤ b.low = sym (-ℤ-+ℤ_cancel z b.low) ∙ ap (λ y. y +ℤ b.low) (q.0) in
     let most = count-small b e in
     let less = q.1 in
@@ -139,43 +90,17 @@ abbrev mutual
   AreTame NoMember = Unit {0}
   AreTame (MemberTree name type comment members) = (length name ≤ 255) × ((length comment ≤ 255) × (IsTame type × AreTame members))
 
-pub kind-short : (k : Kind) → length (kind_name k) ≤ 6
-kind-short BOOL = omega arith
-kind-short SINT = omega arith
-kind-short USINT = omega arith
-kind-short BYTE = omega arith
-kind-short INT = omega arith
-kind-short UINT = omega arith
-kind-short WORD = omega arith
-kind-short DINT = omega arith
-kind-short UDINT = omega arith
-kind-short DWORD = omega arith
-kind-short TIME = omega arith
-kind-short LINT = omega arith
-kind-short ULINT = omega arith
-kind-short LWORD = omega arith
-kind-short REAL = omega arith
-kind-short LREAL = omega arith
-
 pub text-short : (t : TypeTree) → IsTame t → length (type_text t) ≤ 400
 unfolding type_text
 text-short (PlainTree kind) h = let k = kind-short kind in omega (arith, k)
 text-short (TextTree n) h =
-    let d = length-decimal-le 5 n (omega arith) (omega (arith, h)) (omega (arith, h)) in
-    let a = length-append (codes "STRING(" ++ decimal n) (codes ")") in
-    let b = length-append (codes "STRING(") (decimal n) in
-    omega (arith, d, a, b)
+    let l = string-short n h in
+    omega (arith, l)
 text-short (EnumTree name base) h = omega (arith, h)
 text-short (ArrayTree bounds element) h =
-    let bs = three-bounds bounds (h.0) in
-    let few = bs.0 in
-    let all = bounds-short bounds (bs.1) in
-    let joined = joined-short (map bound_text bounds) in
     let own = h.1.0 in
-    let x = length-append (codes "ARRAY [" ++ joined_by_comma (map bound_text bounds) ++ codes "] OF ") (type_text element) in
-    let y = length-append (codes "ARRAY [" ++ joined_by_comma (map bound_text bounds)) (codes "] OF ") in
-    let z = length-append (codes "ARRAY [") (joined_by_comma (map bound_text bounds)) in
-    omega (arith, few, all, joined, own, x, y, z)
+    let whole = array-short bounds (type_text element) (h.0) in
+    omega (arith, own, whole)
 text-short (StructTree name members) h = let n = h.0 in omega (arith, n)
 
 -- how long the name of a part may be behind that of the whole
@@ -264,7 +189,7 @@ tame-element (ArrayTree bs t) indexes p h f = go (element_from 0 bs indexes) ref
     go None q g = cc
     go (Some n) q g =
         let same : here n ≡ p = cc in
-        let b = three-bounds bs (h.0) in
+        let b = three_bounds bs (h.0) in
         let few = b.0 in
         let all = indexes-short 0 bs indexes n (b.1) q in
         let joined = joined-short (map integer_text indexes) in

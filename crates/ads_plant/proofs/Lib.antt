@@ -7,4 +7,5 @@ pub mod TypeLemmas
 pub mod SameSizes
 pub mod NumberTexts
 pub mod TypeTextLemmas
+pub mod TextLengths
 pub mod ReadBack

@@ -40,6 +40,15 @@ at-below P [] p e = cc
 at-below P (t ∷ ts) zero e = omega arith
 at-below P (t ∷ ts) (suc p) e = let h = at-below P ts p e in omega (arith, h)
 
+-- a named type of the list
+pub named_there : (P : NamedType → Bool) (types : List NamedType) (place : ℕ) → option_map_or P (slice_get types place) false ≡ true
+    → (t : NamedType) × (slice_get types place ≡ Some t)
+named_there P types place h = go (slice_get types place) refl h
+  where
+    go : (o : Option NamedType) → slice_get types place ≡ o → option_map_or P o false ≡ true → (t : NamedType) × (slice_get types place ≡ Some t)
+    go None e f = cc
+    go (Some t) e f = (t, e)
+
 -- the same trees at each place of the types before
 record Agree (before : List NamedType) (known more : List TypeTree) : Type 0 where
   same : (p : ℕ) → p < length before → tree_at known p ≡ tree_at more p

@@ -1,24 +1,17 @@
 -- What has no parts: plain types, texts and enumerations have no members, and none of these is an array.
-use Rattle.std.proofs.Common.{◌≡◌, ℕ, List, Bool, true, false, refl}
+use Rattle.std.proofs.Common.{◌≡◌, ℕ, List, true, false, refl}
 use Rattle.std.specs.Prelude.{Option, Some, None, slice_get, ℤ}
 use Rattle.std.specs.Option.{option_map_or}
 use Rattle.ads_plant.specs.Listed.{Elem, Plain, Text, Struct, Enum, NamedType, Structure, Enumeration, is_structure, is_enumeration}
 use Rattle.ads_plant.specs.Trees.{trees_of, tree_at, elem_tree}
 use Rattle.ads_plant.specs.Parts.{element_of, member_of}
 use Rattle.ads_plant.specs.AcceptedTypes.{AreTypes, is_elem}
-use Rattle.ads_plant.proofs.TypeLemmas.{stands_at}
+use Rattle.ads_plant.proofs.TypeLemmas.{stands_at, named_there}
 
 -- a named type is no array
 named_no_element : (types : List NamedType) (place : ℕ) (t : NamedType) (indexes : List ℤ) → AreTypes types → slice_get types place ≡ Some t → element_of (tree_at (trees_of types) place) indexes ≡ None
 named_no_element types place (Structure name ms) indexes a e = let there = (stands_at types place (Structure name ms) a e).tree in rw there refl
 named_no_element types place (Enumeration name base values) indexes a e = let there = (stands_at types place (Enumeration name base values) a e).tree in rw there refl
-
-named_there : (P : NamedType → Bool) (types : List NamedType) (place : ℕ) → option_map_or P (slice_get types place) false ≡ true → (t : NamedType) × (slice_get types place ≡ Some t)
-named_there P types place h = go (slice_get types place) refl h
-  where
-    go : (o : Option NamedType) → slice_get types place ≡ o → option_map_or P o false ≡ true → (t : NamedType) × (slice_get types place ≡ Some t)
-    go None e f = cc
-    go (Some t) e f = (t, e)
 
 pub no_element : (types : List NamedType) (e : Elem) (indexes : List ℤ) → AreTypes types → is_elem types e ≡ true → element_of (elem_tree (trees_of types) e) indexes ≡ None
 no_element types (Plain k) indexes a h = refl

@@ -4,13 +4,12 @@ use Rattle.std.specs.Prelude.{Some, slice_get}
 use Rattle.ads_plant.specs.Listed.{Elem, Plain, Text, Struct, Enum, Shape, One, Array, NamedType, Structure, Enumeration, is_structure, is_enumeration}
 use Rattle.ads_plant.specs.Trees.{tree_at, tree_of, trees_of, elem_tree}
 use Rattle.ads_plant.specs.AcceptedTypes.{AreTypes, IsSized, is_elem, elem_within}
-use Rattle.ads_plant.proofs.TypeLemmas.{rank, at-below, stands_at}
+use Rattle.ads_plant.proofs.TypeLemmas.{rank, at-below, named_there, stands_at}
 use Rattle.ads_machine.specs.TypeEntries.{dimension_of, dimensions_of}
 use Rattle.type_layout.specs.Spelled.{IsThere, NamesThere}
 use Rattle.type_upload.specs.Layouts.{AreKnown, HasLayout, reach}
 use Rattle.type_upload.specs.NextMembers.{bounds_within}
 use Rattle.type_upload.specs.declared.layouts.Layout.{Layout}
-use Rattle.type_upload.proofs.TextLengths.{named_there}
 
 pub reach-le : (e : Elem) (n : ℕ) → rank e ≤ n → reach e ≤ n
 reach-le (Plain kind) n h = h

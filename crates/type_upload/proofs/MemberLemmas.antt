@@ -13,6 +13,7 @@ use Rattle.ads_plant.specs.Entries.{type_id}
 use Rattle.ads_plant.specs.AcceptedTypes.{AreTypes, LIMIT, are_bounds, is_elem, is_shape, is_small_shape, is_member, is_comment, is_short_identifier, has_parts, is_count, all_pairs, differ, elem_within}
 use Rattle.ads_plant.proofs.SizeLemmas.{greatest_align-bounds}
 use Rattle.ads_plant.proofs.TypeLemmas.{StandsAt, list_all-get, member-shape}
+use Rattle.ads_plant.proofs.TextLengths.{three_bounds, short_name, short_comment}
 use Rattle.ads_machine.specs.TypeEntries.{members_fields, member_fields, dimension_of, dimensions_of}
 use Rattle.type_layout.proofs.MemberTurns.{is_turn, ends_within, member_start-align}
 use Rattle.type_upload.specs.WrittenFields.{front_bytes}
@@ -20,7 +21,7 @@ use Rattle.type_upload.specs.NextMembers.{IsNextMember, bounds_within, sub_of, s
 use Rattle.type_upload.proofs.Appends.{front_bytes-sub}
 use Rattle.type_upload.proofs.FieldLemmas.{length-fields}
 use Rattle.type_upload.proofs.LayoutLemmas.{reach-le, dimensions_of-shape}
-use Rattle.type_upload.proofs.TextLengths.{three_bounds, short_name, text-short}
+use Rattle.type_upload.proofs.TextLengths.{text-short}
 
 -- ---- what is known of a member
 
@@ -37,9 +38,6 @@ few_members before name ms h = leb-true (length ms) 1000 (and_parts _ (nat_le (l
 few-dimensions : (before : List NamedType) (s : Shape) → is_shape before s ≡ true → length (bounds_within s) ≤ 3
 few-dimensions before (One e) h = omega arith
 few-dimensions before (Array bounds e) h = (three_bounds bounds (and_parts (are_bounds bounds) (is_elem before e) h).0).0
-
-short-comment : (text : List ℕ) → is_comment text ≡ true → length text ≤ 255
-short-comment text h = leb-true (length text) 255 (and_parts (nat_le (length text) 255) (list_all (λ c. nat_le 0x20 c && nat_le c 0x7E) text) h).0
 
 pub next_member : (types : List NamedType) (place : ℕ) (name : List ℕ) (ms : List Member) (i : ℕ) (m : Member) (end : ℕ)
     → AreTypes types → StandsAt types place (Structure name ms) → slice_get ms i ≡ Some m
@@ -60,7 +58,7 @@ next_member types place name ms i m end a s e h =
       ends = turn.ends;
       short_name = short_name m.name (r.0);
       short_text = text-short types before m.shape a shape turn.sized.named;
-      short_comment = short-comment m.comment (r.1);
+      short_comment = short_comment m.comment (r.1);
       few_dimensions = few-dimensions before m.shape shape;
     }
 

@@ -6,7 +6,7 @@ use Rattle.ads_plant.specs.Trees.{trees_of, member_trees}
 use Rattle.ads_plant.proofs.TypeLemmas.{stands_at}
 use Rattle.type_layout.specs.NamedTypes.{types_of, member_of}
 use Rattle.type_upload.specs.NextMembers.{subs_of}
-use Rattle.type_upload.proofs.TextLengths.{short_type_name}
+use Rattle.ads_plant.proofs.TextLengths.{short_type_name}
 use Rattle.type_upload.proofs.MemberLemmas.{few_members, length-members_fields}
 use Rattle.type_upload.proofs.EntryLemmas.{structure_written}
 use Rattle.type_upload.proofs.writing.append_structure.Goals as goal
