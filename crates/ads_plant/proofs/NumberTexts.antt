@@ -5,10 +5,11 @@ use Rattle.std.specs.List.{list_all}
 use Rattle.std.specs.Char.{is_ascii_digit}
 use Rattle.std.specs.Fmt.{decimal, signed_decimal, digits}
 use Rattle.std.proofs.lemmas.Fmt.{decimal_by_steps}
-use Rattle.std.proofs.lemmas.Bool.{cases_Bool, eqb-true, lt-ltb, le-leb, ltb-true, leb-true, ne_eqb, and_parts}
+use Rattle.std.proofs.lemmas.Bool.{cases_Bool, eqb-true, lt-ltb, le-leb, ltb-true, leb-true, ne_eqb}
 use Rattle.std.proofs.lemmas.List.Folds.{list_all-append}
 use Rattle.name_paths.specs.Number.{number_from, number_of_digits, is_decimal, is_blank, unsigned_of, negated_of, number_of}
 use Rattle.ads_plant.specs.AcceptedTypes.{is_index}
+use Rattle.ads_plant.proofs.TypeLemmas.{list_all-follows}
 
 number_from-append : (a : ℕ) (ds : List ℕ) (c : ℕ) → number_from a (ds ++ c ∷ []) ≡ 10 * number_from a ds + (c - 48)
 number_from-append a [] c = refl
@@ -110,10 +111,6 @@ number_of-signed_decimal (negsuc n) h =
 pub record IsStop (p : ℕ → Bool) : Type 0 where
   pub digit : (c : ℕ) → is_ascii_digit c ≡ true → not (p c) ≡ true
   pub minus : not (p 45) ≡ true
-
-list_all-follows : (p q : ℕ → Bool) → ((c : ℕ) → p c ≡ true → q c ≡ true) → (xs : List ℕ) → list_all p xs ≡ true → list_all q xs ≡ true
-list_all-follows p q f [] h = refl
-list_all-follows p q f (x ∷ xs) h = rw (f x (and_parts _ _ h).0, list_all-follows p q f xs ((and_parts (p x) (list_all p xs) h).1)) refl
 
 pub decimal-free : (p : ℕ → Bool) → IsStop p → (n : ℕ) → n < 2 ^ 64 → list_all (λ c. not (p c)) (decimal n) ≡ true
 decimal-free p s n h = list_all-follows is_ascii_digit (λ c. not (p c)) s.digit (decimal n) (decimal-digits n h).all

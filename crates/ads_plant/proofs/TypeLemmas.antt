@@ -243,6 +243,13 @@ good_member types place m h =
       few_elements = (and_parts _ _ h).1;
     }
 
+-- what follows for each from what is known of each
+pub list_all-follows : {X : Type 0} (p q : X → Bool) → ((x : X) → p x ≡ true → q x ≡ true) → (xs : List X) → list_all p xs ≡ true → list_all q xs ≡ true
+list_all-follows p q f [] h = refl
+list_all-follows p q f (x ∷ xs) h =
+    let parts = and_parts (p x) (list_all p xs) h in
+    rw (f x (parts.0), list_all-follows p q f xs (parts.1)) refl
+
 -- what all of a list is, each is
 pub list_all-get : {X : Type 0} (P : X → Bool) (xs : List X) (i : ℕ) (x : X) → list_all P xs ≡ true → slice_get xs i ≡ Some x → P x ≡ true
 list_all-get P [] i x h e = cc

@@ -216,11 +216,11 @@ counted n h =
     ]
 
 -- no rule is broken
-abbrev AllHold : List (ℕ × Option ℕ) → Type 0
+abbrev pub AllHold : List (ℕ × Option ℕ) → Type 0
 AllHold [] = Unit {0}
 AllHold ((number, place) ∷ rules) = (place ≡ None) × AllHold rules
 
-all_hold : (rules : List (ℕ × Option ℕ)) → first_broken rules ≡ None → AllHold rules
+pub all_hold : (rules : List (ℕ × Option ℕ)) → first_broken rules ≡ None → AllHold rules
 all_hold [] h = tt
 all_hold ((number, None) ∷ rules) h = (refl, all_hold rules h)
 all_hold ((number, Some place) ∷ rules) h = cc

@@ -1,6 +1,6 @@
 -- Where no element of a list is wrong, each is right by itself and beside those before it.
 use Rattle.std.proofs.Common.{◌≡◌, ℕ, suc, Bool, true, false, List, [], ◌∷◌, ◌++◌, map, refl, sym, ◌∙◌, ap, inl, inr}
-use Rattle.std.specs.Prelude.{Option, Some, None, option_map, ◌&&◌}
+use Rattle.std.specs.Prelude.{Option, Some, None, is_none, option_map, ◌&&◌}
 use Rattle.std.specs.List.{list_all}
 use Rattle.std.proofs.lemmas.Bool.{cases_Bool, and_parts}
 use Rattle.std.proofs.lemmas.List.Folds.{list_all-append}
@@ -13,6 +13,10 @@ both_true a b e f = rw (e, f) refl
 pub option_map-none : {X Y : Type 0} (f : X → Y) (o : Option X) → option_map f o ≡ None → o ≡ None
 option_map-none f None e = refl
 option_map-none f (Some x) e = cc
+
+pub none_of : {X : Type 0} (o : Option X) → is_none o ≡ true → o ≡ None
+none_of None e = refl
+none_of (Some x) e = cc
 
 pub first_right : {X : Type 0} (is_right : List X → X → Bool) (before : List X) (x : X) (xs : List X) → first_wrong is_right before (x ∷ xs) ≡ None
     → (is_right before x ≡ true) × (first_wrong is_right (before ++ x ∷ []) xs ≡ None)
@@ -77,10 +81,3 @@ all_pairs-mapped f r [] h = refl
 all_pairs-mapped f r (x ∷ xs) h =
     let parts = and_parts (list_all (λ y. r (f x) (f y)) xs) (all_pairs (λ y z. r (f y) (f z)) xs) h in
     both_true (list_all (r (f x)) (map f xs)) (all_pairs r (map f xs)) (list_all-mapped f (r (f x)) xs (parts.0)) (all_pairs-mapped f r xs (parts.1))
-
--- what follows for each from what is known of each
-pub list_all-follows : {X : Type 0} (p q : X → Bool) → ((x : X) → p x ≡ true → q x ≡ true) → (xs : List X) → list_all p xs ≡ true → list_all q xs ≡ true
-list_all-follows p q f [] h = refl
-list_all-follows p q f (x ∷ xs) h =
-    let parts = and_parts (p x) (list_all p xs) h in
-    both_true (q x) (list_all q xs) (f x (parts.0)) (list_all-follows p q f xs (parts.1))

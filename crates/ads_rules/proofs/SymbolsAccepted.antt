@@ -1,6 +1,6 @@
 -- Where rules 9 to 15 hold, each port of a document is accepted.
 use Rattle.std.proofs.Common.{◌≡◌, ℕ, zero, suc, ◌+◌, ◌-◌, ◌<◌, ◌≤◌, Bool, true, false, List, [], ◌∷◌, ◌++◌, length, map, replicate, refl, sym, ◌∙◌, ap, subst, arith, inl, inr, length-append}
-use Rattle.std.specs.Prelude.{Option, Some, None, is_some, is_none, unwrap_or, option_map, option_and_then, ◌&&◌, ◌||◌, ◌==◌, not, nat_le, nat_lt, bytes_eq, slice_get, ℤ, pos, negsuc, if◌then◌else◌}
+use Rattle.std.specs.Prelude.{Option, Some, None, is_some, unwrap_or, option_map, option_and_then, ◌&&◌, ◌||◌, ◌==◌, not, nat_le, nat_lt, bytes_eq, slice_get, ℤ, pos, negsuc, if◌then◌else◌}
 use Rattle.std.specs.Option.{option_map_or}
 use Rattle.std.specs.List.{list_all, list_any}
 use Rattle.std.proofs.lemmas.Bool.{cases_Bool, and_parts, leb-true, le-leb, eqb-true, eq-eqb}
@@ -23,7 +23,7 @@ use Rattle.ads_rules.specs.Shapes.{shape_of_text}
 use Rattle.ads_rules.specs.Described.{shape_described, symbol_described, sizes_described, nets_described, initial_described, default_bytes, bytes_of_hex, natural_of}
 use Rattle.ads_rules.specs.PortRules.{is_natural}
 use Rattle.ads_rules.specs.SymbolRules.{is_small, fits_area, is_right_place, are_right_bytes, is_right_initial, is_right_writer, are_right_writers, is_right_content, is_signal, has_other_signal}
-use Rattle.ads_rules.proofs.FirstWrong.{both_true, AreRight, are_right, list_all-mapped, all_pairs-mapped}
+use Rattle.ads_rules.proofs.FirstWrong.{both_true, none_of, AreRight, are_right, list_all-mapped, all_pairs-mapped}
 use Rattle.ads_rules.proofs.TextsRead.{shape_of_text-good}
 
 -- NetIds of two texts that differ are two
@@ -92,10 +92,6 @@ writers_good (Some texts) h =
     let few : nat_le (length (map net_described texts)) 64 ≡ true = rw (length-map texts net_described) (inner.1) in
     both_true (nat_le (length (map net_described texts)) 64) (all_pairs are_two_nets (map net_described texts)) few
     (all_pairs-described (λ text. is_some (net_of text)) (λ e text. not (bytes_eq e text)) are_two_nets net_described two_nets texts right.each right.pairs)
-  where
-    none_of : {X : Type 0} (o : Option X) → is_none o ≡ true → o ≡ None
-    none_of None e = refl
-    none_of (Some x) e = cc
 
 -- the bytes that a symbol begins with
 record IsGoodInitial (types : List NamedType) (shape : Shape) (bytes : List ℕ) : Type 0 where

@@ -1,6 +1,6 @@
 -- Where rules 6 to 8 hold, the types of a document are accepted.
 use Rattle.std.proofs.Common.{◌≡◌, ℕ, zero, suc, ◌+◌, ◌<◌, ◌≤◌, Bool, true, false, List, [], ◌∷◌, ◌++◌, length, map, refl, sym, ◌∙◌, ap, subst, arith, inl, inr, append_assoc, append-nil, length-append}
-use Rattle.std.specs.Prelude.{Option, Some, None, is_some, is_none, unwrap_or, option_map, option_and_then, ◌&&◌, not, nat_le, nat_lt, IsTrue, if◌then◌else◌}
+use Rattle.std.specs.Prelude.{Option, Some, None, is_some, unwrap_or, option_map, option_and_then, ◌&&◌, not, nat_le, nat_lt, IsTrue, if◌then◌else◌}
 use Rattle.std.specs.Option.{option_map_or}
 use Rattle.std.specs.List.{list_all}
 use Rattle.std.proofs.lemmas.Bool.{cases_Bool, and_parts, leb-true, ltb-false}
@@ -16,7 +16,7 @@ use Rattle.ads_rules.specs.Shapes.{shape_of_text}
 use Rattle.ads_rules.specs.Described.{shape_described, member_described, value_described, base_of, type_described, types_behind, types_described}
 use Rattle.ads_rules.specs.TypeRules.{is_right_type_name, wrong_type_name, is_right_value, are_right_values, has_right_parts, is_right_member, wrong_member_of, wrong_part}
 use Rattle.ads_rules.specs.SizeRules.{members_of, is_right_size, wrong_size}
-use Rattle.ads_rules.proofs.FirstWrong.{both_true, first_right, first_through-none, list_all-both, AreRight, are_right, list_all-mapped, all_pairs-mapped, list_all-follows}
+use Rattle.ads_rules.proofs.FirstWrong.{both_true, none_of, first_right, first_through-none, list_all-both, AreRight, are_right, list_all-mapped, all_pairs-mapped}
 use Rattle.ads_rules.proofs.TextsRead.{shape_of_text-good}
 
 -- a type that a text names is described as that
@@ -80,10 +80,6 @@ base_of-base text k h = go (kind_named text) h
               subst P same t
           | inr t ↦ let g = rw t at f in cc
         ]
-
-none_of : {X : Type 0} (o : Option X) → is_none o ≡ true → o ≡ None
-none_of None e = refl
-none_of (Some x) e = cc
 
 -- the parts of a type
 parts_good : (known : List NamedType) (t : WrittenType) → has_right_parts t ≡ true → first_wrong (is_right_member known) [] (written_members t) ≡ None

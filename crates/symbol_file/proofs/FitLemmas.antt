@@ -1,6 +1,6 @@
 -- Where no rule is broken, the numbers and texts of a document fit the values of a description.
-use Rattle.std.proofs.Common.{◌≡◌, ℕ, ◌+◌, ◌-◌, ◌^◌, ◌<◌, ◌≤◌, Bool, true, List, [], ◌∷◌, ◌++◌, length, map, replicate, refl, sym, ap, ◌∙◌, arith, length-append, Vec, Global, Bor}
-use Rattle.std.specs.Prelude.{Option, Some, None, Ok, is_some, is_none, option_map, IfSome, ℤ}
+use Rattle.std.proofs.Common.{◌≡◌, ℕ, ◌+◌, ◌-◌, ◌^◌, ◌<◌, ◌≤◌, Bool, true, List, [], ◌∷◌, ◌++◌, length, map, replicate, sym, ap, ◌∙◌, arith, length-append, Vec, Global, Bor}
+use Rattle.std.specs.Prelude.{Option, Some, None, Ok, is_some, option_map, IfSome, ℤ}
 use Rattle.std.specs.List.{All, list_all}
 use Rattle.std.proofs.lemmas.Bool.{and_parts, leb-true, ltb-true, eqb-true}
 use Rattle.std.proofs.lemmas.Simd.{map-map}
@@ -16,10 +16,10 @@ use Rattle.ads_rules.specs.Described.{natural_of, types_described, port_describe
 use Rattle.ads_rules.specs.Tables.{document_in}
 use Rattle.ads_rules.specs.RouteRules.{wrong_net, is_right_route}
 use Rattle.ads_rules.specs.SymbolRules.{wrong_content, is_right_content, is_right_writer, are_right_writers}
-use Rattle.ads_rules.specs.Verdict.{first_broken, rules_of, judged, verdict_behind, table_verdict}
-use Rattle.ads_rules.proofs.FirstWrong.{first_right, first_through-none, option_map-none}
+use Rattle.ads_rules.specs.Verdict.{rules_of, judged, verdict_behind, table_verdict}
+use Rattle.ads_rules.proofs.FirstWrong.{none_of, first_right, first_through-none, option_map-none}
 use Rattle.ads_rules.proofs.TypesAccepted.{when_all}
-use Rattle.ads_rules.proofs.Accepts.{table_verdict-accepted}
+use Rattle.ads_rules.proofs.Accepts.{all_hold, table_verdict-accepted}
 use Rattle.description_table.specs.Views.{document_view, port_view, symbol_view, route_view, text_view}
 use Rattle.description_table.specs.declared.written.WrittenSymbol.{WrittenSymbol}
 use Rattle.description_table.specs.declared.written.WrittenPort.{WrittenPort}
@@ -44,10 +44,6 @@ All-right is_right f P says before (x ∷ xs) h =
 
 All-both : {X : Type 0} (P Q R : X → Type 0) → ((x : X) → P x → Q x → R x) → (xs : List X) → All P xs → All Q xs → All R xs
 All-both P Q R says xs p q k d h = says _ (p k d h) (q k d h)
-
-none_of : {X : Type 0} (o : Option X) → is_none o ≡ true → o ≡ None
-none_of None e = refl
-none_of (Some x) e = cc
 
 -- writers
 abbrev HasNets : WrittenSymbol → Type 0
@@ -138,16 +134,6 @@ port_fits types signals p most h nets =
       sizes = record { inputs = omega arith; outputs = omega arith; memory = omega arith; process = omega arith };
       symbols = All-both _ HasNets (SymbolFits types) (λ s right has. symbol_fits types sizes signals s most image right has) p.symbols.items each nets;
     }
-
--- no rule is broken
-abbrev AllHold : List (ℕ × Option ℕ) → Type 0
-AllHold [] = Unit {0}
-AllHold ((number, place) ∷ rules) = (place ≡ None) × AllHold rules
-
-all_hold : (rules : List (ℕ × Option ℕ)) → first_broken rules ≡ None → AllHold rules
-all_hold [] h = tt
-all_hold ((number, None) ∷ rules) h = (refl, all_hold rules h)
-all_hold ((number, Some place) ∷ rules) h = cc
 
 pub verdict-right : (signals : ℕ) (table : Members) (d : rules.Document) → document_in table ≡ Some d → fault_of signals d ≡ None
     → table_verdict signals table ≡ Ok (description_of d)
