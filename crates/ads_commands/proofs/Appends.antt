@@ -1,15 +1,9 @@
--- Bytes appended in parts are their texts one after another.
-use Rattle.std.proofs.Common.{◌≡◌, ℕ, List, [], ◌++◌, length, sym, ap, subst, ◌∙◌, append_assoc}
+-- Requests that are written in parts.
+use Rattle.std.proofs.Common.{◌≡◌, ℕ, List, [], ◌++◌, length, sym, ap, subst, ◌∙◌}
 use Rattle.std.specs.Prelude.{replicate}
 use Rattle.std.proofs.lemmas.List.{append-nil}
 use Rattle.ads_formats.specs.Request.{Request, Write, AddDeviceNotification, access_bytes, request_fields, request_bytes}
-
-pub two_parts : (old a b first second : List ℕ) → first ≡ old ++ a → second ≡ first ++ b → second ≡ old ++ (a ++ b)
-two_parts old a b first second e f = f ∙ (ap (λ (l : List ℕ). l ++ b) e ∙ append_assoc old a b)
-
-pub three_parts : (old a b c first second third : List ℕ) → first ≡ old ++ a → second ≡ first ++ b → third ≡ second ++ c
-    → third ≡ old ++ (a ++ b ++ c)
-three_parts old a b c first second third e f g = two_parts old (a ++ b) c second third (two_parts old a b first second e f) g
+use Rattle.ads_formats.proofs.Appends.{two_parts, three_parts}
 
 -- the payload of a Write: the access, and its data
 pub write_parts : (r : Request) (old : List ℕ) (group offset : ℕ) (bytes first second : List ℕ) → r ≡ Write group offset bytes

@@ -1,6 +1,7 @@
 pub mod Examples
 pub mod Fields
 pub mod Forms
+pub mod Appends
 pub mod HeaderLemmas
 pub mod RequestLemmas
 pub mod ReplyLemmas

@@ -1,14 +1,12 @@
 -- A notification that is written in parts.
-use Rattle.std.proofs.Common.{◌≡◌, ℕ, ◌+◌, List, [], ◌∷◌, ◌++◌, length, sym, ap, subst, ◌∙◌, append_assoc, arith}
+use Rattle.std.proofs.Common.{◌≡◌, ℕ, ◌+◌, List, [], ◌∷◌, ◌++◌, length, sym, ap, subst, ◌∙◌, arith}
 use Rattle.std.specs.List.{flat_map}
 use Rattle.std.specs.Int.{w32, w64, to_le_bytes}
 use Rattle.std.proofs.lemmas.List.{append-nil, length-map}
 use Rattle.ads_formats.specs.Notification.{sample_bytes, stamps_bytes, notification_bytes}
+use Rattle.ads_formats.proofs.Appends.{two_parts}
 use Rattle.notify_frames.specs.declared.samples.OwnSample.{OwnSample}
 use Rattle.notify_frames.specs.Samples.{sample_of, samples_of, stamp_of}
-
-two_parts : (old a b first second : List ℕ) → first ≡ old ++ a → second ≡ first ++ b → second ≡ old ++ (a ++ b)
-two_parts old a b first second e f = f ∙ (ap (λ (l : List ℕ). l ++ b) e ∙ append_assoc old a b)
 
 -- the five parts of a notification of one stamp
 pub note_parts : (time : ℕ) (samples : List OwnSample) (len : ℕ) (old room a b c d e : List ℕ) → room ≡ old

@@ -1,14 +1,8 @@
 -- An entry that is written in parts.
-use Rattle.std.proofs.Common.{◌≡◌, ℕ, List, ◌++◌, ap, ◌∙◌, append_assoc}
+use Rattle.std.proofs.Common.{◌≡◌, ℕ, List, ◌++◌, ap, ◌∙◌}
 use Rattle.ads_formats.specs.SymbolEntry.{SymbolEntry, entry_bytes, entry_len, text_bytes}
+use Rattle.ads_formats.proofs.Appends.{two_parts, three_parts}
 use Rattle.symbol_info.specs.Parts.{words, lengths}
-
-pub two_parts : (old a b first second : List ℕ) → first ≡ old ++ a → second ≡ first ++ b → second ≡ old ++ (a ++ b)
-two_parts old a b first second e f = f ∙ (ap (λ (l : List ℕ). l ++ b) e ∙ append_assoc old a b)
-
-pub three_parts : (old a b c first second third : List ℕ) → first ≡ old ++ a → second ≡ first ++ b → third ≡ second ++ c
-    → third ≡ old ++ (a ++ b ++ c)
-three_parts old a b c first second third e f g = two_parts old (a ++ b) c second third (two_parts old a b first second e f) g
 
 -- the six parts of an entry, one after another
 pub entry_parts : (e : SymbolEntry) (old room a b c d f g : List ℕ) → room ≡ old

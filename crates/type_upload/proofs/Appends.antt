@@ -7,6 +7,7 @@ use Rattle.std.proofs.lemmas.List.{take-append-drop}
 use Rattle.ads_base.specs.Octets.{Extends}
 use Rattle.ads_formats.specs.SymbolEntry.{text_bytes}
 use Rattle.ads_formats.specs.TypeEntry.{TypeFields, dimension_bytes, fields_len, sub_bytes}
+use Rattle.ads_formats.proofs.Appends.{two_parts, three_parts}
 use Rattle.ads_machine.specs.TypeEntries.{dimension_of}
 use Rattle.type_layout.specs.Shapes.{bounds_of}
 use Rattle.type_layout.specs.declared.shape.Bound.{Bound}
@@ -27,12 +28,6 @@ extends_behind old more mid new e h =
 pub on_err : {T E : Type 0} (r : Result T E) (P : Type 0) → P → OnErr r P
 on_err (Ok v) P p = tt
 on_err (Err e) P p = p
-
-pub two_parts : (old a b x y : List ℕ) → x ≡ old ++ a → y ≡ x ++ b → y ≡ old ++ (a ++ b)
-two_parts old a b x y e f = f ∙ (ap (λ (l : List ℕ). l ++ b) e ∙ append_assoc old a b)
-
-pub three_parts : (old a b c x y z : List ℕ) → x ≡ old ++ a → y ≡ x ++ b → z ≡ y ++ c → z ≡ old ++ (a ++ b ++ c)
-three_parts old a b c x y z e f g = two_parts old (a ++ b) c y z (two_parts old a b x y e f) g
 
 pub four_parts : (old a b c d x y z w : List ℕ) → x ≡ old ++ a → y ≡ x ++ b → z ≡ y ++ c → w ≡ z ++ d → w ≡ old ++ (a ++ b ++ c ++ d)
 four_parts old a b c d x y z w e f g h = two_parts old (a ++ b ++ c) d z w (three_parts old a b c x y z e f g) h
