@@ -7,6 +7,7 @@ use Rattle.process_image.specs.declared.span.Span.{Span}
 use Rattle.process_image.specs.Bytes.{with_part}
 use Rattle.process_image.specs.Spans.{IsWalk}
 use Rattle.process_image.specs.Walked.{walked, FitSpans, StandIn, IsOutside}
+use Rattle.process_image.proofs.Walks.{IsWalk-le}
 
 length-with_part : (bytes : List ℕ) (at len : ℕ) (part : List ℕ) → length part ≡ len → at + len ≤ length bytes → length (with_part bytes at len part) ≡ length bytes
 length-with_part bytes at len part long within =
@@ -21,10 +22,6 @@ part-with_part : (bytes : List ℕ) (at len : ℕ) (part : List ℕ) → length 
 part-with_part bytes at len part long within =
     let rest = part ++ drop (at + len) bytes in
     ap (take len) (drop_at (take at bytes) rest at (omega (arith, within, length-take at bytes))) ∙ take_at part (drop (at + len) bytes) len long
-
-IsWalk-le : (spans : List Span) (from size : ℕ) → IsWalk spans from size → from ≤ size
-IsWalk-le [] from size walk = walk
-IsWalk-le (s ∷ spans) from size walk = omega (arith, walk.0, IsWalk-le spans (s.at + s.len) size walk.1)
 
 -- a walk from a place on leaves what is before it
 take-walked : (bytes : List ℕ) (spans : List Span) (parts : List (List ℕ)) (from : ℕ) → IsWalk spans from (length bytes) → FitSpans parts spans

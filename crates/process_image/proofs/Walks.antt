@@ -6,7 +6,7 @@ use Rattle.process_image.specs.declared.parts.Parts.{Parts}
 use Rattle.process_image.specs.declared.span.Span.{Span}
 use Rattle.process_image.specs.Spans.{AreWithin, IsWalk}
 
-IsWalk-le : (spans : List Span) (from size : ℕ) → IsWalk spans from size → from ≤ size
+pub IsWalk-le : (spans : List Span) (from size : ℕ) → IsWalk spans from size → from ≤ size
 IsWalk-le [] from size walk = walk
 IsWalk-le (s ∷ spans) from size walk = omega (arith, walk.0, IsWalk-le spans (s.at + s.len) size walk.1)
 
