@@ -7,6 +7,7 @@ use Rattle.ads_formats.specs.Numbers.{number32, number64}
 use Rattle.ads_formats.specs.Notification.{Sample, Stamp}
 use Rattle.ads_formats.specs.NotificationReading.{sample_of, samples_of, stamp_of, stamps_of}
 use Rattle.notify_frames.specs.Notes.{timed, samples_in, left_in}
+use Rattle.notify_frames.proofs.Rests.{made}
 
 pub left_in-none : (time : ℕ) (bytes : List ℕ) → left_in time 0 0 bytes ≡ Some []
 unfolding left_in samples_of stamps_of
@@ -38,9 +39,6 @@ unfolding left_in samples_of
 left_in-no_sample time n k bytes e = rw e refl
 
 -- ---- a stamp
-
-abbrev made : ℕ → List Sample → Stamp
-made t ss = record { time = t; samples = ss }
 
 after_stamp : (time : ℕ) (k : ℕ) (o : Option (List Sample × List ℕ))
     → option_map (λ (y : List Stamp × List ℕ). samples_in y.0)

@@ -42,7 +42,7 @@ samples_end k bytes total none t = subst (λ (n : ℕ). rest_of (samples_of n by
 
 -- ---- a stamp
 
-abbrev made : ℕ → List Sample → Stamp
+abbrev pub made : ℕ → List Sample → Stamp
 made t ss = record { time = t; samples = ss }
 
 stamped : (time : ℕ) (o : Option (List Sample × List ℕ))
