@@ -15,6 +15,7 @@ use Rattle.ads_plant.specs.Accepted.{is_port, is_symbol, are_two_names, size_of_
 use Rattle.ads_machine.specs.World.{port_numbered}
 use Rattle.ads_machine.specs.Writes.{symbol_named}
 use Rattle.ads_laws.specs.Soundness.{Each, IsSoundSymbol, IsSoundPort, AcceptedAreSound}
+use Rattle.ads_laws.proofs.Memory.{same_bytes}
 
 -- the case of letters leaves full stops where they are
 lower-stop : (c : ℕ) → is_full_stop (to_ascii_lowercase c) ≡ is_full_stop c
@@ -45,9 +46,6 @@ lower-split (c ∷ cs) =
     onto : (ps : List (List ℕ)) → map lower (onto_first c ps) ≡ onto_first (to_ascii_lowercase c) (map lower ps)
     onto [] = refl
     onto (p ∷ ps) = refl
-
-same_bytes : (a b : List ℕ) → bytes_eq a b ≡ true → a ≡ b
-same_bytes a b e = let d = bytes_eq-Decides a b in d.0 e
 
 bytes_itself : (a : List ℕ) → bytes_eq a a ≡ true
 bytes_itself a = let d = bytes_eq-Decides a a in d.1 refl

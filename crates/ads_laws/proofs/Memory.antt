@@ -6,7 +6,7 @@ use Rattle.std.proofs.lemmas.Slice.Eq.{bytes_eq-Decides}
 use Rattle.ads_plant.specs.Description.{Area, Inputs, Outputs, Memory, Process}
 use Rattle.ads_plant.specs.World.{Part, SymbolPart, AreaPart, StatePart, ByteName, Block, is_same_area, is_same_part, is_block_of, nth_byte, byte_at, with_nth_byte, with_byte}
 
-same_bytes : (a b : List ℕ) → bytes_eq a b ≡ true → a ≡ b
+pub same_bytes : (a b : List ℕ) → bytes_eq a b ≡ true → a ≡ b
 same_bytes a b e = let d = bytes_eq-Decides a b in d.0 e
 
 same_area-true : (a b : Area) → is_same_area a b ≡ true → a ≡ b
