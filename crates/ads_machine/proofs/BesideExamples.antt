@@ -46,7 +46,7 @@ use Rattle.ads_machine.specs.World.{symbol_names}
 use Rattle.ads_machine.specs.Answers.{all_answered}
 use Rattle.ads_machine.specs.Projection.{reads_of, writes_by_others}
 use Rattle.ads_machine.proofs.Plant.{q, named, added, piece, opened, tick, reload, reading, device, start}
-use Rattle.ads_machine.proofs.Hex.{hex}
+use Rattle.ads_frames.proofs.Hex.{hex}
 
 -- connection 1 reads Main.count, watches and writes Flags.bits; connection 2 takes handles, writes Main.axis and Main.title,
 -- watches, and is closed by a broken frame

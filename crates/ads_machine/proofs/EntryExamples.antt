@@ -42,7 +42,7 @@ use Rattle.std.specs.Fmt.{digits}
 use Rattle.ads_plant.specs.World.{plant_of}
 use Rattle.ads_machine.specs.TypeEntries.{type_upload_of}
 use Rattle.ads_machine.proofs.Plant.{q, a, named, piece, given, plant}
-use Rattle.ads_machine.proofs.Hex.{hex}
+use Rattle.ads_frames.proofs.Hex.{hex}
 
 record EntryRows : Type 0 where
   -- the entry and the info of a symbol

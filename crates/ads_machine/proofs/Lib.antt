@@ -1,4 +1,3 @@
-mod Hex
 mod SelftestExamples
 pub mod Find
 mod ScriptExamples

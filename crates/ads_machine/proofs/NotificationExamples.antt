@@ -41,7 +41,7 @@ use Rattle.ads_plant.specs.World.{byte_at, with_byte}
 use Rattle.std.specs.Fmt.{digits}
 use Rattle.ads_machine.proofs.Plant.{q, a, added, stamp, piece, tick, reload, given, plant, plant2}
 use Rattle.ads_machine.specs.World.{world_of}
-use Rattle.ads_machine.proofs.Hex.{hex}
+use Rattle.ads_frames.proofs.Hex.{hex}
 
 record NotificationRows : Type 0 where
   -- on change: 42, then 5 and 42 again, 7, 8, and ticks that go back

@@ -41,7 +41,7 @@ use Rattle.ads_plant.specs.World.{byte_at, with_byte}
 use Rattle.std.specs.Fmt.{digits}
 use Rattle.ads_machine.specs.Offers.{is_closing_at}
 use Rattle.ads_machine.proofs.Plant.{q, a, piece, opened, given, device, start}
-use Rattle.ads_machine.proofs.Hex.{hex}
+use Rattle.ads_frames.proofs.Hex.{hex}
 
 -- what is given for these bytes
 abbrev asked : List ℕ → List ℕ

@@ -17,7 +17,7 @@ use Rattle.ads_machine.specs.World.{World, world_of}
 use Rattle.ads_machine.specs.Client.{Client}
 use Rattle.ads_machine.specs.Answers.{all_answered}
 use Rattle.ads_machine.specs.AdsDevice.{DescriptionReading, ads_device}
-use Rattle.ads_machine.proofs.Hex.{hex}
+use Rattle.ads_frames.proofs.Hex.{hex}
 
 abbrev pub NET : List ℕ
 NET = 5 ∷ 1 ∷ 2 ∷ 3 ∷ 1 ∷ 1 ∷ []

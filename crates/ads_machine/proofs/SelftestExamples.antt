@@ -14,7 +14,7 @@ use Rattle.ads_machine.specs.Peers.{offers_to, peers_after}
 use Rattle.ads_machine.specs.Play.{moves_of_each, turns_of, play_of_events}
 use Rattle.ads_machine.specs.Summary.{Summary, summary_of}
 use Rattle.ads_machine.specs.Selftest.{selftest_device}
-use Rattle.ads_machine.proofs.Hex.{hex}
+use Rattle.ads_frames.proofs.Hex.{hex}
 
 abbrev is_event : Move → Bool
 is_event (move.Event e) = true
