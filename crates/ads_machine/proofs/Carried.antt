@@ -1,8 +1,9 @@
 -- What each move keeps of a connection stands after a whole log: output grows at its end, and a
 -- connection that is closing or gone stays at rest.
-use Rattle.std.proofs.Common.{◌≡◌, ℕ, ◌+◌, List, [], ◌∷◌, ◌++◌, map, Bool, true, false, cond, refl, sym, ◌∙◌, ap, subst, inl, inr, append_assoc}
-use Rattle.std.specs.Prelude.{Option, Some, None, ◌==◌, ◌||◌, length, option_map}
-use Rattle.std.proofs.lemmas.Bool.{cases_Bool, cases_eq, le-leb, lt-leb}
+use Rattle.std.proofs.Common.{◌≡◌, ℕ, ◌+◌, List, [], ◌∷◌, ◌++◌, map, Bool, true, cond, refl, sym, ◌∙◌, ap, subst, inl, inr, append_assoc}
+use Rattle.std.specs.Prelude.{Option, Some, None, ◌==◌, length, option_map}
+use Rattle.std.proofs.lemmas.Bool.{cases_Bool, cases_eq, or_right, le-leb, lt-leb}
+use Rattle.std.proofs.lemmas.List.{append-nil}
 use Rattle.ads_outside.specs.declared.event.Event.{Event}
 use Rattle.ads_outside.specs.declared.event.Event.TheVariants as event
 use Rattle.ads_outside.specs.declared.moves.Move.{Move}
@@ -106,14 +107,10 @@ output-carries {W} {C} device t = record {
   took = λ n x h. took-cases (λ (k : Connection C). IsPrefix t (bytes_of_all k.produced)) n x h h;
 }
 
-append_none : (xs : List ℕ) → xs ++ [] ≡ xs
-append_none [] = refl
-append_none (x ∷ xs) = ap (λ ys. x ∷ ys) (append_none xs)
-
 pub output_grows : (W C : Type 0) → OutputGrows W C
 output_grows W C device s c log =
     let t = output_of_connection (connection_of c s.connections) in
-    log-carried device (λ o. IsPrefix t (output_of_connection o)) (output-carries device t) c log s ([], sym (append_none t))
+    log-carried device (λ o. IsPrefix t (output_of_connection o)) (output-carries device t) c log s ([], sym (append-nil t))
 
 -- a connection at rest, closing or gone still
 abbrev Rests : {C : Type 0} → Connection C → Option (Connection C) → Type 0
@@ -127,10 +124,6 @@ rests-deaf {C} k l (m, e, r, d) = let same : l ≡ m = cc in ap (λ (x : Connect
 
 rests-rest : {C : Type 0} (k l : Connection C) → Rests k (Some l) → IsAtRest k l
 rests-rest {C} k l (m, e, r, d) = let same : m ≡ l = cc in subst (IsAtRest k) same r
-
-or_true : (a : Bool) → (a || true) ≡ true
-or_true true = refl
-or_true false = refl
 
 deaf-piece : {W C : Type 0} (device : Device W C) (bytes : List ℕ) (x : Exchange W C) → is_deaf x.connection ≡ true → after_piece device bytes x ≡ x
 unfolding after_piece
@@ -152,7 +145,7 @@ rest-carries {W} {C} device k = record {
   reload = λ moment old new l h. subst (λ (m : Connection C). Rests k (Some m)) (sym (deaf-reload device moment old new l (rests-deaf k l h))) h;
   gone = λ x h.
       let r = rests-rest k x.connection h in
-      ((with_gone x).connection, refl, record { received = r.received; taken = r.taken; client = r.client; produced = r.produced }, or_true x.connection.closing);
+      ((with_gone x).connection, refl, record { received = r.received; taken = r.taken; client = r.client; produced = r.produced }, or_right x.connection.closing true refl);
   took = λ n x h. took-cases (λ (l : Connection C). Rests k (Some l)) n x h (more n x h);
 }
   where

@@ -3,7 +3,7 @@ use Rattle.std.proofs.Common.{◌≡◌, ℕ, ◌+◌, ◌≤◌, List, [], ◌�
 use Rattle.std.specs.Prelude.{Option, Some, None, ◌==◌, option_map}
 use Rattle.std.proofs.lemmas.Grind.{flat_map-append}
 use Rattle.std.proofs.lemmas.Bool.{cases_Bool, cases_eq, eqb-true, eqb-false}
-use Rattle.std.proofs.lemmas.List.{take-append-le, take-append-drop}
+use Rattle.std.proofs.lemmas.List.{append-nil, take-append-le, take-append-drop}
 use Rattle.std.proofs.Math.Seq.{take-add}
 use Rattle.ads_outside.specs.declared.event.Event.{Event}
 use Rattle.ads_outside.specs.declared.event.Event.TheVariants as event
@@ -126,17 +126,13 @@ took-own {W} {C} t c offered bytes s g h = own (connection_of c s.connections) r
         subst (MaybeGave (t ++ bytes)) (sym (exchange_own c (with_took (length bytes)) (with_took-number (length bytes)) s k e))
         (took-gave t (exchange_of s k) offered bytes (subst (MaybeGave t) e g) (subst (λ (o : Option (Connection C)). IsOffer (waiting_of o) offered bytes) e h))
 
-bytes_none : (t : List ℕ) → t ++ [] ≡ t
-bytes_none [] = refl
-bytes_none (b ∷ bs) = ap (λ xs. b ∷ xs) (bytes_none bs)
-
 gone-gave : {W C : Type 0} (t : List ℕ) (c n : ℕ) (s : MachineState W C) → MaybeGave t (connection_of c s.connections) → MaybeGave t (connection_of c (after_exchange (connection_of n s.connections) with_gone s).connections)
 gone-gave t c n s g = local-gave t c n with_gone with_gone-number (λ x h. record { is = h.is; counted = h.counted }) s g
 
 pub gave_log : {W C : Type 0} (device : Device W C) (c : ℕ) (log : List Move) (s : MachineState W C) (t : List ℕ) → MaybeGave t (connection_of c s.connections) → AreOffers device s log
     → MaybeGave (t ++ taken_of c log) (connection_of c (state_after device s log).connections)
 unfolding state_after state_after_move taken_of AreOffers
-gave_log {W} {C} device c [] s t g h = subst (λ (x : List ℕ). MaybeGave x (connection_of c s.connections)) (sym (bytes_none t)) g
+gave_log {W} {C} device c [] s t g h = subst (λ (x : List ℕ). MaybeGave x (connection_of c s.connections)) (sym (append-nil t)) g
 gave_log device c (move.Event e ∷ ms) s t g h = gave_log device c ms (state_after_event device s e) t (event-gave t c device e s g) (h.1)
 gave_log device c (move.Lost n ∷ ms) s t g h = gave_log device c ms (state_after_move device s (move.Lost n)) t (gone-gave t c n s g) (h.1)
 gave_log device c (move.Shut n ∷ ms) s t g h = gave_log device c ms (state_after_move device s (move.Shut n)) t (gone-gave t c n s g) (h.1)
@@ -156,5 +152,5 @@ gave_log {W} {C} device c (move.Took n offered bytes ∷ ms) s t g h =
     ]
 
 pub prefix_of_gave : {C : Type 0} (t : List ℕ) (o : Option (Connection C)) → MaybeGave t o → IsPrefix t (output_of_connection o)
-prefix_of_gave t None g = ([], sym (bytes_none t ∙ g))
+prefix_of_gave t None g = ([], sym (append-nil t ∙ g))
 prefix_of_gave t (Some k) g = (drop k.took (bytes_of_all k.produced), sym (ap (λ xs. xs ++ drop k.took (bytes_of_all k.produced)) g.is ∙ take-append-drop k.took (bytes_of_all k.produced)))

@@ -2,6 +2,7 @@
 use Rattle.std.proofs.Common.{◌≡◌, ℕ, List, [], ◌∷◌, ◌++◌, Bool, true, false, cond, refl, sym, ◌∙◌, ap, inl, inr, append_assoc}
 use Rattle.std.specs.Prelude.{◌⊎◌, ◌||◌}
 use Rattle.std.proofs.lemmas.Bool.{cases_Bool}
+use Rattle.std.proofs.lemmas.List.{append-nil}
 use Rattle.ads_frames.specs.Division.{rest_of, front_of, is_broken}
 use Rattle.ads_machine.specs.Device.{Device, Produced, Answer, Answered, Silent, Closing, FrameOutcome, ClientOutcome}
 use Rattle.ads_machine.specs.Connection.{Connection, is_deaf, fits, with_closing, with_frame, produce, produce_all}
@@ -16,13 +17,9 @@ pub record Grows {C : Type 0} (k l : Connection C) : Type 0 where
   pub took : l.took ≡ k.took
   pub gone : l.gone ≡ k.gone
 
-append_none : (fs : List Produced) → fs ++ [] ≡ fs
-append_none [] = refl
-append_none (f ∷ fs) = ap (λ xs. f ∷ xs) (append_none fs)
-
 -- nothing is added
 pub grows_none : {C : Type 0} (k l : Connection C) → l.number ≡ k.number → l.produced ≡ k.produced → l.took ≡ k.took → l.gone ≡ k.gone → Grows k l
-grows_none k l n p t g = record { number = n; more = []; produced = p ∙ sym (append_none k.produced); took = t; gone = g }
+grows_none k l n p t g = record { number = n; more = []; produced = p ∙ sym (append-nil k.produced); took = t; gone = g }
 
 pub grows_same : {C : Type 0} (k : Connection C) → Grows k k
 grows_same k = grows_none k k refl refl refl refl

@@ -1,8 +1,8 @@
 -- Handles and notifications over two kinds of place agree on after a reload whose moves agree.
-use Rattle.std.proofs.Common.{◌≡◌, ℕ, ◌≤◌, List, [], ◌∷◌, map, length, Bool, true, false, cond, refl, sym, subst, inl, inr}
+use Rattle.std.proofs.Common.{◌≡◌, ℕ, ◌≤◌, List, [], ◌∷◌, map, length, true, cond, refl, sym, subst, inl, inr}
 use Rattle.std.specs.List.{cons_option}
-use Rattle.std.specs.Prelude.{Option, Some, None, ◌⊎◌, ◌||◌, not, filter, filter_map, is_some, option_map, nat_le}
-use Rattle.std.proofs.lemmas.Bool.{le-leb, lt-leb}
+use Rattle.std.specs.Prelude.{Option, Some, None, ◌⊎◌, not, filter, filter_map, is_some, option_map, nat_le}
+use Rattle.std.proofs.lemmas.Bool.{or_right, le-leb, lt-leb}
 use Rattle.ads_machine.specs.Handles.{HandleStatus, Never, Released, Outdated, Live, live_or_outdated, Handle, live_count, status_after_reload, handle_after_reload, handles_after}
 use Rattle.ads_machine.specs.Watches.{Watch, watch_after_reload, watches_after_reload, ended_watches}
 use Rattle.ads_formats.specs.Codes.{general_device_error}
@@ -88,10 +88,6 @@ tables_agree P Q old new moves spans agree = record {
   ended = ended-agree old new moves spans agree;
 }
 
-or_true : (b : Bool) → (b || true) ≡ true
-or_true true = refl
-or_true false = refl
-
 pub limits_grants : LimitsGrants
 limits_grants c p place = record {
   full = full;
@@ -103,4 +99,4 @@ limits_grants c p place = record {
   where
     full : (MAX_LIVE ≤ live_count c.handles) ⊎ (MAX_NUMBER ≤ length c.handles) → grant_act c p place ≡ Refusal general_device_error
     full (inl many) = let a = le-leb MAX_LIVE (live_count c.handles) many in rw a refl
-    full (inr long) = let b = le-leb MAX_NUMBER (length c.handles) long in rw b (rw (or_true (nat_le MAX_LIVE (live_count c.handles))) refl)
+    full (inr long) = let b = le-leb MAX_NUMBER (length c.handles) long in rw b (rw (or_right (nat_le MAX_LIVE (live_count c.handles)) true refl) refl)

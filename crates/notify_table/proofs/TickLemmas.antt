@@ -3,7 +3,7 @@ use Rattle.std.proofs.Common.{◌≡◌, ℕ, zero, suc, ◌+◌, ◌<◌, Bool,
 use Rattle.std.proofs.Common.{length, map, take, get_or, refl, sym, ap, ◌∙◌, arith, inl, inr}
 use Rattle.std.specs.List.{All, filter, find, list_any}
 use Rattle.std.specs.List.Sorted.{IsStrictlyIncreasing}
-use Rattle.std.proofs.lemmas.Bool.{cases_Bool, cases_eq, eq-eqb, ne_eqb}
+use Rattle.std.proofs.lemmas.Bool.{cases_Bool, cases_eq, or_right, eq-eqb, ne_eqb}
 use Rattle.std.proofs.lemmas.List.{map-id, length-take-le, get_or-take, get_or_default}
 use Rattle.std.proofs.lemmas.List.Elements.{All-head, All-tail}
 use Rattle.std.proofs.lemmas.List.Folds.{list_any-append, list_any_none}
@@ -14,10 +14,6 @@ use Rattle.notify_table.specs.Table.{WatchTable, handle_of, is_numbered, due_han
 or_false : (b : Bool) → (b || false) ≡ b
 or_false true = refl
 or_false false = refl
-
-or_true : (b : Bool) → (b || true) ≡ true
-or_true true = refl
-or_true false = refl
 
 module _ (now : ℕ) (found : Watch Range → List ℕ) where
   -- a notification after the checks of those with these handles, where each finds its bytes
@@ -112,7 +108,7 @@ module _ (now : ℕ) (found : Watch Range → List ℕ) where
   checked_covered (w ∷ ws) handles covers =
       let here = due_listed w ws handles covers in
       let rest = checked_covered ws handles (λ v listed. covers v (elim (cases_Bool (is_due now w)) [
-        | inl due ↦ rw (due, listed) (or_true (nat_eq w.handle v))
+        | inl due ↦ rw (due, listed) (or_right (nat_eq w.handle v) true refl)
         | inr early ↦ rw early listed
       ])) in
       cc
