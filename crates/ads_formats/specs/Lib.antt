@@ -9,3 +9,4 @@ pub mod SymbolEntry
 pub mod Groups
 pub mod Ranges
 pub mod TypeEntry
+pub mod TypeUpload

@@ -26,8 +26,7 @@ use Rattle.ads_machine.specs.Reach.{reach_of}
 use Rattle.ads_machine.specs.Reads.{fixed_reply, type_upload_reply, read_group}
 use Rattle.std.specs.Int.{w32, to_le_bytes}
 use Rattle.ads_formats.specs.SymbolEntry.{entry_bytes}
-use Rattle.ads_machine.specs.Entries.{symbol_upload_of, upload_info_of, entry_of_part}
-use Rattle.ads_machine.specs.TypeEntries.{type_upload_of, upload_info_with_types_of}
+use Rattle.ads_machine.specs.Entries.{symbol_upload_of, type_upload_of, upload_info_of, upload_info_with_types_of, entry_of_part}
 use Rattle.ads_machine.specs.Writes.{Asker, write_act, release_act, write_group, control_act}
 use Rattle.ads_machine.specs.ByName.{place_of, grant_act, value_act, info_of, read_write_group}
 use Rattle.ads_machine.specs.Requests.{next_watch, add_watch, add_reached, add_act, act_of}

@@ -17,8 +17,7 @@ use Rattle.ads_machine.specs.Handles.{HandleStatus, Never, Released, Outdated, L
 use Rattle.ads_machine.specs.Client.{Place, Client, Effect}
 use Rattle.ads_machine.specs.Acts.{Act, Refusal, Allowed, outcome_of, fixed_data, reading, writing, changing}
 use Rattle.ads_machine.specs.Answers.{AnswerTable, answered_group}
-use Rattle.ads_machine.specs.Entries.{entry_of_part, symbol_upload_of, upload_info_of}
-use Rattle.ads_machine.specs.TypeEntries.{type_upload_of, upload_info_with_types_of}
+use Rattle.ads_machine.specs.Entries.{entry_of_part, symbol_upload_of, type_upload_of, upload_info_of, upload_info_with_types_of}
 use Rattle.std.specs.Int.{w32, to_le_bytes}
 use Rattle.ads_machine.specs.Reach.{addressed_by_range, addressed_in_place, addressed_by_status, reach_of}
 use Rattle.ads_machine.specs.Reads.{fixed_reply, read_act, read_group}

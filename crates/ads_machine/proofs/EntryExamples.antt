@@ -12,7 +12,7 @@ use Rattle.ads_machine.specs.Answers.{answered_group}
 use Rattle.ads_machine.specs.ByName.{read_write_group}
 use Rattle.ads_machine.specs.Client.{client_after, client_after_reload, ended_of}
 use Rattle.ads_machine.specs.Connection.{connection_of, produce, produce_all, put_back}
-use Rattle.ads_machine.specs.Entries.{entry_of_part, text_of_steps}
+use Rattle.ads_machine.specs.Entries.{entry_of_part, text_of_steps, type_upload_of}
 use Rattle.ads_machine.specs.HandleLaws.{handles_after_all}
 use Rattle.ads_machine.specs.Handles.{grant_in, handle_in, handles_after, is_released_in, place_after, with_released}
 use Rattle.ads_machine.specs.Moves.{connection_after_reload, connection_after_tick, state_after, state_after_event, state_after_move}
@@ -40,7 +40,6 @@ use Rattle.ads_plant.specs.Trees.{trees_behind, trees_of}
 use Rattle.ads_plant.specs.World.{byte_at, with_byte}
 use Rattle.std.specs.Fmt.{digits}
 use Rattle.ads_plant.specs.World.{plant_of}
-use Rattle.ads_machine.specs.TypeEntries.{type_upload_of}
 use Rattle.ads_machine.proofs.Plant.{q, a, named, piece, given, plant}
 use Rattle.ads_frames.proofs.Hex.{hex}
 

@@ -5,15 +5,17 @@ use Rattle.std.specs.Prelude.{Option, Some, None, ℤ}
 use Rattle.std.specs.Int.{w32, to_le_bytes}
 use Rattle.name_paths.specs.Path.{Step, name_step, index_step}
 use Rattle.ads_plant.specs.Description.{Area, Inputs, Outputs, Memory, Process}
-use Rattle.ads_plant.specs.Trees.{TypeTree}
+use Rattle.ads_plant.specs.Trees.{TypeTree, trees_of}
 use Rattle.ads_plant.specs.Sizes.{type_size}
 use Rattle.ads_plant.specs.Parts.{MemberPart, member_of, part_of, TypePart}
 use Rattle.ads_plant.specs.Spelling.{type_text, integer_text, joined_by_comma}
 use Rattle.ads_plant.specs.Entries.{type_id}
-use Rattle.ads_plant.specs.World.{PlantSymbol, PlantPort}
+use Rattle.ads_plant.specs.World.{Plant, PlantSymbol, PlantPort}
 use Rattle.ads_plant.specs.Finding.{Found}
 use Rattle.ads_formats.specs.Groups.{memory_bytes, process_bytes, input_bytes, output_bytes}
 use Rattle.ads_formats.specs.SymbolEntry.{SymbolEntry, upload_bytes}
+use Rattle.ads_formats.specs.TypeEntry.{type_upload_bytes}
+use Rattle.ads_formats.specs.TypeUpload.{entries_of_types}
 
 -- the byte group of an area
 abbrev pub group_of_area : Area → ℕ
@@ -102,3 +104,14 @@ symbol_upload_of p = upload_bytes (map entry_of_symbol p.symbols)
 abbrev pub upload_info_of : PlantPort → List ℕ
 upload_info_of p =
     to_le_bytes w32 (length p.symbols) ++ to_le_bytes w32 (length (symbol_upload_of p))
+
+-- the entries of all named types, in the description's order
+abbrev pub type_upload_of : Plant → List ℕ
+type_upload_of plant = type_upload_bytes (entries_of_types (trees_of plant.types))
+
+-- symbols 4, symbol upload size 4, types 4, type upload size 4, and two numbers of 4 that are 0
+abbrev pub upload_info_with_types_of : Plant → PlantPort → List ℕ
+upload_info_with_types_of plant p =
+    to_le_bytes w32 (length p.symbols) ++ to_le_bytes w32 (length (symbol_upload_of p))
+    ++ to_le_bytes w32 (length plant.types) ++ to_le_bytes w32 (length (type_upload_of plant))
+    ++ to_le_bytes w32 0 ++ to_le_bytes w32 0

@@ -27,7 +27,6 @@ pub mod Acts
 pub mod Answers
 pub mod Reach
 pub mod Entries
-pub mod TypeEntries
 pub mod Reads
 pub mod Writes
 pub mod ByName

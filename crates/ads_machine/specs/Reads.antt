@@ -13,8 +13,7 @@ use Rattle.ads_machine.specs.Access.{Addressed}
 use Rattle.ads_machine.specs.Client.{Client}
 use Rattle.ads_machine.specs.Acts.{Act, Refusal, fixed_data, reading}
 use Rattle.ads_machine.specs.Reach.{reach_of}
-use Rattle.ads_machine.specs.Entries.{symbol_upload_of, upload_info_of}
-use Rattle.ads_machine.specs.TypeEntries.{type_upload_of, upload_info_with_types_of}
+use Rattle.ads_machine.specs.Entries.{symbol_upload_of, type_upload_of, upload_info_of, upload_info_with_types_of}
 
 -- a fixed reply: the read length is a buffer's size, and must hold it
 abbrev pub fixed_reply : ℕ → List ℕ → Act

@@ -8,7 +8,7 @@ use Rattle.ads_base.specs.Octets.{Extends}
 use Rattle.ads_formats.specs.SymbolEntry.{text_bytes}
 use Rattle.ads_formats.specs.TypeEntry.{TypeFields, dimension_bytes, fields_len, sub_bytes}
 use Rattle.ads_formats.proofs.Appends.{two_parts, three_parts}
-use Rattle.ads_machine.specs.TypeEntries.{dimension_of}
+use Rattle.ads_formats.specs.TypeUpload.{dimension_of}
 use Rattle.type_layout.specs.Shapes.{bounds_of}
 use Rattle.type_layout.specs.declared.shape.Bound.{Bound}
 use Rattle.type_upload.specs.WrittenFields.{front_bytes, numbers, lengths, texts, bound_bytes}

@@ -10,7 +10,7 @@ use Rattle.ads_plant.specs.Trees.{TypeTree, StructTree, MemberTrees, NoMember, t
 use Rattle.ads_plant.specs.Sizes.{type_size}
 use Rattle.ads_plant.specs.Entries.{type_id}
 use Rattle.ads_plant.proofs.TypeLemmas.{length-trees_behind}
-use Rattle.ads_machine.specs.TypeEntries.{members_fields, named_fields, entry_of_type, entries_of_types}
+use Rattle.ads_formats.specs.TypeUpload.{members_fields, named_fields, entry_of_type, entries_of_types}
 use Rattle.type_upload.specs.WrittenFields.{front_bytes}
 use Rattle.type_upload.specs.NextMembers.{tree_bytes}
 

@@ -5,7 +5,7 @@ use Rattle.ads_plant.specs.Listed.{Elem, Plain, Text, Struct, Enum, Shape, One, 
 use Rattle.ads_plant.specs.Trees.{tree_at, tree_of, trees_of, elem_tree}
 use Rattle.ads_plant.specs.AcceptedTypes.{AreTypes, IsSized, is_elem, elem_within}
 use Rattle.ads_plant.proofs.TypeLemmas.{rank, at-below, named_there, stands_at}
-use Rattle.ads_machine.specs.TypeEntries.{dimension_of, dimensions_of}
+use Rattle.ads_formats.specs.TypeUpload.{dimension_of, dimensions_of}
 use Rattle.type_layout.specs.Spelled.{IsThere, NamesThere}
 use Rattle.type_upload.specs.Layouts.{AreKnown, HasLayout, reach}
 use Rattle.type_upload.specs.NextMembers.{bounds_within}

@@ -14,7 +14,7 @@ use Rattle.ads_plant.specs.AcceptedTypes.{AreTypes, LIMIT, are_bounds, is_elem, 
 use Rattle.ads_plant.proofs.SizeLemmas.{greatest_align-bounds}
 use Rattle.ads_plant.proofs.TypeLemmas.{StandsAt, list_all-get, member-shape}
 use Rattle.ads_plant.proofs.TextLengths.{three_bounds, short_name, short_comment}
-use Rattle.ads_machine.specs.TypeEntries.{members_fields, member_fields, dimension_of, dimensions_of}
+use Rattle.ads_formats.specs.TypeUpload.{members_fields, member_fields, dimension_of, dimensions_of}
 use Rattle.type_layout.proofs.MemberTurns.{is_turn, ends_within, member_start-align}
 use Rattle.type_upload.specs.WrittenFields.{front_bytes}
 use Rattle.type_upload.specs.NextMembers.{IsNextMember, bounds_within, sub_of, subs_of}

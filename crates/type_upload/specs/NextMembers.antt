@@ -6,7 +6,7 @@ use Rattle.ads_plant.specs.Sizes.{type_size, type_align, member_start}
 use Rattle.ads_plant.specs.Spelling.{type_text}
 use Rattle.ads_plant.specs.AcceptedTypes.{IsSized, LIMIT, elem_within}
 use Rattle.ads_formats.specs.TypeEntry.{sub_bytes, type_bytes}
-use Rattle.ads_machine.specs.TypeEntries.{member_fields, members_fields, entry_of_type}
+use Rattle.ads_formats.specs.TypeUpload.{member_fields, members_fields, entry_of_type}
 use Rattle.type_upload.specs.Layouts.{reach}
 use Rattle.type_upload.specs.declared.layouts.Laid.{Laid}
 

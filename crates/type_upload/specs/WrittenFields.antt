@@ -3,7 +3,7 @@ use Rattle.std.specs.Prelude.{ℕ, ◌+◌, ◌≤◌, List, ◌++◌, length, m
 use Rattle.std.specs.Int.{w16, w32, to_le_bytes}
 use Rattle.ads_formats.specs.SymbolEntry.{text_bytes}
 use Rattle.ads_formats.specs.TypeEntry.{TypeFields, written_stamps, dimension_bytes, fields_len, fields_bytes}
-use Rattle.ads_machine.specs.TypeEntries.{dimension_of}
+use Rattle.ads_formats.specs.TypeUpload.{dimension_of}
 use Rattle.type_layout.specs.Shapes.{bound_of, bounds_of}
 use Rattle.type_layout.specs.declared.shape.Bound.{Bound}
 use Rattle.type_upload.specs.declared.fields.Fields.{Fields}

@@ -5,7 +5,7 @@ ghost use Rattle.ads_base.specs.Octets.{Extends};
 ghost use Rattle.ads_formats.specs.TypeEntry.{type_upload_bytes};
 ghost use Rattle.ads_plant.specs.Trees.{EnumTree, named_tree, trees_of};
 ghost use Rattle.ads_plant.specs.AcceptedTypes.{AreTypes};
-ghost use Rattle.ads_machine.specs.TypeEntries.{entries_of_types};
+ghost use Rattle.ads_formats.specs.TypeUpload.{entries_of_types};
 ghost use Rattle.type_layout.specs.Shapes.{kind_of};
 ghost use Rattle.type_layout.specs.NamedTypes.{types_of, named_type_of, structure_of};
 ghost use Rattle.type_upload.specs.Layouts.{AreKnown, HasLayout};

@@ -1,17 +1,14 @@
 -- The type upload: an entry for each named type of the description, in its order. Beckhoff Information
 -- System, "AdsDatatypeEntry"; which fields are set is this project's own profile.
-use Rattle.std.specs.Prelude.{ℕ, ◌+◌, ◌-◌, ◌^◌, List, [], ◌∷◌, ◌++◌, length, map, ℤ, pos, negsuc}
-use Rattle.std.specs.Int.{w32, to_le_bytes}
+use Rattle.std.specs.Prelude.{ℕ, ◌+◌, ◌-◌, ◌^◌, List, [], ◌∷◌, ◌++◌, map, ℤ, pos, negsuc}
 use Rattle.ads_plant.specs.Plain.{kind_name}
 use Rattle.ads_plant.specs.Listed.{Bound}
 use Rattle.ads_plant.specs.Trees.{TypeTree, PlainTree, TextTree, EnumTree, ArrayTree, StructTree}
-use Rattle.ads_plant.specs.Trees.{MemberTrees, NoMember, MemberTree, trees_of}
+use Rattle.ads_plant.specs.Trees.{MemberTrees, NoMember, MemberTree}
 use Rattle.ads_plant.specs.Sizes.{type_size, member_start}
 use Rattle.ads_plant.specs.Spelling.{type_text}
 use Rattle.ads_plant.specs.Entries.{type_id}
-use Rattle.ads_plant.specs.World.{Plant, PlantPort}
-use Rattle.ads_formats.specs.TypeEntry.{Dimension, TypeFields, TypeEntry, type_upload_bytes}
-use Rattle.ads_machine.specs.Entries.{symbol_upload_of}
+use Rattle.ads_formats.specs.TypeEntry.{Dimension, TypeFields, TypeEntry}
 
 -- the flags of a type, and of a member of a structure
 abbrev pub DATA_TYPE : ℕ
@@ -82,13 +79,3 @@ entry_of_type (ArrayTree bounds element) = []
 abbrev pub entries_of_types : List TypeTree → List TypeEntry
 entries_of_types [] = []
 entries_of_types (t ∷ ts) = entry_of_type t ++ entries_of_types ts
-
-abbrev pub type_upload_of : Plant → List ℕ
-type_upload_of plant = type_upload_bytes (entries_of_types (trees_of plant.types))
-
--- symbols 4, symbol upload size 4, types 4, type upload size 4, and two numbers of 4 that are 0
-abbrev pub upload_info_with_types_of : Plant → PlantPort → List ℕ
-upload_info_with_types_of plant p =
-    to_le_bytes w32 (length p.symbols) ++ to_le_bytes w32 (length (symbol_upload_of p))
-    ++ to_le_bytes w32 (length plant.types) ++ to_le_bytes w32 (length (type_upload_of plant))
-    ++ to_le_bytes w32 0 ++ to_le_bytes w32 0
