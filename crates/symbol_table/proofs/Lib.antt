@@ -3,7 +3,6 @@ pub mod Indexed
 pub mod PathOrder
 pub mod Halving
 pub mod Narrowed
-pub mod NamesFound
 pub mod SortedNames
 pub mod PlacesInOrder
 pub mod PlaceSearch

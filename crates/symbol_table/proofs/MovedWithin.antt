@@ -1,8 +1,7 @@
 -- For crates above: what goes on after a reload lies within its symbol's new place.
-use Rattle.std.proofs.Common.{◌≡◌, ℕ, ◌+◌, ◌<◌, ◌≤◌, Bool, true, List, [], ◌∷◌, length, get_or, refl, subst, add-one, arith, inl, inr}
+use Rattle.std.proofs.Common.{◌≡◌, ℕ, ◌+◌, ◌≤◌, Bool, List, [], ◌∷◌, get_or, refl, subst, add-one, arith, inl, inr}
 use Rattle.std.specs.Prelude.{Option, Some, None, find, option_map, Contains}
 use Rattle.std.proofs.lemmas.Bool.{cases_Bool}
-use Rattle.std.proofs.lemmas.List.{get_or_default}
 use Rattle.type_layout.specs.declared.port.Area.{Area}
 use Rattle.symbol_table.specs.declared.place.Place.{Place}
 use Rattle.symbol_table.specs.declared.kept.KeptPlace.{KeptPlace}

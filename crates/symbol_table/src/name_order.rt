@@ -10,9 +10,9 @@ ghost use Rattle.symbol_table.specs.Rows.{symbols_of_rows};
 ghost use Rattle.symbol_table.specs.NamesInOrder.{keys_from, AreKeysOf};
 ghost use Rattle.symbol_table.specs.NameKeys.{identifiers_in, key_of, order_to_path, IsPrefixFree, IsMatch, HasNoMatch};
 
-use crate::names::lower_copy;
 use crate::row::SymbolRow;
 use ads_base::{NoMemory, Steps};
+use name_index::lower_copy;
 use name_paths::{LaterSteps, Path, Step};
 use std::alloc::Global;
 use std::cmp::Ordering;

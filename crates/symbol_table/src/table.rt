@@ -17,12 +17,13 @@ ghost use Rattle.symbol_table.specs.Tiles.{IsTileAt};
 
 use crate::by_place::place_order;
 use crate::name_order::NameOrder;
-use crate::names::Names;
+use crate::names::names_of;
 use crate::parts::{Part, part_behind, steps_behind};
 use crate::row::{SymbolRow, rows_of};
 use crate::tiling::{size_of_area, tile_at};
 use crate::{Found, Place, Tile};
 use ads_base::{NoMemory, Steps};
+use name_index::NameIndex;
 use name_paths::{LaterSteps, Path};
 use std::alloc::Global;
 use std::marker::Model;
@@ -35,7 +36,7 @@ use type_layout::{Area, PortDesc, Sizes, Types, size};
 pub struct Table {
     sizes: Sizes,
     rows: Vec<SymbolRow>,
-    names: Names,
+    names: NameIndex,
     by_name: NameOrder,
     by_place: Vec<u32>,
 }
@@ -60,7 +61,7 @@ impl Table {
         ensures { IfOk result (λ table. table ≡ table_of (types_of types.now) (port_of port.now)) }
     {
         let rows = rows_of(alloc, port.symbols.as_slice(), types)?;
-        let names = Names::build(alloc, rows.as_slice())?;
+        let names = names_of(alloc, rows.as_slice())?;
         let by_name = NameOrder::build(alloc, rows.as_slice())?;
         let by_place = place_order(alloc, rows.as_slice())?;
         Ok(Table {
@@ -146,7 +147,7 @@ impl Table {
     pub fn named(&self, alloc: Global, name: &[u8]) -> Result<Option<u32>, NoMemory>
         ensures { IfOk result (λ number. number ≡ number_called name.now self.now.symbols) }
     {
-        self.names.find(alloc, name)
+        Ok(self.names.find(name))
     }
 
     /// The numbers of the symbols in the order of their places: by area, and by offset in an area.

@@ -1,4 +1,4 @@
--- Numbers under names: a further name counts exactly where it is new.
+-- Entries under names in lower case: a further one counts exactly where its name is new.
 use Rattle.std.proofs.Common.{◌≡◌, ℕ, ◌+◌, ◌≤◌, eqb, arith, true, false, List, [], ◌∷◌, ◌++◌, map, length, refl, sym, ◌∙◌, ap, inl, inr}
 use Rattle.std.specs.Prelude.{Bool, Option, Some, None, is_some, bytes_eq, position, cond, nat_lt, not}
 use Rattle.std.specs.Global.{Vec}
@@ -13,8 +13,8 @@ use Rattle.std.proofs.lemmas.Cmp.{nat_list_eq_equiv}
 use Rattle.std.proofs.lemmas.Slice.Eq.{bytes_eq-Decides}
 use Rattle.indexmap.specs.IndexMap.{insert_entry}
 use Rattle.name_paths.specs.Identifier.{lower}
-use Rattle.symbol_table.specs.Tables.{TableSymbol}
-use Rattle.symbol_table.specs.Names.{number_of, number_named, AreNamesOf}
+use Rattle.name_index.specs.Entries.{number_of, AddsEntry}
+use Rattle.name_index.specs.Numbered.{AreNumbered}
 
 abbrev pub shown : Vec ℕ × ℕ → List ℕ × ℕ
 shown e = (e.0.items, e.1)
@@ -29,12 +29,12 @@ abbrev pub behind : Option ℕ → Bool → ℕ → Option ℕ
 behind (Some n) b m = Some n
 behind None b m = cond b (Some m) None
 
-pub number_of-push : (name : List ℕ) (es : List (List ℕ × ℕ)) (e : List ℕ × ℕ) → number_of name (es ++ e ∷ []) ≡ behind (number_of name es) (bytes_eq name e.0) e.1
+number_of-push : (name : List ℕ) (es : List (List ℕ × ℕ)) (e : List ℕ × ℕ) → number_of name (es ++ e ∷ []) ≡ behind (number_of name es) (bytes_eq name e.0) e.1
 number_of-push name [] e = refl
 number_of-push name (x ∷ xs) e = elim (cases_Bool (bytes_eq name x.0)) [ inl t ↦ rw t refl | inr t ↦ rw t (number_of-push name xs e) ]
 
 -- a name that has a number keeps it
-pub number_of-there : (es : List (List ℕ × ℕ)) (e : List ℕ × ℕ) → is_some (number_of e.0 es) ≡ true → (name : List ℕ) → number_of name es ≡ number_of name (es ++ e ∷ [])
+pub number_of-there : (es : List (List ℕ × ℕ)) (e : List ℕ × ℕ) → is_some (number_of e.0 es) ≡ true → AddsEntry e es es
 number_of-there es e there name =
     elim (cases_Bool (bytes_eq name e.0)) [
       | inl t ↦
@@ -89,19 +89,19 @@ found_more k n b h =
     ]
 
 -- the first place among one more
-pub position-push : {X : Type 0} (p : X → Bool) (xs : List X) (x : X) → position p (xs ++ x ∷ []) ≡ behind (position p xs) (p x) (length xs)
+position-push : {X : Type 0} (p : X → Bool) (xs : List X) (x : X) → position p (xs ++ x ∷ []) ≡ behind (position p xs) (p x) (length xs)
 position-push p xs x =
     rw (position_or_len_push p xs x, length_push xs x) (found_more (position_or_len p xs) (length xs) (p x) (prefix_len-le-length (λ y. not (p y)) xs))
 
--- one more symbol
-pub names_push : (symbols : List TableSymbol) (s : TableSymbol) (old new : List (List ℕ × ℕ)) (low : List ℕ) (number : ℕ) → AreNamesOf symbols old → low ≡ lower s.name → number ≡ length symbols
-    → ((name : List ℕ) → number_of name new ≡ number_of name (old ++ (low, number) ∷ [])) → AreNamesOf (symbols ++ s ∷ []) new
-names_push symbols s old new low number are is_low is_last added = λ name.
-    added name ∙ number_of-push name old (low, number)
-    ∙ ap (λ o. behind o (bytes_eq name low) number) (are name)
-    ∙ ap (λ b. behind (number_named name symbols) b number) (nat_list_eq_equiv.symm name low ∙ ap (λ l. bytes_eq l name) is_low)
-    ∙ ap (λ n. behind (number_named name symbols) (bytes_eq (lower s.name) name) n) is_last
-    ∙ sym (position-push (λ t. bytes_eq (lower t.name) name) symbols s)
+-- one more name, whose number is how many there were
+pub AreNumbered-push : (names : List (List ℕ)) (name : List ℕ) (old new : List (List ℕ × ℕ)) (low : List ℕ) (number : ℕ) → AreNumbered names old → low ≡ lower name
+    → number ≡ length names → AddsEntry (low, number) old new → AreNumbered (names ++ name ∷ []) new
+AreNumbered-push names name old new low number are is_low is_last added = λ l.
+    added l ∙ number_of-push l old (low, number)
+    ∙ ap (λ o. behind o (bytes_eq l low) number) (are l)
+    ∙ ap (λ b. behind (position (λ n. bytes_eq (lower n) l) names) b number) (nat_list_eq_equiv.symm l low ∙ ap (λ k. bytes_eq k l) is_low)
+    ∙ ap (λ n. behind (position (λ m. bytes_eq (lower m) l) names) (bytes_eq (lower name) l) n) is_last
+    ∙ sym (position-push (λ m. bytes_eq (lower m) l) names name)
 
 pub none_is : (o : Option ℕ) → is_some o ≡ false → o ≡ None
 none_is None e = refl

@@ -1,8 +1,8 @@
 -- The map's look-up.
 use Rattle.std.proofs.Common.{◌∙◌, ap}
-use Rattle.symbol_table.specs.Names.{number_of}
-use Rattle.symbol_table.proofs.NamesFound.{number_of-shown}
-use Rattle.symbol_table.proofs.names.Names.number.Goals as goal
+use Rattle.name_index.specs.Entries.{number_of}
+use Rattle.name_index.proofs.EntryLemmas.{number_of-shown}
+use Rattle.name_index.proofs.name_index.NameIndex.number.Goals as goal
 
 pub returns : goal.returns
 returns c =

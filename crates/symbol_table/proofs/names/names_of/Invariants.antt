@@ -2,7 +2,7 @@
 use Rattle.std.proofs.Common.{take}
 use Rattle.symbol_table.specs.Names.{AreNamesOf}
 use Rattle.symbol_table.specs.Rows.{symbols_of_rows}
-use Rattle.symbol_table.proofs.names.Names.build.Given as goal
+use Rattle.symbol_table.proofs.names.names_of.Given as goal
 
 abbrev pub invariant-loop-number : goal.invariant-loop-number
 invariant-loop-number l = AreNamesOf (symbols_of_rows (take l.number l.rows)) l.names

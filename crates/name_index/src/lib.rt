@@ -1,0 +1,10 @@
+//! Names of a list, found ASCII case aside.
+#![tactic(auto)]
+
+mod lower;
+mod name_index;
+#[cfg(test)]
+mod tests;
+
+pub use lower::lower_copy;
+pub use name_index::NameIndex;
