@@ -11,7 +11,7 @@ pub place_from-suc : (i : ℕ) (place : Option ℕ) → place_from i (option_map
 place_from-suc i None = refl
 place_from-suc i (Some j) = ap Some (omega arith)
 
-from_zero : (place : Option ℕ) → place ≡ place_from 0 place
+pub from_zero : (place : Option ℕ) → place ≡ place_from 0 place
 from_zero None = refl
 from_zero (Some j) = ap Some (omega arith)
 

@@ -1,5 +1,5 @@
 -- One more type goes behind those that are known.
-use Rattle.std.proofs.Common.{◌≡◌, ℕ, suc, ◌+◌, ◌≤◌, ◌<◌, Bool, true, false, cond, ◌&&◌, nat_le, List, [], ◌∷◌, ◌++◌, map, refl, ap, sym, ◌∙◌, arith, append_assoc, append-nil, Option, Some, None, option_map}
+use Rattle.std.proofs.Common.{◌≡◌, ℕ, suc, ◌+◌, ◌≤◌, ◌<◌, true, false, cond, ◌&&◌, nat_le, List, [], ◌∷◌, ◌++◌, map, refl, ap, sym, ◌∙◌, arith, append_assoc, append-nil, Option, Some, None, option_map}
 use Rattle.std.specs.List.{list_all}
 use Rattle.std.proofs.lemmas.Bool.{and_from, le-leb}
 use Rattle.std.proofs.lemmas.List.{map-append}
@@ -16,7 +16,7 @@ use Rattle.description_rules.specs.Built.{are_small_members}
 use Rattle.description_rules.specs.Extents.{TypeExtent, extent_view, extent_of}
 use Rattle.description_rules.specs.Known.{AreKnown, is_fair}
 use Rattle.description_rules.specs.declared.extents.Extent.{Extent}
-use Rattle.description_rules.proofs.FirstLemmas.{place_from, place_from-suc}
+use Rattle.description_rules.proofs.FirstLemmas.{place_from, place_from-suc, from_zero}
 
 trees_behind-push : (known : List TypeTree) (ts : List NamedType) (t : NamedType) → trees_behind known (ts ++ t ∷ []) ≡ trees_behind known ts ++ named_tree (trees_behind known ts) t ∷ []
 unfolding trees_behind
@@ -92,10 +92,6 @@ types_left-more known more left w ws all l m so_far =
 pub AreKnown-none : AreKnown [] []
 unfolding trees_of trees_behind
 AreKnown-none = record { same = refl; fair = refl }
-
-from_zero : (place : Option ℕ) → place ≡ place_from 0 place
-from_zero None = refl
-from_zero (Some j) = ap Some (omega arith)
 
 types_behind-left : (known : List NamedType) (ws : List WrittenType) → types_behind known ws ≡ known ++ types_left known ws
 unfolding types_behind types_left

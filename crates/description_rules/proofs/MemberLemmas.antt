@@ -1,5 +1,5 @@
 -- Members beside the names of the types before, and beside those types.
-use Rattle.std.proofs.Common.{◌≡◌, ℕ, suc, Bool, true, false, cond, not, ◌&&◌, ◌||◌, List, [], ◌∷◌, ◌++◌, map, refl, ap, sym, ◌∙◌, is_some, Option, Some, None, option_map}
+use Rattle.std.proofs.Common.{◌≡◌, ℕ, suc, Bool, true, false, cond, not, ◌&&◌, ◌||◌, List, [], ◌∷◌, ◌++◌, refl, ap, sym, ◌∙◌, is_some, Option, Some, None, option_map}
 use Rattle.std.specs.Prelude.{bytes_eq}
 use Rattle.std.specs.Option.{option_map_or}
 use Rattle.std.specs.List.{list_all, list_any}
@@ -12,9 +12,9 @@ use Rattle.ads_rules.specs.Places.{first_wrong}
 use Rattle.ads_rules.specs.Shapes.{shape_of_text}
 use Rattle.ads_rules.specs.Described.{types_described}
 use Rattle.ads_rules.specs.TypeRules.{is_right_member, wrong_member_of}
-use Rattle.description_rules.specs.NameStarts.{is_none_of, IsAdded}
-use Rattle.description_rules.specs.NextMember.{names_only_in, is_type_in, is_member_alone, is_right_named, wrong_member_in, AreTypeNames}
-use Rattle.description_rules.specs.TypeNames.{names_only, is_type_among}
+use Rattle.description_rules.specs.NameStarts.{IsAdded}
+use Rattle.description_rules.specs.NextMember.{names_only_in, is_type_in, is_right_named, wrong_member_in, AreTypeNames}
+use Rattle.description_rules.specs.TypeNames.{names_only}
 use Rattle.description_rules.proofs.NameLemmas.{is_some-shape_of_text}
 
 abbrev pub member_name : WrittenMember → List ℕ

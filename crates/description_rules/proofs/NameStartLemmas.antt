@@ -1,9 +1,10 @@
 -- A name begins with the identifiers of another exactly where one of its starts is that other.
-use Rattle.std.proofs.Common.{◌≡◌, ℕ, ◌+◌, ◌<◌, Bool, true, false, cond, not, ◌&&◌, ◌==◌, nat_lt, List, [], ◌∷◌, ◌++◌, map, refl, ap, sym, ◌∙◌, arith, ⊎_elim}
+use Rattle.std.proofs.Common.{◌≡◌, ℕ, ◌+◌, Bool, true, false, cond, not, ◌&&◌, ◌==◌, List, [], ◌∷◌, ◌++◌, map, refl, ap, sym, ◌∙◌, arith, ⊎_elim}
+use Rattle.std.proofs.Math.Bool.{and_assoc, and-true}
 use Rattle.std.specs.Prelude.{bytes_eq}
 use Rattle.std.specs.Char.{to_ascii_lowercase}
 use Rattle.std.specs.List.{list_all, slice_split, onto_first, starts_with}
-use Rattle.std.proofs.lemmas.Bool.{cases_Bool, cases_lt, cases_eq, eqb-true, eqb-false, eq-eqb, ne_eqb, lt-ltb, le-ltb}
+use Rattle.std.proofs.lemmas.Bool.{cases_Bool, cases_lt, cases_eq, eqb-true, eq-eqb, ne_eqb, lt-ltb, le-ltb}
 use Rattle.std.proofs.lemmas.List.Folds.{list_all-map, list_all-append}
 use Rattle.std.proofs.lemmas.Slice.Eq.{bytes_eq-Decides}
 use Rattle.name_paths.specs.Identifier.{lower}
@@ -37,10 +38,6 @@ has_first (c ∷ cs) =
 
 abbrev begins : List (List ℕ) → List (List ℕ) → Bool
 begins parts front = starts_with bytes_eq parts front
-
-and_parts_apart : (a b c : Bool) → ((a && b) && c) ≡ (a && (b && c))
-and_parts_apart true b c = refl
-and_parts_apart false b c = refl
 
 same_stop : (c d : ℕ) → is_full_stop c ≡ true → is_full_stop d ≡ true → (d == c) ≡ true
 same_stop c d e f = eq-eqb d c (eqb-true d 46 f ∙ sym (eqb-true c 46 e))
@@ -78,7 +75,7 @@ step c d cs ds ih =
     (λ e. ⊎_elim
     (λ f. same_begins (split (c ∷ cs)) (split (d ∷ ds)) ((c ∷ h.first) ∷ h.rest) ([] ∷ split ds) ((d == c) && go) (split_other c cs h e) (split_stop d ds f) (ap (λ b. b && go) (sym (other_stop c d false e f))))
     (λ f. same_begins (split (c ∷ cs)) (split (d ∷ ds)) ((c ∷ h.first) ∷ h.rest) ((d ∷ g.first) ∷ g.rest) ((d == c) && go) (split_other c cs h e) (split_other d ds g f)
-    (and_parts_apart (d == c) (bytes_eq g.first h.first) (begins h.rest g.rest) ∙ same_parts))
+    (and_assoc (d == c) (bytes_eq g.first h.first) (begins h.rest g.rest) ∙ same_parts))
     (cases_Bool (is_full_stop d))) (cases_Bool (is_full_stop c))
 
 split_begins : (a b : List ℕ) → begins (slice_split is_full_stop a) (slice_split is_full_stop b) ≡ goes_on a b
@@ -186,11 +183,6 @@ noted-apart names whole starts name noted =
     ∙ list_all_same (λ c. list_all (λ e. not (bytes_eq c (lower e))) names) (is_none_of whole) (starts_of (lower name))
     (λ c. list_all_same (λ e. not (bytes_eq c (lower e))) (λ e. not (bytes_eq (lower e) c)) names (λ e. ap not (bytes_eq-comm c (lower e))) ∙ sym (noted.in_full c))))
 
-and_true : (a b : Bool) → (a && b) ≡ (a && (b && true))
-and_true true true = refl
-and_true true false = refl
-and_true false b = refl
-
 pub noted-none : AreNoted [] [] []
 noted-none = record { in_full = λ text. refl; begun = λ text. refl }
 
@@ -203,7 +195,7 @@ noted-more names whole starts more_whole more_starts name noted one two = record
       ∙ sym (list_all-append (λ e. not (bytes_eq (lower e) text)) names (name ∷ []));
   begun = λ text.
       two text ∙ ap (λ b. b && is_none_of (starts_of (lower name)) text) (noted.begun text)
-      ∙ and_true (list_all (λ e. is_none_of (starts_of (lower e)) text) names) (is_none_of (starts_of (lower name)) text)
+      ∙ ap (λ b. list_all (λ e. is_none_of (starts_of (lower e)) text) names && b) (sym (and-true (is_none_of (starts_of (lower name)) text)))
       ∙ sym (list_all-append (λ e. is_none_of (starts_of (lower e)) text) names (name ∷ []));
 }
 

@@ -1,5 +1,5 @@
 -- The bytes of a number of an enumeration.
-use Rattle.std.proofs.Common.{◌≡◌, ℕ, List, take, refl, ℤ, pos, negsuc}
+use Rattle.std.proofs.Common.{◌≡◌, take, refl, ℤ, pos, negsuc}
 use Rattle.std.specs.Int.{to_le_bytes, w64}
 use Rattle.ads_plant.specs.Plain.{Kind, kind_size}
 use Rattle.ads_plant.specs.Accepted.{number_bytes}

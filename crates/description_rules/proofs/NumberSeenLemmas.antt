@@ -1,5 +1,6 @@
 -- Numbers that came before.
-use Rattle.std.proofs.Common.{◌≡◌, ℕ, Bool, true, false, cond, not, ◌&&◌, ◌==◌, List, [], ◌∷◌, ◌++◌, refl, ap, sym, ◌∙◌, map, Option, Some, None, is_none, ℤ, pos, negsuc}
+use Rattle.std.proofs.Common.{◌≡◌, ℕ, Bool, true, false, not, ◌&&◌, List, [], ◌∷◌, ◌++◌, refl, ap, sym, ◌∙◌, map, Option, Some, None, is_none, ℤ, pos, negsuc}
+use Rattle.std.proofs.Math.Bool.{and-true}
 use Rattle.std.specs.List.{list_all}
 use Rattle.std.specs.Map.{lookup}
 use Rattle.std.specs.Option.{option_map_or}
@@ -11,6 +12,7 @@ use Rattle.indexmap.specs.IndexMap.{insert_entry}
 use Rattle.ads_plant.specs.AcceptedTypes.{is_same_number}
 use Rattle.description_rules.specs.Placed.{SignalPlace, names_other, is_right_use}
 use Rattle.description_rules.specs.NextNumber.{is_no_number_of, IsNextNumber, IsNextUse, AreNamed}
+use Rattle.description_rules.proofs.TextLemmas.{absent}
 
 is_same_number-Decides : (x y : ℤ) → (is_same_number x y ≡ true → x ≡ y) × (x ≡ y → is_same_number x y ≡ true)
 is_same_number-Decides (pos m) (pos n) = (λ e. ap pos (eqb-true m n e), λ e. eq-eqb m n cc)
@@ -22,10 +24,6 @@ int_eq-same : (n m : ℤ) → int_eq n m ≡ is_same_number m n
 int_eq-same n m =
     let d = is_same_number-Decides m n in
     same_from_decides (int_eq n m) (is_same_number m n) (Decides-int_eq n m) (λ e. sym (d.0 e), λ e. d.1 (sym e))
-
-absent : (b : Bool) (r : Option ℕ) (v : ℕ) → is_none (cond b (Some v) r) ≡ (not b && is_none r)
-absent true r v = refl
-absent false r v = refl
 
 -- a number that is not found is none of those that are there
 pub is_none-lookup_number : (n : ℤ) (es : List (ℤ × ℕ)) → is_none (lookup (int_eq n) es) ≡ is_no_number_of (map (λ e. e.0) es) n
@@ -50,12 +48,8 @@ next_use u old new n right e next = record {
   answer = next.answer ∙ sym (ap (λ (o : Option ℤ). option_map_or (λ m. u.right && is_no_number_of old m) o true) e);
   noted = λ is m.
       ap (λ numbers. is_no_number_of numbers m) (next.noted is) ∙ list_all-append (λ k. not (is_same_number k m)) old (n ∷ [])
-      ∙ ap (λ b. is_no_number_of old m && b) (and_true (not (is_same_number n m)) ∙ sym (ap (λ (o : Option ℤ). option_map_or (λ k. not (is_same_number k m)) o true) e));
+      ∙ ap (λ b. is_no_number_of old m && b) (and-true (not (is_same_number n m)) ∙ sym (ap (λ (o : Option ℤ). option_map_or (λ k. not (is_same_number k m)) o true) e));
 }
-  where
-    and_true : (b : Bool) → (b && true) ≡ b
-    and_true true = refl
-    and_true false = refl
 
 -- a symbol that names none
 pub no_use : (u : SignalPlace) (old : List ℤ) → u.signal ≡ None → IsNextUse u old old true

@@ -1,9 +1,9 @@
 -- One turn of a loop over the starts of a text.
-use Rattle.std.proofs.Common.{◌≡◌, ℕ, ◌+◌, ◌≤◌, ◌<◌, Bool, true, false, ◌&&◌, not, List, [], ◌∷◌, ◌++◌, length, get_or, take, drop, map, refl, ap, sym, ◌∙◌, arith, ⊎_elim, add-one, append-nil, append_assoc}
+use Rattle.std.proofs.Common.{◌≡◌, ℕ, ◌+◌, ◌≤◌, ◌<◌, Bool, true, false, ◌&&◌, not, List, [], ◌∷◌, ◌++◌, length, get_or, take, drop, map, refl, ap, sym, ◌∙◌, ⊎_elim, add-one, append-nil, append_assoc}
+use Rattle.std.proofs.Math.Bool.{and_assoc, and-true}
 use Rattle.std.proofs.Math.Seq.{take-suc}
 use Rattle.std.proofs.lemmas.List.{drop_all, take_all}
 use Rattle.std.specs.Prelude.{bytes_eq, Result, Ok, Err, OnOk, IfOk}
-use Rattle.std.specs.List.{list_all}
 use Rattle.std.proofs.lemmas.Bool.{cases_Bool}
 use Rattle.std.proofs.lemmas.List.Folds.{list_all-append}
 use Rattle.name_paths.specs.Name.{is_full_stop}
@@ -61,12 +61,8 @@ share_from-old texts text i c none below is old so_far =
     so_far ∙ ap (share_none texts) (starts_from-turn text i c below is) ∙ list_all-append (is_none_of texts) (start_at text i c) (starts_from text (i + 1))
     ∙ ap (λ b. b && share_none texts (starts_from text (i + 1))) old
 
-and_true : (b : Bool) → (b && true) ≡ b
-and_true true = refl
-and_true false = refl
-
 pub share_from-end : (texts : List (List ℕ)) (text : List ℕ) (i : ℕ) (none : Bool) → length text ≤ i → none ≡ share_none texts (starts_from text i) → none ≡ is_none_of texts text
-share_from-end texts text i none end so_far = so_far ∙ ap (share_none texts) (starts_from-end text i end) ∙ and_true (is_none_of texts text)
+share_from-end texts text i none end so_far = so_far ∙ ap (share_none texts) (starts_from-end text i end) ∙ and-true (is_none_of texts text)
 
 -- the starts from the i-th byte on are still to be added
 abbrev pub IsLeft : List (List ℕ) → List (List ℕ) → List ℕ → ℕ → Type 0
@@ -76,17 +72,13 @@ IsLeft old now text i = (other : List ℕ)
 pub left-none : (old : List (List ℕ)) (text : List ℕ) → IsLeft old old text 0
 left-none old text = λ other. ap (λ texts. is_none_of old other && is_none_of texts other) (starts_from-none text)
 
-apart : (a b c : Bool) → (a && (b && c)) ≡ ((a && b) && c)
-apart true b c = refl
-apart false b c = refl
-
 pub left-more : (old now new : List (List ℕ)) (text : List ℕ) (i c : ℕ) → i < length text → c ≡ get_or text i c → IsAdded (start_at text i c) now new → IsLeft old now text i
     → IsLeft old new text (i + 1)
 left-more old now new text i c below is added left = λ other.
     let later = is_none_of (starts_from text (i + 1)) other in
     left other ∙ ap (λ texts. is_none_of now other && is_none_of texts other) (starts_from-turn text i c below is)
     ∙ ap (λ b. is_none_of now other && b) (list_all-append (λ e. not (bytes_eq e other)) (start_at text i c) (starts_from text (i + 1)))
-    ∙ apart (is_none_of now other) (is_none_of (start_at text i c) other) later ∙ ap (λ b. b && later) (sym (added other))
+    ∙ sym (and_assoc (is_none_of now other) (is_none_of (start_at text i c) other) later) ∙ ap (λ b. b && later) (sym (added other))
 
 pub left-end : (old now new : List (List ℕ)) (text : List ℕ) (i : ℕ) → length text ≤ i → IsAdded (text ∷ []) now new → IsLeft old now text i → IsAdded (starts_of text) old new
 left-end old now new text i end added left = λ other.

@@ -1,5 +1,6 @@
 -- Symbols whose bytes are taken.
 use Rattle.std.proofs.Common.{◌≡◌, ℕ, ◌+◌, ◌*◌, ◌^◌, ◌≤◌, ◌<◌, Bool, true, false, not, ◌&&◌, ◌||◌, ◌==◌, nat_le, List, [], ◌∷◌, ◌++◌, map, refl, ap, sym, ◌∙◌, arith, ⊎_elim}
+use Rattle.std.proofs.Math.Bool.{and-true}
 use Rattle.std.specs.List.{list_all}
 use Rattle.std.proofs.lemmas.Bool.{and_parts, cases_lt, cases_order, le-leb, lt-leb, eq-eqb, ne_eqb}
 use Rattle.std.proofs.lemmas.List.Folds.{list_all-append}
@@ -53,11 +54,6 @@ stand-none = record {
   same = λ s small. refl;
 }
 
-and_true : (a b : Bool) → (a && b) ≡ (a && (b && true))
-and_true true true = refl
-and_true true false = refl
-and_true false b = refl
-
 -- one more symbol's bytes are taken
 pub stand-more : (places : List SymbolPlace) (q : SymbolPlace) (old new : List ByteRange) → StandFor places old → q.offset + q.size < 2 ^ 64
     → AreInOrder new → ((p : ByteRange → Bool) → list_all p new ≡ (list_all p old && p (range_of q))) → StandFor (places ++ q ∷ []) new
@@ -67,7 +63,7 @@ stand-more places q old new stand within order taken = record {
       let behind = λ (e : SymbolPlace). are_apart_places e s in
       taken (λ r. are_apart_ranges r (range_of s)) ∙ ap (λ b. b && are_apart_ranges (range_of q) (range_of s)) (stand.same s small)
       ∙ ap (λ b. list_all behind places && b) (apart-ranges q s within small)
-      ∙ and_true (list_all behind places) (behind q) ∙ sym (list_all-append behind places (q ∷ []));
+      ∙ ap (λ b. list_all behind places && b) (sym (and-true (behind q))) ∙ sym (list_all-append behind places (q ∷ []));
 }
 
 and_same : (b x y : Bool) → (b ≡ true → x ≡ y) → (b && x) ≡ (b && y)

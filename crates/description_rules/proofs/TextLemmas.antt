@@ -13,7 +13,7 @@ bytes_eq-comm a b =
     let back = bytes_eq-Decides b a in
     same_from_decides (bytes_eq a b) (bytes_eq b a) (bytes_eq-Decides a b) (λ e. sym (back.0 e), λ e. back.1 (sym e))
 
-absent : (b : Bool) (r : Option ℕ) (v : ℕ) → is_none (cond b (Some v) r) ≡ (not b && is_none r)
+pub absent : (b : Bool) (r : Option ℕ) (v : ℕ) → is_none (cond b (Some v) r) ≡ (not b && is_none r)
 absent true r v = refl
 absent false r v = refl
 

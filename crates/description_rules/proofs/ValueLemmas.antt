@@ -1,5 +1,6 @@
 -- Values of enumerations whose names and numbers are noted.
-use Rattle.std.proofs.Common.{◌≡◌, ℕ, Bool, true, false, not, ◌&&◌, List, [], ◌∷◌, ◌++◌, map, refl, ap, sym, ◌∙◌, ℤ}
+use Rattle.std.proofs.Common.{◌≡◌, ℕ, Bool, not, ◌&&◌, List, [], ◌∷◌, map, refl, ap, sym, ◌∙◌, ℤ}
+use Rattle.std.proofs.Math.Bool.{and_assoc}
 use Rattle.std.specs.List.{list_all}
 use Rattle.std.proofs.lemmas.Bool.{and_parts}
 use Rattle.std.proofs.lemmas.List.Folds.{list_all-map}
@@ -36,10 +37,6 @@ next_value base v names more_names numbers more_numbers alone new right e name n
   numbered = λ is. number.noted is;
 }
 
-apart : (a b c : Bool) → ((a && b) && c) ≡ (a && (b && c))
-apart true b c = refl
-apart false b c = refl
-
 -- a value is right behind those that are noted
 pub is_right_value-noted : (base : Kind) (xs : List WrittenValue) (x : WrittenValue) (names more_names : List (List ℕ)) (numbers more_numbers : List ℤ) (right : Bool)
     → names ≡ map (lower_name value_view value_name) xs → numbers ≡ map value_number xs
@@ -49,7 +46,7 @@ is_right_value-noted base xs x names more_names numbers more_numbers right named
     let alone = is_value_alone base v in
     let other_name = λ (e : rules.WrittenValue). differ e.name v.name in
     let other_number = λ (e : rules.WrittenValue). not (is_same_number e.number v.number) in
-    sym (next.answer ∙ apart alone (is_none_of names (lower v.name)) (is_no_number_of numbers v.number)
+    sym (next.answer ∙ and_assoc alone (is_none_of names (lower v.name)) (is_no_number_of numbers v.number)
     ∙ ap (λ b. alone && (b && is_no_number_of numbers v.number)) (none_of-lower value_view value_name xs x names named)
     ∙ ap (λ b. alone && (list_all other_name (map value_view xs) && b))
     (ap (λ ns. is_no_number_of ns v.number) (numbered ∙ numbers-viewed xs) ∙ list_all-map (λ e. not (is_same_number e v.number)) (λ (e : rules.WrittenValue). e.number) (map value_view xs))

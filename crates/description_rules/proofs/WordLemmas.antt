@@ -1,6 +1,6 @@
 -- The names that no type may have.
-use Rattle.std.proofs.Common.{◌≡◌, ℕ, Bool, true, false, cond, not, ◌&&◌, List, [], ◌∷◌, ◌++◌, map, refl, ap, sym, ◌∙◌, Option, Some, None, is_none}
-use Rattle.std.specs.Prelude.{bytes_eq, codes, find}
+use Rattle.std.proofs.Common.{◌≡◌, ℕ, Bool, true, false, cond, not, ◌&&◌, List, [], ◌∷◌, map, refl, ap, sym, ◌∙◌, Option, Some, is_none}
+use Rattle.std.specs.Prelude.{codes, find}
 use Rattle.std.specs.List.{list_all}
 use Rattle.std.proofs.lemmas.List.Folds.{list_all-append}
 use Rattle.name_paths.specs.Identifier.{lower}

@@ -1,5 +1,5 @@
 -- For private contracts, and cited by no public clause: types with the extents that the code keeps of them.
-use Rattle.std.specs.Prelude.{◌≡◌, ℕ, ◌+◌, ◌^◌, ◌≤◌, ◌<◌, max, Bool, true, ◌&&◌, nat_le, List, map}
+use Rattle.std.specs.Prelude.{◌≡◌, ◌+◌, ◌^◌, ◌≤◌, ◌<◌, max, Bool, true, ◌&&◌, nat_le, List, map}
 use Rattle.std.specs.List.{list_all}
 use Rattle.ads_plant.specs.Listed.{NamedType}
 use Rattle.ads_plant.specs.Trees.{trees_of, MemberTrees}

@@ -1,5 +1,5 @@
 -- For private contracts, and cited by no public clause: names by the texts with which they start.
-use Rattle.std.specs.Prelude.{◌≡◌, ℕ, List, [], ◌∷◌, map, take, Bool, true, not, ◌&&◌, bytes_eq, if◌then◌else◌}
+use Rattle.std.specs.Prelude.{◌≡◌, ℕ, List, [], ◌∷◌, map, take, Bool, not, ◌&&◌, bytes_eq, if◌then◌else◌}
 use Rattle.std.specs.List.{list_all}
 use Rattle.name_paths.specs.Identifier.{lower}
 use Rattle.name_paths.specs.Name.{is_full_stop}

@@ -1,5 +1,5 @@
 -- For private contracts, and cited by no public clause: a text is looked at behind those that came before.
-use Rattle.std.specs.Prelude.{◌≡◌, ℕ, List, [], ◌∷◌, ◌++◌, Bool, true, false, not, ◌&&◌, bytes_eq}
+use Rattle.std.specs.Prelude.{◌≡◌, ℕ, List, [], ◌∷◌, ◌++◌, Bool, true, not, ◌&&◌, bytes_eq}
 use Rattle.std.specs.List.{list_all}
 
 -- what holds of the answer, whether the text is right by itself and new: where it is right, it has been noted

@@ -1,5 +1,5 @@
 -- For private contracts, and cited by no public clause: where symbols stand, and which signals they name.
-use Rattle.std.specs.Prelude.{◌≡◌, ℕ, ◌+◌, List, [], ◌∷◌, map, Bool, not, ◌&&◌, ◌||◌, nat_le, is_some, true, Option, ℤ}
+use Rattle.std.specs.Prelude.{ℕ, ◌+◌, List, Bool, not, ◌&&◌, ◌||◌, nat_le, is_some, true, Option, ℤ}
 use Rattle.std.specs.List.{list_all}
 use Rattle.ads_plant.specs.Description as plant
 use Rattle.ads_plant.specs.Listed.{NamedType}
@@ -11,7 +11,7 @@ use Rattle.std.specs.Option.{option_map_or}
 use Rattle.ads_plant.specs.Accepted.{may_have_signal}
 use Rattle.ads_plant.specs.AcceptedTypes.{is_same_number}
 use Rattle.ads_rules.specs.SymbolRules.{fits_area, is_signal}
-use Rattle.ads_rules.specs.Described.{area_of, symbol_described, shape_described, sizes_described}
+use Rattle.ads_rules.specs.Described.{area_of, symbol_described, shape_described}
 use Rattle.type_layout.specs.Descriptions as layout
 use Rattle.description_rules.specs.declared.symbol_places.Placed.{Placed}
 use Rattle.description_rules.specs.declared.symbol_signals.SignalUse.{SignalUse}

@@ -1,5 +1,5 @@
 -- For private contracts, and cited by no public clause: the bytes of symbols among those that are taken.
-use Rattle.std.specs.Prelude.{◌≡◌, ℕ, ◌+◌, ◌*◌, ◌^◌, ◌<◌, List, Bool, true, ◌&&◌}
+use Rattle.std.specs.Prelude.{◌≡◌, ◌+◌, ◌*◌, ◌^◌, ◌<◌, List, Bool, true, ◌&&◌}
 use Rattle.std.specs.List.{list_all}
 use Rattle.ads_plant.specs.Listed.{NamedType}
 use Rattle.ads_plant.specs.Description.{Sizes}

@@ -10,25 +10,27 @@ ghost use Rattle.ads_rules.specs.Described.{shape_described};
 ghost use Rattle.type_layout.specs.Shapes.{elem_of};
 ghost use Rattle.type_layout.specs.NamedTypes.{types_of};
 ghost use Rattle.description_rules.specs.Extents.{extent_view, extent_of};
-ghost use Rattle.description_rules.specs.Known.{AreKnown, IsFair, IsFairArray};
+ghost use Rattle.description_rules.specs.KnownTypes.{IsKnown};
+ghost use Rattle.description_rules.specs.Known.{IsFair, IsFairArray};
 
 use crate::dimensions::{MAX_ELEMENTS, element_count};
 use crate::extents::{Extent, kind_size};
 use crate::shapes::elem_named;
+use name_index::NameIndex;
 use type_layout::{Elem, Kind, Types, read_type_text};
 
-/// Types, and how each of them lies in memory.
-#[derive(Debug, Drop)]
+/// Types, how each of them lies in memory, and where each stands by its name.
+#[derive(Drop)]
 pub struct KnownTypes {
     pub types: Types,
     pub extents: Vec<Extent>,
+    pub names: NameIndex,
 }
 
 /// How the type that a text names lies in memory.
 #[tactic(auto, unfolding(ads_rules::specs::Shapes::shape_of_text, ads_plant::specs::Sizes::type_size, ads_plant::specs::Sizes::type_align, ads_plant::specs::Sizes::type_depth))]
 pub fn text_extent(known: &KnownTypes, text: &[u8]) -> Extent
-    requires known { AreKnown (types_of known.now.types) known.now.extents.items }
-    requires few { length known.now.types ≤ 1000 }
+    requires known { IsKnown known.now }
     requires small { is_small_shape (shape_described (types_of known.now.types) text.now) ≡ true }
     ensures extent { extent_view result
         ≡ extent_of (tree_of (types_of known.now.types) (shape_described (types_of known.now.types) text.now)) }
@@ -37,7 +39,7 @@ pub fn text_extent(known: &KnownTypes, text: &[u8]) -> Extent
     let Some(t) = read_type_text(text) else {
         return elem_extent(known, Elem::Plain(Kind::Bool));
     };
-    let Some(elem) = elem_named(known.types.as_slice(), t.elem) else {
+    let Some(elem) = elem_named(known, t.elem) else {
         return elem_extent(known, Elem::Plain(Kind::Bool));
     };
     let e = elem_extent(known, elem);
@@ -55,15 +57,14 @@ pub fn text_extent(known: &KnownTypes, text: &[u8]) -> Extent
 /// The number of bytes of the type that a text names.
 #[tactic(auto, unfolding(ads_rules::specs::Shapes::shape_of_text, ads_plant::specs::Sizes::type_size))]
 pub fn text_size(known: &KnownTypes, text: &[u8]) -> u128
-    requires known { AreKnown (types_of known.now.types) known.now.extents.items }
-    requires few { length known.now.types ≤ 1000 }
+    requires known { IsKnown known.now }
     ensures size { result ≡ type_size (tree_of (types_of known.now.types) (shape_described (types_of known.now.types) text.now)) }
     ensures bound { result ≤ 2 ^ 120 }
 {
     let Some(t) = read_type_text(text) else {
         return elem_extent(known, Elem::Plain(Kind::Bool)).size;
     };
-    let Some(elem) = elem_named(known.types.as_slice(), t.elem) else {
+    let Some(elem) = elem_named(known, t.elem) else {
         return elem_extent(known, Elem::Plain(Kind::Bool)).size;
     };
     let size = elem_extent(known, elem).size;
@@ -85,14 +86,13 @@ fn large_product(elements: u128, size: u128) -> u128
 /// Whether a text names a type of at most 1,048,576 elements and bytes.
 #[tactic(auto, unfolding(ads_rules::specs::Shapes::shape_of_text))]
 pub fn is_small_type(known: &KnownTypes, text: &[u8]) -> bool
-    requires known { AreKnown (types_of known.now.types) known.now.extents.items }
-    requires few { length known.now.types ≤ 1000 }
+    requires known { IsKnown known.now }
     ensures { result ≡ option_map_or (is_small (types_of known.now.types)) (shape_of_text (types_of known.now.types) text.now) false }
 {
     let Some(t) = read_type_text(text) else {
         return false;
     };
-    if elem_named(known.types.as_slice(), t.elem).is_none() {
+    if elem_named(known, t.elem).is_none() {
         return false;
     }
     element_count(&t) <= MAX_ELEMENTS && text_size(known, text) <= 1_048_576
@@ -109,7 +109,7 @@ fn product(elements: u128, size: u128) -> u128
 
 #[tactic(auto, unfolding(ads_plant::specs::Sizes::type_size, ads_plant::specs::Sizes::type_align, ads_plant::specs::Sizes::type_depth))]
 fn elem_extent(known: &KnownTypes, elem: Elem) -> Extent
-    requires { AreKnown (types_of known.now.types) known.now.extents.items }
+    requires { IsKnown known.now }
     ensures extent { extent_view result ≡ extent_of (elem_tree (trees_of (types_of known.now.types)) (elem_of elem)) }
     ensures fair { IsFair result }
 {
@@ -133,7 +133,7 @@ fn elem_extent(known: &KnownTypes, elem: Elem) -> Extent
 }
 
 fn extent_at(known: &KnownTypes, place: usize) -> Extent
-    requires { AreKnown (types_of known.now.types) known.now.extents.items }
+    requires { IsKnown known.now }
     ensures extent { extent_view result ≡ extent_of (tree_at (trees_of (types_of known.now.types)) place) }
     ensures fair { IsFair result }
 {

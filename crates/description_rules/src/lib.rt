@@ -7,7 +7,6 @@ mod dimensions;
 mod enum_values;
 mod extents;
 mod known_types;
-mod lower;
 mod member_rules;
 mod names;
 mod nets;

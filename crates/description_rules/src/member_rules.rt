@@ -8,11 +8,11 @@ ghost use Rattle.description_rules.specs.Next.{IsNext};
 ghost use Rattle.description_rules.specs.NextMember.{is_type_in, names_only_in, is_right_named, is_member_alone, wrong_member_in};
 ghost use Rattle.description_table.specs.Views.{type_view, member_view};
 
-use crate::lower::lower_of;
 use crate::names::{is_comment, is_short_identifier};
 use crate::seen::{SeenTexts, note_lower};
 use ads_base::NoMemory;
 use description_table::{WrittenMember, WrittenType};
+use name_index::lower_copy;
 use std::alloc::Global;
 use type_layout::{ElemText, read_type_text};
 
@@ -91,7 +91,7 @@ fn names_only_in(alloc: Global, names: &SeenTexts, elem: ElemText<'_>) -> Result
         ElemText::Plain(_) => Ok(true),
         ElemText::Text(_) => Ok(true),
         ElemText::Named(name) => {
-            let name = lower_of(alloc, name)?;
+            let name = lower_copy(alloc, name)?;
             Ok(!names.is_new(name.as_slice()))
         }
     }

@@ -5,9 +5,9 @@ ghost use Rattle.name_paths.specs.Identifier.{lower};
 ghost use Rattle.description_rules.specs.Next.{IsNext};
 ghost use Rattle.description_rules.specs.NameStarts.{IsAdded};
 
-use crate::lower::lower_of;
 use ads_base::NoMemory;
 use indexmap::IndexMap;
+use name_index::lower_copy;
 use std::alloc::Global;
 use std::marker::Model;
 
@@ -75,6 +75,6 @@ pub fn note_lower(
     if !allowed {
         return Ok(false);
     }
-    let copy = lower_of(alloc, text)?;
+    let copy = lower_copy(alloc, text)?;
     texts.add(copy)
 }

@@ -5,27 +5,29 @@ ghost use Rattle.ads_rules.specs.Described.{shape_described};
 ghost use Rattle.type_layout.specs.Shapes.{shape_of};
 ghost use Rattle.type_layout.specs.NamedTypes.{types_of};
 ghost use Rattle.description_rules.specs.Built.{IsShapeOrLarge};
+ghost use Rattle.description_rules.specs.KnownTypes.{IsKnown};
 
 use crate::dimensions::{MAX_ELEMENTS, build_shape, element_count};
+use crate::known_types::KnownTypes;
 use crate::shapes::elem_named;
 use ads_base::NoMemory;
 use std::alloc::Global;
-use type_layout::{Elem, Kind, NamedType, Shape, read_type_text};
+use type_layout::{Elem, Kind, Shape, read_type_text};
 
-/// The type that a text names among these; None where it is an array of too many elements.
+/// The type that a text names among those that are known; None where it is an array of too many elements.
 #[tactic(auto, unfolding(ads_rules::specs::Shapes::shape_of_text))]
 pub fn small_shape(
     alloc: Global,
-    types: &[NamedType],
+    known: &KnownTypes,
     text: &[u8],
 ) -> Result<Option<Shape>, NoMemory>
-    requires { length types.now ≤ 1000 }
-    ensures { IfOk result (IsShapeOrLarge (shape_described (types_of types.now) text.now)) }
+    requires { IsKnown known.now }
+    ensures { IfOk result (IsShapeOrLarge (shape_described (types_of known.now.types) text.now)) }
 {
     let Some(t) = read_type_text(text) else {
         return Ok(Some(Shape::One(Elem::Plain(Kind::Bool))));
     };
-    let Some(elem) = elem_named(types, t.elem) else {
+    let Some(elem) = elem_named(known, t.elem) else {
         return Ok(Some(Shape::One(Elem::Plain(Kind::Bool))));
     };
     if element_count(&t) <= MAX_ELEMENTS {

@@ -6,38 +6,38 @@ ghost use Rattle.ads_rules.specs.Shapes.{place_named, elem_at, elem_named};
 ghost use Rattle.type_layout.specs.Shapes.{elem_of};
 ghost use Rattle.type_layout.specs.ReadTexts.{elem_text_of};
 ghost use Rattle.type_layout.specs.NamedTypes.{types_of, named_type_of};
+ghost use Rattle.description_rules.specs.KnownTypes.{IsKnown};
 ghost use Rattle.description_rules.specs.Within.{IsWithin};
 
-use crate::names::is_same_word;
+use crate::known_types::KnownTypes;
 use type_layout::{Elem, ElemText, NamedType};
 
-/// The element that a text names among these types.
-pub fn elem_named(types: &[NamedType], elem: ElemText<'_>) -> Option<Elem>
-    requires { length types.now ≤ 1000 }
-    ensures value { option_map elem_of result ≡ elem_named (types_of types.now) (elem_text_of elem.entry) }
-    ensures within { IfSome result (IsWithin (length types.now)) }
+/// The element that a text names among the types that are known.
+pub fn elem_named(known: &KnownTypes, elem: ElemText<'_>) -> Option<Elem>
+    requires { IsKnown known.now }
+    ensures value { option_map elem_of result ≡ elem_named (types_of known.now.types) (elem_text_of elem.entry) }
+    ensures within { IfSome result (IsWithin (length known.now.types)) }
 {
     match elem {
         ElemText::Plain(kind) => Some(Elem::Plain(kind)),
         ElemText::Text(n) => Some(Elem::Text(n)),
         ElemText::Named(name) => {
-            let place = place_named(types, name)?;
-            Some(elem_at(types, place))
+            let place = place_named(known, name)?;
+            Some(elem_at(known.types.as_slice(), place))
         }
     }
 }
 
 // The place of the first type with this name, ASCII case aside.
-fn place_named(types: &[NamedType], name: &[u8]) -> Option<usize>
-    ensures place { result ≡ place_named (types_of types.now) name.now }
-    ensures within { IfSome result (λ i. i < length types.now) }
+fn place_named(known: &KnownTypes, name: &[u8]) -> Option<usize>
+    requires { IsKnown known.now }
+    ensures place { result ≡ place_named (types_of known.now.types) name.now }
+    ensures within { IfSome result (λ i. i < length known.now.types) }
 {
-    for (i, t) in types.iter().enumerate() {
-        if is_same_word(name_of(t), name) {
-            return Some(i);
-        }
+    match known.names.find(name) {
+        Some(place) => Some(place as usize),
+        None => None,
     }
-    None
 }
 
 /// The name of a type.

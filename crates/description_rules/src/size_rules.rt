@@ -7,17 +7,18 @@ ghost use Rattle.ads_rules.specs.SizeRules.{members_of};
 ghost use Rattle.type_layout.specs.NamedTypes.{types_of};
 ghost use Rattle.description_rules.specs.Built.{are_small_members};
 ghost use Rattle.description_rules.specs.Extents.{extent_view, extent_of};
-ghost use Rattle.description_rules.specs.Known.{AreKnown};
-ghost use Rattle.description_rules.specs.KnownTypes.{IsKnownOrWrong, AddsType};
+ghost use Rattle.description_rules.specs.KnownTypes.{IsKnown, IsKnownOrWrong, AddsType};
 ghost use Rattle.description_table.specs.Views.{type_view, value_view};
 
 use crate::extents::{Extent, kind_size};
 use crate::known_types::KnownTypes;
+use crate::shapes::name_of;
 use crate::structure::struct_extent;
 use crate::type_building::build_type;
 use crate::words::read_base;
 use ads_base::{ListOf, NoMemory};
 use description_table::{WrittenEnumeration, WrittenType};
+use name_index::NameIndex;
 use std::alloc::Global;
 use type_layout::Kind;
 
@@ -33,6 +34,7 @@ pub fn read_types(
     let mut known = KnownTypes {
         types: ListOf::new(alloc),
         extents: Vec::new(alloc),
+        names: NameIndex::new(alloc),
     };
     for (i, kind) in types.iter().enumerate() {
         if !add_type(alloc, &mut known, kind)? {
@@ -43,17 +45,19 @@ pub fn read_types(
 }
 
 fn add_type(alloc: Global, known: &mut KnownTypes, kind: &WrittenType<'_>) -> Result<bool, NoMemory>
-    requires known { AreKnown (types_of known.old.types) known.old.extents.items }
-    requires few { length known.old.types ≤ 1000 }
+    requires known { IsKnown known.old }
+    requires few { length known.old.types < 1000 }
     ensures { IfOk result (AddsType (type_described (types_of known.old.types) (type_view kind.now)) known.old known.new) }
 {
-    let Some(named) = build_type(alloc, known.types.as_slice(), kind)? else {
+    let Some(named) = build_type(alloc, known, kind)? else {
         return Ok(false);
     };
     let extent = type_extent(known, kind);
     if extent.size > 1_048_576 || extent.depth > 16 {
         return Ok(false);
     }
+    let number = known.types.len() as u32;
+    known.names.add(alloc, name_of(&named), number)?;
     known.types.push(alloc, named)?;
     known.extents.push(extent)?;
     Ok(true)
@@ -62,8 +66,7 @@ fn add_type(alloc: Global, known: &mut KnownTypes, kind: &WrittenType<'_>) -> Re
 // How the type that a document writes lies in memory.
 #[tactic(auto, unfolding(ads_plant::specs::Sizes::type_size, ads_plant::specs::Sizes::type_align, ads_plant::specs::Sizes::type_depth))]
 fn type_extent(known: &KnownTypes, kind: &WrittenType<'_>) -> Extent
-    requires known { AreKnown (types_of known.now.types) known.now.extents.items }
-    requires few { length known.now.types ≤ 1000 }
+    requires known { IsKnown known.now }
     requires small { are_small_members (members_of (type_described (types_of known.now.types) (type_view kind.now))) ≡ true }
     ensures extent { extent_view result
         ≡ extent_of (named_tree (trees_of (types_of known.now.types)) (type_described (types_of known.now.types) (type_view kind.now))) }

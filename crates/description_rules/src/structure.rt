@@ -5,7 +5,8 @@ ghost use Rattle.ads_plant.specs.Sizes.{aligned};
 ghost use Rattle.ads_rules.specs.Described.{member_described};
 ghost use Rattle.type_layout.specs.NamedTypes.{types_of};
 ghost use Rattle.description_rules.specs.Built.{are_small_members};
-ghost use Rattle.description_rules.specs.Known.{AreKnown, IsFairArray, IsSoFar, IsStructExtent};
+ghost use Rattle.description_rules.specs.KnownTypes.{IsKnown};
+ghost use Rattle.description_rules.specs.Known.{IsFairArray, IsSoFar, IsStructExtent};
 ghost use Rattle.description_table.specs.Views.{member_view};
 
 use crate::extents::{Extent, aligned};
@@ -14,8 +15,7 @@ use description_table::WrittenMember;
 
 /// How the structure with these members lies in memory.
 pub fn struct_extent(known: &KnownTypes, members: &[WrittenMember<'_>]) -> Extent
-    requires known { AreKnown (types_of known.now.types) known.now.extents.items }
-    requires few { length known.now.types ≤ 1000 }
+    requires known { IsKnown known.now }
     requires small { are_small_members (map (member_described (types_of known.now.types)) (map member_view members.now)) ≡ true }
     ensures extent { IsStructExtent (member_trees (trees_of (types_of known.now.types))
         (map (member_described (types_of known.now.types)) (map member_view members.now))) result }

@@ -10,7 +10,7 @@ ghost use Rattle.ads_rules.specs.SymbolRules.{wrong_content, is_right_content, i
 ghost use Rattle.ads_rules.specs.Described.{shape_described, bytes_of_hex};
 ghost use Rattle.type_layout.specs.Shapes.{elem_of};
 ghost use Rattle.type_layout.specs.NamedTypes.{types_of};
-ghost use Rattle.description_rules.specs.Known.{AreKnown};
+ghost use Rattle.description_rules.specs.KnownTypes.{IsKnown};
 ghost use Rattle.description_table.specs.Views.{port_view, symbol_view, text_view};
 
 use crate::enum_values::is_value_at;
@@ -31,8 +31,7 @@ pub fn wrong_content(
     known: &KnownTypes,
     ports: &[WrittenPort<'_>],
 ) -> Result<Option<u128>, NoMemory>
-    requires known { AreKnown (types_of known.now.types) known.now.extents.items }
-    requires few { length known.now.types ≤ 1000 }
+    requires known { IsKnown known.now }
     ensures { IfOk result (λ place. place ≡ wrong_content (types_of known.now.types) (map port_view ports.now)) }
 {
     let mut count: u128 = 0;
@@ -50,8 +49,7 @@ fn wrong_content_in(
     known: &KnownTypes,
     symbols: &[WrittenSymbol<'_>],
 ) -> Result<Option<usize>, NoMemory>
-    requires known { AreKnown (types_of known.now.types) known.now.extents.items }
-    requires few { length known.now.types ≤ 1000 }
+    requires known { IsKnown known.now }
     ensures { IfOk result (λ place. place ≡ first_wrong (λ before (s : rules.WrittenSymbol). is_right_content (types_of known.now.types) s) []
         (map symbol_view symbols.now)) }
 {
@@ -68,8 +66,7 @@ fn is_right_content(
     known: &KnownTypes,
     symbol: &WrittenSymbol<'_>,
 ) -> Result<bool, NoMemory>
-    requires known { AreKnown (types_of known.now.types) known.now.extents.items }
-    requires few { length known.now.types ≤ 1000 }
+    requires known { IsKnown known.now }
     ensures { IfOk result (λ right. right ≡ is_right_content (types_of known.now.types) (symbol_view symbol.now)) }
 {
     let right = is_right_initial(alloc, known, symbol)?;
@@ -81,8 +78,7 @@ fn is_right_initial(
     known: &KnownTypes,
     symbol: &WrittenSymbol<'_>,
 ) -> Result<bool, NoMemory>
-    requires known { AreKnown (types_of known.now.types) known.now.extents.items }
-    requires few { length known.now.types ≤ 1000 }
+    requires known { IsKnown known.now }
     ensures { IfOk result (λ right. right ≡ is_right_initial (types_of known.now.types)
         (shape_described (types_of known.now.types) symbol.now.kind.now) (option_map text_view symbol.now.initial)) }
 {
@@ -96,8 +92,7 @@ fn is_right_initial(
 }
 
 fn are_right_bytes(known: &KnownTypes, text: &[u8], bytes: &[u8]) -> bool
-    requires known { AreKnown (types_of known.now.types) known.now.extents.items }
-    requires few { length known.now.types ≤ 1000 }
+    requires known { IsKnown known.now }
     ensures { result ≡ are_right_bytes (types_of known.now.types) (shape_described (types_of known.now.types) text.now) bytes.now }
 {
     bytes.len() as u128 == text_size(known, text) && begins_with_value(known, text, bytes)
@@ -106,13 +101,13 @@ fn are_right_bytes(known: &KnownTypes, text: &[u8], bytes: &[u8]) -> bool
 // Whether bytes are those of a value, where the type that a text names is an enumeration.
 #[tactic(auto, unfolding(ads_rules::specs::Shapes::shape_of_text))]
 fn begins_with_value(known: &KnownTypes, text: &[u8], bytes: &[u8]) -> bool
-    requires few { length known.now.types ≤ 1000 }
+    requires { IsKnown known.now }
     ensures { result ≡ begins_with_value (types_of known.now.types) (shape_described (types_of known.now.types) text.now) bytes.now }
 {
     let Some(t) = read_type_text(text) else {
         return true;
     };
-    let Some(elem) = elem_named(known.types.as_slice(), t.elem) else {
+    let Some(elem) = elem_named(known, t.elem) else {
         return true;
     };
     if t.count == 0 {

@@ -6,10 +6,10 @@ ghost use Rattle.description_rules.specs.NameStarts.{starts_of, start_at, is_non
 ghost use Rattle.description_rules.specs.NextName.{IsNextName, NotesText};
 ghost use Rattle.description_table.specs.Views.{port_view, symbol_view};
 
-use crate::lower::lower_of;
 use crate::seen::{SeenTexts, note};
 use ads_base::NoMemory;
 use description_table::{WrittenPort, WrittenSymbol};
+use name_index::lower_copy;
 use name_paths::is_symbol_name;
 use std::alloc::Global;
 
@@ -53,7 +53,7 @@ fn is_right_name(
     if !is_symbol_name(name) {
         return Ok(false);
     }
-    let text = lower_of(alloc, name)?;
+    let text = lower_copy(alloc, name)?;
     note_text(alloc, whole, starts, text.as_slice())
 }
 

@@ -7,7 +7,7 @@ ghost use Rattle.ads_rules.specs.SymbolRules.{wrong_place, is_right_place};
 ghost use Rattle.ads_rules.specs.Described.{sizes_described};
 ghost use Rattle.type_layout.specs.Descriptions.{area_of};
 ghost use Rattle.type_layout.specs.NamedTypes.{types_of};
-ghost use Rattle.description_rules.specs.Known.{AreKnown};
+ghost use Rattle.description_rules.specs.KnownTypes.{IsKnown};
 ghost use Rattle.description_rules.specs.Placed.{place_view, place_of, is_right_behind};
 ghost use Rattle.description_rules.specs.Taken.{AreInOrder};
 ghost use Rattle.description_rules.specs.TakenPlaces.{TakesPlace, range_of, symbol_place};
@@ -38,8 +38,7 @@ pub fn wrong_place(
     known: &KnownTypes,
     ports: &[WrittenPort<'_>],
 ) -> Result<Option<u128>, NoMemory>
-    requires known { AreKnown (types_of known.now.types) known.now.extents.items }
-    requires few { length known.now.types ≤ 1000 }
+    requires known { IsKnown known.now }
     ensures { IfOk result (λ place. place ≡ wrong_place (types_of known.now.types) (map port_view ports.now)) }
 {
     let mut count: u128 = 0;
@@ -57,8 +56,7 @@ fn wrong_place_in(
     known: &KnownTypes,
     port: &WrittenPort<'_>,
 ) -> Result<Option<usize>, NoMemory>
-    requires known { AreKnown (types_of known.now.types) known.now.extents.items }
-    requires few { length known.now.types ≤ 1000 }
+    requires known { IsKnown known.now }
     ensures { IfOk result (λ place. place ≡ first_wrong (is_right_place (types_of known.now.types) (port_view port.now)) []
         (map symbol_view port.now.symbols.items)) }
 {
@@ -71,8 +69,7 @@ fn first_wrong_place(
     port: &WrittenPort<'_>,
     symbols: &[WrittenSymbol<'_>],
 ) -> Result<Option<usize>, NoMemory>
-    requires known { AreKnown (types_of known.now.types) known.now.extents.items }
-    requires few { length known.now.types ≤ 1000 }
+    requires known { IsKnown known.now }
     ensures { IfOk result (λ place. place ≡ first_wrong is_right_behind []
         (map (symbol_place (types_of known.now.types) (sizes_described (port_view port.now))) symbols.now)) }
 {
@@ -111,8 +108,7 @@ fn range_of(place: Placed) -> ByteRange
 }
 
 fn place_of(known: &KnownTypes, port: &WrittenPort<'_>, symbol: &WrittenSymbol<'_>) -> Placed
-    requires known { AreKnown (types_of known.now.types) known.now.extents.items }
-    requires few { length known.now.types ≤ 1000 }
+    requires known { IsKnown known.now }
     ensures place { place_view result ≡ place_of (types_of known.now.types) (sizes_described (port_view port.now)) (symbol_view symbol.now) }
     ensures within { result.right ≡ true → result.offset + result.size < 2 ^ 64 }
 {

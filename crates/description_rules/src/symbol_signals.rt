@@ -8,6 +8,7 @@ ghost use Rattle.ads_rules.specs.Described.{shape_described};
 ghost use Rattle.ads_plant.specs.Listed as listed;
 ghost use Rattle.type_layout.specs.Shapes.{elem_of};
 ghost use Rattle.type_layout.specs.NamedTypes.{types_of};
+ghost use Rattle.description_rules.specs.KnownTypes.{IsKnown};
 ghost use Rattle.description_rules.specs.Placed.{use_view, use_of, is_right_use};
 ghost use Rattle.description_rules.specs.NextNumber.{IsNextUse};
 ghost use Rattle.description_table.specs.Views.{port_view, symbol_view};
@@ -35,7 +36,7 @@ pub fn wrong_signal(
     signals: u32,
     ports: &[WrittenPort<'_>],
 ) -> Result<Option<usize>, NoMemory>
-    requires few { length known.now.types ≤ 1000 }
+    requires { IsKnown known.now }
     ensures { IfOk result (λ place. place ≡ wrong_signal (types_of known.now.types) signals (map port_view ports.now)) }
 {
     let uses = uses_of(alloc, known, signals, ports)?;
@@ -48,7 +49,7 @@ fn uses_of(
     signals: u32,
     ports: &[WrittenPort<'_>],
 ) -> Result<Vec<SignalUse>, NoMemory>
-    requires few { length known.now.types ≤ 1000 }
+    requires { IsKnown known.now }
     ensures { IfOk result (λ uses. map use_view uses.items
         ≡ map (use_of (types_of known.now.types) signals) (flat_map (λ (p : rules.WrittenPort). p.symbols) (map port_view ports.now))) }
 {
@@ -65,7 +66,7 @@ fn add_uses(
     signals: u32,
     symbols: &[WrittenSymbol<'_>],
 ) -> Result<(), NoMemory>
-    requires few { length known.now.types ≤ 1000 }
+    requires { IsKnown known.now }
     ensures { OnOk result (map use_view uses.new.items
         ≡ map use_view uses.old.items ++ map (use_of (types_of known.now.types) signals) (map symbol_view symbols.now)) }
 {
@@ -77,7 +78,7 @@ fn add_uses(
 }
 
 fn use_of(known: &KnownTypes, signals: u32, symbol: &WrittenSymbol<'_>) -> SignalUse
-    requires few { length known.now.types ≤ 1000 }
+    requires { IsKnown known.now }
     ensures { use_view result ≡ use_of (types_of known.now.types) signals (symbol_view symbol.now) }
 {
     match symbol.signal {
@@ -94,13 +95,13 @@ fn use_of(known: &KnownTypes, signals: u32, symbol: &WrittenSymbol<'_>) -> Signa
 
 #[tactic(auto, unfolding(ads_rules::specs::Shapes::shape_of_text))]
 fn may_have_signal(known: &KnownTypes, text: &[u8]) -> bool
-    requires few { length known.now.types ≤ 1000 }
+    requires { IsKnown known.now }
     ensures { result ≡ may_have_signal (shape_described (types_of known.now.types) text.now) }
 {
     let Some(t) = read_type_text(text) else {
         return true;
     };
-    let Some(elem) = elem_named(known.types.as_slice(), t.elem) else {
+    let Some(elem) = elem_named(known, t.elem) else {
         return true;
     };
     if t.count == 0 { is_plain(elem) } else { false }

@@ -6,7 +6,7 @@ ghost use Rattle.ads_rules.specs.Places.{first_wrong};
 ghost use Rattle.ads_rules.specs.Shapes.{shape_of_text};
 ghost use Rattle.ads_rules.specs.SymbolRules.{wrong_type, is_small};
 ghost use Rattle.type_layout.specs.NamedTypes.{types_of};
-ghost use Rattle.description_rules.specs.Known.{AreKnown};
+ghost use Rattle.description_rules.specs.KnownTypes.{IsKnown};
 ghost use Rattle.description_table.specs.Views.{port_view, symbol_view};
 
 use crate::known_types::{KnownTypes, is_small_type};
@@ -15,8 +15,7 @@ use description_table::{WrittenPort, WrittenSymbol};
 /// Rule 11: types of symbols.
 #[tactic(auto, unfolding(ads_rules::specs::SymbolRules::wrong_type))]
 pub fn wrong_type(known: &KnownTypes, ports: &[WrittenPort<'_>]) -> Option<u128>
-    requires known { AreKnown (types_of known.now.types) known.now.extents.items }
-    requires few { length known.now.types ≤ 1000 }
+    requires known { IsKnown known.now }
     ensures { result ≡ wrong_type (types_of known.now.types) (map port_view ports.now) }
 {
     let mut count: u128 = 0;
@@ -30,8 +29,7 @@ pub fn wrong_type(known: &KnownTypes, ports: &[WrittenPort<'_>]) -> Option<u128>
 }
 
 fn wrong_type_in(known: &KnownTypes, symbols: &[WrittenSymbol<'_>]) -> Option<usize>
-    requires known { AreKnown (types_of known.now.types) known.now.extents.items }
-    requires few { length known.now.types ≤ 1000 }
+    requires known { IsKnown known.now }
     ensures { result ≡ first_wrong (λ before (s : rules.WrittenSymbol). option_map_or (is_small (types_of known.now.types))
         (shape_of_text (types_of known.now.types) s.type) false) [] (map symbol_view symbols.now) }
 {

@@ -85,7 +85,7 @@ fn a_document_keeps_all_rules(rt: HostRuntime) -> Result<(), Fail> {
         assert_eq!(rt; fault_in_ports(alloc, &known, 0, &d)?, None);
         assert_eq!(rt; fault_in_uploads(&known, &d), None);
         assert_eq!(rt; text_size(&known, b"Axis"), 4);
-        assert!(rt; small_shape(alloc, known.types.as_slice(), b"ARRAY [0..1] OF Axis")?.is_some());
+        assert!(rt; small_shape(alloc, &known, b"ARRAY [0..1] OF Axis")?.is_some());
     }
     Ok(())
 }

@@ -3,9 +3,11 @@ ghost use Rattle.std.specs.Prelude.{◌≡◌, ◌≤◌, length, map, IfOk};
 ghost use Rattle.ads_rules.specs.Described.{member_described, type_described};
 ghost use Rattle.type_layout.specs.NamedTypes.{types_of};
 ghost use Rattle.description_rules.specs.Built.{IsMemberOrLarge, AreMembersOrLarge, IsTypeOrLarge};
+ghost use Rattle.description_rules.specs.KnownTypes.{IsKnown};
 ghost use Rattle.description_table.specs.Views.{member_view, structure_view, type_view};
 
 use crate::building::enumeration_of;
+use crate::known_types::KnownTypes;
 use crate::shape_building::small_shape;
 use ads_base::{ListOf, NoMemory, Octets};
 use description_table::{WrittenMember, WrittenStructure, WrittenType};
@@ -15,27 +17,27 @@ use type_layout::{Member, Members, NamedType, StructType};
 /// The type that a document writes behind these; None where an array in it has too many elements.
 pub fn build_type(
     alloc: Global,
-    types: &[NamedType],
+    known: &KnownTypes,
     kind: &WrittenType<'_>,
 ) -> Result<Option<NamedType>, NoMemory>
-    requires { length types.now ≤ 1000 }
-    ensures { IfOk result (IsTypeOrLarge (type_described (types_of types.now) (type_view kind.now))) }
+    requires { IsKnown known.now }
+    ensures { IfOk result (IsTypeOrLarge (type_described (types_of known.now.types) (type_view kind.now))) }
 {
     match kind {
-        WrittenType::Structure(s) => build_structure(alloc, types, s),
+        WrittenType::Structure(s) => build_structure(alloc, known, s),
         WrittenType::Enumeration(e) => Ok(Some(NamedType::Enum(enumeration_of(alloc, e)?))),
     }
 }
 
 fn build_structure(
     alloc: Global,
-    types: &[NamedType],
+    known: &KnownTypes,
     s: &WrittenStructure<'_>,
 ) -> Result<Option<NamedType>, NoMemory>
-    requires { length types.now ≤ 1000 }
-    ensures { IfOk result (IsTypeOrLarge (type_described (types_of types.now) (structure_view s.now))) }
+    requires { IsKnown known.now }
+    ensures { IfOk result (IsTypeOrLarge (type_described (types_of known.now.types) (structure_view s.now))) }
 {
-    let Some(members) = build_members(alloc, types, s.members.as_slice())? else {
+    let Some(members) = build_members(alloc, known, s.members.as_slice())? else {
         return Ok(None);
     };
     let name = Octets::copy_of(alloc, s.name)?;
@@ -44,15 +46,15 @@ fn build_structure(
 
 fn build_members(
     alloc: Global,
-    types: &[NamedType],
+    known: &KnownTypes,
     members: &[WrittenMember<'_>],
 ) -> Result<Option<Members>, NoMemory>
-    requires { length types.now ≤ 1000 }
-    ensures { IfOk result (AreMembersOrLarge (map (member_described (types_of types.now)) (map member_view members.now))) }
+    requires { IsKnown known.now }
+    ensures { IfOk result (AreMembersOrLarge (map (member_described (types_of known.now.types)) (map member_view members.now))) }
 {
     let mut built = ListOf::new(alloc);
     for member in members {
-        let Some(member) = build_member(alloc, types, member)? else {
+        let Some(member) = build_member(alloc, known, member)? else {
             return Ok(None);
         };
         built.push(alloc, member)?;
@@ -62,13 +64,13 @@ fn build_members(
 
 fn build_member(
     alloc: Global,
-    types: &[NamedType],
+    known: &KnownTypes,
     member: &WrittenMember<'_>,
 ) -> Result<Option<Member>, NoMemory>
-    requires { length types.now ≤ 1000 }
-    ensures { IfOk result (IsMemberOrLarge (member_described (types_of types.now) (member_view member.now))) }
+    requires { IsKnown known.now }
+    ensures { IfOk result (IsMemberOrLarge (member_described (types_of known.now.types) (member_view member.now))) }
 {
-    let Some(kind) = small_shape(alloc, types, member.kind)? else {
+    let Some(kind) = small_shape(alloc, known, member.kind)? else {
         return Ok(None);
     };
     let name = Octets::copy_of(alloc, member.name)?;

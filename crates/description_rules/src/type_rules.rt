@@ -10,7 +10,6 @@ ghost use Rattle.description_rules.specs.Next.{IsNext};
 ghost use Rattle.description_rules.specs.NameStarts.{IsAdded};
 ghost use Rattle.description_table.specs.Views.{type_view};
 
-use crate::lower::lower_of;
 use crate::member_rules::wrong_member_of;
 use crate::names::{is_count, is_type_name};
 use crate::places::lesser;
@@ -18,6 +17,7 @@ use crate::seen::{SeenTexts, note, note_lower};
 use crate::value_rules::are_right_values;
 use ads_base::NoMemory;
 use description_table::WrittenType;
+use name_index::lower_copy;
 use std::alloc::Global;
 
 /// Rule 6: the names of types; there are at most 1,000 (item 1,000).
@@ -106,6 +106,6 @@ fn first_wrong_part(alloc: Global, types: &[WrittenType<'_>]) -> Result<Option<u
 fn note_type(alloc: Global, names: &mut SeenTexts, kind: &WrittenType<'_>) -> Result<(), NoMemory>
     ensures { OnOk result (IsAdded (lower (written_name (type_view kind.now)) ∷ []) names.old names.new) }
 {
-    let name = lower_of(alloc, kind.name())?;
+    let name = lower_copy(alloc, kind.name())?;
     note(alloc, names, name.as_slice())
 }

@@ -9,27 +9,29 @@ ghost use Rattle.ads_rules.specs.Described.{shape_described};
 ghost use Rattle.type_layout.specs.Shapes.{kind_of, elem_of};
 ghost use Rattle.type_layout.specs.ReadTexts.{ends_of, text_of};
 ghost use Rattle.type_layout.specs.NamedTypes.{types_of};
+ghost use Rattle.description_rules.specs.KnownTypes.{IsKnown};
 ghost use Rattle.description_rules.specs.Within.{IsWithin};
 
 use crate::decimal_lens::{decimal_len, signed_decimal_len};
 use crate::dimensions::index_count;
+use crate::known_types::KnownTypes;
 use crate::shapes::{elem_named, name_of};
 use type_layout::{Elem, Ends, Kind, NamedType, TypeText, read_type_text};
 
 /// The length of the canonical text of the type that a text names.
 #[tactic(auto, using(crate::proofs::LengthLemmas::lengths), unfolding(ads_rules::specs::Shapes::shape_of_text, ads_plant::specs::Spelling::type_text))]
-pub fn type_text_len(types: &[NamedType], text: &[u8]) -> u128
-    requires few { length types.now ≤ 1000 }
-    ensures value { result ≡ length (type_text (tree_of (types_of types.now) (shape_described (types_of types.now) text.now))) }
+pub fn type_text_len(known: &KnownTypes, text: &[u8]) -> u128
+    requires { IsKnown known.now }
+    ensures value { result ≡ length (type_text (tree_of (types_of known.now.types) (shape_described (types_of known.now.types) text.now))) }
     ensures bound { result ≤ 2 ^ 69 }
 {
     let Some(t) = read_type_text(text) else {
         return kind_name_len(Kind::Bool);
     };
-    let Some(elem) = elem_named(types, t.elem) else {
+    let Some(elem) = elem_named(known, t.elem) else {
         return kind_name_len(Kind::Bool);
     };
-    let element = elem_text_len(types, elem);
+    let element = elem_text_len(known.types.as_slice(), elem);
     if t.count == 0 {
         return element;
     }

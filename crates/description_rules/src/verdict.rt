@@ -5,7 +5,7 @@ ghost use Rattle.ads_rules.specs.TypeRules as types;
 ghost use Rattle.ads_rules.specs.PortRules as ports;
 ghost use Rattle.ads_rules.specs.SymbolRules as symbols;
 ghost use Rattle.type_layout.specs.NamedTypes.{types_of};
-ghost use Rattle.description_rules.specs.Known.{AreKnown};
+ghost use Rattle.description_rules.specs.KnownTypes.{IsKnown};
 ghost use Rattle.ads_rules.specs.Verdict.{first_broken, broken_at};
 ghost use Rattle.description_table.specs.Views.{document_view};
 ghost use Rattle.description_rules.specs.Faults.{fault_view};
@@ -76,8 +76,7 @@ pub fn fault_in_ports(
     signals: u32,
     d: &Document<'_>,
 ) -> Result<Option<BrokenRule>, NoMemory>
-    requires known { AreKnown (types_of known.now.types) known.now.extents.items }
-    requires few { length known.now.types ≤ 1000 }
+    requires known { IsKnown known.now }
     ensures { IfOk result (λ fault. option_map fault_view fault ≡ first_broken (
         (9, ports.wrong_port (document_view d.now).schema (document_view d.now).ports)
         ∷ (10, symbols.wrong_name (document_view d.now).ports)
@@ -110,11 +109,11 @@ pub fn fault_in_ports(
 
 /// Rule 15 as the broken one, and in it the least port whose upload is too large; or none.
 pub fn fault_in_uploads(known: &KnownTypes, d: &Document<'_>) -> Option<BrokenRule>
-    requires few { length known.now.types ≤ 1000 }
+    requires known { IsKnown known.now }
     ensures { option_map fault_view result ≡ first_broken (
         (15, ports.wrong_upload (types_of known.now.types) (document_view d.now).ports) ∷ []) }
 {
-    match wrong_upload(known.types.as_slice(), d.ports.as_slice()) {
+    match wrong_upload(known, d.ports.as_slice()) {
         None => None,
         Some(place) => Some(broken_at(15, place as u128)),
     }

@@ -23,7 +23,11 @@ pub fn build(alloc: Global, known: KnownTypes, d: &Document<'_>) -> Result<Descr
 {
     let routes = routes_of(alloc, d.routes.as_slice())?;
     let ports = ports_of(alloc, &known, d.ports.as_slice())?;
-    let KnownTypes { types, extents: _ } = known;
+    let KnownTypes {
+        types,
+        extents: _,
+        names: _,
+    } = known;
     Ok(Description {
         net: net_of(d.net),
         routes,

@@ -2,7 +2,7 @@
 ghost use Rattle.std.specs.Prelude.{◌≡◌, ◌≤◌, None, length, map, option_map, IfOk};
 ghost use Rattle.type_layout.specs.NamedTypes.{types_of};
 ghost use Rattle.description_rules.specs.Faults.{fault_view};
-ghost use Rattle.description_rules.specs.Known.{AreKnown};
+ghost use Rattle.description_rules.specs.KnownTypes.{IsKnown};
 ghost use Rattle.description_rules.specs.KnownTypes.{AreAllKnown};
 ghost use Rattle.description_table.specs.Views.{document_view, type_view};
 ghost use Rattle.symbol_file.specs.Judged as judged;
@@ -55,8 +55,7 @@ fn fault_from_9(
     signals: u32,
     d: &Document<'_>,
 ) -> Result<Option<BrokenRule>, NoMemory>
-    requires known { AreKnown (types_of known.now.types) known.now.extents.items }
-    requires few { length known.now.types ≤ 1000 }
+    requires known { IsKnown known.now }
     ensures { IfOk result (λ fault. option_map fault_view fault
         ≡ judged.fault_in_ports signals (document_view d.now) (types_of known.now.types)) }
 {

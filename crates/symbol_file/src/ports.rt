@@ -4,7 +4,7 @@ ghost use Rattle.std.specs.List.{All};
 ghost use Rattle.ads_rules.specs.Described.{port_described, facts_described, sizes_described};
 ghost use Rattle.type_layout.specs.NamedTypes.{types_of};
 ghost use Rattle.type_layout.specs.Descriptions.{port_of, ports_of, facts_of, sizes_of};
-ghost use Rattle.description_rules.specs.Known.{AreKnown};
+ghost use Rattle.description_rules.specs.KnownTypes.{IsKnown};
 ghost use Rattle.description_table.specs.Views.{port_view};
 ghost use Rattle.symbol_file.specs.Fitting.{PortFits, FactsFit, SizesFit};
 
@@ -22,8 +22,7 @@ pub fn ports_of(
     known: &KnownTypes,
     ports: &[WrittenPort<'_>],
 ) -> Result<PortList, NoMemory>
-    requires known { AreKnown (types_of known.now.types) known.now.extents.items }
-    requires few { length known.now.types ≤ 1000 }
+    requires known { IsKnown known.now }
     requires fit { All (PortFits (types_of known.now.types)) ports.now }
     ensures { IfOk result (λ built. ports_of built ≡ map (port_described (types_of known.now.types)) (map port_view ports.now)) }
 {
@@ -36,8 +35,7 @@ pub fn ports_of(
 }
 
 fn port_of(alloc: Global, known: &KnownTypes, port: &WrittenPort<'_>) -> Result<PortDesc, NoMemory>
-    requires known { AreKnown (types_of known.now.types) known.now.extents.items }
-    requires few { length known.now.types ≤ 1000 }
+    requires known { IsKnown known.now }
     requires fits { PortFits (types_of known.now.types) port.now }
     ensures { IfOk result (λ p. port_of p ≡ port_described (types_of known.now.types) (port_view port.now)) }
 {

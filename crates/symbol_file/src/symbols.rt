@@ -7,7 +7,7 @@ ghost use Rattle.ads_rules.specs.Described as described;
 ghost use Rattle.type_layout.specs.Shapes.{shape_of};
 ghost use Rattle.type_layout.specs.NamedTypes.{types_of};
 ghost use Rattle.type_layout.specs.Descriptions.{symbol_of, symbols_of, area_of};
-ghost use Rattle.description_rules.specs.Known.{AreKnown};
+ghost use Rattle.description_rules.specs.KnownTypes.{IsKnown};
 ghost use Rattle.description_table.specs.Views.{symbol_view};
 ghost use Rattle.symbol_file.specs.Fitting.{SymbolFits};
 
@@ -18,7 +18,7 @@ use ads_base::{ListOf, NoMemory, Octets};
 use description_rules::{KnownTypes, read_area, small_shape, text_size};
 use description_table::WrittenSymbol;
 use std::alloc::Global;
-use type_layout::{Area, NamedType, Shape, SymbolDesc, Symbols};
+use type_layout::{Area, Shape, SymbolDesc, Symbols};
 
 /// The symbols that a document writes under one port.
 pub fn symbols_of(
@@ -26,8 +26,7 @@ pub fn symbols_of(
     known: &KnownTypes,
     symbols: &[WrittenSymbol<'_>],
 ) -> Result<Symbols, NoMemory>
-    requires known { AreKnown (types_of known.now.types) known.now.extents.items }
-    requires few { length known.now.types ≤ 1000 }
+    requires known { IsKnown known.now }
     requires fit { All (SymbolFits (types_of known.now.types)) symbols.now }
     ensures { IfOk result (λ built. symbols_of built
         ≡ map (described.symbol_described (types_of known.now.types)) (map symbol_view symbols.now)) }
@@ -45,12 +44,11 @@ fn symbol_of(
     known: &KnownTypes,
     symbol: &WrittenSymbol<'_>,
 ) -> Result<SymbolDesc, NoMemory>
-    requires known { AreKnown (types_of known.now.types) known.now.extents.items }
-    requires few { length known.now.types ≤ 1000 }
+    requires known { IsKnown known.now }
     requires fits { SymbolFits (types_of known.now.types) symbol.now }
     ensures { IfOk result (λ s. symbol_of s ≡ described.symbol_described (types_of known.now.types) (symbol_view symbol.now)) }
 {
-    let kind = shape_of(alloc, known.types.as_slice(), symbol.kind)?;
+    let kind = shape_of(alloc, known, symbol.kind)?;
     let size = text_size(known, symbol.kind) as u32;
     let initial = initial_bytes(alloc, known.types.as_slice(), &kind, size, symbol.initial)?;
     let name = Octets::copy_of(alloc, symbol.name)?;
@@ -70,12 +68,12 @@ fn symbol_of(
     })
 }
 
-fn shape_of(alloc: Global, types: &[NamedType], text: &[u8]) -> Result<Shape, NoMemory>
-    requires few { length types.now ≤ 1000 }
-    requires small { is_small_shape (described.shape_described (types_of types.now) text.now) ≡ true }
-    ensures { IfOk result (λ s. shape_of s ≡ described.shape_described (types_of types.now) text.now) }
+fn shape_of(alloc: Global, known: &KnownTypes, text: &[u8]) -> Result<Shape, NoMemory>
+    requires known { IsKnown known.now }
+    requires small { is_small_shape (described.shape_described (types_of known.now.types) text.now) ≡ true }
+    ensures { IfOk result (λ s. shape_of s ≡ described.shape_described (types_of known.now.types) text.now) }
 {
-    match small_shape(alloc, types, text)? {
+    match small_shape(alloc, known, text)? {
         Some(shape) => Ok(shape),
         None => unreachable!(),
     }

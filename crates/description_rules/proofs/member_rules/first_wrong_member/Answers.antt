@@ -1,4 +1,4 @@
-use Rattle.std.proofs.Common.{◌+◌, [], get_or, take, sym, ◌∙◌}
+use Rattle.std.proofs.Common.{[], get_or, take, sym, ◌∙◌}
 use Rattle.std.proofs.lemmas.List.{get_or_default}
 use Rattle.description_table.specs.Views.{member_view}
 use Rattle.description_rules.specs.NextMember.{is_member_alone, is_right_named}

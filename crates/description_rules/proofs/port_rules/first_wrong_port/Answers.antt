@@ -1,4 +1,4 @@
-use Rattle.std.proofs.Common.{◌+◌, map, take, sym, ◌∙◌, refl}
+use Rattle.std.proofs.Common.{◌+◌, map, take, sym, ◌∙◌}
 use Rattle.ads_rules.specs.PortRules.{is_right_port}
 use Rattle.description_table.specs.Views.{port_view}
 use Rattle.description_rules.specs.NextPort.{number_view}

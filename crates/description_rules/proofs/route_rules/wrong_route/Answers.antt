@@ -1,4 +1,4 @@
-use Rattle.std.proofs.Common.{◌≡◌, [], get_or, map, take, sym, ◌∙◌}
+use Rattle.std.proofs.Common.{[], get_or, map, take, sym, ◌∙◌}
 use Rattle.std.proofs.lemmas.List.{get_or_default}
 use Rattle.ads_rules.specs.RouteRules.{is_right_route}
 use Rattle.description_table.specs.Views.{route_view}

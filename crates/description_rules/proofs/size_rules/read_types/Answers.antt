@@ -1,8 +1,8 @@
-use Rattle.std.proofs.Common.{◌≡◌, ℕ, ◌+◌, [], ◌∷◌, ◌++◌, length, map, drop, false, true, refl, ap, sym, ◌∙◌, arith}
+use Rattle.std.proofs.Common.{◌≡◌, ◌+◌, [], ◌∷◌, ◌++◌, length, map, drop, refl, ap, sym, ◌∙◌, arith}
 use Rattle.std.proofs.Common.{length-append}
 use Rattle.std.proofs.lemmas.List.{drop_all, length-map}
 use Rattle.ads_rules.specs.Described.{type_described, types_described}
-use Rattle.ads_rules.specs.SizeRules.{wrong_size, is_right_size}
+use Rattle.ads_rules.specs.SizeRules.{wrong_size}
 use Rattle.type_layout.specs.NamedTypes.{types_of, named_type_of}
 use Rattle.description_table.specs.Views.{type_view}
 use Rattle.description_rules.proofs.StructLemmas.{dropped}
@@ -10,8 +10,16 @@ use Rattle.description_rules.proofs.KnownLemmas.{AreKnown-none, wrong_size-start
 use Rattle.description_rules.proofs.size_rules.read_types.Goals as goal
 
 pub loop-i-init : goal.loop-i-init
-loop-i-init c = rw (c.new.ensures, c.new-2.ensures.items)
-    (record { wrong = wrong_size-start (map type_view c.args.types.now); built = types_described-left (map type_view c.args.types.now); count = refl; known = AreKnown-none })
+loop-i-init c = record {
+  wrong = rw c.new.ensures (wrong_size-start (map type_view c.args.types.now));
+  built = rw c.new.ensures (types_described-left (map type_view c.args.types.now));
+  count = rw c.new.ensures refl;
+  known = record {
+    extents = rw (c.new.ensures, c.new-2.ensures.items) AreKnown-none;
+    names = rw c.new.ensures c.new-3.ensures;
+    few = rw c.new.ensures (omega arith);
+  };
+}
 
 pub returns-then-not-branch : goal.returns-then-not-branch
 returns-then-not-branch c =
@@ -37,7 +45,7 @@ loop-i-preserved c =
           (sym c.in_ok-add_type.ensures.answer ∙ c.if-not-branch.false) c.loop-i.invariant.wrong;
       built = types_left-more known (types_of c.add_type.new.known.types) (map type_view (drop i ws)) w (map type_view (drop (i + 1) ws)) _ left more c.loop-i.invariant.built;
       count = omega (arith, longer, length-append known (type_described known w ∷ []), length-map c.add_type.new.known.types named_type_of, length-map c.loop-i.known.types named_type_of);
-      known = c.in_ok-add_type.ensures.extents c.if-not-branch.false;
+      known = c.in_ok-add_type.ensures.known c.if-not-branch.false;
     }
 
 pub returns : goal.returns
@@ -46,4 +54,4 @@ returns c =
     let known = types_of c.loop-i.known.types in
     let end = known-end known (map type_view (drop c.loop-i.i ws)) c.loop-i.i (wrong_size (types_described (map type_view ws))) (types_described (map type_view ws))
     (ap (map type_view) (drop_all c.loop-i.i ws c.loop-i-test.false)) c.loop-i.invariant.wrong c.loop-i.invariant.built in
-    record { right = end.0; types = end.1; extents = c.loop-i.invariant.known; few = omega (arith, c.loop-i.invariant.count, c.requires) }
+    record { right = end.0; types = end.1; is_known = c.loop-i.invariant.known }

@@ -1,11 +1,9 @@
-use Rattle.std.proofs.Common.{◌≡◌, ◌+◌, ◌<◌, ◌^◌, ◌&&◌, map, take, sym, ap, ◌∙◌, true}
-use Rattle.std.specs.List.{list_all}
+use Rattle.std.proofs.Common.{◌+◌, map, take, sym, ◌∙◌}
 use Rattle.ads_rules.specs.Described.{sizes_described}
 use Rattle.type_layout.specs.NamedTypes.{types_of}
 use Rattle.description_table.specs.Views.{port_view}
-use Rattle.description_rules.specs.Placed.{SymbolPlace, is_right_behind, place_view}
-use Rattle.description_rules.specs.Taken.{are_apart_ranges}
-use Rattle.description_rules.specs.TakenPlaces.{StandFor, TakesPlace, symbol_place}
+use Rattle.description_rules.specs.Placed.{is_right_behind, place_view}
+use Rattle.description_rules.specs.TakenPlaces.{symbol_place}
 use Rattle.description_rules.proofs.FirstLemmas.{first_from-start, first_from-right, first_from-wrong, take-more}
 use Rattle.description_rules.proofs.TakenPlaceLemmas.{stand-none, stand-view, right-behind-view}
 use Rattle.description_rules.proofs.symbol_places.first_wrong_place.Goals as goal

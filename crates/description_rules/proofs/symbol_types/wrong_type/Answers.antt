@@ -1,4 +1,4 @@
-use Rattle.std.proofs.Common.{◌≡◌, [], length, map, false, sym}
+use Rattle.std.proofs.Common.{[], length, false, sym}
 use Rattle.std.specs.Option.{option_map_or}
 use Rattle.ads_rules.specs.Places.{first_wrong}
 use Rattle.ads_rules.specs.Shapes.{shape_of_text}

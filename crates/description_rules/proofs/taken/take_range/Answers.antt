@@ -1,7 +1,6 @@
-use Rattle.std.proofs.Common.{◌≡◌, ◌∙◌, sym, ap, true, false}
+use Rattle.std.proofs.Common.{◌≡◌, ◌∙◌, sym, ap, true}
 use Rattle.std.specs.List.{list_all, insert}
-use Rattle.description_rules.specs.Taken.{AreInOrder, IsPlaceOf, is_free_at, are_apart_ranges}
-use Rattle.description_rules.specs.declared.taken.ByteRange.{ByteRange}
+use Rattle.description_rules.specs.Taken.{IsPlaceOf, is_free_at}
 use Rattle.description_rules.proofs.TakenLemmas.{is_free-answer, in_order-insert, list_all-insert}
 use Rattle.description_rules.proofs.taken.take_range.Goals as goal
 

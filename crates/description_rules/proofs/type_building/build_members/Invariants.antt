@@ -8,7 +8,7 @@ use Rattle.description_rules.proofs.type_building.build_members.Given as goal
 -- the members before this one are built and small
 abbrev pub invariant-loop-member : goal.invariant-loop-member
 invariant-loop-member l = record {
-  built : map member_of l.built ≡ map (member_described (types_of l.types)) (map member_view (take l.member-index l.members));
-  small : are_small_members (map (member_described (types_of l.types)) (map member_view l.members))
-      ≡ are_small_members (map (member_described (types_of l.types)) (map member_view (drop l.member-index l.members)));
+  built : map member_of l.built ≡ map (member_described (types_of l.known.types)) (map member_view (take l.member-index l.members));
+  small : are_small_members (map (member_described (types_of l.known.types)) (map member_view l.members))
+      ≡ are_small_members (map (member_described (types_of l.known.types)) (map member_view (drop l.member-index l.members)));
 }

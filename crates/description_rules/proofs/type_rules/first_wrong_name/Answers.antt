@@ -1,4 +1,4 @@
-use Rattle.std.proofs.Common.{◌+◌, take, sym, ◌∙◌}
+use Rattle.std.proofs.Common.{take, sym, ◌∙◌}
 use Rattle.ads_plant.specs.AcceptedTypes.{is_type_name}
 use Rattle.ads_rules.specs.Written.{written_name}
 use Rattle.ads_rules.specs.TypeRules.{is_right_type_name}

@@ -8,5 +8,5 @@ use Rattle.description_rules.proofs.uploads.fits_upload.Given as goal
 -- the entries fit exactly where those from this one on fit into what is left
 abbrev pub invariant-loop-symbol : goal.invariant-loop-symbol
 invariant-loop-symbol l =
-    nat_le (sum_by (written_length (types_of l.types)) (map symbol_view l.symbols)) 2000000
-    ≡ nat_le (sum_by (written_length (types_of l.types)) (map symbol_view (drop l.symbol-index l.symbols))) l.room
+    nat_le (sum_by (written_length (types_of l.known.types)) (map symbol_view l.symbols)) 2000000
+    ≡ nat_le (sum_by (written_length (types_of l.known.types)) (map symbol_view (drop l.symbol-index l.symbols))) l.room

@@ -1,5 +1,4 @@
-use Rattle.std.proofs.Common.{◌≡◌, [], map}
-use Rattle.ads_rules.specs.Places.{first_wrong}
+use Rattle.std.proofs.Common.{◌≡◌, map}
 use Rattle.ads_rules.specs.PortRules.{wrong_upload, has_right_upload}
 use Rattle.type_layout.specs.NamedTypes.{types_of}
 use Rattle.description_table.specs.Views.{port_view}
@@ -8,5 +7,5 @@ use Rattle.description_rules.proofs.uploads.wrong_upload.Given as goal
 
 -- those before this one are right
 abbrev pub invariant-loop-i : goal.invariant-loop-i
-invariant-loop-i l = wrong_upload (types_of l.types) (map port_view l.ports)
-    ≡ first_from (λ before p. has_right_upload (types_of l.types) p) port_view l.ports l.i
+invariant-loop-i l = wrong_upload (types_of l.known.types) (map port_view l.ports)
+    ≡ first_from (λ before p. has_right_upload (types_of l.known.types) p) port_view l.ports l.i

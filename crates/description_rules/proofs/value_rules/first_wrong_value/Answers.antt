@@ -1,4 +1,4 @@
-use Rattle.std.proofs.Common.{◌+◌, [], ◌∷◌, ◌++◌, get_or, map, take, sym, ap, ◌∙◌, pos}
+use Rattle.std.proofs.Common.{[], ◌∷◌, ◌++◌, get_or, take, sym, ap, ◌∙◌, pos}
 use Rattle.std.proofs.lemmas.List.{get_or_default}
 use Rattle.ads_rules.specs.TypeRules.{is_right_value}
 use Rattle.type_layout.specs.Shapes.{kind_of}

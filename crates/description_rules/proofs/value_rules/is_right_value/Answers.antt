@@ -1,4 +1,4 @@
-use Rattle.std.proofs.Common.{◌≡◌, ℤ, Bool, subst, rules, w64}
+use Rattle.std.proofs.Common.{ℤ, subst, rules, w64}
 use Rattle.std.proofs.lemmas.Int.{to_z-of_z}
 use Rattle.type_layout.specs.Shapes.{kind_of}
 use Rattle.description_table.specs.Views.{value_view}

@@ -1,4 +1,4 @@
-use Rattle.std.proofs.Common.{◌≡◌, ap, ◌∙◌, sym, is_none, is_some, not}
+use Rattle.std.proofs.Common.{ap, ◌∙◌, sym, is_none, not}
 use Rattle.std.specs.Prelude.{bytes_eq}
 use Rattle.std.specs.List.{list_all}
 use Rattle.description_rules.proofs.TextLemmas.{is_none-lookup, is_none-option_copied, not-not}

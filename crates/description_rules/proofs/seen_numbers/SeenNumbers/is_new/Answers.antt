@@ -1,4 +1,4 @@
-use Rattle.std.proofs.Common.{◌≡◌, ap, ◌∙◌, sym, is_none, map, not, w64}
+use Rattle.std.proofs.Common.{ap, ◌∙◌, sym, is_none, map, not, w64}
 use Rattle.std.proofs.lemmas.Int.{to_z-of_z}
 use Rattle.description_rules.specs.NextNumber.{is_no_number_of}
 use Rattle.description_rules.proofs.TextLemmas.{is_none-option_copied, not-not}
