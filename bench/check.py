@@ -4,8 +4,7 @@
 Build the program first: in crates/ads, `rt run -- selftest ../../examples/state.script`.
 
 One port of 1,000, 2,000, 5,000 and 10,000 symbols, and 16 ports of 10,000: the ratio of the greatest time per symbol to the least is to be at most 1.6. The
-other descriptions show that no rule goes over pairs: their times per element are printed for two sizes or more. One rises: a type's name is looked up among the
-types one by one.
+other descriptions show that no rule goes over pairs: their times per element are printed for two sizes or more.
 
 Times are processor times of the program, the least of five runs.
 """
@@ -37,6 +36,11 @@ def of_symbols(ports, count):
     return HEAD + "".join(plain_port(851 + p, count) for p in range(ports))
 
 
+def of_falling_offsets(count):
+    """Symbols that stand behind those that come later."""
+    return HEAD + port(851, [symbol(f"v{i}", "INT", 2 * (count - 1 - i)) for i in range(count)], 2 * count)
+
+
 def of_types(types, members):
     rows = []
     for t in range(types):
@@ -50,6 +54,15 @@ def of_last_type(types, count):
     rows = [f'[[type]]\nname = "Type{t}"\nmember = [{{ name = "a", type = "INT" }}]\n' for t in range(types)]
     symbols = [symbol(f"v{i}", f"Type{types - 1}", 2 * i) for i in range(count)]
     return HEAD + "".join(rows) + port(851, symbols, 2 * count)
+
+
+def of_enumerations(values, count):
+    """Symbols of an enumeration of so many values that begin with its last value."""
+    inner = ", ".join(f'{{ name = "v{i}", number = {i} }}' for i in range(values))
+    kind = f'[[type]]\nname = "Mode"\nbase = "UINT"\nvalue = [{inner}]\n'
+    initial = f'initial = "{(values - 1).to_bytes(2, "little").hex()}"\n'
+    symbols = [symbol(f"v{i}", "Mode", 2 * i) + initial for i in range(count)]
+    return HEAD.replace("schema = 1", "schema = 2") + kind + port(851, symbols, 2 * count)
 
 
 def of_routes(count):
@@ -103,6 +116,10 @@ def main():
         row(f"{routes} routes", routes, of_routes(routes))
     for types in (1, 100, 1000):
         row(f"10000 symbols of the last of {types} types", 10000, of_last_type(types, 10000))
+    for count in (1000, 10000):
+        row(f"{count} symbols in falling order of offset", count, of_falling_offsets(count))
+    for values in (1, 100, 1000):
+        row(f"10000 symbols that begin with the last of {values} values", 10000, of_enumerations(values, 10000))
     row("10000 symbols of nested structures, all at offset 0", 10000, nested_at_zero(10000))
 
 
