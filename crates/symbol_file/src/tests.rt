@@ -37,3 +37,18 @@ fn fault_of(alloc: Global, bytes: &[u8]) -> Result<(u8, u32), NoMemory> {
         Err(DescFault::Rule { number, item }) => Ok((number, item)),
     }
 }
+
+// Structures T0, T1 .., each with two members of the one before, which may stand in arrays.
+fn nested_types(alloc: Global, depth: u32, array: &str) -> Result<String, NoMemory> {
+    let mut types = String::new(alloc);
+    let mut before = String::from_str(alloc, "INT")?;
+    for i in 0..depth {
+        let kind = before.as_str();
+        let one = format!(in alloc;
+            "{{ name = \"T{i}\", member = [{{ name = \"a\", type = \"{kind}\" }}, {{ name = \"b\", type = \"{kind}\" }}] }},"
+        )?;
+        types.push_str(one.as_str())?;
+        before = format!(in alloc; "{array}T{i}")?;
+    }
+    Ok(types)
+}

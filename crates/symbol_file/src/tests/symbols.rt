@@ -44,6 +44,10 @@ fn ports(rt: HostRuntime) -> Result<(), Fail> {
             (9, 0),
         ),
         (
+            "port = [{ port = 1, name = \"P\", major = 1, minor = 0, build = 0, inputs = 9223372036854775807, outputs = 9223372036854775807, memory = 2 }]\n",
+            (9, 0),
+        ),
+        (
             "port = [{ port = 1, name = \"P\", major = 1, minor = 0, build = 0 }, { port = 1, name = \"P\", major = 1, minor = 0, build = 0 }]\n",
             (9, 1),
         ),
@@ -83,40 +87,96 @@ fn many_writers(alloc: Global, count: u32) -> Result<String, NoMemory> {
     Ok(writers)
 }
 
-// Symbols whose entries have 33 + 5 + 255 + 255 bytes each, which are 548: of 3,649 they are 1,999,652.
-fn many_symbols(alloc: Global, count: u32) -> Result<String, NoMemory> {
-    let long = format!(in alloc; "{:L<255}", "")?;
+// So many symbols of a type in the area of inputs, apart or all at offset 0. The list is not closed.
+fn many_symbols(
+    alloc: Global,
+    types: &str,
+    count: u32,
+    kind: &str,
+    is_apart: bool,
+    comment: &str,
+) -> Result<String, NoMemory> {
     let mut text = format!(in alloc;
-        "type = [{{ name = \"{long}\", member = [{{ name = \"a\", type = \"BOOL\" }}] }}]\n[[port]]\nport = 851\nname = \"P\"\nmajor = 1\nminor = 0\nbuild = 0\ninputs = 4000\nsymbol = ["
+        "type = [{types}]\n[[port]]\nport = 851\nname = \"P\"\nmajor = 1\nminor = 0\nbuild = 0\ninputs = 200000\nsymbol = ["
     )?;
     for i in 0..count {
+        let offset = if is_apart { i } else { 0 };
         let one = format!(in alloc;
-            "{{ name = \"s{i:04}\", type = \"{long}\", area = \"inputs\", offset = {i}, comment = \"{long}\" }},\n"
+            "{{ name = \"sym{i:05}\", type = \"{kind}\", area = \"inputs\", offset = {offset}, comment = \"{comment}\" }},\n"
         )?;
         text.push_str(one.as_str())?;
     }
-    text.push_str("]\n")?;
     Ok(text)
 }
 
 #[test]
-fn counts_of_ports_writers_and_bytes(rt: HostRuntime) -> Result<(), Fail> {
+fn counts_of_ports_and_writers(rt: HostRuntime) -> Result<(), Fail> {
     let alloc = rt.alloc();
     let most = many_ports(alloc, 16, 20)?;
     let more = many_ports(alloc, 17, 20)?;
     let wrong = many_ports(alloc, 17, 3)?;
     let writers = many_writers(alloc, 64)?;
     let more_writers = many_writers(alloc, 65)?;
-    let upload = many_symbols(alloc, 3650)?;
     let cases = [
         (most.as_str(), (99, 0)),
         (more.as_str(), (9, 16)),
         (wrong.as_str(), (9, 3)),
         (writers.as_str(), (99, 0)),
         (more_writers.as_str(), (13, 0)),
-        (upload.as_str(), (15, 0)),
     ];
     expect(&rt, alloc, TOP, &cases, "")?;
+    Ok(())
+}
+
+// The fault of a text of so many symbols.
+fn expect_symbols(
+    rt: &impl Abort,
+    alloc: Global,
+    types: &str,
+    count: u32,
+    kind: &str,
+    is_apart: bool,
+    fault: (u8, u32),
+) -> Result<(), NoMemory> {
+    let text = many_symbols(alloc, types, count, kind, is_apart, "")?;
+    expect(rt, alloc, TOP, &[(text.as_str(), fault)], "]\n")
+}
+
+// Symbols of one byte behind one another, and symbols of 131,072 bytes all at offset 0.
+#[test]
+fn counts_of_symbols(rt: HostRuntime) -> Result<(), Fail> {
+    let alloc = rt.alloc();
+    expect_symbols(&rt, alloc, "", 10_000, "BOOL", true, (99, 0))?;
+    expect_symbols(&rt, alloc, "", 10_001, "BOOL", true, (9, 0))?;
+    let nested = nested_types(alloc, 16, "")?;
+    expect_symbols(&rt, alloc, nested.as_str(), 10_000, "T15", false, (12, 1))?;
+    Ok(())
+}
+
+// Entries of 33 + 8 + 241 + 241 bytes, which are 523: of 3,824 symbols they are 1,999,952. The part's entry has
+// 33 + 4 + 4 bytes and those of its comment.
+#[test]
+fn bytes_of_an_upload(rt: HostRuntime) -> Result<(), Fail> {
+    let alloc = rt.alloc();
+    let long = format!(in alloc; "{:L<241}", "")?;
+    let types = format!(in alloc;
+        "{{ name = \"{long}\", member = [{{ name = \"a\", type = \"BOOL\" }}] }}"
+    )?;
+    let symbols = many_symbols(
+        alloc,
+        types.as_str(),
+        3824,
+        long.as_str(),
+        true,
+        long.as_str(),
+    )?;
+    let mut before = String::from_str(alloc, TOP)?;
+    before.push_str(symbols.as_str())?;
+    before.push_str(
+        "{ name = \"last\", type = \"BOOL\", area = \"inputs\", offset = 3824, comment = \"",
+    )?;
+    let cases = [("1234567", (99, 0)), ("12345678", (15, 0))];
+    expect(&rt, alloc, before.as_str(), &cases, "\" }]\n")?;
     Ok(())
 }
 

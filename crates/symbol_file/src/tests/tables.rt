@@ -36,6 +36,20 @@ fn keys(rt: HostRuntime) -> Result<(), Fail> {
         ),
         ("schema = 2\ntype = [{ name = \"T\" }]\n", (2, 0)),
         (
+            "schema = 2\ntype = [{ name = \"T\", member = [], x = 1 }]\n",
+            (2, 0),
+        ),
+        ("schema = 2\ntype = [{ name = 1, member = [] }]\n", (2, 0)),
+        (
+            "schema = 2\ntype = [{ name = \"T\", member = [{ name = \"a\", type = 1 }] }]\n",
+            (2, 0),
+        ),
+        (
+            "schema = 2\ntype = [{ name = \"T\", base = \"INT\", value = [{ name = \"a\" }] }]\n",
+            (2, 0),
+        ),
+        ("schema = 2\n[[port]]\nport = 851\n", (2, 0)),
+        (
             "schema = 2\ntype = [{ name = \"T\", base = \"INT\" }]\n",
             (2, 0),
         ),

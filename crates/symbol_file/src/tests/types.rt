@@ -103,20 +103,48 @@ fn many_types(alloc: Global, count: u32, wrong: u32) -> Result<String, NoMemory>
     Ok(types)
 }
 
-// Structures T0, T1 .., each with a member of the one before.
-fn nested_types(alloc: Global, depth: u32) -> Result<String, NoMemory> {
-    let mut types = String::from_str(
-        alloc,
-        "{ name = \"T0\", member = [{ name = \"a\", type = \"INT\" }] },",
-    )?;
-    for i in 1..depth {
-        let before = i - 1;
-        let one = format!(in alloc;
-            "{{ name = \"T{i}\", member = [{{ name = \"a\", type = \"ARRAY [1..2] OF T{before}\" }}] }},"
-        )?;
-        types.push_str(one.as_str())?;
+// A type of so many members or values a0, a1 .., each with its number between two parts of its text.
+fn one_type(
+    alloc: Global,
+    head: &str,
+    count: u32,
+    before: &str,
+    behind: &str,
+) -> Result<String, NoMemory> {
+    let mut text = String::from_str(alloc, head)?;
+    for i in 0..count {
+        let one = format!(in alloc; "{{ name = \"a{i}\", {before}{i}{behind} }},")?;
+        text.push_str(one.as_str())?;
     }
-    Ok(types)
+    text.push_str("] }")?;
+    Ok(text)
+}
+
+fn structure(alloc: Global, count: u32) -> Result<String, NoMemory> {
+    let head = "{ name = \"T\", member = [";
+    one_type(alloc, head, count, "type = \"STRING(", ")\"")
+}
+
+fn enumeration(alloc: Global, count: u32) -> Result<String, NoMemory> {
+    let head = "{ name = \"T\", base = \"INT\", value = [";
+    one_type(alloc, head, count, "number = ", "")
+}
+
+#[test]
+fn counts_of_members_and_values(rt: HostRuntime) -> Result<(), Fail> {
+    let alloc = rt.alloc();
+    let members = structure(alloc, 1000)?;
+    let more_members = structure(alloc, 1001)?;
+    let values = enumeration(alloc, 1000)?;
+    let more_values = enumeration(alloc, 1001)?;
+    let cases = [
+        (members.as_str(), (99, 0)),
+        (more_members.as_str(), (7, 0)),
+        (values.as_str(), (99, 0)),
+        (more_values.as_str(), (7, 0)),
+    ];
+    expect(&rt, alloc, BEFORE, &cases, AFTER)?;
+    Ok(())
 }
 
 #[test]
@@ -125,14 +153,16 @@ fn counts_and_depths(rt: HostRuntime) -> Result<(), Fail> {
     let most = many_types(alloc, 1000, 2000)?;
     let more = many_types(alloc, 1001, 2000)?;
     let wrong = many_types(alloc, 1001, 5)?;
-    let deep = nested_types(alloc, 16)?;
-    let deeper = nested_types(alloc, 17)?;
+    let deep = nested_types(alloc, 16, "ARRAY [1..1] OF ")?;
+    let deeper = nested_types(alloc, 17, "ARRAY [1..1] OF ")?;
+    let deepest = nested_types(alloc, 1000, "")?;
     let cases = [
         (most.as_str(), (99, 0)),
         (more.as_str(), (6, 1000)),
         (wrong.as_str(), (6, 5)),
         (deep.as_str(), (99, 0)),
         (deeper.as_str(), (8, 16)),
+        (deepest.as_str(), (8, 16)),
     ];
     expect(&rt, alloc, BEFORE, &cases, AFTER)?;
     Ok(())
