@@ -6,7 +6,8 @@ use Rattle.cli_words.specs.declared.client_words.PeerWords.TheVariants as peer
 use Rattle.cli_words.specs.Words.{parted, kind_of, divided, value_of}
 use Rattle.cli_words.specs.Values.{number_of, stopped_bytes, net_id_of, address_port, address_of, file_of, text_of}
 use Rattle.cli_words.specs.Forms.{form_of, options_of, are_among}
-use Rattle.cli_words.specs.Commands.{only_one, only_two, server_of, port_of, peer_of, client_of, file_in, client_alone, command_in, command_of}
+use Rattle.cli_words.specs.Commands.{only_one, only_two, only_three, file_in, three_files_in}
+use Rattle.cli_words.specs.Commands.{server_of, port_of, peer_of, client_of, client_alone, command_in, command_of}
 
 -- selftest -- -s
 behind_two_dashes : command_of (codes "selftest" ∷ codes "--" ∷ codes "-s" ∷ []) ≡ Some (command.Selftest (codes "-s"))
@@ -37,13 +38,22 @@ most_loaded : command_of (codes "load" ∷ codes "100000" ∷ []) ≡ Some (comm
 unfolding command_of form_of divided kind_of are_among options_of command_in only_one number_of digits
 most_loaded = refl
 
--- keep p s --store f --store=f
-twice : command_of (codes "keep" ∷ codes "p" ∷ codes "s" ∷ codes "--store" ∷ codes "f" ∷ codes "--store=f" ∷ []) ≡ None
+-- keep p s f, keep p s --store f
+kept : command_of (codes "keep" ∷ codes "p" ∷ codes "s" ∷ codes "f" ∷ []) ≡ Some (command.Keep (codes "p") (codes "s") (codes "f"))
+unfolding command_of form_of divided kind_of are_among options_of command_in three_files_in only_three file_of
+kept = refl
+
+no_store_option : command_of (codes "keep" ∷ codes "p" ∷ codes "s" ∷ codes "--store" ∷ codes "f" ∷ []) ≡ None
+unfolding command_of form_of divided kind_of parted are_among options_of
+no_store_option = refl
+
+-- record N --store f --store=f
+twice : command_of (codes "record" ∷ codes "N" ∷ codes "--store" ∷ codes "f" ∷ codes "--store=f" ∷ []) ≡ None
 unfolding command_of form_of divided kind_of parted are_among options_of value_of
 twice = refl
 
--- keep p s --store -f
-no_value : command_of (codes "keep" ∷ codes "p" ∷ codes "s" ∷ codes "--store" ∷ codes "-f" ∷ []) ≡ None
+-- record N --store -f
+no_value : command_of (codes "record" ∷ codes "N" ∷ codes "--store" ∷ codes "-f" ∷ []) ≡ None
 unfolding command_of form_of divided kind_of parted
 no_value = refl
 

@@ -14,7 +14,7 @@ use Rattle.cli_words.specs.Words.{division_of, value_of}
 use Rattle.cli_words.specs.Values.{number_of, net_id_of, address_of, file_of, text_of, on_change_of, names_of}
 use Rattle.cli_words.specs.Forms.{form_of, options_of, are_among}
 
--- the only positional word, or the only two
+-- the only positional word, the only two, or the only three
 unfoldable pub only_one : List (List ℕ) → Option (List ℕ)
 only_one (word ∷ []) = Some word
 only_one words = None
@@ -22,6 +22,10 @@ only_one words = None
 unfoldable pub only_two : List (List ℕ) → Option (List ℕ × List ℕ)
 only_two (first ∷ second ∷ []) = Some (first, second)
 only_two words = None
+
+unfoldable pub only_three : List (List ℕ) → Option (List ℕ × List ℕ × List ℕ)
+only_three (first ∷ second ∷ third ∷ []) = Some (first, second, third)
+only_three words = None
 
 -- where a server listens, and after how many events it ends
 unfoldable pub server_of : List OptionWord → Option (List ℕ × ℕ)
@@ -68,7 +72,7 @@ samples_of options = do
   count ← number_of 1 1000000 count_word
   Some (change, cycle, count)
 
--- one file name, and two
+-- one file name, two, and three
 unfoldable pub file_in : List (List ℕ) → Option (List ℕ)
 file_in positional = do
   word ← only_one positional
@@ -80,6 +84,14 @@ files_in positional = do
   first ← file_of words.0
   second ← file_of words.1
   Some (first, second)
+
+unfoldable pub three_files_in : List (List ℕ) → Option (List ℕ × List ℕ × List ℕ)
+three_files_in positional = do
+  words ← only_three positional
+  first ← file_of words.0
+  second ← file_of words.1
+  third ← file_of words.2
+  Some (first, second, third)
 
 -- one name
 unfoldable pub name_in : List (List ℕ) → Option (List ℕ)
@@ -126,10 +138,8 @@ command_in form.Serve words = do
   Some (command.Serve description server.0 server.1)
 command_in form.Relay words = relay_in words
 command_in form.Keep words = do
-  files ← files_in words.positional
-  store_word ← value_of (codes "--store") words.options
-  store ← file_of store_word
-  Some (command.Keep files.0 files.1 store)
+  files ← three_files_in words.positional
+  Some (command.Keep files.0 files.1 files.2)
 command_in form.Load words = do
   word ← only_one words.positional
   n ← number_of 0 100000 word

@@ -59,13 +59,13 @@ options_of form.Get = client_options
 options_of form.Set = client_options
 options_of form.Show = client_options
 options_of form.Watch = client_options ++ sample_options
-options_of form.Keep = codes "--store" ∷ []
 options_of form.Record = codes "--store" ∷ (client_options ++ sample_options)
 options_of form.Selftest = []
 options_of form.Check = []
 options_of form.Replay = []
 options_of form.Load = []
 options_of form.Migrate = []
+options_of form.Keep = []
 
 -- an option is one of these, and none of the later ones is the same
 abbrev pub may_stand : List (List ℕ) → List ℕ → List OptionWord → Bool

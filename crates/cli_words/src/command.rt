@@ -80,7 +80,7 @@ pub enum Command {
         listen: Text,
         events: u64,
     },
-    /// `keep DESCRIPTION SCRIPT --store FILE`
+    /// `keep DESCRIPTION SCRIPT STORE`
     Keep {
         description: Text,
         script: Text,

@@ -1,7 +1,8 @@
 //! Each command by its positional words and its options.
 
 ghost use Rattle.cli_words.specs.Reading.{Reads};
-ghost use Rattle.cli_words.specs.Commands.{only_one, only_two, file_in, files_in, name_in, client_alone, relay_over_script, relay_over_wire, relay_in, command_in};
+ghost use Rattle.cli_words.specs.Commands.{only_one, only_two, only_three, file_in, files_in, three_files_in, name_in};
+ghost use Rattle.cli_words.specs.Commands.{client_alone, relay_over_script, relay_over_wire, relay_in, command_in};
 
 use crate::client::{client, required, samples, server};
 use crate::division::Division;
@@ -123,9 +124,7 @@ fn relay_over_wire(alloc: Global, words: &Division) -> Result<Command, Refusal>
 fn keep(alloc: Global, words: &Division) -> Result<Command, Refusal>
     ensures { Reads result (command_in Form.Keep words.now) }
 {
-    let (description, script) = two_files(alloc, words)?;
-    let store_word = required(alloc, words.options.as_slice(), "--store")?;
-    let store = file(store_word)?;
+    let (description, script, store) = three_files(alloc, words)?;
     Ok(Command::Keep {
         description,
         script,
@@ -277,6 +276,21 @@ fn two_words(alloc: Global, words: &Division) -> Result<(Text, Text), Refusal>
     }
 }
 
+#[tactic(auto, unfolding(crate::specs::Commands::only_three))]
+fn three_words(alloc: Global, words: &Division) -> Result<(Text, Text, Text), Refusal>
+    ensures { Reads result (only_three words.now.positional) }
+{
+    match words.positional.as_slice() {
+        [first, second, third] => {
+            let first = Text::copy_of(alloc, first.as_str())?;
+            let second = Text::copy_of(alloc, second.as_str())?;
+            let third = Text::copy_of(alloc, third.as_str())?;
+            Ok((first, second, third))
+        }
+        _ => Err(Refusal::OffGrammar),
+    }
+}
+
 #[tactic(auto, unfolding(crate::specs::Commands::file_in))]
 fn one_file(alloc: Global, words: &Division) -> Result<Text, Refusal>
     ensures { Reads result (file_in words.now.positional) }
@@ -294,6 +308,17 @@ fn two_files(alloc: Global, words: &Division) -> Result<(Text, Text), Refusal>
     let first = file(first_word)?;
     let second = file(second_word)?;
     Ok((first, second))
+}
+
+#[tactic(auto, unfolding(crate::specs::Commands::three_files_in))]
+fn three_files(alloc: Global, words: &Division) -> Result<(Text, Text, Text), Refusal>
+    ensures { Reads result (three_files_in words.now.positional) }
+{
+    let (first_word, second_word, third_word) = three_words(alloc, words)?;
+    let first = file(first_word)?;
+    let second = file(second_word)?;
+    let third = file(third_word)?;
+    Ok((first, second, third))
 }
 
 #[tactic(auto, unfolding(crate::specs::Commands::name_in))]

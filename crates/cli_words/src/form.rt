@@ -101,11 +101,11 @@ pub(crate) fn allows(form: Form, option: &str) -> bool
         | Form::Set
         | Form::Show => is_client_option(option),
         Form::Watch => is_client_option(option) || is_sample_option(option),
-        Form::Keep => option == "--store",
         Form::Record => {
             option == "--store" || is_client_option(option) || is_sample_option(option)
         }
-        Form::Selftest | Form::Check | Form::Replay | Form::Load | Form::Migrate => false,
+        Form::Selftest | Form::Check | Form::Replay | Form::Load | Form::Migrate | Form::Keep =>
+            false,
     }
 }
 
