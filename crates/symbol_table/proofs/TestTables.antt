@@ -1,12 +1,14 @@
 -- The ports of the tests are such as accepted descriptions have.
-use Rattle.std.proofs.Common.{◌≡◌, ℕ, zero, suc, ◌+◌, ◌*◌, ◌/◌, ◌%◌, ◌<◌, ◌≤◌, true, false, List, [], ◌∷◌, ◌++◌, map, length, refl, ◌∙◌, ap, arith, inl, inr, lit≤}
-use Rattle.std.specs.Prelude.{Bool, codes, bytes_eq, nat_lt, nat_le, ◌&&◌, ◌==◌, not, ◌^◌}
+use Rattle.std.proofs.Common.{◌≡◌, ℕ, zero, suc, ◌+◌, ◌*◌, ◌<◌, ◌≤◌, true, false, List, [], ◌∷◌, ◌++◌, map, length, refl, ◌∙◌, ap, arith, inl, inr, lit≤}
+use Rattle.std.specs.Prelude.{Bool, codes, decimal, bytes_eq, nat_lt, nat_le, ◌&&◌, ◌==◌, not, ◌^◌}
 use Rattle.std.specs.List.{list_all, slice_split, starts_with}
-use Rattle.std.proofs.lemmas.Bool.{cases_Bool, and_parts, ltb-true, ltb-false, lt-ltb, le-leb}
-use Rattle.std.proofs.lemmas.Bool.Decides.{nat_tests}
+use Rattle.std.specs.Str.Parse.{AllDigits}
+use Rattle.std.proofs.lemmas.Bool.{cases_Bool, and_parts, ltb-true, ltb-false, lt-ltb, le-leb, ne_eqb}
 use Rattle.std.proofs.lemmas.List.{length-append}
 use Rattle.std.proofs.lemmas.Cmp.{nat_list_eq_equiv}
 use Rattle.std.proofs.lemmas.Slice.Eq.{bytes_eq-Decides}
+use Rattle.std.proofs.lemmas.Fmt.{decimal_is_IsNumeral, decimal_injective}
+use Rattle.std.proofs.lemmas.Str.Parse.{digit_from_value}
 use Rattle.std.proofs.Math.Pow.{pow-lt}
 use Rattle.name_paths.specs.Identifier.{lower}
 use Rattle.name_paths.specs.Name.{is_full_stop, identifiers_of, lower_identifiers}
@@ -16,7 +18,7 @@ use Rattle.ads_plant.specs.Sizes.{type_size, members_end, type_align, greatest_a
 use Rattle.ads_plant.specs.AcceptedTypes.{all_pairs}
 use Rattle.ads_plant.specs.Accepted.{are_two_names, are_apart}
 use Rattle.symbol_table.specs.Tables.{IsPlaced, is_placed}
-use Rattle.symbol_table.specs.TestPorts.{axis_types, axis_port, digits, numbered_symbol, numbered_symbols, numbered_port}
+use Rattle.symbol_table.specs.TestPorts.{axis_types, axis_port, numbered_symbol, numbered_symbols, numbered_port}
 
 pub axis_is_placed : IsPlaced axis_types axis_port
 unfolding trees_of trees_behind type_size members_end type_align greatest_align type_depth greatest_depth
@@ -30,49 +32,46 @@ few_steps s n small few =
       | inr le ↦ ltb-false 15 s le
     ]
 
--- four digits
+-- the digits of a number
 
-digits-split : (n : ℕ) → slice_split is_full_stop (digits n) ≡ digits n ∷ []
-digits-split n =
-    let a : (48 + n / 1000 == 46) ≡ false = grind (arith, nat_tests) in
-    let b : (48 + n / 100 % 10 == 46) ≡ false = grind (arith, nat_tests) in
-    let c : (48 + n / 10 % 10 == 46) ≡ false = grind (arith, nat_tests) in
-    let d : (48 + n % 10 == 46) ≡ false = grind (arith, nat_tests) in
-    rw (a, b, c, d) refl
+split-digits : (ds : List ℕ) → AllDigits 10 ds → slice_split is_full_stop ds ≡ ds ∷ []
+split-digits [] all = refl
+split-digits (c ∷ cs) all =
+    let digit = digit_from_value c all.0 in
+    let other : (c == 46) ≡ false = ne_eqb c 46 (λ e. omega (arith, digit, e)) in
+    rw (other, split-digits cs all.1) refl
 
-digits-lower : (n : ℕ) → n < 10000 → lower (digits n) ≡ digits n
-digits-lower n below =
-    let a : nat_lt (48 + n / 1000) 65 ≡ true = lt-ltb (48 + n / 1000) 65 (omega (arith, below)) in
-    let b : nat_lt (48 + n / 100 % 10) 65 ≡ true = lt-ltb (48 + n / 100 % 10) 65 (omega arith) in
-    let c : nat_lt (48 + n / 10 % 10) 65 ≡ true = lt-ltb (48 + n / 10 % 10) 65 (omega arith) in
-    let d : nat_lt (48 + n % 10) 65 ≡ true = lt-ltb (48 + n % 10) 65 (omega arith) in
-    rw (a, b, c, d) refl
+lower-digits : (ds : List ℕ) → AllDigits 10 ds → lower ds ≡ ds
+lower-digits [] all = refl
+lower-digits (c ∷ cs) all =
+    let digit = digit_from_value c all.0 in
+    let low : nat_lt c 65 ≡ true = lt-ltb c 65 (omega (arith, digit)) in
+    rw (low, lower-digits cs all.1) refl
 
-digits-apart : (m n : ℕ) → m < n → bytes_eq (digits m) (digits n) ≡ false
-digits-apart m n less =
-    elim (cases_Bool (bytes_eq (digits m) (digits n))) [
+digits-of : (n : ℕ) → n < 10000 → AllDigits 10 (decimal n)
+digits-of n below = (decimal_is_IsNumeral n (omega (arith, below))).0.1
+
+digits-apart : (m n : ℕ) → m < n → n < 10000 → bytes_eq (decimal m) (decimal n) ≡ false
+digits-apart m n less below =
+    elim (cases_Bool (bytes_eq (decimal m) (decimal n))) [
       | inl same ↦
-          let e : digits m ≡ digits n = (bytes_eq-Decides (digits m) (digits n)).0 same in
-          let a : 48 + m / 1000 ≡ 48 + n / 1000 = cc in
-          let b : 48 + m / 100 % 10 ≡ 48 + n / 100 % 10 = cc in
-          let c : 48 + m / 10 % 10 ≡ 48 + n / 10 % 10 = cc in
-          let d : 48 + m % 10 ≡ 48 + n % 10 = cc in
-          absurd (omega (arith, a, b, c, d, less))
+          let e = decimal_injective m n (omega (arith, less, below)) (omega (arith, below)) ((bytes_eq-Decides (decimal m) (decimal n)).0 same) in
+          absurd (omega (arith, e, less))
       | inr other ↦ other
     ]
 
 -- names
 
-name-split : (n : ℕ) → identifiers_of (numbered_symbol n).name ≡ codes "Plant" ∷ codes "Line" ∷ codes "Station" ∷ (118 ∷ digits n) ∷ []
-name-split n = rw (digits-split n) refl
+name-split : (n : ℕ) → n < 10000 → identifiers_of (numbered_symbol n).name ≡ codes "Plant" ∷ codes "Line" ∷ codes "Station" ∷ (118 ∷ decimal n) ∷ []
+name-split n below = rw (split-digits (decimal n) (digits-of n below)) refl
 
 abbrev parts : ℕ → List (List ℕ)
-parts n = codes "plant" ∷ codes "line" ∷ codes "station" ∷ (118 ∷ digits n) ∷ []
+parts n = codes "plant" ∷ codes "line" ∷ codes "station" ∷ (118 ∷ decimal n) ∷ []
 
 name-lower : (n : ℕ) → n < 10000 → lower_identifiers (numbered_symbol n).name ≡ parts n
-name-lower n below = ap (map lower) (name-split n) ∙ rw (digits-lower n below) refl
+name-lower n below = ap (map lower) (name-split n below) ∙ rw (lower-digits (decimal n) (digits-of n below)) refl
 
-starts-numbered : (m n : ℕ) → bytes_eq (digits n) (digits m) ≡ false
+starts-numbered : (m n : ℕ) → bytes_eq (decimal n) (decimal m) ≡ false
     → starts_with bytes_eq (parts m) (parts n) ≡ false
 starts-numbered m n other = rw other refl
 
@@ -81,8 +80,8 @@ neither a b e f = rw (e, f) refl
 
 names-numbered : (m n : ℕ) → m < n → n < 10000 → are_two_names (numbered_symbol m) (numbered_symbol n) ≡ true
 names-numbered m n less below =
-    let other = digits-apart m n less in
-    let back : bytes_eq (digits n) (digits m) ≡ false = nat_list_eq_equiv.symm (digits n) (digits m) ∙ other in
+    let other = digits-apart m n less below in
+    let back : bytes_eq (decimal n) (decimal m) ≡ false = nat_list_eq_equiv.symm (decimal n) (decimal m) ∙ other in
     let one = name-lower m (omega (arith, less, below)) in
     let two = name-lower n below in
     let there = ap (λ k. starts_with bytes_eq k (lower_identifiers (numbered_symbol n).name)) one ∙ ap (starts_with bytes_eq (parts m)) two ∙ starts-numbered m n back in

@@ -1,5 +1,5 @@
 -- The ports that the tests build. No public clause cites this file.
-use Rattle.std.specs.Prelude.{ℕ, zero, suc, ◌+◌, ◌*◌, ◌/◌, ◌%◌, List, [], ◌∷◌, ◌++◌, codes, false, None, pos}
+use Rattle.std.specs.Prelude.{ℕ, zero, suc, ◌*◌, List, [], ◌∷◌, ◌++◌, codes, decimal, false, None, pos}
 use Rattle.ads_plant.specs.Plain.{BOOL, DINT}
 use Rattle.ads_plant.specs.Listed.{Plain, Text, Struct, Shape, One, Array, Member, NamedType, Structure}
 use Rattle.ads_plant.specs.Description.{Process, Symbol, Port, Facts}
@@ -40,21 +40,18 @@ axis_types =
     ∷ test_member (codes "pos") (One (Plain DINT)) []
     ∷ test_member (codes "label") (One (Text 5)) (codes "its name") ∷ []) ∷ []
 
--- `Main.axis` at 16, and before it in the area, behind it in the list, `Main.count`
+-- `Main.axis` at 8, and before it in the area, behind it in the list, `Main.count`
 abbrev pub axis_port : Port
 axis_port =
     test_port 128
-    (test_symbol (codes "Main.axis") (Array (record { low = pos 1; count = 3 } ∷ []) (Struct 0)) 16 (codes "three")
+    (test_symbol (codes "Main.axis") (Array (record { low = pos 1; count = 3 } ∷ []) (Struct 0)) 8 (codes "three")
     ∷ test_symbol (codes "Main.count") (One (Plain DINT)) 0 [] ∷ [])
 
--- four digits
-abbrev pub digits : ℕ → List ℕ
-digits n = (48 + n / 1000) ∷ (48 + n / 100 % 10) ∷ (48 + n / 10 % 10) ∷ (48 + n % 10) ∷ []
-
+-- a name ends in the number of its symbol
 abbrev pub numbered_symbol : ℕ → Symbol
-numbered_symbol n = test_symbol (codes "Plant.Line.Station.v" ++ digits n) (One (Plain DINT)) (4 * n) []
+numbered_symbol n = test_symbol (codes "Plant.Line.Station.v" ++ decimal n) (One (Plain DINT)) (4 * n) []
 
--- `Plant.Line.Station.v0000` and so on
+-- `Plant.Line.Station.v0` and so on
 unfoldable pub numbered_symbols : ℕ → List Symbol
 numbered_symbols zero = []
 numbered_symbols (suc n) = numbered_symbols n ++ numbered_symbol n ∷ []

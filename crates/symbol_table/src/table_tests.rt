@@ -51,12 +51,12 @@ fn paths_lead_into_arrays_of_structures(rt: HostRuntime) -> Result<(), Fail> {
     let types = axis_types(rt.alloc())?;
     let port = axis_port(rt.alloc())?;
     let table = Table::build(rt.alloc(), &port, &types)?;
-    // `Main.axis` has three elements of 16 bytes, from 16 on; `label` stands at 8, and has 6 bytes and a comment of 8.
+    // `Main.axis` has three elements of 16 bytes, from 8 on; `label` stands at 8, and has 6 bytes and a comment of 8.
     let cases = [
         ("Main.count", Some((1, 0, 4, 0))),
-        ("main.AXIS", Some((0, 16, 48, 5))),
-        ("main.axis[1]", Some((0, 16, 16, 0))),
-        ("main.axis[3].LABEL", Some((0, 56, 6, 8))),
+        ("main.AXIS", Some((0, 8, 48, 5))),
+        ("main.axis[1]", Some((0, 8, 16, 0))),
+        ("main.axis[3].LABEL", Some((0, 48, 6, 8))),
         ("Main.axis[4]", None),
         ("Main.axis[1,1]", None),
         ("Main.axis.label", None),
@@ -77,16 +77,19 @@ fn two_million_paths_lead_nowhere(rt: HostRuntime) -> Result<(), Fail> {
     let types = Types::new(rt.alloc());
     let port = numbered_port(rt.alloc(), 10_000)?;
     let table = Table::build(rt.alloc(), &port, &types)?;
-    let texts = [
-        "plant.line.station.v50000",
-        "Plant.Line.Station",
-        "Plant.Line.Station.v9999.x",
-        "Zone.Line.Station.v0001",
+    // Five paths that lead nowhere, and that of the last symbol.
+    let cases = [
+        ("plant.line.station.v10000", None),
+        ("Plant.Line.Station.v0001", None),
+        ("Plant.Line.Station", None),
+        ("Plant.Line.Station.v9999.x", None),
+        ("Zone.Line.Station.v1", None),
+        ("plant.Line.STATION.V9999", Some((9999, 39_996, 4, 0))),
     ];
-    for _ in 0..500_000 {
-        for text in texts {
-            let found = led::<Brand>(&table, &types, text.as_bytes(), Blank::new(1));
-            assert!(rt; found.is_none(), "{text}");
+    for _ in 0..400_000 {
+        for (text, expected) in cases {
+            let place = led::<Brand>(&table, &types, text.as_bytes(), Blank::new(1));
+            assert_eq!(rt; place, expected, "{text}");
         }
     }
     Ok(())

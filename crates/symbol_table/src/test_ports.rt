@@ -87,7 +87,7 @@ pub fn axis_types(alloc: Global) -> Result<Types, NoMemory>
     Ok(types)
 }
 
-/// `Main.axis` at 16 and `Main.count` at 0 in a data area of 128 bytes.
+/// `Main.axis` at 8 and `Main.count` at 0 in a data area of 128 bytes.
 pub fn axis_port(alloc: Global) -> Result<PortDesc, NoMemory>
     ensures { IfOk result (λ port. port_of port ≡ axis_port) }
 {
@@ -95,7 +95,7 @@ pub fn axis_port(alloc: Global) -> Result<PortDesc, NoMemory>
     let mut bounds = Bounds::new(alloc);
     bounds.push(alloc, Bound { low: 1, count: 3 })?;
     let kind = Shape::Array(bounds, Elem::Struct(0));
-    let axis = symbol(alloc, b"Main.axis", kind, 16, b"three")?;
+    let axis = symbol(alloc, b"Main.axis", kind, 8, b"three")?;
     symbols.push(alloc, axis)?;
     let count = symbol(
         alloc,
@@ -108,7 +108,7 @@ pub fn axis_port(alloc: Global) -> Result<PortDesc, NoMemory>
     Ok(port(128, symbols))
 }
 
-/// So many symbols, from `Plant.Line.Station.v0000` on, one behind another.
+/// So many symbols, from `Plant.Line.Station.v0` on, one behind another.
 pub fn numbered_port(alloc: Global, count: u32) -> Result<PortDesc, NoMemory>
     requires { count ≤ 10000 }
     ensures { IfOk result (λ port. port_of port ≡ numbered_port count) }
@@ -125,12 +125,8 @@ fn numbered_symbol(alloc: Global, n: u32) -> Result<SymbolDesc, NoMemory>
     requires { n < 10000 }
     ensures { IfOk result (λ s. symbol_of s ≡ numbered_symbol n) }
 {
-    let mut name = Octets::copy_of(alloc, b"Plant.Line.Station.v")?;
-    name.push(alloc, b'0' + (n / 1000) as u8)?;
-    name.push(alloc, b'0' + (n / 100 % 10) as u8)?;
-    name.push(alloc, b'0' + (n / 10 % 10) as u8)?;
-    name.push(alloc, b'0' + (n % 10) as u8)?;
+    let name = format!(in alloc; "Plant.Line.Station.v{n}")?;
     let kind = Shape::One(Elem::Plain(Kind::Dint));
-    let symbol = symbol(alloc, name.as_slice(), kind, 4 * n, b"")?;
+    let symbol = symbol(alloc, name.as_bytes(), kind, 4 * n, b"")?;
     Ok(symbol)
 }

@@ -7,8 +7,8 @@ use Rattle.symbol_table.proofs.table_tests.two_million_paths_lead_nowhere.Goals 
 pub build-requires : goal.build-requires
 build-requires g c = rw (c.new-types.ensures, c.in_ok-port.ensures) (numbered_is_placed 10000 (lit≤ tt))
 
-pub led-found-requires-clause-table : goal.led-found-requires-clause-table
-led-found-requires-clause-table g c = record {
+pub led-place-requires-clause-table : goal.led-place-requires-clause-table
+led-place-requires-clause-table g c = record {
   port = port_of c.in_ok-port.port;
   is_of = record { placed = rw (c.new-types.ensures, c.in_ok-port.ensures) (numbered_is_placed 10000 (lit≤ tt)); same = c.in_ok-table.ensures };
 }
