@@ -129,6 +129,7 @@ impl Schedule {
     ) -> Result<Vec<u32>, NoMemory>
         ensures due { IfOk result (λ handles. handles.items ≡ map handle_of (filter (λ w. is_due now w) self.now)) }
         ensures cost { steps.new ≤ steps.old + (length (map handle_of (filter (λ w. is_due now w) self.now)) + 1) }
+        ensures counted { OnOk result (steps.old + length (map handle_of (filter (λ w. is_due now w) self.now)) ≤ steps.new) }
     {
         due_turns(alloc, &self.turns, now, steps)
     }

@@ -1,7 +1,7 @@
 //! The order in which checks become due.
 
 ghost use Rattle.std.specs.Prelude.{◌≡◌, ℕ, ◌+◌, ◌<◌, ◌≤◌, map, filter, length, insert, nat_lt, IfOk};
-ghost use Rattle.std.specs.Prelude.{vec_len, vec_capacity};
+ghost use Rattle.std.specs.Prelude.{OnOk, vec_len, vec_capacity};
 ghost use Rattle.notify_table.specs.Turns.{AreInTurn, IsPlaceOf, turn_rank, is_turn_due, handle_of_turn};
 
 use ads_base::{NoMemory, Steps};
@@ -59,6 +59,7 @@ pub(crate) fn due_turns<L: Ledger>(
     ensures due { IfOk result (λ handles. handles.items
         ≡ map handle_of_turn (filter (is_turn_due now) turns.now)) }
     ensures cost { steps.new ≤ steps.old + (length (filter (is_turn_due now) turns.now) + 1) }
+    ensures counted { OnOk result (steps.old + length (filter (is_turn_due now) turns.now) ≤ steps.new) }
 {
     let mut handles = Vec::new(alloc);
     for turn in turns {

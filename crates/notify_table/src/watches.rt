@@ -113,7 +113,7 @@ impl Watches {
 
     /// The handles of the notifications whose check is due at a moment, rising. A notification is due at the first
     /// tick after it was added, and then where its cycle has passed since its last check. One step is counted for each
-    /// notification that is looked at, at most one more than are due.
+    /// notification that is looked at: those that are due, and at most one more.
     pub fn due<L: Ledger>(
         &self,
         alloc: Global,
@@ -124,6 +124,7 @@ impl Watches {
         ensures rising { IfOk result IsStrictlyIncreasing }
         ensures table { IsTable self.now }
         ensures cost { steps.new ≤ steps.old + (length (due_handles now self.now) + 1) }
+        ensures counted { OnOk result (steps.old + length (due_handles now self.now) ≤ steps.new) }
     {
         let mut handles = self.schedule.due(alloc, now, steps)?;
         handles.sort_unstable();

@@ -1,4 +1,5 @@
 use Rattle.std.proofs.Common.{◌≡◌, ◌<◌, ap, sym, ◌∙◌, arith, map, length, true}
+use Rattle.std.proofs.lemmas.List.{length-take-le}
 use Rattle.std.proofs.lemmas.List.Elements.{All-more}
 use Rattle.notify_table.specs.Turns.{handle_of_turn, is_turn_due}
 use Rattle.notify_table.proofs.TurnLemmas.{due_before, due_at_least, due_all, handles_more}
@@ -14,6 +15,13 @@ returns-then-not-is_due-clause-due g c =
 pub returns-then-not-is_due-clause-cost : goal.returns-then-not-is_due-clause-cost
 returns-then-not-is_due-clause-cost g c =
     omega (arith, due_at_least c.args.now c.args.turns.now c.loop-turn.turn-index (omega arith) c.loop-turn.invariant.due)
+
+pub returns-then-not-is_due-clause-counted : goal.returns-then-not-is_due-clause-counted
+returns-then-not-is_due-clause-counted g c =
+    let within : c.loop-turn.turn-index < length c.args.turns.now = omega arith in
+    let all = ap length (due_before c.args.now c.args.turns.now c.loop-turn.turn-index _ c.requires within
+    c.loop-turn.invariant.due (sym c.is_due.ensures.value ∙ c.if-not-is_due.true)) in
+    omega (arith, all, length-take-le c.loop-turn.turn-index c.args.turns.now (omega arith))
 
 pub returns-in_err-push-clause-cost : goal.returns-in_err-push-clause-cost
 returns-in_err-push-clause-cost g c =
@@ -38,3 +46,8 @@ returns-clause-due g c =
 pub returns-clause-cost : goal.returns-clause-cost
 returns-clause-cost g c =
     omega (arith, due_at_least c.args.now c.args.turns.now c.loop-turn.turn-index (omega arith) c.loop-turn.invariant.due)
+
+pub returns-clause-counted : goal.returns-clause-counted
+returns-clause-counted g c =
+    let all = ap length (due_all c.args.now c.args.turns.now c.loop-turn.turn-index (omega arith) c.loop-turn.invariant.due) in
+    omega (arith, all, length-take-le c.loop-turn.turn-index c.args.turns.now (omega arith))

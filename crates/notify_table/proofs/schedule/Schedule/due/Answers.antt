@@ -16,3 +16,13 @@ returns-clause-cost g c =
       ←
           c.deref.ensures.value,
     ) c.due_turns.ensures.cost
+
+pub returns-clause-counted : goal.returns-clause-counted
+returns-clause-counted g c =
+    rw (
+      ← c.self.view_is,
+      due_watches c.args.now c.self.inside.records c.self.inside.turns.items c.self.invariant.kept,
+      length-map,
+      ←
+          c.deref.ensures.value,
+    ) c.due_turns.ensures.counted

@@ -22,6 +22,10 @@ pub returns-clause-cost : goal.returns-clause-cost
 returns-clause-cost g c =
     rw (← c.self.view_is, due_count c.args.now c.self.inside.schedule c.self.inside.granted c.self.invariant) c.due.ensures.cost
 
+pub returns-clause-counted : goal.returns-clause-counted
+returns-clause-counted g c =
+    rw (← c.self.view_is, due_count c.args.now c.self.inside.schedule c.self.inside.granted c.self.invariant) c.in_ok-handles.ensures.counted
+
 pub returns-in_err-handles-clause-table : goal.returns-in_err-handles-clause-table
 returns-in_err-handles-clause-table g c = rw (← c.self.view_is) (table_holds c.self.inside.schedule c.self.inside.granted c.self.invariant)
 
