@@ -2,9 +2,11 @@
 
 use crate::run::run;
 use crate::status::Status;
-use ads_base::{Calls, Octets};
+use ads_base::{Calls, NoMemory, Octets};
 use ads_outside::{MemFiles, MemSink, NamedFile, NamedFiles};
+use signals::{Ramp, Signal};
 use std::alloc::Global;
+use std::process::Abort;
 use std::test::Fail;
 
 // ReadState from 192.168.0.9.1.1:32905 to 5.1.2.3.1.1:851, invoke id 1.
@@ -14,7 +16,21 @@ const STATE_REQUEST: &str =
 const STATE_LINES: &str =
     "out 1 000028000000c0a80009010189800501020301015303040005000800000000000000010000000000000005000000\nconnections 1 requests 1 replies 1 samples 0 reloads 0 0\n";
 
-// The status of a run over one file, and what the sink then holds.
+// The status of a run with three signals.
+fn ended(
+    alloc: Global,
+    words: &[String],
+    files: &mut MemFiles,
+    sink: &mut MemSink,
+) -> Result<Status, NoMemory> {
+    let mut signals: Vec<Box<dyn Signal>> = Vec::new(alloc);
+    signals.push(Box::new(alloc, Ramp::new(10))?)?;
+    signals.push(Box::new(alloc, Ramp::new(20))?)?;
+    signals.push(Box::new(alloc, Ramp::new(30))?)?;
+    Ok(run(alloc, words, files, sink, signals))
+}
+
+// The status of a run over one file with three signals, and what the sink then holds.
 fn outcome(
     alloc: Global,
     words: &[&str],
@@ -34,13 +50,7 @@ fn outcome(
     named.push(alloc, file)?;
     let mut files = MemFiles::new(alloc, named, Calls::from_vec(failing_reads.to_vec(alloc)?));
     let mut sink = MemSink::new(alloc, Calls::from_vec(failing_puts.to_vec(alloc)?));
-    let status = run(
-        alloc,
-        list.as_slice(),
-        &mut files,
-        &mut sink,
-        Vec::new(alloc),
-    );
+    let status = ended(alloc, list.as_slice(), &mut files, &mut sink)?;
     Ok((status, Octets::copy_of(alloc, sink.bytes())?))
 }
 
@@ -202,54 +212,138 @@ fn each_status_comes_by_its_cause(rt: HostRuntime) -> Result<(), Fail> {
 #[test]
 fn a_file_above_the_limit_is_too_long(rt: HostRuntime) -> Result<(), Fail> {
     let mut long = Octets::new(rt.alloc());
-    for _ in 0..257 {
-        long.put(rt.alloc(), &[b'#'; 65536])?;
+    for _ in 0..256 {
+        long.put(rt.alloc(), &[b'\n'; 65536])?;
     }
-    let (status, text) = outcome(
-        rt.alloc(),
-        &["selftest", "it.script"],
-        long.as_slice(),
-        &[],
-        &[],
-    )?;
-    assert_eq!(rt; status, Status::TooLong);
-    assert_eq!(rt; text.as_slice(), b"ads: file too long\n".as_slice());
+    long.push(rt.alloc(), b'\n')?;
+    for command in ["selftest", "check"] {
+        let words = [command, "it.script"];
+        let (status, text) = outcome(rt.alloc(), &words, long.as_slice(), &[], &[])?;
+        assert_eq!(rt; status.number(), 12, "{command}");
+        assert_eq!(rt;
+            text.as_slice(),
+            b"ads: file too long\n".as_slice(),
+            "{command}"
+        );
+    }
     Ok(())
 }
 
-// The status of `check` over one description without signals, and what the sink then holds.
-fn checked(alloc: Global, text: &str) -> Result<(Status, Octets), Fail> {
-    outcome(alloc, &["check", "it.script"], text.as_bytes(), &[], &[])
+// The plant, up to the offset of its second symbol, `Main.axis`.
+const BEFORE_OFFSET: &str = r#"schema = 1
+net = "5.1.2.3.1.1"
+[[route]]
+net = "192.168.0.9.1.1"
+rights = "control"
+[[route]]
+net = "192.168.0.10.1.1"
+rights = "read"
+[[type]]
+name = "Axis"
+member = [
+  { name = "active", type = "BOOL" },
+  { name = "pos", type = "DINT" },
+  { name = "label", type = "STRING(5)" },
+]
+[[port]]
+port = 851
+name = "Plc30 App"
+major = 3
+minor = 1
+build = 1711
+inputs = 16
+outputs = 16
+memory = 32
+data = 128
+[[port.symbol]]
+name = "Main.count"
+type = "DINT"
+area = "data"
+offset = 0
+initial = "2a000000"
+[[port.symbol]]
+name = "Main.axis"
+type = "ARRAY [1..3] OF Axis"
+area = "data"
+offset = "#;
+
+// From there to the signal of its fourth symbol.
+const BEFORE_SIGNAL: &str = r#"
+[[port.symbol]]
+name = "Main.limit"
+type = "INT"
+area = "data"
+offset = 60
+read_only = true
+initial = "e803"
+[[port.symbol]]
+name = "Main.wave"
+type = "UINT"
+area = "data"
+offset = 64
+signal = "#;
+
+const BEHIND_SIGNAL: &str = r#"
+[[port.symbol]]
+name = "Main.title"
+type = "STRING(7)"
+area = "data"
+offset = 72
+persistent = true
+initial = "4d69780000000000"
+[[port.symbol]]
+name = "Flags.bits"
+type = "BYTE"
+area = "memory"
+offset = 0
+"#;
+
+fn plant(alloc: Global, offset: u32, signal: u32) -> Result<String, NoMemory> {
+    let text = format!(in alloc; "{BEFORE_OFFSET}{offset}{BEFORE_SIGNAL}{signal}{BEHIND_SIGNAL}")?;
+    Ok(text)
 }
 
+// What `check` prints over each text, and its exit status.
+fn expect_checked(rt: &impl Abort, alloc: Global, cases: &[(&[u8], u8, &str)]) -> Result<(), Fail> {
+    for (text, number, printed) in cases {
+        let (status, line) = outcome(alloc, &["check", "it.script"], text, &[], &[])?;
+        assert_eq!(rt; line.as_slice(), printed.as_bytes(), "{printed}");
+        assert_eq!(rt; status.number(), *number, "{printed}");
+    }
+    Ok(())
+}
+
+// The entries of the plant's symbols have 47, 62, 46, 46, 52 and 47 bytes, in sum 300. With `Main.axis` at 2 it has
+// bytes of `Main.count`. Signal 2 is the last of three.
 #[test]
 fn a_description_is_told_of_or_its_fault(rt: HostRuntime) -> Result<(), Fail> {
-    let head = "schema = 1\nnet = \"5.1.2.3.1.1\"\n";
-    let port =
-        "[[port]]\nport = 851\nname = \"Plc30 App\"\nmajor = 3\nminor = 1\nbuild = 1711\ndata = 8\n";
-    let count =
-        "[[port.symbol]]\nname = \"Main.count\"\ntype = \"DINT\"\narea = \"data\"\noffset = 0\n";
-    let good = format!(in rt.alloc(); "{head}{port}{count}")?;
-    let (status, text) = checked(rt.alloc(), good.as_str())?;
-    assert_eq!(rt; status, Status::Done);
-    // an entry of `Main.count`: 33 bytes, 10 of the name, 4 of `DINT`
-    assert_eq!(rt;
-        text.as_slice(),
-        b"port 851 name Plc30 App image 8 symbols 1 upload 47\nok ports 1 symbols 1 types 0\n".as_slice()
-    );
-    let twice = format!(in rt.alloc(); "{good}{count}")?;
+    let alloc = rt.alloc();
+    let good = plant(alloc, 8, 2)?;
+    let overlap = plant(alloc, 2, 2)?;
+    let unknown_signal = plant(alloc, 8, 3)?;
     let cases = [
-        (twice.as_str(), 10, 1, "ads: description rule 10 item 1\n"),
-        ("schema = 2", 2, 0, "ads: description rule 2 item 0\n"),
-        ("schema =", 0, 0, "ads: description syntax\n"),
+        (
+            good.as_bytes(),
+            0,
+            "port 851 name Plc30 App image 192 symbols 6 upload 300\nok ports 1 symbols 6 types 1\n",
+        ),
+        (overlap.as_bytes(), 2, "ads: description rule 12 item 1\n"),
+        (
+            unknown_signal.as_bytes(),
+            2,
+            "ads: description rule 14 item 3\n",
+        ),
+        (
+            b"schema = 2".as_slice(),
+            2,
+            "ads: description rule 2 item 0\n",
+        ),
+        (b"schema =".as_slice(), 2, "ads: description syntax\n"),
+        (
+            b"schema = 1 # \xff".as_slice(),
+            2,
+            "ads: description syntax\n",
+        ),
     ];
-    for (text, number, item, line) in cases {
-        let (status, printed) = checked(rt.alloc(), text)?;
-        assert_eq!(rt; status, Status::BadDescription { number, item }, "{text}");
-        assert_eq!(rt; printed.as_slice(), line.as_bytes(), "{text}");
-    }
-    let (status, printed) = outcome(rt.alloc(), &["check", "it.script"], b"\xff", &[], &[])?;
-    assert_eq!(rt; status, Status::BadDescription { number: 0, item: 0 });
-    assert_eq!(rt; printed.as_slice(), b"ads: description syntax\n".as_slice());
-    Ok(())
+    expect_checked(&rt, alloc, &cases)
 }
