@@ -3,16 +3,14 @@ use Rattle.std.proofs.Common.{◌≡◌, ℕ, zero, suc, ◌+◌, ◌-◌, ◌*�
 use Rattle.std.specs.Int.{w32, to_le_bytes}
 use Rattle.std.specs.List.{flat_map, AllByRecursion}
 use Rattle.std.proofs.lemmas.List.{length-drop, drop-drop}
+use Rattle.std.proofs.lemmas.Nat.{from_le_bytes-to_le_bytes_4}
 use Rattle.ads_formats.specs.Numbers.{AreBytes, number32}
 use Rattle.ads_formats.specs.TypeEntry.{Dimension, dimension_bytes}
+use Rattle.type_upload.specs.Reading.{dimensions_in}
 use Rattle.ads_formats.proofs.Fields.{AreBytes-drop, number32-front, number32-lt, next32}
 
-abbrev pub dimension_at : List ℕ → Dimension
+abbrev dimension_at : List ℕ → Dimension
 dimension_at bytes = record { low = number32 0 bytes; count = number32 4 bytes }
-
-abbrev pub dimensions_in : ℕ → List ℕ → List Dimension
-dimensions_in zero bytes = []
-dimensions_in (suc n) bytes = dimension_at bytes ∷ dimensions_in n (drop 8 bytes)
 
 pub length-dimensions_in : (n : ℕ) (bytes : List ℕ) → length (dimensions_in n bytes) ≡ n
 length-dimensions_in zero bytes = refl
@@ -46,3 +44,21 @@ dimensions_fit (suc n) bytes h =
 pub length-dimensions : (ds : List Dimension) → length (flat_map dimension_bytes ds) ≡ 8 * length ds
 length-dimensions [] = refl
 length-dimensions (d ∷ ds) = let others = length-dimensions ds in omega arith
+
+-- ---- the text of dimensions is read as these dimensions
+
+first_read : (d : Dimension) (rest : List ℕ) → (d.low < 2 ^ 32) × (d.count < 2 ^ 32) → dimension_at (dimension_bytes d ++ rest) ≡ d
+first_read d rest fits =
+    let low : number32 0 (dimension_bytes d ++ rest) ≡ d.low = from_le_bytes-to_le_bytes_4 d.low fits.0 in
+    let count : number32 4 (dimension_bytes d ++ rest) ≡ d.count = from_le_bytes-to_le_bytes_4 d.count fits.1 in
+    rw (low, count) refl
+
+pub dimensions_read : (ds : List Dimension) (behind : List ℕ) → AllByRecursion (λ (d : Dimension). (d.low < 2 ^ 32) × (d.count < 2 ^ 32)) ds
+    → dimensions_in (length ds) (flat_map dimension_bytes ds ++ behind) ≡ ds
+dimensions_read [] behind fits = refl
+dimensions_read (d ∷ ds) behind fits =
+    let rest = flat_map dimension_bytes ds ++ behind in
+    let first = first_read d rest fits.0 in
+    let others : dimensions_in (length ds) rest ≡ ds = dimensions_read ds behind fits.1 in
+    ap (λ (l : List ℕ). dimensions_in (suc (length ds)) l) (append_assoc (dimension_bytes d) (flat_map dimension_bytes ds) behind)
+    ∙ (ap (λ (x : Dimension). x ∷ dimensions_in (length ds) rest) first ∙ ap (λ (l : List Dimension). d ∷ l) others)

@@ -7,10 +7,11 @@ use Rattle.std.proofs.lemmas.List.{length-append, length-drop, length-take-le, t
 use Rattle.std.proofs.lemmas.Nat.{from_le_bytes-to_le_bytes_2, from_le_bytes-to_le_bytes_4}
 use Rattle.ads_formats.specs.Numbers.{AreBytes, number16, number32}
 use Rattle.ads_formats.specs.SymbolEntry.{text_bytes}
-use Rattle.ads_formats.specs.TypeEntry.{TypeFields, Stamps, dimension_bytes, fields_len, fields_bytes, FitsFields}
+use Rattle.ads_formats.specs.TypeEntry.{Dimension, TypeFields, Stamps, dimension_bytes, fields_len, fields_bytes, FitsFields}
 use Rattle.ads_formats.proofs.Fields.{AreBytes-drop, number16-lt, number32-lt, number32-front, next16, next32, next_field}
-use Rattle.type_upload.specs.Places.{end_of_name, end_of_kind, end_of_comment, end_of_fields, HasFields}
-use Rattle.type_upload.proofs.Dimensions.{dimensions_in, length-dimensions_in, dimensions-front, dimensions_fit, length-dimensions}
+use Rattle.type_upload.specs.Places.{HasFields}
+use Rattle.type_upload.specs.Reading.{end_of_name, end_of_type, end_of_comment, end_of_fields, dimensions_in, fields_at}
+use Rattle.type_upload.proofs.Dimensions.{length-dimensions_in, dimensions-front, dimensions_fit, length-dimensions, dimensions_read}
 
 -- ---- one text
 
@@ -100,18 +101,6 @@ fixed-same b n k c d en ek ec ed = rw (en, ek, ec, ed) refl
 
 -- ---- what stands at the places is a text of its fields
 
-abbrev pub fields_at : List ℕ → TypeFields
-fields_at b = record {
-  size = number32 16 b;
-  offset = number32 20 b;
-  type_id = number32 24 b;
-  flags = number32 28 b;
-  name = take (number16 32 b) (drop 42 b);
-  type_name = take (number16 34 b) (drop (end_of_name b + 1) b);
-  comment = take (number16 36 b) (drop (end_of_kind b + 1) b);
-  dimensions = dimensions_in (number16 38 b) (drop (end_of_comment b + 1) b);
-}
-
 abbrev pub stamps_at : List ℕ → Stamps
 stamps_at b = record { version = number32 4 b; hash = number32 8 b; type_hash = number32 12 b }
 
@@ -138,22 +127,22 @@ front b h t =
     let d = number16 38 b in
     let name : List ℕ = take n (drop 42 b) in
     let kind : List ℕ = take k (drop (end_of_name b + 1) b) in
-    let comment : List ℕ = take c (drop (end_of_kind b + 1) b) in
+    let comment : List ℕ = take c (drop (end_of_type b + 1) b) in
     let place : List ℕ = drop (end_of_comment b + 1) b in
     let within : end_of_fields b ≤ length b = omega (arith, t.covers, t.within) in
     let name_len : length name ≡ n = length-take-le n (drop 42 b) (omega (arith, length-drop 42 b, within)) in
     let kind_len : length kind ≡ k = length-take-le k (drop (end_of_name b + 1) b) (omega (arith, length-drop (end_of_name b + 1) b, within)) in
-    let comment_len : length comment ≡ c = length-take-le c (drop (end_of_kind b + 1) b) (omega (arith, length-drop (end_of_kind b + 1) b, within)) in
+    let comment_len : length comment ≡ c = length-take-le c (drop (end_of_type b + 1) b) (omega (arith, length-drop (end_of_type b + 1) b, within)) in
     let dims_len : length (dimensions_in d place) ≡ d = length-dimensions_in d place in
     let dims_within : 8 * d ≤ length place = omega (arith, length-drop (end_of_comment b + 1) b, within) in
     let dims = flat_map dimension_bytes (dimensions_in d place) in
     let start = fixed-front b h (omega (arith, within)) in
     let first = next_field b (fixed_at b) (drop 42 b) (text_bytes name) (drop (end_of_name b + 1) b) start
     (text_front b 42 n (omega (arith, within)) t.name) in
-    let second = next_field b (fixed_at b ++ text_bytes name) (drop (end_of_name b + 1) b) (text_bytes kind) (drop (end_of_kind b + 1) b) first
+    let second = next_field b (fixed_at b ++ text_bytes name) (drop (end_of_name b + 1) b) (text_bytes kind) (drop (end_of_type b + 1) b) first
     (text_front b (end_of_name b + 1) k (omega (arith, within)) t.kind) in
-    let third = next_field b (fixed_at b ++ text_bytes name ++ text_bytes kind) (drop (end_of_kind b + 1) b) (text_bytes comment)
-    (drop (end_of_comment b + 1) b) second (text_front b (end_of_kind b + 1) c (omega (arith, within)) t.comment) in
+    let third = next_field b (fixed_at b ++ text_bytes name ++ text_bytes kind) (drop (end_of_type b + 1) b) (text_bytes comment)
+    (drop (end_of_comment b + 1) b) second (text_front b (end_of_type b + 1) c (omega (arith, within)) t.comment) in
     let behind : drop (8 * d) place ≡ drop (end_of_fields b) b = drop-drop (8 * d) (end_of_comment b + 1) b in
     let bounds : dims ++ drop (end_of_fields b) b ≡ place =
     ap (λ (l : List ℕ). dims ++ l) (sym behind)
@@ -182,6 +171,18 @@ front b h t =
 
 -- ---- a text of an entry's fields has them at its places
 
+abbrev pub made : (size offset id flags : ℕ) (name type comment : List ℕ) (dims : List Dimension) → TypeFields
+made size offset id flags name type comment dims = record {
+  size = size;
+  offset = offset;
+  type_id = id;
+  flags = flags;
+  name = name;
+  type_name = type;
+  comment = comment;
+  dimensions = dims;
+}
+
 record Says (b : List ℕ) (f : TypeFields) (stated subs : ℕ) (behind : List ℕ) : Type 0 where
   stated_is : number32 0 b ≡ stated
   name : number16 32 b ≡ length f.name
@@ -189,6 +190,10 @@ record Says (b : List ℕ) (f : TypeFields) (stated subs : ℕ) (behind : List �
   comment : number16 36 b ≡ length f.comment
   dimensions : number16 38 b ≡ length f.dimensions
   subs_is : number16 40 b ≡ subs
+  size : number32 16 b ≡ f.size
+  offset : number32 20 b ≡ f.offset
+  type_id : number32 24 b ≡ f.type_id
+  flags : number32 28 b ≡ f.flags
   texts : drop 42 b ≡ f.name ++ 0 ∷ (f.type_name ++ 0 ∷ (f.comment ++ 0 ∷ (flat_map dimension_bytes f.dimensions ++ behind)))
 
 regroup : (name kind comment dims behind : List ℕ)
@@ -205,6 +210,10 @@ says_text s f stated subs behind fits small few = record {
   comment = from_le_bytes-to_le_bytes_2 (length f.comment) fits.comment;
   dimensions = from_le_bytes-to_le_bytes_2 (length f.dimensions) fits.dimensions;
   subs_is = from_le_bytes-to_le_bytes_2 subs few;
+  size = from_le_bytes-to_le_bytes_4 f.size fits.size;
+  offset = from_le_bytes-to_le_bytes_4 f.offset fits.offset;
+  type_id = from_le_bytes-to_le_bytes_4 f.type_id fits.type_id;
+  flags = from_le_bytes-to_le_bytes_4 f.flags fits.flags;
   texts = regroup f.name f.type_name f.comment (flat_map dimension_bytes f.dimensions) behind;
 }
 
@@ -226,21 +235,47 @@ length-fields s f stated subs =
     let dims = length-dimensions f.dimensions in
     omega (arith, texts, dims)
 
+pub same_fields : (size offset id flags : ℕ) (name type comment : List ℕ) (dims : List Dimension) (f : TypeFields)
+    → size ≡ f.size → offset ≡ f.offset → id ≡ f.type_id → flags ≡ f.flags → name ≡ f.name → type ≡ f.type_name → comment ≡ f.comment → dims ≡ f.dimensions
+    → made size offset id flags name type comment dims ≡ f
+same_fields size offset id flags name type comment dims f es eo ei ef en et ec ed = rw (es, eo, ei, ef, en, et, ec, ed) refl
+
+text_read : (place text rest : List ℕ) (n : ℕ) → n ≡ length text → place ≡ text ++ 0 ∷ rest → take n place ≡ text
+text_read place text rest n en e = subst (λ (l : List ℕ). take n l ≡ text) (sym e) (take_at text (0 ∷ rest) n (sym en))
+
+fields_read : (b : List ℕ) (f : TypeFields) (stated subs : ℕ) (behind : List ℕ) → FitsFields f → Says b f stated subs behind → fields_at b ≡ f
+fields_read b f stated subs behind fits s =
+    let dims = flat_map dimension_bytes f.dimensions in
+    let name = next_text b 42 (number16 32 b) f.name (f.type_name ++ 0 ∷ (f.comment ++ 0 ∷ (dims ++ behind))) s.name s.texts in
+    let type = next_text b (end_of_name b + 1) (number16 34 b) f.type_name (f.comment ++ 0 ∷ (dims ++ behind)) s.kind name.1 in
+    let comment = next_text b (end_of_type b + 1) (number16 36 b) f.comment (dims ++ behind) s.comment type.1 in
+    let bounds : dimensions_in (number16 38 b) (drop (end_of_comment b + 1) b) ≡ f.dimensions =
+    subst (λ (n : ℕ). dimensions_in n (drop (end_of_comment b + 1) b) ≡ f.dimensions) (sym s.dimensions)
+    (subst (λ (l : List ℕ). dimensions_in (length f.dimensions) l ≡ f.dimensions) (sym comment.1) (dimensions_read f.dimensions behind fits.each)) in
+    same_fields (number32 16 b) (number32 20 b) (number32 24 b) (number32 28 b) (take (number16 32 b) (drop 42 b))
+    (take (number16 34 b) (drop (end_of_name b + 1) b)) (take (number16 36 b) (drop (end_of_type b + 1) b))
+    (dimensions_in (number16 38 b) (drop (end_of_comment b + 1) b)) f s.size s.offset s.type_id s.flags
+    (text_read (drop 42 b) f.name (f.type_name ++ 0 ∷ (f.comment ++ 0 ∷ (dims ++ behind))) (number16 32 b) s.name s.texts)
+    (text_read (drop (end_of_name b + 1) b) f.type_name (f.comment ++ 0 ∷ (dims ++ behind)) (number16 34 b) s.kind name.1)
+    (text_read (drop (end_of_type b + 1) b) f.comment (dims ++ behind) (number16 36 b) s.comment type.1)
+    bounds
+
 -- what a text in front says of the bytes
 pub record Found (b : List ℕ) (f : TypeFields) (stated subs : ℕ) (behind : List ℕ) : Type 0 where
   pub fields : HasFields b
+  pub read : fields_at b ≡ f
   pub stated_is : number32 0 b ≡ stated
   pub subs_is : number16 40 b ≡ subs
   pub end_is : end_of_fields b ≡ fields_len f
   pub behind_is : drop (end_of_fields b) b ≡ behind
 
-says_found : (b : List ℕ) (f : TypeFields) (stated subs : ℕ) (behind : List ℕ) → Says b f stated subs behind
+says_found : (b : List ℕ) (f : TypeFields) (stated subs : ℕ) (behind : List ℕ) → FitsFields f → Says b f stated subs behind
     → fields_len f ≤ stated → stated ≤ length b → Found b f stated subs behind
-says_found b f stated subs behind s covers within =
+says_found b f stated subs behind fits s covers within =
     let dims = flat_map dimension_bytes f.dimensions in
     let name = next_text b 42 (number16 32 b) f.name (f.type_name ++ 0 ∷ (f.comment ++ 0 ∷ (dims ++ behind))) s.name s.texts in
     let kind = next_text b (end_of_name b + 1) (number16 34 b) f.type_name (f.comment ++ 0 ∷ (dims ++ behind)) s.kind name.1 in
-    let comment = next_text b (end_of_kind b + 1) (number16 36 b) f.comment (dims ++ behind) s.comment kind.1 in
+    let comment = next_text b (end_of_type b + 1) (number16 36 b) f.comment (dims ++ behind) s.comment kind.1 in
     let dims_len : length dims ≡ 8 * number16 38 b = omega (arith, length-dimensions f.dimensions, s.dimensions) in
     let last : drop (8 * number16 38 b) (drop (end_of_comment b + 1) b) ≡ behind =
     subst (λ (l : List ℕ). drop (8 * number16 38 b) l ≡ behind) (sym comment.1) (drop_at dims behind (8 * number16 38 b) dims_len) in
@@ -253,6 +288,7 @@ says_found b f stated subs behind s covers within =
         kind = kind.0;
         comment = comment.0;
       };
+      read = fields_read b f stated subs behind fits s;
       stated_is = s.stated_is;
       subs_is = s.subs_is;
       end_is = end_is;
@@ -267,4 +303,4 @@ found s f stated subs behind b fits small few covers within e =
     let long : length (text ++ behind) ≡ length text + length behind = length-append text behind in
     let text_len : length text ≡ fields_len f = length-fields s f stated subs in
     subst (λ (l : List ℕ). Found l f stated subs behind) (sym e)
-    (says_found (text ++ behind) f stated subs behind (says_text s f stated subs behind fits small few) covers (omega (arith, long, text_len, within)))
+    (says_found (text ++ behind) f stated subs behind fits (says_text s f stated subs behind fits small few) covers (omega (arith, long, text_len, within)))

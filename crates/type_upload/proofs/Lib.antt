@@ -9,3 +9,4 @@ pub mod LayoutLemmas
 pub mod MemberLemmas
 pub mod EntryLemmas
 pub mod TestedTypes
+mod Examples

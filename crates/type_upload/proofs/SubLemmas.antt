@@ -10,9 +10,10 @@ use Rattle.ads_formats.specs.Numbers.{AreBytes, number16, number32}
 use Rattle.ads_formats.specs.TypeEntry.{TypeFields, fields_len, fields_bytes, IsSubEntry}
 use Rattle.ads_formats.proofs.Fields.{AreBytes-drop, number32-lt, next_field}
 use Rattle.ads_formats.proofs.EntryLemmas.{both}
-use Rattle.type_upload.specs.Places.{end_of_fields, HasFields, is_fields, after_sub_in, after_subs_in}
+use Rattle.type_upload.specs.Places.{HasFields}
+use Rattle.type_upload.specs.Reading.{end_of_fields, is_fields, fields_at, after_entry, after_sub_in, after_subs_in, subs_in}
 use Rattle.type_upload.proofs.TestLemmas.{fields_of_test, test_of_fields}
-use Rattle.type_upload.proofs.FieldLemmas.{fields_at, stamps_at, front, found, length-fields}
+use Rattle.type_upload.proofs.FieldLemmas.{stamps_at, front, found, length-fields}
 
 -- ---- what is read is a text
 
@@ -143,7 +144,12 @@ subs_read (suc n) b rest h e =
 
 -- ---- a text is read
 
-pub sub_found : (text after : List ℕ) (f : TypeFields) → IsSubEntry text f → after_sub_in (text ++ after) ≡ Some after
+record SubFound (text after : List ℕ) (f : TypeFields) : Type 0 where
+  fields : fields_at (text ++ after) ≡ f
+  behind : after_entry (text ++ after) ≡ after
+  walked : after_sub_in (text ++ after) ≡ Some after
+
+sub_found : (text after : List ℕ) (f : TypeFields) → IsSubEntry text f → SubFound text after f
 sub_found text after f s =
     let stated = fields_len f + length s.further in
     let fields = to_le_bytes w32 stated ++ fields_bytes s.stamps f 0 in
@@ -154,7 +160,11 @@ sub_found text after f s =
     let fields_length : length fields ≡ fields_len f = length-fields s.stamps f stated 0 in
     let len : length text ≡ stated = ap (λ (l : List ℕ). length l) s.whole ∙ omega (arith, length-append fields s.further, fields_length) in
     let left : drop (number32 0 (text ++ after)) (text ++ after) ≡ after = drop_at text after (number32 0 (text ++ after)) (len ∙ sym is.stated_is) in
-    after_sub_in-found (text ++ after) (test_of_fields (text ++ after) is.fields) is.subs_is ∙ ap (λ (l : List ℕ). Some l) left
+    record {
+      fields = is.read;
+      behind = left;
+      walked = after_sub_in-found (text ++ after) (test_of_fields (text ++ after) is.fields) is.subs_is ∙ ap (λ (l : List ℕ). Some l) left;
+    }
 
 step : (n : ℕ) (b after : List ℕ) → after_sub_in b ≡ Some after → after_subs_in (suc n) b ≡ after_subs_in n after
 unfolding after_subs_in
@@ -173,7 +183,19 @@ subs_found (t ∷ ts) [] rest h = absurd h
 subs_found (t ∷ ts) (f ∷ fs) rest h =
     let tail = flat_map (λ (x : List ℕ). x) ts in
     ap (λ (l : List ℕ). after_subs_in (suc (length fs)) l) (append_assoc t tail rest)
-    ∙ (step (length fs) (t ++ (tail ++ rest)) (tail ++ rest) (sub_found t (tail ++ rest) f h.0) ∙ subs_found ts fs rest h.1)
+    ∙ (step (length fs) (t ++ (tail ++ rest)) (tail ++ rest) (sub_found t (tail ++ rest) f h.0).walked ∙ subs_found ts fs rest h.1)
+
+pub subs_fields : (texts : List (List ℕ)) (subs : List TypeFields) (rest : List ℕ) → AllZip IsSubEntry texts subs
+    → subs_in (length subs) (flat_map (λ (t : List ℕ). t) texts ++ rest) ≡ subs
+subs_fields [] [] rest h = refl
+subs_fields [] (f ∷ fs) rest h = absurd h
+subs_fields (t ∷ ts) [] rest h = absurd h
+subs_fields (t ∷ ts) (f ∷ fs) rest h =
+    let tail = flat_map (λ (x : List ℕ). x) ts in
+    let first = sub_found t (tail ++ rest) f h.0 in
+    ap (λ (l : List ℕ). subs_in (suc (length fs)) l) (append_assoc t tail rest)
+    ∙ (ap (λ (x : TypeFields). x ∷ subs_in (length fs) (after_entry (t ++ (tail ++ rest)))) first.fields
+    ∙ ap (λ (l : List TypeFields). f ∷ l) (ap (λ (l : List ℕ). subs_in (length fs) l) first.behind ∙ subs_fields ts fs rest h.1))
 
 -- ---- walking
 

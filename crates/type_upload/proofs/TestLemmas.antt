@@ -4,20 +4,21 @@ use Rattle.std.specs.Cmp.Derive.{both_true}
 use Rattle.std.proofs.lemmas.Bool.{leb-true, le-leb, eqb-true, eq-eqb}
 use Rattle.ads_formats.specs.Numbers.{number32}
 use Rattle.ads_formats.proofs.EntryLemmas.{both}
-use Rattle.type_upload.specs.Places.{end_of_name, end_of_kind, end_of_comment, end_of_fields, HasFields, is_fields}
+use Rattle.type_upload.specs.Places.{HasFields}
+use Rattle.type_upload.specs.Reading.{end_of_name, end_of_type, end_of_comment, end_of_fields, is_fields}
 
 pub fields_of_test : (bytes : List ℕ) → is_fields bytes ≡ true → HasFields bytes
 unfolding is_fields
 fields_of_test bytes e =
     let c = both _ (eqb (get_or bytes (end_of_comment bytes) 0) 0) e in
-    let k = both _ (eqb (get_or bytes (end_of_kind bytes) 0) 0) c.0 in
+    let k = both _ (eqb (get_or bytes (end_of_type bytes) 0) 0) c.0 in
     let n = both _ (eqb (get_or bytes (end_of_name bytes) 0) 0) k.0 in
     let l = both (leb (end_of_fields bytes) (number32 0 bytes)) (leb (number32 0 bytes) (length bytes)) n.0 in
     record {
       covers = leb-true (end_of_fields bytes) (number32 0 bytes) l.0;
       within = leb-true (number32 0 bytes) (length bytes) l.1;
       name = eqb-true (get_or bytes (end_of_name bytes) 0) 0 n.1;
-      kind = eqb-true (get_or bytes (end_of_kind bytes) 0) 0 k.1;
+      kind = eqb-true (get_or bytes (end_of_type bytes) 0) 0 k.1;
       comment = eqb-true (get_or bytes (end_of_comment bytes) 0) 0 c.1;
     }
 
@@ -28,7 +29,7 @@ test_of_fields bytes t =
     (le-leb (end_of_fields bytes) (number32 0 bytes) t.covers)
     (le-leb (number32 0 bytes) (length bytes) t.within))
     (eq-eqb (get_or bytes (end_of_name bytes) 0) 0 t.name))
-    (eq-eqb (get_or bytes (end_of_kind bytes) 0) 0 t.kind))
+    (eq-eqb (get_or bytes (end_of_type bytes) 0) 0 t.kind))
     (eq-eqb (get_or bytes (end_of_comment bytes) 0) 0 t.comment)
 
 is_false : (test : Bool) → (test ≡ true → ⊥) → false ≡ test
@@ -43,7 +44,7 @@ pub refused_name : (bytes : List ℕ) (at : ℕ) → at ≡ end_of_name bytes �
 refused_name bytes at e never =
     refused bytes (λ t. never (subst (λ (n : ℕ). get_or bytes n 0 ≡ 0) (sym e) t.name))
 
-pub refused_kind : (bytes : List ℕ) (at : ℕ) → at ≡ end_of_kind bytes → (get_or bytes at 0 ≡ 0 → ⊥) → false ≡ is_fields bytes
+pub refused_kind : (bytes : List ℕ) (at : ℕ) → at ≡ end_of_type bytes → (get_or bytes at 0 ≡ 0 → ⊥) → false ≡ is_fields bytes
 refused_kind bytes at e never =
     refused bytes (λ t. never (subst (λ (n : ℕ). get_or bytes n 0 ≡ 0) (sym e) t.kind))
 

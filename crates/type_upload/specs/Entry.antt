@@ -1,8 +1,25 @@
 -- Which type entry a value of `TypeEntry` is.
-use Rattle.std.specs.Prelude.{◌≡◌, ℕ, List, length}
+use Rattle.std.specs.Prelude.{◌≡◌, ℕ, ◌/◌, List, length}
 use Rattle.std.specs.List.{flat_map}
 use Rattle.type_upload.specs.declared.entry.TypeEntry.{TypeEntry}
 use Rattle.ads_formats.specs.TypeEntry as formats
+use Rattle.type_upload.specs.Reading.{dimensions_in, subs_in}
+
+-- the entry that a value is, with the dimensions and sub entries that stand in its bytes
+abbrev pub entry_meant : TypeEntry → formats.TypeEntry
+entry_meant e = record {
+  fields = record {
+    size = e.size;
+    offset = e.offset;
+    type_id = e.type_id;
+    flags = e.flags;
+    name = e.name.now;
+    type_name = e.kind.now;
+    comment = e.comment.now;
+    dimensions = dimensions_in (length e.dims.now / 8) e.dims.now;
+  };
+  subs = subs_in e.subs e.sub_bytes.now;
+}
 
 -- the value says what the entry says; the dimensions stand in it as their bytes
 pub record SaysEntry (e : TypeEntry) (entry : formats.TypeEntry) : Type 0 where

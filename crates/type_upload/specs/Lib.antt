@@ -1,3 +1,4 @@
+pub mod Reading
 pub mod Entry
 pub mod Places
 pub mod Layouts

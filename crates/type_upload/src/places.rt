@@ -1,7 +1,8 @@
 //! Where the parts of an entry stand.
 
 ghost use Rattle.std.specs.Prelude.{◌≡◌, IfSome, is_some};
-ghost use Rattle.type_upload.specs.Places.{HasPlaces, is_fields};
+ghost use Rattle.type_upload.specs.Places.{HasPlaces};
+ghost use Rattle.type_upload.specs.Reading.{is_fields};
 
 use ads_base::{get16, get32};
 

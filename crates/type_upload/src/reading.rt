@@ -1,8 +1,9 @@
 //! Type entries are read.
 
-ghost use Rattle.std.specs.Prelude.{◌≡◌, ◌+◌, ◌≤◌, IsNone, IfSome, ◌↔◌};
-ghost use Rattle.type_upload.specs.Entry.{IsRead, BeginsWithNone};
+ghost use Rattle.std.specs.Prelude.{◌≡◌, ◌+◌, ◌≤◌, IsNone, IfSome, ◌↔◌, option_map};
+ghost use Rattle.type_upload.specs.Entry.{IsRead, BeginsWithNone, entry_meant};
 ghost use Rattle.type_upload.specs.Places.{HasPlaces, ReadsAs};
+ghost use Rattle.type_upload.specs.Reading.{type_entry_of};
 
 use crate::TypeEntry;
 use crate::places::{Places, places_in};
@@ -16,6 +17,7 @@ use ads_base::{get16, get32};
 pub fn read_type(bytes: &[u8]) -> Option<(TypeEntry<'_>, &[u8])>
     ensures text { IfSome result (λ (e, rest). IsRead bytes.now e rest.now) }
     ensures none { IsNone result ↔ BeginsWithNone bytes.now }
+    ensures entry { option_map (λ (e, rest). (entry_meant e, rest.now)) result ≡ type_entry_of bytes.now }
 {
     let places = places_in(bytes)?;
     let behind = &bytes[places.fields_end..places.len];

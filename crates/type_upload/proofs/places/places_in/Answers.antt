@@ -1,5 +1,5 @@
 use Rattle.std.proofs.Common.{◌+◌, sym, arith, inl, inr}
-use Rattle.type_upload.specs.Places.{end_of_name, end_of_kind, end_of_comment}
+use Rattle.type_upload.specs.Reading.{end_of_name, end_of_type, end_of_comment}
 use Rattle.type_upload.proofs.TestLemmas.{refused, refused_name, refused_kind, refused_comment, test_of_fields, found_at}
 use Rattle.type_upload.proofs.places.places_in.Goals as goal
 
@@ -35,7 +35,7 @@ returns-clause-tested c = sym (test_of_fields c.args.bytes.now (record {
   covers = omega (arith, c.if-len-fields_end.false, c.get32-len.ensures, c.get16.ensures, c.get16-2.ensures, c.get16-3.ensures, c.get16-4.ensures);
   within = omega (arith, c.if-bytes-len.false, c.get32-len.ensures);
   name = found_at c.args.bytes.now (42 + c.get16.result) (end_of_name c.args.bytes.now) (omega (arith, c.get16.ensures)) c.if-bytes-name_end-ne0.false;
-  kind = found_at c.args.bytes.now (42 + c.get16.result + 1 + c.get16-2.result) (end_of_kind c.args.bytes.now)
+  kind = found_at c.args.bytes.now (42 + c.get16.result + 1 + c.get16-2.result) (end_of_type c.args.bytes.now)
       (omega (arith, c.get16.ensures, c.get16-2.ensures)) c.if-bytes-kind_end-ne0.false;
   comment = found_at c.args.bytes.now (42 + c.get16.result + 1 + c.get16-2.result + 1 + c.get16-3.result) (end_of_comment c.args.bytes.now)
       (omega (arith, c.get16.ensures, c.get16-2.ensures, c.get16-3.ensures)) c.if-bytes-comment_end-ne0.false;
