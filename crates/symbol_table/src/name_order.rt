@@ -53,6 +53,7 @@ impl NameOrder {
         ensures found { IfSome result (IsMatch self.now (map lower (first_names path.now))) }
         ensures none { IfNone result (HasNoMatch self.now (map lower (first_names path.now))) }
         ensures steps_rise { steps.old ≤ steps.new }
+        ensures some_step { 0 < length self.now → steps.old < steps.new }
         ensures few_steps { 2 ^ (steps.new - steps.old) ≤ 2 * (length self.now + 1) }
     {
         let mut low = 0;

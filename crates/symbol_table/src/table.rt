@@ -74,8 +74,8 @@ impl Table {
     }
 
     /// The symbol, or the part of one, that a path leads to, ASCII case aside. `types` is the list of types that the
-    /// table was built with. The path is compared with at most as many names as the number of symbols has binary
-    /// digits, and one more; each comparison is a step.
+    /// table was built with. The path is compared with a name, where there is one, and with at most as many names as the
+    /// number of symbols has binary digits, and one more; each comparison is a step.
     pub fn find<'a, L: Ledger>(
         &'a self,
         types: &'a Types,
@@ -87,6 +87,7 @@ impl Table {
             → Finds (types_of types.now) (map (plant_symbol (types_of types.now)) port.symbols)
             (found_of_steps (map (plant_symbol (types_of types.now)) port.symbols) path.now) result }
         ensures steps_rise { steps.old ≤ steps.new }
+        ensures some_step { 0 < length self.now.symbols → steps.old < steps.new }
         ensures few_steps { 2 ^ (steps.new - steps.old) ≤ 2 * (length self.now.symbols + 1) }
     {
         match self.by_name.search(path, steps) {
