@@ -4,7 +4,8 @@
 Build the program first: in crates/ads, `rt run -- selftest ../../examples/state.script`.
 
 One port of 1,000, 2,000, 5,000 and 10,000 symbols, and 16 ports of 10,000: the ratio of the greatest time per symbol to the least is to be at most 1.6. The
-other descriptions show that no rule goes over pairs: their times per element are printed for two sizes or more.
+other descriptions tell what grows with what: their times per element are printed for two sizes or more. Two of them rise: symbols in falling order of offset,
+which are put before those that came, and first values, which are looked for among an enumeration's values one by one.
 
 Times are processor times of the program, the least of five runs.
 """
