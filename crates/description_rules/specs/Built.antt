@@ -1,4 +1,4 @@
--- For private contracts, and cited by no public clause: what is built of a document's types.
+-- What is built of a document's types, where no array in it has too many elements.
 use Rattle.std.specs.Prelude.{◌≡◌, Bool, true, false, Option, Some, None, List, map}
 use Rattle.std.specs.List.{list_all}
 use Rattle.ads_plant.specs.Listed as listed

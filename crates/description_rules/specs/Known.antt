@@ -1,4 +1,4 @@
--- For private contracts, and cited by no public clause: types with the extents that the code keeps of them.
+-- Types with the extents that the code keeps of them; callers cite `KnownTypes` alone.
 use Rattle.std.specs.Prelude.{◌≡◌, ◌+◌, ◌^◌, ◌≤◌, ◌<◌, max, Bool, true, ◌&&◌, nat_le, List, map}
 use Rattle.std.specs.List.{list_all}
 use Rattle.ads_plant.specs.Listed.{NamedType}

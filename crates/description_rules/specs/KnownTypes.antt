@@ -1,4 +1,4 @@
--- For private contracts, and cited by no public clause: types that are found right one after another.
+-- Types that are found right one after another, as the code keeps them: what callers hand on from `read_types`.
 use Rattle.std.specs.Prelude.{◌≡◌, ◌≤◌, length, map, ℕ, ◌++◌, ◌∷◌, [], Bool, true, List, None, Some, Result, Ok, Err}
 use Rattle.ads_plant.specs.Listed as listed
 use Rattle.ads_plant.specs.Listed.{type_name}

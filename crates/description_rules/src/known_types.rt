@@ -1,5 +1,5 @@
 //! The types of a description, and how each lies in memory.
-ghost use Rattle.std.specs.Prelude.{◌≡◌, ◌≤◌, ◌<◌, ◌*◌, ◌^◌, length, slice_get, true, false};
+ghost use Rattle.std.specs.Prelude.{◌≡◌, ◌≤◌, ◌<◌, ◌*◌, ◌^◌, slice_get, true, false};
 ghost use Rattle.ads_plant.specs.Trees.{trees_of, elem_tree, tree_at, tree_of};
 ghost use Rattle.ads_plant.specs.AcceptedTypes.{is_small_shape};
 ghost use Rattle.ads_plant.specs.Sizes.{type_size};

@@ -1,5 +1,5 @@
 //! Types of members and symbols, built where they have not too many elements.
-ghost use Rattle.std.specs.Prelude.{◌≡◌, ◌≤◌, length, nat_le, true, false, MatchOption, IfOk};
+ghost use Rattle.std.specs.Prelude.{◌≡◌, nat_le, true, false, MatchOption, IfOk};
 ghost use Rattle.ads_plant.specs.AcceptedTypes.{is_small_shape};
 ghost use Rattle.ads_rules.specs.Described.{shape_described};
 ghost use Rattle.type_layout.specs.Shapes.{shape_of};

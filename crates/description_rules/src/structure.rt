@@ -1,5 +1,5 @@
 //! How a structure lies in memory.
-ghost use Rattle.std.specs.Prelude.{◌≡◌, ◌≤◌, ◌<◌, ◌+◌, ◌^◌, min, max, length, map, true};
+ghost use Rattle.std.specs.Prelude.{◌≡◌, ◌≤◌, ◌<◌, ◌+◌, ◌^◌, min, max, map, true};
 ghost use Rattle.ads_plant.specs.Trees.{trees_of, member_trees};
 ghost use Rattle.ads_plant.specs.Sizes.{aligned};
 ghost use Rattle.ads_rules.specs.Described.{member_described};

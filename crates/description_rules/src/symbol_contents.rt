@@ -1,5 +1,5 @@
 //! Description rule 13: initial bytes, comments and writers of symbols.
-ghost use Rattle.std.specs.Prelude.{◌≡◌, ◌≤◌, [], length, map, not, bytes_eq, true, false, option_map, is_none, nat_lt, nat_le, ◌&&◌, IfOk};
+ghost use Rattle.std.specs.Prelude.{◌≡◌, [], length, map, not, bytes_eq, true, false, option_map, is_none, nat_lt, nat_le, ◌&&◌, IfOk};
 ghost use Rattle.std.specs.List.{list_all};
 ghost use Rattle.ads_plant.specs.Accepted.{begins_with_value};
 ghost use Rattle.ads_plant.specs.AcceptedTypes.{is_comment};

@@ -1,5 +1,5 @@
 //! Description rule 12: places of symbols.
-ghost use Rattle.std.specs.Prelude.{◌≡◌, ◌≤◌, ◌<◌, ◌+◌, ◌^◌, [], length, map, true, IfOk};
+ghost use Rattle.std.specs.Prelude.{◌≡◌, ◌<◌, ◌+◌, ◌^◌, [], map, true, IfOk};
 ghost use Rattle.ads_plant.specs.Description.{size_in};
 ghost use Rattle.ads_plant.specs.World.{area_number};
 ghost use Rattle.ads_rules.specs.Places.{first_wrong};

@@ -1,5 +1,5 @@
 //! Description rule 14: signals of symbols.
-ghost use Rattle.std.specs.Prelude.{◌≡◌, ◌≤◌, ◌++◌, [], length, map, flat_map, IfOk, OnOk};
+ghost use Rattle.std.specs.Prelude.{◌≡◌, ◌++◌, [], map, flat_map, IfOk, OnOk};
 ghost use Rattle.ads_plant.specs.Accepted.{may_have_signal};
 ghost use Rattle.ads_rules.specs.Written as rules;
 ghost use Rattle.ads_rules.specs.Places.{first_wrong};

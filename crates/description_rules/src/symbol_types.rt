@@ -1,5 +1,5 @@
 //! Description rule 11: types of symbols.
-ghost use Rattle.std.specs.Prelude.{◌≡◌, ◌≤◌, [], length, map, false};
+ghost use Rattle.std.specs.Prelude.{◌≡◌, [], map, false};
 ghost use Rattle.std.specs.Option.{option_map_or};
 ghost use Rattle.ads_rules.specs.Written as rules;
 ghost use Rattle.ads_rules.specs.Places.{first_wrong};

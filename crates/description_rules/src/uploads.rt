@@ -1,5 +1,5 @@
 //! Description rule 15: the uploads of ports.
-ghost use Rattle.std.specs.Prelude.{◌≡◌, ◌≤◌, ◌^◌, [], length, map, nat_le, sum_by};
+ghost use Rattle.std.specs.Prelude.{◌≡◌, ◌^◌, [], length, map, nat_le, sum_by};
 ghost use Rattle.ads_rules.specs.Places.{first_wrong};
 ghost use Rattle.ads_rules.specs.PortRules.{wrong_upload, has_right_upload};
 ghost use Rattle.type_layout.specs.NamedTypes.{types_of};

@@ -1,9 +1,8 @@
 //! Rules 3 to 15, decided one after another.
-ghost use Rattle.std.specs.Prelude.{◌≡◌, ◌≤◌, None, length, map, option_map, IfOk};
+ghost use Rattle.std.specs.Prelude.{◌≡◌, None, map, option_map, IfOk};
 ghost use Rattle.type_layout.specs.NamedTypes.{types_of};
 ghost use Rattle.description_rules.specs.Faults.{fault_view};
-ghost use Rattle.description_rules.specs.KnownTypes.{IsKnown};
-ghost use Rattle.description_rules.specs.KnownTypes.{AreAllKnown};
+ghost use Rattle.description_rules.specs.KnownTypes.{IsKnown, AreAllKnown};
 ghost use Rattle.description_table.specs.Views.{document_view, type_view};
 ghost use Rattle.symbol_file.specs.Judged as judged;
 

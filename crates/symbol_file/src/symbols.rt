@@ -1,5 +1,5 @@
 //! The symbols of a port.
-ghost use Rattle.std.specs.Prelude.{◌≡◌, ◌≤◌, length, map, true, unwrap_or, IfOk};
+ghost use Rattle.std.specs.Prelude.{◌≡◌, map, true, unwrap_or, IfOk};
 ghost use Rattle.std.specs.List.{All};
 ghost use Rattle.ads_plant.specs.Description as plant;
 ghost use Rattle.ads_plant.specs.AcceptedTypes.{is_small_shape};
