@@ -1,0 +1,67 @@
+//! The line that tells how a run ended.
+
+ghost use Rattle.std.specs.Prelude.{◌≡◌, ◌++◌, ◌∷◌, [], codes, IfOk};
+ghost use Rattle.ads_machine.specs.SummaryText.{counted};
+ghost use Rattle.ads_run.specs.LastLine.{last_line_of, description_line};
+
+use crate::status::Status;
+use ads_base::{NoMemory, Octets};
+use replay_script::put_counted;
+use std::alloc::Global;
+
+/// The line on words that are no command.
+pub const USAGE_LINE: &[u8] = b"ads: usage\n";
+
+/// The line on want of memory, which takes none.
+pub const MEMORY_LINE: &[u8] = b"ads: memory\n";
+
+/// The last line of a status; no bytes where it has none.
+pub fn last_line(alloc: Global, status: Status) -> Result<Octets, NoMemory>
+    ensures { IfOk result (λ line. line ≡ last_line_of status) }
+{
+    let text = match status {
+        Status::Done => b"".as_slice(),
+        Status::Usage => USAGE_LINE,
+        Status::BadDescription { number, item } => {
+            return bad_description_line(alloc, number, item);
+        }
+        Status::BadScript(number) => return bad_script_line(alloc, number),
+        Status::ReadFault => b"ads: read fault\n".as_slice(),
+        Status::WriteFault => b"".as_slice(),
+        Status::Memory => MEMORY_LINE,
+        Status::TooLong => b"ads: file too long\n".as_slice(),
+    };
+    Octets::copy_of(alloc, text)
+}
+
+fn bad_description_line(alloc: Global, number: u8, item: u32) -> Result<Octets, NoMemory>
+    ensures { IfOk result (λ text. text ≡ description_line number item) }
+{
+    if number == 0 {
+        return Octets::copy_of(alloc, b"ads: description syntax\n");
+    }
+    rule_line(alloc, number, item)
+}
+
+fn rule_line(alloc: Global, number: u8, item: u32) -> Result<Octets, NoMemory>
+    ensures { IfOk result (λ text. text
+        ≡ counted (codes "ads: description rule ") number ++ counted (codes " item ") item ++ 10 ∷ []) }
+{
+    let mut line = Octets::new(alloc);
+    put_counted(
+        alloc,
+        &mut line,
+        b"ads: description rule ",
+        u64::from(number),
+    )?;
+    put_counted(alloc, &mut line, b" item ", u64::from(item))?;
+    line.push(alloc, b'\n')?;
+    Ok(line)
+}
+
+fn bad_script_line(alloc: Global, number: u32) -> Result<Octets, NoMemory>
+    ensures { IfOk result (λ line. line ≡ last_line_of (Status.BadScript number)) }
+{
+    let text = format!(in alloc; "ads: script line {number}\n")?;
+    Octets::copy_of(alloc, text.as_bytes())
+}

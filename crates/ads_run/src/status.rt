@@ -1,0 +1,44 @@
+//! How a run of the program ends.
+
+ghost use Rattle.std.specs.Prelude.{◌≡◌};
+
+/// The status with which the program ends.
+#[derive(Clone, Copy, Debug, PartialEq, Eq)]
+pub enum Status {
+    /// The command ended.
+    Done,
+    /// The words are no command.
+    Usage,
+    /// The least broken rule of the description, and in it the least item; rule 0 for no TOML document.
+    BadDescription { number: u8, item: u32 },
+    /// The script's first line off the grammar has this number, counted from 1.
+    BadScript(u32),
+    /// A file could not be read.
+    ReadFault,
+    /// Standard output could not be written.
+    WriteFault,
+    /// Memory was wanting.
+    Memory,
+    /// A file has more than 16,777,216 bytes.
+    TooLong,
+}
+
+impl Status {
+    ghost use Rattle.ads_run.specs.StatusNumber.{number_of};
+
+    /// The exit status of the process.
+    pub fn number(self) -> u8
+        ensures { result ≡ number_of self }
+    {
+        match self {
+            Status::Done => 0,
+            Status::Usage => 1,
+            Status::BadDescription { .. } => 2,
+            Status::BadScript(_) => 3,
+            Status::ReadFault => 4,
+            Status::WriteFault => 5,
+            Status::Memory => 10,
+            Status::TooLong => 12,
+        }
+    }
+}
