@@ -1,6 +1,6 @@
 //! The splitter: pieces of a stream go in, frames come out.
 
-ghost use Rattle.std.specs.Prelude.{◌≡◌, ◌<◌, length, IfOk, OnOk, OnErr};
+ghost use Rattle.std.specs.Prelude.{◌≡◌, ◌+◌, ◌<◌, length, IfOk, OnOk, OnErr};
 
 use crate::Cut;
 use crate::front::{Front, HEADER, front_at, header_at};
@@ -9,7 +9,8 @@ use std::alloc::Global;
 use std::marker::Model;
 
 /// Cuts a stream into frames, in whatever pieces it comes. Contracts see the bytes behind the frames that were
-/// given, and whether Broken was answered; what a splitter answers is said of every history that it stands for.
+/// given, how many bytes of those frames are still kept, and whether Broken was answered; what a splitter answers is
+/// said of every history that it stands for.
 #[derive(Drop)]
 pub struct Splitter {
     bytes: Vec<u8>,
@@ -25,7 +26,11 @@ impl Model for Splitter {
 
     ghost Value = { Held };
 
-    ghost view = { λ s. record { rest = drop s.start s.bytes.items; told_broken = s.told_broken } };
+    ghost view = { λ s. record {
+      passed = s.start;
+      rest = drop s.start s.bytes.items;
+      told_broken = s.told_broken;
+    } };
 
     ghost invariant = { λ s. (s.start ≤ length s.bytes.items)
         × (IsTrue s.told_broken → (front_of (drop s.start s.bytes.items) ≡ Broken)
@@ -38,7 +43,8 @@ impl Splitter {
 
     /// A splitter that was fed nothing. Nothing is allocated.
     pub fn new(alloc: Global) -> Result<Self, NoMemory>
-        ensures { IfOk result (λ splitter. Represents splitter nothing_fed) }
+        ensures nothing { IfOk result (λ splitter. Represents splitter nothing_fed) }
+        ensures passed { IfOk result (λ splitter. splitter.passed ≡ 0) }
     {
         Ok(Splitter {
             bytes: Vec::new(alloc),
@@ -47,10 +53,11 @@ impl Splitter {
         })
     }
 
-    /// Appends a piece to the stream.
+    /// Appends a piece to the stream. The bytes of frames that were given are let go.
     pub fn feed(&mut self, _alloc: Global, piece: &[u8]) -> Result<(), NoMemory>
         ensures ok { OnOk result ((h : History) → Represents self.old h → Represents self.new (after_feed h piece.now)) }
-        ensures no_memory { OnErr result (self.new ≡ self.old) }
+        ensures passed { self.new.passed ≡ 0 }
+        ensures no_memory { OnErr result (self.new ≡ record self.old { passed = 0 }) }
     {
         self.move_to_front();
         self.bytes.extend_from_slice(piece)?;
@@ -63,6 +70,7 @@ impl Splitter {
         ensures stands { OnOk result ((h : History) → Represents self.old h → Represents self.new (after_next h)) }
         ensures packet { IfOk result HoldsPacket }
         ensures shorter { IfOk result (λ cut. IsFrameCut cut → length self.new.rest < length self.old.rest) }
+        ensures passed { self.new.passed + length self.new.rest ≡ self.old.passed + length self.old.rest }
         ensures no_memory { OnErr result (self.new ≡ self.old) }
     {
         let rest = self.rest();
@@ -97,9 +105,9 @@ impl Splitter {
         &self.bytes[self.start..]
     }
 
-    // The bytes behind the frames that were given move to the front.
+    // The bytes behind the frames that were given move to the front, and those of these frames go.
     fn move_to_front(&mut self)
-        ensures { self.new ≡ self.old }
+        ensures { self.new ≡ record self.old { passed = 0 } }
     {
         if self.start > 0 {
             let len = self.bytes.len() - self.start;

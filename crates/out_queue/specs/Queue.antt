@@ -1,6 +1,9 @@
 -- Frames that wait, each a list of bytes, of which the first may be taken in part.
--- This project's own choice: at most 4,194,304 bytes wait for one connection.
 use Rattle.std.specs.Prelude.{ℕ, ◌≤◌, ◌==◌, List, [], ◌∷◌, length, drop, Option, Some, None, unwrap_or, sum_by, if◌then◌else◌}
+
+-- the most bytes that wait for one connection. This project's own choice: 4 MiB.
+abbrev pub QUEUE_LIMIT : ℕ
+QUEUE_LIMIT = 4194304
 
 -- the number of bytes that wait
 abbrev pub queued : List (List ℕ) → ℕ

@@ -1,7 +1,7 @@
 //! Frames that wait to be taken, in the order in which they were pushed.
 ghost use Rattle.std.specs.Prelude.{◌≡◌, ◌+◌, ◌<◌, ◌≤◌, ◌↔◌, [], ◌∷◌, ◌++◌, length, drop, IsSome, IfSome, IsNone, OnErr, Ok, IfOk};
 ghost use Rattle.std.specs.List.{concat};
-ghost use Rattle.out_queue.specs.Queue.{queued, front_of, FitsFront, frames_after};
+ghost use Rattle.out_queue.specs.Queue.{QUEUE_LIMIT, queued, front_of, FitsFront, frames_after};
 
 use ads_base::NoMemory;
 use bytes::{Buf, Bytes};
@@ -30,14 +30,13 @@ pub struct OutQueue {
 
 impl Model for OutQueue {
     ghost use Rattle.std.specs.Prelude.{◌≡◌, ◌≤◌, ℕ, List};
-    ghost use Rattle.out_queue.specs.declared.out_queue.TheConstants.{MAX_QUEUED};
-    ghost use Rattle.out_queue.specs.Queue.{queued};
+    ghost use Rattle.out_queue.specs.Queue.{QUEUE_LIMIT, queued};
 
     ghost Value = { List (List ℕ) };
 
     ghost view = { λ q. q.frames.items };
 
-    ghost invariant = { λ q. (q.bytes ≡ queued q.frames.items) × (q.bytes ≤ MAX_QUEUED) };
+    ghost invariant = { λ q. (q.bytes ≡ queued q.frames.items) × (q.bytes ≤ QUEUE_LIMIT) };
 }
 
 impl OutQueue {
@@ -54,7 +53,7 @@ impl OutQueue {
     /// Puts a frame behind the others, unless more than 4,194,304 bytes would wait.
     pub fn push(&mut self, alloc: Global, frame: &[u8]) -> Result<Pushed, NoMemory>
         ensures over { IfOk result (λ pushed. (pushed ≡ Pushed.Over)
-            ↔ (MAX_QUEUED < queued self.old + length frame.now)) }
+            ↔ (QUEUE_LIMIT < queued self.old + length frame.now)) }
         ensures done { result ≡ Ok Pushed.Done → self.new ≡ self.old ++ frame.now ∷ [] }
         ensures unchanged { result ≡ Ok Pushed.Over → self.new ≡ self.old }
         ensures no_memory { OnErr result (self.new ≡ self.old) }
@@ -72,7 +71,7 @@ impl OutQueue {
     pub fn front(&self) -> Option<&[u8]>
         ensures empty { IsNone result ↔ (self.now ≡ []) }
         ensures first { IfSome result (λ left. front_of self.now ≡ Some left.now) }
-        ensures bound { IfSome result (λ left. length left.now ≤ MAX_QUEUED) }
+        ensures bound { IfSome result (λ left. length left.now ≤ QUEUE_LIMIT) }
     {
         Some(self.frames.front()?.as_slice())
     }

@@ -2,6 +2,6 @@ use Rattle.std.proofs.Common.{refl, arith}
 use Rattle.ads_frames.specs.Division.{left_behind}
 use Rattle.ams_tcp.proofs.splitter.Splitter.new.Goals as goal
 
-pub returns : goal.returns
+pub returns-clause-nothing : goal.returns-clause-nothing
 unfolding left_behind
-returns c = record { rest = c.new.ensures.items; given = omega arith; told_broken = refl }
+returns-clause-nothing c = record { rest = c.new.ensures.items; given = omega arith; told_broken = refl }

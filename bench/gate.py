@@ -1,0 +1,171 @@
+#!/usr/bin/env python3
+"""What the gate costs: processor time of each crate under `rt ci`, against a budget.
+
+    python3 bench/gate.py               runs `rt ci` at the top of the clone where it is called
+    python3 bench/gate.py NAME..        runs `rt ci NAME..`: these crates and those below them, on a copy
+    python3 bench/gate.py --anew        has rt prove all again, also what an earlier run on this machine passed (which else costs nothing here)
+
+What rt says is passed on. When it has ended, a table (Markdown) tells for each crate the processor seconds of
+
+  library   its proof, and the compiling of its program
+  tests     its second proof, with its #[test] functions
+  third     the proof that its wrong bodies begin with, where it has two of them or more, and the look at what that proof left
+  bodies    the wrong bodies of its must-fail/, and how many there were
+
+with the lines of code (src/), and the processor minutes for each 1,000 of these; then the sums, the budget, what rt counted of all that it started, and what
+rt ci ended with. The status is that of rt.
+
+How it is measured: ten times a second the processes that rt started are read from /proc. The last tenth of a second of each is missed; the line `all that rt
+started` misses nothing, and holds rt's own work, the links and the runs of programs and tests too.
+"""
+import os
+import resource
+import subprocess
+import sys
+import threading
+import time
+
+PAUSE = 0.1
+BUDGET = 5.0
+TICKS = os.sysconf("SC_CLK_TCK")
+KINDS = ("library", "tests", "third", "bodies")
+
+
+def process(number):
+    """The parent, the moment of the start, and the seconds of a process and of its children that have ended; None if it is gone."""
+    try:
+        with open(f"/proc/{number}/stat", errors="replace") as it:
+            words = it.read().rpartition(")")[2].split()
+    except OSError:
+        return None
+    return int(words[1]), words[19], sum(int(word) for word in words[11:15]) / TICKS
+
+
+def processes():
+    found = {int(name): process(name) for name in os.listdir("/proc") if name.isdigit()}
+    return {number: it for number, it in found.items() if it}
+
+
+def job_above(number, table, top):
+    """The process that `top` started itself, and that this one is or descends from; None if there is none."""
+    while number in table:
+        parent = table[number][0]
+        if parent == top:
+            return number
+        number = parent
+    return None
+
+
+def word_behind(words, flag):
+    return words[words.index(flag) + 1] if flag in words[:-1] else ""
+
+
+def label_of(number):
+    """The crate and the kind of a process that rt started, by its words and its folder; None where it proves and compiles nothing."""
+    try:
+        with open(f"/proc/{number}/cmdline", errors="replace") as it:
+            words = it.read().split("\0")
+        folder = os.path.basename(os.readlink(f"/proc/{number}/cwd"))
+    except OSError:
+        return None
+    crate = word_behind(words, "--crate-name")
+    if not crate:
+        return None
+    if folder.startswith("rt-edit-"):
+        is_seed = os.path.basename(word_behind(words, "--incremental")) == "seed"
+        return crate, "third" if is_seed else "bodies"
+    return crate, "tests" if "--test" in words else "library"
+
+
+class Watch:
+    """The greatest seconds that were seen of each process that rt started, with those below it, and its label."""
+
+    def __init__(self, top):
+        self.top, self.seconds, self.labels = top, {}, {}
+
+    def look(self):
+        table, now = processes(), {}
+        for number in table:
+            job = job_above(number, table, self.top)
+            if job is not None:
+                key = job, table[job][1]
+                now[key] = now.get(key, 0.0) + table[number][2]
+        for key, seconds in now.items():
+            self.seconds[key] = max(seconds, self.seconds.get(key, 0.0))
+            self.labels[key] = self.labels.get(key) or label_of(key[0])
+
+    def rows(self):
+        """For each crate the seconds of each kind, and the number of its wrong bodies."""
+        rows = {}
+        for key, label in self.labels.items():
+            if label:
+                row = rows.setdefault(label[0], {**dict.fromkeys(KINDS, 0.0), "count": 0})
+                row[label[1]] += self.seconds[key]
+                row["count"] += label[1] == "bodies"
+        return rows
+
+
+def pass_on(stream, lines):
+    for line in stream:
+        print(line, end="", flush=True)
+        lines.append(line.rstrip("\n"))
+
+
+def watched(words):
+    """Runs the command, passes on what it says, and returns its status, its lines and what was seen."""
+    rt = subprocess.Popen(words, stdout=subprocess.PIPE, stderr=subprocess.STDOUT, text=True, errors="replace")
+    lines, watch = [], Watch(rt.pid)
+    reader = threading.Thread(target=pass_on, args=(rt.stdout, lines))
+    reader.start()
+    while rt.poll() is None:
+        watch.look()
+        time.sleep(PAUSE)
+    reader.join()
+    return rt.returncode, lines, watch
+
+
+def lines_of_code(crate):
+    count = 0
+    for at, _, names in os.walk(f"crates/{crate}/src"):
+        for name in names:
+            if name.endswith(".rt"):
+                with open(f"{at}/{name}", "rb") as it:
+                    count += it.read().count(b"\n")
+    return count
+
+
+def line_of(name, code, row):
+    seconds = sum(row[kind] for kind in KINDS)
+    per = seconds / 60 / (code / 1000) if code else 0.0
+    cells = [f"{row[kind]:.0f}" if row[kind] >= 0.5 else "" for kind in KINDS]
+    cells[3] += f" ({row['count']})" if row["count"] else ""
+    return f"| {name} | {code} | {' | '.join(cells)} | {seconds:.0f} | {per:.1f} |"
+
+
+def tell(rows):
+    """Prints the table, the dearest crate first, and the sums in minutes."""
+    print("\n| crate | lines of code | library | tests | third | bodies | seconds | minutes for 1,000 lines |")
+    print("|---|---|---|---|---|---|---|---|")
+    for name, row in sorted(rows.items(), key=lambda it: -sum(it[1][kind] for kind in KINDS)):
+        print(line_of(name, lines_of_code(name), row))
+    sums = {kind: sum(row[kind] for row in rows.values()) / 60 for kind in KINDS}
+    code, bodies, whole = sum(map(lines_of_code, rows)), sum(row["count"] for row in rows.values()), sum(sums.values())
+    per = whole / (code / 1000) if code else 0.0
+    cells = " | ".join(f"{sums[kind]:.1f}" for kind in KINDS)
+    print(f"| all, in minutes | {code} | {cells} ({bodies}) | {whole:.1f} | {per:.1f} |\n")
+    print(f"budget: {BUDGET:.0f} processor minutes for 1,000 lines of code, so {BUDGET * code / 1000:.0f} for {code} lines; spent: {whole:.0f}")
+
+
+def main():
+    begun = time.time()
+    status, lines, watch = watched(["rt", "ci", *sys.argv[1:]])
+    tell(watch.rows())
+    spent = resource.getrusage(resource.RUSAGE_CHILDREN)
+    minutes = (spent.ru_utime + spent.ru_stime) / 60
+    print(f"all that rt started: {minutes:.1f} processor minutes, in {(time.time() - begun) / 60:.1f} minutes of the clock")
+    print(f"rt ci ended with: {next((it for it in reversed(lines) if it), '')} (status {status})")
+    return status
+
+
+if __name__ == "__main__":
+    sys.exit(main())
