@@ -3,7 +3,7 @@
 ghost use Rattle.std.specs.Prelude.{◌≡◌, ◌≤◌, None, IfOk, length, vec_len};
 ghost use Rattle.ads_outside.specs.Limit.{IsWithinLimit};
 
-use ads_base::Octets;
+use ads_base::{NoMemory, Octets};
 use ads_outside::{Files, Got};
 use std::alloc::{AllocError, Global};
 use std::fs;
@@ -24,7 +24,7 @@ pub struct RealFiles<R: SystemFiles + Drop> {
 
 impl<R: SystemFiles + Drop> RealFiles<R> {
     /// The files that this runtime reaches, with a buffer to read them by.
-    pub fn new(alloc: Global, rt: R) -> Result<RealFiles<R>, AllocError> {
+    pub fn new(alloc: Global, rt: R) -> Result<RealFiles<R>, NoMemory> {
         Ok(RealFiles {
             alloc,
             rt,

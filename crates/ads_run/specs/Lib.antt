@@ -2,6 +2,7 @@ pub mod StatusNumber
 pub mod LastLine
 pub mod Selftest
 pub mod Tasks
+pub mod ProgramWaves
 pub mod Report
 pub mod Told
 pub mod Verdict

@@ -1,7 +1,7 @@
 //! What `run` prints and answers over files and a sink in memory.
 
-use crate::run::run;
 use crate::status::Status;
+use crate::top_call::run;
 use ads_base::{Calls, NoMemory, Octets};
 use ads_outside::{MemFiles, MemSink, NamedFile, NamedFiles};
 use signals::{Ramp, Signal};

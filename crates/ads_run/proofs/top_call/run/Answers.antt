@@ -1,6 +1,6 @@
 use Rattle.ads_run.proofs.EndLemmas.{Prints-memory}
 use Rattle.ads_run.proofs.FramesLemmas.{gives_frames_in_order}
-use Rattle.ads_run.proofs.run.run.Goals as goal
+use Rattle.ads_run.proofs.top_call.run.Goals as goal
 
 pub returns-in-Ok-clause-frames : goal.returns-in-Ok-clause-frames
 returns-in-Ok-clause-frames g c = λ script lines e. gives_frames_in_order lines

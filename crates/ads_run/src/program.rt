@@ -1,0 +1,88 @@
+//! The program's run: its words, the files of the disk, standard output, and the signals that it has.
+
+ghost use Rattle.std.specs.Prelude.{◌≡◌, ◌≢◌, drop, map, string_bytes, IfOk};
+ghost use Rattle.ads_outside.specs.Rose.{Rose};
+ghost use Rattle.ads_run.specs.Verdict.{verdict_of};
+ghost use Rattle.ads_run.specs.Ends.{EndsAs, Prints, IsTold};
+
+use crate::ending::{end_without_memory, print_and_end};
+use crate::last_line::USAGE_LINE;
+use crate::program_signals::ProgramSignals;
+use crate::status::Status;
+use crate::top_call::run;
+use ads_base::NoMemory;
+use ads_edge::{RealFiles, RealSink};
+use ads_outside::{Files, Sink};
+use signals::Signal;
+use std::alloc::Global;
+use std::env::{self, Args};
+use std::io::ErrorKind;
+
+/// The status of the run over the words of the process, the files of the disk and standard output. A word that is
+/// not UTF-8 is no word of a command.
+pub fn status_of(rt: &HostRuntime) -> Status {
+    let mut out = RealSink::new(rt);
+    match env::args(rt) {
+        Ok(args) => match status_of_args(rt, args, &mut out) {
+            Ok(status) => status,
+            Err(NoMemory) => end_without_memory(&mut out),
+        },
+        Err(error) => end_without_words(error.kind(), &mut out),
+    }
+}
+
+fn status_of_args(
+    rt: &HostRuntime,
+    args: Args,
+    out: &mut RealSink<HostRuntime>,
+) -> Result<Status, NoMemory> {
+    let all: Vec<String> = args.collect(rt.alloc())?;
+    let mut files = RealFiles::new(rt.alloc(), rt.clone()?)?;
+    run_program(rt.alloc(), words_of(all.as_slice()), &mut files, out)
+}
+
+// The words behind the program's name.
+fn words_of(all: &[String]) -> &[String]
+    ensures { result.now ≡ drop 1 all.now }
+{
+    if all.is_empty() { all } else { &all[1..] }
+}
+
+// The end where the words could not be read: memory was wanting, or a word is not UTF-8.
+fn end_without_words<S: Sink>(kind: ErrorKind, out: &mut S) -> Status
+    ensures memory { kind ≡ ErrorKind.OutOfMemory → result ≡ Status.Memory }
+    ensures usage { kind ≢ ErrorKind.OutOfMemory
+        → EndsAs Status.Usage result ⊥ (Rose (S.fault_count out.old) (S.fault_count out.new)) }
+{
+    if kind == ErrorKind::OutOfMemory {
+        return end_without_memory(out);
+    }
+    print_and_end(out, USAGE_LINE, Status::Usage)
+}
+
+// The run with the signals that the program has.
+fn run_program<F: Files, S: Sink>(
+    alloc: Global,
+    words: &[String],
+    files: &mut F,
+    out: &mut S,
+) -> Result<Status, NoMemory>
+    ensures status { IfOk result (λ status. IsTold (F.contents files.old) (λ held.
+        EndsAs (verdict_of 3 (map string_bytes words.now) held).status status
+        (Rose (F.fault_count files.old) (F.fault_count files.new))
+        (Rose (S.fault_count out.old) (S.fault_count out.new)))) }
+    ensures text { IfOk result (λ status. IsTold (F.contents files.old) (λ held.
+        Prints (verdict_of 3 (map string_bytes words.now) held) status
+        (S.contents out.old) (S.contents out.new))) }
+{
+    let ProgramSignals {
+        ramp,
+        square,
+        table,
+    } = ProgramSignals::new(alloc)?;
+    let mut signals: Vec<Box<dyn Signal>> = Vec::new(alloc);
+    signals.push(Box::new(alloc, ramp)?)?;
+    signals.push(Box::new(alloc, square)?)?;
+    signals.push(Box::new(alloc, table)?)?;
+    Ok(run(alloc, words, files, out, signals))
+}
