@@ -13,7 +13,8 @@ use Rattle.ads_machine.specs.Device.{FrameOutcome, ClientOutcome}
 use Rattle.ads_machine.specs.Connection.{Connection, is_deaf, fresh_connection, connection_of, put_back}
 use Rattle.ads_machine.specs.MachineState.{MachineState, Exchange, exchange_of, after_exchange}
 use Rattle.ads_machine.specs.Piece.{with_received, packets_left, with_one_taken, with_client, after_outcome, after_packet, after_packets, with_piece, end_of_piece, after_piece}
-use Rattle.ads_machine.specs.Moves.{after_client_outcome, moment_of_tick, connection_after_tick, connection_after_reload, after_reload, with_gone, with_took, state_after_event, state_after_move, state_after}
+use Rattle.ads_machine.specs.Moves.{with_gone, with_took, state_after_move, state_after}
+use Rattle.ads_machine.specs.Events.{after_client_outcome, moment_of_tick, connection_after_tick, connection_after_reload, after_reload, state_after_event}
 use Rattle.ads_machine.specs.World.{World, setup_of, name_at, first_memory}
 use Rattle.ads_machine.specs.Access.{Addressed, addressed_name}
 use Rattle.ads_machine.specs.Handles.{HandleStatus, Never, Released, Outdated, Live, live_or_outdated, Handle, status_after_reload, handle_after_reload, handles_after}
@@ -24,7 +25,7 @@ use Rattle.ads_machine.specs.Packets.{Decision, decide, acts_in}
 use Rattle.ads_machine.specs.Replies.{performed}
 use Rattle.ads_machine.specs.Ticks.{signal_puts, world_after_tick, client_after_tick}
 use Rattle.ads_machine.specs.Reloads.{is_kept, world_after_reload, client_reloaded}
-use Rattle.ads_machine.specs.AdsDevice.{DescriptionReading, reloading, ads_device}
+use Rattle.ads_machine.specs.AdsDevice.{DescriptionReading, reloading, ads_device, server_step}
 use Rattle.ads_laws.specs.Isolation.{start}
 use Rattle.ads_laws.specs.Soundness.{Each, IsSoundPlant, ReadsAccepted}
 use Rattle.ads_laws.specs.Reachable.{IsPlaced, IsPlacedStatus, IsPlacedHandle, IsThereAt, IsWatchThere, ConnectionFits, AllFits, EveryStateFits}
@@ -307,17 +308,17 @@ event-good table reading h s (event.Reload bytes) g =
     reload-good table reading (reading bytes (length s.world.signals)) (λ d e. accepted_are_sound d (length s.world.signals) (h bytes (length s.world.signals) d e)) s g
 event-good table reading h s (event.Writable n) g = g
 
-move-good : (table : AnswerTable) (reading : DescriptionReading) → ReadsAccepted reading → (s : MachineState World Client) (m : Move) → Good s → Good (state_after_move (ads_device table reading) s m)
+move-good : (table : AnswerTable) (reading : DescriptionReading) → ReadsAccepted reading → (s : MachineState World Client) (m : Move) → Good s → Good (state_after_move (server_step table reading) s m)
 unfolding state_after_move
 move-good table reading h s (move.Event e) g = event-good table reading h s e g
 move-good table reading h s (move.Took n offered bytes) g = exchange-good (with_took (length bytes)) (took-goes (length bytes)) (took-fits (length bytes)) s n (connection_of n s.connections) refl g
 move-good table reading h s (move.Lost n) g = exchange-good with_gone gone-goes gone-fits s n (connection_of n s.connections) refl g
 move-good table reading h s (move.Shut n) g = exchange-good with_gone gone-goes gone-fits s n (connection_of n s.connections) refl g
 
-log-good : (table : AnswerTable) (reading : DescriptionReading) → ReadsAccepted reading → (log : List Move) (s : MachineState World Client) → Good s → Good (state_after (ads_device table reading) s log)
+log-good : (table : AnswerTable) (reading : DescriptionReading) → ReadsAccepted reading → (log : List Move) (s : MachineState World Client) → Good s → Good (state_after (server_step table reading) s log)
 unfolding state_after
 log-good table reading h [] s g = g
-log-good table reading h (m ∷ ms) s g = log-good table reading h ms (state_after_move (ads_device table reading) s m) (move-good table reading h s m g)
+log-good table reading h (m ∷ ms) s g = log-good table reading h ms (state_after_move (server_step table reading) s m) (move-good table reading h s m g)
 
 -- what is named is there, in a memory that is alike
 
@@ -350,5 +351,5 @@ all-fits s g = record {
 pub every_state_fits : EveryStateFits
 every_state_fits table reading h d signals accepted log =
     let sound = accepted_are_sound d (length signals) accepted in
-    all-fits (state_after (ads_device table reading) (start d signals) log)
+    all-fits (state_after (server_step table reading) (start d signals) log)
     (log-good table reading h log (start d signals) (record { sound = sound; memory = alike_itself (first_memory (plant_of d)); all = tt }))

@@ -9,7 +9,8 @@ use Rattle.ads_outside.specs.declared.moves.Move.TheVariants as move
 use Rattle.ads_machine.specs.Connection.{Connection, connection_of}
 use Rattle.ads_machine.specs.MachineState.{MachineState, exchange_of, after_exchange}
 use Rattle.ads_machine.specs.Piece.{after_piece}
-use Rattle.ads_machine.specs.Moves.{after_reload, with_gone, with_took, state_after_event, state_after_move}
+use Rattle.ads_machine.specs.Moves.{with_gone, with_took, state_after_move}
+use Rattle.ads_machine.specs.Events.{after_reload, state_after_event}
 use Rattle.ads_machine.specs.World.{World}
 use Rattle.ads_machine.specs.Access.{addressed_name, byte_after}
 use Rattle.ads_machine.specs.Client.{Client}

@@ -10,23 +10,23 @@ use Rattle.ads_outside.specs.declared.event.Event.{Event}
 use Rattle.ads_outside.specs.declared.event.Event.TheVariants as event
 use Rattle.ads_outside.specs.declared.moves.Move.{Move}
 use Rattle.ads_outside.specs.declared.moves.Move.TheVariants as move
-use Rattle.ads_machine.specs.Device.{Device}
 use Rattle.ads_machine.specs.Connection.{Connection, connection_of}
 use Rattle.ads_machine.specs.MachineState.{MachineState, output_of_connection}
-use Rattle.ads_machine.specs.Moves.{moment_of_tick, connection_after_tick, connection_after_reload, after_reload, with_gone, with_took, state_after_event, state_after_move, state_after}
+use Rattle.ads_machine.specs.Moves.{EventStep, with_gone, with_took, state_after_move, state_after}
+use Rattle.ads_machine.specs.Events.{moment_of_tick, connection_after_tick, connection_after_reload, after_reload, state_after_event}
 use Rattle.ads_machine.specs.World.{World, world_of, first_memory}
 use Rattle.ads_machine.specs.Client.{Client}
 use Rattle.ads_machine.specs.Acts.{reads_of_act, writes_of_act, reads_of_acts, writes_of_acts}
 use Rattle.ads_machine.specs.Answers.{AnswerTable}
 use Rattle.ads_machine.specs.Ticks.{signal_puts, world_after_tick}
 use Rattle.ads_machine.specs.Reloads.{is_kept, world_after_reload}
-use Rattle.ads_machine.specs.AdsDevice.{DescriptionReading, reloading, ads_device}
+use Rattle.ads_machine.specs.AdsDevice.{DescriptionReading, reloading, ads_device, server_step}
 use Rattle.ads_machine.specs.Projection.{is_event_of, is_move_of, projection_of, acts_of_move, acts_of_log, acts_by_others, reads_of, writes_by_others}
 use Rattle.ads_machine.proofs.Growth.{connection_after_tick-grows, connection_after_reload-grows}
 use Rattle.ads_machine.proofs.Changes.{with_gone-number, with_took-number}
 use Rattle.ads_machine.specs.Offers.{taken_of}
 use Rattle.ads_machine.specs.Delivery.{IsPrefix}
-use Rattle.ads_machine.proofs.TurnsKept.{takes_output}
+use Rattle.ads_machine.proofs.ServerDelivers.{server_takes_output}
 use Rattle.ads_laws.specs.Isolation.{IsAmong, start, IsIsolated, SeesOnlyItself, TakesAsAlone}
 use Rattle.ads_laws.proofs.Memory.{agree-back}
 use Rattle.ads_laws.proofs.Footprints.{Each, each_left, each_right, Not, puts-agree}
@@ -110,7 +110,7 @@ event-own table reading R c a s (event.Reload bytes) t e i =
 event-own table reading R c a s (event.Writable n) t e i = e
 
 own : (table : AnswerTable) (reading : DescriptionReading) (R : ByteName → Type 0) (c : ℕ) (a s : MachineState World Client) (m : Move) → is_move_of c m ≡ true → SameForClient R c a s
-    → Each R (reads_of_acts (acts_of_move table reading a m)) → SameForClient R c (state_after_move (ads_device table reading) a m) (state_after_move (ads_device table reading) s m)
+    → Each R (reads_of_acts (acts_of_move table reading a m)) → SameForClient R c (state_after_move (server_step table reading) a m) (state_after_move (server_step table reading) s m)
 unfolding state_after_move
 own table reading R c a s (move.Event x) t e i = event-own table reading R c a s x t e i
 own table reading R c a s (move.Took n offered bytes) t e i =
@@ -120,7 +120,7 @@ own table reading R c a s (move.Shut n) t e i = at-own R c n with_gone with_gone
 
 -- a move of another connection
 other : (table : AnswerTable) (reading : DescriptionReading) (R : ByteName → Type 0) (c : ℕ) (a s : MachineState World Client) (m : Move) → is_move_of c m ≡ false → SameForClient R c a s
-    → Each (Not R) (writes_of_acts (acts_of_move table reading s m)) → SameForClient R c a (state_after_move (ads_device table reading) s m)
+    → Each (Not R) (writes_of_acts (acts_of_move table reading s m)) → SameForClient R c a (state_after_move (server_step table reading) s m)
 unfolding state_after_move state_after_event acts_of_move
 other table reading R c a s (move.Event (event.Opened n)) t e i = opened-other R c n (eqb-false n c t) a s e
 other table reading R c a s (move.Event (event.Piece n bytes)) t e i = piece-other table reading R c n bytes (eqb-false n c t) a s e i
@@ -135,35 +135,35 @@ other table reading R c a s (move.Shut n) t e i = at-other R c n with_gone with_
 -- both runs, move by move
 pub runs : (table : AnswerTable) (reading : DescriptionReading) (R : ByteName → Type 0) (c : ℕ) (log : List Move) (a s : MachineState World Client) → SameForClient R c a s
     → Each R (reads_of table reading c a log) → Each (Not R) (writes_by_others table reading c s log)
-    → SameForClient R c (state_after (ads_device table reading) a (projection_of c log)) (state_after (ads_device table reading) s log)
+    → SameForClient R c (state_after (server_step table reading) a (projection_of c log)) (state_after (server_step table reading) s log)
 unfolding state_after acts_of_log acts_by_others projection_of
 runs table reading R c [] a s e i o = e
 runs table reading R c (m ∷ ms) a s e i o = split (is_move_of c m) refl (λ b t. runs table reading R c ms b t)
   where
-    device : Device World Client
-    device = ads_device table reading
+    step : EventStep World Client
+    step = server_step table reading
 
     Rest : Type 0
     Rest = (b t : MachineState World Client) → SameForClient R c b t → Each R (reads_of table reading c b ms) → Each (Not R) (writes_by_others table reading c t ms)
-        → SameForClient R c (state_after device b (projection_of c ms)) (state_after device t ms)
+        → SameForClient R c (state_after step b (projection_of c ms)) (state_after step t ms)
 
-    split : (b : Bool) → is_move_of c m ≡ b → Rest → SameForClient R c (state_after device a (projection_of c (m ∷ ms))) (state_after device (state_after_move device s m) ms)
+    split : (b : Bool) → is_move_of c m ≡ b → Rest → SameForClient R c (state_after step a (projection_of c (m ∷ ms))) (state_after step (state_after_move step s m) ms)
     split true t rest =
         let here = acts_of_move table reading a m in
-        let later = acts_of_log table reading (state_after_move device a m) (projection_of c ms) in
+        let later = acts_of_log table reading (state_after_move step a m) (projection_of c ms) in
         let j = rw (t, flat_map-append reads_of_act here later) at i in
-        let p = rw (t, flat_map-append writes_of_act [] (acts_by_others table reading c (state_after_move device s m) ms)) at o in
+        let p = rw (t, flat_map-append writes_of_act [] (acts_by_others table reading c (state_after_move step s m) ms)) at o in
         let left = each_left R (reads_of_acts here) (reads_of_acts later) j in
         let right = each_right R (reads_of_acts here) (reads_of_acts later) j in
-        rw t (rest (state_after_move device a m) (state_after_move device s m) (own table reading R c a s m t e left) right p)
+        rw t (rest (state_after_move step a m) (state_after_move step s m) (own table reading R c a s m t e left) right p)
     split false t rest =
         let here = acts_of_move table reading s m in
-        let later = acts_by_others table reading c (state_after_move device s m) ms in
+        let later = acts_by_others table reading c (state_after_move step s m) ms in
         let j = rw t at i in
         let p = rw (t, flat_map-append writes_of_act here later) at o in
         let left = each_left (Not R) (writes_of_acts here) (writes_of_acts later) p in
         let right = each_right (Not R) (writes_of_acts here) (writes_of_acts later) p in
-        rw t (rest a (state_after_move device s m) (other table reading R c a s m t e left) j right)
+        rw t (rest a (state_after_move step s m) (other table reading R c a s m t e left) j right)
 
 each_among : (ns all : List ByteName) → ((n : ByteName) → IsAmong n ns → IsAmong n all) → Each (λ n. IsAmong n all) ns
 each_among [] all h = tt
@@ -186,10 +186,10 @@ isolated table reading d signals c log apart =
 pub sees_only_itself : SeesOnlyItself
 sees_only_itself table reading d signals c log other same apart also =
     isolated table reading d signals c log apart
-    ∙ ap (λ l. output_of_connection (connection_of c (state_after (ads_device table reading) (start d signals) l).connections)) same
+    ∙ ap (λ l. output_of_connection (connection_of c (state_after (server_step table reading) (start d signals) l).connections)) same
     ∙ sym (isolated table reading d signals c other also)
 
 pub takes_as_alone : TakesAsAlone
 takes_as_alone table reading d signals c log turns apart =
     subst (IsPrefix (taken_of c log)) (isolated table reading d signals c log apart)
-    (takes_output World Client (ads_device table reading) (world_of d signals) c log turns)
+    (server_takes_output (ads_device table reading) (world_of d signals) c log turns)

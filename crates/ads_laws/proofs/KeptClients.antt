@@ -12,7 +12,7 @@ use Rattle.ads_machine.specs.Device.{FrameOutcome, ClientOutcome}
 use Rattle.ads_machine.specs.Connection.{Connection, is_deaf}
 use Rattle.ads_machine.specs.MachineState.{Exchange}
 use Rattle.ads_machine.specs.Piece.{with_received, packets_left, with_one_taken, with_client, after_outcome, after_packet, after_packets, with_piece, end_of_piece, after_piece}
-use Rattle.ads_machine.specs.Moves.{after_client_outcome, connection_after_tick, connection_after_reload}
+use Rattle.ads_machine.specs.Events.{after_client_outcome, connection_after_tick, connection_after_reload}
 use Rattle.ads_machine.specs.World.{World, Setup, setup_of, port_numbered}
 use Rattle.ads_machine.specs.Client.{Client, new_client, client_after}
 use Rattle.ads_machine.specs.Acts.{effect_of, client_after_acts}
@@ -150,10 +150,12 @@ MaybeKept I (Some k) = I k.client
 pub carries : (table : AnswerTable) (reading : DescriptionReading) (I : Client → Type 0) → Keeps table I → Carries (ads_device table reading) (MaybeKept I)
 unfolding connection_after_tick connection_after_reload
 carries table reading I h = record {
-  fresh = λ n i. h.new;
-  piece = λ bytes x i. piece-keeps table reading I h bytes x i;
-  tick = λ now w k i. outcome-keeps I (client_after_tick now w k.client) k i (h.tick now w k.client i);
-  reload = λ now old new k i. outcome-keeps I (client_reloaded now old new k.client) k i (h.reload now old new k.client i);
-  gone = λ x i. i;
+  events = record {
+    fresh = λ n i. h.new;
+    piece = λ bytes x i. piece-keeps table reading I h bytes x i;
+    tick = λ now w k i. outcome-keeps I (client_after_tick now w k.client) k i (h.tick now w k.client i);
+    reload = λ now old new k i. outcome-keeps I (client_reloaded now old new k.client) k i (h.reload now old new k.client i);
+    gone = λ x i. i;
+  };
   took = λ n x i. took-cases (λ (l : Connection Client). I l.client) n x i i;
 }

@@ -28,7 +28,8 @@ use Rattle.ads_outside.specs.declared.moves.Move.TheVariants as move
 use Rattle.ads_machine.specs.Connection.{Connection, connection_of}
 use Rattle.ads_machine.specs.MachineState.{MachineState, Exchange, exchange_of, after_exchange}
 use Rattle.ads_machine.specs.Piece.{after_piece}
-use Rattle.ads_machine.specs.Moves.{after_reload, with_gone, with_took, state_after_event, state_after_move, state_after}
+use Rattle.ads_machine.specs.Moves.{with_gone, with_took, state_after_move, state_after}
+use Rattle.ads_machine.specs.Events.{after_reload, state_after_event}
 use Rattle.ads_machine.specs.World.{World}
 use Rattle.ads_plant.proofs.TextLengths.{short_comment}
 use Rattle.ads_machine.specs.Client.{Place, Client}
@@ -36,7 +37,7 @@ use Rattle.ads_machine.specs.Entries.{entry_of_symbol, symbol_upload_of, entry_o
 use Rattle.ads_machine.specs.Answers.{AnswerTable}
 use Rattle.ads_machine.specs.Ticks.{world_after_tick}
 use Rattle.ads_machine.specs.Reloads.{world_after_reload}
-use Rattle.ads_machine.specs.AdsDevice.{DescriptionReading, reloading, ads_device}
+use Rattle.ads_machine.specs.AdsDevice.{DescriptionReading, reloading, ads_device, server_step}
 use Rattle.ads_laws.specs.Isolation.{start}
 use Rattle.ads_laws.specs.Soundness.{Each, ReadsAccepted}
 use Rattle.ads_laws.specs.Reachable.{IsPlaced}
@@ -220,7 +221,7 @@ event-plant P a table reading h s (event.Reload bytes) g =
 event-plant P a table reading h s (event.Writable n) g = g
 
 move-plant : (P : Plant → Type 0) → HoldOfAccepted P → (table : AnswerTable) (reading : DescriptionReading) → ReadsAccepted reading → (s : MachineState World Client) (m : Move)
-    → P s.world.plant → P (state_after_move (ads_device table reading) s m).world.plant
+    → P s.world.plant → P (state_after_move (server_step table reading) s m).world.plant
 unfolding state_after_move
 move-plant P a table reading h s (move.Event e) g = event-plant P a table reading h s e g
 move-plant P a table reading h s (move.Took n offered bytes) g = exchange-plant P (with_took (length bytes)) (took-goes (length bytes)) s (connection_of n s.connections) g
@@ -228,11 +229,11 @@ move-plant P a table reading h s (move.Lost n) g = exchange-plant P with_gone go
 move-plant P a table reading h s (move.Shut n) g = exchange-plant P with_gone gone-goes s (connection_of n s.connections) g
 
 log-plant : (P : Plant → Type 0) → HoldOfAccepted P → (table : AnswerTable) (reading : DescriptionReading) → ReadsAccepted reading → (log : List Move) (s : MachineState World Client)
-    → P s.world.plant → P (state_after (ads_device table reading) s log).world.plant
+    → P s.world.plant → P (state_after (server_step table reading) s log).world.plant
 unfolding state_after
 log-plant P a table reading h [] s g = g
-log-plant P a table reading h (m ∷ ms) s g = log-plant P a table reading h ms (state_after_move (ads_device table reading) s m) (move-plant P a table reading h s m g)
+log-plant P a table reading h (m ∷ ms) s g = log-plant P a table reading h ms (state_after_move (server_step table reading) s m) (move-plant P a table reading h s m g)
 
 pub every_plant : (P : Plant → Type 0) → HoldOfAccepted P → (table : AnswerTable) (reading : DescriptionReading) → ReadsAccepted reading → (d : Description) (signals : List Wave) → IsAccepted d (length signals)
-    → (log : List Move) → P (state_after (ads_device table reading) (start d signals) log).world.plant
+    → (log : List Move) → P (state_after (server_step table reading) (start d signals) log).world.plant
 every_plant P a table reading h d signals accepted log = log-plant P a table reading h log (start d signals) (a d (length signals) accepted)

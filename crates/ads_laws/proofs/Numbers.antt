@@ -5,7 +5,7 @@ use Rattle.ads_machine.specs.Device.{FrameOutcome, ClientOutcome}
 use Rattle.ads_machine.specs.Connection.{Connection, is_deaf}
 use Rattle.ads_machine.specs.MachineState.{Exchange}
 use Rattle.ads_machine.specs.Piece.{with_received, packets_left, with_one_taken, with_client, after_outcome, after_packet, after_packets, with_piece, end_of_piece, after_piece}
-use Rattle.ads_machine.specs.Moves.{after_client_outcome, connection_after_tick, connection_after_reload}
+use Rattle.ads_machine.specs.Events.{after_client_outcome, connection_after_tick, connection_after_reload}
 use Rattle.ads_machine.specs.World.{World, setup_of}
 use Rattle.ads_machine.specs.Handles.{Live, handle_after_reload, handles_after}
 use Rattle.ads_machine.specs.Client.{Client, Effect, NoEffect, Grants, Releases, Adds, Deletes, client_after, kept_place, client_after_reload}
@@ -107,11 +107,13 @@ at_least c l (m, e, r) = let same : m ≡ l = cc in subst (λ (x : Connection Cl
 
 never-falls : (table : AnswerTable) (reading : DescriptionReading) (c : Client) → Carries (ads_device table reading) (AtLeast c)
 never-falls table reading c = record {
-  fresh = λ n h. none h.1;
-  piece = λ bytes x h. (_, refl, rises_then c x.connection.client _ (at_least c x.connection h) (piece-rises table reading bytes x));
-  tick = λ now w k h. (_, refl, rises_then c k.client _ (at_least c k h) (tick-rises table reading now w k));
-  reload = λ now old new k h. (_, refl, rises_then c k.client _ (at_least c k h) (reload-rises table reading now old new k));
-  gone = λ x h. (_, refl, at_least c x.connection h);
+  events = record {
+    fresh = λ n h. none h.1;
+    piece = λ bytes x h. (_, refl, rises_then c x.connection.client _ (at_least c x.connection h) (piece-rises table reading bytes x));
+    tick = λ now w k h. (_, refl, rises_then c k.client _ (at_least c k h) (tick-rises table reading now w k));
+    reload = λ now old new k h. (_, refl, rises_then c k.client _ (at_least c k h) (reload-rises table reading now old new k));
+    gone = λ x h. (_, refl, at_least c x.connection h);
+  };
   took = λ n x h. took-cases (λ (l : Connection Client). AtLeast c (Some l)) n x h (_, refl, at_least c x.connection h);
 }
   where

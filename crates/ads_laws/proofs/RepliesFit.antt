@@ -33,7 +33,7 @@ use Rattle.ads_machine.specs.Requests.{next_watch, add_watch, add_reached, add_a
 use Rattle.ads_machine.specs.Sums.{SumRequest, sum_of_reads, sum_of_writes, sum_of_read_writes, given_in_turn}
 use Rattle.ads_machine.specs.Packets.{Decision, NoAnswer, EndConnection, AmsError, Perform, refuse, acts_of, decide_parts, decide_single, decide_read_write, decide_request, decide_port, decide_target, decide_header, decide}
 use Rattle.ads_machine.specs.Replies.{outcome_in_all, answer_to, answer_of, performed}
-use Rattle.ads_machine.specs.AdsDevice.{DescriptionReading, ads_device}
+use Rattle.ads_machine.specs.AdsDevice.{DescriptionReading, ads_device, server_step}
 use Rattle.ads_laws.specs.Isolation.{start}
 use Rattle.ads_laws.specs.Soundness.{Each, IsSoundPlant}
 use Rattle.ads_laws.specs.Reachable.{IsPlacedStatus, IsPlacedHandle, ConnectionFits}
@@ -245,7 +245,7 @@ all-fit table reading w sound modest (k ∷ ks) e = (answers-fit table reading w
 
 pub replies_fit : RepliesFit
 replies_fit table reading h d signals accepted log =
-    let s = state_after (ads_device table reading) (start d signals) log in
+    let s = state_after (server_step table reading) (start d signals) log in
     let sound = every_plant IsSoundPlant accepted_are_sound table reading h d signals accepted log in
     let modest = every_plant IsModestPlant accepted_are_modest table reading h d signals accepted log in
     let all = every_state_fits table reading h d signals accepted log in

@@ -7,7 +7,7 @@ use Rattle.ads_plant.specs.World.{ByteName, Block, is_block_of, block_of, nth_by
 use Rattle.ads_machine.specs.Device.{Produced, ClientOutcome}
 use Rattle.ads_machine.specs.Connection.{Connection, is_deaf}
 use Rattle.ads_machine.specs.Piece.{with_client}
-use Rattle.ads_machine.specs.Moves.{after_client_outcome, connection_after_tick, connection_after_reload}
+use Rattle.ads_machine.specs.Events.{after_client_outcome, connection_after_tick, connection_after_reload}
 use Rattle.ads_machine.specs.World.{World}
 use Rattle.ads_machine.specs.Access.{Addressed, values_at}
 use Rattle.ads_machine.specs.Watches.{Watch, is_due, is_sent, after_check, checked_watch, samples_of, watch_after_reload, watches_after_reload}

@@ -17,7 +17,7 @@ use Rattle.ads_machine.specs.Client.{Client}
 use Rattle.ads_machine.specs.Acts.{writes_of_acts}
 use Rattle.ads_machine.specs.Answers.{AnswerTable}
 use Rattle.ads_machine.specs.Ticks.{signal_puts}
-use Rattle.ads_machine.specs.AdsDevice.{DescriptionReading, ads_device}
+use Rattle.ads_machine.specs.AdsDevice.{DescriptionReading, server_step}
 use Rattle.ads_machine.specs.Projection.{acts_of_move}
 use Rattle.ads_laws.specs.Isolation.{IsAmong}
 
@@ -59,7 +59,7 @@ ChangesOnlyByWrites = (table : AnswerTable) (reading : DescriptionReading)
     (s : MachineState World Client) (m : Move) (n : ByteName)
     → is_accepted_reload reading s m ≡ false
     → (IsAmong n (writes_of_move table reading s m) → ⊥)
-    → byte_at (state_after_move (ads_device table reading) s m).world.memory n
+    → byte_at (state_after_move (server_step table reading) s m).world.memory n
     ≡ byte_at s.world.memory n
 
 -- what one put leaves: that byte, or that bit of it, and all else as it was

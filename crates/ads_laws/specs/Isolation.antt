@@ -12,7 +12,7 @@ use Rattle.ads_machine.specs.Delivery.{IsPrefix}
 use Rattle.ads_machine.specs.World.{World, world_of}
 use Rattle.ads_machine.specs.Client.{Client}
 use Rattle.ads_machine.specs.Answers.{AnswerTable}
-use Rattle.ads_machine.specs.AdsDevice.{DescriptionReading, ads_device}
+use Rattle.ads_machine.specs.AdsDevice.{DescriptionReading, server_step}
 use Rattle.ads_machine.specs.Projection.{projection_of, reads_of, writes_by_others}
 
 abbrev pub IsAmong : ByteName → List ByteName → Type 0
@@ -31,7 +31,7 @@ start d signals = start_of (world_of d signals)
 abbrev pub output : AnswerTable → DescriptionReading → Description → List Wave → ℕ → List Move
     → List ℕ
 output table reading d signals c log =
-    output_of c (state_after (ads_device table reading) (start d signals) log)
+    output_of c (state_after (server_step table reading) (start d signals) log)
 
 -- none of the bytes that a connection reads, were it alone, is written by another
 abbrev pub IsUntouched : AnswerTable → DescriptionReading → Description → List Wave → ℕ
@@ -60,6 +60,6 @@ SeesOnlyItself = (table : AnswerTable) (reading : DescriptionReading) (d : Descr
 abbrev pub TakesAsAlone : Type 0
 TakesAsAlone = (table : AnswerTable) (reading : DescriptionReading) (d : Description)
     (signals : List Wave) (c : ℕ) (log : List Move)
-    → KeepsTurns (ads_device table reading) (start d signals) log
+    → KeepsTurns (server_step table reading) (start d signals) log
     → IsUntouched table reading d signals c log
     → IsPrefix (taken_of c log) (output table reading d signals c (projection_of c log))

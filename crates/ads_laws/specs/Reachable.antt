@@ -16,7 +16,7 @@ use Rattle.ads_machine.specs.Watches.{Watch}
 use Rattle.ads_machine.specs.Client.{Place, Client}
 use Rattle.ads_machine.specs.Answers.{AnswerTable}
 use Rattle.ads_machine.specs.Writes.{symbol_named}
-use Rattle.ads_machine.specs.AdsDevice.{DescriptionReading, ads_device}
+use Rattle.ads_machine.specs.AdsDevice.{DescriptionReading, server_step}
 use Rattle.ads_laws.specs.Isolation.{start}
 use Rattle.ads_laws.specs.Soundness.{Each, ReadsAccepted}
 
@@ -68,4 +68,4 @@ pub record AllFits (s : MachineState World Client) : Type 0 where
 abbrev pub EveryStateFits : Type 0
 EveryStateFits = (table : AnswerTable) (reading : DescriptionReading) → ReadsAccepted reading
     → (d : Description) (signals : List Wave) → IsAccepted d (length signals) → (log : List Move)
-    → AllFits (state_after (ads_device table reading) (start d signals) log)
+    → AllFits (state_after (server_step table reading) (start d signals) log)

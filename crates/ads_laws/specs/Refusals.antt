@@ -10,7 +10,8 @@ use Rattle.ads_outside.specs.declared.moves.Move.{Move}
 use Rattle.ads_machine.specs.Device.{Refused}
 use Rattle.ads_machine.specs.Connection.{Connection, connection_of}
 use Rattle.ads_machine.specs.MachineState.{MachineState}
-use Rattle.ads_machine.specs.Moves.{after_reload, state_after}
+use Rattle.ads_machine.specs.Moves.{state_after}
+use Rattle.ads_machine.specs.Events.{after_reload}
 use Rattle.ads_machine.specs.World.{World, Setup, setup_of}
 use Rattle.ads_machine.specs.Handles.{HandleStatus, Never, Released, Outdated, Live, kept_status}
 use Rattle.ads_machine.specs.Watches.{Mode}
@@ -22,7 +23,7 @@ use Rattle.ads_machine.specs.Writes.{Asker, may_write}
 use Rattle.ads_machine.specs.Requests.{MAX_WATCHED, mode_of, act_of}
 use Rattle.ads_machine.specs.Packets.{Decision, NoAnswer, EndConnection, AmsError, decide}
 use Rattle.ads_machine.specs.Replies.{performed}
-use Rattle.ads_machine.specs.AdsDevice.{DescriptionReading, ads_device}
+use Rattle.ads_machine.specs.AdsDevice.{DescriptionReading, ads_device, server_step}
 
 -- the bytes and the client after a request whose result is not 0
 pub record ChangesNothing (memory : List Block) (c : Client) (a : Act) : Type 0 where
@@ -94,5 +95,5 @@ NumbersNeverFall = (table : AnswerTable) (reading : DescriptionReading)
     (s : MachineState World Client) (c : ℕ) (log : List Move) (k : Connection Client)
     → connection_of c s.connections ≡ Some k
     → (l : Connection Client)
-    × (connection_of c (state_after (ads_device table reading) s log).connections ≡ Some l)
+    × (connection_of c (state_after (server_step table reading) s log).connections ≡ Some l)
     × NumbersGrow k l

@@ -18,7 +18,7 @@ use Rattle.ads_machine.specs.Acts.{outcome_of}
 use Rattle.ads_machine.specs.Answers.{AnswerTable}
 use Rattle.ads_machine.specs.Writes.{Asker}
 use Rattle.ads_machine.specs.Requests.{act_of}
-use Rattle.ads_machine.specs.AdsDevice.{DescriptionReading, ads_device}
+use Rattle.ads_machine.specs.AdsDevice.{DescriptionReading, ads_device, server_step}
 use Rattle.ads_laws.specs.Isolation.{start}
 use Rattle.ads_laws.specs.Soundness.{Each, ReadsAccepted}
 
@@ -54,4 +54,4 @@ abbrev pub RepliesFit : Type 0
 RepliesFit = (table : AnswerTable) (reading : DescriptionReading) → ReadsAccepted reading
     → (d : Description) (signals : List Wave) → IsAccepted d (length signals) → (log : List Move)
     → AllAnswersFit (ads_device table reading)
-    (state_after (ads_device table reading) (start d signals) log)
+    (state_after (server_step table reading) (start d signals) log)

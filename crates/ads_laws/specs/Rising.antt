@@ -12,7 +12,7 @@ use Rattle.ads_machine.specs.Watches.{Watch}
 use Rattle.ads_machine.specs.Client.{Client}
 use Rattle.ads_machine.specs.Answers.{AnswerTable}
 use Rattle.ads_machine.specs.Stamps.{SampleGroup, grouped, samples_at}
-use Rattle.ads_machine.specs.AdsDevice.{DescriptionReading, ads_device}
+use Rattle.ads_machine.specs.AdsDevice.{DescriptionReading, server_step}
 use Rattle.ads_laws.specs.Isolation.{start}
 use Rattle.ads_laws.specs.Soundness.{Each}
 
@@ -44,5 +44,5 @@ pub record RisesInOrder (c : Client) : Type 0 where
 abbrev pub HandlesRise : Type 0
 HandlesRise = (table : AnswerTable) (reading : DescriptionReading) (d : Description)
     (signals : List Wave) (log : List Move) (c : ℕ) (k : Connection Client)
-    → connection_of c (state_after (ads_device table reading) (start d signals) log).connections ≡ Some k
+    → connection_of c (state_after (server_step table reading) (start d signals) log).connections ≡ Some k
     → RisesInOrder k.client

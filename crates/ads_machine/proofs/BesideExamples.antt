@@ -15,7 +15,8 @@ use Rattle.ads_machine.specs.Connection.{connection_of, produce, produce_all, pu
 use Rattle.ads_machine.specs.Entries.{entry_of_part, text_of_steps}
 use Rattle.ads_machine.specs.HandleLaws.{handles_after_all}
 use Rattle.ads_machine.specs.Handles.{grant_in, handle_in, handles_after, is_released_in, place_after, with_released}
-use Rattle.ads_machine.specs.Moves.{connection_after_reload, connection_after_tick, state_after, state_after_event, state_after_move}
+use Rattle.ads_machine.specs.Moves.{state_after, state_after_move}
+use Rattle.ads_machine.specs.Events.{connection_after_reload, connection_after_tick, state_after_event}
 use Rattle.ads_machine.specs.Packets.{acts_of, decide, decide_request}
 use Rattle.ads_machine.specs.Piece.{after_packet, after_packets, after_piece}
 use Rattle.ads_machine.specs.Projection.{acts_by_others, acts_of_log, acts_of_move, acts_of_packets, projection_of}
@@ -45,7 +46,7 @@ use Rattle.ads_plant.specs.World.{ByteName}
 use Rattle.ads_machine.specs.World.{symbol_names}
 use Rattle.ads_machine.specs.Answers.{all_answered}
 use Rattle.ads_machine.specs.Projection.{reads_of, writes_by_others}
-use Rattle.ads_machine.proofs.Plant.{q, named, added, piece, opened, tick, reload, reading, device, start}
+use Rattle.ads_machine.proofs.Plant.{q, named, added, piece, opened, tick, reload, reading, step, start}
 use Rattle.ads_frames.proofs.Hex.{hex}
 
 -- connection 1 reads Main.count, watches and writes Flags.bits; connection 2 takes handles, writes Main.axis and Main.title,
@@ -70,7 +71,7 @@ record BesideRows : Type 0 where
   reads : reads_of all_answered reading 1 start busy ≡ named_bytes (codes "main.count") 4 ++ named_bytes (codes "flags.bits") 1 ++ named_bytes (codes "main.count") 4
   -- what connection 2 writes: two bytes of Main.axis, one of Main.title
   writes : writes_by_others all_answered reading 1 start busy ≡ named_bytes (codes "main.axis") 2 ++ named_bytes (codes "main.title") 1
-  alone : output_of 1 (state_after device start busy) ≡ output_of 1 (state_after device start (projection_of 1 busy))
+  alone : output_of 1 (state_after step start busy) ≡ output_of 1 (state_after step start (projection_of 1 busy))
 
 beside_rows : BesideRows
 unfolding ams_length_of is_header front_of packet_of behind_frame frames_from frames_of left_behind rest_of has_same_parts has_same_members part_behind type_align greatest_align type_size members_end type_depth greatest_depth found_of byte_at with_byte trees_behind trees_of type_text group_in group_of request_in request_of byte_range bit_range size_range range_in header_of written_bytes reply_in notes_of connection_after_tick connection_after_reload state_after_event state_after_move state_after given_in_turn left_in_turn sum_refusal packed handles_after_all memory_after_puts world_after_tick client_after_tick read_write_group act_of produce produce_all connection_of put_back grant_in is_released_in place_after handle_in with_released handles_after write_group control_act client_after client_after_reload ended_of watches_after_reload ended_watches text_of_steps entry_of_part numbers_from name_at names_at content_of projection_of acts_of_packets acts_of_move acts_of_log acts_by_others reply_in_forms outcome_in_all response_packet performed grouped frames_of_samples samples_at watches_after_tick reach_of outcomes_of memory_after_acts client_after_acts is_kept memory_after_reload world_after_reload client_reloaded answered_group after_packet after_packets after_piece read_group acts_of decide_request decide digits

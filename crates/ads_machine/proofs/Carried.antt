@@ -12,21 +12,26 @@ use Rattle.ads_machine.specs.Device.{Device, Reloading, Accepted, Refused}
 use Rattle.ads_machine.specs.Connection.{Connection, fresh_connection, connection_of, is_deaf, bytes_of_all}
 use Rattle.ads_machine.specs.MachineState.{MachineState, Exchange, exchange_of, after_exchange, output_of_connection}
 use Rattle.ads_machine.specs.Piece.{after_piece}
-use Rattle.ads_machine.specs.Moves.{moment_of_tick, connection_after_tick, connection_after_reload, after_reload, with_gone, with_took, state_after_event, state_after_move, state_after}
-use Rattle.ads_machine.specs.Delivery.{IsPrefix, OutputGrows, IsAtRest, ClosingEnds, LimitsQueue}
+use Rattle.ads_machine.specs.Moves.{with_gone, with_took, state_after_move, state_after}
+use Rattle.ads_machine.specs.Events.{moment_of_tick, connection_after_tick, connection_after_reload, after_reload, state_after_event}
+use Rattle.ads_machine.specs.Delivery.{IsPrefix}
+use Rattle.ads_machine.specs.Output.{OutputGrows, IsAtRest, ClosingEnds, LimitsQueue}
 use Rattle.ads_machine.specs.Connection.{produce, queued_of, bytes_of}
 use Rattle.ads_machine.proofs.Find.{or_else, connection_of-append, connection_of-map}
-use Rattle.ads_machine.proofs.Growth.{Grows, after_piece-grows, connection_after_tick-grows, connection_after_reload-grows}
+use Rattle.ads_machine.proofs.Growth.{Grows, bytes_of_grown, after_piece-grows, connection_after_tick-grows, connection_after_reload-grows}
 use Rattle.ads_machine.proofs.Changes.{KeepsNumber, exchange_own, exchange_other, exchange_none, with_gone-number, with_took-number}
-use Rattle.ads_machine.proofs.Delivered.{bytes_of_grown}
 
--- what every change of a connection keeps of it
-pub record Carries {W C : Type 0} (device : Device W C) (P : Option (Connection C) → Type 0) : Type 0 where
+-- what every event keeps of the connection of a number
+pub record EventsCarry {W C : Type 0} (device : Device W C) (P : Option (Connection C) → Type 0) : Type 0 where
   pub fresh : (n : ℕ) → P None → P (Some (fresh_connection device.new_client n))
   pub piece : (bytes : List ℕ) (x : Exchange W C) → P (Some x.connection) → P (Some (after_piece device bytes x).connection)
   pub tick : (moment : ℕ) (world : W) (k : Connection C) → P (Some k) → P (Some (connection_after_tick device moment world k))
   pub reload : (moment : ℕ) (old new : W) (k : Connection C) → P (Some k) → P (Some (connection_after_reload device moment old new k))
   pub gone : (x : Exchange W C) → P (Some x.connection) → P (Some (with_gone x).connection)
+
+-- what every move keeps of it
+pub record Carries {W C : Type 0} (device : Device W C) (P : Option (Connection C) → Type 0) : Type 0 where
+  pub events : EventsCarry device P
   pub took : (n : ℕ) (x : Exchange W C) → P (Some x.connection) → P (Some (with_took n x).connection)
 
 local-carried : {W C : Type 0} (P : Option (Connection C) → Type 0) (c n : ℕ) (f : Exchange W C → Exchange W C) → KeepsNumber f → ((x : Exchange W C) → P (Some x.connection) → P (Some (f x).connection)) → (s : MachineState W C)
@@ -50,7 +55,7 @@ mapped-carried {C} P c f same keeps ks g = subst P (sym (connection_of-map c f s
     one None h = h
     one (Some k) h = keeps k h
 
-opened-carried : {W C : Type 0} (device : Device W C) (P : Option (Connection C) → Type 0) → Carries device P → (c n : ℕ) (ks : List (Connection C)) → P (connection_of c ks) → P (connection_of c (ks ++ fresh_connection device.new_client n ∷ []))
+opened-carried : {W C : Type 0} (device : Device W C) (P : Option (Connection C) → Type 0) → EventsCarry device P → (c n : ℕ) (ks : List (Connection C)) → P (connection_of c ks) → P (connection_of c (ks ++ fresh_connection device.new_client n ∷ []))
 unfolding connection_of
 opened-carried {W} {C} device P keeps c n ks g = subst P (sym (connection_of-append c ks (fresh_connection device.new_client n ∷ []))) (one (connection_of c ks) g)
   where
@@ -58,12 +63,12 @@ opened-carried {W} {C} device P keeps c n ks g = subst P (sym (connection_of-app
     one (Some k) h = h
     one None h = elim (cases_Bool (n == c)) [ inl b ↦ rw b (keeps.fresh n h) | inr b ↦ rw b h ]
 
-reload-carried : {W C : Type 0} (device : Device W C) (P : Option (Connection C) → Type 0) → Carries device P → (c : ℕ) (r : Reloading W) (s : MachineState W C) → P (connection_of c s.connections) → P (connection_of c (after_reload device r s).connections)
+reload-carried : {W C : Type 0} (device : Device W C) (P : Option (Connection C) → Type 0) → EventsCarry device P → (c : ℕ) (r : Reloading W) (s : MachineState W C) → P (connection_of c s.connections) → P (connection_of c (after_reload device r s).connections)
 reload-carried device P keeps c (Refused rule) s g = g
 reload-carried device P keeps c (Accepted version world) s g =
     mapped-carried P c (connection_after_reload device s.moment s.world world) (λ k. (connection_after_reload-grows device s.moment s.world world k).number) (keeps.reload s.moment s.world world) s.connections g
 
-event-carried : {W C : Type 0} (device : Device W C) (P : Option (Connection C) → Type 0) → Carries device P → (c : ℕ) (e : Event) (s : MachineState W C) → P (connection_of c s.connections) → P (connection_of c (state_after_event device s e).connections)
+pub event-carried : {W C : Type 0} (device : Device W C) (P : Option (Connection C) → Type 0) → EventsCarry device P → (c : ℕ) (e : Event) (s : MachineState W C) → P (connection_of c s.connections) → P (connection_of c (state_after_event device s e).connections)
 unfolding state_after_event
 event-carried device P keeps c (event.Opened n) s g = opened-carried device P keeps c n s.connections g
 event-carried device P keeps c (event.Piece n bytes) s g = local-carried P c n (after_piece device bytes) (λ x. (after_piece-grows device bytes x).number) (keeps.piece bytes) s g
@@ -75,17 +80,17 @@ event-carried device P keeps c (event.Tick now) s g =
 event-carried device P keeps c (event.Reload bytes) s g = reload-carried device P keeps c (device.reload bytes s.world) s g
 event-carried device P keeps c (event.Writable n) s g = g
 
-pub move-carried : {W C : Type 0} (device : Device W C) (P : Option (Connection C) → Type 0) → Carries device P → (c : ℕ) (m : Move) (s : MachineState W C) → P (connection_of c s.connections) → P (connection_of c (state_after_move device s m).connections)
+pub move-carried : {W C : Type 0} (device : Device W C) (P : Option (Connection C) → Type 0) → Carries device P → (c : ℕ) (m : Move) (s : MachineState W C) → P (connection_of c s.connections) → P (connection_of c (state_after_move (state_after_event device) s m).connections)
 unfolding state_after_move
-move-carried device P keeps c (move.Event e) s g = event-carried device P keeps c e s g
+move-carried device P keeps c (move.Event e) s g = event-carried device P keeps.events c e s g
 move-carried device P keeps c (move.Took n offered bytes) s g = local-carried P c n (with_took (length bytes)) (with_took-number (length bytes)) (keeps.took (length bytes)) s g
-move-carried device P keeps c (move.Lost n) s g = local-carried P c n with_gone with_gone-number keeps.gone s g
-move-carried device P keeps c (move.Shut n) s g = local-carried P c n with_gone with_gone-number keeps.gone s g
+move-carried device P keeps c (move.Lost n) s g = local-carried P c n with_gone with_gone-number keeps.events.gone s g
+move-carried device P keeps c (move.Shut n) s g = local-carried P c n with_gone with_gone-number keeps.events.gone s g
 
-pub log-carried : {W C : Type 0} (device : Device W C) (P : Option (Connection C) → Type 0) → Carries device P → (c : ℕ) (log : List Move) (s : MachineState W C) → P (connection_of c s.connections) → P (connection_of c (state_after device s log).connections)
+pub log-carried : {W C : Type 0} (device : Device W C) (P : Option (Connection C) → Type 0) → Carries device P → (c : ℕ) (log : List Move) (s : MachineState W C) → P (connection_of c s.connections) → P (connection_of c (state_after (state_after_event device) s log).connections)
 unfolding state_after
 log-carried device P keeps c [] s g = g
-log-carried device P keeps c (m ∷ ms) s g = log-carried device P keeps c ms (state_after_move device s m) (move-carried device P keeps c m s g)
+log-carried device P keeps c (m ∷ ms) s g = log-carried device P keeps c ms (state_after_move (state_after_event device) s m) (move-carried device P keeps c m s g)
 
 -- with_took changes one count, or nothing
 pub took-cases : {W C : Type 0} (P : Connection C → Type 0) (n : ℕ) (x : Exchange W C) → P x.connection → P (record x.connection { took = x.connection.took + n }) → P (with_took n x).connection
@@ -99,11 +104,13 @@ prefix-grows t k l g (rest, e) = (rest ++ bytes_of_all g.more, bytes_of_grown k 
 
 output-carries : {W C : Type 0} (device : Device W C) (t : List ℕ) → Carries device (λ o. IsPrefix t (output_of_connection o))
 output-carries {W} {C} device t = record {
-  fresh = λ n h. h;
-  piece = λ bytes x h. prefix-grows t x.connection (after_piece device bytes x).connection (after_piece-grows device bytes x) h;
-  tick = λ moment world k h. prefix-grows t k _ (connection_after_tick-grows device moment world k) h;
-  reload = λ moment old new k h. prefix-grows t k _ (connection_after_reload-grows device moment old new k) h;
-  gone = λ x h. h;
+  events = record {
+    fresh = λ n h. h;
+    piece = λ bytes x h. prefix-grows t x.connection (after_piece device bytes x).connection (after_piece-grows device bytes x) h;
+    tick = λ moment world k h. prefix-grows t k _ (connection_after_tick-grows device moment world k) h;
+    reload = λ moment old new k h. prefix-grows t k _ (connection_after_reload-grows device moment old new k) h;
+    gone = λ x h. h;
+  };
   took = λ n x h. took-cases (λ (k : Connection C). IsPrefix t (bytes_of_all k.produced)) n x h h;
 }
 
@@ -139,13 +146,15 @@ deaf-reload device moment old new k d = rw d refl
 
 rest-carries : {W C : Type 0} (device : Device W C) (k : Connection C) → Carries device (Rests k)
 rest-carries {W} {C} device k = record {
-  fresh = λ n h. none h.1;
-  piece = λ bytes x h. subst (λ (y : Exchange W C). Rests k (Some y.connection)) (sym (deaf-piece device bytes x (rests-deaf k x.connection h))) h;
-  tick = λ moment world l h. subst (λ (m : Connection C). Rests k (Some m)) (sym (deaf-tick device moment world l (rests-deaf k l h))) h;
-  reload = λ moment old new l h. subst (λ (m : Connection C). Rests k (Some m)) (sym (deaf-reload device moment old new l (rests-deaf k l h))) h;
-  gone = λ x h.
-      let r = rests-rest k x.connection h in
-      ((with_gone x).connection, refl, record { received = r.received; taken = r.taken; client = r.client; produced = r.produced }, or_right x.connection.closing true refl);
+  events = record {
+    fresh = λ n h. none h.1;
+    piece = λ bytes x h. subst (λ (y : Exchange W C). Rests k (Some y.connection)) (sym (deaf-piece device bytes x (rests-deaf k x.connection h))) h;
+    tick = λ moment world l h. subst (λ (m : Connection C). Rests k (Some m)) (sym (deaf-tick device moment world l (rests-deaf k l h))) h;
+    reload = λ moment old new l h. subst (λ (m : Connection C). Rests k (Some m)) (sym (deaf-reload device moment old new l (rests-deaf k l h))) h;
+    gone = λ x h.
+        let r = rests-rest k x.connection h in
+        ((with_gone x).connection, refl, record { received = r.received; taken = r.taken; client = r.client; produced = r.produced }, or_right x.connection.closing true refl);
+  };
   took = λ n x h. took-cases (λ (l : Connection C). Rests k (Some l)) n x h (more n x h);
 }
   where

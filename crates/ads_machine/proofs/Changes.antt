@@ -2,10 +2,9 @@
 use Rattle.std.proofs.Common.{◌≡◌, ◌≢◌, ℕ, List, [], ◌∷◌, ◌++◌, true, false, cond, refl, sym, ◌∙◌, subst}
 use Rattle.std.specs.Prelude.{Option, Some, None, ◌+◌}
 use Rattle.ads_outside.specs.declared.moves.Move.{Move}
-use Rattle.ads_machine.specs.Device.{Device}
 use Rattle.ads_machine.specs.Connection.{Connection, connection_of}
 use Rattle.ads_machine.specs.MachineState.{MachineState, Exchange, exchange_of, after_exchange}
-use Rattle.ads_machine.specs.Moves.{with_gone, with_took, state_after_move, state_after}
+use Rattle.ads_machine.specs.Moves.{EventStep, with_gone, with_took, state_after_move, state_after}
 use Rattle.ads_machine.proofs.Find.{number_of_found, connection_of-put_same, connection_of-put_other}
 
 -- a change of an exchange that leaves the connection's number
@@ -44,7 +43,7 @@ with_took-number {W} {C} n x = go x.connection.gone
     go true = refl
     go false = refl
 
-pub state_after-append : {W C : Type 0} (device : Device W C) (ms ns : List Move) (s : MachineState W C) → state_after device s (ms ++ ns) ≡ state_after device (state_after device s ms) ns
+pub state_after-append : {W C : Type 0} (step : EventStep W C) (ms ns : List Move) (s : MachineState W C) → state_after step s (ms ++ ns) ≡ state_after step (state_after step s ms) ns
 unfolding state_after
-state_after-append device [] ns s = refl
-state_after-append device (m ∷ ms) ns s = state_after-append device ms ns (state_after_move device s m)
+state_after-append step [] ns s = refl
+state_after-append step (m ∷ ms) ns s = state_after-append step ms ns (state_after_move step s m)

@@ -1,24 +1,18 @@
--- What a connection took begins what it was given.
+-- What a connection took begins what it was given, over any machine that only adds to that.
 use Rattle.std.proofs.Common.{◌≡◌, ℕ, ◌+◌, ◌≤◌, List, [], ◌∷◌, ◌++◌, map, length, take, drop, Bool, true, false, cond, refl, sym, ◌∙◌, ap, subst, inl, inr, arith, append_assoc, length-append}
-use Rattle.std.specs.Prelude.{Option, Some, None, ◌==◌, option_map}
-use Rattle.std.proofs.lemmas.Grind.{flat_map-append}
+use Rattle.std.specs.Prelude.{Option, Some, None, ◌==◌}
 use Rattle.std.proofs.lemmas.Bool.{cases_Bool, cases_eq, eqb-true, eqb-false}
 use Rattle.std.proofs.lemmas.List.{append-nil, take-append-le, take-append-drop}
 use Rattle.std.proofs.Math.Seq.{take-add}
 use Rattle.ads_outside.specs.declared.event.Event.{Event}
-use Rattle.ads_outside.specs.declared.event.Event.TheVariants as event
 use Rattle.ads_outside.specs.declared.moves.Move.{Move}
 use Rattle.ads_outside.specs.declared.moves.Move.TheVariants as move
-use Rattle.ads_machine.specs.Device.{Device, Reloading, Accepted, Refused}
-use Rattle.ads_machine.specs.Connection.{Connection, fresh_connection, connection_of, bytes_of, bytes_of_all}
+use Rattle.ads_machine.specs.Connection.{Connection, connection_of, bytes_of, bytes_of_all}
 use Rattle.ads_machine.specs.MachineState.{MachineState, Exchange, exchange_of, after_exchange, output_of_connection}
-use Rattle.ads_machine.specs.Piece.{after_piece}
-use Rattle.ads_machine.specs.Moves.{moment_of_tick, connection_after_tick, connection_after_reload, after_reload, with_gone, with_took, state_after_event, state_after_move, state_after}
+use Rattle.ads_machine.specs.Moves.{EventStep, with_gone, with_took, state_after_move, state_after}
 use Rattle.ads_machine.specs.Offers.{left_after, waiting_of, waiting_at, taken_of}
 use Rattle.ads_machine.specs.Turns.{IsOffer}
-use Rattle.ads_machine.specs.Delivery.{IsPrefix, AreOffers}
-use Rattle.ads_machine.proofs.Find.{or_else, connection_of-append, connection_of-map}
-use Rattle.ads_machine.proofs.Growth.{Grows, after_piece-grows, connection_after_tick-grows, connection_after_reload-grows}
+use Rattle.ads_machine.specs.Delivery.{IsPrefix, AreOffers, Adds, AddsTo, OnlyAdds}
 use Rattle.ads_machine.proofs.Waiting.{joined_bytes, offer_next}
 use Rattle.ads_machine.proofs.Changes.{KeepsNumber, exchange_own, exchange_other, exchange_none, with_gone-number, with_took-number}
 
@@ -26,18 +20,6 @@ use Rattle.ads_machine.proofs.Changes.{KeepsNumber, exchange_own, exchange_other
 pub record Gave {C : Type 0} (t : List ℕ) (k : Connection C) : Type 0 where
   pub is : t ≡ take k.took (bytes_of_all k.produced)
   pub counted : k.took ≤ length (bytes_of_all k.produced)
-
-pub bytes_of_grown : {C : Type 0} (k l : Connection C) (x : Grows k l) → bytes_of_all l.produced ≡ bytes_of_all k.produced ++ bytes_of_all x.more
-bytes_of_grown k l x = ap bytes_of_all x.produced ∙ flat_map-append bytes_of k.produced x.more
-
-gave-grows : {C : Type 0} (t : List ℕ) (k l : Connection C) → Gave t k → Grows k l → Gave t l
-gave-grows t k l g x =
-    let all = bytes_of_grown k l x in
-    let c = g.counted in
-    record {
-      is = g.is ∙ sym (take-append-le k.took (bytes_of_all k.produced) (bytes_of_all x.more) c) ∙ ap (take k.took) (sym all) ∙ ap (λ n. take n (bytes_of_all l.produced)) (sym x.took);
-      counted = let s = x.took in let n = ap length all ∙ length-append (bytes_of_all k.produced) (bytes_of_all x.more) in omega (arith, c, s, n);
-    }
 
 abbrev pub MaybeGave : {C : Type 0} → List ℕ → Option (Connection C) → Type 0
 MaybeGave t None = t ≡ []
@@ -58,41 +40,20 @@ local-gave {W} {C} t c n f same keeps s g =
     own None e = subst (λ (u : MachineState W C). MaybeGave t (connection_of c u.connections)) (sym (exchange_none c f s e)) g
     own (Some k) e = subst (MaybeGave t) (sym (exchange_own c f same s k e)) (keeps (exchange_of s k) (subst (MaybeGave t) e g))
 
-mapped-gave : {C : Type 0} (t : List ℕ) (c : ℕ) (f : Connection C → Connection C) → ((k : Connection C) → Grows k (f k)) → (ks : List (Connection C)) → MaybeGave t (connection_of c ks) → MaybeGave t (connection_of c (map f ks))
-mapped-gave {C} t c f grows ks g = subst (MaybeGave t) (sym (connection_of-map c f (λ k. (grows k).number) ks)) (one (connection_of c ks) g)
+-- an event adds to what a connection was given
+event-gave : {W C : Type 0} (step : EventStep W C) → OnlyAdds step → (t : List ℕ) (c : ℕ) (e : Event) (s : MachineState W C) → MaybeGave t (connection_of c s.connections) → MaybeGave t (connection_of c (step s e).connections)
+event-gave {W} {C} step adds t c e s g = go (connection_of c s.connections) (connection_of c (step s e).connections) (adds s e c) g
   where
-    one : (o : Option (Connection C)) → MaybeGave t o → MaybeGave t (option_map f o)
-    one None h = h
-    one (Some k) h = gave-grows t k (f k) h (grows k)
-
-opened-gave : {C : Type 0} (t : List ℕ) (c n : ℕ) (client : C) (ks : List (Connection C)) → MaybeGave t (connection_of c ks) → MaybeGave t (connection_of c (ks ++ fresh_connection client n ∷ []))
-unfolding connection_of
-opened-gave {C} t c n client ks g = subst (MaybeGave t) (sym (connection_of-append c ks (fresh_connection client n ∷ []))) (one (connection_of c ks) g)
-  where
-    one : (o : Option (Connection C)) → MaybeGave t o → MaybeGave t (or_else o (connection_of c (fresh_connection client n ∷ [])))
-    one (Some k) h = h
-    one None h =
-        elim (cases_Bool (n == c)) [
-          | inl b ↦ rw b (record { is = h; counted = omega arith })
-          | inr b ↦ rw b h
-        ]
-
-reload-gave : {W C : Type 0} (t : List ℕ) (c : ℕ) (device : Device W C) (r : Reloading W) (s : MachineState W C) → MaybeGave t (connection_of c s.connections) → MaybeGave t (connection_of c (after_reload device r s).connections)
-reload-gave t c device (Refused rule) s g = g
-reload-gave t c device (Accepted version world) s g = mapped-gave t c (connection_after_reload device s.moment s.world world) (connection_after_reload-grows device s.moment s.world world) s.connections g
-
-event-gave : {W C : Type 0} (t : List ℕ) (c : ℕ) (device : Device W C) (e : Event) (s : MachineState W C) → MaybeGave t (connection_of c s.connections) → MaybeGave t (connection_of c (state_after_event device s e).connections)
-unfolding state_after_event
-event-gave t c device (event.Opened n) s g = opened-gave t c n device.new_client s.connections g
-event-gave t c device (event.Piece n bytes) s g =
-    local-gave t c n (after_piece device bytes) (λ x. (after_piece-grows device bytes x).number) (λ x h. gave-grows t _ _ h (after_piece-grows device bytes x)) s g
-event-gave t c device (event.Closed n) s g = local-gave t c n with_gone with_gone-number (λ x h. record { is = h.is; counted = h.counted }) s g
-event-gave t c device (event.Tick now) s g =
-    let world = device.world_after_tick s.world in
-    let moment = moment_of_tick now s in
-    mapped-gave t c (connection_after_tick device moment world) (connection_after_tick-grows device moment world) s.connections g
-event-gave t c device (event.Reload bytes) s g = reload-gave t c device (device.reload bytes s.world) s g
-event-gave t c device (event.Writable n) s g = g
+    go : (o p : Option (Connection C)) → AddsTo o p → MaybeGave t o → MaybeGave t p
+    go None None a none = none
+    go None (Some l) a none = record { is = none ∙ ap (λ (n : ℕ). take n (bytes_of_all l.produced)) (sym a); counted = omega (arith, a) }
+    go (Some k) None a h = absurd a
+    go (Some k) (Some l) a h =
+        let n = ap (λ (x : List ℕ). length x) a.given ∙ length-append (bytes_of_all k.produced) a.more in
+        record {
+          is = h.is ∙ sym (take-append-le k.took (bytes_of_all k.produced) a.more h.counted) ∙ ap (λ (x : List ℕ). take k.took x) (sym a.given) ∙ ap (λ (i : ℕ). take i (bytes_of_all l.produced)) (sym a.took);
+          counted = omega (arith, h.counted, a.took, n);
+        }
 
 -- an offer that was taken adds to what was taken
 took-gave : {W C : Type 0} (t : List ℕ) (x : Exchange W C) (offered : ℕ) (bytes : List ℕ) → Gave t x.connection → IsOffer (waiting_of (Some x.connection)) offered bytes → Gave (t ++ bytes) (with_took (length bytes) x).connection
@@ -129,26 +90,26 @@ took-own {W} {C} t c offered bytes s g h = own (connection_of c s.connections) r
 gone-gave : {W C : Type 0} (t : List ℕ) (c n : ℕ) (s : MachineState W C) → MaybeGave t (connection_of c s.connections) → MaybeGave t (connection_of c (after_exchange (connection_of n s.connections) with_gone s).connections)
 gone-gave t c n s g = local-gave t c n with_gone with_gone-number (λ x h. record { is = h.is; counted = h.counted }) s g
 
-pub gave_log : {W C : Type 0} (device : Device W C) (c : ℕ) (log : List Move) (s : MachineState W C) (t : List ℕ) → MaybeGave t (connection_of c s.connections) → AreOffers device s log
-    → MaybeGave (t ++ taken_of c log) (connection_of c (state_after device s log).connections)
+pub gave_log : {W C : Type 0} (step : EventStep W C) → OnlyAdds step → (c : ℕ) (log : List Move) (s : MachineState W C) (t : List ℕ) → MaybeGave t (connection_of c s.connections) → AreOffers step s log
+    → MaybeGave (t ++ taken_of c log) (connection_of c (state_after step s log).connections)
 unfolding state_after state_after_move taken_of AreOffers
-gave_log {W} {C} device c [] s t g h = subst (λ (x : List ℕ). MaybeGave x (connection_of c s.connections)) (sym (append-nil t)) g
-gave_log device c (move.Event e ∷ ms) s t g h = gave_log device c ms (state_after_event device s e) t (event-gave t c device e s g) (h.1)
-gave_log device c (move.Lost n ∷ ms) s t g h = gave_log device c ms (state_after_move device s (move.Lost n)) t (gone-gave t c n s g) (h.1)
-gave_log device c (move.Shut n ∷ ms) s t g h = gave_log device c ms (state_after_move device s (move.Shut n)) t (gone-gave t c n s g) (h.1)
-gave_log {W} {C} device c (move.Took n offered bytes ∷ ms) s t g h =
-    let u = state_after_move device s (move.Took n offered bytes) in
-    let P : List ℕ → Type 0 = λ x. MaybeGave x (connection_of c (state_after device u ms).connections) in
+gave_log {W} {C} step adds c [] s t g h = subst (λ (x : List ℕ). MaybeGave x (connection_of c s.connections)) (sym (append-nil t)) g
+gave_log step adds c (move.Event e ∷ ms) s t g h = gave_log step adds c ms (step s e) t (event-gave step adds t c e s g) (h.1)
+gave_log step adds c (move.Lost n ∷ ms) s t g h = gave_log step adds c ms (state_after_move step s (move.Lost n)) t (gone-gave t c n s g) (h.1)
+gave_log step adds c (move.Shut n ∷ ms) s t g h = gave_log step adds c ms (state_after_move step s (move.Shut n)) t (gone-gave t c n s g) (h.1)
+gave_log {W} {C} step adds c (move.Took n offered bytes ∷ ms) s t g h =
+    let u = state_after_move step s (move.Took n offered bytes) in
+    let P : List ℕ → Type 0 = λ x. MaybeGave x (connection_of c (state_after step u ms).connections) in
     elim (cases_Bool (n == c)) [
       | inl b ↦
           let q = eqb-true n c b in
           let Q : ℕ → Type 0 = λ i. MaybeGave (t ++ bytes) (connection_of c (after_exchange (connection_of i s.connections) (with_took (length bytes)) s).connections) in
           let R : ℕ → Type 0 = λ i. IsOffer (waiting_at i s) offered bytes in
           let here : MaybeGave (t ++ bytes) (connection_of c u.connections) = subst Q (sym q) (took-own t c offered bytes s g (subst R q (h.0))) in
-          rw b (subst P (append_assoc t bytes (taken_of c ms)) (gave_log device c ms u (t ++ bytes) here (h.1)))
+          rw b (subst P (append_assoc t bytes (taken_of c ms)) (gave_log step adds c ms u (t ++ bytes) here (h.1)))
       | inr b ↦
           let ne = eqb-false n c b in
-          rw b (gave_log device c ms u t (subst (MaybeGave t) (sym (exchange_other c n (with_took (length bytes)) (with_took-number (length bytes)) ne s)) g) (h.1))
+          rw b (gave_log step adds c ms u t (subst (MaybeGave t) (sym (exchange_other c n (with_took (length bytes)) (with_took-number (length bytes)) ne s)) g) (h.1))
     ]
 
 pub prefix_of_gave : {C : Type 0} (t : List ℕ) (o : Option (Connection C)) → MaybeGave t o → IsPrefix t (output_of_connection o)

@@ -5,19 +5,18 @@ use Rattle.std.proofs.lemmas.Bool.{cases_Bool, cases_eq, ne_eqb}
 use Rattle.ads_outside.specs.declared.event.Event.TheVariants as event
 use Rattle.ads_outside.specs.declared.moves.Move.{Move}
 use Rattle.ads_outside.specs.declared.moves.Move.TheVariants as move
-use Rattle.ads_machine.specs.Device.{Device}
 use Rattle.ads_machine.specs.Connection.{connection_of}
 use Rattle.ads_machine.specs.MachineState.{MachineState}
-use Rattle.ads_machine.specs.Moves.{with_gone, with_took, state_after_move, state_after}
-use Rattle.ads_machine.specs.Offers.{is_gone, is_gone_at, is_among, blocked_after_move, blocked_after}
+use Rattle.ads_machine.specs.Moves.{EventStep, with_gone, with_took, state_after_move, state_after}
+use Rattle.ads_machine.specs.Offers.{not_taken, is_gone, is_gone_at, is_among, blocked_after_move, blocked_after}
 use Rattle.ads_machine.specs.Turns.{Serves, ServesEach}
 use Rattle.ads_machine.specs.Delivery.{is_cut_off, is_short_after, is_short_from}
 use Rattle.ads_machine.proofs.Changes.{exchange_other, with_gone-number, with_took-number, state_after-append}
-use Rattle.ads_machine.proofs.Emptied.{unoffered, Settled, Marked, Ready, SettledAfter, or_false, serves-settled}
+use Rattle.ads_machine.proofs.Emptied.{Settled, Marked, Ready, SettledAfter, or_false, serves-settled}
 
 -- what another connection is served leaves this one
-pub record SameAfter {W C : Type 0} (device : Device W C) (c : ℕ) (short : Bool) (blocked : List ℕ) (s : MachineState W C) (ms : List Move) : Type 0 where
-  pub found : connection_of c (state_after device s ms).connections ≡ connection_of c s.connections
+pub record SameAfter {W C : Type 0} (step : EventStep W C) (c : ℕ) (short : Bool) (blocked : List ℕ) (s : MachineState W C) (ms : List Move) : Type 0 where
+  pub found : connection_of c (state_after step s ms).connections ≡ connection_of c s.connections
   pub short_ : is_short_from c short ms ≡ short
   pub blocked_ : is_among c (blocked_after blocked ms) ≡ is_among c blocked
 
@@ -29,28 +28,28 @@ blocked-other c n offered bytes blocked ne =
       | inr b ↦ rw b refl
     ]
 
-other-same : {W C : Type 0} (device : Device W C) (c d : ℕ) → d ≢ c → (ms : List Move) (short : Bool) (blocked bs : List ℕ) (s : MachineState W C) → Serves device d bs s ms → SameAfter device c short blocked s ms
+other-same : {W C : Type 0} (step : EventStep W C) (c d : ℕ) → d ≢ c → (ms : List Move) (short : Bool) (blocked bs : List ℕ) (s : MachineState W C) → Serves step d bs s ms → SameAfter step c short blocked s ms
 unfolding Serves state_after state_after_move blocked_after is_short_from
-other-same device c d ne [] short blocked bs s h = record { found = refl; short_ = refl; blocked_ = refl }
-other-same {W} {C} device c d ne (move.Took n offered bytes ∷ ms) short blocked bs s h =
+other-same step c d ne [] short blocked bs s h = record { found = refl; short_ = refl; blocked_ = refl }
+other-same {W} {C} step c d ne (move.Took n offered bytes ∷ ms) short blocked bs s h =
     let n_ne : n ≢ c = λ e. ne (sym (h.0) ∙ e) in
-    let u : MachineState W C = state_after_move device s (move.Took n offered bytes) in
+    let u : MachineState W C = state_after_move step s (move.Took n offered bytes) in
     let t = ne_eqb n c n_ne in
-    let after = other-same device c d ne ms (is_short_after c short (move.Took n offered bytes)) (blocked_after_move blocked (move.Took n offered bytes)) (blocked_after_move bs (move.Took n offered bytes)) u (h.3) in
+    let after = other-same step c d ne ms (is_short_after c short (move.Took n offered bytes)) (blocked_after_move blocked (move.Took n offered bytes)) (blocked_after_move bs (move.Took n offered bytes)) u (h.3) in
     record {
       found = after.found ∙ exchange_other c n (with_took (length bytes)) (with_took-number (length bytes)) n_ne s;
       short_ = after.short_ ∙ ap (λ b. cond b (nat_lt (length bytes) offered) short) t;
       blocked_ = after.blocked_ ∙ blocked-other c n offered bytes blocked n_ne;
     }
-other-same {W} {C} device c d ne (move.Lost n ∷ ms) short blocked bs s h =
+other-same {W} {C} step c d ne (move.Lost n ∷ ms) short blocked bs s h =
     let n_ne : n ≢ c = λ e. ne (sym (h.0) ∙ e) in
-    let P : List Move → Type 0 = λ xs. SameAfter device c short blocked s (move.Lost n ∷ xs) in
+    let P : List Move → Type 0 = λ xs. SameAfter step c short blocked s (move.Lost n ∷ xs) in
     subst P (sym (h.2)) (record { found = exchange_other c n with_gone with_gone-number n_ne s; short_ = refl; blocked_ = refl })
-other-same {W} {C} device c d ne (move.Shut n ∷ ms) short blocked bs s h =
+other-same {W} {C} step c d ne (move.Shut n ∷ ms) short blocked bs s h =
     let n_ne : n ≢ c = λ e. ne (sym (h.0) ∙ e) in
-    let P : List Move → Type 0 = λ xs. SameAfter device c short blocked s (move.Shut n ∷ xs) in
+    let P : List Move → Type 0 = λ xs. SameAfter step c short blocked s (move.Shut n ∷ xs) in
     subst P (sym (h.3)) (record { found = exchange_other c n with_gone with_gone-number n_ne s; short_ = refl; blocked_ = refl })
-other-same device c d ne (move.Event e ∷ ms) short blocked bs s h = absurd h
+other-same step c d ne (move.Event e ∷ ms) short blocked bs s h = absurd h
 
 pub cut_off-append : (c : ℕ) (ms ns : List Move) → is_cut_off c (ms ++ ns) ≡ false → (is_cut_off c ms ≡ false) × (is_cut_off c ns ≡ false)
 unfolding is_cut_off
@@ -85,9 +84,9 @@ unfolding blocked_after
 blocked_after-append [] ns blocked = refl
 blocked_after-append (m ∷ ms) ns blocked = blocked_after-append ms ns (blocked_after_move blocked m)
 
-pub settled-append : {W C : Type 0} (device : Device W C) (c : ℕ) (short : Bool) (blocked : List ℕ) (ms ns : List Move) (s : MachineState W C) → SettledAfter device c (is_short_from c short ms) (blocked_after blocked ms) (state_after device s ms) ns
-    → SettledAfter device c short blocked s (ms ++ ns)
-settled-append device c short blocked ms ns s h = rw (state_after-append device ms ns s, short_from-append c ms ns short, blocked_after-append ms ns blocked) h
+pub settled-append : {W C : Type 0} (step : EventStep W C) (c : ℕ) (short : Bool) (blocked : List ℕ) (ms ns : List Move) (s : MachineState W C) → SettledAfter step c (is_short_from c short ms) (blocked_after blocked ms) (state_after step s ms) ns
+    → SettledAfter step c short blocked s (ms ++ ns)
+settled-append step c short blocked ms ns s h = rw (state_after-append step ms ns s, short_from-append c ms ns short, blocked_after-append ms ns blocked) h
 
 abbrev pub IsIn : ℕ → List ℕ → Type 0
 IsIn c [] = ⊥
@@ -104,33 +103,33 @@ will_be_ready : {W C : Type 0} (c : ℕ) (short : Bool) (cs : List ℕ) (s : Mac
 will_be_ready c short cs s (inl h) = ready c short s h
 will_be_ready c short cs s (inr h) = inl (h.1)
 
-pub each-settled : {W C : Type 0} (device : Device W C) (c : ℕ) (cs : List ℕ) (mss : List (List Move)) (short : Bool) (blocked : List ℕ) (s : MachineState W C) → ServesEach device cs blocked s mss → is_cut_off c (flat_map (λ ms. ms) mss) ≡ false
-    → Marked c short blocked → WillSettle c short cs s → SettledAfter device c short blocked s (flat_map (λ ms. ms) mss)
+pub each-settled : {W C : Type 0} (step : EventStep W C) (c : ℕ) (cs : List ℕ) (mss : List (List Move)) (short : Bool) (blocked : List ℕ) (s : MachineState W C) → ServesEach step cs blocked s mss → is_cut_off c (flat_map (λ ms. ms) mss) ≡ false
+    → Marked c short blocked → WillSettle c short cs s → SettledAfter step c short blocked s (flat_map (λ ms. ms) mss)
 unfolding ServesEach state_after blocked_after is_short_from
-each-settled device c [] [] short blocked s h cut m (inl o) = (o, m)
-each-settled device c [] [] short blocked s h cut m (inr i) = absurd (i.0)
-each-settled device c [] (ms ∷ mss) short blocked s h cut m w = absurd h
-each-settled device c (d ∷ ds) [] short blocked s h cut m w = absurd h
-each-settled {W} {C} device c (d ∷ ds) (ms ∷ mss) short blocked s h cut m w =
+each-settled step c [] [] short blocked s h cut m (inl o) = (o, m)
+each-settled step c [] [] short blocked s h cut m (inr i) = absurd (i.0)
+each-settled step c [] (ms ∷ mss) short blocked s h cut m w = absurd h
+each-settled step c (d ∷ ds) [] short blocked s h cut m w = absurd h
+each-settled {W} {C} step c (d ∷ ds) (ms ∷ mss) short blocked s h cut m w =
     let q = next (cases_eq d c) in
-    settled-append device c short blocked ms (flat_map (λ xs. xs) mss) s
-    (each-settled device c ds mss (is_short_from c short ms) (blocked_after blocked ms) (state_after device s ms) (h.1) (cuts.1) (q.1) (q.0))
+    settled-append step c short blocked ms (flat_map (λ xs. xs) mss) s
+    (each-settled step c ds mss (is_short_from c short ms) (blocked_after blocked ms) (state_after step s ms) (h.1) (cuts.1) (q.1) (q.0))
   where
     cuts : (is_cut_off c ms ≡ false) × (is_cut_off c (flat_map (λ xs. xs) mss) ≡ false)
     cuts = cut_off-append c ms (flat_map (λ xs. xs) mss) cut
 
-    passed : d ≢ c → WillSettle c short (d ∷ ds) s → SameAfter device c short blocked s ms → WillSettle c (is_short_from c short ms) ds (state_after device s ms) × Marked c (is_short_from c short ms) (blocked_after blocked ms)
+    passed : d ≢ c → WillSettle c short (d ∷ ds) s → SameAfter step c short blocked s ms → WillSettle c (is_short_from c short ms) ds (state_after step s ms) × Marked c (is_short_from c short ms) (blocked_after blocked ms)
     passed ne x a = (still x, λ b. a.short_ ∙ m (sym (a.blocked_) ∙ b))
       where
-        still : WillSettle c short (d ∷ ds) s → WillSettle c (is_short_from c short ms) ds (state_after device s ms)
+        still : WillSettle c short (d ∷ ds) s → WillSettle c (is_short_from c short ms) ds (state_after step s ms)
         still (inl (inl e)) = inl (inl (a.short_ ∙ e))
-        still (inl (inr e)) = inl (inr (ap unoffered a.found ∙ e))
+        still (inl (inr e)) = inl (inr (ap not_taken a.found ∙ e))
         still (inr (inl e, g)) = absurd (ne e)
         still (inr (inr i, g)) = inr (i, ap is_gone a.found ∙ g)
 
-    next : (d ≡ c) ⊎ (d ≢ c) → WillSettle c (is_short_from c short ms) ds (state_after device s ms) × Marked c (is_short_from c short ms) (blocked_after blocked ms)
+    next : (d ≡ c) ⊎ (d ≢ c) → WillSettle c (is_short_from c short ms) ds (state_after step s ms) × Marked c (is_short_from c short ms) (blocked_after blocked ms)
     next (inl e) =
-        let P : ℕ → Type 0 = λ n. Serves device n blocked s ms in
-        let a = serves-settled device c ms short blocked s (subst P e (h.0)) (cuts.0) m (will_be_ready c short (d ∷ ds) s w) in
+        let P : ℕ → Type 0 = λ n. Serves step n blocked s ms in
+        let a = serves-settled step c ms short blocked s (subst P e (h.0)) (cuts.0) m (will_be_ready c short (d ∷ ds) s w) in
         (inl (a.0), a.1)
-    next (inr ne) = passed ne w (other-same device c d ne ms short blocked blocked s (h.0))
+    next (inr ne) = passed ne w (other-same step c d ne ms short blocked blocked s (h.0))

@@ -16,7 +16,8 @@ use Rattle.ads_machine.specs.Connection.{connection_of, produce, produce_all, pu
 use Rattle.ads_machine.specs.Entries.{entry_of_part, text_of_steps}
 use Rattle.ads_machine.specs.HandleLaws.{handles_after_all}
 use Rattle.ads_machine.specs.Handles.{grant_in, handle_in, handles_after, is_released_in, place_after, with_released}
-use Rattle.ads_machine.specs.Moves.{connection_after_reload, connection_after_tick, state_after, state_after_event, state_after_move}
+use Rattle.ads_machine.specs.Moves.{state_after, state_after_move}
+use Rattle.ads_machine.specs.Events.{connection_after_reload, connection_after_tick, state_after_event}
 use Rattle.ads_machine.specs.Packets.{acts_of, decide, decide_request}
 use Rattle.ads_machine.specs.Piece.{after_packet, after_packets, after_piece}
 use Rattle.ads_machine.specs.Projection.{acts_by_others, acts_of_log, acts_of_move, acts_of_packets, projection_of}
@@ -48,7 +49,7 @@ use Rattle.ads_plant.specs.SameTypes.{is_same_type}
 use Rattle.ads_frames.specs.Frame.{frame_bytes}
 use Rattle.ads_machine.specs.MachineState.{start_of, output_of}
 use Rattle.ads_machine.specs.World.{world_of}
-use Rattle.ads_machine.proofs.Plant.{NET, ENGINEER, VIEWER, plain_symbol, count_symbol, description_with, q, a, q_viewer, a_viewer, named, stamp_to, piece, opened, tick, given, device}
+use Rattle.ads_machine.proofs.Plant.{NET, ENGINEER, VIEWER, plain_symbol, count_symbol, description_with, q, a, q_viewer, a_viewer, named, stamp_to, piece, opened, tick, given, step}
 use Rattle.ads_outside.specs.declared.moves.Move.{Move}
 
 -- an enumeration over INT whose first value is 2, and Main.count that one machine may write
@@ -64,7 +65,7 @@ described = record (description_with (
     }
 
 abbrev given_here : List Move → List ℕ
-given_here log = output_of 1 (state_after device (start_of (world_of described [])) (opened 1 ∷ log))
+given_here log = output_of 1 (state_after step (start_of (world_of described [])) (opened 1 ∷ log))
 
 -- an addition from another port of the same machine
 abbrev added_from : ℕ → ℕ → List ℕ

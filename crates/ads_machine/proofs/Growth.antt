@@ -2,13 +2,14 @@
 use Rattle.std.proofs.Common.{◌≡◌, ℕ, List, [], ◌∷◌, ◌++◌, Bool, true, false, cond, refl, sym, ◌∙◌, ap, inl, inr, append_assoc}
 use Rattle.std.specs.Prelude.{◌⊎◌, ◌||◌}
 use Rattle.std.proofs.lemmas.Bool.{cases_Bool}
+use Rattle.std.proofs.lemmas.Grind.{flat_map-append}
 use Rattle.std.proofs.lemmas.List.{append-nil}
 use Rattle.ads_frames.specs.Division.{rest_of, front_of, is_broken}
 use Rattle.ads_machine.specs.Device.{Device, Produced, Answer, Answered, Silent, Closing, FrameOutcome, ClientOutcome}
-use Rattle.ads_machine.specs.Connection.{Connection, is_deaf, fits, with_closing, with_frame, produce, produce_all}
+use Rattle.ads_machine.specs.Connection.{Connection, bytes_of, bytes_of_all, is_deaf, fits, with_closing, with_frame, produce, produce_all}
 use Rattle.ads_machine.specs.MachineState.{Exchange}
 use Rattle.ads_machine.specs.Piece.{with_received, packets_left, with_one_taken, with_client, after_answer, after_outcome, after_packet, after_packets, after_rest, with_piece, after_piece}
-use Rattle.ads_machine.specs.Moves.{after_client_outcome, connection_after_tick, connection_after_reload}
+use Rattle.ads_machine.specs.Events.{after_client_outcome, connection_after_tick, connection_after_reload}
 
 pub record Grows {C : Type 0} (k l : Connection C) : Type 0 where
   pub number : l.number ≡ k.number
@@ -32,6 +33,10 @@ grows_then k l m p q = record {
   took = q.took ∙ p.took;
   gone = q.gone ∙ p.gone;
 }
+
+-- all bytes grow at their end
+pub bytes_of_grown : {C : Type 0} (k l : Connection C) (x : Grows k l) → bytes_of_all l.produced ≡ bytes_of_all k.produced ++ bytes_of_all x.more
+bytes_of_grown k l x = ap bytes_of_all x.produced ∙ flat_map-append bytes_of k.produced x.more
 
 grows_cond : {C : Type 0} (k : Connection C) (b : Bool) (x y : Connection C) → Grows k x → Grows k y → Grows k (cond b x y)
 grows_cond k true x y p q = p

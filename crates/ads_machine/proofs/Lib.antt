@@ -11,6 +11,7 @@ pub mod Emptied
 pub mod EmptiedTurns
 pub mod AllTaken
 pub mod Carried
+pub mod ServerDelivers
 mod Plant
 mod WriteExamples
 mod HandleExamples

@@ -15,7 +15,8 @@ use Rattle.ads_machine.specs.Connection.{connection_of, produce, produce_all, pu
 use Rattle.ads_machine.specs.Entries.{entry_of_part, text_of_steps}
 use Rattle.ads_machine.specs.HandleLaws.{handles_after_all}
 use Rattle.ads_machine.specs.Handles.{grant_in, handle_in, handles_after, is_released_in, place_after, with_released}
-use Rattle.ads_machine.specs.Moves.{connection_after_reload, connection_after_tick, state_after, state_after_event, state_after_move}
+use Rattle.ads_machine.specs.Moves.{state_after, state_after_move}
+use Rattle.ads_machine.specs.Events.{connection_after_reload, connection_after_tick, state_after_event}
 use Rattle.ads_machine.specs.Packets.{acts_of, decide, decide_request}
 use Rattle.ads_machine.specs.Piece.{after_packet, after_packets, after_piece}
 use Rattle.ads_machine.specs.Projection.{acts_by_others, acts_of_log, acts_of_move, acts_of_packets, projection_of}
@@ -40,7 +41,7 @@ use Rattle.ads_plant.specs.Trees.{trees_behind, trees_of}
 use Rattle.ads_plant.specs.World.{byte_at, with_byte}
 use Rattle.std.specs.Fmt.{digits}
 use Rattle.ads_machine.specs.Offers.{is_closing_at}
-use Rattle.ads_machine.proofs.Plant.{q, a, piece, opened, given, device, start}
+use Rattle.ads_machine.proofs.Plant.{q, a, piece, opened, given, step, start}
 use Rattle.ads_frames.proofs.Hex.{hex}
 
 -- what is given for these bytes
@@ -48,7 +49,7 @@ abbrev asked : List ℕ → List ℕ
 asked text = given (piece 1 (hex text) ∷ [])
 
 abbrev closes : List ℕ → Bool
-closes text = is_closing_at 1 (state_after device start (opened 1 ∷ piece 1 (hex text) ∷ []))
+closes text = is_closing_at 1 (state_after step start (opened 1 ∷ piece 1 (hex text) ∷ []))
 
 record PacketRows : Type 0 where
   -- a data length that is not the AMS length less 32; the connection goes on

@@ -12,11 +12,11 @@ use Rattle.ads_outside.specs.declared.moves.Move.{Move}
 use Rattle.ads_outside.specs.declared.moves.Move.TheVariants as move
 use Rattle.ads_machine.specs.Device.{Device}
 use Rattle.ads_machine.specs.MachineState.{MachineState, start_of, output_of}
-use Rattle.ads_machine.specs.Moves.{state_after}
+use Rattle.ads_machine.specs.Moves.{EventStep, state_after}
 use Rattle.ads_machine.specs.World.{World, world_of}
 use Rattle.ads_machine.specs.Client.{Client}
 use Rattle.ads_machine.specs.Answers.{all_answered}
-use Rattle.ads_machine.specs.AdsDevice.{DescriptionReading, ads_device}
+use Rattle.ads_machine.specs.AdsDevice.{DescriptionReading, ads_device, server_step}
 use Rattle.ads_frames.proofs.Hex.{hex}
 
 abbrev pub NET : List ℕ
@@ -96,6 +96,10 @@ reading bytes signals = if bytes_eq bytes (codes "plant") then Ok plant else if 
 abbrev pub device : Device World Client
 device = ads_device all_answered reading
 
+-- an event of the server's machine
+abbrev pub step : EventStep World Client
+step = server_step all_answered reading
+
 abbrev pub waves : List Wave
 waves =
     record { values = 0 ∷ 1 ∷ 2 ∷ []; place = 0 } ∷ record { values = 0 ∷ 1 ∷ []; place = 0 }
@@ -143,7 +147,7 @@ piece c bytes = move.Event (event.Piece c bytes)
 
 -- all that connection 1 is given, where it is opened first
 abbrev pub given : List Move → List ℕ
-given log = output_of 1 (state_after device start (opened 1 ∷ log))
+given log = output_of 1 (state_after step start (opened 1 ∷ log))
 
 -- a request of a group by a name, and its reply
 abbrev pub named : ℕ → ℕ → ℕ → List ℕ → List ℕ

@@ -2,6 +2,8 @@
 use Rattle.std.specs.Prelude.{ℕ, List, length, Result, Ok, Err}
 use Rattle.ads_plant.specs.Description.{Description}
 use Rattle.ads_machine.specs.Device.{Device, Reloading, Accepted, Refused}
+use Rattle.ads_machine.specs.Moves.{EventStep}
+use Rattle.ads_machine.specs.Events.{state_after_event}
 use Rattle.ads_machine.specs.World.{World, setup_of}
 use Rattle.ads_machine.specs.Client.{Client, new_client}
 use Rattle.ads_machine.specs.Answers.{AnswerTable}
@@ -29,3 +31,7 @@ ads_device table reading = record {
   reload = λ bytes w. reloading w (reading bytes (length w.signals));
   client_after_reload = client_reloaded;
 }
+
+-- the server's machine over it, an event at a time
+abbrev pub server_step : AnswerTable → DescriptionReading → EventStep World Client
+server_step table reading = state_after_event (ads_device table reading)

@@ -3,6 +3,7 @@ pub mod Connection
 pub mod MachineState
 pub mod Piece
 pub mod Moves
+pub mod Events
 pub mod Offers
 pub mod Turns
 pub mod Summary
@@ -17,6 +18,7 @@ pub mod Play
 pub mod LogText
 pub mod SummaryText
 pub mod Delivery
+pub mod Output
 pub mod Selftest
 pub mod World
 pub mod Access

@@ -1,52 +1,17 @@
--- The machine moves: six events, and what becomes of the bytes that it offers.
-use Rattle.std.specs.Prelude.{ℕ, ◌+◌, List, [], ◌∷◌, ◌++◌, length, max, map, true, if◌then◌else◌}
+-- A machine moves: six events, and what becomes of the bytes that it offers. How an event changes the
+-- state is an argument, so that any machine over connections moves, is offered and is played alike.
+use Rattle.std.specs.Prelude.{ℕ, ◌+◌, List, [], ◌∷◌, length, true, if◌then◌else◌}
 use Rattle.ads_outside.specs.declared.event.Event.{Event}
 use Rattle.ads_outside.specs.declared.moves.Move.{Move}
-use Rattle.ads_outside.specs.declared.event.Event.TheVariants as event
 use Rattle.ads_outside.specs.declared.moves.Move.TheVariants as move
-use Rattle.ads_machine.specs.Device.{Device, ClientOutcome, Reloading, Accepted, Refused}
-use Rattle.ads_machine.specs.Connection.{Connection, fresh_connection, connection_of, is_deaf}
-use Rattle.ads_machine.specs.Connection.{produce_all}
+use Rattle.ads_machine.specs.Connection.{connection_of}
 use Rattle.ads_machine.specs.MachineState.{MachineState, Exchange, after_exchange}
-use Rattle.ads_machine.specs.Piece.{with_client, after_piece}
 
--- a connection after what the device does for its client at a tick or a reload
-abbrev pub after_client_outcome : {C : Type 0} → ClientOutcome C → Connection C → Connection C
-after_client_outcome o k = produce_all o.frames (with_client o.client k)
+-- the state after an event
+abbrev pub EventStep : (W C : Type 0) → Type 0
+EventStep W C = MachineState W C → Event → MachineState W C
 
--- the moment of a tick; one that goes back counts as the last moment
-abbrev pub moment_of_tick : {W C : Type 0} → ℕ → MachineState W C → ℕ
-moment_of_tick t s = max s.moment t
-
-unfoldable pub connection_after_tick : {W C : Type 0} → Device W C → ℕ → W → Connection C
-    → Connection C
-connection_after_tick device moment world k =
-    if is_deaf k then k else after_client_outcome (device.client_after_tick moment world k.client) k
-
--- a tick: the world, then each connection
-abbrev pub after_tick : {W C : Type 0} → Device W C → ℕ → W → MachineState W C → MachineState W C
-after_tick device moment world s = record s {
-  world = world;
-  moment = moment;
-  connections = map (connection_after_tick device moment world) s.connections;
-}
-
-unfoldable pub connection_after_reload : {W C : Type 0} → Device W C → ℕ → W → W → Connection C
-    → Connection C
-connection_after_reload device moment old new k =
-    if is_deaf k then k
-    else after_client_outcome (device.client_after_reload moment old new k.client) k
-
--- a refused reload adds to the refusals and changes nothing else
-abbrev pub after_reload : {W C : Type 0} → Device W C → Reloading W → MachineState W C
-    → MachineState W C
-after_reload device (Refused rule) s = record s { refused = s.refused + 1 }
-after_reload device (Accepted version world) s = record s {
-  world = world;
-  accepted = s.accepted + 1;
-  connections = map (connection_after_reload device s.moment s.world world) s.connections;
-}
-
+-- a connection is closed, lost or shut
 abbrev pub with_gone : {W C : Type 0} → Exchange W C → Exchange W C
 with_gone x = record x { connection = record x.connection { gone = true } }
 
@@ -56,29 +21,16 @@ with_took n x =
     if x.connection.gone then x
     else record x { connection = record x.connection { took = x.connection.took + n } }
 
-unfoldable pub state_after_event : {W C : Type 0} → Device W C → MachineState W C → Event
+unfoldable pub state_after_move : {W C : Type 0} → EventStep W C → MachineState W C → Move
     → MachineState W C
-state_after_event device s (event.Opened c) =
-    record s { connections = s.connections ++ fresh_connection device.new_client c ∷ [] }
-state_after_event device s (event.Piece c bytes) =
-    after_exchange (connection_of c s.connections) (after_piece device bytes) s
-state_after_event device s (event.Closed c) =
-    after_exchange (connection_of c s.connections) with_gone s
-state_after_event device s (event.Tick t) =
-    after_tick device (moment_of_tick t s) (device.world_after_tick s.world) s
-state_after_event device s (event.Reload bytes) = after_reload device (device.reload bytes s.world) s
-state_after_event device s (event.Writable c) = s
-
-unfoldable pub state_after_move : {W C : Type 0} → Device W C → MachineState W C → Move
-    → MachineState W C
-state_after_move device s (move.Event e) = state_after_event device s e
-state_after_move device s (move.Took c offered bytes) =
+state_after_move step s (move.Event e) = step s e
+state_after_move step s (move.Took c offered bytes) =
     after_exchange (connection_of c s.connections) (with_took (length bytes)) s
-state_after_move device s (move.Lost c) = after_exchange (connection_of c s.connections) with_gone s
-state_after_move device s (move.Shut c) = after_exchange (connection_of c s.connections) with_gone s
+state_after_move step s (move.Lost c) = after_exchange (connection_of c s.connections) with_gone s
+state_after_move step s (move.Shut c) = after_exchange (connection_of c s.connections) with_gone s
 
 -- a log is the moves in their order
-unfoldable pub state_after : {W C : Type 0} → Device W C → MachineState W C → List Move
+unfoldable pub state_after : {W C : Type 0} → EventStep W C → MachineState W C → List Move
     → MachineState W C
-state_after device s [] = s
-state_after device s (m ∷ ms) = state_after device (state_after_move device s m) ms
+state_after step s [] = s
+state_after step s (m ∷ ms) = state_after step (state_after_move step s m) ms

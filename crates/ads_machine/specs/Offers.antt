@@ -15,9 +15,14 @@ left_after n (f ∷ fs) =
     if nat_le (length f) n then left_after (n - length f) fs else drop n f ∷ left_after 0 fs
 
 -- the frames of a connection that are not wholly taken, the first without its taken bytes
+abbrev pub not_taken : {C : Type 0} → Option (Connection C) → List (List ℕ)
+not_taken None = []
+not_taken (Some k) = left_after k.took (map bytes_of k.produced)
+
+-- those that wait to be offered: none where the connection is gone
 abbrev pub waiting_of : {C : Type 0} → Option (Connection C) → List (List ℕ)
 waiting_of None = []
-waiting_of (Some k) = if k.gone then [] else left_after k.took (map bytes_of k.produced)
+waiting_of (Some k) = if k.gone then [] else not_taken (Some k)
 
 abbrev pub waiting_at : {W C : Type 0} → ℕ → MachineState W C → List (List ℕ)
 waiting_at c s = waiting_of (connection_of c s.connections)

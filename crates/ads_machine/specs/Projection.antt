@@ -15,7 +15,7 @@ use Rattle.ads_machine.specs.Client.{Client}
 use Rattle.ads_machine.specs.Acts.{Act, reads_of_acts, writes_of_acts}
 use Rattle.ads_machine.specs.Answers.{AnswerTable}
 use Rattle.ads_machine.specs.Packets.{decide, acts_in}
-use Rattle.ads_machine.specs.AdsDevice.{DescriptionReading, ads_device}
+use Rattle.ads_machine.specs.AdsDevice.{DescriptionReading, ads_device, server_step}
 
 -- the moves of a connection, ticks and reloads
 abbrev pub is_event_of : ℕ → Event → Bool
@@ -71,7 +71,7 @@ unfoldable pub acts_of_log : AnswerTable → DescriptionReading → MachineState
 acts_of_log table reading s [] = []
 acts_of_log table reading s (m ∷ ms) =
     acts_of_move table reading s m
-    ++ acts_of_log table reading (state_after_move (ads_device table reading) s m) ms
+    ++ acts_of_log table reading (state_after_move (server_step table reading) s m) ms
 
 -- the acts of all connections but one
 unfoldable pub acts_by_others : AnswerTable → DescriptionReading → ℕ → MachineState World Client
@@ -79,7 +79,7 @@ unfoldable pub acts_by_others : AnswerTable → DescriptionReading → ℕ → M
 acts_by_others table reading c s [] = []
 acts_by_others table reading c s (m ∷ ms) =
     (if is_move_of c m then [] else acts_of_move table reading s m)
-    ++ acts_by_others table reading c (state_after_move (ads_device table reading) s m) ms
+    ++ acts_by_others table reading c (state_after_move (server_step table reading) s m) ms
 
 -- the names that a connection reads, were it alone
 abbrev pub reads_of : AnswerTable → DescriptionReading → ℕ → MachineState World Client → List Move

@@ -9,6 +9,7 @@ use Rattle.ads_outside.specs.declared.reload_note.ReloadNote.TheVariants as note
 use Rattle.ads_machine.specs.Device.{Device, Reloading, Accepted, Refused}
 use Rattle.ads_machine.specs.MachineState.{MachineState}
 use Rattle.ads_machine.specs.Moves.{state_after_move, state_after}
+use Rattle.ads_machine.specs.Events.{state_after_event}
 use Rattle.ads_machine.specs.Summary.{summary_of}
 use Rattle.ads_machine.specs.ScriptLine.{ScriptLine}
 use Rattle.ads_machine.specs.Play.{play_of}
@@ -33,13 +34,14 @@ unfoldable pub notes_of : {W C : Type 0} → Device W C → MachineState W C →
     → List ReloadNote
 notes_of device s [] = []
 notes_of device s (m ∷ ms) =
-    notes_of_move device s m ++ notes_of device (state_after_move device s m) ms
+    notes_of_move device s m ++ notes_of device (state_after_move (state_after_event device) s m) ms
 
 -- the text of a log, and the line of its summary
 abbrev pub text_of_log : {W C : Type 0} → Device W C → MachineState W C → List Move → List ℕ
 text_of_log device s log =
-    log_text_of (notes_of device s log) log ++ summary_text_of (summary_of (state_after device s log))
+    log_text_of (notes_of device s log) log
+    ++ summary_text_of (summary_of (state_after (state_after_event device) s log))
 
 -- what the play of a script prints
 abbrev pub text_of_play : {W C : Type 0} → Device W C → MachineState W C → List ScriptLine → List ℕ
-text_of_play device s lines = text_of_log device s (play_of device s lines)
+text_of_play device s lines = text_of_log device s (play_of (state_after_event device) s lines)

@@ -6,6 +6,8 @@ use Rattle.std.specs.Prelude.{◌==◌, if◌then◌else◌}
 use Rattle.std.specs.Int.{w16, w32, to_le_bytes}
 use Rattle.ads_machine.specs.Device.{Device, Answered}
 use Rattle.ads_machine.specs.Device.{Refused}
+use Rattle.ads_machine.specs.Moves.{EventStep}
+use Rattle.ads_machine.specs.Events.{state_after_event}
 
 -- the target is 5.1.2.3.1.1, port 851; the source is 192.168.0.9.1.1, any port
 abbrev pub TARGET : List ℕ
@@ -63,3 +65,6 @@ selftest_device = record {
   reload = λ bytes world. Refused 0;
   client_after_reload = λ moment old new client. record { client = tt; frames = [] };
 }
+
+abbrev pub selftest_step : EventStep (Unit {0}) (Unit {0})
+selftest_step = state_after_event selftest_device

@@ -4,9 +4,8 @@ use Rattle.std.specs.Prelude.{false}
 use Rattle.ads_outside.specs.declared.event.Event.{Event}
 use Rattle.ads_outside.specs.declared.moves.Move.{Move}
 use Rattle.ads_outside.specs.declared.moves.Move.TheVariants as move
-use Rattle.ads_machine.specs.Device.{Device}
 use Rattle.ads_machine.specs.MachineState.{MachineState, present_numbers}
-use Rattle.ads_machine.specs.Moves.{state_after_event, state_after_move, state_after}
+use Rattle.ads_machine.specs.Moves.{EventStep, state_after_move, state_after}
 use Rattle.ads_machine.specs.Offers.{waiting_at, is_closing_at, blocked_after_move, blocked_after}
 use Rattle.ads_machine.specs.Offers.{is_among}
 
@@ -26,26 +25,26 @@ IsOwed c blocked s = ((waiting_at c s ≡ []) → ⊥) × (is_among c blocked �
 
 -- The moves of one connection after an event: offers until all is taken or it is blocked, or an
 -- offer that loses it; then it is shut exactly where it is closing and not lost.
-unfoldable pub Serves : {W C : Type 0} → Device W C → ℕ → List ℕ → MachineState W C → List Move
+unfoldable pub Serves : {W C : Type 0} → EventStep W C → ℕ → List ℕ → MachineState W C → List Move
     → Type 0
-Serves device c blocked s [] = IsServed c blocked s × (is_closing_at c s ≡ false)
-Serves device c blocked s (move.Took n offered bytes ∷ ms) =
+Serves step c blocked s [] = IsServed c blocked s × (is_closing_at c s ≡ false)
+Serves step c blocked s (move.Took n offered bytes ∷ ms) =
     (n ≡ c) × (is_among c blocked ≡ false) × IsOffer (waiting_at c s) offered bytes
-    × Serves device c (blocked_after_move blocked (move.Took n offered bytes))
-    (state_after_move device s (move.Took n offered bytes)) ms
-Serves device c blocked s (move.Lost n ∷ ms) = (n ≡ c) × IsOwed c blocked s × (ms ≡ [])
-Serves device c blocked s (move.Shut n ∷ ms) =
+    × Serves step c (blocked_after_move blocked (move.Took n offered bytes))
+    (state_after_move step s (move.Took n offered bytes)) ms
+Serves step c blocked s (move.Lost n ∷ ms) = (n ≡ c) × IsOwed c blocked s × (ms ≡ [])
+Serves step c blocked s (move.Shut n ∷ ms) =
     (n ≡ c) × IsServed c blocked s × (is_closing_at c s ≡ true) × (ms ≡ [])
-Serves device c blocked s (move.Event e ∷ ms) = ⊥
+Serves step c blocked s (move.Event e ∷ ms) = ⊥
 
 -- the moves of each connection, in the order of their opening
-unfoldable pub ServesEach : {W C : Type 0} → Device W C → List ℕ → List ℕ → MachineState W C
+unfoldable pub ServesEach : {W C : Type 0} → EventStep W C → List ℕ → List ℕ → MachineState W C
     → List (List Move) → Type 0
-ServesEach device [] blocked s [] = Unit {0}
-ServesEach device (c ∷ cs) blocked s (ms ∷ mss) =
-    Serves device c blocked s ms
-    × ServesEach device cs (blocked_after blocked ms) (state_after device s ms) mss
-ServesEach device cs blocked s mss = ⊥
+ServesEach step [] blocked s [] = Unit {0}
+ServesEach step (c ∷ cs) blocked s (ms ∷ mss) =
+    Serves step c blocked s ms
+    × ServesEach step cs (blocked_after blocked ms) (state_after step s ms) mss
+ServesEach step cs blocked s mss = ⊥
 
 -- an event, and the moves of each connection after it
 pub record LogTurn : Type 0 where
@@ -55,17 +54,17 @@ pub record LogTurn : Type 0 where
 abbrev pub moves_of_turn : LogTurn → List Move
 moves_of_turn t = move.Event t.event ∷ flat_map (λ ms. ms) t.served
 
-unfoldable pub AreTurns : {W C : Type 0} → Device W C → List ℕ → MachineState W C → List LogTurn
+unfoldable pub AreTurns : {W C : Type 0} → EventStep W C → List ℕ → MachineState W C → List LogTurn
     → Type 0
-AreTurns device blocked s [] = Unit {0}
-AreTurns device blocked s (t ∷ ts) =
-    ServesEach device (present_numbers (state_after_event device s t.event))
-    (blocked_after_move blocked (move.Event t.event)) (state_after_event device s t.event) t.served
-    × AreTurns device (blocked_after blocked (moves_of_turn t))
-    (state_after device s (moves_of_turn t)) ts
+AreTurns step blocked s [] = Unit {0}
+AreTurns step blocked s (t ∷ ts) =
+    ServesEach step (present_numbers (step s t.event))
+    (blocked_after_move blocked (move.Event t.event)) (step s t.event) t.served
+    × AreTurns step (blocked_after blocked (moves_of_turn t))
+    (state_after step s (moves_of_turn t)) ts
 
 pub record KeepsTurns {W C : Type 0}
-    (device : Device W C) (s : MachineState W C) (log : List Move) : Type 0 where
+    (step : EventStep W C) (s : MachineState W C) (log : List Move) : Type 0 where
   pub turns : List LogTurn
   pub whole : log ≡ flat_map moves_of_turn turns
-  pub served : AreTurns device [] s turns
+  pub served : AreTurns step [] s turns

@@ -3,26 +3,35 @@
 #![tactic(auto)]
 
 ghost use Rattle.ads_machine.specs.Delivery.{PlayKeepsTurns, OffersWhole, TakesOutput, TakesAll};
-ghost use Rattle.ads_machine.specs.Delivery.{OutputGrows, ClosingEnds, LimitsQueue};
+ghost use Rattle.ads_machine.specs.Output.{ServerOnlyAdds, ServerKeepsThere};
+ghost use Rattle.ads_machine.specs.Output.{OutputGrows, ClosingEnds, LimitsQueue};
 ghost use Rattle.ads_machine.specs.HandleLaws.{StatusIsHistory, LimitsGrants, TablesAgree};
 ghost use Rattle.ads_machine.specs.SumLaws.{RunsInTurn};
 
-/// The play of a script keeps the turns: each event is followed by the offers to each connection.
+/// Over any machine: the play of a script keeps the turns: each event is followed by the offers to each connection.
 pub fn play_keeps_turns<W, C>()
     ensures { PlayKeepsTurns W C }
 {}
 
-/// Where a log keeps the turns, each offer names the whole rest of the first frame that waits, and
-/// what is taken of it begins it.
+/// Over any machine, where a log keeps the turns, up to any of its moves: each offer names the whole rest of the first
+/// frame that waits, and what is taken of it begins it.
 pub fn offers_are_whole<W, C>()
     ensures { OffersWhole W C }
 {}
 
-/// Where a log keeps the turns, what a connection took begins what it was given; and it is all of
-/// that, unless its last offer was short, or the connection was closed by its peer or lost.
+/// Over any machine whose events only add to what connections are given: what a connection took by such offers begins
+/// what it was given, at any time. Where the log keeps the turns and events keep connections there, it is all of that,
+/// unless its last offer was short, or the connection was closed by its peer or lost.
 pub fn taken_is_output<W, C>()
     ensures begins { TakesOutput W C }
     ensures all { TakesAll W C }
+{}
+
+/// The server's machine is such a one over every device: its events only add to what connections are given, and keep
+/// them there.
+pub fn server_delivers<W, C>()
+    ensures adds { ServerOnlyAdds W C }
+    ensures there { ServerKeepsThere W C }
 {}
 
 /// What a connection was given grows only at its end; one that is closing or gone takes and produces

@@ -8,7 +8,8 @@ use Rattle.ads_outside.specs.declared.moves.Move.TheVariants as move
 use Rattle.ads_machine.specs.Connection.{connection_of, put_back, fresh_connection, is_deaf, produce_all}
 use Rattle.ads_machine.specs.MachineState.{exchange_of, with_exchange, after_exchange}
 use Rattle.ads_machine.specs.Piece.{after_piece}
-use Rattle.ads_machine.specs.Moves.{with_gone, with_took, state_after_event, state_after_move, connection_after_tick, moment_of_tick}
+use Rattle.ads_machine.specs.Moves.{with_gone, with_took, state_after_move}
+use Rattle.ads_machine.specs.Events.{state_after_event, connection_after_tick, moment_of_tick}
 use Rattle.ads_machine.specs.Offers.{is_among}
 use Rattle.ads_machine.specs.Summary.{count_of, summary_of}
 use Rattle.ads_machine.proofs.Find.{test_same, test_other}

@@ -9,7 +9,7 @@ use Rattle.ads_machine.specs.MachineState.{start_of}
 use Rattle.ads_machine.specs.Moves.{state_after_move}
 use Rattle.ads_machine.specs.Offers.{blocked_after_move, is_among, waiting_at}
 use Rattle.out_queue.specs.Queue.{front_of}
-use Rattle.server_core.specs.Served.{served, ServedState, ServedConnection}
+use Rattle.server_core.specs.Served.{served_step, ServedState, ServedConnection}
 
 pub record CoreState : Type 0 where
   pub state : ServedState
@@ -21,7 +21,7 @@ started = record { state = start_of tt; blocked = [] }
 
 abbrev pub after_move : CoreState → Move → CoreState
 after_move x m = record {
-  state = state_after_move served x.state m;
+  state = state_after_move served_step x.state m;
   blocked = blocked_after_move x.blocked m;
 }
 

@@ -2,6 +2,8 @@
 use Rattle.ads_machine.specs.Device.{Device}
 use Rattle.ads_machine.specs.Connection.{Connection}
 use Rattle.ads_machine.specs.MachineState.{MachineState, Exchange}
+use Rattle.ads_machine.specs.Moves.{EventStep}
+use Rattle.ads_machine.specs.Events.{state_after_event}
 use Rattle.ads_machine.specs.Selftest.{selftest_device}
 
 abbrev pub World : Type 0
@@ -13,6 +15,10 @@ Client = Unit {0}
 
 abbrev pub served : Device World Client
 served = selftest_device
+
+-- an event of its machine
+abbrev pub served_step : EventStep World Client
+served_step = state_after_event served
 
 abbrev pub ServedConnection : Type 0
 ServedConnection = Connection Client

@@ -1,0 +1,45 @@
+-- What the server gives, over every device: output grows only at its end, a connection that is closing or
+-- gone is given nothing more, and its queue has a limit.
+use Rattle.std.specs.Prelude.{◌≡◌, ℕ, ◌+◌, ◌≤◌, ◌<◌, List, length, true, false, Some}
+use Rattle.ads_outside.specs.declared.moves.Move.{Move}
+use Rattle.ads_machine.specs.Device.{Device, Produced}
+use Rattle.ads_machine.specs.Connection.{Connection, connection_of, is_deaf, bytes_of, queued_of}
+use Rattle.ads_machine.specs.Connection.{with_frame, with_closing, produce}
+use Rattle.ads_machine.specs.MachineState.{MachineState, output_of}
+use Rattle.ads_machine.specs.Moves.{state_after}
+use Rattle.ads_machine.specs.Events.{state_after_event}
+use Rattle.ads_machine.specs.Delivery.{IsPrefix, OnlyAdds, KeepsThere}
+
+-- The server's machine is one of those that only add.
+abbrev pub ServerOnlyAdds : (W C : Type 0) → Type 0
+ServerOnlyAdds W C = (device : Device W C) → OnlyAdds (state_after_event device)
+
+abbrev pub ServerKeepsThere : (W C : Type 0) → Type 0
+ServerKeepsThere W C = (device : Device W C) → KeepsThere (state_after_event device)
+
+-- What a connection was given grows only at its end.
+abbrev pub OutputGrows : (W C : Type 0) → Type 0
+OutputGrows W C = (device : Device W C) (s : MachineState W C) (c : ℕ) (log : List Move)
+    → IsPrefix (output_of c s) (output_of c (state_after (state_after_event device) s log))
+
+-- nothing more comes in, is taken or is produced
+pub record IsAtRest {C : Type 0} (k l : Connection C) : Type 0 where
+  pub received : l.received ≡ k.received
+  pub taken : l.taken ≡ k.taken
+  pub client : l.client ≡ k.client
+  pub produced : l.produced ≡ k.produced
+
+-- A connection that is closing or gone takes and produces nothing more.
+abbrev pub ClosingEnds : (W C : Type 0) → Type 0
+ClosingEnds W C = (device : Device W C) (s : MachineState W C) (c : ℕ) (log : List Move)
+    (k : Connection C) → connection_of c s.connections ≡ Some k → is_deaf k ≡ true
+    → (l : Connection C) × (connection_of c (state_after (state_after_event device) s log).connections ≡ Some l) × IsAtRest k l
+
+-- A frame is produced exactly where the bytes that wait with it are at most 4,194,304; else the
+-- connection is closing.
+pub record ProducesByLimit {C : Type 0} (f : Produced) (k : Connection C) : Type 0 where
+  pub fits : queued_of k + length (bytes_of f) ≤ 4194304 → produce f k ≡ with_frame f k
+  pub over : 4194304 < queued_of k + length (bytes_of f) → produce f k ≡ with_closing k
+
+abbrev pub LimitsQueue : (C : Type 0) → Type 0
+LimitsQueue C = (f : Produced) (k : Connection C) → k.closing ≡ false → ProducesByLimit f k
