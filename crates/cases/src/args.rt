@@ -1,0 +1,113 @@
+//! The words of a case behind the name of the call.
+
+use crate::fault::Fault;
+use crate::folder::Sheet;
+use crate::pieces::{cut_at, put_word};
+use ads_base::{Octets, read_decimal};
+use std::alloc::Global;
+
+/// The words of a case that are still to be read.
+#[derive(Drop)]
+pub struct Args<'a> {
+    alloc: Global,
+    sheets: &'a [Sheet],
+    rest: &'a [u8],
+    /// How many bytes the last argument keeps, where it is cut.
+    cut: Option<usize>,
+    /// How many bytes the last argument has.
+    whole: usize,
+}
+
+impl<'a> Args<'a> {
+    pub fn new(alloc: Global, sheets: &'a [Sheet], rest: &'a [u8], cut: Option<usize>) -> Self {
+        Args {
+            alloc,
+            sheets,
+            rest,
+            cut,
+            whole: 0,
+        }
+    }
+
+    /// How many bytes the last argument had before it was cut.
+    pub fn whole(&self) -> usize {
+        self.whole
+    }
+
+    /// What is not read yet.
+    pub fn rest(&self) -> &'a [u8] {
+        self.rest
+    }
+
+    /// Whether a further word stands before `=>`.
+    pub fn has_more(&self) -> bool {
+        let (word, _) = next_word(self.rest);
+        !word.is_empty() && word != b"=>".as_slice()
+    }
+
+    /// The next word, as it is written. Empty at the end.
+    pub fn word(&mut self) -> &'a [u8] {
+        let (word, behind) = next_word(self.rest);
+        self.rest = behind;
+        word
+    }
+
+    /// The next word as a number, in decimal or behind `0x`.
+    pub fn number(&mut self) -> Result<u64, Fault> {
+        number_of(self.word()).ok_or(Fault::BadArgument)
+    }
+
+    pub fn number8(&mut self) -> Result<u8, Fault> {
+        u8::try_from(self.number()?).ok().ok_or(Fault::BadArgument)
+    }
+
+    pub fn number16(&mut self) -> Result<u16, Fault> {
+        u16::try_from(self.number()?).ok().ok_or(Fault::BadArgument)
+    }
+
+    pub fn number32(&mut self) -> Result<u32, Fault> {
+        u32::try_from(self.number()?).ok().ok_or(Fault::BadArgument)
+    }
+
+    /// The bytes that the next word writes.
+    pub fn bytes(&mut self) -> Result<Octets, Fault> {
+        let word = self.word();
+        if word.is_empty() {
+            return Err(Fault::BadArgument);
+        }
+        let mut bytes = Octets::new(self.alloc);
+        put_word(self.alloc, self.sheets, word, &mut bytes)?;
+        if !self.has_more() {
+            self.whole = bytes.len();
+            if let Some(cut) = self.cut {
+                bytes.cut(cut.min(bytes.len()));
+            }
+        }
+        Ok(bytes)
+    }
+}
+
+/// The first word of a text, and what stands behind it. The word is empty where the text has none.
+pub fn next_word(text: &[u8]) -> (&[u8], &[u8]) {
+    let mut rest = text;
+    for _ in 0..text.len() {
+        let (word, behind) = cut_at(rest, b' ');
+        if !word.is_empty() {
+            return (word, behind);
+        }
+        rest = behind;
+    }
+    (&[], &[])
+}
+
+fn number_of(word: &[u8]) -> Option<u64> {
+    match word {
+        [b'0', b'x', digits @ ..] => hexadecimal(digits),
+        _ => read_decimal(word),
+    }
+}
+
+fn hexadecimal(digits: &[u8]) -> Option<u64> {
+    let text = std::str::from_utf8(digits).ok()?;
+    u64::from_str_radix(text, 16).ok()
+}

@@ -1,0 +1,88 @@
+//! One case: a call, its arguments, `=>`, and the answer that must come.
+
+use crate::answer::Answer;
+use crate::args::{Args, next_word};
+use crate::calls;
+use crate::fault::Fault;
+use crate::folder::Sheet;
+use ads_base::{NoMemory, Octets};
+use std::alloc::Global;
+
+/// How a case ended.
+#[derive(Drop)]
+pub enum Verdict {
+    /// The answer came.
+    Right,
+    /// What came in its place.
+    Came(Octets),
+    /// Why the case can't be read.
+    Unreadable(&'static str),
+}
+
+/// Tries a case.
+pub fn tried(alloc: Global, sheets: &[Sheet], case: &[u8]) -> Result<Verdict, NoMemory> {
+    let (first, behind) = next_word(case);
+    if first == b"cuts".as_slice() {
+        return tried_cut(alloc, sheets, behind);
+    }
+    let mut args = Args::new(alloc, sheets, case, None);
+    tried_once(alloc, &mut args)
+}
+
+// The last argument is cut at each place, from no byte on to all but one; the answer must always be the same.
+fn tried_cut(alloc: Global, sheets: &[Sheet], case: &[u8]) -> Result<Verdict, NoMemory> {
+    let mut whole = 1;
+    for len in 0..usize::MAX {
+        if len >= whole {
+            break;
+        }
+        let mut args = Args::new(alloc, sheets, case, Some(len));
+        match tried_once(alloc, &mut args)? {
+            Verdict::Right => whole = args.whole(),
+            other => return Ok(other),
+        }
+    }
+    Ok(Verdict::Right)
+}
+
+fn tried_once(alloc: Global, args: &mut Args<'_>) -> Result<Verdict, NoMemory> {
+    let mut answer = Answer::new(alloc);
+    match calls::make(alloc, args, &mut answer) {
+        Ok(()) => compared(alloc, args, answer.as_slice()),
+        Err(Fault::Memory) => Err(NoMemory),
+        Err(Fault::NoCall) => Ok(Verdict::Unreadable("its first word names no call")),
+        Err(Fault::BadArgument) => Ok(Verdict::Unreadable(
+            "an argument is missing, off its form, or none that the call takes",
+        )),
+    }
+}
+
+fn compared(alloc: Global, args: &mut Args<'_>, answer: &[u8]) -> Result<Verdict, NoMemory> {
+    if args.word() != b"=>".as_slice() {
+        return Ok(Verdict::Unreadable("`=>` does not follow the arguments"));
+    }
+    if are_same_words(args.rest(), answer) {
+        Ok(Verdict::Right)
+    } else {
+        Ok(Verdict::Came(Octets::copy_of(alloc, answer)?))
+    }
+}
+
+// Whether two texts have the same words, however many spaces stand between them.
+fn are_same_words(expected: &[u8], answer: &[u8]) -> bool {
+    let mut expected = expected;
+    let mut answer = answer;
+    for _ in 0..usize::MAX {
+        let (wanted, behind_wanted) = next_word(expected);
+        let (word, behind) = next_word(answer);
+        if wanted != word {
+            return false;
+        }
+        if word.is_empty() {
+            return true;
+        }
+        expected = behind_wanted;
+        answer = behind;
+    }
+    false
+}

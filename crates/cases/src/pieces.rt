@@ -1,0 +1,135 @@
+//! Texts that are cut at a byte, and the bytes that a word writes.
+
+use crate::fault::Fault;
+use crate::folder::Sheet;
+use ads_base::{Octets, read_decimal};
+use std::alloc::Global;
+
+/// The text before the first such byte outside of quotes, and the text behind it, which is empty where there is none.
+pub fn cut_at(text: &[u8], stop: u8) -> (&[u8], &[u8]) {
+    let mut quoted = false;
+    let mut escaped = false;
+    for i in 0..text.len() {
+        let byte = text[i];
+        if escaped {
+            escaped = false;
+        } else if quoted && byte == b'\\' {
+            escaped = true;
+        } else if byte == b'"' {
+            quoted = !quoted;
+        } else if byte == stop && !quoted {
+            return (&text[..i], &text[i + 1..]);
+        }
+    }
+    (text, &[])
+}
+
+/// Appends the bytes that a word writes: pieces joined by `+`, each hexadecimal digits, a text in quotes or the file
+/// `@NAME`, and each perhaps followed by `*N`, which says how often.
+pub fn put_word(
+    alloc: Global,
+    sheets: &[Sheet],
+    word: &[u8],
+    out: &mut Octets,
+) -> Result<(), Fault> {
+    let mut rest = word;
+    for _ in 0..word.len() {
+        if rest.is_empty() {
+            break;
+        }
+        let (piece, behind) = cut_at(rest, b'+');
+        put_piece(alloc, sheets, piece, out)?;
+        rest = behind;
+    }
+    Ok(())
+}
+
+fn put_piece(alloc: Global, sheets: &[Sheet], piece: &[u8], out: &mut Octets) -> Result<(), Fault> {
+    let (unit, times) = cut_at(piece, b'*');
+    let mut bytes = Octets::new(alloc);
+    put_unit(alloc, sheets, unit, &mut bytes)?;
+    for _ in 0..times_of(times)? {
+        out.put(alloc, bytes.as_slice())?;
+    }
+    Ok(())
+}
+
+fn times_of(text: &[u8]) -> Result<u64, Fault> {
+    if text.is_empty() {
+        return Ok(1);
+    }
+    read_decimal(text).ok_or(Fault::BadArgument)
+}
+
+fn put_unit(alloc: Global, sheets: &[Sheet], unit: &[u8], out: &mut Octets) -> Result<(), Fault> {
+    match unit {
+        [b'"', text @ .., b'"'] => put_quoted(alloc, text, out),
+        [b'@', name @ ..] => put_file(alloc, sheets, name, out),
+        _ => put_digits(alloc, unit, out),
+    }
+}
+
+fn put_file(alloc: Global, sheets: &[Sheet], name: &[u8], out: &mut Octets) -> Result<(), Fault> {
+    for sheet in sheets {
+        if sheet.name.as_bytes() == name {
+            out.put(alloc, sheet.bytes.as_slice())?;
+            return Ok(());
+        }
+    }
+    Err(Fault::BadArgument)
+}
+
+// The bytes of an even number of hexadecimal digits.
+fn put_digits(alloc: Global, digits: &[u8], out: &mut Octets) -> Result<(), Fault> {
+    let mut rest = digits;
+    for _ in 0..digits.len() {
+        match rest {
+            [] => break,
+            [high, low, others @ ..] => {
+                out.push(alloc, byte_of(*high, *low)?)?;
+                rest = others;
+            }
+            _ => return Err(Fault::BadArgument),
+        }
+    }
+    Ok(())
+}
+
+fn byte_of(high: u8, low: u8) -> Result<u8, Fault> {
+    match (digit_of(high), digit_of(low)) {
+        (Some(high), Some(low)) => Ok(high << 4 | low),
+        _ => Err(Fault::BadArgument),
+    }
+}
+
+fn digit_of(digit: u8) -> Option<u8> {
+    match digit {
+        b'0'..=b'9' => Some(digit - b'0'),
+        b'a'..=b'f' => Some(digit - b'a' + 10),
+        b'A'..=b'F' => Some(digit - b'A' + 10),
+        _ => None,
+    }
+}
+
+// The text between quotes, in which `\n`, `\\`, `\"` and `\x` with two digits stand for a byte.
+fn put_quoted(alloc: Global, text: &[u8], out: &mut Octets) -> Result<(), Fault> {
+    let mut rest = text;
+    for _ in 0..text.len() {
+        match rest {
+            [] => break,
+            [b'\\', b'x', high, low, others @ ..] => {
+                out.push(alloc, byte_of(*high, *low)?)?;
+                rest = others;
+            }
+            [b'\\', b'n', others @ ..] => {
+                out.push(alloc, b'\n')?;
+                rest = others;
+            }
+            [b'\\', byte, others @ ..] | [byte, others @ ..] => {
+                out.push(alloc, *byte)?;
+                rest = others;
+            }
+        }
+    }
+    Ok(())
+}
