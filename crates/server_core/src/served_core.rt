@@ -8,7 +8,7 @@ ghost use Rattle.server_core.specs.CoreState.{offer_at, is_to_be_shut_at};
 ghost use Rattle.server_core.specs.Places.{IsPlace, IsAbsent};
 ghost use Rattle.ads_machine.specs.MachineState.{present_numbers};
 ghost use Rattle.ads_machine.specs.Summary.{summary_of};
-ghost use Rattle.out_queue.specs.declared.out_queue.TheConstants.{MAX_QUEUED};
+ghost use Rattle.out_queue.specs.Queue.{QUEUE_LIMIT};
 ghost use Rattle.ads_outside.specs.declared.event.Event.TheVariants as event;
 ghost use Rattle.ads_outside.specs.declared.moves.Move.TheVariants as move;
 
@@ -75,7 +75,7 @@ impl Core {
     pub fn offer_of(&self, conn: u32) -> Option<&[u8]>
         ensures offer { option_copied result ≡ offer_in self.now conn }
         ensures machine { (x : CoreState) → Serves self.now x → option_copied result ≡ offer_at conn x }
-        ensures bound { IfSome result (λ left. length left.now ≤ MAX_QUEUED) }
+        ensures bound { IfSome result (λ left. length left.now ≤ QUEUE_LIMIT) }
     {
         let i = self.place_of(conn)?;
         let conn = &self.connections[i];

@@ -13,7 +13,7 @@ use Rattle.sym_handles.specs.Kept.{KeptHandle, moved_handle, without}
 use Rattle.std.specs.List.Sorted.{IsNonDecreasingBy}
 use Rattle.symbol_table.proofs.OnlyOne.{find-none, find-only}
 use Rattle.sym_handles.specs.Found.{is_handle, kept_handle, IsHandleAt}
-use Rattle.sym_handles.specs.Records.{IsAt, Slots, record_in, held, all_held, is_live, live_among, live_in, IsIndex, moved_record}
+use Rattle.sym_handles.specs.Records.{IsAt, Slots, record_in, held, all_held, is_live, live_among, live_in, stored_count, IsIndex, moved_record}
 
 map_same : {X Y : Type 0} (f g : X → Y) (xs : List X) → ((k : ℕ) (d : X) → k < length xs → f (get_or xs k d) ≡ g (get_or xs k d)) → map f xs ≡ map g xs
 map_same f g [] same = refl
@@ -104,14 +104,16 @@ all_held-added old new entries e r index vacant filled others =
 
 -- one less
 
-pub index-removed : (old new : Slots) (entries : List Entry) (i : ℕ) (d : Entry) → IsIndex old entries → i < length entries → OthersStay old new (get_or entries i d).key → IsIndex new (remove entries i)
-index-removed old new entries i d index inside others = record {
+pub index-removed : (old new : Slots) (entries : List Entry) (i : ℕ) (d : Entry) → IsIndex old entries → i < length entries → OthersStay old new (get_or entries i d).key
+    → stored_count new + 1 ≡ stored_count old → IsIndex new (remove entries i)
+index-removed old new entries i d index inside others one_less = record {
   filled = λ k e h.
       let s = stood entries i k e inside h in
       let same = get_or_default entries i d e inside in
       let ne : (get_or entries s.0 e).key ≢ (get_or entries i d).key = λ z. keys_differ entries s.0 i e index.apart s.1 inside s.2 (z ∙ ap (λ (x : Entry). x.key) same) in
       let there = subst (λ (o : Option Record). IsSome o) (sym (others (get_or entries s.0 e).key ne)) (index.filled s.0 e s.1) in
       subst (λ (x : Entry). IsSome (get_or new x.key None)) (sym s.3) there;
+  no_other = let n = length-remove entries i inside in let before = index.no_other in omega (arith, n, before, one_less);
   apart = all_pairs_remove (λ (e f : Entry). e.key ≢ f.key) entries i inside index.apart;
   rises = all_pairs_remove (λ (e f : Entry). e.handle < f.handle) entries i inside index.rises;
 }
@@ -243,11 +245,12 @@ pub record HasMoved (kept : List KeptPlace) (entries : List Entry) (old now : Sl
   pub done : (k : ℕ) (d : Entry) → k < count → k < length entries → held now (get_or entries k d) ≡ moved_handle kept (held old (get_or entries k d))
   pub left : (k : ℕ) (d : Entry) → count ≤ k → k < length entries → held now (get_or entries k d) ≡ held old (get_or entries k d)
   pub filled : All (λ (e : Entry). IsSome (get_or now e.key None)) entries
+  pub no_more : stored_count now ≡ stored_count old
   pub counted : live ≡ live_among (take count (map (moved_handle kept) (all_held old entries)))
   pub bound : live ≤ count
 
 pub moved_none : (kept : List KeptPlace) (entries : List Entry) (old : Slots) → IsIndex old entries → HasMoved kept entries old old 0 0
-moved_none kept entries old index = record { done = λ k d h l. absurd (omega (arith, h)); left = λ k d h l. refl; filled = index.filled; counted = refl; bound = omega arith }
+moved_none kept entries old index = record { done = λ k d h l. absurd (omega (arith, h)); left = λ k d h l. refl; filled = index.filled; no_more = refl; counted = refl; bound = omega arith }
 
 held-moved : (kept : List KeptPlace) (now new : Slots) (e : Entry) → get_or new e.key None ≡ Some (moved_record kept (record_in now e.key)) → held new e ≡ moved_handle kept (held now e)
 held-moved kept now new e set = ap shown set
@@ -257,8 +260,8 @@ held-moved kept now new e set = ap shown set
 
 pub moved_more : (kept : List KeptPlace) (entries : List Entry) (old now new : Slots) (i live : ℕ) (d : Entry) → IsIndex old entries → HasMoved kept entries old now i live → i < length entries
     → get_or new (get_or entries i d).key None ≡ Some (moved_record kept (record_in now (get_or entries i d).key)) → OthersStay now new (get_or entries i d).key
-    → HasMoved kept entries old new (i + 1) (live + live_in (moved_record kept (record_in now (get_or entries i d).key)))
-moved_more kept entries old now new i live d index before inside set others = record {
+    → stored_count new ≡ stored_count now → HasMoved kept entries old new (i + 1) (live + live_in (moved_record kept (record_in now (get_or entries i d).key)))
+moved_more kept entries old now new i live d index before inside set others same_count = record {
   done = λ k e h l. elim (cases_eq k i) [
     | inl z ↦ subst (λ (x : Entry). held new x ≡ moved_handle kept (held old x)) (sym (ap (λ (n : ℕ). get_or entries n e) z ∙ get_or_default entries i e d inside)) here
     | inr ne ↦ stays k e l ne ∙ before.done k e (omega (arith, h, ne)) l
@@ -268,6 +271,7 @@ moved_more kept entries old now new i live d index before inside set others = re
     | inl z ↦ subst (λ (x : Entry). IsSome (get_or new x.key None)) (sym (ap (λ (n : ℕ). get_or entries n e) z ∙ get_or_default entries i e d inside)) (subst (λ (o : Option Record). IsSome o) (sym set) refl)
     | inr ne ↦ subst (λ (o : Option Record). IsSome o) (sym (others (get_or entries k e).key (differs k e l ne))) (before.filled k e l)
   ];
+  no_more = same_count ∙ before.no_more;
   counted =
       let hs = map (moved_handle kept) (all_held old entries) in
       let n = length-map (all_held old entries) (moved_handle kept) in
@@ -306,8 +310,9 @@ moved_all kept entries old now n live all moved = map_same (held now) (λ (e : E
     map-map [] = refl
     map-map (e ∷ es) = ap (λ (hs : List KeptHandle). moved_handle kept (held old e) ∷ hs) (map-map es)
 
-pub index_after : (old now : Slots) (entries : List Entry) → IsIndex old entries → All (λ (e : Entry). IsSome (get_or now e.key None)) entries → IsIndex now entries
-index_after old now entries index filled = record { filled = filled; apart = index.apart; rises = index.rises }
+pub index_after : (old now : Slots) (entries : List Entry) → IsIndex old entries → All (λ (e : Entry). IsSome (get_or now e.key None)) entries
+    → stored_count now ≡ stored_count old → IsIndex now entries
+index_after old now entries index filled same_count = record { filled = filled; no_other = same_count ∙ index.no_other; apart = index.apart; rises = index.rises }
 
 -- they are the live ones among all
 pub live_all : (kept : List KeptPlace) (entries : List Entry) (old now : Slots) (n live : ℕ) → length entries ≤ n → HasMoved kept entries old now n live → live ≡ live_among (all_held now entries)

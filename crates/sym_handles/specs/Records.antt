@@ -1,5 +1,5 @@
 -- Records in a slab, and the list of the handles that they belong to. Private: no public clause cites this file.
-use Rattle.std.specs.Prelude.{◌≡◌, ◌≢◌, ℕ, ◌<◌, ◌≤◌, List, map, length, slice_index_or, Bool, IsSome, Option, None, is_some, unwrap_or, All, AllPairs, filter, ◌||◌, nat_le, if◌then◌else◌, option_and_then}
+use Rattle.std.specs.Prelude.{◌≡◌, ◌≢◌, ℕ, ◌<◌, ◌≤◌, List, map, length, slice_index_or, Bool, IsSome, Option, None, is_some, unwrap_or, count_by, All, AllPairs, filter, ◌||◌, nat_le, if◌then◌else◌, option_and_then}
 use Rattle.ads_machine.specs.ByName.{MAX_LIVE, MAX_NUMBER}
 use Rattle.symbol_table.specs.declared.kept.KeptPlace.{KeptPlace}
 use Rattle.symbol_table.specs.Moves.{moved_place}
@@ -32,9 +32,14 @@ live_among hs = length (filter is_live hs)
 abbrev pub live_in : Record → ℕ
 live_in r = if is_some r.place then 1 else 0
 
--- each entry has a record of its own, and the handles rise
+-- how many records are stored
+abbrev pub stored_count : Slots → ℕ
+stored_count slots = count_by is_some slots
+
+-- each entry has a record of its own, no other record is stored, and the handles rise
 pub record IsIndex (slots : Slots) (entries : List Entry) : Type 0 where
   pub filled : All (λ (e : Entry). IsSome (slice_index_or slots e.key None)) entries
+  pub no_other : stored_count slots ≡ length entries
   pub apart : AllPairs (λ (e f : Entry). e.key ≢ f.key) entries
   pub rises : AllPairs (λ (e f : Entry). e.handle < f.handle) entries
 

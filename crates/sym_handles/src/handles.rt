@@ -107,7 +107,7 @@ impl Handles {
         }
     }
 
-    /// Releases a handle, once; an outdated one too. 0x710 as for `look`, and then nothing has changed.
+    /// Releases a handle, once; an outdated one too, and nothing of it stays. 0x710 as for `look`, and then nothing has changed.
     /// Beckhoff Information System, index group 0xF006.
     pub fn release(&mut self, handle: u32, port: u16) -> Result<(), Code>
         ensures answer { (history : History) → Represents self.old history

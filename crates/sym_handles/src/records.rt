@@ -7,7 +7,7 @@ ghost use Rattle.symbol_table.specs.Moves.{IsInOldWorld};
 ghost use Rattle.sym_handles.specs.declared.entries.Entry.{Entry};
 ghost use Rattle.sym_handles.specs.declared.records.Record.{Record};
 ghost use Rattle.sym_handles.specs.Kept.{HasPlaceInOldWorld, moved_handle, without};
-ghost use Rattle.sym_handles.specs.Records.{record_in, moved_record, all_held, live_in, live_among, IsIndex};
+ghost use Rattle.sym_handles.specs.Records.{record_in, moved_record, all_held, live_in, live_among, stored_count, IsIndex};
 
 use crate::entries::Entry;
 use ads_base::NoMemory;
@@ -44,7 +44,7 @@ pub(crate) fn add(
     Ok(())
 }
 
-/// Takes a record out, and its handle.
+/// Takes a record out, and its handle: nothing of it stays.
 pub(crate) fn take(records: &mut Slab<Record>, entries: &mut Vec<Entry>, place: usize) -> Record
     requires index { IsIndex records.old.slots entries.old.items }
     requires inside { place < length entries.old.items }
@@ -91,6 +91,7 @@ fn move_record(records: &mut Slab<Record>, key: usize, moves: &Moves) -> usize
         (IsInOldWorld moves.now (record_in records.old.slots key).port) }
     ensures moved { Updates records.old records.new key
         (Some (moved_record moves.now (record_in records.old.slots key))) }
+    ensures no_more { stored_count records.new.slots ≡ stored_count records.old.slots }
     ensures live { result ≡ live_in (moved_record moves.now (record_in records.old.slots key)) }
 {
     let Some(record) = records.get_mut(key) else {

@@ -13,7 +13,7 @@ returns-clause-index c =
     let e = c.remove-entry.result in
     let others = subst (λ (key : ℕ). OthersStay c.args.records.now.slots c.remove.new.self.slots key) (ap (λ (x : Entry). x.key) c.remove-entry.ensures.value) c.remove.ensures.updates.others in
     subst (λ (es : List Entry). IsIndex c.remove.new.self.slots es) (sym c.remove-entry.ensures.items)
-    (index-removed c.args.records.now.slots c.remove.new.self.slots c.args.entries.now.items c.args.place e c.requires.index c.requires.inside others)
+    (index-removed c.args.records.now.slots c.remove.new.self.slots c.args.entries.now.items c.args.place e c.requires.index c.requires.inside others c.remove.ensures.len)
 
 pub returns-clause-held : goal.returns-clause-held
 returns-clause-held c = λ d.

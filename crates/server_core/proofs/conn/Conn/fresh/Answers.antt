@@ -7,7 +7,7 @@ pub returns-clause-stands : goal.returns-clause-stands
 unfolding left_after
 returns-clause-stands c = record {
   number = refl;
-  stream = own_mark c.in_ok-new.field-0 _ c.in_ok-new.ensures;
+  stream = own_mark c.in_ok-new.field-0 _ c.in_ok-new.ensures.nothing;
   waiting = c.in_ok-new-2.ensures;
   took = omega arith;
   closing = refl;
