@@ -1,6 +1,6 @@
 -- The AMS header: who is asked by whom, and what follows. Beckhoff Information System, "AMS Header".
 -- Every number is little-endian.
-use Rattle.std.specs.Prelude.{◌≡◌, ℕ, ◌<◌, ◌^◌, List, ◌++◌, length, take, drop, Option, Some, None, nat_lt, if◌then◌else◌}
+use Rattle.std.specs.Prelude.{◌≡◌, ℕ, ◌<◌, ◌^◌, List, ◌++◌, length, take, drop, Bool, ◌&&◌, ◌==◌, bytes_eq, Option, Some, None, nat_lt, if◌then◌else◌}
 use Rattle.std.specs.Int.{w16, w32, to_le_bytes}
 use Rattle.ads_formats.specs.Numbers.{number16, number32}
 
@@ -17,6 +17,9 @@ pub record AmsHeader : Type 0 where
   pub len : ℕ
   pub error : ℕ
   pub id : ℕ
+
+abbrev pub is_same_address : AmsAddress → AmsAddress → Bool
+is_same_address a b = bytes_eq a.net b.net && (a.port == b.port)
 
 -- NetId 6, port 2
 abbrev pub address_bytes : AmsAddress → List ℕ

@@ -1,12 +1,16 @@
 pub mod Numbers
 pub mod Codes
+pub mod Commands
 pub mod Header
 pub mod Request
 pub mod Reply
 pub mod Notification
 pub mod NotificationReading
 pub mod SymbolEntry
+pub mod GroupNumbers
 pub mod Groups
 pub mod Ranges
 pub mod TypeEntry
+pub mod TypeEntryReading
 pub mod TypeUpload
+pub mod ValueText

@@ -3,6 +3,7 @@
 use Rattle.std.specs.Prelude.{◌≡◌, ℕ, ◌+◌, ◌<◌, ◌^◌, List, [], ◌∷◌, ◌++◌, length, drop, replicate, Option, Some, None, ◌==◌, if◌then◌else◌}
 use Rattle.std.specs.Int.{w16, w32, to_le_bytes}
 use Rattle.ads_formats.specs.Numbers.{number16, number32, at_length}
+use Rattle.ads_formats.specs.Commands.{READ_DEVICE_INFO, READ, WRITE, READ_STATE, WRITE_CONTROL, ADD_DEVICE_NOTIFICATION, DELETE_DEVICE_NOTIFICATION, DEVICE_NOTIFICATION, READ_WRITE}
 
 pub data Request : Type 0 where
   ReadDeviceInfo : Request
@@ -16,15 +17,15 @@ pub data Request : Type 0 where
   ReadWrite : (group offset read_len : ℕ) (bytes : List ℕ) → Request
 
 abbrev pub command_of : Request → ℕ
-command_of ReadDeviceInfo = 1
-command_of (Read group offset len) = 2
-command_of (Write group offset bytes) = 3
-command_of ReadState = 4
-command_of (WriteControl ads device bytes) = 5
-command_of (AddDeviceNotification group offset len mode delay cycle) = 6
-command_of (DeleteDeviceNotification handle) = 7
-command_of (DeviceNotification bytes) = 8
-command_of (ReadWrite group offset read_len bytes) = 9
+command_of ReadDeviceInfo = READ_DEVICE_INFO
+command_of (Read group offset len) = READ
+command_of (Write group offset bytes) = WRITE
+command_of ReadState = READ_STATE
+command_of (WriteControl ads device bytes) = WRITE_CONTROL
+command_of (AddDeviceNotification group offset len mode delay cycle) = ADD_DEVICE_NOTIFICATION
+command_of (DeleteDeviceNotification handle) = DELETE_DEVICE_NOTIFICATION
+command_of (DeviceNotification bytes) = DEVICE_NOTIFICATION
+command_of (ReadWrite group offset read_len bytes) = READ_WRITE
 
 -- index group 4, index offset 4, length 4
 abbrev pub access_bytes : ℕ → ℕ → ℕ → List ℕ
@@ -58,7 +59,7 @@ request_fields (ReadWrite group offset read_len bytes) =
 
 -- how many reserved bytes the payload of this command ends in
 abbrev pub reserved_len : ℕ → ℕ
-reserved_len command = if command == 6 then 16 else 0
+reserved_len command = if command == ADD_DEVICE_NOTIFICATION then 16 else 0
 
 -- the payload as it is written: reserved bytes are zeros
 abbrev pub request_bytes : Request → List ℕ
@@ -95,16 +96,16 @@ form command read = record { command = command; read = read }
 -- the commands by their payloads' lengths
 abbrev pub request_forms : List RequestForm
 request_forms =
-    form 1 (λ p. at_length 0 p ReadDeviceInfo)
-    ∷ form 2 (λ p. at_length 12 p (Read (number32 0 p) (number32 4 p) (number32 8 p)))
-    ∷ form 3 (λ p. at_length (12 + number32 8 p) p (Write (number32 0 p) (number32 4 p) (drop 12 p)))
-    ∷ form 4 (λ p. at_length 0 p ReadState)
-    ∷ form 5 (λ p. at_length (8 + number32 4 p) p (WriteControl (number16 0 p) (number16 2 p) (drop 8 p)))
-    ∷ form 6 (λ p. at_length 40 p (AddDeviceNotification (number32 0 p) (number32 4 p) (number32 8 p)
+    form READ_DEVICE_INFO (λ p. at_length 0 p ReadDeviceInfo)
+    ∷ form READ (λ p. at_length 12 p (Read (number32 0 p) (number32 4 p) (number32 8 p)))
+    ∷ form WRITE (λ p. at_length (12 + number32 8 p) p (Write (number32 0 p) (number32 4 p) (drop 12 p)))
+    ∷ form READ_STATE (λ p. at_length 0 p ReadState)
+    ∷ form WRITE_CONTROL (λ p. at_length (8 + number32 4 p) p (WriteControl (number16 0 p) (number16 2 p) (drop 8 p)))
+    ∷ form ADD_DEVICE_NOTIFICATION (λ p. at_length 40 p (AddDeviceNotification (number32 0 p) (number32 4 p) (number32 8 p)
     (number32 12 p) (number32 16 p) (number32 20 p)))
-    ∷ form 7 (λ p. at_length 4 p (DeleteDeviceNotification (number32 0 p)))
-    ∷ form 8 (λ p. Some (DeviceNotification p))
-    ∷ form 9 (λ p. at_length (16 + number32 12 p) p
+    ∷ form DELETE_DEVICE_NOTIFICATION (λ p. at_length 4 p (DeleteDeviceNotification (number32 0 p)))
+    ∷ form DEVICE_NOTIFICATION (λ p. Some (DeviceNotification p))
+    ∷ form READ_WRITE (λ p. at_length (16 + number32 12 p) p
     (ReadWrite (number32 0 p) (number32 4 p) (number32 8 p) (drop 16 p)))
     ∷ []
 

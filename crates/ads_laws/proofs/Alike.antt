@@ -1,9 +1,10 @@
 -- The bytes of each part stay as many as they are.
-use Rattle.std.proofs.Common.{◌≡◌, ℕ, zero, suc, List, [], ◌∷◌, length, Bool, true, cond, refl, sym, ◌∙◌, ap, inl, inr}
+use Rattle.std.proofs.Common.{◌≡◌, ℕ, List, [], ◌∷◌, length, Bool, true, cond, refl, sym, ◌∙◌, ap, inl, inr}
 use Rattle.std.specs.Prelude.{Option, Some, None}
 use Rattle.std.proofs.lemmas.Bool.{cases_Bool, false≢true}
 use Rattle.ads_plant.specs.Description.{Area}
-use Rattle.ads_plant.specs.World.{Block, Part, SymbolPart, AreaPart, StatePart, ByteName, PlantSymbol, PlantPort, Plant, symbol_size, is_block_of, block_of, with_nth_byte, with_byte}
+use Rattle.ads_plant.specs.World.{Block, Part, SymbolPart, AreaPart, StatePart, ByteName, PlantSymbol, PlantPort, Plant, symbol_size, is_block_of, block_of}
+use Rattle.ads_plant.proofs.BlockLemmas.{with_byte-length}
 use Rattle.ads_plant.proofs.SameSizes.{same_type-size}
 use Rattle.ads_machine.specs.World.{port_numbered, first_memory}
 use Rattle.ads_machine.specs.Access.{Put, addressed_name, byte_after, memory_after_put, memory_after_puts}
@@ -24,26 +25,6 @@ alike_itself m = record { same = λ port part. refl }
 
 pub alike_then : (m w v : List Block) → Alike m w → Alike w v → Alike m v
 alike_then m w v a b = record { same = λ port part. a.same port part ∙ b.same port part }
-
-nth-length : (i : ℕ) (f : ℕ → ℕ) (xs : List ℕ) → length (with_nth_byte xs i f) ≡ length xs
-nth-length i f [] = refl
-nth-length zero f (x ∷ xs) = refl
-nth-length (suc i) f (x ∷ xs) = ap (λ n. suc n) (nth-length i f xs)
-
-with_byte-length : (m : List Block) (n : ByteName) (f : ℕ → ℕ) (port : ℕ) (part : Part) → length (block_of (with_byte m n f) port part) ≡ length (block_of m port part)
-unfolding with_byte
-with_byte-length [] n f port part = refl
-with_byte-length (b ∷ bs) n f port part =
-    elim (cases_Bool (is_block_of n.port n.part b)) [
-      | inl t ↦ elim (cases_Bool (is_block_of port part b)) [
-        | inl u ↦ rw (t, u) (nth-length n.index f b.bytes)
-        | inr u ↦ rw (t, u) refl
-      ]
-      | inr t ↦ elim (cases_Bool (is_block_of port part b)) [
-        | inl u ↦ rw (t, u) refl
-        | inr u ↦ rw (t, u) (with_byte-length bs n f port part)
-      ]
-    ]
 
 pub puts-alike : (ps : List Put) (m : List Block) → Alike (memory_after_puts m ps) m
 unfolding memory_after_puts

@@ -30,7 +30,7 @@ use Rattle.ads_laws.specs.Isolation.{start}
 use Rattle.ads_laws.specs.Soundness.{Each, IsSoundPlant, ReadsAccepted}
 use Rattle.ads_laws.specs.Reachable.{IsPlaced, IsPlacedStatus, IsPlacedHandle, IsThereAt, IsWatchThere, ConnectionFits, AllFits, EveryStateFits}
 use Rattle.ads_laws.proofs.Memory.{same_part-true}
-use Rattle.ads_laws.proofs.Accepted.{accepted_are_sound}
+use Rattle.ads_plant.proofs.SoundLemmas.{accepted_are_sound}
 use Rattle.ads_laws.proofs.Exchanges.{WatchIn, WatchesIn, produce_all-client, answer-client, rest-client}
 use Rattle.ads_laws.proofs.TicksAndReloads.{tick-watches}
 use Rattle.ads_laws.proofs.FirstMemory.{IsNamed, there_by_length, area-named}

@@ -8,7 +8,6 @@ pub mod Exact
 pub mod Refused
 pub mod Areas
 pub mod Numbers
-pub mod Accepted
 pub mod FirstMemory
 pub mod FineActs
 pub mod FineDecisions

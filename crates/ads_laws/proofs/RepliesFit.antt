@@ -38,7 +38,7 @@ use Rattle.ads_laws.specs.Isolation.{start}
 use Rattle.ads_laws.specs.Soundness.{Each, IsSoundPlant}
 use Rattle.ads_laws.specs.Reachable.{IsPlacedStatus, IsPlacedHandle, ConnectionFits}
 use Rattle.ads_laws.specs.RepliesFit.{AnswerFits, AnswersFit, RepliesFit}
-use Rattle.ads_laws.proofs.Accepted.{accepted_are_sound}
+use Rattle.ads_plant.proofs.SoundLemmas.{accepted_are_sound}
 use Rattle.ads_laws.proofs.EveryState.{every_state_fits}
 use Rattle.ads_laws.proofs.FirstMemory.{port_number}
 use Rattle.ads_laws.proofs.FineActs.{IsAsked, kept-placed, found-placed}

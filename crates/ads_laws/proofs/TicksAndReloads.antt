@@ -1,9 +1,9 @@
 -- What ticks and reloads do to a connection in two worlds that agree on what it reads.
 use Rattle.std.proofs.Common.{◌≡◌, ℕ, List, [], ◌∷◌, ◌++◌, Bool, true, false, cond, refl, sym, ◌∙◌, ap, subst, inl, inr}
-use Rattle.std.specs.Prelude.{Some, None, option_map, filter_map, if◌then◌else◌}
+use Rattle.std.specs.Prelude.{Some, None, slice_get, option_map, filter_map, if◌then◌else◌}
 use Rattle.std.specs.List.{cons_option}
 use Rattle.std.proofs.lemmas.Bool.{cases_Bool}
-use Rattle.ads_plant.specs.World.{ByteName, Block, is_block_of, block_of, nth_byte, byte_at}
+use Rattle.ads_plant.specs.World.{ByteName, Block, is_block_of, block_of, byte_at}
 use Rattle.ads_machine.specs.Device.{Produced, ClientOutcome}
 use Rattle.ads_machine.specs.Connection.{Connection, is_deaf}
 use Rattle.ads_machine.specs.Piece.{with_client}
@@ -99,12 +99,12 @@ reload-watches table reading R now old new k e = go (is_deaf k)
     go false = subst (WatchesIn R) (sym (outcome-client o k)) (kept-in R (is_kept old.plant new.plant) k.client.watches e)
 
 block-at : (kept : Kept) (m w : List Block) (n : ByteName) (b : Block) → IsBlock n.port n.part b → byte_at m n ≡ byte_at w n
-    → nth_byte (block_after_reload kept m b).bytes n.index ≡ nth_byte (block_after_reload kept w b).bytes n.index
+    → slice_get (block_after_reload kept m b).bytes n.index ≡ slice_get (block_after_reload kept w b).bytes n.index
 unfolding byte_at
 block-at kept m w n b i e =
     elim (cases_Bool (kept b.port b.part)) [
       | inl t ↦
-          let f : nth_byte (block_of m b.port b.part) n.index ≡ nth_byte (block_of w b.port b.part) n.index = rw (i.same_port, i.same_part) e in
+          let f : slice_get (block_of m b.port b.part) n.index ≡ slice_get (block_of w b.port b.part) n.index = rw (i.same_port, i.same_part) e in
           rw t f
       | inr t ↦ rw t refl
     ]

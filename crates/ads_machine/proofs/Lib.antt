@@ -26,3 +26,14 @@ pub mod HandleStatuses
 mod TablesAgreed
 mod SumsInTurn
 mod RunExamples
+pub mod AreaNames
+pub mod ImageLemmas
+pub mod PortBytesLemmas
+pub mod StatesSet
+pub mod SignalsStepped
+pub mod FirstMemory
+pub mod Reloaded
+pub mod PlacesMoved
+pub mod RangesMoved
+pub mod AreaContent
+pub mod WritableBytes

@@ -44,3 +44,10 @@ pub mod Projection
 pub mod RunText
 pub mod HandleLaws
 pub mod SumLaws
+pub mod AreaNames
+pub mod PortBytes
+pub mod PortLaws
+pub mod NumberedPlaces
+pub mod WatchedRanges
+pub mod AreaContent
+pub mod WritableBytes

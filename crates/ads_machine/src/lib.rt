@@ -2,11 +2,19 @@
 //! a world of type `W` and clients of type `C`.
 #![tactic(auto)]
 
+mod areas;
+
 ghost use Rattle.ads_machine.specs.Delivery.{PlayKeepsTurns, OffersWhole, TakesOutput, TakesAll};
 ghost use Rattle.ads_machine.specs.Output.{ServerOnlyAdds, ServerKeepsThere};
 ghost use Rattle.ads_machine.specs.Output.{OutputGrows, ClosingEnds, LimitsQueue};
 ghost use Rattle.ads_machine.specs.HandleLaws.{StatusIsHistory, LimitsGrants, TablesAgree};
 ghost use Rattle.ads_machine.specs.SumLaws.{RunsInTurn};
+
+pub use areas::{
+    areas_have_content, bytes_have_names, numbers_move_as_names, reads_are_of_the_image,
+    signals_step_in_the_image, symbols_tell_who_writes, worlds_begin_with_images,
+    writes_are_of_the_image,
+};
 
 /// Over any machine: the play of a script keeps the turns: each event is followed by the offers to each connection.
 pub fn play_keeps_turns<W, C>()

@@ -7,42 +7,22 @@ use Rattle.ads_plant.specs.Listed.{Plain, Text, Struct, Shape, One, Array, Membe
 use Rattle.ads_plant.specs.Trees.{trees_of, trees_behind}
 use Rattle.ads_plant.specs.Sizes.{type_size, members_end, type_align, greatest_align, type_depth, greatest_depth}
 use Rattle.ads_plant.specs.Spelling.{type_text}
-use Rattle.ads_plant.specs.Description.{Read, Control, Area, Process, Memory, Symbol, Port, Description}
+use Rattle.ads_plant.specs.Description.{Area, Process, Symbol}
 use Rattle.ads_plant.specs.AcceptedTypes.{are_types_behind}
 use Rattle.ads_plant.specs.Accepted.{IsAccepted, is_port, number_bytes}
+use Rattle.ads_plant.proofs.Plant.{axis_type, plain_symbol, count_symbol, title_symbol, symbols_with, port_with, plant}
 
 member : List ℕ → Shape → Member
 member name shape = record { name = name; shape = shape; comment = [] }
 
 types : List NamedType
-types = Structure (codes "Axis") (member (codes "active") (One (Plain BOOL)) ∷ member (codes "pos") (One (Plain DINT)) ∷ member (codes "label") (One (Text 5)) ∷ []) ∷ []
+types = axis_type ∷ []
 
-symbol : List ℕ → Shape → Area → ℕ → List ℕ → Symbol
-symbol name shape area offset initial = record { name = name; shape = shape; area = area; offset = offset; comment = []; persistent = false; read_only = false; initial = initial; signal = None; writers = [] }
-
--- the symbols of the plant, with `Main.axis` at a place
-symbols : ℕ → List Symbol
-symbols at =
-    symbol (codes "Main.count") (One (Plain DINT)) Process 0 (42 ∷ 0 ∷ 0 ∷ 0 ∷ [])
-    ∷ symbol (codes "Main.axis") (Array (record { low = pos 1; count = 3 } ∷ []) (Struct 0)) Process at (replicate 48 0)
-    ∷ symbol (codes "Main.limit") (One (Plain INT)) Process 60 (232 ∷ 3 ∷ [])
-    ∷ record (symbol (codes "Main.wave") (One (Plain UINT)) Process 64 (0 ∷ 0 ∷ [])) { signal = Some 2 }
-    ∷ symbol (codes "Main.title") (One (Text 7)) Process 72 (codes "Mix" ++ replicate 5 0)
-    ∷ symbol (codes "Flags.bits") (One (Plain BYTE)) Memory 0 (0 ∷ []) ∷ []
-
-port_with : List Symbol → Port
-port_with them = record { number = 851; facts = record { major = 3; minor = 1; build = 1711; name = codes "Plc30 App" ++ replicate 7 0 }; sizes = record { inputs = 16; outputs = 16; memory = 32; process = 128 }; symbols = them }
-
-plant : Description
-plant = record {
-  net = 5 ∷ 1 ∷ 2 ∷ 3 ∷ 1 ∷ 1 ∷ [];
-  routes = record { net = 192 ∷ 168 ∷ 0 ∷ 9 ∷ 1 ∷ 1 ∷ []; rights = Control } ∷ record { net = 192 ∷ 168 ∷ 0 ∷ 10 ∷ 1 ∷ 1 ∷ []; rights = Read } ∷ [];
-  types = types;
-  ports = port_with (symbols 8) ∷ [];
-}
+mix : Symbol
+mix = title_symbol 7 (codes "Mix" ++ replicate 5 0)
 
 plant_is_accepted : IsAccepted plant 3
-unfolding plant port_with symbols symbol types member trees_of trees_behind type_size members_end type_align greatest_align type_depth greatest_depth type_text digits
+unfolding trees_of trees_behind type_size members_end type_align greatest_align type_depth greatest_depth type_text digits
 plant_is_accepted = record {
   routes = refl;
   types = record { count = lit≤ tt; each = refl };
@@ -54,23 +34,23 @@ plant_is_accepted = record {
 }
 
 -- two signals are too few
-signal_is_missing : is_port types 2 (port_with (symbols 8)) ≡ false
-unfolding port_with symbols symbol types member trees_of trees_behind type_size members_end type_align greatest_align type_depth greatest_depth type_text digits
+signal_is_missing : is_port types 2 (port_with (symbols_with (count_symbol 0) mix)) ≡ false
+unfolding types mix trees_of trees_behind type_size members_end type_align greatest_align type_depth greatest_depth type_text digits
 signal_is_missing = refl
 
--- `Main.axis` at 2 covers bytes of `Main.count`
-symbols_overlap : is_port types 3 (port_with (symbols 2)) ≡ false
-unfolding port_with symbols symbol types member trees_of trees_behind type_size members_end type_align greatest_align type_depth greatest_depth type_text digits
+-- `Main.count` at 6 covers bytes of `Main.axis`
+symbols_overlap : is_port types 3 (port_with (symbols_with (count_symbol 6) mix)) ≡ false
+unfolding types mix trees_of trees_behind type_size members_end type_align greatest_align type_depth greatest_depth type_text digits
 symbols_overlap = refl
 
 -- a name that begins another one
-name_within_name : is_port types 3 (port_with (symbol (codes "Main") (One (Plain BYTE)) Process 0 (0 ∷ []) ∷ symbol (codes "main.a") (One (Plain BYTE)) Process 1 (0 ∷ []) ∷ [])) ≡ false
-unfolding port_with symbol trees_of trees_behind type_size type_text digits
+name_within_name : is_port types 3 (port_with (plain_symbol (codes "Main") (One (Plain BYTE)) Process 0 (0 ∷ []) ∷ plain_symbol (codes "main.a") (One (Plain BYTE)) Process 1 (0 ∷ []) ∷ [])) ≡ false
+unfolding trees_of trees_behind type_size type_text digits
 name_within_name = refl
 
 -- a name that has another as its first letters is another name
-name_beside_name : is_port types 3 (port_with (symbol (codes "Main.a") (One (Plain BYTE)) Process 0 (0 ∷ []) ∷ symbol (codes "Main.ab") (One (Plain BYTE)) Process 1 (0 ∷ []) ∷ [])) ≡ true
-unfolding port_with symbol types member trees_of trees_behind type_size type_text digits
+name_beside_name : is_port types 3 (port_with (plain_symbol (codes "Main.a") (One (Plain BYTE)) Process 0 (0 ∷ []) ∷ plain_symbol (codes "Main.ab") (One (Plain BYTE)) Process 1 (0 ∷ []) ∷ [])) ≡ true
+unfolding types mix trees_of trees_behind type_size type_text digits
 name_beside_name = refl
 
 -- a structure of itself

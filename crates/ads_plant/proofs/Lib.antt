@@ -9,3 +9,7 @@ pub mod NumberTexts
 pub mod TypeTextLemmas
 pub mod TextLengths
 pub mod ReadBack
+pub mod Plant
+pub mod BlockLemmas
+pub mod CoveringLemmas
+pub mod SoundLemmas

@@ -23,10 +23,13 @@ abbrev pub size_of_symbol : List NamedType → Symbol → ℕ
 size_of_symbol types s = type_size (tree_of types s.shape)
 
 -- neither name begins with all identifiers of the other, ASCII case aside
+abbrev pub neither_begins : List ℕ → List ℕ → Bool
+neither_begins a b =
+    not (starts_with bytes_eq (lower_identifiers a) (lower_identifiers b))
+    && not (starts_with bytes_eq (lower_identifiers b) (lower_identifiers a))
+
 abbrev pub are_two_names : Symbol → Symbol → Bool
-are_two_names s t =
-    not (starts_with bytes_eq (lower_identifiers s.name) (lower_identifiers t.name))
-    && not (starts_with bytes_eq (lower_identifiers t.name) (lower_identifiers s.name))
+are_two_names s t = neither_begins s.name t.name
 
 -- no byte belongs to both
 abbrev pub are_apart : List NamedType → Symbol → Symbol → Bool

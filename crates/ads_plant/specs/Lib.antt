@@ -11,6 +11,11 @@ pub mod AcceptedTypes
 pub mod Accepted
 pub mod World
 pub mod Finding
+pub mod PartTexts
+pub mod Covering
+pub mod Named
+pub mod Sound
+pub mod BlockLaws
 pub mod TypeTexts
 pub mod Rights
 pub mod WrittenTypes

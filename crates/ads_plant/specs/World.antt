@@ -1,5 +1,5 @@
 -- What a device is: its plant, with each symbol's type as a tree, and the bytes under their names.
-use Rattle.std.specs.Prelude.{ℕ, zero, suc, List, [], ◌∷◌, Bool, true, false, ◌&&◌, ◌==◌, if◌then◌else◌, Option, Some, None, bytes_eq, map, unwrap_or}
+use Rattle.std.specs.Prelude.{ℕ, zero, suc, List, [], ◌∷◌, Bool, true, false, ◌&&◌, ◌==◌, if◌then◌else◌, Option, slice_get, bytes_eq, map, unwrap_or}
 use Rattle.name_paths.specs.Identifier.{lower}
 use Rattle.ads_plant.specs.Listed.{NamedType}
 use Rattle.ads_plant.specs.Trees.{TypeTree, tree_of}
@@ -112,14 +112,9 @@ abbrev pub block_of : List Block → ℕ → Part → List ℕ
 block_of [] port part = []
 block_of (b ∷ bs) port part = if is_block_of port part b then b.bytes else block_of bs port part
 
-abbrev pub nth_byte : List ℕ → ℕ → Option ℕ
-nth_byte [] i = None
-nth_byte (x ∷ xs) zero = Some x
-nth_byte (x ∷ xs) (suc i) = nth_byte xs i
-
 -- what stands under a name
 unfoldable pub byte_at : List Block → ByteName → Option ℕ
-byte_at blocks n = nth_byte (block_of blocks n.port n.part) n.index
+byte_at blocks n = slice_get (block_of blocks n.port n.part) n.index
 
 -- the byte under a name, 0 where none stands there
 abbrev pub byte_or_zero : List Block → ByteName → ℕ

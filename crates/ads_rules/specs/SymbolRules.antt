@@ -1,13 +1,14 @@
 -- Description rules 10 to 14: symbols, counted through all ports.
 use Rattle.std.specs.Prelude.{ℕ, ◌+◌, List, [], length, Bool, true, false, not, ◌&&◌, ◌==◌, nat_lt, nat_le, Option, Some, None, is_some, is_none, flat_map, bytes_eq, ℤ, pos, negsuc}
 use Rattle.std.specs.Option.{option_map_or}
-use Rattle.std.specs.List.{list_all, starts_with}
-use Rattle.name_paths.specs.Name.{is_symbol_name, lower_identifiers}
+use Rattle.std.specs.List.{list_all}
+use Rattle.name_paths.specs.Name.{is_symbol_name}
 use Rattle.ads_plant.specs.Listed.{Shape, NamedType}
 use Rattle.ads_plant.specs.Trees.{tree_of}
 use Rattle.ads_plant.specs.Sizes.{type_size}
 use Rattle.ads_plant.specs.Description.{Sizes, size_in, Symbol}
 use Rattle.ads_plant.specs.Accepted.{are_apart, size_of_symbol, begins_with_value, may_have_signal}
+pub use Rattle.ads_plant.specs.Accepted.{neither_begins}
 use Rattle.ads_plant.specs.AcceptedTypes.{is_comment, is_small_shape, is_same_number, LIMIT}
 use Rattle.ads_rules.specs.Written.{WrittenSymbol, WrittenPort}
 use Rattle.ads_rules.specs.Places.{first_wrong, first_through}
@@ -20,12 +21,6 @@ use Rattle.ads_rules.specs.Described.{area_of, bytes_of_hex, shape_described, sy
 abbrev pub wrong_symbol : (WrittenPort → List WrittenSymbol → WrittenSymbol → Bool) → List WrittenPort → Option ℕ
 wrong_symbol is_right ports =
     first_through (λ (p : WrittenPort). length p.symbols) (λ before p. first_wrong (is_right p) [] p.symbols) [] ports
-
--- neither name begins with all identifiers of the other, ASCII case aside
-abbrev pub neither_begins : List ℕ → List ℕ → Bool
-neither_begins a b =
-    not (starts_with bytes_eq (lower_identifiers a) (lower_identifiers b))
-    && not (starts_with bytes_eq (lower_identifiers b) (lower_identifiers a))
 
 abbrev pub is_right_name : List WrittenSymbol → WrittenSymbol → Bool
 is_right_name before s =

@@ -6,7 +6,7 @@ use Rattle.std.proofs.lemmas.List.{length-drop, drop-drop}
 use Rattle.std.proofs.lemmas.Nat.{from_le_bytes-to_le_bytes_4}
 use Rattle.ads_formats.specs.Numbers.{AreBytes, number32}
 use Rattle.ads_formats.specs.TypeEntry.{Dimension, dimension_bytes}
-use Rattle.type_upload.specs.Reading.{dimensions_in}
+use Rattle.ads_formats.specs.TypeEntryReading.{dimensions_in}
 use Rattle.ads_formats.proofs.Fields.{AreBytes-drop, number32-front, number32-lt, next32}
 
 abbrev dimension_at : List ℕ → Dimension

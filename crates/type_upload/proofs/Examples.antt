@@ -2,7 +2,7 @@
 use Rattle.std.specs.Prelude.{◌≡◌, ℕ, List, [], ◌∷◌, ◌++◌, take, set, Some, None, codes}
 use Rattle.std.proofs.Common.{refl}
 use Rattle.ads_formats.specs.TypeEntry.{TypeFields, TypeEntry}
-use Rattle.type_upload.specs.Reading.{is_fields, after_sub_in, after_subs_in, is_entry, type_entry_of}
+use Rattle.ads_formats.specs.TypeEntryReading.{is_fields, after_sub_in, after_subs_in, is_entry, type_entry_of}
 
 -- the entry of a structure `S` of 4 bytes, id 65, flags 1, version 9, hashes 7 and 8: length 154, two sub items
 abbrev numbers_of_s : List ℕ

@@ -10,7 +10,7 @@ use Rattle.ads_formats.specs.SymbolEntry.{text_bytes}
 use Rattle.ads_formats.specs.TypeEntry.{Dimension, TypeFields, Stamps, dimension_bytes, fields_len, fields_bytes, FitsFields}
 use Rattle.ads_formats.proofs.Fields.{AreBytes-drop, number16-lt, number32-lt, number32-front, next16, next32, next_field}
 use Rattle.type_upload.specs.Places.{HasFields}
-use Rattle.type_upload.specs.Reading.{end_of_name, end_of_type, end_of_comment, end_of_fields, dimensions_in, fields_at}
+use Rattle.ads_formats.specs.TypeEntryReading.{end_of_name, end_of_type, end_of_comment, end_of_fields, dimensions_in, fields_at}
 use Rattle.type_upload.proofs.Dimensions.{length-dimensions_in, dimensions-front, dimensions_fit, length-dimensions, dimensions_read}
 
 -- ---- one text

@@ -14,7 +14,7 @@ use Rattle.type_upload.specs.declared.entry.TypeEntry.{TypeEntry}
 use Rattle.type_upload.specs.declared.places.Places.{Places}
 use Rattle.type_upload.specs.Entry.{IsRead, BeginsWithNone, entry_meant}
 use Rattle.type_upload.specs.Places.{HasFields, HasPlaces, ReadsAs}
-use Rattle.type_upload.specs.Reading.{end_of_fields, is_fields, dimensions_in, fields_at, after_entry, after_subs_in, subs_in, behind_fields, entry_at, is_entry, type_entry_of}
+use Rattle.ads_formats.specs.TypeEntryReading.{end_of_fields, is_fields, dimensions_in, fields_at, after_entry, after_subs_in, subs_in, behind_fields, entry_at, is_entry, type_entry_of}
 use Rattle.type_upload.proofs.Dimensions.{length-dimensions, dimensions_read}
 use Rattle.type_upload.proofs.TestLemmas.{test_of_fields}
 use Rattle.type_upload.proofs.FieldLemmas.{made, same_fields, stamps_at, front, found, length-fields}

@@ -11,7 +11,7 @@ use Rattle.ads_formats.specs.TypeEntry.{TypeFields, fields_len, fields_bytes, Is
 use Rattle.ads_formats.proofs.Fields.{AreBytes-drop, number32-lt, next_field}
 use Rattle.ads_formats.proofs.EntryLemmas.{both}
 use Rattle.type_upload.specs.Places.{HasFields}
-use Rattle.type_upload.specs.Reading.{end_of_fields, is_fields, fields_at, after_entry, after_sub_in, after_subs_in, subs_in}
+use Rattle.ads_formats.specs.TypeEntryReading.{end_of_fields, is_fields, fields_at, after_entry, after_sub_in, after_subs_in, subs_in}
 use Rattle.type_upload.proofs.TestLemmas.{fields_of_test, test_of_fields}
 use Rattle.type_upload.proofs.FieldLemmas.{stamps_at, front, found, length-fields}
 

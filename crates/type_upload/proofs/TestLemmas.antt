@@ -5,7 +5,7 @@ use Rattle.std.proofs.lemmas.Bool.{leb-true, le-leb, eqb-true, eq-eqb}
 use Rattle.ads_formats.specs.Numbers.{number32}
 use Rattle.ads_formats.proofs.EntryLemmas.{both}
 use Rattle.type_upload.specs.Places.{HasFields}
-use Rattle.type_upload.specs.Reading.{end_of_name, end_of_type, end_of_comment, end_of_fields, is_fields}
+use Rattle.ads_formats.specs.TypeEntryReading.{end_of_name, end_of_type, end_of_comment, end_of_fields, is_fields}
 
 pub fields_of_test : (bytes : List ℕ) → is_fields bytes ≡ true → HasFields bytes
 unfolding is_fields

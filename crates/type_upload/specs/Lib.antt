@@ -1,4 +1,3 @@
-pub mod Reading
 pub mod Entry
 pub mod Places
 pub mod Layouts

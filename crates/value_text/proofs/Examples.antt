@@ -2,8 +2,7 @@
 use Rattle.std.proofs.Common.{◌≡◌, [], ◌∷◌, codes, refl}
 use Rattle.std.specs.Fmt.{digits}
 use Rattle.hex.specs.Hex.{encode_with}
-use Rattle.value_text.specs.declared.form.Form.TheVariants as form
-use Rattle.value_text.specs.ValueText.{form_of, signed_text, before_nul, quoted_byte, quoted, text_of, value_text}
+use Rattle.ads_formats.specs.ValueText.{Hexadecimal, form_of, signed_text, before_nul, quoted_byte, quoted, text_of, value_text}
 
 -- DINT 42, SINT -128, INT -2
 a_dint : value_text 3 (42 ∷ 0 ∷ 0 ∷ 0 ∷ []) ≡ codes "42"
@@ -37,7 +36,7 @@ a_structure : value_text 65 (222 ∷ 173 ∷ []) ≡ codes "16#dead"
 unfolding form_of text_of encode_with
 a_structure = refl
 
-of_another_size : form_of 3 2 ≡ form.Hexadecimal
+of_another_size : form_of 3 2 ≡ Hexadecimal
 unfolding form_of
 of_another_size = refl
 

@@ -6,9 +6,7 @@ use Rattle.std.proofs.lemmas.Fmt.{decimal_injective}
 use Rattle.std.proofs.lemmas.List.{length-append, length-replicate}
 use Rattle.hex.proofs.HexLemmas.{decode_of-encode_lower, decode_of-same}
 use Rattle.ads_frames.specs.Number.{number_of, AreBytes}
-use Rattle.value_text.specs.declared.form.Form.{Form}
-use Rattle.value_text.specs.declared.form.Form.TheVariants as form
-use Rattle.value_text.specs.ValueText.{is_signed, is_unsigned, form_of, signed_text, before_nul, quoted, truth_text, text_of, IsNulFree, IsFilledTo, IsReadAs, IsValueOf}
+use Rattle.ads_formats.specs.ValueText.{ValueForm, Signed, Unsigned, Truth, Quoted, Hexadecimal, is_signed, is_unsigned, form_of, signed_text, before_nul, quoted, truth_text, text_of, IsNulFree, IsFilledTo, IsReadAs, IsValueOf}
 use Rattle.value_text.specs.Parts.{IsNumberSize, HasForm}
 use Rattle.std.specs.Char.{to_ascii_lowercase}
 use Rattle.value_text.specs.Laws.{value_again, in_lower_case}
@@ -33,7 +31,7 @@ HasForm-form_of id size = elim (cases_Bool (is_signed id size)) [
   ]
 ]
   where
-    others : (id size : ℕ) → HasForm (cond (eqb id 33 && eqb size 1) form.Truth (cond (eqb id 30 && ltb 0 size) form.Quoted form.Hexadecimal)) size
+    others : (id size : ℕ) → HasForm (cond (eqb id 33 && eqb size 1) Truth (cond (eqb id 30 && ltb 0 size) Quoted Hexadecimal)) size
     others id size = elim (cases_Bool (eqb id 33 && eqb size 1)) [
       | inl e ↦ rw e (eqb-true size 1 (and_parts (eqb id 33) (eqb size 1) e).1)
       | inr e ↦ elim (cases_Bool (eqb id 30 && ltb 0 size)) [
@@ -88,29 +86,29 @@ filled-same : (size : ℕ) (content c a b : List ℕ) → c ≡ content → IsFi
 filled-same size content c a b same f g =
     f.filled ∙ ap (λ x. x ++ replicate (size - length x) 0) (sym same) ∙ sym g.filled
 
-quoted_one : (text a b : List ℕ) → length a ≡ length b → IsReadAs form.Quoted text a → IsReadAs form.Quoted text b → a ≡ b
+quoted_one : (text a b : List ℕ) → length a ≡ length b → IsReadAs Quoted text a → IsReadAs Quoted text b → a ≡ b
 quoted_one text a b len f g =
     let same = quoted-same f.0 g.0 (sym f.1 ∙ g.1) in
     filled-same (length a) f.0 g.0 a b same f.2 (rw (sym len) at g.2)
 
-one_value : (f : Form) (text a b : List ℕ) → HasForm f (length a) → length a ≡ length b → AreBytes a → AreBytes b → IsReadAs f text a → IsReadAs f text b → a ≡ b
+one_value : (f : ValueForm) (text a b : List ℕ) → HasForm f (length a) → length a ≡ length b → AreBytes a → AreBytes b → IsReadAs f text a → IsReadAs f text b → a ≡ b
 unfolding text_of
-one_value form.Signed text a b has len small_a small_b f g =
+one_value Signed text a b has len small_a small_b f g =
     let limit = number_limit (length a) has in
     let range = ap (λ k. 256 ^ k) len in
     number_of-same a b small_a small_b len
     (signed_text-same (256 ^ length a) (number_of a) (number_of b) limit (number_of-lt a small_a) (omega (arith, range, number_of-lt b small_b))
     (sym f ∙ g ∙ ap (λ r. signed_text r (number_of b)) (sym range)))
-one_value form.Unsigned text a b has len small_a small_b f g =
+one_value Unsigned text a b has len small_a small_b f g =
     let limit = number_limit (length a) has in
     let range = ap (λ k. 256 ^ k) len in
     number_of-same a b small_a small_b len
     (decimal_injective (number_of a) (number_of b) (omega (arith, limit, number_of-lt a small_a)) (omega (arith, limit, range, number_of-lt b small_b)) (sym f ∙ g))
-one_value form.Truth text a b has len small_a small_b f g =
+one_value Truth text a b has len small_a small_b f g =
     let same = truth-same (get_or a 0 0) (get_or b 0 0) f.1 g.1 (sym f.0 ∙ g.0) in
     one_byte a has ∙ ap (λ x. x ∷ []) same ∙ sym (one_byte b (sym len ∙ has))
-one_value form.Quoted text a b has len small_a small_b f g = quoted_one text a b len f g
-one_value form.Hexadecimal text a b has len small_a small_b f g = decode_of-same (drop 3 text) a b f.1 g.1
+one_value Quoted text a b has len small_a small_b f g = quoted_one text a b len f g
+one_value Hexadecimal text a b has len small_a small_b f g = decode_of-same (drop 3 text) a b f.1 g.1
 
 pub has_one_value : (id size : ℕ) (text a b : List ℕ) → AreBytes a → AreBytes b → IsValueOf id size text a → IsValueOf id size text b → a ≡ b
 has_one_value id size text a b small_a small_b f g =
@@ -129,16 +127,16 @@ before_nul-free (b ∷ bs) = elim (cases_Bool (eqb b 0)) [
 length-again : (content : List ℕ) (size : ℕ) → length content < size → length (content ++ replicate (size - length content) 0) ≡ size
 length-again content size room = simp (length-append, length-replicate) (omega arith)
 
-again : (f : Form) (value : List ℕ) → HasForm f (length value) → AreBytes value → (f ≡ form.Quoted → length (before_nul value) < length value)
+again : (f : ValueForm) (value : List ℕ) → HasForm f (length value) → AreBytes value → (f ≡ Quoted → length (before_nul value) < length value)
     → (length (value_again f value) ≡ length value) × IsReadAs f (text_of f value) (value_again f value)
 unfolding text_of
-again form.Signed value has small nul = (refl, refl)
-again form.Unsigned value has small nul = (refl, refl)
-again form.Truth value has small nul = elim (cases_Bool (eqb (get_or value 0 0) 0)) [
+again Signed value has small nul = (refl, refl)
+again Unsigned value has small nul = (refl, refl)
+again Truth value has small nul = elim (cases_Bool (eqb (get_or value 0 0) 0)) [
   | inl e ↦ rw e (sym has, (refl, omega arith))
   | inr e ↦ rw e (sym has, (refl, omega arith))
 ]
-again form.Quoted value has small nul =
+again Quoted value has small nul =
     let content = before_nul value in
     let len = length-again content (length value) (nul refl) in (
       len,
@@ -152,23 +150,23 @@ again form.Quoted value has small nul =
         },
       ),
     )
-again form.Hexadecimal value has small nul = (refl, (refl, decode_of-encode_lower value small))
+again Hexadecimal value has small nul = (refl, (refl, decode_of-encode_lower value small))
 
-pub is_read_again : (id : ℕ) (value : List ℕ) → AreBytes value → (form_of id (length value) ≡ form.Quoted → length (before_nul value) < length value)
+pub is_read_again : (id : ℕ) (value : List ℕ) → AreBytes value → (form_of id (length value) ≡ Quoted → length (before_nul value) < length value)
     → IsValueOf id (length value) (text_of (form_of id (length value)) value) (value_again (form_of id (length value)) value)
 is_read_again id value small nul =
     let read = again (form_of id (length value)) value (HasForm-form_of id (length value)) small nul in
     record { sized = read.0; read_as = read.1 }
 
-pub is_refused : (f : Form) (value other : List ℕ) → f ≡ form.Quoted → before_nul value ≡ value → length other ≡ length value → IsReadAs f (text_of f value) other → ⊥
+pub is_refused : (f : ValueForm) (value other : List ℕ) → f ≡ Quoted → before_nul value ≡ value → length other ≡ length value → IsReadAs f (text_of f value) other → ⊥
 unfolding text_of
-is_refused form.Signed value other e full len read = cc e
-is_refused form.Unsigned value other e full len read = cc e
-is_refused form.Truth value other e full len read = cc e
-is_refused form.Hexadecimal value other e full len read = cc e
-is_refused form.Quoted value other e full len read = refused read
+is_refused Signed value other e full len read = cc e
+is_refused Unsigned value other e full len read = cc e
+is_refused Truth value other e full len read = cc e
+is_refused Hexadecimal value other e full len read = cc e
+is_refused Quoted value other e full len read = refused read
   where
-    refused : (content : List ℕ) × (text_of form.Quoted value ≡ quoted content) × IsFilledTo (length other) content other → ⊥
+    refused : (content : List ℕ) × (text_of Quoted value ≡ quoted content) × IsFilledTo (length other) content other → ⊥
     refused read =
         let same = quoted-same (before_nul value) read.0 read.1 in
         omega (arith, read.2.room, ap length (same ∙ full))
@@ -187,11 +185,11 @@ before_nul-of_filled size content value f =
     let room : size - length content ≡ suc (size - length content - 1) = omega (arith, f.room) in
     ap before_nul (f.filled ∙ ap (λ k. content ++ replicate k 0) room) ∙ before_nul-filled content (size - length content - 1) f.no_nul
 
-pub is_written_again : (f : Form) (text value : List ℕ) → IsReadAs f text value → text_of f value ≡ in_lower_case f text
+pub is_written_again : (f : ValueForm) (text value : List ℕ) → IsReadAs f text value → text_of f value ≡ in_lower_case f text
 unfolding text_of
-is_written_again form.Signed text value read = sym read
-is_written_again form.Unsigned text value read = sym read
-is_written_again form.Truth text value read = sym read.0
-is_written_again form.Quoted text value read = ap quoted (before_nul-of_filled (length value) read.0 value read.2) ∙ sym read.1
-is_written_again form.Hexadecimal text value read =
+is_written_again Signed text value read = sym read
+is_written_again Unsigned text value read = sym read
+is_written_again Truth text value read = sym read.0
+is_written_again Quoted text value read = ap quoted (before_nul-of_filled (length value) read.0 value read.2) ∙ sym read.1
+is_written_again Hexadecimal text value read =
     ap (λ x. codes "16#" ++ x) (encode_lower-decode_of (drop 3 text) value read.1) ∙ ap (λ x. take 3 x ++ map to_ascii_lowercase (drop 3 text)) (sym read.0)

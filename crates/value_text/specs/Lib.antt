@@ -1,3 +1,3 @@
-pub mod ValueText
 pub mod Parts
 pub mod Laws
+pub mod Forms

@@ -1,21 +1,19 @@
 -- What the parts of writing and reading answer. Private: no public clause cites this file.
 use Rattle.std.specs.Prelude.{◌≡◌, ◌⊎◌, ℕ, ◌<◌, ◌/◌, ◌%◌, false, List, ◌++◌, length, Option, Some, None}
 use Rattle.ads_frames.specs.Number.{AreBytes}
-use Rattle.value_text.specs.declared.form.Form.{Form}
-use Rattle.value_text.specs.declared.form.Form.TheVariants as form
-use Rattle.value_text.specs.ValueText.{is_plain, upper_digit, IsReadAs}
+use Rattle.ads_formats.specs.ValueText.{ValueForm, Signed, Unsigned, Truth, Quoted, Hexadecimal, is_plain, upper_digit, IsReadAs}
 
 -- the sizes of numbers
 abbrev pub IsNumberSize : ℕ → Type 0
 IsNumberSize size = (size ≡ 1) ⊎ ((size ≡ 2) ⊎ ((size ≡ 4) ⊎ (size ≡ 8)))
 
 -- the sizes that a form can have
-abbrev pub HasForm : Form → ℕ → Type 0
-HasForm form.Signed size = IsNumberSize size
-HasForm form.Unsigned size = IsNumberSize size
-HasForm form.Truth size = size ≡ 1
-HasForm form.Quoted size = 0 < size
-HasForm form.Hexadecimal size = Unit {0}
+abbrev pub HasForm : ValueForm → ℕ → Type 0
+HasForm Signed size = IsNumberSize size
+HasForm Unsigned size = IsNumberSize size
+HasForm Truth size = size ≡ 1
+HasForm Quoted size = 0 < size
+HasForm Hexadecimal size = Unit {0}
 
 -- the bytes that stood before, and others behind them
 abbrev pub Extends : List ℕ → List ℕ → Type 0
@@ -29,6 +27,6 @@ pub record IsEscaped (high low byte : ℕ) : Type 0 where
   pub low_digit : low ≡ upper_digit (byte % 16)
 
 -- the value that a text is read as in a form, or that there is none
-abbrev pub Answers : Form → ℕ → List ℕ → Option (List ℕ) → Type 0
+abbrev pub Answers : ValueForm → ℕ → List ℕ → Option (List ℕ) → Type 0
 Answers f size text (Some value) = (length value ≡ size) × IsReadAs f text value
 Answers f size text None = (value : List ℕ) → AreBytes value → length value ≡ size → IsReadAs f text value → ⊥

@@ -2,7 +2,7 @@
 
 ghost use Rattle.std.specs.Prelude.{◌≡◌, ◌≢◌, ℕ, ◌*◌, ◌^◌, ◌<◌, ◌≤◌, ◌++◌, ◌∷◌, length, decimal, slice_index, ◌==◌, ◌-◌, IsTrue, IfOk, IfSome, IsNone, OnOk, OnErr};
 ghost use Rattle.ads_frames.specs.Number.{number_of};
-ghost use Rattle.value_text.specs.ValueText.{text_of, signed_text};
+ghost use Rattle.ads_formats.specs.ValueText.{Signed, Unsigned, text_of, signed_text};
 ghost use Rattle.value_text.specs.Parts.{IsNumberSize, Answers};
 
 use crate::form::Form;
@@ -10,10 +10,10 @@ use ads_base::{NoMemory, Octets, get16, get32, get64, put16, put32, put64, read_
 use std::alloc::Global;
 
 /// Appends the text of a signed number.
-#[tactic(auto, unfolding(crate::specs::ValueText::text_of, crate::specs::ValueText::signed_text))]
+#[tactic(auto, unfolding(ads_formats::specs::ValueText::text_of, ads_formats::specs::ValueText::signed_text))]
 pub(crate) fn put_signed(alloc: Global, bytes: &[u8], out: &mut Octets) -> Result<(), NoMemory>
     requires size { IsNumberSize (length bytes.now) }
-    ensures ok { OnOk result (out.new ≡ out.old ++ text_of Form.Signed bytes.now) }
+    ensures ok { OnOk result (out.new ≡ out.old ++ text_of Signed bytes.now) }
     ensures no_memory { OnErr result (out.new ≡ out.old) }
 {
     let n = number(bytes);
@@ -26,10 +26,10 @@ pub(crate) fn put_signed(alloc: Global, bytes: &[u8], out: &mut Octets) -> Resul
 }
 
 /// Appends the text of an unsigned number.
-#[tactic(auto, unfolding(crate::specs::ValueText::text_of))]
+#[tactic(auto, unfolding(ads_formats::specs::ValueText::text_of))]
 pub(crate) fn put_unsigned(alloc: Global, bytes: &[u8], out: &mut Octets) -> Result<(), NoMemory>
     requires size { IsNumberSize (length bytes.now) }
-    ensures ok { OnOk result (out.new ≡ out.old ++ text_of Form.Unsigned bytes.now) }
+    ensures ok { OnOk result (out.new ≡ out.old ++ text_of Unsigned bytes.now) }
     ensures no_memory { OnErr result (out.new ≡ out.old) }
 {
     put_decimal(alloc, number(bytes), out)
@@ -54,14 +54,14 @@ fn put_negative(alloc: Global, n: u64, out: &mut Octets) -> Result<(), NoMemory>
 }
 
 /// The signed number of a text.
-#[tactic(auto, unfolding(crate::specs::ValueText::text_of))]
+#[tactic(auto, unfolding(ads_formats::specs::ValueText::text_of))]
 pub(crate) fn read_signed(
     alloc: Global,
     size: usize,
     text: &[u8],
 ) -> Result<Option<Octets>, NoMemory>
     requires { IsNumberSize size }
-    ensures { IfOk result (Answers Form.Signed size text.now) }
+    ensures { IfOk result (Answers Signed size text.now) }
 {
     match signed_number(half_of(size), text) {
         None => Ok(None),
@@ -73,14 +73,14 @@ pub(crate) fn read_signed(
 }
 
 /// The unsigned number of a text.
-#[tactic(auto, unfolding(crate::specs::ValueText::text_of))]
+#[tactic(auto, unfolding(ads_formats::specs::ValueText::text_of))]
 pub(crate) fn read_unsigned(
     alloc: Global,
     size: usize,
     text: &[u8],
 ) -> Result<Option<Octets>, NoMemory>
     requires { IsNumberSize size }
-    ensures { IfOk result (Answers Form.Unsigned size text.now) }
+    ensures { IfOk result (Answers Unsigned size text.now) }
 {
     match unsigned_number(half_of(size), text) {
         None => Ok(None),

@@ -2,7 +2,7 @@
 
 ghost use Rattle.std.specs.Prelude.{◌≡◌, ◌≢◌, ◌+◌, ◌*◌, ◌/◌, ◌%◌, ◌<◌, ◌≤◌, ℕ, List, [], ◌∷◌, ◌++◌, length, slice_index, IsTrue, ◌↔◌, IfOk, IfSome, IsNone, OnOk, OnErr};
 ghost use Rattle.ads_frames.specs.Number.{AreBytes};
-ghost use Rattle.value_text.specs.ValueText.{before_nul, is_plain, upper_digit, quoted_byte, quoted, IsNulFree, IsFilledTo, text_of};
+ghost use Rattle.ads_formats.specs.ValueText.{Quoted, before_nul, is_plain, upper_digit, quoted_byte, quoted, IsNulFree, IsFilledTo, text_of};
 ghost use Rattle.value_text.specs.Parts.{Answers, Extends, IsEscaped};
 
 use crate::form::Form;
@@ -10,9 +10,9 @@ use ads_base::{NoMemory, Octets};
 use std::alloc::Global;
 
 /// Appends the bytes before the first NUL, between single quotes.
-#[tactic(auto, unfolding(crate::specs::ValueText::text_of))]
+#[tactic(auto, unfolding(ads_formats::specs::ValueText::text_of))]
 pub(crate) fn put_quoted(alloc: Global, bytes: &[u8], out: &mut Octets) -> Result<(), NoMemory>
-    ensures ok { OnOk result (out.new ≡ out.old ++ text_of Form.Quoted bytes.now) }
+    ensures ok { OnOk result (out.new ≡ out.old ++ text_of Quoted bytes.now) }
     ensures no_memory { OnErr result (out.new ≡ out.old) }
 {
     let before = out.len();
@@ -36,7 +36,7 @@ fn append_quoted(alloc: Global, content: &[u8], out: &mut Octets) -> Result<(), 
     Ok(())
 }
 
-#[tactic(auto, unfolding(crate::specs::ValueText::quoted_byte))]
+#[tactic(auto, unfolding(ads_formats::specs::ValueText::quoted_byte))]
 fn append_byte(alloc: Global, byte: u8, out: &mut Octets) -> Result<(), NoMemory>
     ensures ok { OnOk result (out.new ≡ out.old ++ quoted_byte byte) }
     ensures no_memory { OnErr result (out.new ≡ out.old) }
@@ -87,7 +87,7 @@ pub(crate) fn read_quoted(
     size: usize,
     text: &[u8],
 ) -> Result<Option<Octets>, NoMemory>
-    ensures { IfOk result (Answers Form.Quoted size text.now) }
+    ensures { IfOk result (Answers Quoted size text.now) }
 {
     match unquoted(alloc, text)? {
         None => Ok(None),

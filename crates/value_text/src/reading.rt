@@ -2,7 +2,8 @@
 
 ghost use Rattle.std.specs.Prelude.{◌≡◌, ◌≢◌, ◌≤◌, ℕ, List, ◌++◌, length, drop, codes, IsTrue, ◌↔◌, IfOk, IfSome, IsNone};
 ghost use Rattle.ads_frames.specs.Number.{AreBytes};
-ghost use Rattle.value_text.specs.ValueText.{IsValueOf};
+ghost use Rattle.ads_formats.specs.ValueText.{Hexadecimal, Truth, IsValueOf};
+ghost use Rattle.value_text.specs.Forms.{form_seen};
 ghost use Rattle.value_text.specs.Parts.{Answers, HasForm};
 
 use crate::form::{Form, form_of_type};
@@ -40,8 +41,8 @@ fn read_form(
     size: usize,
     text: &[u8],
 ) -> Result<Option<Octets>, NoMemory>
-    requires { HasForm form size }
-    ensures { IfOk result (Answers form size text.now) }
+    requires { HasForm (form_seen form) size }
+    ensures { IfOk result (Answers (form_seen form) size text.now) }
 {
     match form {
         Form::Signed => read_signed(alloc, size, text),
@@ -52,9 +53,9 @@ fn read_form(
     }
 }
 
-#[tactic(auto, unfolding(crate::specs::ValueText::text_of))]
+#[tactic(auto, unfolding(ads_formats::specs::ValueText::text_of))]
 fn read_truth(alloc: Global, text: &[u8]) -> Result<Option<Octets>, NoMemory>
-    ensures { IfOk result (Answers Form.Truth 1 text.now) }
+    ensures { IfOk result (Answers Truth 1 text.now) }
 {
     if text == b"FALSE".as_slice() {
         let value = Octets::copy_of(alloc, &[0])?;
@@ -68,7 +69,7 @@ fn read_truth(alloc: Global, text: &[u8]) -> Result<Option<Octets>, NoMemory>
 }
 
 fn read_hexadecimal(alloc: Global, size: usize, text: &[u8]) -> Result<Option<Octets>, NoMemory>
-    ensures { IfOk result (Answers Form.Hexadecimal size text.now) }
+    ensures { IfOk result (Answers Hexadecimal size text.now) }
 {
     if !begins_hexadecimal(text) {
         return Ok(None);

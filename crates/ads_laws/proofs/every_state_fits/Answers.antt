@@ -1,4 +1,4 @@
-use Rattle.ads_laws.proofs.Accepted.{accepted_are_sound}
+use Rattle.ads_plant.proofs.SoundLemmas.{accepted_are_sound}
 use Rattle.ads_laws.proofs.EveryState.{every_state_fits}
 use Rattle.ads_laws.proofs.every_state_fits.Goals as goal
 

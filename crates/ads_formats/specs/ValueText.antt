@@ -2,8 +2,14 @@
 use Rattle.std.specs.Prelude.{◌≡◌, ℕ, ◌+◌, ◌-◌, ◌*◌, ◌/◌, ◌%◌, ◌^◌, ◌<◌, Bool, ◌&&◌, ◌||◌, not, List, [], ◌∷◌, ◌++◌, length, drop, replicate, flat_map, slice_index, codes, decimal, nat_lt, nat_le, ◌==◌, if◌then◌else◌, Ok}
 use Rattle.hex.specs.Hex.{encode_lower, decode_of}
 use Rattle.ads_frames.specs.Number.{number_of}
-use Rattle.value_text.specs.declared.form.Form.{Form}
-use Rattle.value_text.specs.declared.form.Form.TheVariants as form
+
+-- a signed and an unsigned decimal number, `FALSE` or `TRUE`, a text between single quotes, `16#` and two digits a byte
+pub data ValueForm : Type 0 where
+  Signed : ValueForm
+  Unsigned : ValueForm
+  Truth : ValueForm
+  Quoted : ValueForm
+  Hexadecimal : ValueForm
 
 -- the type ids of signed and of unsigned numbers, by their sizes
 abbrev pub is_signed : ℕ → ℕ → Bool
@@ -13,13 +19,13 @@ abbrev pub is_unsigned : ℕ → ℕ → Bool
 is_unsigned id size = (id == 17 && size == 1) || (id == 18 && size == 2) || (id == 19 && size == 4) || (id == 21 && size == 8)
 
 -- how a value is written: an id with another size than its own is hexadecimal, as every other id is
-unfoldable pub form_of : ℕ → ℕ → Form
+unfoldable pub form_of : ℕ → ℕ → ValueForm
 form_of id size =
-    if is_signed id size then form.Signed
-    else if is_unsigned id size then form.Unsigned
-    else if id == 33 && size == 1 then form.Truth
-    else if id == 30 && nat_lt 0 size then form.Quoted
-    else form.Hexadecimal
+    if is_signed id size then Signed
+    else if is_unsigned id size then Unsigned
+    else if id == 33 && size == 1 then Truth
+    else if id == 30 && nat_lt 0 size then Quoted
+    else Hexadecimal
 
 -- a number of two's complement: what is below half of the range is itself, and all else is minus
 -- what it lacks to the range; 45 is `-`
@@ -51,12 +57,12 @@ abbrev pub truth_text : ℕ → List ℕ
 truth_text byte = if byte == 0 then codes "FALSE" else codes "TRUE"
 
 -- the text of a value in a form
-unfoldable pub text_of : Form → List ℕ → List ℕ
-text_of form.Signed value = signed_text (256 ^ length value) (number_of value)
-text_of form.Unsigned value = decimal (number_of value)
-text_of form.Truth value = truth_text (slice_index value 0)
-text_of form.Quoted value = quoted (before_nul value)
-text_of form.Hexadecimal value = codes "16#" ++ encode_lower value
+unfoldable pub text_of : ValueForm → List ℕ → List ℕ
+text_of Signed value = signed_text (256 ^ length value) (number_of value)
+text_of Unsigned value = decimal (number_of value)
+text_of Truth value = truth_text (slice_index value 0)
+text_of Quoted value = quoted (before_nul value)
+text_of Hexadecimal value = codes "16#" ++ encode_lower value
 
 -- the text of a value by its type id
 abbrev pub value_text : ℕ → List ℕ → List ℕ
@@ -74,12 +80,12 @@ pub record IsFilledTo (size : ℕ) (content value : List ℕ) : Type 0 where
 
 -- a text is read as a value: it is the value's text, but that hexadecimal digits may stand in either
 -- case. A truth value is 0 or 1, and behind a string stand NULs
-abbrev pub IsReadAs : Form → List ℕ → List ℕ → Type 0
-IsReadAs form.Signed text value = text ≡ text_of form.Signed value
-IsReadAs form.Unsigned text value = text ≡ text_of form.Unsigned value
-IsReadAs form.Truth text value = (text ≡ text_of form.Truth value) × (slice_index value 0 < 2)
-IsReadAs form.Quoted text value = (content : List ℕ) × (text ≡ quoted content) × IsFilledTo (length value) content value
-IsReadAs form.Hexadecimal text value = (text ≡ codes "16#" ++ drop 3 text) × (decode_of (drop 3 text) ≡ Ok value)
+abbrev pub IsReadAs : ValueForm → List ℕ → List ℕ → Type 0
+IsReadAs Signed text value = text ≡ text_of Signed value
+IsReadAs Unsigned text value = text ≡ text_of Unsigned value
+IsReadAs Truth text value = (text ≡ text_of Truth value) × (slice_index value 0 < 2)
+IsReadAs Quoted text value = (content : List ℕ) × (text ≡ quoted content) × IsFilledTo (length value) content value
+IsReadAs Hexadecimal text value = (text ≡ codes "16#" ++ drop 3 text) × (decode_of (drop 3 text) ≡ Ok value)
 
 -- a value of a type id and a size that a text is read as
 pub record IsValueOf (id size : ℕ) (text value : List ℕ) : Type 0 where
