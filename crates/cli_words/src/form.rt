@@ -1,12 +1,11 @@
 //! The commands by their names, and the options that each may have.
 
-ghost use Rattle.std.specs.Prelude.{◌≡◌};
+ghost use Rattle.std.specs.Prelude.{◌≡◌, bytes_eq, map};
 ghost use Rattle.std.specs.List.{list_any};
-ghost use Rattle.std.specs.Prelude.{bytes_eq};
-ghost use Rattle.cli_words.specs.Forms.{form_of, options_of, server_options, client_options, sample_options};
+ghost use Rattle.cli_words.specs.Forms.{form_in, form_of, options_of, server_options, client_options, sample_options};
 
 /// A command's name.
-#[derive(Clone, Copy, Debug, PartialEq, Eq)]
+#[derive(Clone, Copy)]
 pub(crate) enum Form {
     Selftest,
     Check,
@@ -27,61 +26,43 @@ pub(crate) enum Form {
     Record,
 }
 
+// The commands by their names.
+const FORMS: [(&str, Form); 17] = [
+    ("selftest", Form::Selftest),
+    ("check", Form::Check),
+    ("replay", Form::Replay),
+    ("serve", Form::Serve),
+    ("load", Form::Load),
+    ("info", Form::Info),
+    ("state", Form::State),
+    ("list", Form::List),
+    ("control", Form::Control),
+    ("get", Form::Get),
+    ("set", Form::Set),
+    ("watch", Form::Watch),
+    ("migrate", Form::Migrate),
+    ("show", Form::Show),
+    ("relay", Form::Relay),
+    ("keep", Form::Keep),
+    ("record", Form::Record),
+];
+
 /// The command of a name.
 #[tactic(auto, unfolding(crate::specs::Forms::form_of))]
 pub(crate) fn form_of_name(name: &str) -> Option<Form>
     ensures { result ≡ form_of name.now }
 {
-    if name == "selftest" {
-        return Some(Form::Selftest);
-    }
-    if name == "check" {
-        return Some(Form::Check);
-    }
-    if name == "replay" {
-        return Some(Form::Replay);
-    }
-    if name == "serve" {
-        return Some(Form::Serve);
-    }
-    if name == "load" {
-        return Some(Form::Load);
-    }
-    if name == "info" {
-        return Some(Form::Info);
-    }
-    if name == "state" {
-        return Some(Form::State);
-    }
-    if name == "list" {
-        return Some(Form::List);
-    }
-    if name == "control" {
-        return Some(Form::Control);
-    }
-    if name == "get" {
-        return Some(Form::Get);
-    }
-    if name == "set" {
-        return Some(Form::Set);
-    }
-    if name == "watch" {
-        return Some(Form::Watch);
-    }
-    if name == "migrate" {
-        return Some(Form::Migrate);
-    }
-    if name == "show" {
-        return Some(Form::Show);
-    }
-    if name == "relay" {
-        return Some(Form::Relay);
-    }
-    if name == "keep" {
-        return Some(Form::Keep);
-    }
-    if name == "record" {
-        return Some(Form::Record);
+    form_among(&FORMS, name)
+}
+
+// The command of a name among these.
+fn form_among(rows: &[(&str, Form)], name: &str) -> Option<Form>
+    ensures { result ≡ form_in (map (λ row. (row.0.now, row.1)) rows.now) name.now }
+{
+    for (word, form) in rows {
+        if name == *word {
+            return Some(*form);
+        }
     }
     None
 }

@@ -1,5 +1,6 @@
--- Which groups name bytes, bits or the size of an area. No public clause cites it.
-use Rattle.std.specs.Prelude.{Option, Some, None}
+-- Which groups name bytes, bits or the size of an area.
+use Rattle.std.specs.Prelude.{ℕ, Option, Some, None}
+use Rattle.ads_plant.specs.Description.{Area, Inputs, Outputs, Memory, Process}
 use Rattle.ads_formats.specs.Groups as group
 use Rattle.type_layout.specs.Descriptions.{area_of}
 use Rattle.index_groups.specs.declared.groups.AreaGroup.{AreaGroup}
@@ -16,3 +17,10 @@ area_group_in (Some (group.AreaBytes area)) = Some (group.AreaBytes area)
 area_group_in (Some (group.AreaBit area)) = Some (group.AreaBit area)
 area_group_in (Some (group.AreaSize area)) = Some (group.AreaSize area)
 area_group_in _ = None
+
+-- the number of the group that names an area's bytes
+abbrev pub byte_number : Area → ℕ
+byte_number Inputs = group.input_bytes
+byte_number Outputs = group.output_bytes
+byte_number Memory = group.memory_bytes
+byte_number Process = group.process_bytes

@@ -1,22 +1,26 @@
 //! The index groups of areas. Beckhoff Information System, "Index Group/Offset Specification".
 
-ghost use Rattle.std.specs.Prelude.{◌≡◌, option_map};
-ghost use Rattle.ads_formats.specs.Groups.{group_of};
-ghost use Rattle.index_groups.specs.AreaGroups.{group_meant, area_group_in};
+ghost use Rattle.std.specs.Prelude.{◌≡◌, option_map, Some};
+ghost use Rattle.ads_formats.specs.Groups.{AreaBytes, group_of};
+ghost use Rattle.type_layout.specs.Descriptions.{area_of};
+ghost use Rattle.index_groups.specs.AreaGroups.{group_meant, area_group_in, byte_number};
 
 use type_layout::Area;
 
-// What a group names: an area's bytes, its bits, or its size.
-#[derive(Clone, Copy)]
-pub(crate) enum AreaGroup {
+/// What an index group of an area names.
+#[derive(Clone, Copy, Debug, PartialEq, Eq)]
+pub enum AreaGroup {
+    /// The area's bytes.
     Bytes(Area),
+    /// The area's bits.
     Bit(Area),
+    /// The area's size.
     Size(Area),
 }
 
-// What a group names, where it is one of areas.
+/// What a group names, where it is one of an area. None exactly for every other group.
 #[tactic(auto, unfolding(ads_formats::specs::Groups::group_in, ads_formats::specs::Groups::group_of))]
-pub(crate) fn area_group(group: u32) -> Option<AreaGroup>
+pub fn area_group(group: u32) -> Option<AreaGroup>
     ensures { option_map group_meant result ≡ area_group_in (group_of group) }
 {
     match group {
@@ -32,5 +36,19 @@ pub(crate) fn area_group(group: u32) -> Option<AreaGroup>
         0xF031 => Some(AreaGroup::Bit(Area::Outputs)),
         0xF035 => Some(AreaGroup::Size(Area::Outputs)),
         _ => None,
+    }
+}
+
+/// The group that names an area's bytes.
+#[tactic(auto, unfolding(ads_formats::specs::Groups::group_in, ads_formats::specs::Groups::group_of))]
+pub fn byte_group(area: Area) -> u32
+    ensures number { result ≡ byte_number (area_of area) }
+    ensures group { group_of result ≡ Some (AreaBytes (area_of area)) }
+{
+    match area {
+        Area::Inputs => 0xF020,
+        Area::Outputs => 0xF030,
+        Area::Memory => 0x4020,
+        Area::Process => 0x4040,
     }
 }

@@ -9,4 +9,5 @@ mod rule;
 mod tests;
 
 pub use access::Reach;
+pub use groups::{AreaGroup, area_group, byte_group};
 pub use rule::reach;
