@@ -4,7 +4,7 @@ use crate::Text;
 use ads_base::NetId;
 
 /// Who asks whom.
-#[derive(Debug, Drop)]
+#[derive(Drop)]
 pub struct ClientWords {
     /// The client's own NetId, `--me`.
     pub me: NetId,
@@ -15,7 +15,7 @@ pub struct ClientWords {
 }
 
 /// Whom a client asks.
-#[derive(Debug, Drop)]
+#[derive(Drop)]
 pub enum PeerWords {
     /// A server over TCP: its address `HOST:PORT`, `--to`, and its NetId, `--netid`.
     To {

@@ -3,7 +3,7 @@
 use crate::{ClientWords, Text, TextList};
 
 /// A command with all that its words say. File names are not empty; NAME and VALUE have at most 65,536 bytes.
-#[derive(Debug, Drop)]
+#[derive(Drop)]
 pub enum Command {
     /// `selftest SCRIPT`
     Selftest {

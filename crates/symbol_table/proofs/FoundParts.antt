@@ -40,14 +40,15 @@ placed_none types s number comment (Some part) t = absurd t
 -- the place of a part that is told
 pub placed_some : (types : List NamedType) (s : TableSymbol) (number : ℕ) (comment : List ℕ) (o : Option TypePart) (p : Part) (answer : Found) → Tells types comment o (Some p)
     → answer.place.symbol ≡ number → area_of answer.place.area ≡ s.area → answer.place.«at» ≡ s.offset + p.first → answer.place.len ≡ type_size (tree_of types (shape_of_ref p.kind))
-    → tree_of types (shape_of_ref answer.kind) ≡ tree_of types (shape_of_ref p.kind) → answer.comment.now ≡ p.comment.now → TellsPlace types s number comment o (Some answer)
+    → shape_of_ref answer.kind ≡ shape_of_ref p.kind → answer.comment.now ≡ p.comment.now → TellsPlace types s number comment o (Some answer)
 placed_some types s number comment None p answer t symbol area offset len kind said = absurd t
 placed_some types s number comment (Some part) p answer t symbol area offset len kind said = record {
   symbol = symbol;
   area = area;
   offset = offset ∙ ap (λ (q : TypePart). s.offset + q.first) t.is;
   len = len ∙ ap (λ (q : TypePart). type_size q.type) t.is;
-  type = kind ∙ ap (λ (q : TypePart). q.type) t.is;
+  type = ap (tree_of types) kind ∙ ap (λ (q : TypePart). q.type) t.is;
+  sized = rw kind t.sound.sized;
   comment_is = said ∙ t.comment_is;
 }
 
@@ -74,7 +75,7 @@ finds_part types symbols path number s (Some part) None there e t = absurd t
 finds_part types symbols path number s (Some part) (Some answer) there e t =
     let seen : slice_get (map (plant_symbol types) symbols) answer.place.symbol ≡ Some (plant_symbol types s)
     = ap (slice_get (map (plant_symbol types) symbols)) t.symbol ∙ slice_get-map (plant_symbol types) symbols number ∙ ap (option_map (plant_symbol types)) there in
-    rw e (record { symbol = seen; area = t.area; offset = t.offset; len = t.len; type = t.type; comment = t.comment_is })
+    rw e (record { symbol = seen; area = t.area; offset = t.offset; len = t.len; type = t.type; sized = t.sized; comment = t.comment_is })
 
 pub finds_in : (types : List NamedType) (symbols : List Symbol) (path : List Step) (number count : ℕ) (s : Symbol) (result : Option Found) → slice_get symbols number ≡ Some s → count ≡ length (identifiers_of s.name)
     → find (is_named_by path) (map (plant_symbol types) symbols) ≡ Some (plant_symbol types s)

@@ -16,3 +16,5 @@ pub mod PlacedSymbols
 pub mod FoundParts
 pub mod MovedWithin
 pub mod TestTables
+pub mod RangeSearch
+pub mod DeclaredRows

@@ -56,7 +56,7 @@ begins_back : (area : Area) (at : ℕ) (s t : TableSymbol) → lies_before s t �
 begins_back area at s t before begins = begins_back-numbers (area_number s.area) (area_number t.area) (area_number area) s.offset s.size t.offset at before begins
 
 -- one index, one symbol
-one_symbol : (symbols : List TableSymbol) (numbers : List ℕ) (i j m n : ℕ) (s t : TableSymbol) → i ≡ j → slice_get numbers i ≡ Some m → slice_get numbers j ≡ Some n → slice_get symbols m ≡ Some s → slice_get symbols n ≡ Some t → s ≡ t
+pub one_symbol : (symbols : List TableSymbol) (numbers : List ℕ) (i j m n : ℕ) (s t : TableSymbol) → i ≡ j → slice_get numbers i ≡ Some m → slice_get numbers j ≡ Some n → slice_get symbols m ≡ Some s → slice_get symbols n ≡ Some t → s ≡ t
 one_symbol symbols numbers i j m n s t same gm gn sm tn =
     let number : Some m ≡ Some n = sym gm ∙ ap (slice_get numbers) same ∙ gn in
     let is_it : m ≡ n = cc in

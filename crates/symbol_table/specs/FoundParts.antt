@@ -40,6 +40,7 @@ pub record IsPlaceIn (types : List NamedType) (s : TableSymbol) (number : ℕ) (
   pub offset : answer.place.«at» ≡ s.offset + part.first
   pub len : answer.place.len ≡ type_size part.type
   pub type : tree_of types (shape_of_ref answer.kind) ≡ part.type
+  pub sized : IsSized types (shape_of_ref answer.kind)
   pub comment_is : answer.comment.now ≡ comment
 
 abbrev pub TellsPlace : List NamedType → TableSymbol → ℕ → List ℕ → Option TypePart → Option Found → Type 0

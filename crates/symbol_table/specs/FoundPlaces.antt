@@ -3,6 +3,7 @@ use Rattle.std.specs.Prelude.{◌≡◌, ◌+◌, List, Option, Some, None, slic
 use Rattle.ads_plant.specs.Listed.{NamedType}
 use Rattle.ads_plant.specs.Trees.{tree_of}
 use Rattle.ads_plant.specs.Sizes.{type_size}
+use Rattle.ads_plant.specs.AcceptedTypes.{IsSized}
 use Rattle.ads_plant.specs.World.{PlantSymbol}
 use Rattle.ads_plant.specs.Finding as plant
 use Rattle.type_layout.specs.Shapes.{shape_of_ref}
@@ -10,13 +11,15 @@ use Rattle.type_layout.specs.Descriptions.{area_of}
 use Rattle.symbol_table.specs.Comments.{comment_of_found}
 use Rattle.symbol_table.specs.declared.found.Found.{Found}
 
--- the number of the symbol among these, its area, the part's place in it and its bytes, its type and its comment
+-- the number of the symbol among these, its area, the part's place in it and its bytes, its type, which may be asked for
+-- its size, its parts and its text, and its comment
 pub record IsFound (types : List NamedType) (symbols : List PlantSymbol) (led : plant.Found) (answer : Found) : Type 0 where
   pub symbol : slice_get symbols answer.place.symbol ≡ Some led.symbol
   pub area : area_of answer.place.area ≡ led.symbol.area
   pub offset : answer.place.«at» ≡ led.symbol.offset + led.part.first
   pub len : answer.place.len ≡ type_size led.part.type
   pub type : tree_of types (shape_of_ref answer.kind) ≡ led.part.type
+  pub sized : IsSized types (shape_of_ref answer.kind)
   pub comment : answer.comment.now ≡ comment_of_found led
 
 -- an answer exactly where the path leads to something, which it tells

@@ -14,3 +14,4 @@ pub mod Tables
 pub mod TestPorts
 pub mod Tiles
 pub mod Tiling
+pub mod Ranges

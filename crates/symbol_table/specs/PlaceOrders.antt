@@ -24,10 +24,15 @@ lies_before s t =
     nat_lt (area_number s.area) (area_number t.area)
     || (is_same_area s.area t.area && nat_le (s.offset + s.size) t.offset)
 
+-- each of these symbols lies before those behind it
+abbrev pub RiseByPlace : List TableSymbol → List ℕ → Type 0
+RiseByPlace symbols numbers =
+    (i j m n : ℕ) (s t : TableSymbol) → i < j → slice_get numbers i ≡ Some m → slice_get numbers j ≡ Some n
+    → slice_get symbols m ≡ Some s → slice_get symbols n ≡ Some t → IsTrue (lies_before s t)
+
 -- the numbers of all symbols, each of which lies before those behind it
 pub record IsPlaceOrder (symbols : List TableSymbol) (numbers : List ℕ) : Type 0 where
   pub count : length numbers ≡ length symbols
   pub each : All (λ n. n < length symbols) numbers
   pub whole : (n : ℕ) → n < length symbols → Contains numbers n
-  pub rising : (i j m n : ℕ) (s t : TableSymbol) → i < j → slice_get numbers i ≡ Some m → slice_get numbers j ≡ Some n
-      → slice_get symbols m ≡ Some s → slice_get symbols n ≡ Some t → IsTrue (lies_before s t)
+  pub rising : RiseByPlace symbols numbers

@@ -7,7 +7,7 @@ use Rattle.ads_plant.specs.Description.{Area, Sizes, size_in, Symbol, Port}
 use Rattle.ads_plant.specs.AcceptedTypes.{AreTypes, LIMIT, all_pairs, is_shape, is_small_shape}
 use Rattle.ads_plant.specs.Accepted.{size_of_symbol, are_two_names, are_apart}
 
--- a symbol as the table keeps it: its name, type and place, the bytes that it has, and its comment
+-- a symbol as the table keeps it: all that the description says of it, and the bytes that it has
 pub record TableSymbol : Type 0 where
   pub name : List ℕ
   pub shape : Shape
@@ -15,6 +15,11 @@ pub record TableSymbol : Type 0 where
   pub offset : ℕ
   pub size : ℕ
   pub comment : List ℕ
+  pub persistent : Bool
+  pub read_only : Bool
+  pub initial : List ℕ
+  pub signal : Option ℕ
+  pub writers : List (List ℕ)
 
 -- the sizes of a port's areas, and its symbols in the order of the description
 pub record SymbolTable : Type 0 where
@@ -30,6 +35,26 @@ table_symbol types s = record {
   offset = s.offset;
   size = size_of_symbol types s;
   comment = s.comment;
+  persistent = s.persistent;
+  read_only = s.read_only;
+  initial = s.initial;
+  signal = s.signal;
+  writers = s.writers;
+}
+
+-- what the description says of it
+abbrev pub declared : TableSymbol → Symbol
+declared s = record {
+  name = s.name;
+  shape = s.shape;
+  area = s.area;
+  offset = s.offset;
+  comment = s.comment;
+  persistent = s.persistent;
+  read_only = s.read_only;
+  initial = s.initial;
+  signal = s.signal;
+  writers = s.writers;
 }
 
 -- the table of a port of a description with these types

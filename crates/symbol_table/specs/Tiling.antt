@@ -13,6 +13,11 @@ begins_by area at s = nat_lt (area_number s.area) (area_number area) || (is_same
 abbrev pub ends_by : Area → ℕ → TableSymbol → Bool
 ends_by area size s = not (is_same_area s.area area) || nat_le (s.offset + s.size) size
 
+-- a symbol that lies in an earlier area, or ends by this byte
+abbrev pub has_ended : Area → ℕ → TableSymbol → Bool
+has_ended area at s =
+    nat_lt (area_number s.area) (area_number area) || (is_same_area s.area area && nat_le (s.offset + s.size) at)
+
 -- P of each symbol among these first numbers of an order, and of each of the others
 abbrev pub EachBefore : List TableSymbol → List ℕ → ℕ → (TableSymbol → Type 0) → Type 0
 EachBefore symbols numbers count P =
@@ -27,6 +32,12 @@ pub record HasBegun (symbols : List TableSymbol) (numbers : List ℕ) (area : Ar
   pub within : count ≤ length numbers
   pub before : EachBefore symbols numbers count (λ s. begins_by area at s ≡ true)
   pub behind : EachBehind symbols numbers count (λ s. begins_by area at s ≡ false)
+
+-- so many symbols, and no others, end by a byte
+pub record HasEnded (symbols : List TableSymbol) (numbers : List ℕ) (area : Area) (at count : ℕ) : Type 0 where
+  pub within : count ≤ length numbers
+  pub before : EachBefore symbols numbers count (λ s. has_ended area at s ≡ true)
+  pub behind : EachBehind symbols numbers count (λ s. has_ended area at s ≡ false)
 
 -- of the symbols of the area that begin by the byte, the one with this number ends last, at `end`
 pub record EndsLast (symbols : List TableSymbol) (area : Area) (at : ℕ) (found : ℕ × ℕ) : Type 0 where

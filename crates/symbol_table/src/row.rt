@@ -5,15 +5,15 @@ ghost use Rattle.std.specs.List.{list_all};
 ghost use Rattle.ads_plant.specs.AcceptedTypes.{AreTypes};
 ghost use Rattle.type_layout.specs.Shapes.{shape_of};
 ghost use Rattle.type_layout.specs.NamedTypes.{types_of};
-ghost use Rattle.type_layout.specs.Descriptions.{symbol_of, symbols_of};
+ghost use Rattle.type_layout.specs.Descriptions.{symbol_of, symbols_of, nets_of};
 ghost use Rattle.symbol_table.specs.Tables.{table_symbol, is_typed};
 ghost use Rattle.symbol_table.specs.Rows.{symbol_of_row, symbols_of_rows};
 
 use ads_base::{NoMemory, Octets};
 use std::alloc::Global;
-use type_layout::{Area, Bounds, Shape, SymbolDesc, Types, size};
+use type_layout::{Area, Bounds, Nets, Shape, SymbolDesc, Types, size};
 
-/// What the table keeps of a symbol.
+/// A symbol as the table keeps it: all that the description says of it, and the bytes that it has.
 #[derive(Debug, Drop)]
 pub struct SymbolRow {
     pub name: Octets,
@@ -24,6 +24,14 @@ pub struct SymbolRow {
     /// The number of bytes.
     pub len: u32,
     pub comment: Octets,
+    pub persistent: bool,
+    pub read_only: bool,
+    /// The bytes that it begins with.
+    pub initial: Octets,
+    /// The signal that writes it at each tick.
+    pub signal: Option<u32>,
+    /// The machines that may write it; none named are all.
+    pub writers: Nets,
 }
 
 /// The rows of a port's symbols, in the same order.
@@ -55,6 +63,8 @@ fn row_of(alloc: Global, symbol: &SymbolDesc, types: &Types) -> Result<SymbolRow
     let name = Octets::copy_of(alloc, symbol.name.as_slice())?;
     let kind = copy_of_shape(alloc, &symbol.kind)?;
     let comment = Octets::copy_of(alloc, symbol.comment.as_slice())?;
+    let initial = Octets::copy_of(alloc, symbol.initial.as_slice())?;
+    let writers = copy_of_nets(alloc, &symbol.writers)?;
     Ok(SymbolRow {
         name,
         kind,
@@ -62,6 +72,11 @@ fn row_of(alloc: Global, symbol: &SymbolDesc, types: &Types) -> Result<SymbolRow
         at: symbol.at,
         len,
         comment,
+        persistent: symbol.persistent,
+        read_only: symbol.read_only,
+        initial,
+        signal: symbol.signal,
+        writers,
     })
 }
 
@@ -75,4 +90,11 @@ fn copy_of_shape(alloc: Global, shape: &Shape) -> Result<Shape, NoMemory>
             Ok(Shape::Array(Bounds::from_vec(copy), *elem))
         }
     }
+}
+
+fn copy_of_nets(alloc: Global, nets: &Nets) -> Result<Nets, NoMemory>
+    ensures { IfOk result (λ copy. nets_of copy ≡ nets_of nets.now) }
+{
+    let copy = nets.as_slice().to_vec(alloc)?;
+    Ok(Nets::from_vec(copy))
 }

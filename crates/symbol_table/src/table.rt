@@ -1,8 +1,9 @@
 //! The table of a port's symbols.
 
-ghost use Rattle.std.specs.Prelude.{◌≡◌, ℕ, ◌+◌, ◌-◌, ◌*◌, ◌^◌, ◌<◌, ◌≤◌, List, length, map, slice_get, Some, IfOk};
+ghost use Rattle.std.specs.Prelude.{◌≡◌, ℕ, ◌+◌, ◌-◌, ◌*◌, ◌^◌, ◌<◌, ◌≤◌, List, length, map, slice_get, Some, IfOk, All};
 ghost use Rattle.ads_plant.specs.Description.{Port, size_in};
 ghost use Rattle.ads_plant.specs.Finding.{found_of_steps};
+ghost use Rattle.ads_plant.specs.Listed.{NamedType};
 ghost use Rattle.ads_plant.specs.Parts.{part_behind};
 ghost use Rattle.ads_plant.specs.Trees.{tree_of};
 ghost use Rattle.ads_plant.specs.World.{plant_symbol};
@@ -12,6 +13,8 @@ ghost use Rattle.symbol_table.specs.Comments.{comment_behind};
 ghost use Rattle.symbol_table.specs.FoundParts.{TellsPlace};
 ghost use Rattle.symbol_table.specs.FoundPlaces.{Finds};
 ghost use Rattle.symbol_table.specs.PlaceOrders.{IsPlaceOrder};
+ghost use Rattle.symbol_table.specs.Ranges.{AreInRange};
+ghost use Rattle.symbol_table.specs.Rows.{symbols_of_rows, declared_by_rows, IsSizedRow};
 ghost use Rattle.symbol_table.specs.Tables.{TableSymbol, table_of, IsPlaced, IsTableOf, IsTableWith, number_called};
 ghost use Rattle.symbol_table.specs.Tiles.{IsTileAt};
 
@@ -19,6 +22,7 @@ use crate::by_place::place_order;
 use crate::name_order::NameOrder;
 use crate::names::names_of;
 use crate::parts::{Part, part_behind, steps_behind};
+use crate::ranges::numbers_in;
 use crate::row::{SymbolRow, rows_of};
 use crate::tiling::{size_of_area, tile_at};
 use crate::{Found, Place, Tile};
@@ -142,6 +146,33 @@ impl Table {
             area,
             at,
         )
+    }
+
+    /// The numbers of the symbols to which one of `len` bytes of an area from `at` on belongs, in the order of their
+    /// places. What lies between them belongs to no symbol. They are found by halving.
+    pub fn symbols_in(&self, area: Area, at: u32, len: u32) -> &[u32]
+        requires { at + len ≤ size_in self.now.sizes (area_of area) }
+        ensures { AreInRange self.now.symbols (area_of area) at len result.now }
+    {
+        let size = size_of_area(self.sizes, area);
+        numbers_in(
+            self.rows.as_slice(),
+            self.by_place.as_slice(),
+            size,
+            area,
+            at,
+            len,
+        )
+    }
+
+    /// The symbols in the order of the description, which numbers them from 0.
+    pub fn symbols(&self) -> &[SymbolRow]
+        ensures rows { symbols_of_rows result.now ≡ self.now.symbols }
+        ensures declared { (types : List NamedType) (port : Port) → IsTableOf types port self.now
+            → declared_by_rows result.now ≡ port.symbols }
+        ensures sized { (types : List NamedType) → IsTableWith types self.now → All (IsSizedRow types) result.now }
+    {
+        self.rows.as_slice()
     }
 
     /// The number of the symbol with this whole name, ASCII case aside.

@@ -91,8 +91,8 @@ fn gap_end(rows: &[SymbolRow], numbers: &[u32], size: u32, begun: usize, area: A
     }
 }
 
-// How many symbols begin by a byte, in the order of their places.
-fn begun(rows: &[SymbolRow], numbers: &[u32], area: Area, at: u32) -> usize
+/// How many symbols begin by a byte, in the order of their places.
+pub fn begun(rows: &[SymbolRow], numbers: &[u32], area: Area, at: u32) -> usize
     requires { IsPlaceOrder (symbols_of_rows rows.now) numbers.now }
     ensures { HasBegun (symbols_of_rows rows.now) numbers.now (area_of area) at result }
 {
@@ -169,7 +169,8 @@ fn begins_by(row: &SymbolRow, area: Area, at: u32) -> bool
     own < other || (own == other && row.at <= at)
 }
 
-fn is_same_area(a: Area, b: Area) -> bool
+/// Whether two areas are the same.
+pub fn is_same_area(a: Area, b: Area) -> bool
     ensures { result ≡ world.is_same_area (area_of a) (area_of b) }
 {
     number_of_area(a) == number_of_area(b)
