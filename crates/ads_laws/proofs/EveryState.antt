@@ -9,7 +9,7 @@ use Rattle.ads_outside.specs.declared.event.Event.{Event}
 use Rattle.ads_outside.specs.declared.event.Event.TheVariants as event
 use Rattle.ads_outside.specs.declared.moves.Move.{Move}
 use Rattle.ads_outside.specs.declared.moves.Move.TheVariants as move
-use Rattle.ads_machine.specs.Device.{FrameOutcome, ClientOutcome}
+use Rattle.ads_machine.specs.Device.{FrameOutcome, ClientOutcome, DescriptionFault}
 use Rattle.ads_machine.specs.Connection.{Connection, is_deaf, fresh_connection, connection_of, put_back}
 use Rattle.ads_machine.specs.MachineState.{MachineState, Exchange, exchange_of, after_exchange}
 use Rattle.ads_machine.specs.Piece.{with_received, packets_left, with_one_taken, with_client, after_outcome, after_packet, after_packets, with_piece, end_of_piece, after_piece}
@@ -279,9 +279,9 @@ reload-fits table reading now old new so sn k f = go (is_deaf k) refl
     go true t = λ heard. absurd (false≢true (sym heard ∙ t))
     go false t = λ heard. subst (FitsPlant new.plant) (sym (produce_all-client o.frames (with_client o.client k))) (client-kept old.plant new.plant so sn k.client (f t))
 
-reload-good : (table : AnswerTable) (reading : DescriptionReading) (r : Result Description ℕ) → ((d : Description) → r ≡ Ok d → IsSoundPlant (plant_of d)) → (s : MachineState World Client) → Good s → Good (after_reload (ads_device table reading) (reloading s.world r) s)
+reload-good : (table : AnswerTable) (reading : DescriptionReading) (r : Result Description DescriptionFault) → ((d : Description) → r ≡ Ok d → IsSoundPlant (plant_of d)) → (s : MachineState World Client) → Good s → Good (after_reload (ads_device table reading) (reloading s.world r) s)
 unfolding world_after_reload
-reload-good table reading (Err rule) h s g = record { sound = g.sound; memory = g.memory; all = g.all }
+reload-good table reading (Err fault) h s g = record { sound = g.sound; memory = g.memory; all = g.all }
 reload-good table reading (Ok d) h s g =
     let new = world_after_reload s.world d in
     let sn = h d refl in

@@ -6,6 +6,7 @@ use Rattle.ads_plant.specs.Description.{Description}
 use Rattle.ads_plant.specs.World.{ByteName, Block, byte_at}
 use Rattle.ads_outside.specs.declared.event.Event.TheVariants as event
 use Rattle.ads_outside.specs.declared.moves.Move.TheVariants as move
+use Rattle.ads_machine.specs.Device.{DescriptionFault}
 use Rattle.ads_machine.specs.Connection.{Connection, connection_of}
 use Rattle.ads_machine.specs.MachineState.{MachineState, exchange_of, after_exchange}
 use Rattle.ads_machine.specs.Piece.{after_piece}
@@ -48,9 +49,9 @@ piece-exact table reading (Some k) bytes s n h =
     let g = piece-outside table reading R bytes (exchange_of s k) s.world.memory (agree_itself R s.world.memory) (each_apart n _ h) in
     g.memory.same n refl
 
-reload-exact : (table : AnswerTable) (reading : DescriptionReading) (r : Result Description ℕ) (s : MachineState World Client) (n : ByteName) → is_accepted r ≡ false
+reload-exact : (table : AnswerTable) (reading : DescriptionReading) (r : Result Description DescriptionFault) (s : MachineState World Client) (n : ByteName) → is_accepted r ≡ false
     → byte_at (after_reload (ads_device table reading) (reloading s.world r) s).world.memory n ≡ byte_at s.world.memory n
-reload-exact table reading (Err rule) s n h = refl
+reload-exact table reading (Err fault) s n h = refl
 reload-exact table reading (Ok d) s n h = absurd (false≢true (sym h))
 
 pub changes_only_by_writes : ChangesOnlyByWrites

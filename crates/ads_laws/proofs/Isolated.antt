@@ -10,6 +10,7 @@ use Rattle.ads_outside.specs.declared.event.Event.{Event}
 use Rattle.ads_outside.specs.declared.event.Event.TheVariants as event
 use Rattle.ads_outside.specs.declared.moves.Move.{Move}
 use Rattle.ads_outside.specs.declared.moves.Move.TheVariants as move
+use Rattle.ads_machine.specs.Device.{DescriptionFault}
 use Rattle.ads_machine.specs.Connection.{Connection, connection_of}
 use Rattle.ads_machine.specs.MachineState.{MachineState, output_of_connection}
 use Rattle.ads_machine.specs.Moves.{EventStep, with_gone, with_took, state_after_move, state_after}
@@ -26,8 +27,9 @@ use Rattle.ads_machine.proofs.Growth.{connection_after_tick-grows, connection_af
 use Rattle.ads_machine.proofs.Changes.{with_gone-number, with_took-number}
 use Rattle.ads_machine.specs.Offers.{taken_of}
 use Rattle.ads_machine.specs.Delivery.{IsPrefix}
-use Rattle.ads_machine.proofs.ServerDelivers.{server_takes_output}
-use Rattle.ads_laws.specs.Isolation.{IsAmong, start, IsIsolated, SeesOnlyItself, TakesAsAlone}
+use Rattle.ads_machine.proofs.TurnsKept.{takes_output}
+use Rattle.ads_machine.proofs.ServerDelivers.{server_only_adds, server_takes_all}
+use Rattle.ads_laws.specs.Isolation.{IsAmong, start, IsIsolated, SeesOnlyItself, TakesAsAlone, TakesAllAsAlone}
 use Rattle.ads_laws.proofs.Memory.{agree-back}
 use Rattle.ads_laws.proofs.Footprints.{Each, each_left, each_right, Not, puts-agree}
 use Rattle.ads_laws.proofs.Exchanges.{with_memory}
@@ -71,11 +73,11 @@ tick-own table reading R c t a m x y ls e =
       watches = mapped-in R c f a.connections (λ k. (connection_after_tick-grows device now w k).number) (λ k i. tick-watches table reading R now w k i) e.watches;
     }
 
-reload-own : (table : AnswerTable) (reading : DescriptionReading) (R : ByteName → Type 0) (c : ℕ) (r : Result Description ℕ) (a : MachineState World Client) (m : List Block) (x y : ℕ) (ls : List (Connection Client))
+reload-own : (table : AnswerTable) (reading : DescriptionReading) (R : ByteName → Type 0) (c : ℕ) (r : Result Description DescriptionFault) (a : MachineState World Client) (m : List Block) (x y : ℕ) (ls : List (Connection Client))
     → SameForClient R c a (state_with (with_memory m a.world) a.moment x y ls)
     → SameForClient R c (after_reload (ads_device table reading) (reloading a.world r) a) (after_reload (ads_device table reading) (reloading (with_memory m a.world) r) (state_with (with_memory m a.world) a.moment x y ls))
 unfolding world_after_reload
-reload-own table reading R c (Err rule) a m x y ls e = record { world = e.world; moment = e.moment; memory = e.memory; connection = e.connection; watches = e.watches }
+reload-own table reading R c (Err fault) a m x y ls e = record { world = e.world; moment = e.moment; memory = e.memory; connection = e.connection; watches = e.watches }
 reload-own table reading R c (Ok d) a m x y ls e =
     let device = ads_device table reading in
     let w = world_after_reload a.world d in
@@ -190,6 +192,12 @@ sees_only_itself table reading d signals c log other same apart also =
     ∙ sym (isolated table reading d signals c other also)
 
 pub takes_as_alone : TakesAsAlone
-takes_as_alone table reading d signals c log turns apart =
+takes_as_alone table reading d signals c log offers apart =
+    let device = ads_device table reading in
     subst (IsPrefix (taken_of c log)) (isolated table reading d signals c log apart)
-    (server_takes_output (ads_device table reading) (world_of d signals) c log turns)
+    (takes_output World Client (server_step table reading) (world_of d signals) c log (server_only_adds World Client device) offers)
+
+pub takes_all_as_alone : TakesAllAsAlone
+takes_all_as_alone table reading d signals c log turns whole there apart =
+    server_takes_all (ads_device table reading) (world_of d signals) c log turns whole there
+    ∙ isolated table reading d signals c log apart

@@ -25,6 +25,7 @@ use Rattle.ads_outside.specs.declared.event.Event.{Event}
 use Rattle.ads_outside.specs.declared.event.Event.TheVariants as event
 use Rattle.ads_outside.specs.declared.moves.Move.{Move}
 use Rattle.ads_outside.specs.declared.moves.Move.TheVariants as move
+use Rattle.ads_machine.specs.Device.{DescriptionFault}
 use Rattle.ads_machine.specs.Connection.{Connection, connection_of}
 use Rattle.ads_machine.specs.MachineState.{MachineState, Exchange, exchange_of, after_exchange}
 use Rattle.ads_machine.specs.Piece.{after_piece}
@@ -199,10 +200,10 @@ exchange-plant : (P : Plant → Type 0) (f : Exchange World Client → Exchange 
 exchange-plant P f goes s None h = h
 exchange-plant P f goes s (Some k) h = let y = goes (exchange_of s k) in subst P (sym y.plant) h
 
-reload-plant : (P : Plant → Type 0) (table : AnswerTable) (reading : DescriptionReading) (r : Result Description ℕ) → ((d : Description) → r ≡ Ok d → P (plant_of d)) → (s : MachineState World Client)
+reload-plant : (P : Plant → Type 0) (table : AnswerTable) (reading : DescriptionReading) (r : Result Description DescriptionFault) → ((d : Description) → r ≡ Ok d → P (plant_of d)) → (s : MachineState World Client)
     → P s.world.plant → P (after_reload (ads_device table reading) (reloading s.world r) s).world.plant
 unfolding world_after_reload
-reload-plant P table reading (Err rule) h s g = g
+reload-plant P table reading (Err fault) h s g = g
 reload-plant P table reading (Ok d) h s g = h d refl
 
 -- something that each accepted plant has

@@ -2,6 +2,8 @@
 use Rattle.std.proofs.Common.{◌≡◌, ℕ, [], length, refl, ap, inl, inr}
 use Rattle.std.specs.Prelude.{Some}
 use Rattle.std.proofs.lemmas.Bool.{le-ltb}
+use Rattle.ads_machine.specs.Moves.{state_after_move}
+use Rattle.ads_machine.specs.Events.{state_after_event}
 use Rattle.ads_machine.specs.Handles.{HandleStatus, Never, Released, Outdated, Live, kept_status}
 use Rattle.ads_machine.specs.Client.{Place, client_after}
 use Rattle.ads_machine.specs.Acts.{Refusal, Allowed, memory_after_acts, client_after_acts}
@@ -34,7 +36,8 @@ turned_away_changes_nothing table w c packet away =
     }
 
 pub refused_reload_counts : RefusedReloadCounts
-refused_reload_counts table reading s rule = refl
+unfolding state_after_move state_after_event
+refused_reload_counts table reading s bytes fault e = rw e refl
 
 dead-reach : (port : ℕ) (s : HandleStatus Place) (code len : ℕ) → dead_code s ≡ Some code → addressed_by_status port s len ≡ Err code
 dead-reach port Never code len e = cc

@@ -8,6 +8,7 @@ use Rattle.ads_outside.specs.declared.moves.Move.{Move}
 use Rattle.ads_outside.specs.declared.moves.Move.TheVariants as move
 use Rattle.ads_plant.specs.Description.{Area, size_in, Description}
 use Rattle.ads_plant.specs.World.{ByteName, Block, PlantPort, PlantSymbol, lower_name, byte_at}
+use Rattle.ads_machine.specs.Device.{DescriptionFault}
 use Rattle.ads_machine.specs.MachineState.{MachineState}
 use Rattle.ads_machine.specs.Moves.{state_after_move}
 use Rattle.ads_machine.specs.World.{World, name_at, names_at, content_of}
@@ -43,9 +44,9 @@ writes_of_move table reading s (move.Took c offered bytes) = []
 writes_of_move table reading s (move.Lost c) = []
 writes_of_move table reading s (move.Shut c) = []
 
-abbrev pub is_accepted : Result Description ℕ → Bool
+abbrev pub is_accepted : Result Description DescriptionFault → Bool
 is_accepted (Ok d) = true
-is_accepted (Err rule) = false
+is_accepted (Err fault) = false
 
 abbrev pub is_accepted_reload : DescriptionReading → MachineState World Client → Move → Bool
 is_accepted_reload reading s (move.Event (event.Reload bytes)) =

@@ -1,5 +1,5 @@
 -- Isolation: a client none of whose read bytes another writes is given what it would be given alone.
-use Rattle.std.specs.Prelude.{◌≡◌, ◌⊎◌, ℕ, List, [], ◌∷◌}
+use Rattle.std.specs.Prelude.{◌≡◌, ◌⊎◌, ℕ, List, [], ◌∷◌, false}
 use Rattle.signals.specs.Wave.{Wave}
 use Rattle.ads_plant.specs.Description.{Description}
 use Rattle.ads_plant.specs.World.{ByteName}
@@ -8,7 +8,7 @@ use Rattle.ads_machine.specs.MachineState.{MachineState, start_of, output_of}
 use Rattle.ads_machine.specs.Moves.{state_after}
 use Rattle.ads_machine.specs.Offers.{taken_of}
 use Rattle.ads_machine.specs.Turns.{KeepsTurns}
-use Rattle.ads_machine.specs.Delivery.{IsPrefix}
+use Rattle.ads_machine.specs.Delivery.{IsPrefix, AreOffers, is_short, is_cut_off}
 use Rattle.ads_machine.specs.World.{World, world_of}
 use Rattle.ads_machine.specs.Client.{Client}
 use Rattle.ads_machine.specs.Answers.{AnswerTable}
@@ -56,10 +56,21 @@ SeesOnlyItself = (table : AnswerTable) (reading : DescriptionReading) (d : Descr
     → IsUntouched table reading d signals c log → IsUntouched table reading d signals c other
     → output table reading d signals c log ≡ output table reading d signals c other
 
--- Where the log keeps the turns, what a connection took begins what it would be given if it were alone.
+-- What a connection took of what it was offered begins what it would be given if it were alone, wherever
+-- the log ends, also in the middle of a turn.
 abbrev pub TakesAsAlone : Type 0
 TakesAsAlone = (table : AnswerTable) (reading : DescriptionReading) (d : Description)
     (signals : List Wave) (c : ℕ) (log : List Move)
-    → KeepsTurns (server_step table reading) (start d signals) log
+    → AreOffers (server_step table reading) (start d signals) log
     → IsUntouched table reading d signals c log
     → IsPrefix (taken_of c log) (output table reading d signals c (projection_of c log))
+
+-- Where the log keeps the turns, it is all of that, unless its last offer was short, or it was closed by its
+-- peer or lost.
+abbrev pub TakesAllAsAlone : Type 0
+TakesAllAsAlone = (table : AnswerTable) (reading : DescriptionReading) (d : Description)
+    (signals : List Wave) (c : ℕ) (log : List Move)
+    → KeepsTurns (server_step table reading) (start d signals) log
+    → is_short c log ≡ false → is_cut_off c log ≡ false
+    → IsUntouched table reading d signals c log
+    → taken_of c log ≡ output table reading d signals c (projection_of c log)

@@ -1,17 +1,18 @@
 -- A refusal changes nothing, and a handle that is not live touches nothing.
 use Rattle.std.specs.Prelude.{◌≡◌, ◌≢◌, ◌⊎◌, ℕ, ◌+◌, ◌≤◌, List, length, true, false, Option, Some}
-use Rattle.std.specs.Prelude.{None}
+use Rattle.std.specs.Prelude.{None, Err}
 use Rattle.ads_plant.specs.World.{Block}
 use Rattle.ads_formats.specs.Codes.{no_error, not_permitted, symbol_not_found}
 use Rattle.ads_formats.specs.Codes.{symbol_version_invalid}
 use Rattle.ads_formats.specs.Groups.{ValueByHandle, value_by_handle}
 use Rattle.ads_formats.specs.Request.{Read, Write, AddDeviceNotification}
+use Rattle.ads_outside.specs.declared.event.Event.TheVariants as event
 use Rattle.ads_outside.specs.declared.moves.Move.{Move}
-use Rattle.ads_machine.specs.Device.{Refused}
+use Rattle.ads_outside.specs.declared.moves.Move.TheVariants as move
+use Rattle.ads_machine.specs.Device.{DescriptionFault}
 use Rattle.ads_machine.specs.Connection.{Connection, connection_of}
 use Rattle.ads_machine.specs.MachineState.{MachineState}
-use Rattle.ads_machine.specs.Moves.{state_after}
-use Rattle.ads_machine.specs.Events.{after_reload}
+use Rattle.ads_machine.specs.Moves.{state_after_move, state_after}
 use Rattle.ads_machine.specs.World.{World, Setup, setup_of}
 use Rattle.ads_machine.specs.Handles.{HandleStatus, Never, Released, Outdated, Live, kept_status}
 use Rattle.ads_machine.specs.Watches.{Mode}
@@ -23,7 +24,7 @@ use Rattle.ads_machine.specs.Writes.{Asker, may_write}
 use Rattle.ads_machine.specs.Requests.{MAX_WATCHED, mode_of, act_of}
 use Rattle.ads_machine.specs.Packets.{Decision, NoAnswer, EndConnection, AmsError, decide}
 use Rattle.ads_machine.specs.Replies.{performed}
-use Rattle.ads_machine.specs.AdsDevice.{DescriptionReading, ads_device, server_step}
+use Rattle.ads_machine.specs.AdsDevice.{DescriptionReading, server_step}
 
 -- the bytes and the client after a request whose result is not 0
 pub record ChangesNothing (memory : List Block) (c : Client) (a : Act) : Type 0 where
@@ -47,11 +48,12 @@ abbrev pub TurnedAwayChangesNothing : Type 0
 TurnedAwayChangesNothing = (table : AnswerTable) (w : World) (c : Client) (packet : List ℕ)
     → IsTurnedAway (decide table (setup_of w) c packet) → LeavesAll table w c packet
 
--- A refused reload leaves all but its count.
+-- A reload whose description is refused leaves all but its count.
 abbrev pub RefusedReloadCounts : Type 0
 RefusedReloadCounts = (table : AnswerTable) (reading : DescriptionReading)
-    (s : MachineState World Client) (rule : ℕ)
-    → after_reload (ads_device table reading) (Refused rule) s
+    (s : MachineState World Client) (bytes : List ℕ) (fault : DescriptionFault)
+    → reading bytes (length s.world.signals) ≡ Err fault
+    → state_after_move (server_step table reading) s (move.Event (event.Reload bytes))
     ≡ record s { refused = s.refused + 1 }
 
 -- the code of a handle that is not live

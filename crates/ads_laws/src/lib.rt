@@ -1,7 +1,7 @@
 //! Laws of the server's machine over whole logs, over the definitions alone.
 #![tactic(auto)]
 
-ghost use Rattle.ads_laws.specs.Isolation.{IsIsolated, SeesOnlyItself, TakesAsAlone};
+ghost use Rattle.ads_laws.specs.Isolation.{IsIsolated, SeesOnlyItself, TakesAsAlone, TakesAllAsAlone};
 ghost use Rattle.ads_laws.specs.ExactWrites.{ChangesOnlyByWrites, PutsAreExact, ReadsContent};
 ghost use Rattle.ads_laws.specs.ExactWrites.{WritesContent, NamesAreInjective};
 ghost use Rattle.ads_laws.specs.Refusals.{RefusalChangesNothing, TurnedAwayChangesNothing};
@@ -14,11 +14,14 @@ ghost use Rattle.ads_laws.specs.RepliesFit.{NoMoreThanAsked, RepliesFit};
 
 /// A client none of whose read or notified bytes another client writes is given, byte for byte, what it
 /// would be given if it were alone: for every table of what is answered, every description, every reading
-/// of descriptions, all signals, and every log of the nine kinds of move.
+/// of descriptions, all signals, and every log of the nine kinds of move. What it took of what it was offered begins that,
+/// wherever the log ends; at the end of a turn it is all of that, unless its last offer was short, or it was closed by
+/// its peer or lost.
 pub fn clients_are_isolated()
     ensures alone { IsIsolated }
     ensures same_projection { SeesOnlyItself }
     ensures taken { TakesAsAlone }
+    ensures all_taken { TakesAllAsAlone }
 {}
 
 /// A byte changes between two moves only by an accepted write or control that addresses it, by its

@@ -64,7 +64,7 @@ opened-carried {W} {C} device P keeps c n ks g = subst P (sym (connection_of-app
     one None h = elim (cases_Bool (n == c)) [ inl b ↦ rw b (keeps.fresh n h) | inr b ↦ rw b h ]
 
 reload-carried : {W C : Type 0} (device : Device W C) (P : Option (Connection C) → Type 0) → EventsCarry device P → (c : ℕ) (r : Reloading W) (s : MachineState W C) → P (connection_of c s.connections) → P (connection_of c (after_reload device r s).connections)
-reload-carried device P keeps c (Refused rule) s g = g
+reload-carried device P keeps c (Refused fault) s g = g
 reload-carried device P keeps c (Accepted version world) s g =
     mapped-carried P c (connection_after_reload device s.moment s.world world) (λ k. (connection_after_reload-grows device s.moment s.world world k).number) (keeps.reload s.moment s.world world) s.connections g
 

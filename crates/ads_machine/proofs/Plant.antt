@@ -10,7 +10,7 @@ use Rattle.ads_frames.specs.Frame.{frame_bytes}
 use Rattle.ads_outside.specs.declared.event.Event.TheVariants as event
 use Rattle.ads_outside.specs.declared.moves.Move.{Move}
 use Rattle.ads_outside.specs.declared.moves.Move.TheVariants as move
-use Rattle.ads_machine.specs.Device.{Device}
+use Rattle.ads_machine.specs.Device.{Device, BreaksRule}
 use Rattle.ads_machine.specs.MachineState.{MachineState, start_of, output_of}
 use Rattle.ads_machine.specs.Moves.{EventStep, state_after}
 use Rattle.ads_machine.specs.World.{World, world_of}
@@ -91,7 +91,7 @@ plant3 = record plant2 { net = 5 ∷ 1 ∷ 2 ∷ 3 ∷ 1 ∷ 9 ∷ [] }
 
 -- the examples name a description instead of writing its text; any other text breaks rule 2
 abbrev pub reading : DescriptionReading
-reading bytes signals = if bytes_eq bytes (codes "plant") then Ok plant else if bytes_eq bytes (codes "plant2") then Ok plant2 else if bytes_eq bytes (codes "plant3") then Ok plant3 else Err 2
+reading bytes signals = if bytes_eq bytes (codes "plant") then Ok plant else if bytes_eq bytes (codes "plant2") then Ok plant2 else if bytes_eq bytes (codes "plant3") then Ok plant3 else Err (BreaksRule 2 0)
 
 abbrev pub device : Device World Client
 device = ads_device all_answered reading

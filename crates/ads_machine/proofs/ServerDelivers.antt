@@ -98,7 +98,7 @@ opened-passes {C} c n client ks = subst (PassesOn (connection_of c ks)) (sym (co
     one None = elim (cases_Bool (n == c)) [ inl b ↦ rw b (inl refl) | inr b ↦ rw b (inl refl) ]
 
 reload-passes : {W C : Type 0} (c : ℕ) (device : Device W C) (r : Reloading W) (s : MachineState W C) → PassesOn (connection_of c s.connections) (connection_of c (after_reload device r s).connections)
-reload-passes c device (Refused rule) s = inl refl
+reload-passes c device (Refused fault) s = inl refl
 reload-passes c device (Accepted version world) s =
     mapped-passes c (connection_after_reload device s.moment s.world world) (λ k. (connection_after_reload-grows device s.moment s.world world k).number) (after_reload-stays device s.moment s.world world) s.connections
 

@@ -1,7 +1,7 @@
 -- The device whole: what an AMS packet, a tick and a reload do.
 use Rattle.std.specs.Prelude.{ℕ, List, length, Result, Ok, Err}
 use Rattle.ads_plant.specs.Description.{Description}
-use Rattle.ads_machine.specs.Device.{Device, Reloading, Accepted, Refused}
+use Rattle.ads_machine.specs.Device.{Device, DescriptionFault, Reloading, Accepted, Refused}
 use Rattle.ads_machine.specs.Moves.{EventStep}
 use Rattle.ads_machine.specs.Events.{state_after_event}
 use Rattle.ads_machine.specs.World.{World, setup_of}
@@ -12,13 +12,12 @@ use Rattle.ads_machine.specs.Replies.{performed}
 use Rattle.ads_machine.specs.Ticks.{world_after_tick, client_after_tick}
 use Rattle.ads_machine.specs.Reloads.{world_after_reload, client_reloaded}
 
--- a description's bytes, for so many signals: an accepted description, or the number of the rule that
--- it breaks, 0 where it is no TOML
+-- what the bytes of a description are, for so many signals: an accepted description, or why it is none
 abbrev pub DescriptionReading : Type 0
-DescriptionReading = List ℕ → ℕ → Result Description ℕ
+DescriptionReading = List ℕ → ℕ → Result Description DescriptionFault
 
-abbrev pub reloading : World → Result Description ℕ → Reloading World
-reloading w (Err rule) = Refused rule
+abbrev pub reloading : World → Result Description DescriptionFault → Reloading World
+reloading w (Err fault) = Refused fault
 reloading w (Ok d) = Accepted (world_after_reload w d).version (world_after_reload w d)
 
 -- the device that answers by this table and reads descriptions so

@@ -1,6 +1,6 @@
 -- Which lines a script may have. The whole grammar is defined; a line that is not built yet
 -- is off it.
-use Rattle.std.specs.Prelude.{ℕ, Bool, true, false}
+use Rattle.std.specs.Prelude.{ℕ, ◌^◌, Bool, true, false}
 
 -- the lines of a script
 pub data LineKind : Type 0 where
@@ -18,6 +18,10 @@ pub data LineKind : Type 0 where
 pub record BuiltLines : Type 0 where
   pub is_built : LineKind → Bool
   pub most_opened : ℕ
+
+-- every line of the grammar, and as many connections as there are numbers
+abbrev pub all_lines : BuiltLines
+all_lines = record { is_built = λ kind. true; most_opened = 2 ^ 32 }
 
 -- those that are built today
 abbrev pub is_built_line : LineKind → Bool

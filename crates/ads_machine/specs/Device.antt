@@ -25,11 +25,16 @@ pub record ClientOutcome (C : Type 0) : Type 0 where
   pub client : C
   pub frames : List Produced
 
--- an accepted description gives a version and a world; a refused one breaks a rule, whose number
--- is 0 where the text is no TOML
+-- why a description is refused: for the least rule that it breaks and the least item in it that does, or
+-- since its text is no TOML document
+pub data DescriptionFault : Type 0 where
+  BreaksRule : ℕ → ℕ → DescriptionFault
+  NoDocument : DescriptionFault
+
+-- an accepted description gives a version and a world
 pub data Reloading (W : Type 0) : Type 0 where
   Accepted : ℕ → W → Reloading W
-  Refused : ℕ → Reloading W
+  Refused : DescriptionFault → Reloading W
 
 pub record Device (W C : Type 0) : Type 0 where
   -- what is kept for a client that was not heard yet

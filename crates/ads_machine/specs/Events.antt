@@ -40,7 +40,7 @@ connection_after_reload device moment old new k =
 -- a refused reload adds to the refusals and changes nothing else
 abbrev pub after_reload : {W C : Type 0} → Device W C → Reloading W → MachineState W C
     → MachineState W C
-after_reload device (Refused rule) s = record s { refused = s.refused + 1 }
+after_reload device (Refused fault) s = record s { refused = s.refused + 1 }
 after_reload device (Accepted version world) s = record s {
   world = world;
   accepted = s.accepted + 1;

@@ -41,6 +41,7 @@ pub mod Ticks
 pub mod Reloads
 pub mod AdsDevice
 pub mod Projection
+pub mod Outcomes
 pub mod RunText
 pub mod HandleLaws
 pub mod SumLaws

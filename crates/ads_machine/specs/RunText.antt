@@ -6,7 +6,7 @@ use Rattle.ads_outside.specs.declared.moves.Move.{Move}
 use Rattle.ads_outside.specs.declared.moves.Move.TheVariants as move
 use Rattle.ads_outside.specs.declared.reload_note.ReloadNote.{ReloadNote}
 use Rattle.ads_outside.specs.declared.reload_note.ReloadNote.TheVariants as note
-use Rattle.ads_machine.specs.Device.{Device, Reloading, Accepted, Refused}
+use Rattle.ads_machine.specs.Device.{Device, DescriptionFault, BreaksRule, NoDocument, Reloading, Accepted, Refused}
 use Rattle.ads_machine.specs.MachineState.{MachineState}
 use Rattle.ads_machine.specs.Moves.{state_after_move, state_after}
 use Rattle.ads_machine.specs.Events.{state_after_event}
@@ -16,10 +16,15 @@ use Rattle.ads_machine.specs.Play.{play_of}
 use Rattle.ads_machine.specs.LogText.{log_text_of}
 use Rattle.ads_machine.specs.SummaryText.{summary_text_of}
 
+-- the number of a fault: that of the rule, 0 where the text is no TOML document
+abbrev pub fault_number : DescriptionFault → ℕ
+fault_number (BreaksRule rule item) = rule
+fault_number NoDocument = 0
+
 -- what became of a reload: the new version, or the rule that the description breaks
 abbrev pub note_of : {W : Type 0} → Reloading W → ReloadNote
 note_of (Accepted version world) = note.Ok version
-note_of (Refused rule) = note.Refused rule
+note_of (Refused fault) = note.Refused (fault_number fault)
 
 abbrev pub notes_of_event : {W C : Type 0} → Device W C → MachineState W C → Event → List ReloadNote
 notes_of_event device s (event.Reload bytes) = note_of (device.reload bytes s.world) ∷ []

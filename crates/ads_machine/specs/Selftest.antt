@@ -4,8 +4,7 @@
 use Rattle.std.specs.Prelude.{ℕ, List, [], ◌∷◌, ◌++◌, length, take, drop, Bool, ◌&&◌, bytes_eq}
 use Rattle.std.specs.Prelude.{◌==◌, if◌then◌else◌}
 use Rattle.std.specs.Int.{w16, w32, to_le_bytes}
-use Rattle.ads_machine.specs.Device.{Device, Answered}
-use Rattle.ads_machine.specs.Device.{Refused}
+use Rattle.ads_machine.specs.Device.{Device, Answered, Refused, NoDocument}
 use Rattle.ads_machine.specs.Moves.{EventStep}
 use Rattle.ads_machine.specs.Events.{state_after_event}
 
@@ -62,7 +61,7 @@ selftest_device = record {
       record { answer = Answered (selftest_reply packet); world = tt; client = tt };
   world_after_tick = λ world. tt;
   client_after_tick = λ moment world client. record { client = tt; frames = [] };
-  reload = λ bytes world. Refused 0;
+  reload = λ bytes world. Refused NoDocument;
   client_after_reload = λ moment old new client. record { client = tt; frames = [] };
 }
 

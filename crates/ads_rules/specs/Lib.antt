@@ -11,3 +11,4 @@ pub mod PortRules
 pub mod SymbolRules
 pub mod Described
 pub mod Verdict
+pub mod TextVerdict

@@ -6,7 +6,7 @@ use Rattle.ads_outside.specs.declared.moves.Move.{Move}
 use Rattle.ads_outside.specs.declared.moves.Move.TheVariants as move
 use Rattle.ads_machine.specs.Moves.{state_after_move, state_after}
 use Rattle.ads_machine.specs.Offers.{waiting_at, blocked_after_move}
-use Rattle.ads_machine.specs.Selftest.{selftest_device}
+use Rattle.ads_machine.specs.Selftest.{selftest_step}
 use Rattle.ads_machine.proofs.Changes.{state_after-append}
 use Rattle.ads_machine.proofs.Played.{took-waiting}
 use Rattle.out_queue.specs.Queue.{front_of}
@@ -20,10 +20,10 @@ use Rattle.ads_run.specs.Playing.{stood_after, Plays, PlaysOn, offers_after}
 use Rattle.ads_run.proofs.WholePlayLemmas.{not-lt-self}
 
 -- the machine after further moves
-pub selftest_after-append : (log moves : List Move) → selftest_after (log ++ moves) ≡ state_after selftest_device (selftest_after log) moves
-selftest_after-append log moves = state_after-append selftest_device log moves selftest_start
+pub selftest_after-append : (log moves : List Move) → selftest_after (log ++ moves) ≡ state_after selftest_step (selftest_after log) moves
+selftest_after-append log moves = state_after-append selftest_step log moves selftest_start
 
-pub selftest_after-more : (log : List Move) (m : Move) → selftest_after (log ++ m ∷ []) ≡ state_after_move selftest_device (selftest_after log) m
+pub selftest_after-more : (log : List Move) (m : Move) → selftest_after (log ++ m ∷ []) ≡ state_after_move selftest_step (selftest_after log) m
 unfolding state_after
 selftest_after-more log m = selftest_after-append log (m ∷ [])
 
@@ -33,7 +33,7 @@ core_state s blocked = record { state = s; blocked = blocked }
 stood_after-more : (log : List Move) (m : Move) → blocked_after_move [] m ≡ [] → after_move (stood_after log) m ≡ stood_after (log ++ m ∷ [])
 unfolding core_state
 stood_after-more log m free =
-    ap (core_state (state_after_move selftest_device (selftest_after log) m)) free ∙ ap (λ s. core_state s []) (sym (selftest_after-more log m))
+    ap (core_state (state_after_move selftest_step (selftest_after log) m)) free ∙ ap (λ s. core_state s []) (sym (selftest_after-more log m))
 
 -- one move that blocks nobody
 pub plays_one : (old new : Core) (log later : List Move) (m : Move) → Plays old log → Follows old new (stood_after log) (after_move (stood_after log) m) → blocked_after_move [] m ≡ []
@@ -81,7 +81,7 @@ pub offers_one_less : (log later : List Move) (c : ℕ) (left : List ℕ) → (o
     → waiting_at c (selftest_after later) ≡ o.rest
 offers_one_less log later c left o moved =
     ap (λ l. waiting_at c (selftest_after l)) moved
-    ∙ (ap (waiting_at c) (selftest_after-more log (move.Took c (length left) left)) ∙ took-waiting selftest_device c (length left) left o.rest (selftest_after log) o.is)
+    ∙ (ap (waiting_at c) (selftest_after-more log (move.Took c (length left) left)) ∙ took-waiting selftest_step c (length left) left o.rest (selftest_after log) o.is)
 
 pub same_offers : (log later : List Move) (c : ℕ) (left : List ℕ) → (o : Offered left (waiting_at c (selftest_after log))) → later ≡ log ++ move.Took c (length left) left ∷ []
     → later ++ offers_after later c ≡ log ++ offers_after log c

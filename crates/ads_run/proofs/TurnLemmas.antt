@@ -7,10 +7,11 @@ use Rattle.ads_outside.specs.declared.moves.Move.{Move}
 use Rattle.ads_outside.specs.declared.moves.Move.TheVariants as move
 use Rattle.ads_machine.specs.Connection.{connection_of}
 use Rattle.ads_machine.specs.MachineState.{present_numbers}
-use Rattle.ads_machine.specs.Moves.{state_after_event, state_after_move, state_after}
+use Rattle.ads_machine.specs.Moves.{state_after_move, state_after}
+use Rattle.ads_machine.specs.Events.{state_after_event}
 use Rattle.ads_machine.specs.Reading.{is_among}
 use Rattle.server_core.specs.declared.served_core.Core.{Core}
-use Rattle.server_core.specs.Served.{served, ServedState, ServedConnection}
+use Rattle.server_core.specs.Served.{served, served_step, ServedState, ServedConnection}
 use Rattle.server_core.specs.Serves.{present, AreApart}
 use Rattle.server_core.proofs.StateLemmas.{present-gone, present-there, connection_of-same, connection_of-other}
 use Rattle.ads_run.specs.Selftest.{selftest_after}
@@ -101,8 +102,8 @@ none_served core old log e numbers on are =
     record {
       plays = on.plays;
       same_log = ap (λ ns. log ++ moves_of_each log ns) are
-          ∙ (ap (λ (t : ServedState). log ++ moves_of_numbers served t (present_numbers t)) after
-          ∙ (ap (λ l. l ++ moves_after served s) on.moved ∙ append_assoc old (move.Event e ∷ []) (moves_after served s)));
+          ∙ (ap (λ (t : ServedState). log ++ moves_of_numbers served_step t (present_numbers t)) after
+          ∙ (ap (λ l. l ++ moves_after served_step s) on.moved ∙ append_assoc old (move.Event e ∷ []) (moves_after served_step s)));
       there = subst N (sym are) (all_there (selftest_after log) on.plays.serves.connections.apart);
     }
 
@@ -111,13 +112,13 @@ pub one_served : (core new : Core) (old log later : List Move) (c : ℕ) (left :
 unfolding moves_of_numbers AreThere
 one_served core new old log later c left moves served_so on =
     let s = selftest_after log in
-    let after : selftest_after later ≡ state_after served s (moves_of log c) = ap selftest_after on.moved ∙ selftest_after-append log (moves_of log c) in
+    let after : selftest_after later ≡ state_after served_step s (moves_of log c) = ap selftest_after on.moved ∙ selftest_after-append log (moves_of log c) in
     let S : ServedState → Type 0 = λ t. AreThere left t in
     record {
       plays = on.plays;
-      same_log = ap (λ t. later ++ moves_of_numbers served t left) after
-          ∙ (ap (λ l. l ++ moves_of_numbers served (state_after served s (moves_of log c)) left) on.moved
-          ∙ (append_assoc log (moves_of log c) (moves_of_numbers served (state_after served s (moves_of log c)) left) ∙ served_so.same_log));
+      same_log = ap (λ t. later ++ moves_of_numbers served_step t left) after
+          ∙ (ap (λ l. l ++ moves_of_numbers served_step (state_after served_step s (moves_of log c)) left) on.moved
+          ∙ (append_assoc log (moves_of log c) (moves_of_numbers served_step (state_after served_step s (moves_of log c)) left) ∙ served_so.same_log));
       there = subst S (sym after) (still_there c left s served_so.there.1 served_so.there.2);
     }
 

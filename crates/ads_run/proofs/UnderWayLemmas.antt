@@ -9,7 +9,8 @@ use Rattle.ads_outside.specs.declared.moves.Move.{Move}
 use Rattle.ads_outside.specs.declared.moves.Move.TheVariants as move
 use Rattle.ads_machine.specs.Connection.{connection_of, fresh_connection}
 use Rattle.ads_machine.specs.MachineState.{exchange_of, after_exchange, present_numbers}
-use Rattle.ads_machine.specs.Moves.{connection_after_tick, moment_of_tick, with_gone, with_took, state_after_event, state_after_move, state_after}
+use Rattle.ads_machine.specs.Moves.{with_gone, with_took, state_after_move, state_after}
+use Rattle.ads_machine.specs.Events.{connection_after_tick, moment_of_tick, state_after_event}
 use Rattle.ads_machine.specs.Piece.{after_piece}
 use Rattle.ads_machine.specs.Offers.{waiting_at, is_closing_at}
 use Rattle.ads_machine.specs.Peers.{served_moves}
@@ -21,7 +22,7 @@ use Rattle.ads_machine.proofs.Find.{or_else, connection_of-append, connection_of
 use Rattle.ads_machine.proofs.Growth.{connection_after_tick-grows}
 use Rattle.server_core.specs.declared.served_core.Core.{Core}
 use Rattle.server_core.specs.CoreState.{OpensNew, started}
-use Rattle.server_core.specs.Served.{served, ServedState, ServedConnection, ServedExchange}
+use Rattle.server_core.specs.Served.{served, served_step, ServedState, ServedConnection, ServedExchange}
 use Rattle.server_core.specs.Serves.{Serves, HasCounts}
 use Rattle.server_core.proofs.StateLemmas.{put_back-none, connection_of-other, none_of_nil}
 use Rattle.ads_run.specs.Selftest.{selftest_start, selftest_after}
@@ -38,40 +39,40 @@ exchange-absent : (n : ℕ) (o : Option ServedConnection) (f : ServedExchange �
 exchange-absent n None f s e = e
 exchange-absent n (Some k) f s e = put_back-none n (f (exchange_of s k)).connection s.connections e
 
-took-absent : (n c offered : ℕ) (bytes : List ℕ) (s : ServedState) → IsAbsent n s → IsAbsent n (state_after_move served s (move.Took c offered bytes))
+took-absent : (n c offered : ℕ) (bytes : List ℕ) (s : ServedState) → IsAbsent n s → IsAbsent n (state_after_move served_step s (move.Took c offered bytes))
 unfolding state_after_move
 took-absent n c offered bytes s e = exchange-absent n (connection_of c s.connections) (with_took (length bytes)) s e
 
-shut-absent : (n c : ℕ) (s : ServedState) → IsAbsent n s → IsAbsent n (state_after_move served s (move.Shut c))
+shut-absent : (n c : ℕ) (s : ServedState) → IsAbsent n s → IsAbsent n (state_after_move served_step s (move.Shut c))
 unfolding state_after_move
 shut-absent n c s e = exchange-absent n (connection_of c s.connections) with_gone s e
 
-offers-absent : (n c : ℕ) (fs : List (List ℕ)) (behind : List Move) (s : ServedState) → ((t : ServedState) → IsAbsent n t → IsAbsent n (state_after served t behind)) → IsAbsent n s
-    → IsAbsent n (state_after served s (whole_offers c fs ++ behind))
+offers-absent : (n c : ℕ) (fs : List (List ℕ)) (behind : List Move) (s : ServedState) → ((t : ServedState) → IsAbsent n t → IsAbsent n (state_after served_step t behind)) → IsAbsent n s
+    → IsAbsent n (state_after served_step s (whole_offers c fs ++ behind))
 unfolding whole_offers state_after
 offers-absent n c [] behind s rest e = rest s e
 offers-absent n c (f ∷ fs) behind s rest e =
-    offers-absent n c fs behind (state_after_move served s (move.Took c (length f) f)) rest (took-absent n c (length f) f s e)
+    offers-absent n c fs behind (state_after_move served_step s (move.Took c (length f) f)) rest (took-absent n c (length f) f s e)
 
-moves-absent : (n c : ℕ) (closing : Bool) (fs : List (List ℕ)) (s : ServedState) → IsAbsent n s → IsAbsent n (state_after served s (served_moves closing c (whole_offers c fs)))
+moves-absent : (n c : ℕ) (closing : Bool) (fs : List (List ℕ)) (s : ServedState) → IsAbsent n s → IsAbsent n (state_after served_step s (served_moves closing c (whole_offers c fs)))
 unfolding state_after
 moves-absent n c true fs s e = offers-absent n c fs (move.Shut c ∷ []) s (λ t absent. shut-absent n c t absent) e
 moves-absent n c false fs s e =
-    let P : List Move → Type 0 = λ ms. IsAbsent n (state_after served s ms) in
+    let P : List Move → Type 0 = λ ms. IsAbsent n (state_after served_step s ms) in
     subst P (append-nil (whole_offers c fs)) (offers-absent n c fs [] s (λ t absent. absent) e)
 
-numbers-absent : (n : ℕ) (cs : List ℕ) (s : ServedState) → IsAbsent n s → IsAbsent n (state_after served s (moves_of_numbers served s cs))
+numbers-absent : (n : ℕ) (cs : List ℕ) (s : ServedState) → IsAbsent n s → IsAbsent n (state_after served_step s (moves_of_numbers served_step s cs))
 unfolding moves_of_numbers state_after
 numbers-absent n [] s e = e
 numbers-absent n (c ∷ cs) s e =
     let moves = moves_at s c in
-    let after = state_after served s moves in
-    state_after-append-absent n moves (moves_of_numbers served after cs) s (numbers-absent n cs after (moves-absent n c (is_closing_at c s) (waiting_at c s) s e))
+    let after = state_after served_step s moves in
+    state_after-append-absent n moves (moves_of_numbers served_step after cs) s (numbers-absent n cs after (moves-absent n c (is_closing_at c s) (waiting_at c s) s e))
   where
-    state_after-append-absent : (n : ℕ) (ms ns : List Move) (s : ServedState) → IsAbsent n (state_after served (state_after served s ms) ns) → IsAbsent n (state_after served s (ms ++ ns))
+    state_after-append-absent : (n : ℕ) (ms ns : List Move) (s : ServedState) → IsAbsent n (state_after served_step (state_after served_step s ms) ns) → IsAbsent n (state_after served_step s (ms ++ ns))
     state_after-append-absent n ms ns s e =
         let P : ServedState → Type 0 = λ t. IsAbsent n t in
-        subst P (sym (state_after-append served ms ns s)) e
+        subst P (sym (state_after-append served_step ms ns s)) e
 
 -- an event brings no other connection than the one that it opens
 event-absent : (n : ℕ) (e : Event) (s : ServedState) → is_among n (opened_by (Happens e)) ≡ false → IsAbsent n s → IsAbsent n (state_after_event served s e)
@@ -91,7 +92,7 @@ event-absent n (event.Reload bytes) s other none = none
 event-absent n (event.Writable c) s other none = none
 
 -- so does its turn
-turn-absent : (n : ℕ) (e : Event) (log : List Move) → is_among n (opened_by (Happens e)) ≡ false → IsAbsent n (selftest_after log) → IsAbsent n (state_after served (selftest_after log) (turn_of log e))
+turn-absent : (n : ℕ) (e : Event) (log : List Move) → is_among n (opened_by (Happens e)) ≡ false → IsAbsent n (selftest_after log) → IsAbsent n (state_after served_step (selftest_after log) (turn_of log e))
 unfolding state_after state_after_move
 turn-absent n e log other none =
     let s = state_after_event served (selftest_after log) e in
@@ -130,12 +131,12 @@ unfolding OpenNew played state_after state_after_move
 one_turn core new log later e left all way on =
     let s = selftest_after log in
     let turn = turn_of log e in
-    let after : selftest_after later ≡ state_after served s turn = ap selftest_after on.moved ∙ selftest_after-append log turn in
+    let after : selftest_after later ≡ state_after served_step s turn = ap selftest_after on.moved ∙ selftest_after-append log turn in
     record {
       plays = on.plays;
-      same_log = ap (λ t. later ++ played served t left) after
-          ∙ (ap (λ l. l ++ played served (state_after served s turn) left) on.moved
-          ∙ (append_assoc log turn (played served (state_after served s turn) left) ∙ way.same_log));
+      same_log = ap (λ t. later ++ played served_step t left) after
+          ∙ (ap (λ l. l ++ played served_step (state_after served_step s turn) left) on.moved
+          ∙ (append_assoc log turn (played served_step (state_after served_step s turn) left) ∙ way.same_log));
       opened = way.opened ++ opened_by (Happens e);
       only = λ n apart.
           let both = or_false (is_among n way.opened) (is_among n (opened_by (Happens e))) (sym (list_any-append (λ m. m == n) way.opened (opened_by (Happens e))) ∙ apart) in
@@ -144,6 +145,6 @@ one_turn core new log later e left all way on =
     }
 
 -- all turns are played
-pub all_turns : (core : Core) (log : List Move) (all : List Event) → IsUnderWay core log [] all → log ≡ played served selftest_start all
+pub all_turns : (core : Core) (log : List Move) (all : List Event) → IsUnderWay core log [] all → log ≡ played served_step selftest_start all
 unfolding played
 all_turns core log all way = sym (append-nil log) ∙ way.same_log

@@ -7,9 +7,8 @@ use Rattle.ads_outside.specs.declared.event.Event.{Event}
 use Rattle.ads_outside.specs.declared.moves.Move.{Move}
 use Rattle.ads_outside.specs.declared.moves.Move.TheVariants as move
 use Rattle.ads_outside.specs.declared.event.Event.TheVariants as event
-use Rattle.ads_machine.specs.Device.{Device}
 use Rattle.ads_machine.specs.MachineState.{MachineState, present_numbers}
-use Rattle.ads_machine.specs.Moves.{state_after_event, state_after_move, state_after}
+use Rattle.ads_machine.specs.Moves.{EventStep, state_after_move, state_after}
 use Rattle.ads_machine.specs.Offers.{waiting_at, is_closing_at}
 use Rattle.ads_machine.specs.Peers.{Peers, first_peers, offers_to, served_moves, moves_of_connection, peers_after, peers_after_move}
 use Rattle.ads_machine.specs.ScriptLine.{Happens}
@@ -49,17 +48,17 @@ peers_after-served c false fs behind = peers_after-whole c fs behind
 peers_after-served c true fs behind =
     ap (peers_after first_peers) (append_assoc (whole_offers c fs) (move.Shut c ∷ []) behind) ∙ peers_after-whole c fs (move.Shut c ∷ behind)
 
-peers_after-moves : {W C : Type 0} (device : Device W C) (s : MachineState W C) (c : ℕ) → peers_after first_peers (moves_at s c) ≡ first_peers
+peers_after-moves : {W C : Type 0} (step : EventStep W C) (s : MachineState W C) (c : ℕ) → peers_after first_peers (moves_at s c) ≡ first_peers
 unfolding peers_after
-peers_after-moves device s c =
+peers_after-moves step s c =
     ap (peers_after first_peers) (sym (append-nil (moves_at s c))) ∙ peers_after-served c (is_closing_at c s) (waiting_at c s) []
 
-peers_after-numbers : {W C : Type 0} (device : Device W C) (s : MachineState W C) (cs : List ℕ) → peers_after first_peers (moves_of_numbers device s cs) ≡ first_peers
+peers_after-numbers : {W C : Type 0} (step : EventStep W C) (s : MachineState W C) (cs : List ℕ) → peers_after first_peers (moves_of_numbers step s cs) ≡ first_peers
 unfolding moves_of_numbers peers_after
-peers_after-numbers device s [] = refl
-peers_after-numbers device s (c ∷ cs) =
-    peers_after-served c (is_closing_at c s) (waiting_at c s) (moves_of_numbers device (state_after device s (moves_at s c)) cs)
-    ∙ peers_after-numbers device (state_after device s (moves_at s c)) cs
+peers_after-numbers step s [] = refl
+peers_after-numbers step s (c ∷ cs) =
+    peers_after-served c (is_closing_at c s) (waiting_at c s) (moves_of_numbers step (state_after step s (moves_at s c)) cs)
+    ∙ peers_after-numbers step (state_after step s (moves_at s c)) cs
 
 -- a scene of peers that take all
 abbrev scene : {W C : Type 0} → Peers → MachineState W C → Scene W C
@@ -68,14 +67,14 @@ scene peers s = record { peers = peers; state = s }
 abbrev joined : List (List Move) → List Move
 joined mss = flat_map (λ ms. ms) mss
 
-moves_of_each-whole : {W C : Type 0} (device : Device W C) (s : MachineState W C) (cs : List ℕ) → joined (moves_of_each device (scene first_peers s) cs) ≡ moves_of_numbers device s cs
+moves_of_each-whole : {W C : Type 0} (step : EventStep W C) (s : MachineState W C) (cs : List ℕ) → joined (moves_of_each step (scene first_peers s) cs) ≡ moves_of_numbers step s cs
 unfolding moves_of_each moves_of_numbers
-moves_of_each-whole device s [] = refl
-moves_of_each-whole device s (c ∷ cs) =
+moves_of_each-whole step s [] = refl
+moves_of_each-whole step s (c ∷ cs) =
     let moves = moves_at s c in
-    let after = state_after device s moves in
-    ap (λ ms. joined (ms ∷ moves_of_each device (scene_after device (scene first_peers s) ms) cs)) (moves_of_connection-whole c (is_closing_at c s) (waiting_at c s))
-    ∙ (ap (λ p. moves ++ joined (moves_of_each device (scene p after) cs)) (peers_after-moves device s c) ∙ ap (λ r. moves ++ r) (moves_of_each-whole device after cs))
+    let after = state_after step s moves in
+    ap (λ ms. joined (ms ∷ moves_of_each step (scene_after step (scene first_peers s) ms) cs)) (moves_of_connection-whole c (is_closing_at c s) (waiting_at c s))
+    ∙ (ap (λ p. moves ++ joined (moves_of_each step (scene p after) cs)) (peers_after-moves step s c) ∙ ap (λ r. moves ++ r) (moves_of_each-whole step after cs))
 
 peers_after-event : (e : Event) → peers_after_move first_peers (move.Event e) ≡ first_peers
 peers_after-event (event.Opened c) = refl
@@ -86,31 +85,31 @@ peers_after-event (event.Reload bytes) = refl
 peers_after-event (event.Writable c) = refl
 
 -- the turn of an event
-turn-whole : {W C : Type 0} (device : Device W C) (s : MachineState W C) (e : Event) → moves_of_turn (turn_of device (scene first_peers s) e) ≡ move.Event e ∷ moves_after device (state_after_event device s e)
-turn-whole device s e =
-    let after = state_after_event device s e in
-    ap (λ p. move.Event e ∷ joined (moves_of_each device (scene p after) (present_numbers after))) (peers_after-event e)
-    ∙ ap (λ ms. move.Event e ∷ ms) (moves_of_each-whole device after (present_numbers after))
+turn-whole : {W C : Type 0} (step : EventStep W C) (s : MachineState W C) (e : Event) → moves_of_turn (turn_of step (scene first_peers s) e) ≡ move.Event e ∷ moves_after step (step s e)
+turn-whole step s e =
+    let after = step s e in
+    ap (λ p. move.Event e ∷ joined (moves_of_each step (scene p after) (present_numbers after))) (peers_after-event e)
+    ∙ ap (λ ms. move.Event e ∷ ms) (moves_of_each-whole step after (present_numbers after))
 
-scene-after-turn : {W C : Type 0} (device : Device W C) (s : MachineState W C) (e : Event) → scene_after device (scene first_peers s) (move.Event e ∷ moves_after device (state_after_event device s e))
-    ≡ scene first_peers (state_after device (state_after_event device s e) (moves_after device (state_after_event device s e)))
+scene-after-turn : {W C : Type 0} (step : EventStep W C) (s : MachineState W C) (e : Event) → scene_after step (scene first_peers s) (move.Event e ∷ moves_after step (step s e))
+    ≡ scene first_peers (state_after step (step s e) (moves_after step (step s e)))
 unfolding state_after state_after_move peers_after
-scene-after-turn device s e =
-    let after = state_after_event device s e in
-    let moves = moves_after device after in
-    ap (λ p. scene (peers_after p moves) (state_after device after moves)) (peers_after-event e)
-    ∙ ap (λ p. scene p (state_after device after moves)) (peers_after-numbers device after (present_numbers after))
+scene-after-turn step s e =
+    let after = step s e in
+    let moves = moves_after step after in
+    ap (λ p. scene (peers_after p moves) (state_after step after moves)) (peers_after-event e)
+    ∙ ap (λ p. scene p (state_after step after moves)) (peers_after-numbers step after (present_numbers after))
 
-played-turns : {W C : Type 0} (device : Device W C) (s : MachineState W C) (es : List Event) → flat_map moves_of_turn (turns_of device (scene first_peers s) (map Happens es)) ≡ played device s es
+played-turns : {W C : Type 0} (step : EventStep W C) (s : MachineState W C) (es : List Event) → flat_map moves_of_turn (turns_of step (scene first_peers s) (map Happens es)) ≡ played step s es
 unfolding turns_of played
-played-turns device s [] = refl
-played-turns device s (e ∷ es) =
-    let after = state_after_event device s e in
-    let moves = moves_after device after in
-    ap (λ ms. ms ++ flat_map moves_of_turn (turns_of device (scene_after device (scene first_peers s) ms) (map Happens es))) (turn-whole device s e)
-    ∙ (ap (λ x. (move.Event e ∷ moves) ++ flat_map moves_of_turn (turns_of device x (map Happens es))) (scene-after-turn device s e)
-    ∙ ap (λ ms. move.Event e ∷ (moves ++ ms)) (played-turns device (state_after device after moves) es))
+played-turns step s [] = refl
+played-turns step s (e ∷ es) =
+    let after = step s e in
+    let moves = moves_after step after in
+    ap (λ ms. ms ++ flat_map moves_of_turn (turns_of step (scene_after step (scene first_peers s) ms) (map Happens es))) (turn-whole step s e)
+    ∙ (ap (λ x. (move.Event e ∷ moves) ++ flat_map moves_of_turn (turns_of step x (map Happens es))) (scene-after-turn step s e)
+    ∙ ap (λ ms. move.Event e ∷ (moves ++ ms)) (played-turns step (state_after step after moves) es))
 
 -- a script of events alone is played with whole offers
-pub play_of-events : {W C : Type 0} (device : Device W C) (s : MachineState W C) (es : List Event) → play_of device s (map Happens es) ≡ played device s es
-play_of-events device s es = played-turns device s es
+pub play_of-events : {W C : Type 0} (step : EventStep W C) (s : MachineState W C) (es : List Event) → play_of step s (map Happens es) ≡ played step s es
+play_of-events step s es = played-turns step s es

@@ -4,13 +4,13 @@ use Rattle.ads_outside.specs.declared.event.Event.{Event}
 use Rattle.ads_outside.specs.declared.moves.Move.{Move}
 use Rattle.ads_outside.specs.declared.moves.Move.TheVariants as move
 use Rattle.ads_machine.specs.Connection.{connection_of}
-use Rattle.ads_machine.specs.Moves.{state_after_event}
+use Rattle.ads_machine.specs.Events.{state_after_event}
 use Rattle.ads_machine.specs.Reading.{is_among}
 use Rattle.ads_machine.specs.Offers.{waiting_at}
 use Rattle.ads_machine.specs.ScriptLine.{Happens}
 use Rattle.server_core.specs.declared.served_core.Core.{Core}
 use Rattle.server_core.specs.CoreState.{CoreState}
-use Rattle.server_core.specs.Served.{served, ServedState, ServedConnection}
+use Rattle.server_core.specs.Served.{served, served_step, ServedState, ServedConnection}
 use Rattle.server_core.specs.Serves.{Serves, HasCounts}
 use Rattle.ads_run.specs.Selftest.{selftest_start, selftest_after}
 use Rattle.ads_run.specs.WholePlay.{whole_offers, moves_at, moves_of_numbers, moves_after, played}
@@ -39,16 +39,16 @@ abbrev pub moves_of : List Move → ℕ → List Move
 moves_of log c = moves_at (selftest_after log) c
 
 abbrev pub moves_of_each : List Move → List ℕ → List Move
-moves_of_each log cs = moves_of_numbers served (selftest_after log) cs
+moves_of_each log cs = moves_of_numbers served_step (selftest_after log) cs
 
 -- the turn of an event
 abbrev pub turn_of : List Move → Event → List Move
-turn_of log e = move.Event e ∷ moves_after served (state_after_event served (selftest_after log) e)
+turn_of log e = move.Event e ∷ moves_after served_step (state_after_event served (selftest_after log) e)
 
 -- the play is under way: what is left leads to the log of all events, and opens new connections
 pub record IsUnderWay (core : Core) (log : List Move) (left all : List Event) : Type 0 where
   pub plays : Plays core log
-  pub same_log : log ++ played served (selftest_after log) left ≡ played served selftest_start all
+  pub same_log : log ++ played served_step (selftest_after log) left ≡ played served_step selftest_start all
   pub opened : List ℕ
   pub only : (n : ℕ) → is_among n opened ≡ false
       → connection_of n (selftest_after log).connections ≡ None

@@ -9,7 +9,7 @@ use Rattle.ads_machine.specs.Play.{play_of}
 use Rattle.ads_machine.specs.LogText.{log_text_of}
 use Rattle.ads_machine.specs.Summary.{summary_of}
 use Rattle.ads_machine.specs.SummaryText.{summary_text_of}
-use Rattle.ads_machine.specs.Selftest.{selftest_device}
+use Rattle.ads_machine.specs.Selftest.{selftest_step}
 
 -- the machine before any move
 abbrev pub selftest_start : MachineState (Unit {0}) (Unit {0})
@@ -17,11 +17,11 @@ selftest_start = start_of tt
 
 -- the log of a script's play
 abbrev pub selftest_log : List ScriptLine → List Move
-selftest_log lines = play_of selftest_device selftest_start lines
+selftest_log lines = play_of selftest_step selftest_start lines
 
 -- the machine after a log
 abbrev pub selftest_after : List Move → MachineState (Unit {0}) (Unit {0})
-selftest_after log = state_after selftest_device selftest_start log
+selftest_after log = state_after selftest_step selftest_start log
 
 -- the text of a log, and of what it comes to; no description is reloaded
 abbrev pub run_text_of : List Move → List ℕ

@@ -6,7 +6,7 @@ use Rattle.ads_outside.specs.Named.{bytes_of}
 use Rattle.ads_machine.specs.ScriptLine.{ScriptLine}
 use Rattle.ads_machine.specs.BuiltLines.{built_lines}
 use Rattle.ads_machine.specs.Script.{script_of}
-use Rattle.symbol_file.specs.Reading.{TextVerdict, Described, Breaks, NoDocument, text_verdict}
+use Rattle.ads_rules.specs.TextVerdict.{TextVerdict, Described, Breaks, NoDocument, text_verdict}
 use Rattle.ads_run.specs.declared.status.Status.{Status}
 use Rattle.ads_run.specs.declared.status.Status.TheVariants as status
 use Rattle.ads_run.specs.declared.task.Job.{Job}

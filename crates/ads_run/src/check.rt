@@ -1,7 +1,7 @@
 //! `check`: a description is read, and told of.
 
 ghost use Rattle.std.specs.Prelude.{IfOk};
-ghost use Rattle.symbol_file.specs.Reading.{text_verdict};
+ghost use Rattle.ads_rules.specs.TextVerdict.{text_verdict};
 ghost use Rattle.ads_run.specs.Verdict.{verdict_of_description};
 ghost use Rattle.ads_run.specs.Outcomes.{IsOutcome};
 

@@ -9,11 +9,12 @@ use Rattle.toml.specs.Parse.{parse_document}
 use Rattle.ads_plant.specs.Description.{Description}
 use Rattle.ads_plant.specs.Accepted.{IsAccepted}
 use Rattle.ads_rules.specs.Verdict.{BrokenRule, table_verdict}
+use Rattle.ads_rules.specs.TextVerdict.{Described, Breaks, text_verdict, verdict_of_rules, verdict_of_document, document_of}
 use Rattle.ads_rules.proofs.Accepts.{table_verdict-accepted}
 use Rattle.type_layout.specs.Descriptions.{description_of}
 use Rattle.type_layout.specs.declared.description.Description as layout
 use Rattle.symbol_file.specs.declared.fault.DescFault.{DescFault}
-use Rattle.symbol_file.specs.Reading.{Described, Breaks, text_verdict, verdict_of_rules, verdict_of_document, document_of, answer_of, IsVerdict}
+use Rattle.symbol_file.specs.Reading.{answer_of, IsVerdict}
 
 described-accepted : (signals : ℕ) (table : Members) (x : Description) → verdict_of_rules (table_verdict signals table) ≡ Described x → IsAccepted x signals
 described-accepted signals table x h = go (table_verdict signals table) refl h

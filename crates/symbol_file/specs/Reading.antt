@@ -1,41 +1,10 @@
--- What the bytes of a file are to the reader of descriptions.
-use Rattle.std.specs.Prelude.{◌≡◌, ℕ, List, length, nat_lt, Option, Some, None, Result, Ok, Err, if◌then◌else◌}
-use Rattle.std.specs.Str.{is_utf8}
-use Rattle.toml.specs.Data.{Members}
-use Rattle.toml.specs.Parse.{parse_document}
-use Rattle.ads_plant.specs.Description.{Description}
-use Rattle.ads_rules.specs.Verdict.{BrokenRule, table_verdict}
+-- What the reader of descriptions answers: the verdict on the bytes of a text.
+use Rattle.std.specs.Prelude.{◌≡◌, ℕ, List, Result, Ok, Err}
+use Rattle.ads_rules.specs.TextVerdict.{TextVerdict, Described, Breaks, NoDocument, text_verdict}
 use Rattle.type_layout.specs.Descriptions.{description_of}
 use Rattle.type_layout.specs.declared.description.Description as layout
 use Rattle.symbol_file.specs.declared.fault.DescFault.{DescFault}
 use Rattle.symbol_file.specs.declared.fault.DescFault.TheVariants.{Syntax, Rule}
-
--- a description; the least broken rule, and in it the least item; or no TOML document
-pub data TextVerdict : Type 0 where
-  Described : Description → TextVerdict
-  Breaks : ℕ → ℕ → TextVerdict
-  NoDocument : TextVerdict
-
--- the most bytes that a description may have
-abbrev pub DESCRIPTION_LIMIT : ℕ
-DESCRIPTION_LIMIT = 16777216
-
-abbrev pub verdict_of_rules : Result Description BrokenRule → TextVerdict
-verdict_of_rules (Ok description) = Described description
-verdict_of_rules (Err fault) = Breaks fault.number fault.item
-
-abbrev pub verdict_of_document : ℕ → Option Members → TextVerdict
-verdict_of_document signals None = NoDocument
-verdict_of_document signals (Some table) = verdict_of_rules (table_verdict signals table)
-
--- bytes that are not UTF-8 are no TOML document
-abbrev pub document_of : List ℕ → Option Members
-document_of text = if is_utf8 text then parse_document text else None
-
--- rule 1 is looked at before the text is read as TOML
-unfoldable pub text_verdict : ℕ → List ℕ → TextVerdict
-text_verdict signals text =
-    if nat_lt DESCRIPTION_LIMIT (length text) then Breaks 1 0 else verdict_of_document signals (document_of text)
 
 -- the verdict that the code answers
 abbrev pub answer_of : Result layout.Description DescFault → TextVerdict

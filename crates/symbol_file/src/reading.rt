@@ -4,7 +4,8 @@ ghost use Rattle.toml.specs.View.{table_view};
 ghost use Rattle.ads_plant.specs.Accepted.{IsAccepted};
 ghost use Rattle.ads_rules.specs.Verdict.{table_verdict};
 ghost use Rattle.type_layout.specs.Descriptions.{description_of};
-ghost use Rattle.symbol_file.specs.Reading.{IsVerdict, answer_of, document_of, verdict_of_rules};
+ghost use Rattle.ads_rules.specs.TextVerdict.{document_of, verdict_of_rules};
+ghost use Rattle.symbol_file.specs.Reading.{IsVerdict, answer_of};
 
 use crate::DescFault;
 use crate::building::build;

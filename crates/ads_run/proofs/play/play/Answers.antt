@@ -4,7 +4,7 @@ use Rattle.std.proofs.lemmas.List.{drop_all}
 use Rattle.ads_outside.specs.declared.event.Event.{Event}
 use Rattle.ads_outside.specs.declared.moves.Move.{Move}
 use Rattle.replay_script.specs.Answered.{lines_of_events}
-use Rattle.ads_machine.specs.Selftest.{selftest_device}
+use Rattle.ads_machine.specs.Selftest.{selftest_step}
 use Rattle.ads_run.specs.Selftest.{selftest_start, selftest_log, run_text_of}
 use Rattle.ads_run.specs.Playing.{IsUnderWay}
 use Rattle.ads_run.proofs.WholePlayLemmas.{play_of-events}
@@ -43,6 +43,6 @@ returns c =
     let log = c.loop-event.log in
     let P : List Event → Type 0 = λ left. IsUnderWay c.loop-event.core log left events in
     let all = all_turns c.loop-event.core log events (subst P (drop_all i events (omega arith)) c.loop-event.invariant) in
-    let played = all ∙ sym (play_of-events selftest_device selftest_start events) ∙ ap (λ es. selftest_log (lines_of_events es)) c.as_slice-event-items.ensures in
+    let played = all ∙ sym (play_of-events selftest_step selftest_start events) ∙ ap (λ es. selftest_log (lines_of_events es)) c.as_slice-event-items.ensures in
     let T : List Move → Type 0 = λ l. IfOk c.text_of.result (λ text. text ≡ run_text_of l) in
     subst T played c.text_of.ensures
