@@ -21,7 +21,8 @@ use Rattle.ads_machine.specs.Handles.{HandleStatus, Never, Released, Outdated, L
 use Rattle.ads_machine.specs.Watches.{Watch, watch_after_reload, watches_after_reload}
 use Rattle.ads_machine.specs.Client.{Place, Client, new_client, kept_place, is_in_part, are_kept, kept_bytes, client_after_reload}
 use Rattle.ads_machine.specs.Answers.{AnswerTable}
-use Rattle.ads_machine.specs.Packets.{Decision, decide, acts_in}
+use Rattle.ads_machine.specs.Decisions.{Decision, acts_in}
+use Rattle.ads_machine.specs.Packets.{decide}
 use Rattle.ads_machine.specs.Replies.{performed}
 use Rattle.ads_machine.specs.Ticks.{signal_puts, world_after_tick, client_after_tick}
 use Rattle.ads_machine.specs.Reloads.{is_kept, world_after_reload, client_reloaded}
@@ -241,15 +242,15 @@ gone-fits x sound f = λ heard. absurd (false≢true (sym heard ∙ or_true x.co
 pub took-goes : (n : ℕ) (x : Exchange World Client) → Goes x (with_took n x)
 took-goes n x =
     elim (cases_Bool x.connection.gone) [
-      | inl b ↦ subst (λ (t : Bool). Goes x (cond t x (record x { connection = record x.connection { took = x.connection.took + n } }))) (sym b) (record { plant = refl; memory = alike_itself x.world.memory })
-      | inr b ↦ subst (λ (t : Bool). Goes x (cond t x (record x { connection = record x.connection { took = x.connection.took + n } }))) (sym b) (record { plant = refl; memory = alike_itself x.world.memory })
+      | inl b ↦ subst (λ (t : Bool). Goes x (cond t x (record x { connection = record x.connection { bytes_taken = x.connection.bytes_taken + n } }))) (sym b) (record { plant = refl; memory = alike_itself x.world.memory })
+      | inr b ↦ subst (λ (t : Bool). Goes x (cond t x (record x { connection = record x.connection { bytes_taken = x.connection.bytes_taken + n } }))) (sym b) (record { plant = refl; memory = alike_itself x.world.memory })
     ]
 
 took-fits : (n : ℕ) (x : Exchange World Client) → IsSoundPlant x.world.plant → ConnFits x.world.plant x.connection → ConnFits x.world.plant (with_took n x).connection
 took-fits n x sound f =
     elim (cases_Bool x.connection.gone) [
-      | inl b ↦ subst (λ (t : Bool). ConnFits x.world.plant (cond t x (record x { connection = record x.connection { took = x.connection.took + n } })).connection) (sym b) f
-      | inr b ↦ subst (λ (t : Bool). ConnFits x.world.plant (cond t x (record x { connection = record x.connection { took = x.connection.took + n } })).connection) (sym b) f
+      | inl b ↦ subst (λ (t : Bool). ConnFits x.world.plant (cond t x (record x { connection = record x.connection { bytes_taken = x.connection.bytes_taken + n } })).connection) (sym b) f
+      | inr b ↦ subst (λ (t : Bool). ConnFits x.world.plant (cond t x (record x { connection = record x.connection { bytes_taken = x.connection.bytes_taken + n } })).connection) (sym b) f
     ]
 
 tick-fits : (table : AnswerTable) (reading : DescriptionReading) (plant : Plant) (now : ℕ) (w : World) (k : Connection Client) → ConnFits plant k → ConnFits plant (connection_after_tick (ads_device table reading) now w k)

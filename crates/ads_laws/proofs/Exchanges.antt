@@ -18,7 +18,8 @@ use Rattle.ads_machine.specs.Watches.{Watch}
 use Rattle.ads_machine.specs.Client.{Client, Effect, NoEffect, Grants, Releases, Adds, Deletes, client_after}
 use Rattle.ads_machine.specs.Acts.{Act, Refusal, Allowed, effect_of, added_reads, reads_of_act, writes_of_act, reads_of_acts, writes_of_acts, memory_after_acts, client_after_acts}
 use Rattle.ads_machine.specs.Answers.{AnswerTable}
-use Rattle.ads_machine.specs.Packets.{Decision, NoAnswer, EndConnection, AmsError, Perform, decide, acts_in}
+use Rattle.ads_machine.specs.Decisions.{Decision, NoAnswer, EndConnection, AmsError, Perform, acts_in}
+use Rattle.ads_machine.specs.Packets.{decide}
 use Rattle.ads_machine.specs.Replies.{reply_payload, outcome_in_all, response_packet, answer_to, answer_of, performed}
 use Rattle.ads_machine.specs.AdsDevice.{DescriptionReading, ads_device}
 use Rattle.ads_machine.specs.Projection.{acts_of_packet, acts_of_packets, acts_of_piece}

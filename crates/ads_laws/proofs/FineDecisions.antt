@@ -1,25 +1,23 @@
 -- What a packet leaves of a client fits the plant, if the client fitted it before.
-use Rattle.std.proofs.Common.{◌≡◌, ℕ, ◌-◌, List, [], ◌∷◌, Bool, true, false, cond, refl, sym, subst, inl, inr}
+use Rattle.std.proofs.Common.{◌≡◌, ℕ, ◌-◌, List, [], ◌∷◌, refl, sym, subst, inl, inr}
 use Rattle.std.specs.Prelude.{Option, Some, None, ◌==◌, not}
 use Rattle.std.proofs.lemmas.Bool.{cases_Bool}
-use Rattle.ads_plant.specs.Description.{Rights}
-use Rattle.ads_plant.specs.Rights.{rights_of}
-use Rattle.ads_plant.specs.World.{Plant, PlantPort}
-use Rattle.ads_formats.specs.Codes.{target_port_not_found, target_machine_not_found, unknown_command_id, unknown_ams_command, invalid_ams_length, invalid_size}
-use Rattle.ads_formats.specs.Groups.{Group, SumRead, SumWrite, SumReadWrite}
-use Rattle.ads_formats.specs.Header.{AmsHeader, header_of, payload_of}
-use Rattle.ads_formats.specs.Request.{Request, ReadDeviceInfo, Read, Write, ReadState, WriteControl, AddDeviceNotification, DeleteDeviceNotification, DeviceNotification, ReadWrite, request_of}
+use Rattle.ads_plant.specs.World.{Plant}
+use Rattle.ads_formats.specs.Request.{Request}
 use Rattle.ads_machine.specs.World.{Setup, port_numbered}
 use Rattle.ads_machine.specs.Access.{Addressed}
 use Rattle.ads_machine.specs.Handles.{Handle, Live, with_released, handles_after}
 use Rattle.ads_machine.specs.Watches.{Watch}
 use Rattle.ads_machine.specs.Client.{Place, Client, Effect, NoEffect, Grants, Releases, Adds, Deletes, client_after}
 use Rattle.ads_machine.specs.Acts.{Act, Refusal, Allowed, effect_of, client_after_acts}
-use Rattle.ads_machine.specs.Answers.{AnswerTable, answered_group}
+use Rattle.ads_machine.specs.Answers.{AnswerTable}
 use Rattle.ads_machine.specs.Writes.{Asker}
 use Rattle.ads_machine.specs.Requests.{act_of}
 use Rattle.ads_machine.specs.Sums.{SumRequest, sum_of_reads, sum_of_writes, sum_of_read_writes, given_in_turn}
-use Rattle.ads_machine.specs.Packets.{Decision, NoAnswer, EndConnection, AmsError, refuse, client_after_request, acts_of, decide_parts, decide_single, decide_read_write, decide_request, decide_port, decide_target, decide_header, decide, acts_in}
+use Rattle.ads_machine.specs.Decisions.{Decision, NoAnswer, EndConnection, AmsError, refuse, acts_in}
+use Rattle.ads_machine.specs.SumPackets.{client_after_request, acts_of, decide_parts, decide_single}
+use Rattle.ads_machine.specs.Packets.{decide}
+use Rattle.ads_machine.proofs.DecisionCases.{decide-cases}
 use Rattle.ads_laws.specs.Soundness.{Each, IsSoundPlant}
 use Rattle.ads_laws.specs.Reachable.{IsPlacedHandle}
 use Rattle.ads_laws.proofs.Footprints.{each_both}
@@ -70,10 +68,6 @@ acts_of-fine table d k i (r ∷ rs) c f =
 pub record FineDecision (plant : Plant) (x : Decision) : Type 0 where
   pub acts : Each (FineAct plant) (acts_in x)
 
-if_fine : (plant : Plant) (b : Bool) (x y : Decision) → FineDecision plant x → FineDecision plant y → FineDecision plant (cond b x y)
-if_fine plant true x y p q = p
-if_fine plant false x y p q = q
-
 silent_fine : (plant : Plant) → FineDecision plant NoAnswer
 silent_fine plant = record { acts = tt }
 
@@ -93,48 +87,23 @@ parts-fine table d c k i f s None = record { acts = acts_of-fine table d k i s.p
 single-fine : (table : AnswerTable) (d : Setup) (c : Client) (k : Asker) → IsAsked d.plant k.port → FitsPlant d.plant c → (r : Request) → FineDecision d.plant (decide_single table d c k r)
 single-fine table d c k i f r = record { acts = acts_of-fine table d k i (r ∷ []) c f }
 
-read_write-fine : (table : AnswerTable) (d : Setup) (c : Client) (k : Asker) → IsAsked d.plant k.port → FitsPlant d.plant c → (g : Option Group) (r : Request) (n len : ℕ) (bytes : List ℕ) → FineDecision d.plant (decide_read_write table d c k g r n len bytes)
-read_write-fine table d c k i f (Some SumRead) r n len bytes = parts-fine table d c k i f (sum_of_reads n bytes) _
-read_write-fine table d c k i f (Some SumWrite) r n len bytes = parts-fine table d c k i f (sum_of_writes n bytes) _
-read_write-fine table d c k i f (Some SumReadWrite) r n len bytes = parts-fine table d c k i f (sum_of_read_writes n bytes) _
-read_write-fine table d c k i f g r n len bytes = single-fine table d c k i f r
-
-request-fine : (table : AnswerTable) (d : Setup) (c : Client) (k : Asker) → IsAsked d.plant k.port → FitsPlant d.plant c → (o : Option Request) → FineDecision d.plant (decide_request table d c k o)
-unfolding decide_request
-request-fine table d c k i f None = refuse_fine d.plant invalid_size
-request-fine table d c k i f (Some (ReadWrite group offset len bytes)) = read_write-fine table d c k i f (answered_group table _ group) (ReadWrite group offset len bytes) offset len bytes
-request-fine table d c k i f (Some ReadDeviceInfo) = single-fine table d c k i f ReadDeviceInfo
-request-fine table d c k i f (Some (Read g o l)) = single-fine table d c k i f (Read g o l)
-request-fine table d c k i f (Some (Write g o b)) = single-fine table d c k i f (Write g o b)
-request-fine table d c k i f (Some ReadState) = single-fine table d c k i f ReadState
-request-fine table d c k i f (Some (WriteControl a s b)) = single-fine table d c k i f (WriteControl a s b)
-request-fine table d c k i f (Some (AddDeviceNotification g o l m y t)) = single-fine table d c k i f (AddDeviceNotification g o l m y t)
-request-fine table d c k i f (Some (DeleteDeviceNotification h)) = single-fine table d c k i f (DeleteDeviceNotification h)
-request-fine table d c k i f (Some (DeviceNotification b)) = single-fine table d c k i f (DeviceNotification b)
-
-port-fine : (table : AnswerTable) (d : Setup) (c : Client) (rights : Rights) (h : AmsHeader) (payload : List ℕ) → IsSoundPlant d.plant → FitsPlant d.plant c → (o : Option PlantPort) → port_numbered h.target.port d.plant.ports ≡ o
-    → FineDecision d.plant (decide_port table d c rights h payload o)
-port-fine table d c rights h payload sound f None e = error_fine d.plant target_port_not_found
-port-fine table d c rights h payload sound f (Some p) e =
-    let number = port_number h.target.port d.plant.ports p e in
-    let P : ℕ → Type 0 = λ m. port_numbered m d.plant.ports ≡ Some p in
-    let k : Asker = record { port = p; address = h.source; rights = rights } in
-    let r = request-fine table d c k (record { sound = sound; found = subst P (sym number) e }) f (request_of h.command payload) in
-    let answered = if_fine d.plant (not (table.is_answered h.command)) (AmsError unknown_command_id) (decide_request table d c k (request_of h.command payload)) (error_fine d.plant unknown_command_id) r in
-    if_fine d.plant _ NoAnswer _ (silent_fine d.plant) answered
-
-target-fine : (table : AnswerTable) (d : Setup) (c : Client) (h : AmsHeader) (payload : List ℕ) → IsSoundPlant d.plant → FitsPlant d.plant c → (o : Option Rights) → FineDecision d.plant (decide_target table d c h payload o)
-target-fine table d c h payload sound f None = end_fine d.plant
-target-fine table d c h payload sound f (Some rights) =
-    if_fine d.plant _ (AmsError target_machine_not_found) _ (error_fine d.plant target_machine_not_found) (port-fine table d c rights h payload sound f (port_numbered h.target.port d.plant.ports) refl)
-
-header-fine : (table : AnswerTable) (d : Setup) (c : Client) (payload : List ℕ) → IsSoundPlant d.plant → FitsPlant d.plant c → (o : Option AmsHeader) → FineDecision d.plant (decide_header table d c payload o)
-header-fine table d c payload sound f None = silent_fine d.plant
-header-fine table d c payload sound f (Some h) =
-    let t = target-fine table d c h payload sound f (rights_of h.source.net d.plant.routes) in
-    let flags = if_fine d.plant _ (AmsError unknown_ams_command) (decide_target table d c h payload (rights_of h.source.net d.plant.routes)) (error_fine d.plant unknown_ams_command) t in
-    if_fine d.plant _ (AmsError invalid_ams_length) _ (error_fine d.plant invalid_ams_length) (if_fine d.plant _ NoAnswer _ (silent_fine d.plant) flags)
+-- the port that is asked is there
+asked_there : (d : Setup) (k : Asker) (number : ℕ) → IsSoundPlant d.plant → port_numbered number d.plant.ports ≡ Some k.port → IsAsked d.plant k.port
+asked_there d k number sound e =
+    let P : ℕ → Type 0 = λ m. port_numbered m d.plant.ports ≡ Some k.port in
+    record { sound = sound; found = subst P (sym (port_number number d.plant.ports k.port e)) e }
 
 pub decide-fine : (table : AnswerTable) (d : Setup) (c : Client) (packet : List ℕ) → IsSoundPlant d.plant → FitsPlant d.plant c → FineDecision d.plant (decide table d c packet)
-unfolding decide
-decide-fine table d c packet sound f = header-fine table d c (payload_of packet) sound f (header_of packet)
+decide-fine table d c packet sound f =
+    decide-cases table d c (FineDecision d.plant)
+    (record {
+      silent = silent_fine d.plant;
+      ends = end_fine d.plant;
+      error = error_fine d.plant;
+      refused = refuse_fine d.plant;
+      single = λ k number e r. single-fine table d c k (asked_there d k number sound e) f r;
+      reads = λ k number e n len bytes. parts-fine table d c k (asked_there d k number sound e) f (sum_of_reads n bytes) _;
+      writes = λ k number e n len bytes. parts-fine table d c k (asked_there d k number sound e) f (sum_of_writes n bytes) _;
+      read_writes = λ k number e n len bytes. parts-fine table d c k (asked_there d k number sound e) f (sum_of_read_writes n bytes) _;
+    })
+    packet

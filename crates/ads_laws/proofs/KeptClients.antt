@@ -1,31 +1,28 @@
 -- What each request, tick and reload keeps of a client is kept by every log.
 use Rattle.std.proofs.Common.{◌≡◌, ℕ, List, [], ◌∷◌, Bool, true, false, cond, refl, sym, subst}
-use Rattle.std.specs.Prelude.{Option, Some, None, not, ◌==◌, ◌%◌, length}
-use Rattle.ads_formats.specs.Codes.{unknown_ams_command, invalid_ams_length}
-use Rattle.ads_plant.specs.Description.{Rights}
-use Rattle.ads_plant.specs.Rights.{rights_of}
-use Rattle.ads_plant.specs.World.{PlantPort}
-use Rattle.ads_formats.specs.Groups.{Group, SumRead, SumWrite, SumReadWrite}
-use Rattle.ads_formats.specs.Header.{AmsHeader, header_of, payload_of, request_flags}
-use Rattle.ads_formats.specs.Request.{Request, ReadDeviceInfo, Read, Write, ReadState, WriteControl, AddDeviceNotification, DeleteDeviceNotification, DeviceNotification, ReadWrite, request_of}
+use Rattle.std.specs.Prelude.{Option, Some, None, ◌==◌, ◌%◌}
+use Rattle.ads_formats.specs.Request.{Request}
 use Rattle.ads_machine.specs.Device.{FrameOutcome, ClientOutcome}
 use Rattle.ads_machine.specs.Connection.{Connection, is_deaf}
 use Rattle.ads_machine.specs.MachineState.{Exchange}
 use Rattle.ads_machine.specs.Piece.{with_received, packets_left, with_one_taken, with_client, after_outcome, after_packet, after_packets, with_piece, end_of_piece, after_piece}
 use Rattle.ads_machine.specs.Events.{after_client_outcome, connection_after_tick, connection_after_reload}
-use Rattle.ads_machine.specs.World.{World, Setup, setup_of, port_numbered}
+use Rattle.ads_machine.specs.World.{World, Setup, setup_of}
 use Rattle.ads_machine.specs.Client.{Client, new_client, client_after}
 use Rattle.ads_machine.specs.Acts.{effect_of, client_after_acts}
-use Rattle.ads_machine.specs.Answers.{AnswerTable, answered_group}
+use Rattle.ads_machine.specs.Answers.{AnswerTable}
 use Rattle.ads_machine.specs.Writes.{Asker}
 use Rattle.ads_machine.specs.Requests.{act_of}
 use Rattle.ads_machine.specs.Sums.{SumRequest, sum_of_reads, sum_of_writes, sum_of_read_writes, given_in_turn}
-use Rattle.ads_machine.specs.Packets.{Decision, NoAnswer, EndConnection, AmsError, refuse, client_after_request, acts_of, decide_parts, decide_single, decide_read_write, decide_request, decide_port, decide_target, decide_header, decide, acts_in}
+use Rattle.ads_machine.specs.Decisions.{Decision, NoAnswer, EndConnection, AmsError, refuse, acts_in}
+use Rattle.ads_machine.specs.SumPackets.{client_after_request, acts_of, decide_parts, decide_single}
+use Rattle.ads_machine.specs.Packets.{decide}
 use Rattle.ads_machine.specs.Replies.{performed}
 use Rattle.ads_machine.specs.Ticks.{client_after_tick}
 use Rattle.ads_machine.specs.Reloads.{client_reloaded}
 use Rattle.ads_machine.specs.AdsDevice.{DescriptionReading, ads_device}
 use Rattle.ads_machine.proofs.Carried.{Carries, took-cases}
+use Rattle.ads_machine.proofs.DecisionCases.{decide-cases}
 use Rattle.ads_laws.proofs.Exchanges.{produce_all-client, answer-client, rest-client}
 
 -- what is kept: I holds of a new client, and is kept by each request, tick and reload
@@ -38,10 +35,6 @@ pub record Keeps (table : AnswerTable) (I : Client → Type 0) : Type 0 where
 -- what a decision leaves, as a record so that `_` is found
 record Leaves (I : Client → Type 0) (c : Client) (x : Decision) : Type 0 where
   left : I (client_after_acts c (acts_in x))
-
-leaves_if : (I : Client → Type 0) (c : Client) (b : Bool) (x y : Decision) → Leaves I c x → Leaves I c y → Leaves I c (cond b x y)
-leaves_if I c true x y p q = p
-leaves_if I c false x y p q = q
 
 no_acts : (I : Client → Type 0) (c : Client) → I c → (x : Decision) → acts_in x ≡ [] → Leaves I c x
 unfolding client_after_acts
@@ -63,50 +56,23 @@ parts-leave : (table : AnswerTable) (I : Client → Type 0) → Keeps table I �
 parts-leave table I h d c k i s (Some code) = refused I c i code
 parts-leave table I h d c k i s None = record { left = acts-leave table I h d k s.parts c i }
 
-read_write-leaves : (table : AnswerTable) (I : Client → Type 0) → Keeps table I → (d : Setup) (c : Client) (k : Asker) → I c → (g : Option Group) (r : Request) (n len : ℕ) (bytes : List ℕ) → Leaves I c (decide_read_write table d c k g r n len bytes)
-read_write-leaves table I h d c k i (Some SumRead) r n len bytes = parts-leave table I h d c k i (sum_of_reads n bytes) _
-read_write-leaves table I h d c k i (Some SumWrite) r n len bytes = parts-leave table I h d c k i (sum_of_writes n bytes) _
-read_write-leaves table I h d c k i (Some SumReadWrite) r n len bytes = parts-leave table I h d c k i (sum_of_read_writes n bytes) _
-read_write-leaves table I h d c k i g r n len bytes = single-leaves table I h d c k i r
-
-request-leaves : (table : AnswerTable) (I : Client → Type 0) → Keeps table I → (d : Setup) (c : Client) (k : Asker) → I c → (o : Option Request) → Leaves I c (decide_request table d c k o)
-unfolding decide_request
-request-leaves table I h d c k i None = refused I c i _
-request-leaves table I h d c k i (Some (ReadWrite group offset len bytes)) = read_write-leaves table I h d c k i (answered_group table _ group) (ReadWrite group offset len bytes) offset len bytes
-request-leaves table I h d c k i (Some ReadDeviceInfo) = single-leaves table I h d c k i ReadDeviceInfo
-request-leaves table I h d c k i (Some (Read g o l)) = single-leaves table I h d c k i (Read g o l)
-request-leaves table I h d c k i (Some (Write g o b)) = single-leaves table I h d c k i (Write g o b)
-request-leaves table I h d c k i (Some ReadState) = single-leaves table I h d c k i ReadState
-request-leaves table I h d c k i (Some (WriteControl a s b)) = single-leaves table I h d c k i (WriteControl a s b)
-request-leaves table I h d c k i (Some (AddDeviceNotification g o l m y t)) = single-leaves table I h d c k i (AddDeviceNotification g o l m y t)
-request-leaves table I h d c k i (Some (DeleteDeviceNotification n)) = single-leaves table I h d c k i (DeleteDeviceNotification n)
-request-leaves table I h d c k i (Some (DeviceNotification b)) = single-leaves table I h d c k i (DeviceNotification b)
-
-port-leaves : (table : AnswerTable) (I : Client → Type 0) → Keeps table I → (d : Setup) (c : Client) (rights : Rights) (h : AmsHeader) (payload : List ℕ) → I c → (o : Option PlantPort) → Leaves I c (decide_port table d c rights h payload o)
-port-leaves table I keeps d c rights h payload i None = no_acts I c i _ refl
-port-leaves table I keeps d c rights h payload i (Some p) =
-    let k : Asker = record { port = p; address = h.source; rights = rights } in
-    let r = request-leaves table I keeps d c k i (request_of h.command payload) in
-    leaves_if I c _ NoAnswer _ (no_acts I c i NoAnswer refl) (leaves_if I c _ (AmsError _) (decide_request table d c k (request_of h.command payload)) (no_acts I c i (AmsError _) refl) r)
-
-target-leaves : (table : AnswerTable) (I : Client → Type 0) → Keeps table I → (d : Setup) (c : Client) (h : AmsHeader) (payload : List ℕ) → I c → (o : Option Rights) → Leaves I c (decide_target table d c h payload o)
-target-leaves table I keeps d c h payload i None = no_acts I c i EndConnection refl
-target-leaves table I keeps d c h payload i (Some rights) =
-    leaves_if I c _ (AmsError _) _ (no_acts I c i (AmsError _) refl) (port-leaves table I keeps d c rights h payload i (port_numbered h.target.port d.plant.ports))
-
-header-leaves : (table : AnswerTable) (I : Client → Type 0) → Keeps table I → (d : Setup) (c : Client) (payload : List ℕ) → I c → (o : Option AmsHeader) → Leaves I c (decide_header table d c payload o)
-header-leaves table I keeps d c payload i None = no_acts I c i NoAnswer refl
-header-leaves table I keeps d c payload i (Some h) =
-    let target = decide_target table d c h payload (rights_of h.source.net d.plant.routes) in
-    let flags = cond (not (h.flags == request_flags)) (AmsError unknown_ams_command) target in
-    let response = cond (h.flags % 2 == 1) NoAnswer flags in
-    let t = target-leaves table I keeps d c h payload i (rights_of h.source.net d.plant.routes) in
-    let f = leaves_if I c (not (h.flags == request_flags)) (AmsError unknown_ams_command) target (no_acts I c i (AmsError unknown_ams_command) refl) t in
-    let r = leaves_if I c (h.flags % 2 == 1) NoAnswer flags (no_acts I c i NoAnswer refl) f in
-    leaves_if I c (not (h.len == length payload)) (AmsError invalid_ams_length) response (no_acts I c i (AmsError invalid_ams_length) refl) r
+decide-leaves : (table : AnswerTable) (I : Client → Type 0) → Keeps table I → (d : Setup) (c : Client) → I c → (packet : List ℕ) → Leaves I c (decide table d c packet)
+decide-leaves table I h d c i packet =
+    decide-cases table d c (Leaves I c)
+    (record {
+      silent = no_acts I c i NoAnswer refl;
+      ends = no_acts I c i EndConnection refl;
+      error = λ code. no_acts I c i (AmsError code) refl;
+      refused = λ code. refused I c i code;
+      single = λ k number e r. single-leaves table I h d c k i r;
+      reads = λ k number e n len bytes. parts-leave table I h d c k i (sum_of_reads n bytes) _;
+      writes = λ k number e n len bytes. parts-leave table I h d c k i (sum_of_writes n bytes) _;
+      read_writes = λ k number e n len bytes. parts-leave table I h d c k i (sum_of_read_writes n bytes) _;
+    })
+    packet
 
 packet-keeps : (table : AnswerTable) (reading : DescriptionReading) (I : Client → Type 0) → Keeps table I → (p : List ℕ) (x : Exchange World Client) → I x.connection.client → I (after_packet (ads_device table reading) p x).connection.client
-unfolding after_packet performed decide
+unfolding after_packet performed
 packet-keeps table reading I h p x i = go x.connection.closing
   where
     decision : Decision
@@ -118,7 +84,7 @@ packet-keeps table reading I h p x i = go x.connection.closing
     go : (b : Bool) → I (cond b x (after_outcome o x.connection)).connection.client
     go true = i
     go false = subst I (sym (answer-client o.answer (with_client o.client (with_one_taken x.connection))))
-        (header-leaves table I h (setup_of x.world) x.connection.client (payload_of p) i (header_of p)).left
+        (decide-leaves table I h (setup_of x.world) x.connection.client i p).left
 
 packets-keep : (table : AnswerTable) (reading : DescriptionReading) (I : Client → Type 0) → Keeps table I → (ps : List (List ℕ)) (x : Exchange World Client) → I x.connection.client → I (after_packets (ads_device table reading) ps x).connection.client
 unfolding after_packets

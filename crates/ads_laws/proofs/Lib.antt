@@ -23,3 +23,6 @@ pub mod ShortReplies
 pub mod RepliesFit
 pub mod TameTypes
 pub mod TameTrees
+pub mod BitWrites
+pub mod HandleWrites
+pub mod Histories

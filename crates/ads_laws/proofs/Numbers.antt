@@ -11,7 +11,8 @@ use Rattle.ads_machine.specs.Handles.{Live, handle_after_reload, handles_after}
 use Rattle.ads_machine.specs.Client.{Client, Effect, NoEffect, Grants, Releases, Adds, Deletes, client_after, kept_place, client_after_reload}
 use Rattle.ads_machine.specs.Acts.{Act, effect_of, client_after_acts}
 use Rattle.ads_machine.specs.Answers.{AnswerTable}
-use Rattle.ads_machine.specs.Packets.{Decision, decide, acts_in}
+use Rattle.ads_machine.specs.Decisions.{Decision, acts_in}
+use Rattle.ads_machine.specs.Packets.{decide}
 use Rattle.ads_machine.specs.Replies.{performed}
 use Rattle.ads_machine.specs.Ticks.{client_after_tick}
 use Rattle.ads_machine.specs.Reloads.{is_kept, client_reloaded}

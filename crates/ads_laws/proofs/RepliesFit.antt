@@ -1,18 +1,17 @@
 -- Each reply has at most 2,000,000 bytes of data.
-use Rattle.std.proofs.Common.{◌≡◌, ℕ, ◌≤◌, List, [], ◌∷◌, map, length, Bool, true, false, cond, refl, sym, subst, arith, inl, inr}
-use Rattle.std.specs.Prelude.{Option, Some, None, Result, Ok, Err, nat_lt, not, ◌==◌}
+use Rattle.std.proofs.Common.{◌≡◌, ℕ, ◌≤◌, List, [], ◌∷◌, map, length, refl, sym, subst, arith, inl, inr}
+use Rattle.std.specs.Prelude.{Option, Some, None, Result, Ok, Err, nat_lt, ◌==◌}
 use Rattle.std.proofs.lemmas.Bool.{cases_Bool, ltb-false}
 use Rattle.ads_plant.specs.AcceptedTypes.{LIMIT}
-use Rattle.ads_plant.specs.Description.{Rights, size_in}
-use Rattle.ads_plant.specs.Rights.{rights_of}
+use Rattle.ads_plant.specs.Description.{size_in}
 use Rattle.ads_plant.specs.World.{Plant, PlantPort, Block}
 use Rattle.ads_plant.specs.Finding.{found_of}
-use Rattle.ads_formats.specs.Codes.{invalid_size, target_port_not_found, target_machine_not_found, unknown_command_id, unknown_ams_command, invalid_ams_length}
-use Rattle.ads_formats.specs.Groups.{Group, AreaSize, HandleByName, ValueByName, InfoByName, SymbolVersion, ExtendedInfoByName, SymbolUpload, UploadInfo, TypeUpload, UploadInfoWithTypes, ReleaseHandle, SumRead, SumWrite, SumReadWrite}
-use Rattle.ads_formats.specs.Header.{AmsHeader, header_of, payload_of}
+use Rattle.ads_formats.specs.Codes.{invalid_size}
+use Rattle.ads_formats.specs.Groups.{Group, AreaSize, HandleByName, ValueByName, InfoByName, SymbolVersion, ExtendedInfoByName, SymbolUpload, UploadInfo, TypeUpload, UploadInfoWithTypes, ReleaseHandle}
+use Rattle.ads_formats.specs.Header.{AmsHeader, header_of}
 use Rattle.ads_formats.specs.Ranges.{greatest_len}
 use Rattle.ads_formats.specs.Reply.{facts_bytes}
-use Rattle.ads_formats.specs.Request.{Request, ReadDeviceInfo, Read, Write, ReadState, WriteControl, AddDeviceNotification, DeleteDeviceNotification, DeviceNotification, ReadWrite, request_of}
+use Rattle.ads_formats.specs.Request.{Request, ReadDeviceInfo, Read, Write, ReadState, WriteControl, AddDeviceNotification, DeleteDeviceNotification, DeviceNotification, ReadWrite}
 use Rattle.ads_machine.specs.Connection.{Connection}
 use Rattle.ads_machine.specs.Moves.{state_after}
 use Rattle.ads_machine.specs.World.{World, Setup, setup_of, port_numbered, state_names}
@@ -31,9 +30,12 @@ use Rattle.ads_machine.specs.Writes.{Asker, write_act, release_act, write_group,
 use Rattle.ads_machine.specs.ByName.{place_of, grant_act, value_act, info_of, read_write_group}
 use Rattle.ads_machine.specs.Requests.{next_watch, add_watch, add_reached, add_act, act_of}
 use Rattle.ads_machine.specs.Sums.{SumRequest, sum_of_reads, sum_of_writes, sum_of_read_writes, given_in_turn}
-use Rattle.ads_machine.specs.Packets.{Decision, NoAnswer, EndConnection, AmsError, Perform, refuse, acts_of, decide_parts, decide_single, decide_read_write, decide_request, decide_port, decide_target, decide_header, decide}
+use Rattle.ads_machine.specs.Decisions.{Decision, NoAnswer, EndConnection, AmsError, Perform, refuse}
+use Rattle.ads_machine.specs.SumPackets.{acts_of, decide_parts, decide_single}
+use Rattle.ads_machine.specs.Packets.{decide}
 use Rattle.ads_machine.specs.Replies.{outcome_in_all, answer_to, answer_of, performed}
 use Rattle.ads_machine.specs.AdsDevice.{DescriptionReading, ads_device, server_step}
+use Rattle.ads_machine.proofs.DecisionCases.{decide-cases}
 use Rattle.ads_laws.specs.Isolation.{start}
 use Rattle.ads_laws.specs.Soundness.{Each, IsSoundPlant}
 use Rattle.ads_laws.specs.Reachable.{IsPlacedStatus, IsPlacedHandle, ConnectionFits}
@@ -144,10 +146,6 @@ given_len (Perform acts form) memory = length (outcome_in_all form (outcomes_of 
 record IsShortDecision (x : Decision) : Type 0 where
   short : (memory : List Block) → given_len x memory ≤ greatest_len
 
-decision_if : (b : Bool) (x y : Decision) → IsShortDecision x → IsShortDecision y → IsShortDecision (cond b x y)
-decision_if true x y p q = p
-decision_if false x y p q = q
-
 silent_short : IsShortDecision NoAnswer
 silent_short = record { short = λ memory. omega arith }
 
@@ -170,56 +168,31 @@ unfolding outcome_in_all
 parts-limit table d c k s h (Some code) l = refuse_short code
 parts-limit table d c k s h None l = record { short = λ memory. let a = h.short memory in let b = l refl in omega (arith, a, b) }
 
-sum_or_one : (table : AnswerTable) (d : Setup) (c : Client) (k : Asker) → IsKnown d.plant c k.port → (g : Option Group) (r : Request) (n len : ℕ) (bytes : List ℕ)
-    → IsShortDecision (decide_read_write table d c k g r n len bytes)
-sum_or_one table d c k i (Some SumRead) r n len bytes = parts-limit table d c k (sum_of_reads n bytes) (reads-packed table d k c n bytes) _ (unrefused-short n _ _ _ len)
-sum_or_one table d c k i (Some SumWrite) r n len bytes = parts-limit table d c k (sum_of_writes n bytes) (writes-packed table d k c n bytes) _ (unrefused-short n _ _ _ len)
-sum_or_one table d c k i (Some SumReadWrite) r n len bytes = parts-limit table d c k (sum_of_read_writes n bytes) (read_writes-packed table d k c n bytes) _ (unrefused-short n _ _ _ len)
-sum_or_one table d c k i g r n len bytes = single-limit table d c k i r
-
-request-limit : (table : AnswerTable) (d : Setup) (c : Client) (k : Asker) → IsKnown d.plant c k.port → (o : Option Request) → IsShortDecision (decide_request table d c k o)
-unfolding decide_request
-request-limit table d c k i None = refuse_short invalid_size
-request-limit table d c k i (Some (ReadWrite group offset len bytes)) = sum_or_one table d c k i (answered_group table _ group) (ReadWrite group offset len bytes) offset len bytes
-request-limit table d c k i (Some ReadDeviceInfo) = single-limit table d c k i ReadDeviceInfo
-request-limit table d c k i (Some (Read g o l)) = single-limit table d c k i (Read g o l)
-request-limit table d c k i (Some (Write g o b)) = single-limit table d c k i (Write g o b)
-request-limit table d c k i (Some ReadState) = single-limit table d c k i ReadState
-request-limit table d c k i (Some (WriteControl a s b)) = single-limit table d c k i (WriteControl a s b)
-request-limit table d c k i (Some (AddDeviceNotification g o l m y t)) = single-limit table d c k i (AddDeviceNotification g o l m y t)
-request-limit table d c k i (Some (DeleteDeviceNotification h)) = single-limit table d c k i (DeleteDeviceNotification h)
-request-limit table d c k i (Some (DeviceNotification b)) = single-limit table d c k i (DeviceNotification b)
-
 -- what is known of a world and a client
 record IsServed (plant : Plant) (c : Client) : Type 0 where
   sound : IsSoundPlant plant
   modest : IsModestPlant plant
   handles : Each (IsPlacedHandle plant) c.handles
 
-port-limit : (table : AnswerTable) (d : Setup) (c : Client) (rights : Rights) (h : AmsHeader) (payload : List ℕ) → IsServed d.plant c
-    → (o : Option PlantPort) → port_numbered h.target.port d.plant.ports ≡ o → IsShortDecision (decide_port table d c rights h payload o)
-port-limit table d c rights h payload s None e = error_short target_port_not_found
-port-limit table d c rights h payload s (Some p) e =
-    let number = port_number h.target.port d.plant.ports p e in
-    let P : ℕ → Type 0 = λ m. port_numbered m d.plant.ports ≡ Some p in
-    let k : Asker = record { port = p; address = h.source; rights = rights } in
-    let known : IsKnown d.plant c p = record { asked = record { sound = s.sound; found = subst P (sym number) e }; modest = s.modest; handles = s.handles } in
-    let r = request-limit table d c k known (request_of h.command payload) in
-    let answered = decision_if (not (table.is_answered h.command)) (AmsError unknown_command_id) (decide_request table d c k (request_of h.command payload)) (error_short unknown_command_id) r in
-    decision_if _ NoAnswer _ silent_short answered
+known : (plant : Plant) (c : Client) (p : PlantPort) (number : ℕ) → IsServed plant c → port_numbered number plant.ports ≡ Some p → IsKnown plant c p
+known plant c p number s e =
+    let P : ℕ → Type 0 = λ m. port_numbered m plant.ports ≡ Some p in
+    record { asked = record { sound = s.sound; found = subst P (sym (port_number number plant.ports p e)) e }; modest = s.modest; handles = s.handles }
 
-target-limit : (table : AnswerTable) (d : Setup) (c : Client) (h : AmsHeader) (payload : List ℕ) → IsServed d.plant c
-    → (o : Option Rights) → IsShortDecision (decide_target table d c h payload o)
-target-limit table d c h payload s None = end_short
-target-limit table d c h payload s (Some rights) =
-    decision_if _ (AmsError target_machine_not_found) _ (error_short target_machine_not_found) (port-limit table d c rights h payload s (port_numbered h.target.port d.plant.ports) refl)
-
-header-limit : (table : AnswerTable) (d : Setup) (c : Client) (payload : List ℕ) → IsServed d.plant c → (o : Option AmsHeader) → IsShortDecision (decide_header table d c payload o)
-header-limit table d c payload s None = silent_short
-header-limit table d c payload s (Some h) =
-    let t = target-limit table d c h payload s (rights_of h.source.net d.plant.routes) in
-    let flags = decision_if _ (AmsError unknown_ams_command) (decide_target table d c h payload (rights_of h.source.net d.plant.routes)) (error_short unknown_ams_command) t in
-    decision_if _ (AmsError invalid_ams_length) _ (error_short invalid_ams_length) (decision_if _ NoAnswer _ silent_short flags)
+decide-limit : (table : AnswerTable) (d : Setup) (c : Client) → IsServed d.plant c → (packet : List ℕ) → IsShortDecision (decide table d c packet)
+decide-limit table d c s packet =
+    decide-cases table d c IsShortDecision
+    (record {
+      silent = silent_short;
+      ends = end_short;
+      error = error_short;
+      refused = refuse_short;
+      single = λ k number e r. single-limit table d c k (known d.plant c k.port number s e) r;
+      reads = λ k number e n len bytes. parts-limit table d c k (sum_of_reads n bytes) (reads-packed table d k c n bytes) _ (unrefused-short n _ _ _ len);
+      writes = λ k number e n len bytes. parts-limit table d c k (sum_of_writes n bytes) (writes-packed table d k c n bytes) _ (unrefused-short n _ _ _ len);
+      read_writes = λ k number e n len bytes. parts-limit table d c k (sum_of_read_writes n bytes) (read_writes-packed table d k c n bytes) _ (unrefused-short n _ _ _ len);
+    })
+    packet
 
 -- the answer to a decision
 
@@ -234,10 +207,10 @@ maybe-fits None x memory s d = tt
 maybe-fits (Some h) x memory s d = answer-fits h x memory s d
 
 answers-fit : (table : AnswerTable) (reading : DescriptionReading) (w : World) (k : Connection Client) → IsSoundPlant w.plant → IsModestPlant w.plant → ConnectionFits w k → AnswersFit (ads_device table reading) w k
-unfolding performed decide
+unfolding performed
 answers-fit table reading w k sound modest f = λ heard packet.
-    maybe-fits (header_of packet) (decide_header table (setup_of w) k.client (payload_of packet) (header_of packet)) w.memory (header-short packet)
-    (header-limit table (setup_of w) k.client (payload_of packet) (record { sound = sound; modest = modest; handles = (f heard).handles }) (header_of packet))
+    maybe-fits (header_of packet) (decide table (setup_of w) k.client packet) w.memory (header-short packet)
+    (decide-limit table (setup_of w) k.client (record { sound = sound; modest = modest; handles = (f heard).handles }) packet)
 
 all-fit : (table : AnswerTable) (reading : DescriptionReading) (w : World) → IsSoundPlant w.plant → IsModestPlant w.plant → (ks : List (Connection Client)) → Each (ConnectionFits w) ks → Each (AnswersFit (ads_device table reading) w) ks
 all-fit table reading w sound modest [] e = tt

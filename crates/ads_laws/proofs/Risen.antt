@@ -7,7 +7,7 @@ use Rattle.ads_plant.specs.World.{Block}
 use Rattle.ads_formats.specs.Notification.{Sample}
 use Rattle.ads_machine.specs.Connection.{connection_of}
 use Rattle.ads_machine.specs.Access.{Addressed, values_at}
-use Rattle.ads_machine.specs.Watches.{Watch, is_due, is_sent, checked_watch, AddressedSample, sample_of, watch_after_reload, watches_after_reload}
+use Rattle.ads_machine.specs.Watches.{Watch, is_due, is_sent, checked_watch, AddressedSample, addressed_sample, watch_after_reload, watches_after_reload}
 use Rattle.ads_machine.specs.Client.{Client, Effect, NoEffect, Grants, Releases, Adds, Deletes, client_after, Kept, are_kept, kept_bytes, client_after_reload}
 use Rattle.ads_machine.specs.Acts.{Act, Refusal, Allowed, effect_of}
 use Rattle.ads_machine.specs.Answers.{AnswerTable}
@@ -103,7 +103,7 @@ unfolding samples_at
 tick-samples low m now [] high r = tt
 tick-samples low m now (w ∷ ws) high r = go (is_due now w && is_sent (values_at m w.watched) w) (tick-samples w.handle m now ws high (r.1))
   where
-    go : (b : Bool) → OrderedSamples w.handle (samples_at m now ws) → OrderedSamples low (cond b (sample_of (values_at m w.watched) w ∷ []) [] ++ samples_at m now ws)
+    go : (b : Bool) → OrderedSamples w.handle (samples_at m now ws) → OrderedSamples low (cond b (addressed_sample (values_at m w.watched) w ∷ []) [] ++ samples_at m now ws)
     go true h = (r.0, h)
     go false h = let a = r.0 in samples_lower low w.handle (samples_at m now ws) (omega (arith, a)) h
 

@@ -16,7 +16,7 @@ use Rattle.ads_machine.specs.Answers.{AnswerTable}
 use Rattle.ads_machine.specs.Writes.{Asker}
 use Rattle.ads_machine.specs.Requests.{act_of}
 use Rattle.ads_machine.specs.Sums.{SumRequest, numbers_of_heads, read_parts, write_parts, read_write_parts, sum_of_reads, sum_of_writes, sum_of_read_writes, sum_refusal, MAX_PARTS, codes_of, filled, filled_data, packed, given_in_turn}
-use Rattle.ads_machine.specs.Packets.{client_after_request, acts_of}
+use Rattle.ads_machine.specs.SumPackets.{client_after_request, acts_of}
 use Rattle.ads_laws.proofs.ShortActs.{given-short, read-act-asked, read_write-act-asked}
 
 -- how the parts end

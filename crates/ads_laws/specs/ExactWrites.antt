@@ -1,7 +1,8 @@
 -- Which bytes a move may change, and to what.
 use Rattle.std.specs.Prelude.{◌≡◌, ◌≢◌, ℕ, ◌+◌, ◌<◌, ◌≤◌, List, [], ◌∷◌, ◌++◌, map, length, take}
-use Rattle.std.specs.Prelude.{drop}
-use Rattle.std.specs.Prelude.{Bool, true, false, None, option_map, Result, Ok, Err}
+use Rattle.std.specs.Prelude.{drop, min}
+use Rattle.std.specs.Prelude.{Bool, true, false, Some, None, option_map, Result, Ok, Err}
+use Rattle.std.specs.Int.{bit_at}
 use Rattle.ads_outside.specs.declared.event.Event.{Event}
 use Rattle.ads_outside.specs.declared.event.Event.TheVariants as event
 use Rattle.ads_outside.specs.declared.moves.Move.{Move}
@@ -11,16 +12,22 @@ use Rattle.ads_plant.specs.World.{ByteName, Block, PlantPort, PlantSymbol, lower
 use Rattle.ads_machine.specs.Device.{DescriptionFault}
 use Rattle.ads_machine.specs.MachineState.{MachineState}
 use Rattle.ads_machine.specs.Moves.{state_after_move}
-use Rattle.ads_machine.specs.World.{World, name_at, names_at, content_of}
-use Rattle.ads_machine.specs.Access.{WholeByte, addressed_name, values_at, Put, byte_after, puts_of}
+use Rattle.ads_formats.specs.Groups.{value_by_handle}
+use Rattle.ads_formats.specs.Request.{Write}
+use Rattle.ads_machine.specs.World.{World, Setup, name_at, names_at, content_of}
+use Rattle.ads_machine.specs.Access.{WholeByte, OneBit, addressed_name, values_at, Put, byte_after, puts_of}
 use Rattle.ads_machine.specs.Access.{memory_after_put, memory_after_puts}
-use Rattle.ads_machine.specs.Client.{Client}
-use Rattle.ads_machine.specs.Acts.{writes_of_acts}
+use Rattle.ads_machine.specs.Handles.{Live, kept_status}
+use Rattle.ads_machine.specs.Client.{Place, names_of_place, Client}
+use Rattle.ads_machine.specs.Acts.{Access, Allowed, writes_of_acts}
 use Rattle.ads_machine.specs.Answers.{AnswerTable}
+use Rattle.ads_machine.specs.Writes.{Asker}
+use Rattle.ads_machine.specs.Requests.{act_of}
 use Rattle.ads_machine.specs.Ticks.{signal_puts}
 use Rattle.ads_machine.specs.AdsDevice.{DescriptionReading, server_step}
 use Rattle.ads_machine.specs.Projection.{acts_of_move}
 use Rattle.ads_laws.specs.Isolation.{IsAmong}
+use Rattle.ads_laws.specs.Soundness.{Each}
 
 abbrev pub names_of_puts : List Put → List ByteName
 names_of_puts puts = map (λ (p : Put). addressed_name p.place) puts
@@ -73,6 +80,17 @@ pub record PutsExactly (memory : List Block) (p : Put) : Type 0 where
 abbrev pub PutsAreExact : Type 0
 PutsAreExact = (memory : List Block) (p : Put) → PutsExactly memory p
 
+-- a byte in which one bit is put
+pub record IsBitPut (bit value old new : ℕ) : Type 0 where
+  pub here : bit_at new bit ≡ value
+  pub others : (i : ℕ) → i ≢ bit → bit_at new i ≡ bit_at old i
+
+-- A put of a bit, 0 for 0 and 1 for any other value, leaves the other bits of its byte.
+abbrev pub PutsBits : Type 0
+PutsBits = (memory : List Block) (n : ByteName) (bit value byte : ℕ) → byte_at memory n ≡ Some byte
+    → (new : ℕ) × (byte_at (memory_after_put memory (record { place = OneBit n bit; value = value })) n ≡ Some new)
+    × IsBitPut bit (min value 1) byte new
+
 -- A read of a byte group gives these bytes of the area's content.
 abbrev pub ReadsContent : Type 0
 ReadsContent = (p : PlantPort) (area : Area) (offset len : ℕ) (memory : List Block)
@@ -108,3 +126,22 @@ AreNamedApart (s ∷ ss) = NotNamed (lower_name s) ss × AreNamedApart ss
 -- Where symbols' names differ, no two bytes of an area have one name.
 abbrev pub NamesAreInjective : Type 0
 NamesAreInjective = (p : PlantPort) (area : Area) → AreNamedApart p.symbols → AreInjective p area
+
+-- what a write of bytes to the first ones of a place leaves
+pub record WritesPlace (port : ℕ) (place : Place) (bytes : List ℕ) (old new : List Block) : Type 0 where
+  -- they fit the place
+  pub fits : length bytes ≤ place.len
+  -- they stand there, where bytes stood there before
+  pub written : Each (λ n. byte_at old n ≢ None) (names_of_place port place (length bytes))
+      → values_at new (map WholeByte (names_of_place port place (length bytes))) ≡ bytes
+  -- all else stays
+  pub others : (n : ByteName) → (IsAmong n (names_of_place port place (length bytes)) → ⊥)
+      → byte_at new n ≡ byte_at old n
+
+-- An accepted write by a live handle writes the first bytes of its place.
+abbrev pub WritesByHandle : Type 0
+WritesByHandle = (table : AnswerTable) (d : Setup) (c : Client) (k : Asker) (handle : ℕ) (place : Place)
+    (bytes : List ℕ) (access : Access) (memory : List Block)
+    → kept_status c.handles handle k.port.number ≡ Live place
+    → act_of table d c k (Write value_by_handle handle bytes) ≡ Allowed access
+    → WritesPlace k.port.number place bytes memory (memory_after_puts memory access.writes)

@@ -5,3 +5,4 @@ pub mod Soundness
 pub mod Reachable
 pub mod Rising
 pub mod RepliesFit
+pub mod Histories

@@ -5,7 +5,7 @@ use Rattle.ads_plant.specs.World.{Block}
 use Rattle.ads_formats.specs.Codes.{no_error, not_permitted, symbol_not_found}
 use Rattle.ads_formats.specs.Codes.{symbol_version_invalid}
 use Rattle.ads_formats.specs.Groups.{ValueByHandle, value_by_handle}
-use Rattle.ads_formats.specs.Request.{Read, Write, AddDeviceNotification}
+use Rattle.ads_formats.specs.Request.{Read, Write, AddDeviceNotification, ReadWrite}
 use Rattle.ads_outside.specs.declared.event.Event.TheVariants as event
 use Rattle.ads_outside.specs.declared.moves.Move.{Move}
 use Rattle.ads_outside.specs.declared.moves.Move.TheVariants as move
@@ -17,13 +17,14 @@ use Rattle.ads_machine.specs.World.{World, Setup, setup_of}
 use Rattle.ads_machine.specs.Handles.{HandleStatus, Never, Released, Outdated, Live, kept_status}
 use Rattle.ads_machine.specs.Watches.{Mode}
 use Rattle.ads_machine.specs.Client.{Place, Client, client_after}
-use Rattle.ads_machine.specs.Acts.{Act, Refusal, outcome_of, memory_after, effect_of}
+use Rattle.ads_machine.specs.Acts.{Act, Refusal, outcome_of, outcomes_of, memory_after, effect_of}
 use Rattle.ads_machine.specs.Answers.{AnswerTable, answered_group, READ, WRITE}
 use Rattle.ads_machine.specs.Answers.{ADD_DEVICE_NOTIFICATION}
 use Rattle.ads_machine.specs.Writes.{Asker, may_write}
 use Rattle.ads_machine.specs.Requests.{MAX_WATCHED, mode_of, act_of}
-use Rattle.ads_machine.specs.Packets.{Decision, NoAnswer, EndConnection, AmsError, decide}
-use Rattle.ads_machine.specs.Replies.{performed}
+use Rattle.ads_machine.specs.Decisions.{Decision, NoAnswer, EndConnection, AmsError, Perform}
+use Rattle.ads_machine.specs.Packets.{decide}
+use Rattle.ads_machine.specs.Replies.{outcome_in_all, performed}
 use Rattle.ads_machine.specs.AdsDevice.{DescriptionReading, server_step}
 
 -- the bytes and the client after a request whose result is not 0
@@ -40,6 +41,11 @@ abbrev pub IsTurnedAway : Decision → Type 0
 IsTurnedAway decision =
     (decision ≡ NoAnswer) ⊎ ((decision ≡ EndConnection) ⊎ ((code : ℕ) × (decision ≡ AmsError code)))
 
+-- the result that the reply to a packet tells, over the bytes before it; 0 where no reply tells one
+abbrev pub result_told : Decision → List Block → ℕ
+result_told (Perform acts form) memory = (outcome_in_all form (outcomes_of memory acts)).code
+result_told decision memory = no_error
+
 pub record LeavesAll (table : AnswerTable) (w : World) (c : Client) (packet : List ℕ) : Type 0 where
   pub world_stays : (performed (decide table (setup_of w) c packet) packet w c).world ≡ w
   pub client_stays : (performed (decide table (setup_of w) c packet) packet w c).client ≡ c
@@ -47,6 +53,11 @@ pub record LeavesAll (table : AnswerTable) (w : World) (c : Client) (packet : Li
 abbrev pub TurnedAwayChangesNothing : Type 0
 TurnedAwayChangesNothing = (table : AnswerTable) (w : World) (c : Client) (packet : List ℕ)
     → IsTurnedAway (decide table (setup_of w) c packet) → LeavesAll table w c packet
+
+-- A packet whose reply tells a result other than 0 leaves the world and its client.
+abbrev pub ResultChangesNothing : Type 0
+ResultChangesNothing = (table : AnswerTable) (w : World) (c : Client) (packet : List ℕ)
+    → result_told (decide table (setup_of w) c packet) w.memory ≢ no_error → LeavesAll table w c packet
 
 -- A reload whose description is refused leaves all but its count.
 abbrev pub RefusedReloadCounts : Type 0
@@ -81,10 +92,23 @@ pub record RefusesHandle (table : AnswerTable) (d : Setup) (c : Client) (k : Ask
       → act_of table d c k (AddDeviceNotification value_by_handle handle len number delay cycle)
       ≡ Refusal code
 
+-- it is refused, so it reads, writes and changes nothing
+abbrev pub IsRefused : Act → Type 0
+IsRefused a = (code : ℕ) × (a ≡ Refusal code)
+
+-- any access by such a handle, whatever is asked and whatever the table answers
+pub record RefusesAnyForm (table : AnswerTable) (d : Setup) (c : Client) (k : Asker) (handle : ℕ) : Type 0 where
+  pub read : (len : ℕ) → IsRefused (act_of table d c k (Read value_by_handle handle len))
+  pub write : (bytes : List ℕ) → IsRefused (act_of table d c k (Write value_by_handle handle bytes))
+  pub add : (len mode delay cycle : ℕ)
+      → IsRefused (act_of table d c k (AddDeviceNotification value_by_handle handle len mode delay cycle))
+  pub read_write : (len : ℕ) (bytes : List ℕ)
+      → IsRefused (act_of table d c k (ReadWrite value_by_handle handle len bytes))
+
 abbrev pub DeadHandleTouchesNothing : Type 0
 DeadHandleTouchesNothing = (table : AnswerTable) (d : Setup) (c : Client) (k : Asker)
     (handle code : ℕ) → dead_code (kept_status c.handles handle k.port.number) ≡ Some code
-    → RefusesHandle table d c k handle code
+    → RefusesHandle table d c k handle code × RefusesAnyForm table d c k handle
 
 -- what a connection was granted and added only grows, and the next number is one more than that
 pub record NumbersGrow (k l : Connection Client) : Type 0 where

@@ -3,10 +3,11 @@
 
 ghost use Rattle.ads_laws.specs.Isolation.{IsIsolated, SeesOnlyItself, TakesAsAlone, TakesAllAsAlone};
 ghost use Rattle.ads_laws.specs.ExactWrites.{ChangesOnlyByWrites, PutsAreExact, ReadsContent};
-ghost use Rattle.ads_laws.specs.ExactWrites.{WritesContent, NamesAreInjective};
-ghost use Rattle.ads_laws.specs.Refusals.{RefusalChangesNothing, TurnedAwayChangesNothing};
+ghost use Rattle.ads_laws.specs.ExactWrites.{WritesContent, NamesAreInjective, PutsBits, WritesByHandle};
+ghost use Rattle.ads_laws.specs.Refusals.{RefusalChangesNothing, TurnedAwayChangesNothing, ResultChangesNothing};
 ghost use Rattle.ads_laws.specs.Refusals.{RefusedReloadCounts, DeadHandleTouchesNothing};
 ghost use Rattle.ads_laws.specs.Refusals.{NumbersNeverFall};
+ghost use Rattle.ads_laws.specs.Histories.{HandlesAreHistory};
 ghost use Rattle.ads_laws.specs.Soundness.{AcceptedAreSound};
 ghost use Rattle.ads_laws.specs.Reachable.{EveryStateFits};
 ghost use Rattle.ads_laws.specs.Rising.{HandlesRise};
@@ -26,25 +27,31 @@ pub fn clients_are_isolated()
 
 /// A byte changes between two moves only by an accepted write or control that addresses it, by its
 /// signal's step on a tick, or by an accepted reload; a put leaves its value there and all else as it
-/// was; and a read or a write of a byte group is one of the area's content.
+/// was; a bit's put leaves the other bits of its byte; a read or a write of a byte group is one of the area's content; and
+/// a write by handle is one of the first bytes of its place.
 pub fn writes_are_exact()
     ensures changes { ChangesOnlyByWrites }
     ensures puts { PutsAreExact }
+    ensures bits { PutsBits }
     ensures reads { ReadsContent }
     ensures writes { WritesContent }
     ensures names { NamesAreInjective }
+    ensures handles { WritesByHandle }
 {}
 
-/// A request whose result is not 0 leaves the bytes and its client as they were; so does a packet that
-/// gets an AMS error or no answer, or ends the connection; and a refused reload leaves all but its count.
+/// A request whose result is not 0 leaves the bytes and its client as they were; so does a packet whose reply tells
+/// such a result, and one that gets an AMS error or no answer, or ends the connection; and a reload whose description is
+/// refused leaves all but its count.
 pub fn refusals_change_nothing()
     ensures requests { RefusalChangesNothing }
+    ensures results { ResultChangesNothing }
     ensures packets { TurnedAwayChangesNothing }
     ensures reloads { RefusedReloadCounts }
 {}
 
 /// A read, a write or an addition by a handle that was never granted at this port, is released or is
-/// outdated is refused with its code, unless a check that comes before refuses with another.
+/// outdated is refused with its code, unless a check that comes before refuses with another; so an access by it touches
+/// nothing in any form.
 pub fn dead_handles_touch_nothing()
     ensures { DeadHandleTouchesNothing }
 {}
@@ -52,6 +59,12 @@ pub fn dead_handles_touch_nothing()
 /// What a connection was granted and added only grows, so no number is given twice.
 pub fn numbers_never_fall()
     ensures { NumbersNeverFall }
+{}
+
+/// In every state that a log leads to the status of a handle is what the grants, releases and reloads say that its
+/// connection had in the log.
+pub fn handles_are_history()
+    ensures { HandlesAreHistory }
 {}
 
 /// In every state that a log leads to each byte of each area is there, each live handle lies within its

@@ -79,9 +79,9 @@ turns-settled {W} {C} step keeps c (t ∷ ts) short blocked s h cut m o =
 all_of_it : {C : Type 0} (t : List ℕ) (o : Option (Connection C)) → MaybeGave t o → not_taken o ≡ [] → t ≡ output_of_connection o
 all_of_it t None g l = g
 all_of_it t (Some k) g l =
-    let n = left_none (map bytes_of k.produced) k.took l in
+    let n = left_none (map bytes_of k.produced) k.bytes_taken l in
     let all = ap length (joined_bytes k.produced) in
-    g.is ∙ take_all k.took (bytes_of_all k.produced) (omega (arith, n, all))
+    g.is ∙ take_all k.bytes_taken (bytes_of_all k.produced) (omega (arith, n, all))
 
 pub takes_all : (W C : Type 0) → TakesAll W C
 unfolding connection_of

@@ -93,10 +93,10 @@ log-carried device P keeps c [] s g = g
 log-carried device P keeps c (m ∷ ms) s g = log-carried device P keeps c ms (state_after_move (state_after_event device) s m) (move-carried device P keeps c m s g)
 
 -- with_took changes one count, or nothing
-pub took-cases : {W C : Type 0} (P : Connection C → Type 0) (n : ℕ) (x : Exchange W C) → P x.connection → P (record x.connection { took = x.connection.took + n }) → P (with_took n x).connection
+pub took-cases : {W C : Type 0} (P : Connection C → Type 0) (n : ℕ) (x : Exchange W C) → P x.connection → P (record x.connection { bytes_taken = x.connection.bytes_taken + n }) → P (with_took n x).connection
 took-cases {W} {C} P n x same more = elim (cases_Bool x.connection.gone) [
-  | inl b ↦ let Q : Bool → Type 0 = λ t. P (cond t x (record x { connection = record x.connection { took = x.connection.took + n } })).connection in subst Q (sym b) same
-  | inr b ↦ let Q : Bool → Type 0 = λ t. P (cond t x (record x { connection = record x.connection { took = x.connection.took + n } })).connection in subst Q (sym b) more
+  | inl b ↦ let Q : Bool → Type 0 = λ t. P (cond t x (record x { connection = record x.connection { bytes_taken = x.connection.bytes_taken + n } })).connection in subst Q (sym b) same
+  | inr b ↦ let Q : Bool → Type 0 = λ t. P (cond t x (record x { connection = record x.connection { bytes_taken = x.connection.bytes_taken + n } })).connection in subst Q (sym b) more
 ]
 
 prefix-grows : {C : Type 0} (t : List ℕ) (k l : Connection C) → Grows k l → IsPrefix t (bytes_of_all k.produced) → IsPrefix t (bytes_of_all l.produced)
@@ -153,7 +153,7 @@ rest-carries {W} {C} device k = record {
     reload = λ moment old new l h. subst (λ (m : Connection C). Rests k (Some m)) (sym (deaf-reload device moment old new l (rests-deaf k l h))) h;
     gone = λ x h.
         let r = rests-rest k x.connection h in
-        ((with_gone x).connection, refl, record { received = r.received; taken = r.taken; client = r.client; produced = r.produced }, or_right x.connection.closing true refl);
+        ((with_gone x).connection, refl, record { received = r.received; frames_taken = r.frames_taken; client = r.client; produced = r.produced }, or_right x.connection.closing true refl);
   };
   took = λ n x h. took-cases (λ (l : Connection C). Rests k (Some l)) n x h (more n x h);
 }
@@ -161,14 +161,14 @@ rest-carries {W} {C} device k = record {
     none : {P : Type 0} {l : Connection C} → None ≡ Some l → P
     none e = cc
 
-    more : (n : ℕ) (x : Exchange W C) → Rests k (Some x.connection) → Rests k (Some (record x.connection { took = x.connection.took + n }))
+    more : (n : ℕ) (x : Exchange W C) → Rests k (Some x.connection) → Rests k (Some (record x.connection { bytes_taken = x.connection.bytes_taken + n }))
     more n x h =
         let r = rests-rest k x.connection h in
-        (record x.connection { took = x.connection.took + n }, refl, record { received = r.received; taken = r.taken; client = r.client; produced = r.produced }, rests-deaf k x.connection h)
+        (record x.connection { bytes_taken = x.connection.bytes_taken + n }, refl, record { received = r.received; frames_taken = r.frames_taken; client = r.client; produced = r.produced }, rests-deaf k x.connection h)
 
 pub closing_ends : (W C : Type 0) → ClosingEnds W C
 closing_ends W C device s c log k e d =
-    let r = log-carried device (Rests k) (rest-carries device k) c log s (k, e, record { received = refl; taken = refl; client = refl; produced = refl }, d) in
+    let r = log-carried device (Rests k) (rest-carries device k) c log s (k, e, record { received = refl; frames_taken = refl; client = refl; produced = refl }, d) in
     (r.0, r.1, r.2)
 
 pub limits_queue : (C : Type 0) → LimitsQueue C

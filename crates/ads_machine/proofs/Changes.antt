@@ -39,7 +39,7 @@ with_gone-number x = refl
 pub with_took-number : {W C : Type 0} (n : ℕ) → KeepsNumber {W = W} {C = C} (with_took n)
 with_took-number {W} {C} n x = go x.connection.gone
   where
-    go : (b : _) → (cond b x (record x { connection = record x.connection { took = x.connection.took + n } })).connection.number ≡ x.connection.number
+    go : (b : _) → (cond b x (record x { connection = record x.connection { bytes_taken = x.connection.bytes_taken + n } })).connection.number ≡ x.connection.number
     go true = refl
     go false = refl
 

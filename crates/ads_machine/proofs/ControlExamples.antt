@@ -17,7 +17,8 @@ use Rattle.ads_machine.specs.HandleLaws.{handles_after_all}
 use Rattle.ads_machine.specs.Handles.{grant_in, handle_in, handles_after, is_released_in, place_after, with_released}
 use Rattle.ads_machine.specs.Moves.{state_after, state_after_move}
 use Rattle.ads_machine.specs.Events.{connection_after_reload, connection_after_tick, state_after_event}
-use Rattle.ads_machine.specs.Packets.{acts_of, decide, decide_request}
+use Rattle.ads_machine.specs.SumPackets.{acts_of, decide_request}
+use Rattle.ads_machine.specs.Packets.{decide}
 use Rattle.ads_machine.specs.Piece.{after_packet, after_packets, after_piece}
 use Rattle.ads_machine.specs.Projection.{acts_by_others, acts_of_log, acts_of_move, acts_of_packets, projection_of}
 use Rattle.ads_machine.specs.Reach.{reach_of}
@@ -50,6 +51,11 @@ record ControlRows : Type 0 where
       ≡ a 3 1 (codes "00000000") ++ a 2 2 (codes "00000000 01000000 08") ++ a 2 3 (codes "00000000 01000000 01")
       ++ a 2 4 (codes "05070000 00000000") ++ a 2 5 (codes "03070000 00000000") ++ a 3 6 (codes "03070000")
       ++ a 3 7 (codes "00000000") ++ a 3 8 (codes "00000000") ++ a 2 9 (codes "00000000 01000000 04")
+  -- a bit's put leaves its neighbours in the byte, and the byte beside it
+  bit_neighbours : given (
+      piece 1 (q 3 1 (codes "20400000 00000000 02000000 55aa") ++ q 3 2 (codes "21400000 01000000 01000000 01") ++ q 3 3 (codes "21400000 08000000 01000000 01")
+      ++ q 3 4 (codes "21400000 00000000 01000000 00") ++ q 2 5 (codes "20400000 00000000 02000000")) ∷ [])
+      ≡ a 3 1 (codes "00000000") ++ a 3 2 (codes "00000000") ++ a 3 3 (codes "00000000") ++ a 3 4 (codes "00000000") ++ a 2 5 (codes "00000000 02000000 56ab")
   -- a route that may only read: rights come before the offset, and behind the group; a handle may be released
   viewer : given (
       piece 1 (q_viewer 3 1 (codes "40400000 81000000 01000000 11") ++ q_viewer 3 2 (codes "99990000 00000000 01000000 11") ++ q_viewer 3 3 (codes "21400000 00000000 01000000 00"))
@@ -69,4 +75,4 @@ record ControlRows : Type 0 where
 
 control_rows : ControlRows
 unfolding ams_length_of is_header front_of packet_of behind_frame frames_from frames_of left_behind rest_of has_same_parts has_same_members part_behind type_align greatest_align type_size members_end type_depth greatest_depth found_of byte_at with_byte trees_behind trees_of type_text group_in group_of request_in request_of byte_range bit_range size_range range_in header_of written_bytes reply_in notes_of connection_after_tick connection_after_reload state_after_event state_after_move state_after given_in_turn left_in_turn sum_refusal packed handles_after_all memory_after_puts world_after_tick client_after_tick read_write_group act_of produce produce_all connection_of put_back grant_in is_released_in place_after handle_in with_released handles_after write_group control_act client_after client_after_reload ended_of watches_after_reload ended_watches text_of_steps entry_of_part numbers_from name_at names_at content_of projection_of acts_of_packets acts_of_move acts_of_log acts_by_others reply_in_forms outcome_in_all response_packet performed grouped frames_of_samples samples_at watches_after_tick reach_of outcomes_of memory_after_acts client_after_acts is_kept memory_after_reload world_after_reload client_reloaded answered_group after_packet after_packets after_piece read_group acts_of decide_request decide digits
-control_rows = record { bits = refl; viewer = refl; control = refl; device_info = refl; groups = refl }
+control_rows = record { bits = refl; bit_neighbours = refl; viewer = refl; control = refl; device_info = refl; groups = refl }

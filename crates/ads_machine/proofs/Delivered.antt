@@ -18,8 +18,8 @@ use Rattle.ads_machine.proofs.Changes.{KeepsNumber, exchange_own, exchange_other
 
 -- what was taken so far is the beginning of what was given, as far as the count says
 pub record Gave {C : Type 0} (t : List ℕ) (k : Connection C) : Type 0 where
-  pub is : t ≡ take k.took (bytes_of_all k.produced)
-  pub counted : k.took ≤ length (bytes_of_all k.produced)
+  pub is : t ≡ take k.bytes_taken (bytes_of_all k.produced)
+  pub counted : k.bytes_taken ≤ length (bytes_of_all k.produced)
 
 abbrev pub MaybeGave : {C : Type 0} → List ℕ → Option (Connection C) → Type 0
 MaybeGave t None = t ≡ []
@@ -51,8 +51,8 @@ event-gave {W} {C} step adds t c e s g = go (connection_of c s.connections) (con
     go (Some k) (Some l) a h =
         let n = ap (λ (x : List ℕ). length x) a.given ∙ length-append (bytes_of_all k.produced) a.more in
         record {
-          is = h.is ∙ sym (take-append-le k.took (bytes_of_all k.produced) a.more h.counted) ∙ ap (λ (x : List ℕ). take k.took x) (sym a.given) ∙ ap (λ (i : ℕ). take i (bytes_of_all l.produced)) (sym a.took);
-          counted = omega (arith, h.counted, a.took, n);
+          is = h.is ∙ sym (take-append-le k.bytes_taken (bytes_of_all k.produced) a.more h.counted) ∙ ap (λ (x : List ℕ). take k.bytes_taken x) (sym a.given) ∙ ap (λ (i : ℕ). take i (bytes_of_all l.produced)) (sym a.bytes_taken);
+          counted = omega (arith, h.counted, a.bytes_taken, n);
         }
 
 -- an offer that was taken adds to what was taken
@@ -60,20 +60,20 @@ took-gave : {W C : Type 0} (t : List ℕ) (x : Exchange W C) (offered : ℕ) (by
 took-gave {W} {C} t x offered bytes g h = go x.connection.gone refl
   where
     more : Exchange W C
-    more = record x { connection = record x.connection { took = x.connection.took + length bytes } }
+    more = record x { connection = record x.connection { bytes_taken = x.connection.bytes_taken + length bytes } }
 
     go : (b : Bool) → x.connection.gone ≡ b → Gave (t ++ bytes) (cond b x more).connection
-    go true e = let P : Bool → Type 0 = λ b. IsOffer (cond b [] (left_after x.connection.took (map bytes_of x.connection.produced))) offered bytes in absurd (subst P e h)
+    go true e = let P : Bool → Type 0 = λ b. IsOffer (cond b [] (left_after x.connection.bytes_taken (map bytes_of x.connection.produced))) offered bytes in absurd (subst P e h)
     go false e =
-        let P : Bool → Type 0 = λ b. IsOffer (cond b [] (left_after x.connection.took (map bytes_of x.connection.produced))) offered bytes in
+        let P : Bool → Type 0 = λ b. IsOffer (cond b [] (left_after x.connection.bytes_taken (map bytes_of x.connection.produced))) offered bytes in
         let all = joined_bytes x.connection.produced in
-        let r = offer_next (map bytes_of x.connection.produced) x.connection.took offered bytes (subst P e h) in
+        let r = offer_next (map bytes_of x.connection.produced) x.connection.bytes_taken offered bytes (subst P e h) in
         let a = g.is in
         let n = r.0 in
         let m = r.1 in
-        let bytes_are : bytes ≡ take (length bytes) (drop x.connection.took (bytes_of_all x.connection.produced)) = n ∙ ap (λ xs. take (length bytes) (drop x.connection.took xs)) all in
+        let bytes_are : bytes ≡ take (length bytes) (drop x.connection.bytes_taken (bytes_of_all x.connection.produced)) = n ∙ ap (λ xs. take (length bytes) (drop x.connection.bytes_taken xs)) all in
         record {
-          is = ap (λ xs. xs ++ bytes) a ∙ ap (λ xs. take x.connection.took (bytes_of_all x.connection.produced) ++ xs) bytes_are ∙ sym (take-add x.connection.took (length bytes) (bytes_of_all x.connection.produced));
+          is = ap (λ xs. xs ++ bytes) a ∙ ap (λ xs. take x.connection.bytes_taken (bytes_of_all x.connection.produced) ++ xs) bytes_are ∙ sym (take-add x.connection.bytes_taken (length bytes) (bytes_of_all x.connection.produced));
           counted = let l = ap length all in omega (arith, m, l);
         }
 
@@ -114,4 +114,4 @@ gave_log {W} {C} step adds c (move.Took n offered bytes ∷ ms) s t g h =
 
 pub prefix_of_gave : {C : Type 0} (t : List ℕ) (o : Option (Connection C)) → MaybeGave t o → IsPrefix t (output_of_connection o)
 prefix_of_gave t None g = ([], sym (append-nil t ∙ g))
-prefix_of_gave t (Some k) g = (drop k.took (bytes_of_all k.produced), sym (ap (λ xs. xs ++ drop k.took (bytes_of_all k.produced)) g.is ∙ take-append-drop k.took (bytes_of_all k.produced)))
+prefix_of_gave t (Some k) g = (drop k.bytes_taken (bytes_of_all k.produced), sym (ap (λ xs. xs ++ drop k.bytes_taken (bytes_of_all k.produced)) g.is ∙ take-append-drop k.bytes_taken (bytes_of_all k.produced)))

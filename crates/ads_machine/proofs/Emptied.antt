@@ -19,11 +19,11 @@ not_taken_at c s = not_taken (connection_of c s.connections)
 
 not_taken-waiting : {C : Type 0} (o : Option (Connection C)) → is_gone o ≡ false → waiting_of o ≡ not_taken o
 not_taken-waiting None g = refl
-not_taken-waiting (Some k) g = ap (λ (b : Bool). cond b [] (left_after k.took (map bytes_of k.produced))) g
+not_taken-waiting (Some k) g = ap (λ (b : Bool). cond b [] (left_after k.bytes_taken (map bytes_of k.produced))) g
 
 gone-waiting : {C : Type 0} (o : Option (Connection C)) → is_gone o ≡ true → waiting_of o ≡ []
 gone-waiting None g = cc
-gone-waiting (Some k) g = ap (λ (b : Bool). cond b [] (left_after k.took (map bytes_of k.produced))) g
+gone-waiting (Some k) g = ap (λ (b : Bool). cond b [] (left_after k.bytes_taken (map bytes_of k.produced))) g
 
 -- its last offer was short, or it has taken all
 abbrev pub Settled : {W C : Type 0} → ℕ → Bool → MachineState W C → Type 0

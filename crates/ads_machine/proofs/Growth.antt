@@ -15,12 +15,12 @@ pub record Grows {C : Type 0} (k l : Connection C) : Type 0 where
   pub number : l.number ≡ k.number
   pub more : List Produced
   pub produced : l.produced ≡ k.produced ++ more
-  pub took : l.took ≡ k.took
+  pub bytes_taken : l.bytes_taken ≡ k.bytes_taken
   pub gone : l.gone ≡ k.gone
 
 -- nothing is added
-pub grows_none : {C : Type 0} (k l : Connection C) → l.number ≡ k.number → l.produced ≡ k.produced → l.took ≡ k.took → l.gone ≡ k.gone → Grows k l
-grows_none k l n p t g = record { number = n; more = []; produced = p ∙ sym (append-nil k.produced); took = t; gone = g }
+pub grows_none : {C : Type 0} (k l : Connection C) → l.number ≡ k.number → l.produced ≡ k.produced → l.bytes_taken ≡ k.bytes_taken → l.gone ≡ k.gone → Grows k l
+grows_none k l n p t g = record { number = n; more = []; produced = p ∙ sym (append-nil k.produced); bytes_taken = t; gone = g }
 
 pub grows_same : {C : Type 0} (k : Connection C) → Grows k k
 grows_same k = grows_none k k refl refl refl refl
@@ -30,7 +30,7 @@ grows_then k l m p q = record {
   number = q.number ∙ p.number;
   more = p.more ++ q.more;
   produced = q.produced ∙ ap (λ fs. fs ++ q.more) p.produced ∙ append_assoc k.produced p.more q.more;
-  took = q.took ∙ p.took;
+  bytes_taken = q.bytes_taken ∙ p.bytes_taken;
   gone = q.gone ∙ p.gone;
 }
 
@@ -55,7 +55,7 @@ unfolding produce
 produce-grows f k =
     grows_cond k k.closing k _ (grows_same k)
     (grows_cond k (fits f k) (with_frame f k) (with_closing k)
-    (record { number = refl; more = f ∷ []; produced = refl; took = refl; gone = refl }) (grows_none k (with_closing k) refl refl refl refl))
+    (record { number = refl; more = f ∷ []; produced = refl; bytes_taken = refl; gone = refl }) (grows_none k (with_closing k) refl refl refl refl))
 
 pub produce_all-grows : {C : Type 0} (fs : List Produced) (k : Connection C) → Grows k (produce_all fs k)
 unfolding produce_all

@@ -12,6 +12,7 @@ pub mod EmptiedTurns
 pub mod AllTaken
 pub mod Carried
 pub mod ServerDelivers
+mod OpenedAgain
 mod Plant
 mod WriteExamples
 mod HandleExamples
@@ -25,6 +26,7 @@ mod BesideExamples
 pub mod HandleStatuses
 mod TablesAgreed
 mod SumsInTurn
+pub mod DecisionCases
 mod RunExamples
 pub mod AreaNames
 pub mod ImageLemmas

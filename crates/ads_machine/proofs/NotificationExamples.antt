@@ -17,7 +17,8 @@ use Rattle.ads_machine.specs.HandleLaws.{handles_after_all}
 use Rattle.ads_machine.specs.Handles.{grant_in, handle_in, handles_after, is_released_in, place_after, with_released}
 use Rattle.ads_machine.specs.Moves.{state_after, state_after_move}
 use Rattle.ads_machine.specs.Events.{connection_after_reload, connection_after_tick, state_after_event}
-use Rattle.ads_machine.specs.Packets.{acts_of, decide, decide_request}
+use Rattle.ads_machine.specs.SumPackets.{acts_of, decide_request}
+use Rattle.ads_machine.specs.Packets.{decide}
 use Rattle.ads_machine.specs.Piece.{after_packet, after_packets, after_piece}
 use Rattle.ads_machine.specs.Projection.{acts_by_others, acts_of_log, acts_of_move, acts_of_packets, projection_of}
 use Rattle.ads_machine.specs.Reach.{reach_of}
@@ -40,7 +41,8 @@ use Rattle.ads_plant.specs.Spelling.{type_text}
 use Rattle.ads_plant.specs.Trees.{trees_behind, trees_of}
 use Rattle.ads_plant.specs.World.{byte_at, with_byte}
 use Rattle.std.specs.Fmt.{digits}
-use Rattle.ads_machine.proofs.Plant.{q, a, added, stamp, piece, tick, reload, given, plant, plant2}
+use Rattle.ads_machine.specs.MachineState.{start_of, output_of}
+use Rattle.ads_machine.proofs.Plant.{q, a, added, stamp, piece, opened, tick, reload, given, plant, plant2, pair, step}
 use Rattle.ads_machine.specs.World.{world_of}
 use Rattle.ads_frames.proofs.Hex.{hex}
 
@@ -80,6 +82,12 @@ record NotificationRows : Type 0 where
   -- an ended notification is told so by the old NetId, at the last moment
   old_net : given (piece 1 (added 1 (codes "40400000 48000000 08000000 04000000 00000000 00000000")) ∷ tick 9 ∷ reload (codes "plant3") ∷ [])
       ≡ a 6 1 (codes "00000000 01000000") ++ stamp 9 1 (codes "01000000 08000000 4d69780000000000") ++ stamp 9 1 (codes "01000000 00000000")
+  -- a notification over two symbols that one reload keeps ends; one over the first of them goes on
+  two_kept : output_of 1 (state_after step (start_of (world_of pair [])) (opened 1
+      ∷ piece 1 (added 1 (codes "40400000 00000000 08000000 04000000 00000000 00000000") ++ added 2 (codes "40400000 00000000 04000000 04000000 00000000 00000000")) ∷ tick 9
+      ∷ reload (codes "pair") ∷ piece 1 (q 3 3 (codes "40400000 00000000 04000000 05000000")) ∷ tick 10 ∷ []))
+      ≡ a 6 1 (codes "00000000 01000000") ++ a 6 2 (codes "00000000 02000000") ++ stamp 9 2 (codes "01000000 08000000 2a0000002b000000 02000000 04000000 2a000000")
+      ++ stamp 9 1 (codes "01000000 00000000") ++ a 3 3 (codes "00000000") ++ stamp 10 1 (codes "02000000 04000000 05000000")
   -- the version wraps behind 255
   version : (world_after_reload (record (world_of plant []) { version = 255 }) plant2).version ≡ 0
   -- refused additions, in their order; a notification is deleted once
@@ -100,4 +108,4 @@ record NotificationRows : Type 0 where
 
 notification_rows : NotificationRows
 unfolding ams_length_of is_header front_of packet_of behind_frame frames_from frames_of left_behind rest_of has_same_parts has_same_members part_behind type_align greatest_align type_size members_end type_depth greatest_depth found_of byte_at with_byte trees_behind trees_of type_text group_in group_of request_in request_of byte_range bit_range size_range range_in header_of written_bytes reply_in notes_of connection_after_tick connection_after_reload state_after_event state_after_move state_after given_in_turn left_in_turn sum_refusal packed handles_after_all memory_after_puts world_after_tick client_after_tick read_write_group act_of produce produce_all connection_of put_back grant_in is_released_in place_after handle_in with_released handles_after write_group control_act client_after client_after_reload ended_of watches_after_reload ended_watches text_of_steps entry_of_part numbers_from name_at names_at content_of projection_of acts_of_packets acts_of_move acts_of_log acts_by_others reply_in_forms outcome_in_all response_packet performed grouped frames_of_samples samples_at watches_after_tick reach_of outcomes_of memory_after_acts client_after_acts is_kept memory_after_reload world_after_reload client_reloaded answered_group after_packet after_packets after_piece read_group acts_of decide_request decide digits
-notification_rows = record { on_change = refl; cyclic = refl; not_due = refl; over_a_reload = refl; old_net = refl; version = refl; refused = refl; signal = refl }
+notification_rows = record { on_change = refl; cyclic = refl; not_due = refl; over_a_reload = refl; old_net = refl; two_kept = refl; version = refl; refused = refl; signal = refl }

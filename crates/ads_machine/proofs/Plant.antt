@@ -89,9 +89,14 @@ plant2 = description_with (symbols_with (count_symbol 100) (title_symbol 8 (repl
 abbrev pub plant3 : Description
 plant3 = record plant2 { net = 5 ∷ 1 ∷ 2 ∷ 3 ∷ 1 ∷ 9 ∷ [] }
 
+-- two symbols side by side
+abbrev pub pair : Description
+pair = description_with (
+    count_symbol 0 ∷ plain_symbol (codes "Main.next") (One (Plain DINT)) Process 4 (hex (codes "2b000000")) ∷ [])
+
 -- the examples name a description instead of writing its text; any other text breaks rule 2
 abbrev pub reading : DescriptionReading
-reading bytes signals = if bytes_eq bytes (codes "plant") then Ok plant else if bytes_eq bytes (codes "plant2") then Ok plant2 else if bytes_eq bytes (codes "plant3") then Ok plant3 else Err (BreaksRule 2 0)
+reading bytes signals = if bytes_eq bytes (codes "plant") then Ok plant else if bytes_eq bytes (codes "plant2") then Ok plant2 else if bytes_eq bytes (codes "plant3") then Ok plant3 else if bytes_eq bytes (codes "pair") then Ok pair else Err (BreaksRule 2 0)
 
 abbrev pub device : Device World Client
 device = ads_device all_answered reading

@@ -39,11 +39,11 @@ unfolding state_after_move
 took-waiting {W} {C} step c offered f fs s h = go (connection_of c s.connections) refl
   where
     kept : (k : Connection C) (b : Bool) → k.gone ≡ b → waiting_of (Some k) ≡ f ∷ fs → waiting_of (Some (with_took (length f) (exchange_of s k)).connection) ≡ fs
-    kept k true e w = let P : Bool → Type 0 = λ b. cond b [] (left_after k.took (map bytes_of k.produced)) ≡ f ∷ fs in let x = subst P e w in cc
+    kept k true e w = let P : Bool → Type 0 = λ b. cond b [] (left_after k.bytes_taken (map bytes_of k.produced)) ≡ f ∷ fs in let x = subst P e w in cc
     kept k false e w =
-        let P : Bool → Type 0 = λ b. cond b [] (left_after k.took (map bytes_of k.produced)) ≡ f ∷ fs in
-        let x : left_after k.took (map bytes_of k.produced) ≡ f ∷ fs = subst P e w in
-        rw e (left_after_first (map bytes_of k.produced) k.took f fs x)
+        let P : Bool → Type 0 = λ b. cond b [] (left_after k.bytes_taken (map bytes_of k.produced)) ≡ f ∷ fs in
+        let x : left_after k.bytes_taken (map bytes_of k.produced) ≡ f ∷ fs = subst P e w in
+        rw e (left_after_first (map bytes_of k.produced) k.bytes_taken f fs x)
 
     go : (o : Option (Connection C)) → connection_of c s.connections ≡ o → waiting_at c (after_exchange (connection_of c s.connections) (with_took (length f)) s) ≡ fs
     go None e = let w : waiting_of {C = C} None ≡ f ∷ fs = sym (ap waiting_of e) ∙ h in cc

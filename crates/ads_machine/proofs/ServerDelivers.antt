@@ -27,22 +27,22 @@ use Rattle.ads_machine.proofs.TurnsKept.{offers_kept, takes_output}
 use Rattle.ads_machine.proofs.AllTaken.{takes_all}
 
 adds_none : {C : Type 0} (k : Connection C) → Adds k k
-adds_none k = record { more = []; given = sym (append-nil (bytes_of_all k.produced)); took = refl }
+adds_none k = record { more = []; given = sym (append-nil (bytes_of_all k.produced)); bytes_taken = refl }
 
 adds-grows : {C : Type 0} (k l m : Connection C) → Adds k l → Grows l m → Adds k m
 adds-grows k l m a g = record {
   more = a.more ++ bytes_of_all g.more;
   given = bytes_of_grown l m g ∙ ap (λ (xs : List ℕ). xs ++ bytes_of_all g.more) a.given ∙ append_assoc (bytes_of_all k.produced) a.more (bytes_of_all g.more);
-  took = g.took ∙ a.took;
+  bytes_taken = g.bytes_taken ∙ a.bytes_taken;
 }
 
 -- what is opened after this has taken nothing
 none-carries : {W C : Type 0} (device : Device W C) → EventsCarry device (AddsTo {C = C} None)
 none-carries device = record {
   fresh = λ n h. refl;
-  piece = λ bytes x h. (after_piece-grows device bytes x).took ∙ h;
-  tick = λ moment world l h. (connection_after_tick-grows device moment world l).took ∙ h;
-  reload = λ moment old new l h. (connection_after_reload-grows device moment old new l).took ∙ h;
+  piece = λ bytes x h. (after_piece-grows device bytes x).bytes_taken ∙ h;
+  tick = λ moment world l h. (connection_after_tick-grows device moment world l).bytes_taken ∙ h;
+  reload = λ moment old new l h. (connection_after_reload-grows device moment old new l).bytes_taken ∙ h;
   gone = λ x h. h;
 }
 
@@ -53,7 +53,7 @@ some-carries device k = record {
   piece = λ bytes x h. adds-grows k x.connection (after_piece device bytes x).connection h (after_piece-grows device bytes x);
   tick = λ moment world l h. adds-grows k l _ h (connection_after_tick-grows device moment world l);
   reload = λ moment old new l h. adds-grows k l _ h (connection_after_reload-grows device moment old new l);
-  gone = λ x h. record { more = h.more; given = h.given; took = h.took };
+  gone = λ x h. record { more = h.more; given = h.given; bytes_taken = h.bytes_taken };
 }
 
 pub server_only_adds : (W C : Type 0) → ServerOnlyAdds W C

@@ -17,7 +17,8 @@ use Rattle.ads_machine.specs.HandleLaws.{handles_after_all}
 use Rattle.ads_machine.specs.Handles.{grant_in, handle_in, handles_after, is_released_in, place_after, with_released}
 use Rattle.ads_machine.specs.Moves.{state_after, state_after_move}
 use Rattle.ads_machine.specs.Events.{connection_after_reload, connection_after_tick, state_after_event}
-use Rattle.ads_machine.specs.Packets.{acts_of, decide, decide_request}
+use Rattle.ads_machine.specs.SumPackets.{acts_of, decide_request}
+use Rattle.ads_machine.specs.Packets.{decide}
 use Rattle.ads_machine.specs.Piece.{after_packet, after_packets, after_piece}
 use Rattle.ads_machine.specs.Projection.{acts_by_others, acts_of_log, acts_of_move, acts_of_packets, projection_of}
 use Rattle.ads_machine.specs.Reach.{reach_of}

@@ -2,7 +2,7 @@
 use Rattle.std.proofs.Common.{[], ◌∷◌, refl, ap}
 use Rattle.ads_machine.specs.Acts.{outcomes_of, memory_after_acts, client_after_acts}
 use Rattle.ads_machine.specs.Sums.{given_in_turn, left_in_turn}
-use Rattle.ads_machine.specs.Packets.{acts_of}
+use Rattle.ads_machine.specs.SumPackets.{acts_of}
 use Rattle.ads_machine.specs.SumLaws.{single_outcome, party_after, RunsInTurn}
 
 pub runs_in_turn : RunsInTurn

@@ -9,11 +9,11 @@ pub record Connection (C : Type 0) : Type 0 where
   -- all bytes that came since it was opened
   pub received : List ℕ
   -- how many of its frames were taken
-  pub taken : ℕ
+  pub frames_taken : ℕ
   pub client : C
   pub produced : List Produced
-  -- how many bytes of the produced frames were taken from the machine
-  pub took : ℕ
+  -- how many bytes of the produced frames were taken by its peer
+  pub bytes_taken : ℕ
   -- it is to be shut
   pub closing : Bool
   -- it was closed, lost or shut
@@ -23,10 +23,10 @@ abbrev pub fresh_connection : {C : Type 0} → C → ℕ → Connection C
 fresh_connection client number = record {
   number = number;
   received = [];
-  taken = 0;
+  frames_taken = 0;
   client = client;
   produced = [];
-  took = 0;
+  bytes_taken = 0;
   closing = false;
   gone = false;
 }
@@ -49,7 +49,7 @@ MAX_QUEUED = 4194304
 
 -- how many produced bytes wait
 abbrev pub queued_of : {C : Type 0} → Connection C → ℕ
-queued_of k = length (bytes_of_all k.produced) - k.took
+queued_of k = length (bytes_of_all k.produced) - k.bytes_taken
 
 abbrev pub with_closing : {C : Type 0} → Connection C → Connection C
 with_closing k = record k { closing = true }

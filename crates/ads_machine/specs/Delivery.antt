@@ -39,13 +39,13 @@ OffersWhole W C = (step : EventStep W C) (s : MachineState W C) (log later : Lis
 pub record Adds {C : Type 0} (k l : Connection C) : Type 0 where
   pub more : List ℕ
   pub given : bytes_of_all l.produced ≡ bytes_of_all k.produced ++ more
-  pub took : l.took ≡ k.took
+  pub bytes_taken : l.bytes_taken ≡ k.bytes_taken
 
 -- what an event makes of the connection of a number: more is given to it, or it is opened, or it is not
 -- there still
 abbrev pub AddsTo : {C : Type 0} → Option (Connection C) → Option (Connection C) → Type 0
 AddsTo None None = Unit {0}
-AddsTo None (Some l) = l.took ≡ 0
+AddsTo None (Some l) = l.bytes_taken ≡ 0
 AddsTo (Some k) None = ⊥
 AddsTo (Some k) (Some l) = Adds k l
 

@@ -19,6 +19,7 @@ pub mod LogText
 pub mod SummaryText
 pub mod Delivery
 pub mod Output
+pub mod Running
 pub mod Selftest
 pub mod World
 pub mod Access
@@ -34,6 +35,8 @@ pub mod Writes
 pub mod ByName
 pub mod Requests
 pub mod Sums
+pub mod Decisions
+pub mod SumPackets
 pub mod Packets
 pub mod Replies
 pub mod Stamps

@@ -21,6 +21,11 @@ abbrev pub present_numbers : {W C : Type 0} → MachineState W C → List ℕ
 present_numbers {W} {C} s =
     map (λ (k : Connection C). k.number) (filter (λ (k : Connection C). not k.gone) s.connections)
 
+-- a state that has forgotten the connections that are gone: whatever is still there is found in it as before
+abbrev pub without_gone : {W C : Type 0} → MachineState W C → MachineState W C
+without_gone {W} {C} s =
+    record s { connections = filter (λ (k : Connection C). not k.gone) s.connections }
+
 -- an exchange: one connection, and the world that its frames may change
 pub record Exchange (W C : Type 0) : Type 0 where
   pub world : W

@@ -19,7 +19,7 @@ with_gone x = record x { connection = record x.connection { gone = true } }
 abbrev pub with_took : {W C : Type 0} → ℕ → Exchange W C → Exchange W C
 with_took n x =
     if x.connection.gone then x
-    else record x { connection = record x.connection { took = x.connection.took + n } }
+    else record x { connection = record x.connection { bytes_taken = x.connection.bytes_taken + n } }
 
 unfoldable pub state_after_move : {W C : Type 0} → EventStep W C → MachineState W C → Move
     → MachineState W C

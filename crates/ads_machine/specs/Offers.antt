@@ -17,7 +17,7 @@ left_after n (f ∷ fs) =
 -- the frames of a connection that are not wholly taken, the first without its taken bytes
 abbrev pub not_taken : {C : Type 0} → Option (Connection C) → List (List ℕ)
 not_taken None = []
-not_taken (Some k) = left_after k.took (map bytes_of k.produced)
+not_taken (Some k) = left_after k.bytes_taken (map bytes_of k.produced)
 
 -- those that wait to be offered: none where the connection is gone
 abbrev pub waiting_of : {C : Type 0} → Option (Connection C) → List (List ℕ)

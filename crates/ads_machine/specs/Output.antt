@@ -1,13 +1,15 @@
 -- What the server gives, over every device: output grows only at its end, a connection that is closing or
 -- gone is given nothing more, and its queue has a limit.
 use Rattle.std.specs.Prelude.{◌≡◌, ℕ, ◌+◌, ◌≤◌, ◌<◌, List, length, true, false, Some}
+use Rattle.ads_outside.specs.declared.event.Event.TheVariants as event
 use Rattle.ads_outside.specs.declared.moves.Move.{Move}
 use Rattle.ads_machine.specs.Device.{Device, Produced}
 use Rattle.ads_machine.specs.Connection.{Connection, connection_of, is_deaf, bytes_of, queued_of}
-use Rattle.ads_machine.specs.Connection.{with_frame, with_closing, produce}
-use Rattle.ads_machine.specs.MachineState.{MachineState, output_of}
+use Rattle.ads_machine.specs.Connection.{fresh_connection, with_frame, with_closing, produce}
+use Rattle.ads_machine.specs.MachineState.{MachineState, present_numbers, without_gone, output_of}
 use Rattle.ads_machine.specs.Moves.{state_after}
 use Rattle.ads_machine.specs.Events.{state_after_event}
+use Rattle.ads_machine.specs.Offers.{is_among}
 use Rattle.ads_machine.specs.Delivery.{IsPrefix, OnlyAdds, KeepsThere}
 
 -- The server's machine is one of those that only add.
@@ -17,6 +19,18 @@ ServerOnlyAdds W C = (device : Device W C) → OnlyAdds (state_after_event devic
 abbrev pub ServerKeepsThere : (W C : Type 0) → Type 0
 ServerKeepsThere W C = (device : Device W C) → KeepsThere (state_after_event device)
 
+-- A number that is borne by no connection that is there may be opened again, once those that are gone are
+-- forgotten: it is then a new connection, and all that are there stay as they are.
+pub record OpensAgain {W C : Type 0} (device : Device W C) (s : MachineState W C) : Type 0 where
+  pub stay : (c : ℕ) (k : Connection C) → connection_of c s.connections ≡ Some k → k.gone ≡ false
+      → connection_of c (without_gone s).connections ≡ Some k
+  pub opened : (c : ℕ) → is_among c (present_numbers s) ≡ false
+      → connection_of c (state_after_event device (without_gone s) (event.Opened c)).connections
+      ≡ Some (fresh_connection device.new_client c)
+
+abbrev pub NumbersOpenAgain : (W C : Type 0) → Type 0
+NumbersOpenAgain W C = (device : Device W C) (s : MachineState W C) → OpensAgain device s
+
 -- What a connection was given grows only at its end.
 abbrev pub OutputGrows : (W C : Type 0) → Type 0
 OutputGrows W C = (device : Device W C) (s : MachineState W C) (c : ℕ) (log : List Move)
@@ -25,7 +39,7 @@ OutputGrows W C = (device : Device W C) (s : MachineState W C) (c : ℕ) (log : 
 -- nothing more comes in, is taken or is produced
 pub record IsAtRest {C : Type 0} (k l : Connection C) : Type 0 where
   pub received : l.received ≡ k.received
-  pub taken : l.taken ≡ k.taken
+  pub frames_taken : l.frames_taken ≡ k.frames_taken
   pub client : l.client ≡ k.client
   pub produced : l.produced ≡ k.produced
 

@@ -12,10 +12,10 @@ with_received piece k = record k { received = k.received ++ piece }
 
 -- the AMS packets of the whole frames that are not taken yet
 abbrev pub packets_left : {C : Type 0} → Connection C → List (List ℕ)
-packets_left k = drop k.taken (frames_of k.received)
+packets_left k = drop k.frames_taken (frames_of k.received)
 
 abbrev pub with_one_taken : {C : Type 0} → Connection C → Connection C
-with_one_taken k = record k { taken = k.taken + 1 }
+with_one_taken k = record k { frames_taken = k.frames_taken + 1 }
 
 abbrev pub with_client : {C : Type 0} → C → Connection C → Connection C
 with_client client k = record k { client = client }

@@ -14,7 +14,8 @@ use Rattle.ads_machine.specs.World.{World, setup_of}
 use Rattle.ads_machine.specs.Client.{Client}
 use Rattle.ads_machine.specs.Acts.{Act, reads_of_acts, writes_of_acts}
 use Rattle.ads_machine.specs.Answers.{AnswerTable}
-use Rattle.ads_machine.specs.Packets.{decide, acts_in}
+use Rattle.ads_machine.specs.Decisions.{acts_in}
+use Rattle.ads_machine.specs.Packets.{decide}
 use Rattle.ads_machine.specs.AdsDevice.{DescriptionReading, ads_device, server_step}
 
 -- the moves of a connection, ticks and reloads

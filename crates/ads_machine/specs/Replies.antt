@@ -12,8 +12,8 @@ use Rattle.ads_machine.specs.World.{World}
 use Rattle.ads_machine.specs.Client.{Client}
 use Rattle.ads_machine.specs.Acts.{Outcome, outcomes_of, memory_after_acts, client_after_acts}
 use Rattle.ads_machine.specs.Sums.{packed}
-use Rattle.ads_machine.specs.Packets.{ReplyForm, Single, Sum, Decision, NoAnswer, EndConnection}
-use Rattle.ads_machine.specs.Packets.{AmsError, Perform, acts_in}
+use Rattle.ads_machine.specs.Decisions.{ReplyForm, Single, Sum, Decision, NoAnswer, EndConnection}
+use Rattle.ads_machine.specs.Decisions.{AmsError, Perform, acts_in}
 
 -- a command, and the reply that it makes of how its request ended
 pub record OutcomeForm : Type 0 where

@@ -16,8 +16,8 @@ open_connection r word =
     option_and_then (λ c. if is_open r c then Some c else None) (connection_of_word word)
 
 -- a number that no line opened, where one more connection may be opened
-abbrev pub fresh_connection : BuiltLines → Reading → List ℕ → Option ℕ
-fresh_connection built r word = option_and_then
+abbrev pub fresh_number : BuiltLines → Reading → List ℕ → Option ℕ
+fresh_number built r word = option_and_then
     (λ c. if nat_lt (length r.opened) built.most_opened && not (is_among c r.opened)
     then Some c else None)
     (connection_of_word word)
@@ -25,7 +25,7 @@ fresh_connection built r word = option_and_then
 -- what is read after a line of this kind with these words behind the first; none is off the grammar
 abbrev pub after_words : BuiltLines → Reading → LineKind → List (List ℕ) → Option Reading
 after_words built r Open (c ∷ []) =
-    option_map (λ c. line_said (Happens (event.Opened c)) r) (fresh_connection built r c)
+    option_map (λ c. line_said (Happens (event.Opened c)) r) (fresh_number built r c)
 after_words built r Bytes (c ∷ word ∷ words) = option_and_then
     (λ c. option_map (λ bytes. line_said (Happens (event.Piece c bytes)) r)
     (bytes_of_words (word ∷ words)))

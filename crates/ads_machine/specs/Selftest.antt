@@ -7,6 +7,7 @@ use Rattle.std.specs.Int.{w16, w32, to_le_bytes}
 use Rattle.ads_machine.specs.Device.{Device, Answered, Refused, NoDocument}
 use Rattle.ads_machine.specs.Moves.{EventStep}
 use Rattle.ads_machine.specs.Events.{state_after_event}
+use Rattle.ads_machine.specs.World.{RUN}
 
 -- the target is 5.1.2.3.1.1, port 851; the source is 192.168.0.9.1.1, any port
 abbrev pub TARGET : List ℕ
@@ -16,12 +17,8 @@ abbrev pub SOURCE_NET : List ℕ
 SOURCE_NET = 192 ∷ 168 ∷ 0 ∷ 9 ∷ 1 ∷ 1 ∷ []
 
 -- command 4, flags 0x0004, data length 0
-abbrev pub READ_STATE : List ℕ
-READ_STATE = to_le_bytes w16 4 ++ to_le_bytes w16 0x0004 ++ to_le_bytes w32 0
-
--- the ADS state RUN
-abbrev pub RUN : ℕ
-RUN = 5
+abbrev pub READ_STATE_FIELDS : List ℕ
+READ_STATE_FIELDS = to_le_bytes w16 4 ++ to_le_bytes w16 0x0004 ++ to_le_bytes w32 0
 
 -- AMS error 8: unknown command id
 abbrev pub UNKNOWN_COMMAND : ℕ
@@ -35,7 +32,7 @@ field offset len packet = take len (drop offset packet)
 abbrev pub is_read_state : List ℕ → Bool
 is_read_state packet =
     bytes_eq (field 0 8 packet) TARGET && bytes_eq (field 8 6 packet) SOURCE_NET
-    && bytes_eq (field 16 8 packet) READ_STATE && (length packet == 32)
+    && bytes_eq (field 16 8 packet) READ_STATE_FIELDS && (length packet == 32)
 
 -- The reply to a packet: addresses exchanged, its command, flags 0x0005, the data length, an error
 -- code, its invoke id, and data.

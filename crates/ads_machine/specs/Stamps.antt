@@ -11,7 +11,7 @@ use Rattle.ads_formats.specs.Notification.{Sample, notification_bytes}
 use Rattle.ads_frames.specs.Frame.{frame_bytes}
 use Rattle.ads_machine.specs.Device.{Produced, Notification}
 use Rattle.ads_machine.specs.Access.{Addressed, values_at}
-use Rattle.ads_machine.specs.Watches.{Watch, AddressedSample, samples_of, sample_of, checked_watch}
+use Rattle.ads_machine.specs.Watches.{Watch, AddressedSample, samples_of, addressed_sample, checked_watch}
 use Rattle.ads_machine.specs.Answers.{DEVICE_NOTIFICATION}
 
 abbrev pub is_same_address : AmsAddress → AmsAddress → Bool
@@ -45,7 +45,7 @@ abbrev pub stamp_payload : ℕ → List Sample → List ℕ
 stamp_payload moment samples =
     notification_bytes (record { time = moment; samples = samples } ∷ [])
 
--- a packet from this machine, without an invoke id
+-- a packet from this NetId, without an invoke id
 abbrev pub notification_packet : List ℕ → SampleGroup → List ℕ → List ℕ
 notification_packet net g payload = header_bytes (record {
   target = g.address;
@@ -62,7 +62,7 @@ notification_frame net moment g =
     Notification (length g.samples)
     (frame_bytes (notification_packet net g (stamp_payload moment g.samples)))
 
--- the frames of samples that one connection is sent at a moment, by a machine of this NetId
+-- the frames of samples that one connection is sent at a moment, from this NetId
 unfoldable pub frames_of_samples : List ℕ → ℕ → List AddressedSample → List Produced
 frames_of_samples net moment samples = map (notification_frame net moment) (grouped [] samples)
 
@@ -78,4 +78,4 @@ watches_after_tick memory now watches =
 
 -- the samples of notifications that ended: of no byte
 abbrev pub end_samples : List (Watch (List Addressed)) → List AddressedSample
-end_samples watches = map (λ (w : Watch (List Addressed)). sample_of [] w) watches
+end_samples watches = map (λ (w : Watch (List Addressed)). addressed_sample [] w) watches

@@ -10,7 +10,7 @@ use Rattle.ads_machine.specs.Answers.{AnswerTable}
 use Rattle.ads_machine.specs.Writes.{Asker}
 use Rattle.ads_machine.specs.Requests.{act_of}
 use Rattle.ads_machine.specs.Sums.{given_in_turn, left_in_turn}
-use Rattle.ads_machine.specs.Packets.{acts_of}
+use Rattle.ads_machine.specs.SumPackets.{acts_of}
 
 -- a client, and the bytes
 pub record Party : Type 0 where

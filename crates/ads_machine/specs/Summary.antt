@@ -36,7 +36,7 @@ all_produced {W} {C} s = flat_map (λ (k : Connection C). k.produced) s.connecti
 abbrev pub summary_of : {W C : Type 0} → MachineState W C → Summary
 summary_of {W} {C} s = record {
   connections = count_of (length s.connections);
-  requests = count_of (sum (map (λ (k : Connection C). k.taken) s.connections));
+  requests = count_of (sum (map (λ (k : Connection C). k.frames_taken) s.connections));
   replies = count_of (sum (map replies_in (all_produced s)));
   samples = count_of (sum (map samples_in (all_produced s)));
   accepted = count_of s.accepted;

@@ -55,8 +55,8 @@ pub record AddressedSample : Type 0 where
   pub address : AmsAddress
   pub sample : Sample
 
-abbrev pub sample_of : {R : Type 0} → List ℕ → Watch R → AddressedSample
-sample_of bytes w = record {
+abbrev pub addressed_sample : {R : Type 0} → List ℕ → Watch R → AddressedSample
+addressed_sample bytes w = record {
   port = w.port;
   address = w.address;
   sample = record { handle = w.handle; bytes = bytes };
@@ -65,7 +65,7 @@ sample_of bytes w = record {
 -- the sample that the tick sends, if any
 abbrev pub samples_of : {R : Type 0} → ℕ → List ℕ → Watch R → List AddressedSample
 samples_of now bytes w =
-    if is_due now w && is_sent bytes w then sample_of bytes w ∷ [] else []
+    if is_due now w && is_sent bytes w then addressed_sample bytes w ∷ [] else []
 
 -- A reload, which for a port and what is watched there tells what is watched from then on, or none.
 abbrev pub watch_after_reload : {R : Type 0} → (ℕ → R → Option R) → Watch R → Option (Watch R)

@@ -47,7 +47,7 @@ is_writable_part net p (SymbolPart name) = is_writable_symbol net (symbol_named 
 is_writable_part net p (AreaPart area) = true
 is_writable_part net p StatePart = true
 
--- whether a machine may write each of these
+-- whether a peer of this NetId may write each of these
 abbrev pub are_writable : List ℕ → PlantPort → List Addressed → Bool
 are_writable net p places = list_all (λ a. is_writable_part net p (addressed_name a).part) places
 

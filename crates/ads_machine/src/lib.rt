@@ -5,7 +5,7 @@
 mod areas;
 
 ghost use Rattle.ads_machine.specs.Delivery.{PlayKeepsTurns, OffersWhole, TakesOutput, TakesAll};
-ghost use Rattle.ads_machine.specs.Output.{ServerOnlyAdds, ServerKeepsThere};
+ghost use Rattle.ads_machine.specs.Output.{ServerOnlyAdds, ServerKeepsThere, NumbersOpenAgain};
 ghost use Rattle.ads_machine.specs.Output.{OutputGrows, ClosingEnds, LimitsQueue};
 ghost use Rattle.ads_machine.specs.HandleLaws.{StatusIsHistory, LimitsGrants, TablesAgree};
 ghost use Rattle.ads_machine.specs.SumLaws.{RunsInTurn};
@@ -40,6 +40,12 @@ pub fn taken_is_output<W, C>()
 pub fn server_delivers<W, C>()
     ensures adds { ServerOnlyAdds W C }
     ensures there { ServerKeepsThere W C }
+{}
+
+/// A number that no connection that is there bears may be opened again once those that are gone are forgotten, and is
+/// then a new connection; all that are there stay as they are.
+pub fn numbers_open_again<W, C>()
+    ensures { NumbersOpenAgain W C }
 {}
 
 /// What a connection was given grows only at its end; one that is closing or gone takes and produces

@@ -9,11 +9,12 @@ use Rattle.ads_rules.specs.Verdict.{BrokenRule, table_verdict}
 use Rattle.ads_rules.specs.TextVerdict.{TextVerdict, Described, Breaks, DESCRIPTION_LIMIT, verdict_of_rules, verdict_of_document, document_of, text_verdict}
 use Rattle.ads_rules.specs.TextVerdict as text
 use Rattle.ads_rules.proofs.Accepts.{table_verdict-accepted}
+use Rattle.ads_formats.specs.Groups.{group_in, group_of}
 use Rattle.ads_machine.specs.Device.{DescriptionFault, BreaksRule, NoDocument}
 use Rattle.ads_machine.specs.MachineState.{MachineState}
 use Rattle.ads_machine.specs.World.{World}
 use Rattle.ads_machine.specs.Client.{Client}
-use Rattle.ads_machine.specs.Answers.{all_answered}
+use Rattle.ads_machine.specs.Answers.{all_answered, answered_group}
 use Rattle.ads_machine.specs.Outcomes.{outcome_of_reload}
 use Rattle.ads_machine.specs.AdsDevice.{reloading}
 use Rattle.ads_laws.proofs.Isolated.{isolated, takes_as_alone, takes_all_as_alone}
@@ -72,4 +73,12 @@ pub server_replies_fit : ServerRepliesFit
 server_replies_fit description signals accepted log = replies_fit all_answered read_description reads_descriptions description signals accepted log
 
 pub server_refuses_dead_handles : ServerRefusesDeadHandles
-server_refuses_dead_handles d c k handle code dead = dead_handle_touches_nothing all_answered d c k handle code dead
+unfolding answered_group group_of group_in
+server_refuses_dead_handles d c k handle code dead =
+    let refused = dead_handle_touches_nothing all_answered d c k handle code dead in
+    record {
+      read = λ len. refused.0.read len refl;
+      write = λ bytes may. refused.0.write bytes refl may;
+      add = λ len number delay cycle mode known few. refused.0.add len number delay cycle mode refl known few;
+      any_form = refused.1;
+    }

@@ -1,5 +1,5 @@
 -- Laws of the server that the program is: of every description, all signals and every log.
-use Rattle.std.specs.Prelude.{◌≡◌, ◌+◌, ℕ, List, length, false, Option, Some, Err}
+use Rattle.std.specs.Prelude.{◌≡◌, ◌+◌, ◌≤◌, ℕ, List, length, true, false, Some}
 use Rattle.signals.specs.Wave.{Wave}
 use Rattle.ads_outside.specs.declared.event.Event.TheVariants as event
 use Rattle.ads_outside.specs.declared.moves.Move.{Move}
@@ -8,6 +8,8 @@ use Rattle.ads_plant.specs.Description.{Description}
 use Rattle.ads_plant.specs.Accepted.{IsAccepted}
 use Rattle.ads_rules.specs.TextVerdict.{Breaks, text_verdict}
 use Rattle.ads_rules.specs.TextVerdict as text
+use Rattle.ads_formats.specs.Groups.{value_by_handle}
+use Rattle.ads_formats.specs.Request.{Read, Write, AddDeviceNotification}
 use Rattle.ads_machine.specs.Device.{DescriptionFault, BreaksRule, NoDocument}
 use Rattle.ads_machine.specs.MachineState.{MachineState}
 use Rattle.ads_machine.specs.Moves.{state_after_move}
@@ -16,16 +18,19 @@ use Rattle.ads_machine.specs.Turns.{KeepsTurns}
 use Rattle.ads_machine.specs.Delivery.{IsPrefix, AreOffers, is_short, is_cut_off}
 use Rattle.ads_machine.specs.World.{World, Setup}
 use Rattle.ads_machine.specs.Handles.{kept_status}
+use Rattle.ads_machine.specs.Watches.{Mode}
 use Rattle.ads_machine.specs.Client.{Client}
 use Rattle.ads_machine.specs.Answers.{all_answered}
-use Rattle.ads_machine.specs.Writes.{Asker}
+use Rattle.ads_machine.specs.Acts.{Refusal}
+use Rattle.ads_machine.specs.Writes.{Asker, may_write}
+use Rattle.ads_machine.specs.Requests.{MAX_WATCHED, mode_of, act_of}
 use Rattle.ads_machine.specs.Outcomes.{ReloadRefused, outcome_of_event}
 use Rattle.ads_machine.specs.Projection.{projection_of}
 use Rattle.ads_laws.specs.Isolation.{IsUntouched}
 use Rattle.ads_laws.specs.Soundness.{ReadsAccepted}
 use Rattle.ads_laws.specs.Reachable.{AllFits}
 use Rattle.ads_laws.specs.RepliesFit.{AllAnswersFit}
-use Rattle.ads_laws.specs.Refusals.{dead_code, RefusesHandle}
+use Rattle.ads_laws.specs.Refusals.{dead_code, RefusesAnyForm}
 use Rattle.ads_product.specs.Server.{read_description, server_device, server, server_start, server_after, server_output}
 
 -- Each description that is read is an accepted one.
@@ -80,8 +85,17 @@ abbrev pub ServerRepliesFit : Type 0
 ServerRepliesFit = (description : Description) (signals : List Wave) → IsAccepted description (length signals)
     → (log : List Move) → AllAnswersFit server_device (server_after description signals log)
 
--- An access by a handle that is not live is refused by its code.
+-- accesses by a handle that is not live: by its code, unless a check that comes before refuses with another
+pub record ServerRefuses (d : Setup) (c : Client) (k : Asker) (handle code : ℕ) : Type 0 where
+  pub read : (len : ℕ) → act_of all_answered d c k (Read value_by_handle handle len) ≡ Refusal code
+  pub write : (bytes : List ℕ) → may_write k.rights ≡ true
+      → act_of all_answered d c k (Write value_by_handle handle bytes) ≡ Refusal code
+  pub add : (len number delay cycle : ℕ) (mode : Mode) → mode_of number ≡ Some mode → len ≤ MAX_WATCHED
+      → act_of all_answered d c k (AddDeviceNotification value_by_handle handle len number delay cycle)
+      ≡ Refusal code
+  -- and nothing is touched in any form
+  pub any_form : RefusesAnyForm all_answered d c k handle
+
 abbrev pub ServerRefusesDeadHandles : Type 0
 ServerRefusesDeadHandles = (d : Setup) (c : Client) (k : Asker) (handle code : ℕ)
-    → dead_code (kept_status c.handles handle k.port.number) ≡ Some code
-    → RefusesHandle all_answered d c k handle code
+    → dead_code (kept_status c.handles handle k.port.number) ≡ Some code → ServerRefuses d c k handle code

@@ -3,7 +3,7 @@
 ghost use Rattle.std.specs.Prelude.{◌≡◌, ◌+◌, ◌<◌, ◌^◌, ◌++◌, Some, None, IfOk, OnOk, if◌then◌else◌};
 ghost use Rattle.ads_machine.specs.BuiltLines.{built_lines};
 ghost use Rattle.ads_machine.specs.Reading.{nothing_read, line_said, opened_by, closed_by};
-ghost use Rattle.ads_machine.specs.Script.{after_line, fresh_connection, open_connection};
+ghost use Rattle.ads_machine.specs.Script.{after_line, fresh_number, open_connection};
 ghost use Rattle.ads_machine.specs.ScriptLine.{Happens};
 ghost use Rattle.replay_script.specs.Answered.{lines_of_events};
 
@@ -63,7 +63,7 @@ impl Progress {
 
     /// The connection of a word, if it may be opened.
     pub fn fresh(&self, word: &[u8]) -> Option<u32>
-        ensures { result ≡ fresh_connection built_lines self.now word.now }
+        ensures { result ≡ fresh_number built_lines self.now word.now }
     {
         let conn = read_connection(word)?;
         if self.opened.len() < 1 && !self.opened.as_slice().contains(&conn) {

@@ -11,7 +11,7 @@ same_count old before = λ others e. e
 pub same_counts : (s : Summary) (k : ServedConnection) → Counts s s k k
 same_counts s k = record {
   connections = refl;
-  requests = same_count s.requests k.taken;
+  requests = same_count s.requests k.frames_taken;
   replies = same_count s.replies (replies_of k);
   samples = same_count s.samples (samples_of k);
   accepted = refl;

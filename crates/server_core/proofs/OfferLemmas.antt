@@ -24,7 +24,7 @@ front_is (Some left) out empty first = sym first
 
 -- what waits for a connection that is there
 waiting_there : (conn : Conn) (k : ServedConnection) → Stands conn k → k.gone ≡ false → waiting_of (Some k) ≡ conn.out
-waiting_there conn k s there = cond-false k.gone [] (left_after k.took (map bytes_of k.produced)) there ∙ sym s.waiting
+waiting_there conn k s there = cond-false k.gone [] (left_after k.bytes_taken (map bytes_of k.produced)) there ∙ sym s.waiting
 
 pub offer_found : (conns : List Conn) (x : CoreState) (n i : ℕ) (conn : Conn) → ServesEach conns x → IsPlace conns n i → conn ≡ get_or conns i conn
     → offer_of_conn conn ≡ offer_at n x
@@ -42,7 +42,7 @@ no_offer false frames e = ap front_of e
 
 nothing_waits : (n : ℕ) (x : CoreState) → IsNotThere n x.state.connections → waiting_at n x.state ≡ []
 nothing_waits n x (inl none) = ap waiting_of none
-nothing_waits n x (inr one) = ap waiting_of one.found ∙ cond-true one.k.gone [] (left_after one.k.took (map bytes_of one.k.produced)) one.gone
+nothing_waits n x (inr one) = ap waiting_of one.found ∙ cond-true one.k.gone [] (left_after one.k.bytes_taken (map bytes_of one.k.produced)) one.gone
 
 pub none_offered : (conns : List Conn) (x : CoreState) (n : ℕ) → ServesEach conns x → IsAbsent conns n → offer_at n x ≡ None
 none_offered conns x n s absent_ =

@@ -24,8 +24,8 @@ use Rattle.server_core.proofs.CountLemmas.{same_count, one_more}
 -- the bytes that wait in the queue are those of the machine
 pub queued_bytes : (conn : Conn) (k : ServedConnection) → Stands conn k → queued conn.out ≡ queued_of k
 queued_bytes conn k s =
-    ap queued s.waiting ∙ queued-left_after (map bytes_of k.produced) k.took
-    ∙ ap (λ (bs : List ℕ). length bs - k.took) (joined_bytes k.produced)
+    ap queued s.waiting ∙ queued-left_after (map bytes_of k.produced) k.bytes_taken
+    ∙ ap (λ (bs : List ℕ). length bs - k.bytes_taken) (joined_bytes k.produced)
 
 pub produce-fits : (frame : Produced) (k : ServedConnection) → k.closing ≡ false → queued_of k + length (bytes_of frame) ≤ 4194304 → produce frame k ≡ with_frame frame k
 unfolding produce
@@ -41,7 +41,7 @@ produce-over frame k is_open over =
 pub record SameStream (k l : ServedConnection) : Type 0 where
   pub number : l.number ≡ k.number
   pub received : l.received ≡ k.received
-  pub taken : l.taken ≡ k.taken
+  pub frames_taken : l.frames_taken ≡ k.frames_taken
   pub gone : l.gone ≡ k.gone
 
 pub produce-stream : (frame : Produced) (k : ServedConnection) → SameStream k (produce frame k)
@@ -49,19 +49,19 @@ unfolding produce
 produce-stream frame k = at_closing k.closing (fits frame k)
   where
     same : SameStream k k
-    same = record { number = refl; received = refl; taken = refl; gone = refl }
+    same = record { number = refl; received = refl; frames_taken = refl; gone = refl }
 
     at_closing : (closing room : Bool) → SameStream k (cond closing k (cond room (with_frame frame k) (with_closing k)))
     at_closing true room = same
-    at_closing false true = record { number = refl; received = refl; taken = refl; gone = refl }
-    at_closing false false = record { number = refl; received = refl; taken = refl; gone = refl }
+    at_closing false true = record { number = refl; received = refl; frames_taken = refl; gone = refl }
+    at_closing false false = record { number = refl; received = refl; frames_taken = refl; gone = refl }
 
 -- a stream is kept with its splitter
-pub same_stream : (conn new : Conn) (k l : ServedConnection) → new.splitter ≡ conn.splitter → l.received ≡ k.received → l.taken ≡ k.taken
+pub same_stream : (conn new : Conn) (k l : ServedConnection) → new.splitter ≡ conn.splitter → l.received ≡ k.received → l.frames_taken ≡ k.frames_taken
     → Represents conn.splitter (history_of conn k) → Represents new.splitter (history_of new l)
 same_stream conn new k l splitter received taken s =
-    let P : Held → Type 0 = λ held. Represents held (record { fed = l.received; given = l.taken; told_broken = held.told_broken }) in
-    let Q : List ℕ → Type 0 = λ fed. Represents conn.splitter (record { fed = fed; given = l.taken; told_broken = conn.splitter.told_broken }) in
+    let P : Held → Type 0 = λ held. Represents held (record { fed = l.received; given = l.frames_taken; told_broken = held.told_broken }) in
+    let Q : List ℕ → Type 0 = λ fed. Represents conn.splitter (record { fed = fed; given = l.frames_taken; told_broken = conn.splitter.told_broken }) in
     let R : ℕ → Type 0 = λ given. Represents conn.splitter (record { fed = k.received; given = given; told_broken = conn.splitter.told_broken }) in
     subst P (sym splitter) (subst Q (sym received) (subst R (sym taken) s))
 
@@ -74,9 +74,9 @@ stands_with_frame conn new k frame s number splitter out closing some =
       number = number ∙ s.number;
       stream = same_stream conn new k (with_frame (Reply frame) k) splitter refl refl s.stream;
       waiting = out ∙ ap (λ fs. fs ++ frame ∷ []) s.waiting
-          ∙ sym (left_after-push (map bytes_of k.produced) k.took frame (omega (arith, s.took, given)) some)
-          ∙ ap (λ fs. left_after k.took fs) (sym (map-append bytes_of k.produced (Reply frame ∷ [])));
-      took = omega (arith, s.took, all);
+          ∙ sym (left_after-push (map bytes_of k.produced) k.bytes_taken frame (omega (arith, s.bytes_taken, given)) some)
+          ∙ ap (λ fs. left_after k.bytes_taken fs) (sym (map-append bytes_of k.produced (Reply frame ∷ [])));
+      bytes_taken = omega (arith, s.bytes_taken, all);
       closing = closing ∙ s.closing;
     }
 
@@ -86,7 +86,7 @@ stands_with_closing conn new k s number splitter out closing = record {
   number = number ∙ s.number;
   stream = same_stream conn new k (with_closing k) splitter refl refl s.stream;
   waiting = out ∙ s.waiting;
-  took = s.took;
+  bytes_taken = s.bytes_taken;
   closing = closing;
 }
 
@@ -113,7 +113,7 @@ counts_reply s t k frame e =
 pub counts_closing : (s : Summary) (k : ServedConnection) → Counts s s k (with_closing k)
 counts_closing s k = record {
   connections = refl;
-  requests = same_count s.requests k.taken;
+  requests = same_count s.requests k.frames_taken;
   replies = same_count s.replies (replies_of k);
   samples = same_count s.samples (samples_of k);
   accepted = refl;

@@ -276,18 +276,18 @@ unfolding blocked_list
 took-same false n bs free = sym free
 took-same true n bs free = sym (or_left (n == n) (is_among n bs) (test_same n n refl))
 
-took_exchange : (n : ℕ) (s : ServedState) (k : ServedConnection) → k.gone ≡ false → with_took n (exchange_of s k) ≡ exchange_of s (record k { took = k.took + n })
-took_exchange n s k there = cond-false k.gone (exchange_of s k) (exchange_of s (record k { took = k.took + n })) there
+took_exchange : (n : ℕ) (s : ServedState) (k : ServedConnection) → k.gone ≡ false → with_took n (exchange_of s k) ≡ exchange_of s (record k { bytes_taken = k.bytes_taken + n })
+took_exchange n s k there = cond-false k.gone (exchange_of s k) (exchange_of s (record k { bytes_taken = k.bytes_taken + n })) there
 
 pub took_follows : (conns : List Conn) (x : CoreState) (c i : ℕ) (d new : Conn) (s : Summary) (left bytes : List ℕ) → ServesEach conns x → IsPlace conns c i
-    → ((k : ServedConnection) → Stands (get_or conns i d) k → Stands new (record k { took = k.took + length bytes }))
+    → ((k : ServedConnection) → Stands (get_or conns i d) k → Stands new (record k { bytes_taken = k.bytes_taken + length bytes }))
     → (get_or conns i d).blocked ≡ false → new.blocked ≡ nat_lt (length bytes) (length left)
     → FollowsEach (set conns i new) s s x (after_move x (move.Took c (length left) bytes))
 unfolding state_after_move blocked_list
 took_follows conns x c i d new s left bytes serves place goes free mark =
     let at = served_at conns x c i d serves place in
     let n = length bytes in
-    let l = record at.k { took = at.k.took + n } in
+    let l = record at.k { bytes_taken = at.k.bytes_taken + n } in
     let short = nat_lt n (length left) in
     let number = sym at.stands.number ∙ place.number d in
     let own = ap (λ m. is_among m x.blocked) (sym (place.number d)) ∙ sym (at_mark conns x.blocked i d serves.marked place.within) ∙ free in
@@ -319,7 +319,7 @@ writable_at conns x n i conn new s serves place read keeps mark =
     writable_follows conns x n i conn new s serves place (λ k st. keeps k (subst (λ c. Stands c k) (sym read) st)) mark
 
 pub took_at : (conns : List Conn) (x : CoreState) (n i : ℕ) (conn new : Conn) (s : Summary) (left bytes : List ℕ) → ServesEach conns x → IsPlace conns n i → conn ≡ get_or conns i conn
-    → ((k : ServedConnection) → Stands conn k → Stands new (record k { took = k.took + length bytes })) → conn.blocked ≡ false → new.blocked ≡ nat_lt (length bytes) (length left)
+    → ((k : ServedConnection) → Stands conn k → Stands new (record k { bytes_taken = k.bytes_taken + length bytes })) → conn.blocked ≡ false → new.blocked ≡ nat_lt (length bytes) (length left)
     → FollowsEach (set conns i new) s s x (after_move x (move.Took n (length left) bytes))
 took_at conns x n i conn new s left bytes serves place read goes free mark =
     took_follows conns x n i conn new s left bytes serves place (λ k st. goes k (subst (λ c. Stands c k) (sym read) st)) (ap (λ (c : Conn). c.blocked) (sym read) ∙ free) mark

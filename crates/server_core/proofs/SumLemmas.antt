@@ -74,13 +74,13 @@ pub counted_one : (old new : Summary) (n : ℕ) (k : ServedConnection) (x : Serv
 counted_one old new n k x s found number c e =
     let l = x.connection in
     let ks = s.connections in
-    let taken = one_changes (λ (j : ServedConnection). j.taken) n k l ks found number in
+    let taken = one_changes (λ (j : ServedConnection). j.frames_taken) n k l ks found number in
     let replies = one_changes replies_of n k l ks found number in
     let samples = one_changes samples_of n k l ks found number in
     same_counts_of (counts_in new) (summary_of (with_exchange x s))
     (c.connections ∙ ap (λ (z : CountsOfState). z.connections) e ∙ ap count_of (sym (length-put_back l ks)))
-    (c.requests taken.others (ap (λ (z : CountsOfState). z.requests) e ∙ ap count_of (sum-map (λ (j : ServedConnection). j.taken) ks ∙ taken.before))
-    ∙ ap count_of (sym (sum-map (λ (j : ServedConnection). j.taken) (put_back l ks) ∙ taken.after)))
+    (c.requests taken.others (ap (λ (z : CountsOfState). z.requests) e ∙ ap count_of (sum-map (λ (j : ServedConnection). j.frames_taken) ks ∙ taken.before))
+    ∙ ap count_of (sym (sum-map (λ (j : ServedConnection). j.frames_taken) (put_back l ks) ∙ taken.after)))
     (c.replies replies.others (ap (λ (z : CountsOfState). z.replies) e ∙ ap count_of (produced_sum replies_in ks ∙ replies.before))
     ∙ ap count_of (sym (produced_sum replies_in (put_back l ks) ∙ replies.after)))
     (c.samples samples.others (ap (λ (z : CountsOfState). z.samples) e ∙ ap count_of (produced_sum samples_in ks ∙ samples.before))
@@ -105,8 +105,8 @@ pub counted_fresh : (old new : Summary) (n : ℕ) (s t : ServedState) → t ≡ 
 counted_fresh old new n s t state counts e =
     let k = fresh_connection served.new_client n in
     let ks = s.connections in
-    let taken = sum-map (λ (j : ServedConnection). j.taken) ks ∙ added (λ (j : ServedConnection). j.taken) ks k refl
-    ∙ sym (sum-map (λ (j : ServedConnection). j.taken) (ks ++ k ∷ [])) in
+    let taken = sum-map (λ (j : ServedConnection). j.frames_taken) ks ∙ added (λ (j : ServedConnection). j.frames_taken) ks k refl
+    ∙ sym (sum-map (λ (j : ServedConnection). j.frames_taken) (ks ++ k ∷ [])) in
     let replies = produced_sum replies_in ks ∙ added replies_of ks k refl ∙ sym (produced_sum replies_in (ks ++ k ∷ [])) in
     let samples = produced_sum samples_in ks ∙ added samples_of ks k refl ∙ sym (produced_sum samples_in (ks ++ k ∷ [])) in
     subst (λ (z : ServedState). counts_in new ≡ summary_of z) (sym state)

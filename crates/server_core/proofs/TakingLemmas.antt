@@ -28,12 +28,12 @@ pub after_packet-answered : (packet : List ℕ) (x : ServedExchange) → x.conne
 unfolding after_packet answered
 after_packet-answered packet x is_open = ap (λ (y : ServedExchange). y.connection) (cond-false x.connection.closing x _ is_open)
 
-pub answered-left : (packet : List ℕ) (k : ServedConnection) → packets_left (answered packet k) ≡ drop (k.taken + 1) (frames_of k.received)
+pub answered-left : (packet : List ℕ) (k : ServedConnection) → packets_left (answered packet k) ≡ drop (k.frames_taken + 1) (frames_of k.received)
 unfolding answered
 answered-left packet k =
     let stream = produce-stream (Reply (frame_bytes (selftest_reply packet))) (with_one_taken k) in
-    ap (λ n. drop n (frames_of (produce (Reply (frame_bytes (selftest_reply packet))) (with_one_taken k)).received)) stream.taken
-    ∙ ap (λ bs. drop (k.taken + 1) (frames_of bs)) stream.received
+    ap (λ n. drop n (frames_of (produce (Reply (frame_bytes (selftest_reply packet))) (with_one_taken k)).received)) stream.frames_taken
+    ∙ ap (λ bs. drop (k.frames_taken + 1) (frames_of bs)) stream.received
 
 -- one packet is taken, and the end is the same
 pub settled-one : (packet : List ℕ) (packets : List (List ℕ)) (x : ServedExchange) → x.connection.closing ≡ false
@@ -92,12 +92,12 @@ taken_one conn mid s t k packet st answer stream number out closing counted = re
     number = number ∙ st.number;
     stream = after_frame mid.splitter (history_of conn k) packet answer stream;
     waiting = out ∙ st.waiting;
-    took = st.took;
+    bytes_taken = st.bytes_taken;
     closing = closing ∙ st.closing;
   };
   counted = record {
     connections = ap (λ (x : Summary). x.connections) counted;
-    requests = λ others e. ap (λ (x : Summary). x.requests) counted ∙ one_more s.requests k.taken others e;
+    requests = λ others e. ap (λ (x : Summary). x.requests) counted ∙ one_more s.requests k.frames_taken others e;
     replies = λ others e. ap (λ (x : Summary). x.replies) counted ∙ e;
     samples = λ others e. ap (λ (x : Summary). x.samples) counted ∙ e;
     accepted = ap (λ (x : Summary). x.accepted) counted;
@@ -131,7 +131,7 @@ takes_frame conn mid new s t u x packet frame is_open answer first second is_rep
         })
 
     same_end : settled y ≡ settled x
-    same_end = settled-one packet (drop (k.taken + 1) (frames_of k.received)) x is_open (packet_is_next (history_of conn k) packet answer)
+    same_end = settled-one packet (drop (k.frames_taken + 1) (frames_of k.received)) x is_open (packet_is_next (history_of conn k) packet answer)
         (ap packets_left (after_packet-answered packet x is_open) ∙ answered-left packet k)
 
     by_mark : (b : Bool) → new.closing ≡ b → Takes (not b) new s u x
@@ -152,7 +152,7 @@ takes_open conn new s x st answer stream number out closing =
         number = number ∙ st.number;
         stream = after_not_yet new.splitter (history_of conn x.connection) answer stream;
         waiting = out ∙ st.waiting;
-        took = st.took;
+        bytes_taken = st.bytes_taken;
         closing = closing ∙ st.closing;
       };
       counted = same_counts s x.connection;
@@ -171,7 +171,7 @@ takes_broken conn new s x st answer stream number out closing =
         number = number ∙ st.number;
         stream = after_broken new.splitter (history_of conn x.connection) answer stream;
         waiting = out ∙ st.waiting;
-        took = st.took;
+        bytes_taken = st.bytes_taken;
         closing = closing;
       };
       counted = counts_closing s x.connection;
@@ -214,12 +214,12 @@ fed conn new s k piece st stream number out closing = record {
     number = number ∙ st.number;
     stream = own_mark new.splitter (after_feed (history_of conn k) piece) stream;
     waiting = out ∙ st.waiting;
-    took = st.took;
+    bytes_taken = st.bytes_taken;
     closing = closing ∙ st.closing;
   };
   counted = record {
     connections = refl;
-    requests = same_count s.requests k.taken;
+    requests = same_count s.requests k.frames_taken;
     replies = same_count s.replies (replies_of k);
     samples = same_count s.samples (samples_of k);
     accepted = refl;

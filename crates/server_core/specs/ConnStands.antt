@@ -12,14 +12,14 @@ use Rattle.server_core.specs.Counts.{Counts}
 
 -- what the splitter was fed, and gave
 abbrev pub history_of : Conn → ServedConnection → History
-history_of conn k = record { fed = k.received; given = k.taken; told_broken = conn.splitter.told_broken }
+history_of conn k = record { fed = k.received; given = k.frames_taken; told_broken = conn.splitter.told_broken }
 
 pub record Stands (conn : Conn) (k : ServedConnection) : Type 0 where
   pub number : conn.number ≡ k.number
   pub stream : Represents conn.splitter (history_of conn k)
   -- what waits in the queue
-  pub waiting : conn.out ≡ left_after k.took (map bytes_of k.produced)
-  pub took : k.took ≤ length (bytes_of_all k.produced)
+  pub waiting : conn.out ≡ left_after k.bytes_taken (map bytes_of k.produced)
+  pub bytes_taken : k.bytes_taken ≤ length (bytes_of_all k.produced)
   pub closing : conn.closing ≡ k.closing
 
 -- the code's connection stands for the one after, and the counts follow

@@ -27,7 +27,7 @@ samples_of k = sum (map samples_in k.produced)
 -- the counts follow a change of one connection
 pub record Counts (old new : Summary) (before after : ServedConnection) : Type 0 where
   pub connections : new.connections ≡ old.connections
-  pub requests : Grows old.requests new.requests before.taken after.taken
+  pub requests : Grows old.requests new.requests before.frames_taken after.frames_taken
   pub replies : Grows old.replies new.replies (replies_of before) (replies_of after)
   pub samples : Grows old.samples new.samples (samples_of before) (samples_of after)
   pub accepted : new.accepted ≡ old.accepted

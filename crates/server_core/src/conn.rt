@@ -106,7 +106,7 @@ impl Conn {
     /// Bytes of the first frame were taken.
     pub(crate) fn took(&mut self, n: u32)
         requires { FitsFirst n self.old }
-        ensures stands { (k : ServedConnection) → Stands self.old k → Stands self.new (record k { took = k.took + n }) }
+        ensures stands { (k : ServedConnection) → Stands self.old k → Stands self.new (record k { bytes_taken = k.bytes_taken + n }) }
         ensures blocked { self.new.blocked ≡ nat_lt n (length (first_left self.old)) }
         ensures number { self.new.number ≡ self.old.number }
     {

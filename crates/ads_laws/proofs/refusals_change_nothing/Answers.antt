@@ -1,8 +1,11 @@
-use Rattle.ads_laws.proofs.Refused.{refusal_changes_nothing, turned_away_changes_nothing, refused_reload_counts}
+use Rattle.ads_laws.proofs.Refused.{refusal_changes_nothing, result_changes_nothing, turned_away_changes_nothing, refused_reload_counts}
 use Rattle.ads_laws.proofs.refusals_change_nothing.Goals as goal
 
 pub returns-clause-requests : goal.returns-clause-requests
 returns-clause-requests c = refusal_changes_nothing
+
+pub returns-clause-results : goal.returns-clause-results
+returns-clause-results c = result_changes_nothing
 
 pub returns-clause-packets : goal.returns-clause-packets
 returns-clause-packets c = turned_away_changes_nothing

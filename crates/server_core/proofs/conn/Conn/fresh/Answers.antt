@@ -9,6 +9,6 @@ returns-clause-stands c = record {
   number = refl;
   stream = own_mark c.in_ok-new.field-0 _ c.in_ok-new.ensures.nothing;
   waiting = c.in_ok-new-2.ensures;
-  took = omega arith;
+  bytes_taken = omega arith;
   closing = refl;
 }

@@ -14,7 +14,7 @@ returns-clause-stands c = λ k s.
     record {
       number = s.number;
       stream = s.stream;
-      waiting = c.took.ensures.left ∙ ap (λ fs. frames_after c.args.n fs) s.waiting ∙ left_after-took frames k.took c.args.n fits;
-      took = omega (arith, took_fits frames k.took c.args.n (omega (arith, given, s.took)) fits, given);
+      waiting = c.took.ensures.left ∙ ap (λ fs. frames_after c.args.n fs) s.waiting ∙ left_after-took frames k.bytes_taken c.args.n fits;
+      bytes_taken = omega (arith, took_fits frames k.bytes_taken c.args.n (omega (arith, given, s.bytes_taken)) fits, given);
       closing = s.closing;
     }

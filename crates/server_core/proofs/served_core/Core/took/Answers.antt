@@ -21,8 +21,8 @@ returns-in-Some c = record {
       let new = c.took.new.self in
       let read = offer_read conns c.args.conn c.in-Some.i conn c.in-Some.ensures.found c.index_mut-conn.ensures.value in
       let offer = is_offer conn left (sym read ∙ offered) in
-      let goes : (k : ServedConnection) → Stands conn k → Stands new (record k { took = k.took + length bytes }) =
-      subst (λ m. (k : ServedConnection) → Stands conn k → Stands new (record k { took = k.took + m })) (sym taken) c.took.ensures.stands in
+      let goes : (k : ServedConnection) → Stands conn k → Stands new (record k { bytes_taken = k.bytes_taken + length bytes }) =
+      subst (λ m. (k : ServedConnection) → Stands conn k → Stands new (record k { bytes_taken = k.bytes_taken + m })) (sym taken) c.took.ensures.stands in
       let mark : new.blocked ≡ nat_lt (length bytes) (length left) =
       c.took.ensures.blocked ∙ ap (λ o. nat_lt c.args.n (length (unwrap_or o []))) offer.front ∙ ap (λ m. nat_lt m (length left)) (sym taken) in
       let follows = took_at conns x c.args.conn c.in-Some.i conn new c.args.self.now.summary left bytes s.connections c.in-Some.ensures.found c.index_mut-conn.ensures.value
