@@ -1,5 +1,5 @@
 -- The symbol entry that is read is the entry whose text stands in front.
-use Rattle.std.proofs.Common.{◌≡◌, ℕ, ◌+◌, ◌-◌, ◌^◌, ◌<◌, ◌≤◌, Bool, true, false, ◌&&◌, cond, eqb, leb, List, [], ◌∷◌, ◌++◌, length, get_or, take, drop, Option, Some, None, refl, sym, ap, subst, ◌∙◌, append_assoc, arith}
+use Rattle.std.proofs.Common.{◌≡◌, ℕ, ◌+◌, ◌-◌, ◌^◌, ◌<◌, ◌≤◌, Bool, true, false, ◌&&◌, cond, leb, List, [], ◌∷◌, ◌++◌, length, get_or, take, drop, Some, None, refl, sym, ap, subst, ◌∙◌, append_assoc, arith}
 use Rattle.std.specs.Int.{w16, w32, to_le_bytes}
 use Rattle.std.specs.Cmp.Derive.{both_true}
 use Rattle.std.proofs.Math.Seq.{get_or-append_seam}
@@ -8,7 +8,7 @@ use Rattle.std.proofs.lemmas.List.{length-append, length-drop, length-take-le, t
 use Rattle.std.proofs.lemmas.Nat.{from_le_bytes-to_le_bytes_2, from_le_bytes-to_le_bytes_4}
 use Rattle.ads_formats.specs.Numbers.{AreBytes, number16, number32}
 use Rattle.ads_formats.specs.SymbolEntry.{SymbolEntry, text_bytes, entry_len, entry_fields, FitsEntry, BeginsWithEntry, ends_in_nul, after_text, name_place, type_place, comment_place, entry_at, is_entry, entry_of}
-use Rattle.ads_formats.proofs.Fields.{AreBytes-drop, number16-front, number32-front, number16-lt, number32-lt, next16, next32}
+use Rattle.ads_formats.proofs.Fields.{number32-front, number16-lt, number32-lt, next16, next32}
 
 pub both : (s t : Bool) → (s && t) ≡ true → (s ≡ true) × (t ≡ true)
 both true t e = (refl, e)

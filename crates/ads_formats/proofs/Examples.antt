@@ -1,8 +1,8 @@
 -- Worked examples, computed.
-use Rattle.std.specs.Prelude.{◌≡◌, ℕ, Result, Ok, Err, List, [], ◌∷◌, ◌++◌, length, take, drop, Option, Some, None, codes}
+use Rattle.std.specs.Prelude.{◌≡◌, ℕ, Result, Ok, Err, List, [], ◌∷◌, ◌++◌, take, Some, None, codes}
 use Rattle.std.proofs.Common.{refl}
 use Rattle.ads_formats.specs.Codes.{text_in, text_of_code}
-use Rattle.ads_formats.specs.Header.{AmsHeader, header_bytes, header_of, payload_of, response_header}
+use Rattle.ads_formats.specs.Header.{AmsHeader, header_bytes, header_of, response_header}
 use Rattle.ads_formats.specs.Request as request
 use Rattle.ads_formats.specs.Reply as reply
 use Rattle.ads_formats.specs.Notification.{notification_bytes}
@@ -10,7 +10,7 @@ use Rattle.ads_formats.specs.NotificationReading.{sample_of, samples_of, stamp_o
 use Rattle.ads_plant.specs.Description.{Sizes, Memory, Process}
 use Rattle.ads_formats.specs.Groups.{group_in, group_of}
 use Rattle.ads_formats.specs.Ranges.{Range, Bytes, Bit, Size, byte_range, bit_range, size_range, range_in, range_of}
-use Rattle.ads_formats.specs.TypeEntry.{TypeFields, sub_bytes}
+use Rattle.ads_formats.specs.TypeEntry.{sub_bytes}
 use Rattle.ads_formats.specs.SymbolEntry.{SymbolEntry, entry_bytes, is_entry, entry_of}
 
 -- ReadState from 192.168.0.9.1.1, port 32905, to 5.1.2.3.1.1, port 851, invoke id 1

@@ -1,9 +1,9 @@
 -- A number that is read at a place is the number that was written there.
 use Rattle.std.proofs.Common.{◌≡◌, ℕ, ◌+◌, ◌^◌, ◌<◌, ◌≤◌, List, [], ◌∷◌, ◌++◌, length, get_or, take, drop, refl, sym, ap, ◌∙◌, append_assoc, arith}
-use Rattle.std.specs.Int.{w16, w32, w64, to_le_bytes, from_le_bytes}
+use Rattle.std.specs.Int.{w16, w32, w64, to_le_bytes}
 use Rattle.std.proofs.lemmas.Bool.{cases_lt}
 use Rattle.std.proofs.Common.{inl, inr}
-use Rattle.std.proofs.lemmas.List.{append-nil, take-append-drop, drop-drop, length-drop, length-take, length-take-le, get_or-drop, get_or-take, drop_all, drop_more}
+use Rattle.std.proofs.lemmas.List.{append-nil, take-append-drop, drop-drop, length-drop, length-take, length-take-le, get_or-drop, get_or-take, drop_more}
 use Rattle.std.proofs.lemmas.List.{get_or_past}
 use Rattle.std.proofs.lemmas.Nat.{le_bytes_2, le_bytes_4, le_bytes_8}
 use Rattle.ads_formats.specs.Numbers.{AreBytes, number16, number32, number64}

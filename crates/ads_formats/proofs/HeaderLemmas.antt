@@ -1,11 +1,10 @@
 -- The header that is read is the header whose text stands in front.
-use Rattle.std.proofs.Common.{◌≡◌, ℕ, ◌+◌, ◌^◌, ◌<◌, ◌≤◌, Bool, true, false, cond, ltb, List, [], ◌∷◌, ◌++◌, length, take, drop, Option, Some, None, refl, sym, ap, subst, ◌∙◌, arith, inl, inr}
-use Rattle.std.specs.Int.{w16, w32, to_le_bytes}
-use Rattle.std.proofs.lemmas.Bool.{cases_lt, lt-ltb, le-ltb, ltb-true, ltb-false}
+use Rattle.std.proofs.Common.{◌≡◌, ℕ, ◌+◌, ◌^◌, ◌<◌, ◌≤◌, List, [], ◌∷◌, ◌++◌, length, take, drop, Some, None, refl, sym, ap, subst, ◌∙◌, arith, inl, inr}
+use Rattle.std.proofs.lemmas.Bool.{cases_lt, lt-ltb, le-ltb}
 use Rattle.std.proofs.lemmas.List.{length-append, length-drop, length-take-le, drop-drop}
 use Rattle.std.proofs.lemmas.Nat.{from_le_bytes-to_le_bytes_2, from_le_bytes-to_le_bytes_4}
 use Rattle.ads_formats.specs.Numbers.{AreBytes, number16, number32}
-use Rattle.ads_formats.specs.Header.{AmsAddress, AmsHeader, IsAddress, IsHeader, address_at, address_bytes, header_bytes, header_of, payload_of}
+use Rattle.ads_formats.specs.Header.{AmsHeader, IsAddress, IsHeader, address_at, address_bytes, header_bytes, header_of, payload_of}
 use Rattle.ads_formats.proofs.Fields.{AreBytes-drop, number16-front, number32-front, bytes-front, number16-lt, number32-lt, next_field}
 
 -- a list of six

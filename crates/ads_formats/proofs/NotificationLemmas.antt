@@ -1,5 +1,5 @@
 -- The stamps that are read are the stamps whose text the payload is.
-use Rattle.std.proofs.Common.{◌≡◌, ◌≢◌, ℕ, zero, suc, ◌+◌, ◌^◌, ◌<◌, ◌≤◌, Bool, true, false, ◌||◌, cond, eqb, ltb, List, [], ◌∷◌, ◌++◌, length, get_or, take, drop, Option, Some, None, refl, sym, ap, subst, ◌∙◌, append_assoc, arith, inl, inr, ◌⊎◌}
+use Rattle.std.proofs.Common.{◌≡◌, ℕ, zero, suc, ◌+◌, ◌≤◌, Bool, true, false, ◌||◌, cond, eqb, ltb, List, [], ◌∷◌, ◌++◌, length, take, drop, Option, Some, None, refl, sym, ap, subst, ◌∙◌, append_assoc, arith, inl, inr, ◌⊎◌}
 use Rattle.std.specs.Option.{option_and_then}
 use Rattle.std.specs.List.{AllByRecursion, flat_map}
 use Rattle.std.specs.Int.{w32, w64, to_le_bytes}
@@ -8,7 +8,7 @@ use Rattle.std.proofs.lemmas.Bool.{ltb-false, le-ltb, eqb-true, eq-eqb}
 use Rattle.std.proofs.lemmas.List.{append-nil, length-append, length-drop, length-take-le, take_at, drop_at, take-append-drop, drop-drop}
 use Rattle.std.proofs.lemmas.Nat.{from_le_bytes-to_le_bytes_4, from_le_bytes-to_le_bytes_8}
 use Rattle.ads_formats.specs.Numbers.{AreBytes, number32, number64}
-use Rattle.ads_formats.specs.Notification.{Sample, Stamp, sample_bytes, stamp_bytes, stamps_bytes, notification_bytes, FitsSample, FitsStamp, IsNotificationPayload}
+use Rattle.ads_formats.specs.Notification.{Sample, Stamp, sample_bytes, stamp_bytes, stamps_bytes, FitsSample, FitsStamp, IsNotificationPayload}
 use Rattle.ads_formats.specs.NotificationReading.{sample_of, samples_of, stamp_of, stamps_of, notification_of}
 use Rattle.ads_formats.proofs.Fields.{AreBytes-drop, number32-front, number64-front, number32-lt, number64-lt, next_field, next32}
 use Rattle.ads_formats.proofs.Forms.{empty}

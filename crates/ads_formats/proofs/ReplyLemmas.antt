@@ -1,15 +1,15 @@
 -- The reply that is read is the reply whose text the payload is.
-use Rattle.std.proofs.Common.{◌≡◌, ◌≢◌, ℕ, ◌+◌, ◌^◌, ◌<◌, ◌≤◌, Bool, true, false, cond, eqb, List, [], ◌∷◌, ◌++◌, length, get_or, take, drop, Option, Some, None, refl, sym, ap, subst, ◌∙◌, arith, inl, inr}
+use Rattle.std.proofs.Common.{◌≡◌, ◌≢◌, ℕ, ◌+◌, ◌^◌, ◌<◌, List, [], ◌∷◌, ◌++◌, length, get_or, drop, Some, None, refl, sym, ap, subst, ◌∙◌, arith, inl, inr}
 use Rattle.std.specs.List.{AllByRecursion}
 use Rattle.std.specs.Int.{w16, w32, to_le_bytes}
 use Rattle.std.proofs.lemmas.Bool.{eq-eqb}
 use Rattle.std.proofs.lemmas.Bool.Decides.{eqb_tells}
-use Rattle.std.proofs.lemmas.List.{append-nil, length-append, length-drop, drop_all}
+use Rattle.std.proofs.lemmas.List.{length-append, length-drop, drop_all}
 use Rattle.std.proofs.lemmas.Nat.{from_le_bytes-to_le_bytes_2, from_le_bytes-to_le_bytes_4}
 use Rattle.ads_plant.specs.Description.{Facts}
 use Rattle.ads_formats.specs.Numbers.{AreBytes, number16, number32, at_length}
-use Rattle.ads_formats.specs.Reply.{Reply, ReadDeviceInfo, Read, Write, ReadState, WriteControl, AddDeviceNotification, DeleteDeviceNotification, ReadWrite, command_of, result_of, facts_at, reply_fields, reply_bytes, refused_bytes, written_bytes, FitsFields, IsReplyPayload, ReplyForm, reply_forms, reply_in, reply_of}
-use Rattle.ads_formats.proofs.Fields.{number16-front, number32-front, number16-lt, number32-lt, next8, next16, next32, no_more}
+use Rattle.ads_formats.specs.Reply.{Reply, ReadDeviceInfo, Read, Write, ReadState, WriteControl, AddDeviceNotification, DeleteDeviceNotification, ReadWrite, command_of, result_of, facts_at, reply_bytes, refused_bytes, written_bytes, FitsFields, IsReplyPayload, ReplyForm, reply_forms, reply_in, reply_of}
+use Rattle.ads_formats.proofs.Fields.{number32-front, number16-lt, number32-lt, next8, next16, next32, no_more}
 use Rattle.ads_formats.proofs.Forms.{at_length-is, at_length-some}
 
 -- ---- a text is read as its reply

@@ -1,12 +1,12 @@
 -- The request that is read is the request whose text the payload is.
-use Rattle.std.proofs.Common.{◌≡◌, ◌≢◌, ℕ, ◌+◌, ◌^◌, ◌<◌, ◌≤◌, Bool, true, false, cond, eqb, List, [], ◌∷◌, ◌++◌, length, take, drop, Option, Some, None, refl, sym, ap, subst, ◌∙◌, arith, inl, inr, lit≤, ◌⊎◌}
+use Rattle.std.proofs.Common.{◌≡◌, ◌≢◌, ℕ, ◌+◌, ◌^◌, ◌<◌, ◌≤◌, List, [], ◌∷◌, ◌++◌, length, drop, Some, None, refl, sym, subst, ◌∙◌, arith, inl, inr, lit≤, ◌⊎◌}
 use Rattle.std.specs.List.{AllByRecursion}
 use Rattle.std.proofs.lemmas.Bool.Decides.{eqb_tells}
 use Rattle.std.specs.Int.{w16, w32, to_le_bytes}
 use Rattle.std.proofs.lemmas.List.{append-nil, length-append, length-drop, drop_all}
 use Rattle.std.proofs.lemmas.Nat.{from_le_bytes-to_le_bytes_2, from_le_bytes-to_le_bytes_4}
 use Rattle.ads_formats.specs.Numbers.{AreBytes, number16, number32, at_length}
-use Rattle.ads_formats.specs.Request.{Request, ReadDeviceInfo, Read, Write, ReadState, WriteControl, AddDeviceNotification, DeleteDeviceNotification, DeviceNotification, ReadWrite, command_of, access_bytes, request_fields, request_bytes, FitsRequest, IsRequestPayload, RequestForm, request_forms, reserved_len, request_in, request_of}
+use Rattle.ads_formats.specs.Request.{Request, ReadDeviceInfo, Read, Write, ReadState, WriteControl, AddDeviceNotification, DeleteDeviceNotification, DeviceNotification, ReadWrite, command_of, access_bytes, request_fields, FitsRequest, IsRequestPayload, RequestForm, request_forms, reserved_len, request_in, request_of}
 use Rattle.ads_formats.proofs.Fields.{number16-front, number32-front, number16-lt, number32-lt, next16, next32, no_more}
 use Rattle.ads_formats.proofs.Forms.{at_length-is, at_length-some, no_reserved, empty}
 

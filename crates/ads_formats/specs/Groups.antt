@@ -3,7 +3,8 @@
 use Rattle.std.specs.Prelude.{ℕ, List, [], ◌∷◌, Bool, true, false, Option, Some, None, ◌==◌, if◌then◌else◌}
 use Rattle.ads_plant.specs.Description.{Area, Inputs, Outputs, Memory, Process}
 pub use Rattle.ads_formats.specs.GroupNumbers.{memory_bytes, memory_bit, memory_size, process_bytes, process_size}
-pub use Rattle.ads_formats.specs.GroupNumbers.{handle_by_name, value_by_name, value_by_handle, release_handle, info_by_name, symbol_version, extended_info_by_name}
+pub use Rattle.ads_formats.specs.GroupNumbers.{handle_by_name, value_by_name, value_by_handle, release_handle, info_by_name, symbol_version}
+pub use Rattle.ads_formats.specs.GroupNumbers.{extended_info_by_name}
 pub use Rattle.ads_formats.specs.GroupNumbers.{symbol_upload, upload_info, type_upload, upload_info_with_types}
 pub use Rattle.ads_formats.specs.GroupNumbers.{input_bytes, input_bit, input_size, output_bytes, output_bit, output_size, sum_read, sum_write, sum_read_write}
 

@@ -1,6 +1,6 @@
 -- What an access to a byte, bit or size group names, or the code that refuses it.
 -- Beckhoff Information System, "Index Group/Offset Specification"; the codes are this project's own choice.
-use Rattle.std.specs.Prelude.{ℕ, ◌+◌, ◌/◌, ◌%◌, Option, Some, None, Result, Ok, Err, nat_lt, nat_le, ◌==◌, ◌||◌, if◌then◌else◌}
+use Rattle.std.specs.Prelude.{ℕ, ◌+◌, ◌/◌, ◌%◌, Option, Some, Result, Ok, Err, nat_lt, nat_le, ◌==◌, ◌||◌, if◌then◌else◌}
 use Rattle.ads_plant.specs.Description.{Area, Sizes, size_in}
 use Rattle.ads_formats.specs.Codes.{invalid_group, invalid_offset, invalid_size}
 use Rattle.ads_formats.specs.Groups.{Group, AreaBytes, AreaBit, AreaSize, group_of}

@@ -1,6 +1,6 @@
 -- The payloads of replies. Beckhoff Information System, "ADS Commands".
 -- Every number is little-endian, and the first is the result.
-use Rattle.std.specs.Prelude.{◌≡◌, ℕ, ◌+◌, ◌<◌, ◌^◌, List, [], ◌∷◌, ◌++◌, length, take, drop, slice_index, replicate, Option, Some, None, ◌==◌, if◌then◌else◌}
+use Rattle.std.specs.Prelude.{◌≡◌, ℕ, ◌+◌, ◌<◌, ◌^◌, List, [], ◌∷◌, ◌++◌, length, drop, slice_index, replicate, Option, None, ◌==◌, if◌then◌else◌}
 use Rattle.std.specs.Int.{w16, w32, to_le_bytes}
 use Rattle.ads_plant.specs.Description.{Facts}
 use Rattle.ads_formats.specs.Numbers.{number16, number32, at_length}

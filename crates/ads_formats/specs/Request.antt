@@ -3,7 +3,8 @@
 use Rattle.std.specs.Prelude.{◌≡◌, ℕ, ◌+◌, ◌<◌, ◌^◌, List, [], ◌∷◌, ◌++◌, length, drop, replicate, Option, Some, None, ◌==◌, if◌then◌else◌}
 use Rattle.std.specs.Int.{w16, w32, to_le_bytes}
 use Rattle.ads_formats.specs.Numbers.{number16, number32, at_length}
-use Rattle.ads_formats.specs.Commands.{READ_DEVICE_INFO, READ, WRITE, READ_STATE, WRITE_CONTROL, ADD_DEVICE_NOTIFICATION, DELETE_DEVICE_NOTIFICATION, DEVICE_NOTIFICATION, READ_WRITE}
+use Rattle.ads_formats.specs.Commands.{READ_DEVICE_INFO, READ, WRITE, READ_STATE, WRITE_CONTROL, ADD_DEVICE_NOTIFICATION, DELETE_DEVICE_NOTIFICATION}
+use Rattle.ads_formats.specs.Commands.{DEVICE_NOTIFICATION, READ_WRITE}
 
 pub data Request : Type 0 where
   ReadDeviceInfo : Request

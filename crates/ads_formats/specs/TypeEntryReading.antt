@@ -1,6 +1,7 @@
 -- Type entries as they are read: an entry's fields, its dimensions, its sub entries one after another; bytes behind are skipped.
 -- Beckhoff Information System, "AdsDatatypeEntry"; the profile is this project's own. Every number is little-endian.
-use Rattle.std.specs.Prelude.{ℕ, zero, suc, ◌+◌, ◌-◌, ◌*◌, List, [], ◌∷◌, length, take, drop, slice_index, Bool, Option, Some, None, is_some, nat_le, ◌==◌, ◌&&◌, if◌then◌else◌}
+use Rattle.std.specs.Prelude.{ℕ, zero, suc, ◌+◌, ◌-◌, ◌*◌, List, [], ◌∷◌, length, take, drop, slice_index, Bool, Option, Some, None, is_some, nat_le, ◌==◌}
+use Rattle.std.specs.Prelude.{◌&&◌, if◌then◌else◌}
 use Rattle.std.specs.Option.{option_and_then}
 use Rattle.ads_formats.specs.Numbers.{number16, number32}
 use Rattle.ads_formats.specs.TypeEntry.{Dimension, TypeFields, TypeEntry}

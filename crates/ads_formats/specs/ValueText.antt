@@ -1,5 +1,6 @@
 -- The text of a value by its type id and its size, and the value of a text. This project's own choice.
-use Rattle.std.specs.Prelude.{◌≡◌, ℕ, ◌+◌, ◌-◌, ◌*◌, ◌/◌, ◌%◌, ◌^◌, ◌<◌, Bool, ◌&&◌, ◌||◌, not, List, [], ◌∷◌, ◌++◌, length, drop, replicate, flat_map, slice_index, codes, decimal, nat_lt, nat_le, ◌==◌, if◌then◌else◌, Ok}
+use Rattle.std.specs.Prelude.{◌≡◌, ℕ, ◌+◌, ◌-◌, ◌*◌, ◌/◌, ◌%◌, ◌^◌, ◌<◌, Bool, ◌&&◌, ◌||◌, not, List, [], ◌∷◌, ◌++◌, length, drop, replicate, flat_map}
+use Rattle.std.specs.Prelude.{slice_index, codes, decimal, nat_lt, nat_le, ◌==◌, if◌then◌else◌, Ok}
 use Rattle.hex.specs.Hex.{encode_lower, decode_of}
 use Rattle.ads_frames.specs.Number.{number_of}
 

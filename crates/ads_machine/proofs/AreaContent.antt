@@ -1,17 +1,18 @@
 -- Reads and writes of an area as parts of its content, and its content as the bytes of its tiles.
-use Rattle.std.proofs.Common.{◌≡◌, ◌≢◌, ◌⊎◌, ℕ, zero, suc, ◌+◌, ◌-◌, ◌<◌, ◌≤◌, List, [], ◌∷◌, ◌++◌, map, length, take, drop, get_or, refl, sym, ◌∙◌, ap, inl, inr, arith, length-append, append_assoc, drop-cons}
+use Rattle.std.proofs.Common.{◌≡◌, ◌≢◌, ◌⊎◌, ℕ, zero, suc, ◌+◌, ◌-◌, ◌<◌, ◌≤◌, List, [], ◌∷◌, ◌++◌, map, length, take, drop, get_or, refl, sym, ◌∙◌, ap, inl}
+use Rattle.std.proofs.Common.{inr, arith, length-append, append_assoc, drop-cons}
 use Rattle.std.specs.Prelude.{Option, Some, None, slice_get, option_map, unwrap_or, false}
 use Rattle.std.proofs.lemmas.List.{map-append, length-map, take_at, drop_at}
 use Rattle.std.proofs.lemmas.Option.{unwrap_or-slice_get}
 use Rattle.ads_plant.specs.Description.{Area, size_in}
 use Rattle.ads_plant.specs.World.{ByteName, Block, Part, SymbolPart, AreaPart, PlantSymbol, PlantPort, lower_name, symbol_size, block_of, byte_at, byte_or_zero}
-use Rattle.ads_plant.specs.Named.{AreNamedApart}
 use Rattle.ads_plant.specs.Sound.{AreApart}
 use Rattle.ads_plant.proofs.BlockLemmas.{byte_at-same, byte_at-other}
 use Rattle.ads_machine.specs.World.{numbers_from, name_at, names_at, symbol_names, content_of}
 use Rattle.ads_machine.specs.Access.{WholeByte, Put, values_at, puts_of, memory_after_put, memory_after_puts}
 use Rattle.ads_machine.specs.AreaNames.{name_in_gap, is_covered}
-use Rattle.ads_machine.specs.AreaContent.{Tile, SymbolTile, GapTile, tile_len, IsTileFrom, AreTilesFrom, tile_bytes, bytes_of_tiles, HasItsBytes, ContentIsOfTiles, ReadsContent, WritesContent}
+use Rattle.ads_machine.specs.AreaContent.{Tile, SymbolTile, GapTile, tile_len, IsTileFrom, AreTilesFrom, tile_bytes, bytes_of_tiles, HasItsBytes}
+use Rattle.ads_machine.specs.AreaContent.{ContentIsOfTiles, ReadsContent, WritesContent}
 use Rattle.ads_machine.proofs.AreaNames.{tiles_give_names, spans_give_names, names_are_one_to_one}
 
 pub numbers-length : (first n : ℕ) → length (numbers_from first n) ≡ n
@@ -36,9 +37,11 @@ abbrev part_at : PlantPort → Area → List Block → ℕ → ℕ → List ℕ
 part_at p a m first n = map (byte_or_zero m) (map (name_at p a) (numbers_from first n))
 
 part_at-length : (p : PlantPort) (a : Area) (m : List Block) (first n : ℕ) → length (part_at p a m first n) ≡ n
-part_at-length p a m first n = length-map (map (name_at p a) (numbers_from first n)) (byte_or_zero m) ∙ length-map (numbers_from first n) (name_at p a) ∙ numbers-length first n
+part_at-length p a m first n = length-map (map (name_at p a) (numbers_from first n)) (byte_or_zero m) ∙ length-map (numbers_from first n) (name_at p a)
+    ∙ numbers-length first n
 
-part_at-append : (p : PlantPort) (a : Area) (m : List Block) (first n k : ℕ) → part_at p a m first (n + k) ≡ part_at p a m first n ++ part_at p a m (first + n) k
+part_at-append : (p : PlantPort) (a : Area) (m : List Block) (first n k : ℕ)
+    → part_at p a m first (n + k) ≡ part_at p a m first n ++ part_at p a m (first + n) k
 part_at-append p a m first n k =
     ap (λ is. map (byte_or_zero m) (map (name_at p a) is)) (numbers-append first n k)
     ∙ ap (map (byte_or_zero m)) (map-append (name_at p a) (numbers_from first n) (numbers_from (first + n) k))
@@ -76,7 +79,8 @@ put_byte n b = record { place = WholeByte n; value = b }
 abbrev Injective : (ℕ → ByteName) → Type 0
 Injective f = (i j : ℕ) → f i ≡ f j → i ≡ j
 
-put_run-outside : (f : ℕ → ByteName) → Injective f → (bytes : List ℕ) (first : ℕ) (m : List Block) (i : ℕ) → (i < first) ⊎ (first + length bytes ≤ i) → byte_at (put_run f first bytes m) (f i) ≡ byte_at m (f i)
+put_run-outside : (f : ℕ → ByteName) → Injective f → (bytes : List ℕ) (first : ℕ) (m : List Block) (i : ℕ) → (i < first) ⊎ (first + length bytes ≤ i)
+    → byte_at (put_run f first bytes m) (f i) ≡ byte_at m (f i)
 unfolding memory_after_puts numbers_from
 put_run-outside f inj [] first m i h = refl
 put_run-outside f inj (b ∷ bs) first m i h =
@@ -84,7 +88,8 @@ put_run-outside f inj (b ∷ bs) first m i h =
     let k : (i < first + 1) ⊎ ((first + 1) + length bs ≤ i) = elim h [ inl l ↦ inl (omega (arith, l)) | inr l ↦ inr (omega (arith, l)) ] in
     put_run-outside f inj bs (first + 1) (memory_after_put m (put_byte (f first) b)) i k ∙ byte_at-other m (f first) (f i) (λ old. b) (λ e. d (inj first i e))
 
-put_run-inside : (f : ℕ → ByteName) → Injective f → (bytes : List ℕ) (first : ℕ) (m : List Block) → ((i : ℕ) → first ≤ i → i < first + length bytes → byte_at m (f i) ≢ None)
+put_run-inside : (f : ℕ → ByteName) → Injective f → (bytes : List ℕ) (first : ℕ) (m : List Block)
+    → ((i : ℕ) → first ≤ i → i < first + length bytes → byte_at m (f i) ≢ None)
     → map (byte_or_zero (put_run f first bytes m)) (map f (numbers_from first (length bytes))) ≡ bytes
 unfolding memory_after_puts numbers_from
 put_run-inside f inj [] first m h = refl
@@ -93,14 +98,17 @@ put_run-inside f inj (b ∷ bs) first m h =
     let here = put_run-outside f inj bs (first + 1) w first (inl (omega arith)) ∙ byte_at-same m (f first) (λ old. b) in
     let some : option_map (λ (old : ℕ). b) (byte_at m (f first)) ≡ Some b = is_some (byte_at m (f first)) (h first (omega arith) (omega arith)) in
     let front = ap (λ o. unwrap_or o 0) (here ∙ some) in
-    let back = put_run-inside f inj bs (first + 1) w (λ i l u e. h i (omega (arith, l)) (omega (arith, u)) (sym (byte_at-other m (f first) (f i) (λ old. b) (λ q. let r = inj first i q in omega (arith, l, r))) ∙ e)) in
+    let back = put_run-inside f inj bs (first + 1) w
+    (λ i l u e. h i (omega (arith, l)) (omega (arith, u))
+    (sym (byte_at-other m (f first) (f i) (λ old. b) (λ q. let r = inj first i q in omega (arith, l, r))) ∙ e)) in
     rw (front, back) refl
   where
     is_some : (o : Option ℕ) → o ≢ None → option_map (λ (old : ℕ). b) o ≡ Some b
     is_some None ne = absurd (ne refl)
     is_some (Some x) ne = refl
 
-run-same : (f : ℕ → ByteName) (m w : List Block) (n first : ℕ) → ((i : ℕ) → first ≤ i → i < first + n → byte_at w (f i) ≡ byte_at m (f i)) → map (byte_or_zero w) (map f (numbers_from first n)) ≡ map (byte_or_zero m) (map f (numbers_from first n))
+run-same : (f : ℕ → ByteName) (m w : List Block) (n first : ℕ) → ((i : ℕ) → first ≤ i → i < first + n → byte_at w (f i) ≡ byte_at m (f i))
+    → map (byte_or_zero w) (map f (numbers_from first n)) ≡ map (byte_or_zero m) (map f (numbers_from first n))
 unfolding numbers_from
 run-same f m w zero first h = refl
 run-same f m w (suc n) first h =
@@ -124,8 +132,10 @@ writes_content p a offset bytes m h there apart =
     let behind : part_at p a w (offset + len) rest ≡ C = run-same f m w rest (offset + len) (λ i l u. put_run-outside f inj bytes offset m i (inr l)) in
     let parts = content-parts p a offset len m h in
     let first : take offset (content_of m p a) ≡ A = ap (take offset) parts ∙ take_at A (B ++ C) offset (part_at-length p a m 0 offset) in
-    let AB : length (A ++ B) ≡ offset + len = length-append A B ∙ ap (λ n. n + length B) (part_at-length p a m 0 offset) ∙ ap (λ n. offset + n) (part_at-length p a m offset len) in
-    let last : drop (offset + len) (content_of m p a) ≡ C = ap (drop (offset + len)) (parts ∙ sym (append_assoc A B C)) ∙ drop_at (A ++ B) C (offset + len) AB in
+    let AB : length (A ++ B) ≡ offset + len = length-append A B ∙ ap (λ n. n + length B) (part_at-length p a m 0 offset)
+    ∙ ap (λ n. offset + n) (part_at-length p a m offset len) in
+    let last : drop (offset + len) (content_of m p a) ≡ C = ap (drop (offset + len)) (parts ∙ sym (append_assoc A B C))
+    ∙ drop_at (A ++ B) C (offset + len) AB in
     content-parts p a offset len w h
     ∙ ap (λ xs. xs ++ (part_at p a w offset len ++ part_at p a w (offset + len) rest)) (before ∙ sym first)
     ∙ ap (λ xs. take offset (content_of m p a) ++ (xs ++ part_at p a w (offset + len) rest)) in_
@@ -151,7 +161,8 @@ take-whole zero (x ∷ xs) e = absurd (omega (arith, e))
 take-whole (suc n) [] e = absurd (omega (arith, e))
 take-whole (suc n) (x ∷ xs) e = ap (λ ys. x ∷ ys) (take-whole n xs (omega (arith, e)))
 
-gap_names : (p : PlantPort) (a : Area) → AreApart p.symbols → (n first : ℕ) → ((i : ℕ) → first ≤ i → i < first + n → is_covered p a i ≡ false) → map (name_at p a) (numbers_from first n) ≡ map (name_in_gap p.number a) (numbers_from first n)
+gap_names : (p : PlantPort) (a : Area) → AreApart p.symbols → (n first : ℕ) → ((i : ℕ) → first ≤ i → i < first + n → is_covered p a i ≡ false)
+    → map (name_at p a) (numbers_from first n) ≡ map (name_in_gap p.number a) (numbers_from first n)
 unfolding numbers_from
 gap_names p a apart zero first h = refl
 gap_names p a apart (suc n) first h =
@@ -159,12 +170,14 @@ gap_names p a apart (suc n) first h =
     let rest = gap_names p a apart n (first + 1) (λ i l u. h i (omega (arith, l)) (omega (arith, u))) in
     rw (head, rest) refl
 
-spans : (p : PlantPort) (n : ℕ) (s : PlantSymbol) → slice_get p.symbols n ≡ Some s → AreApart p.symbols → map (name_at p s.area) (numbers_from (s.offset + 0) (symbol_size s)) ≡ symbol_names p.number (lower_name s) 0 (symbol_size s)
+spans : (p : PlantPort) (n : ℕ) (s : PlantSymbol) → slice_get p.symbols n ≡ Some s → AreApart p.symbols
+    → map (name_at p s.area) (numbers_from (s.offset + 0) (symbol_size s)) ≡ symbol_names p.number (lower_name s) 0 (symbol_size s)
 unfolding names_at
 spans p n s g apart = spans_give_names p n s 0 (symbol_size s) apart g (omega arith)
 
 -- the bytes of a tile under the names of its bytes
-tile_run : (p : PlantPort) (a : Area) (m : List Block) → AreApart p.symbols → HasItsBytes m p → (offset : ℕ) (t : Tile) → IsTileFrom p a offset t → offset + tile_len t ≤ size_in p.sizes a → part_at p a m offset (tile_len t) ≡ tile_bytes m p a offset t
+tile_run : (p : PlantPort) (a : Area) (m : List Block) → AreApart p.symbols → HasItsBytes m p → (offset : ℕ) (t : Tile) → IsTileFrom p a offset t
+    → offset + tile_len t ≤ size_in p.sizes a → part_at p a m offset (tile_len t) ≡ tile_bytes m p a offset t
 tile_run p a m apart has offset (GapTile len) free u =
     let long = has.areas a in
     ap (map (byte_or_zero m)) (gap_names p a apart len offset free) ∙ run_of_part m p.number (AreaPart a) len offset (omega (arith, u, long))
@@ -180,7 +193,8 @@ tiles_end : (p : PlantPort) (a : Area) (ts : List Tile) (offset : ℕ) → AreTi
 tiles_end p a [] offset h = omega (arith, h)
 tiles_end p a (t ∷ ts) offset h = let l = tiles_end p a ts (offset + tile_len t) (h.1) in omega (arith, l)
 
-tiles_run : (p : PlantPort) (a : Area) (m : List Block) → AreApart p.symbols → HasItsBytes m p → (ts : List Tile) (offset : ℕ) → AreTilesFrom p a offset ts → part_at p a m offset (size_in p.sizes a - offset) ≡ bytes_of_tiles m p a offset ts
+tiles_run : (p : PlantPort) (a : Area) (m : List Block) → AreApart p.symbols → HasItsBytes m p → (ts : List Tile) (offset : ℕ) → AreTilesFrom p a offset ts
+    → part_at p a m offset (size_in p.sizes a - offset) ≡ bytes_of_tiles m p a offset ts
 unfolding numbers_from
 tiles_run p a m apart has [] offset h = let e : size_in p.sizes a - offset ≡ 0 = omega (arith, h) in rw e refl
 tiles_run p a m apart has (t ∷ ts) offset h =

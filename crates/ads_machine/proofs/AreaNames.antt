@@ -1,20 +1,21 @@
 -- Which names the bytes of an area have.
-use Rattle.std.proofs.Common.{◌≡◌, ◌≢◌, ℕ, zero, suc, ◌≤◌, List, [], ◌∷◌, map, true, false, refl, sym, ◌∙◌, ap, subst, inl, inr, arith}
+use Rattle.std.proofs.Common.{◌≡◌, ◌≢◌, ℕ, zero, suc, ◌≤◌, List, [], ◌∷◌, map, true, false, refl, sym, ◌∙◌, ap, inl, inr, arith}
 use Rattle.std.specs.Prelude.{◌+◌, ◌-◌, Some, slice_get}
 use Rattle.std.specs.List.{list_any}
 use Rattle.std.proofs.lemmas.Bool.{cases_Bool, false≢true}
 use Rattle.ads_plant.specs.Description.{Area}
-use Rattle.ads_plant.specs.World.{ByteName, Part, SymbolPart, AreaPart, StatePart, PlantSymbol, PlantPort, lower_name, symbol_size}
+use Rattle.ads_plant.specs.World.{ByteName, SymbolPart, AreaPart, StatePart, PlantSymbol, PlantPort, lower_name, symbol_size}
 use Rattle.ads_plant.specs.Covering.{covers}
 use Rattle.ads_plant.specs.Named.{NotNamed, AreNamedApart}
 use Rattle.ads_plant.specs.Sound.{HaveNoByteInCommon, AreApart}
 use Rattle.ads_plant.proofs.SoundLemmas.{each-get}
 use Rattle.ads_plant.proofs.CoveringLemmas.{stands_at, covers_from}
 use Rattle.ads_machine.specs.World.{numbers_from, name_among, name_at, names_at, symbol_names}
-use Rattle.ads_machine.specs.AreaNames.{name_in_symbol, name_in_gap, TilesGiveNames, SpansGiveNames, IsOneByte, NamesAreOneToOne, IsNameOfArea, NamesAreOfAreas}
+use Rattle.ads_machine.specs.AreaNames.{name_in_symbol, name_in_gap, TilesGiveNames, SpansGiveNames, IsOneByte, NamesAreOneToOne, NamesAreOfAreas}
 
 -- the symbol that stands at an offset gives the name of the byte
-pub among-symbol : (port : ℕ) (area : Area) (offset : ℕ) (ss : List PlantSymbol) (n : ℕ) (s : PlantSymbol) → AreApart ss → slice_get ss n ≡ Some s → covers area offset s ≡ true
+pub among-symbol : (port : ℕ) (area : Area) (offset : ℕ) (ss : List PlantSymbol) (n : ℕ) (s : PlantSymbol) → AreApart ss → slice_get ss n ≡ Some s
+    → covers area offset s ≡ true
     → name_among port area offset ss ≡ name_in_symbol port s (offset - s.offset)
 among-symbol port area offset [] n s a g c = cc
 among-symbol port area offset (x ∷ xs) zero s a g c =
@@ -28,7 +29,8 @@ among-symbol port area offset (x ∷ xs) (suc n) s a g c =
     ]
 
 -- where none stands, the area does
-pub among-gap : (port : ℕ) (area : Area) (offset : ℕ) (ss : List PlantSymbol) → list_any (covers area offset) ss ≡ false → name_among port area offset ss ≡ name_in_gap port area offset
+pub among-gap : (port : ℕ) (area : Area) (offset : ℕ) (ss : List PlantSymbol) → list_any (covers area offset) ss ≡ false
+    → name_among port area offset ss ≡ name_in_gap port area offset
 among-gap port area offset [] e = refl
 among-gap port area offset (x ∷ xs) e =
     elim (cases_Bool (covers area offset x)) [
@@ -60,7 +62,8 @@ unfolding names_at
 spans_give_names p n s first len a g h = span p n s a g first len h
 
 -- no byte has the name of a symbol that is not among these
-name_among-not : (port : ℕ) (area : Area) (offset : ℕ) (name : List ℕ) (ss : List PlantSymbol) → NotNamed name ss → (name_among port area offset ss).part ≢ SymbolPart name
+name_among-not : (port : ℕ) (area : Area) (offset : ℕ) (name : List ℕ) (ss : List PlantSymbol) → NotNamed name ss
+    → (name_among port area offset ss).part ≢ SymbolPart name
 name_among-not port area offset name [] n e = cc
 name_among-not port area offset name (s ∷ ss) n e =
     elim (cases_Bool (covers area offset s)) [

@@ -14,7 +14,8 @@ written xs at_ bytes = take at_ xs ++ (bytes ++ drop (at_ + length bytes) xs)
 pub written-nothing : (xs : List ℕ) (at_ : ℕ) → written xs at_ [] ≡ xs
 written-nothing xs at_ = let e : at_ + 0 ≡ at_ = omega arith in ap (λ n. take at_ xs ++ drop n xs) e ∙ take-append-drop at_ xs
 
-pub written-first : (xs : List ℕ) (at_ b : ℕ) (bs : List ℕ) → at_ + suc (length bs) ≤ length xs → written xs at_ (b ∷ bs) ≡ written (with_nth_byte xs at_ (λ old. b)) (at_ + 1) bs
+pub written-first : (xs : List ℕ) (at_ b : ℕ) (bs : List ℕ) → at_ + suc (length bs) ≤ length xs
+    → written xs at_ (b ∷ bs) ≡ written (with_nth_byte xs at_ (λ old. b)) (at_ + 1) bs
 written-first [] at_ b bs h = absurd (omega (arith, h))
 written-first (x ∷ xs) zero b bs h =
     let e : 0 + suc (length bs) ≡ suc (length bs) = omega arith in
@@ -30,7 +31,8 @@ written-first (x ∷ xs) (suc i) b bs h =
     left ∙ ap (λ ys. x ∷ ys) (written-first xs i b bs (omega (arith, h))) ∙ sym right
 
 -- a place of an image is that of one byte of one area
-pub one_place : (sizes : Sizes) (a b : Area) (i j : ℕ) → i < size_in sizes a → j < size_in sizes b → start_in sizes a + i ≡ start_in sizes b + j → IsOneByte a b i j
+pub one_place : (sizes : Sizes) (a b : Area) (i j : ℕ) → i < size_in sizes a → j < size_in sizes b → start_in sizes a + i ≡ start_in sizes b + j
+    → IsOneByte a b i j
 one_place sizes Inputs Inputs i j h k e = record { same_area = refl; same_offset = omega (arith, e) }
 one_place sizes Inputs Outputs i j h k e = absurd (omega (arith, h, k, e))
 one_place sizes Inputs Memory i j h k e = absurd (omega (arith, h, k, e))

@@ -1,22 +1,24 @@
 -- Places by number are moved as places by name.
-use Rattle.std.proofs.Common.{◌≡◌, ℕ, ◌+◌, ◌-◌, ◌≤◌, List, [], ◌∷◌, Bool, true, false, refl, sym, ◌∙◌, ap, subst, inl, inr, arith}
+use Rattle.std.proofs.Common.{◌≡◌, ℕ, ◌+◌, ◌≤◌, List, [], ◌∷◌, Bool, true, false, refl, sym, ◌∙◌, ap, subst, inl, inr, arith}
 use Rattle.std.specs.Prelude.{Option, Some, None, slice_get, bytes_eq, ◌==◌, ◌&&◌, nat_le, is_some}
 use Rattle.std.specs.Option.{option_map_or}
-use Rattle.std.proofs.lemmas.Bool.{cases_Bool, and_parts, and_from, eqb-true, eq-eqb, leb-true, le-leb, false≢true}
+use Rattle.std.proofs.lemmas.Bool.{cases_Bool, and_parts, eqb-true, eq-eqb, leb-true, le-leb, false≢true}
 use Rattle.std.proofs.lemmas.Slice.Eq.{bytes_eq-Decides}
-use Rattle.ads_plant.specs.Description.{Area}
 use Rattle.ads_plant.specs.World.{Plant, PlantPort, PlantSymbol, SymbolPart, symbol_size, lower_name, is_same_area}
-use Rattle.ads_plant.specs.SameTypes.{is_same_type}
 use Rattle.ads_plant.specs.Named.{port_numbered, symbol_named}
-use Rattle.ads_plant.specs.Sound.{Each, IsSoundSymbol, IsSoundPort, IsSoundPlant}
+use Rattle.ads_plant.specs.Sound.{Each, IsSoundSymbol, IsSoundPlant}
 use Rattle.ads_plant.proofs.BlockLemmas.{same_bytes, same_area-true, same_area-refl}
+use Rattle.ads_plant.proofs.FoundLemmas.{found_lie_in_symbols}
 use Rattle.ads_plant.proofs.SoundLemmas.{each-get, port_sound, port_number}
 use Rattle.ads_plant.proofs.SameSizes.{same_type-size}
 use Rattle.ads_machine.specs.World.{names_at, symbol_names}
-use Rattle.ads_machine.specs.Client.{Place, names_of_place, kept_place}
+use Rattle.ads_machine.specs.Client.{Place, kept_place}
+use Rattle.ads_machine.specs.ByName.{place_of}
 use Rattle.ads_machine.specs.Reloads.{is_kept_symbol, is_kept}
 use Rattle.ads_machine.specs.HandleLaws.{AgreeingPlaces}
-use Rattle.ads_machine.specs.NumberedPlaces.{NumberedPlace, whole_place, is_place_in, is_place_at, is_same_place, SamePlacesHaveSameBytes, KeptSymbol, IsEntryOf, is_entry_of_symbol, entry_of_symbol, AreKeptSymbols, part_of_entry, moved_place, PlacesMoveAlike}
+use Rattle.ads_machine.specs.NumberedPlaces.{numbered_place_of, FoundPlacesAreSame, NumberedPlace, is_place_in, is_place_at, is_same_place}
+use Rattle.ads_machine.specs.NumberedPlaces.{SamePlacesHaveSameBytes, KeptSymbol, IsEntryOf}
+use Rattle.ads_machine.specs.NumberedPlaces.{is_entry_of_symbol, entry_of_symbol, part_of_entry, moved_place, PlacesMoveAlike}
 use Rattle.ads_machine.proofs.AreaNames.{spans_give_names}
 use Rattle.ads_machine.proofs.Reloaded.{part-kept}
 
@@ -35,10 +37,13 @@ record IsPlaceOf (ports : List PlantPort) (port : ℕ) (place : Place) (q : Numb
 place_parts : (ports : List PlantPort) (port : ℕ) (place : Place) (q : NumberedPlace) → is_same_place ports port place q ≡ true → IsPlaceOf ports port place q
 place_parts ports port place q t = go (port_numbered port ports) refl t
   where
-    in_symbol : (p : PlantPort) → port_numbered port ports ≡ Some p → (s : PlantSymbol) → slice_get p.symbols q.symbol ≡ Some s → is_place_in place q s ≡ true → IsPlaceOf ports port place q
+    in_symbol : (p : PlantPort) → port_numbered port ports ≡ Some p → (s : PlantSymbol) → slice_get p.symbols q.symbol ≡ Some s → is_place_in place q s ≡ true
+        → IsPlaceOf ports port place q
     in_symbol p e s g u =
-        let p4 = and_parts (bytes_eq (lower_name s) place.symbol && is_same_area q.area s.area && (q.first == s.offset + place.first) && (q.len == place.len)) (nat_le (place.first + place.len) (symbol_size s)) u in
-        let p3 = and_parts (bytes_eq (lower_name s) place.symbol && is_same_area q.area s.area && (q.first == s.offset + place.first)) (q.len == place.len) (p4.0) in
+        let p4 = and_parts (bytes_eq (lower_name s) place.symbol && is_same_area q.area s.area && (q.first == s.offset + place.first) && (q.len == place.len))
+        (nat_le (place.first + place.len) (symbol_size s)) u in
+        let p3 = and_parts (bytes_eq (lower_name s) place.symbol && is_same_area q.area s.area && (q.first == s.offset + place.first)) (q.len == place.len)
+        (p4.0) in
         let p2 = and_parts (bytes_eq (lower_name s) place.symbol && is_same_area q.area s.area) (q.first == s.offset + place.first) (p3.0) in
         let p1 = and_parts (bytes_eq (lower_name s) place.symbol) (is_same_area q.area s.area) (p2.0) in
         record {
@@ -53,7 +58,8 @@ place_parts ports port place q t = go (port_numbered port ports) refl t
           ends = leb-true (place.first + place.len) (symbol_size s) (p4.1);
         }
 
-    at_symbol : (p : PlantPort) → port_numbered port ports ≡ Some p → (x : Option PlantSymbol) → slice_get p.symbols q.symbol ≡ x → option_map_or (is_place_in place q) x false ≡ true → IsPlaceOf ports port place q
+    at_symbol : (p : PlantPort) → port_numbered port ports ≡ Some p → (x : Option PlantSymbol) → slice_get p.symbols q.symbol ≡ x
+        → option_map_or (is_place_in place q) x false ≡ true → IsPlaceOf ports port place q
     at_symbol p e None g u = absurd (false≢true u)
     at_symbol p e (Some s) g u = in_symbol p e s g u
 
@@ -71,6 +77,21 @@ place_from ports port place q i =
     let ends = le-leb (place.first + place.len) (symbol_size s) i.ends in
     let all : is_place_in place q s ≡ true = rw (named, same, first, len, ends) refl in
     ap (λ o. option_map_or (is_place_at place q) o false) i.port_found ∙ ap (λ o. option_map_or (is_place_in place q) o false) i.there ∙ all
+
+pub found_places_are_same : FoundPlacesAreSame
+found_places_are_same plant p port n name f found led g =
+    let l = (found_lie_in_symbols p.symbols name f led).ends in
+    place_from plant.ports port (place_of f) (numbered_place_of n f) (record {
+      at_port = p;
+      port_found = found;
+      symbol = f.symbol;
+      there = g;
+      named = refl;
+      same_area = refl;
+      first_is = refl;
+      len_is = refl;
+      ends = l;
+    })
 
 pub same_places_have_same_bytes : SamePlacesHaveSameBytes
 same_places_have_same_bytes plant p port len place q sound found t h =
@@ -93,7 +114,8 @@ pub record IsFoundEntry (old new : Plant) (port symbol : ℕ) (e : KeptSymbol) :
   pub same_symbol : e.before.symbol ≡ symbol
   pub entry : IsEntryOf old new e
 
-pub found_entry : (old new : Plant) (port symbol : ℕ) (kept : List KeptSymbol) → Each (IsEntryOf old new) kept → (e : KeptSymbol) → entry_of_symbol kept port symbol ≡ Some e → IsFoundEntry old new port symbol e
+pub found_entry : (old new : Plant) (port symbol : ℕ) (kept : List KeptSymbol) → Each (IsEntryOf old new) kept → (e : KeptSymbol)
+    → entry_of_symbol kept port symbol ≡ Some e → IsFoundEntry old new port symbol e
 found_entry old new port symbol [] each e f = cc
 found_entry old new port symbol (x ∷ xs) each e f =
     elim (cases_Bool (is_entry_of_symbol port symbol x)) [
@@ -101,13 +123,15 @@ found_entry old new port symbol (x ∷ xs) each e f =
           let g : Some x ≡ Some e = rw t at f in
           let same : x ≡ e = cc in
           let p = and_parts (x.port == port) (x.before.symbol == symbol) t in
-          let own : IsFoundEntry old new port symbol x = record { same_port = eqb-true x.port port (p.0); same_symbol = eqb-true x.before.symbol symbol (p.1); entry = each.0 } in
+          let own : IsFoundEntry old new port symbol x
+          = record { same_port = eqb-true x.port port (p.0); same_symbol = eqb-true x.before.symbol symbol (p.1); entry = each.0 } in
           subst (IsFoundEntry old new port symbol) same own
       | inr t ↦ let g : entry_of_symbol xs port symbol ≡ Some e = rw t at f in found_entry old new port symbol xs (each.1) e g
     ]
 
 -- the symbols of an entry are kept
-pub entry_is_kept : (old new : Plant) (e : KeptSymbol) → IsSoundPlant old → IsSoundPlant new → (i : IsEntryOf old new e) → is_kept old new e.port (SymbolPart (lower_name i.was)) ≡ true
+pub entry_is_kept : (old new : Plant) (e : KeptSymbol) → IsSoundPlant old → IsSoundPlant new → (i : IsEntryOf old new e)
+    → is_kept old new e.port (SymbolPart (lower_name i.was)) ≡ true
 entry_is_kept old new e so sn i =
     let p = port_sound old.ports old.ports e.port i.was_port so i.was_port_found in
     let q = port_sound new.ports new.ports e.port i.is_port sn i.is_port_found in
@@ -119,11 +143,15 @@ entry_is_kept old new e so sn i =
     ∙ ap (is_kept_symbol (Some i.was)) is_.found ∙ i.same_type
 
 -- a place within a kept symbol, after the reload
-moved_is : (old new : Plant) (port : ℕ) (place : Place) (q : NumberedPlace) (e : KeptSymbol) → IsPlaceOf old.ports port place q → IsFoundEntry old new port q.symbol e → IsPlaceOf new.ports port place (part_of_entry q e)
+moved_is : (old new : Plant) (port : ℕ) (place : Place) (q : NumberedPlace) (e : KeptSymbol) → IsPlaceOf old.ports port place q
+    → IsFoundEntry old new port q.symbol e → IsPlaceOf new.ports port place (part_of_entry q e)
 moved_is old new port place q e i f =
     let x = f.entry in
-    let port_is : i.at_port ≡ x.was_port = port_of i.at_port x.was_port (sym i.port_found ∙ ap (λ n. port_numbered n old.ports) (sym f.same_port) ∙ x.was_port_found) in
-    let symbol_is : i.symbol ≡ x.was = symbol_of i.symbol x.was (sym i.there ∙ ap (λ (p : PlantPort). slice_get p.symbols q.symbol) port_is ∙ ap (slice_get x.was_port.symbols) (sym f.same_symbol) ∙ x.was_there) in
+    let port_is : i.at_port ≡ x.was_port
+    = port_of i.at_port x.was_port (sym i.port_found ∙ ap (λ n. port_numbered n old.ports) (sym f.same_port) ∙ x.was_port_found) in
+    let symbol_is : i.symbol ≡ x.was
+    = symbol_of i.symbol x.was (sym i.there ∙ ap (λ (p : PlantPort). slice_get p.symbols q.symbol) port_is
+    ∙ ap (slice_get x.was_port.symbols) (sym f.same_symbol) ∙ x.was_there) in
     let size = same_type-size x.was.type x.is.type x.same_type in
     let size_was : symbol_size i.symbol ≡ symbol_size x.was = ap (λ (s : PlantSymbol). symbol_size s) symbol_is in
     let offset_was : i.symbol.offset ≡ x.was.offset = ap (λ (s : PlantSymbol). s.offset) symbol_is in
@@ -168,17 +196,25 @@ places_move_alike old new kept so sn are port place q t =
     same_symbol : (e : KeptSymbol) → (f : IsFoundEntry old new port q.symbol e) → lower_name f.entry.was ≡ place.symbol
     same_symbol e f =
         let x = f.entry in
-        let port_is : i.at_port ≡ x.was_port = port_of i.at_port x.was_port (sym i.port_found ∙ ap (λ n. port_numbered n old.ports) (sym f.same_port) ∙ x.was_port_found) in
-        let symbol_is : i.symbol ≡ x.was = symbol_of i.symbol x.was (sym i.there ∙ ap (λ (p : PlantPort). slice_get p.symbols q.symbol) port_is ∙ ap (slice_get x.was_port.symbols) (sym f.same_symbol) ∙ x.was_there) in
+        let port_is : i.at_port ≡ x.was_port
+        = port_of i.at_port x.was_port (sym i.port_found ∙ ap (λ n. port_numbered n old.ports) (sym f.same_port) ∙ x.was_port_found) in
+        let symbol_is : i.symbol ≡ x.was
+        = symbol_of i.symbol x.was (sym i.there ∙ ap (λ (p : PlantPort). slice_get p.symbols q.symbol) port_is
+        ∙ ap (slice_get x.was_port.symbols) (sym f.same_symbol) ∙ x.was_there) in
         ap (λ (s : PlantSymbol). lower_name s) (sym symbol_is) ∙ i.named
 
     entry_kept : (e : KeptSymbol) → entry_of_symbol kept port q.symbol ≡ Some e → is_kept old new port (SymbolPart place.symbol) ≡ true
     entry_kept e g =
         let f = found_entry old new port q.symbol kept are.each e g in
-        ap (λ name. is_kept old new port (SymbolPart name)) (sym (same_symbol e f)) ∙ ap (λ n. is_kept old new n (SymbolPart (lower_name f.entry.was))) (sym f.same_port) ∙ entry_is_kept old new e so sn f.entry
+        ap (λ name. is_kept old new port (SymbolPart name)) (sym (same_symbol e f))
+        ∙ ap (λ n. is_kept old new n (SymbolPart (lower_name f.entry.was))) (sym f.same_port) ∙ entry_is_kept old new e so sn f.entry
 
-    go : (b : Bool) → is_kept old new port (SymbolPart place.symbol) ≡ b → (o : Option KeptSymbol) → entry_of_symbol kept port q.symbol ≡ o → AgreeingPlaces (is_same_place new.ports) port (kept_place (is_kept old new) port place) (moved_place kept port q)
-    go true e (Some x) g = rw (e, g) (place_from new.ports port place (part_of_entry q x) (moved_is old new port place q x i (found_entry old new port q.symbol kept are.each x g)))
-    go true e None g = absurd (false≢true (sym (ap (λ (o : Option KeptSymbol). is_some o) g) ∙ are.all port i.at_port q.symbol i.symbol i.port_found i.there (kept_named ∙ e)))
+    go : (b : Bool) → is_kept old new port (SymbolPart place.symbol) ≡ b → (o : Option KeptSymbol) → entry_of_symbol kept port q.symbol ≡ o
+        → AgreeingPlaces (is_same_place new.ports) port (kept_place (is_kept old new) port place) (moved_place kept port q)
+    go true e (Some x) g =
+        rw (e, g) (place_from new.ports port place (part_of_entry q x)
+        (moved_is old new port place q x i (found_entry old new port q.symbol kept are.each x g)))
+    go true e None g =
+        absurd (false≢true (sym (ap (λ (o : Option KeptSymbol). is_some o) g) ∙ are.all port i.at_port q.symbol i.symbol i.port_found i.there (kept_named ∙ e)))
     go false e (Some x) g = absurd (false≢true (sym e ∙ entry_kept x g))
     go false e None g = rw (e, g) tt

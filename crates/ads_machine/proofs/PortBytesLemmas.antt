@@ -1,17 +1,18 @@
 -- How reads, writes and controls go on the bytes of a port.
-use Rattle.std.proofs.Common.{◌≡◌, ◌≢◌, ℕ, zero, suc, ◌+◌, ◌<◌, ◌≤◌, List, [], ◌∷◌, ◌++◌, map, length, take, drop, get_or, refl, sym, ◌∙◌, ap, subst, inl, inr, arith, drop-cons}
+use Rattle.std.proofs.Common.{◌≡◌, ◌≢◌, ℕ, zero, suc, ◌+◌, ◌<◌, ◌≤◌, List, [], ◌∷◌, map, length, take, drop, get_or, refl, sym, ◌∙◌, ap, subst, inl, inr}
+use Rattle.std.proofs.Common.{arith, drop-cons}
 use Rattle.std.specs.Prelude.{◌/◌, ◌%◌, ◌^◌, slice_get, option_map, unwrap_or, min}
 use Rattle.std.proofs.lemmas.Option.{unwrap_or-slice_get}
 use Rattle.ads_plant.specs.Description.{Area, size_in}
-use Rattle.ads_plant.specs.World.{ByteName, Block, PlantPort, StatePart, byte_at, byte_or_zero, with_byte, with_nth_byte}
+use Rattle.ads_plant.specs.World.{ByteName, Block, PlantPort, byte_at, byte_or_zero, with_byte, with_nth_byte}
 use Rattle.ads_plant.specs.Named.{AreNamedApart}
 use Rattle.ads_plant.specs.Sound.{Each}
 use Rattle.ads_plant.proofs.BlockLemmas.{byte_at-same, byte_at-other, nth-same, nth-other, nth-length, cases_name}
-use Rattle.ads_machine.specs.World.{numbers_from, name_at, names_at, state_bytes, state_names}
-use Rattle.ads_machine.specs.Access.{WholeByte, OneBit, addressed_name, values_at, with_bit, Put, puts_of, byte_after, memory_after_put, memory_after_puts}
+use Rattle.ads_machine.specs.World.{numbers_from, name_at, names_at, state_bytes}
+use Rattle.ads_machine.specs.Access.{WholeByte, addressed_name, values_at, with_bit, Put, puts_of, byte_after, memory_after_put, memory_after_puts}
 use Rattle.ads_machine.specs.AreaNames.{IsOneByte}
-use Rattle.ads_machine.specs.PortBytes.{PortBytes, start_in, image_byte, with_image_bytes, state_name, Holds}
-use Rattle.ads_machine.specs.PortLaws.{ReadsImage, ReadsBit, ReadsStates, WritesImage, WritesBit, SetsStates, IsAtAnotherPort, LeavesOtherPorts}
+use Rattle.ads_machine.specs.PortBytes.{PortBytes, start_in, state_name, Holds}
+use Rattle.ads_machine.specs.PortLaws.{ReadsImage, ReadsBit, ReadsStates, WritesImage, WritesBit, IsAtAnotherPort, LeavesOtherPorts}
 use Rattle.ads_machine.proofs.AreaNames.{names_are_one_to_one, names_are_of_areas}
 use Rattle.ads_machine.proofs.ImageLemmas.{written, written-nothing, written-first, one_place, area_within, same_place}
 
@@ -25,7 +26,8 @@ read_run memory p b area h (suc len) offset u =
     let whole = area_within p.sizes area in
     let long = h.long in
     let inside : at_ < length b.image = omega (arith, whole, long, u) in
-    let head : byte_or_zero memory (name_at p area offset) ≡ get_or b.image at_ 0 = ap (λ o. unwrap_or o 0) (h.areas area offset (omega (arith, u))) ∙ unwrap_or-slice_get b.image at_ 0 in
+    let head : byte_or_zero memory (name_at p area offset) ≡ get_or b.image at_ 0 = ap (λ o. unwrap_or o 0) (h.areas area offset (omega (arith, u)))
+    ∙ unwrap_or-slice_get b.image at_ 0 in
     let next : start_in p.sizes area + (offset + 1) ≡ suc at_ = omega arith in
     let rest = read_run memory p b area h len (offset + 1) (omega (arith, u)) ∙ ap (λ n. take len (drop n b.image)) next in
     ap (λ x. x ∷ values_at memory (map WholeByte (map (name_at p area) (numbers_from (offset + 1) len)))) head
@@ -45,7 +47,8 @@ reads_states memory p b h =
     rw (byte 0 (omega arith), byte 1 (omega arith), byte 2 (omega arith), byte 3 (omega arith)) refl
 
 -- one byte of an area is changed
-changed : (memory : List Block) (p : PlantPort) (b : PortBytes) (area : Area) (offset : ℕ) (f : ℕ → ℕ) → AreNamedApart p.symbols → Holds memory p b → offset < size_in p.sizes area
+changed : (memory : List Block) (p : PlantPort) (b : PortBytes) (area : Area) (offset : ℕ) (f : ℕ → ℕ) → AreNamedApart p.symbols → Holds memory p b
+    → offset < size_in p.sizes area
     → Holds (with_byte memory (name_at p area offset) f) p (record b { image = with_nth_byte b.image (start_in p.sizes area + offset) f })
 changed memory p b area offset f apart h u =
     let n = name_at p area offset in
@@ -67,13 +70,17 @@ changed memory p b area offset f apart h u =
     one_name : (other : Area) (i : ℕ) → IsOneByte area other offset i → name_at p area offset ≡ name_at p other i
     one_name other i one = ap (λ a. name_at p a offset) one.same_area ∙ ap (name_at p other) one.same_offset
 
-nothing_written : (p : PlantPort) (b : PortBytes) (at_ : ℕ) (memory : List Block) → Holds memory p b → Holds memory p (record b { image = written b.image at_ [] })
-nothing_written p b at_ memory h = let P : List ℕ → Type 0 = λ image. Holds memory p (record b { image = image }) in subst P (sym (written-nothing b.image at_)) h
+nothing_written : (p : PlantPort) (b : PortBytes) (at_ : ℕ) (memory : List Block) → Holds memory p b
+    → Holds memory p (record b { image = written b.image at_ [] })
+nothing_written p b at_ memory h = let P : List ℕ
+    → Type 0 = λ image. Holds memory p (record b { image = image }) in subst P (sym (written-nothing b.image at_)) h
 
 -- bytes that are written one behind another
-write_run : (p : PlantPort) (area : Area) → AreNamedApart p.symbols → (len : ℕ) (bytes : List ℕ) (offset : ℕ) (memory : List Block) (b : PortBytes) → Holds memory p b
+write_run : (p : PlantPort) (area : Area) → AreNamedApart p.symbols → (len : ℕ) (bytes : List ℕ) (offset : ℕ) (memory : List Block) (b : PortBytes)
+    → Holds memory p b
     → offset + len ≤ size_in p.sizes area → length bytes ≤ len
-    → Holds (memory_after_puts memory (puts_of (map WholeByte (map (name_at p area) (numbers_from offset len))) bytes)) p (record b { image = written b.image (start_in p.sizes area + offset) bytes })
+    → Holds (memory_after_puts memory (puts_of (map WholeByte (map (name_at p area) (numbers_from offset len))) bytes)) p
+    (record b { image = written b.image (start_in p.sizes area + offset) bytes })
 unfolding memory_after_puts numbers_from
 write_run p area apart zero [] offset memory b h u v = nothing_written p b (start_in p.sizes area + offset) memory h
 write_run p area apart zero (x ∷ bytes) offset memory b h u v = absurd (omega (arith, v))
@@ -84,11 +91,14 @@ write_run p area apart (suc len) (x ∷ bytes) offset memory b h u v =
     let long = h.long in
     let first = changed memory p b area offset (λ old. x) apart h (omega (arith, u)) in
     let left : List ℕ = with_nth_byte b.image at_ (λ old. x) in
-    let rest = write_run p area apart len bytes (offset + 1) (with_byte memory (name_at p area offset) (λ old. x)) (record b { image = left }) first (omega (arith, u)) (omega (arith, v)) in
+    let rest = write_run p area apart len bytes (offset + 1) (with_byte memory (name_at p area offset) (λ old. x)) (record b { image = left }) first
+    (omega (arith, u)) (omega (arith, v)) in
     let next : start_in p.sizes area + (offset + 1) ≡ at_ + 1 = omega arith in
     let same : written left (start_in p.sizes area + (offset + 1)) bytes ≡ written b.image at_ (x ∷ bytes)
     = ap (λ n. written left n bytes) next ∙ sym (written-first b.image at_ x bytes (omega (arith, u, v, whole, long))) in
-    let P : List ℕ → Type 0 = λ image. Holds (memory_after_puts (with_byte memory (name_at p area offset) (λ old. x)) (puts_of (map WholeByte (map (name_at p area) (numbers_from (offset + 1) len))) bytes)) p (record b { image = image }) in
+    let P : List ℕ
+    → Type 0 = λ image. Holds (memory_after_puts (with_byte memory (name_at p area offset) (λ old. x))
+    (puts_of (map WholeByte (map (name_at p area) (numbers_from (offset + 1) len))) bytes)) p (record b { image = image }) in
     subst P same rest
 
 pub writes_image : WritesImage
@@ -100,14 +110,16 @@ unfolding memory_after_puts
 writes_bit memory p b area offset bit value apart h u = changed memory p b area offset (with_bit bit (min value 1)) apart h u
 
 -- memory that has the same bytes under the names of a port holds the same bytes of it
-pub holds_along : (memory after : List Block) (p : PlantPort) (b : PortBytes) → ((n : ByteName) → n.port ≡ p.number → byte_at after n ≡ byte_at memory n) → Holds memory p b → Holds after p b
+pub holds_along : (memory after : List Block) (p : PlantPort) (b : PortBytes) → ((n : ByteName) → n.port ≡ p.number → byte_at after n ≡ byte_at memory n)
+    → Holds memory p b → Holds after p b
 holds_along memory after p b same h = record {
   long = h.long;
   areas = λ area offset u. same (name_at p area offset) (names_are_of_areas p area offset).port ∙ h.areas area offset u;
   states = λ k u. same (state_name p k) refl ∙ h.states k u;
 }
 
-puts-other : (p : PlantPort) (puts : List Put) (memory : List Block) → Each (IsAtAnotherPort p) puts → (n : ByteName) → n.port ≡ p.number → byte_at (memory_after_puts memory puts) n ≡ byte_at memory n
+puts-other : (p : PlantPort) (puts : List Put) (memory : List Block) → Each (IsAtAnotherPort p) puts → (n : ByteName) → n.port ≡ p.number
+    → byte_at (memory_after_puts memory puts) n ≡ byte_at memory n
 unfolding memory_after_puts
 puts-other p [] memory e n q = refl
 puts-other p (u ∷ puts) memory e n q =

@@ -1,11 +1,11 @@
 -- The bytes of a port in a new world, and after a reload.
-use Rattle.std.proofs.Common.{◌≡◌, ◌≢◌, ℕ, zero, suc, ◌+◌, ◌-◌, ◌<◌, ◌≤◌, List, [], ◌∷◌, map, length, replicate, Bool, true, false, cond, refl, sym, ◌∙◌, ap, subst, inl, inr, arith}
+use Rattle.std.proofs.Common.{◌≡◌, ℕ, zero, suc, ◌+◌, ◌-◌, ◌<◌, List, [], ◌∷◌, length, replicate, true, false, refl, sym, ◌∙◌, ap, inl, inr, arith}
 use Rattle.std.specs.Prelude.{Option, Some, None, slice_get}
 use Rattle.std.specs.List.{list_any}
 use Rattle.std.proofs.lemmas.Bool.{cases_Bool, false≢true}
 use Rattle.ads_plant.specs.Description.{Area, size_in}
-use Rattle.ads_plant.specs.World.{Block, Part, SymbolPart, AreaPart, StatePart, ByteName, PlantSymbol, PlantPort, Plant, lower_name, symbol_size, is_block_of, block_of, byte_at}
-use Rattle.ads_plant.specs.Accepted.{image_size}
+use Rattle.ads_plant.specs.World.{Block, Part, SymbolPart, AreaPart, StatePart, ByteName, PlantSymbol, PlantPort, Plant, lower_name, symbol_size, is_block_of}
+use Rattle.ads_plant.specs.World.{block_of, byte_at}
 use Rattle.ads_plant.specs.SameTypes.{is_same_type}
 use Rattle.ads_plant.specs.Covering.{covers}
 use Rattle.ads_plant.specs.Named.{port_numbered, symbol_named}
@@ -43,10 +43,13 @@ covered_by area offset (s ∷ symbols) e =
 
 -- what stands under the names of a port's symbols and gaps
 record StandByTiles (memory : List Block) (p : PlantPort) (image : List ℕ) : Type 0 where
-  symbols : (n : ℕ) (s : PlantSymbol) (k : ℕ) → slice_get p.symbols n ≡ Some s → k < symbol_size s → byte_at memory (name_in_symbol p.number s k) ≡ image_byte p.sizes image s.area (s.offset + k)
-  gaps : (area : Area) (offset : ℕ) → offset < size_in p.sizes area → is_covered p area offset ≡ false → byte_at memory (name_in_gap p.number area offset) ≡ image_byte p.sizes image area offset
+  symbols : (n : ℕ) (s : PlantSymbol) (k : ℕ) → slice_get p.symbols n ≡ Some s → k < symbol_size s
+      → byte_at memory (name_in_symbol p.number s k) ≡ image_byte p.sizes image s.area (s.offset + k)
+  gaps : (area : Area) (offset : ℕ) → offset < size_in p.sizes area → is_covered p area offset ≡ false
+      → byte_at memory (name_in_gap p.number area offset) ≡ image_byte p.sizes image area offset
 
-by_tiles : (memory : List Block) (p : PlantPort) (image : List ℕ) → AreApart p.symbols → StandByTiles memory p image → (area : Area) (offset : ℕ) → offset < size_in p.sizes area
+by_tiles : (memory : List Block) (p : PlantPort) (image : List ℕ) → AreApart p.symbols → StandByTiles memory p image → (area : Area) (offset : ℕ)
+    → offset < size_in p.sizes area
     → byte_at memory (name_at p area offset) ≡ image_byte p.sizes image area offset
 by_tiles memory p image apart s area offset u =
     let named = tiles_give_names p area offset apart in
@@ -71,7 +74,8 @@ zeros (suc n) (suc i) h = zeros n i (omega (arith, h))
 
 -- in a new world
 
-first_symbol : (plant : Plant) (p : PlantPort) (n : ℕ) (s : PlantSymbol) (k : ℕ) → IsSoundPlant plant → port_numbered p.number plant.ports ≡ Some p → slice_get p.symbols n ≡ Some s
+first_symbol : (plant : Plant) (p : PlantPort) (n : ℕ) (s : PlantSymbol) (k : ℕ) → IsSoundPlant plant → port_numbered p.number plant.ports ≡ Some p
+    → slice_get p.symbols n ≡ Some s
     → byte_at (first_memory plant) (name_in_symbol p.number s k) ≡ slice_get s.initial k
 unfolding byte_at
 first_symbol plant p n s k sound found g =
@@ -84,11 +88,13 @@ first_gap : (plant : Plant) (p : PlantPort) (area : Area) (offset : ℕ) → por
 unfolding byte_at
 first_gap plant p area offset found u = ap (λ xs. slice_get xs offset) (first-area p.number area p plant.ports found) ∙ zeros (size_in p.sizes area) offset u
 
-first_state : (plant : Plant) (p : PlantPort) (k : ℕ) → port_numbered p.number plant.ports ≡ Some p → byte_at (first_memory plant) (state_name p k) ≡ slice_get (state_bytes RUN 0) k
+first_state : (plant : Plant) (p : PlantPort) (k : ℕ) → port_numbered p.number plant.ports ≡ Some p
+    → byte_at (first_memory plant) (state_name p k) ≡ slice_get (state_bytes RUN 0) k
 unfolding byte_at
 first_state plant p k found = ap (λ xs. slice_get xs k) (first-states p.number p plant.ports found)
 
-first_tiles : (plant : Plant) (p : PlantPort) (image : List ℕ) → IsSoundPlant plant → port_numbered p.number plant.ports ≡ Some p → IsFirstImage p image → StandByTiles (first_memory plant) p image
+first_tiles : (plant : Plant) (p : PlantPort) (image : List ℕ) → IsSoundPlant plant → port_numbered p.number plant.ports ≡ Some p → IsFirstImage p image
+    → StandByTiles (first_memory plant) p image
 first_tiles plant p image sound found f = record {
   symbols = λ n s k g u. first_symbol plant p n s k sound found g ∙ sym (f.symbols n s k g u);
   gaps = λ area offset u c. first_gap plant p area offset found u ∙ sym (f.gaps area offset u c);
@@ -105,7 +111,8 @@ begins_with_first_image plant p image sound found f =
 
 -- after a reload
 
-reloaded-kept : (kept : Kept) (old : List Block) (port : ℕ) (part : Part) (new : List Block) → kept port part ≡ true → 0 < length (block_of new port part) → block_of (memory_after_reload kept old new) port part ≡ block_of old port part
+reloaded-kept : (kept : Kept) (old : List Block) (port : ℕ) (part : Part) (new : List Block) → kept port part ≡ true → 0 < length (block_of new port part)
+    → block_of (memory_after_reload kept old new) port part ≡ block_of old port part
 unfolding memory_after_reload
 reloaded-kept kept old port part [] t h = absurd (omega (arith, h))
 reloaded-kept kept old port part (b ∷ bs) t h =
@@ -124,7 +131,8 @@ reloaded-kept kept old port part (b ∷ bs) t h =
           ]
     ]
 
-reloaded-new : (kept : Kept) (old : List Block) (port : ℕ) (part : Part) (new : List Block) → kept port part ≡ false → block_of (memory_after_reload kept old new) port part ≡ block_of new port part
+reloaded-new : (kept : Kept) (old : List Block) (port : ℕ) (part : Part) (new : List Block) → kept port part ≡ false
+    → block_of (memory_after_reload kept old new) port part ≡ block_of new port part
 unfolding memory_after_reload
 reloaded-new kept old port part [] t = refl
 reloaded-new kept old port part (b ∷ bs) t =
@@ -142,7 +150,8 @@ reloaded-new kept old port part (b ∷ bs) t =
     ]
 
 -- a byte of a part that is kept, and of one that is not
-byte-kept : (kept : Kept) (old new : List Block) (n : ByteName) → kept n.port n.part ≡ true → 0 < length (block_of new n.port n.part) → byte_at (memory_after_reload kept old new) n ≡ byte_at old n
+byte-kept : (kept : Kept) (old new : List Block) (n : ByteName) → kept n.port n.part ≡ true → 0 < length (block_of new n.port n.part)
+    → byte_at (memory_after_reload kept old new) n ≡ byte_at old n
 unfolding byte_at
 byte-kept kept old new n t h = ap (λ xs. slice_get xs n.index) (reloaded-kept kept old n.port n.part new t h)
 
@@ -150,13 +159,16 @@ byte-new : (kept : Kept) (old new : List Block) (n : ByteName) → kept n.port n
 unfolding byte_at
 byte-new kept old new n t = ap (λ xs. slice_get xs n.index) (reloaded-new kept old n.port n.part new t)
 
-pub part-kept : (old new : Plant) (port : ℕ) (part : Part) (o x : Option PlantPort) → port_numbered port old.ports ≡ o → port_numbered port new.ports ≡ x → is_kept old new port part ≡ is_kept_part part o x
+pub part-kept : (old new : Plant) (port : ℕ) (part : Part) (o x : Option PlantPort) → port_numbered port old.ports ≡ o → port_numbered port new.ports ≡ x
+    → is_kept old new port part ≡ is_kept_part part o x
 unfolding is_kept
 part-kept old new port part o x e f = ap (λ q. is_kept_part part q (port_numbered port new.ports)) e ∙ ap (is_kept_part part o) f
 
 -- a symbol's byte in the old world is one of the image
-old_byte : (memory : List Block) (was : PlantPort) (b : PortBytes) (ports : List PlantPort) (port : ℕ) (name : List ℕ) (s : PlantSymbol) (k : ℕ) → IsSoundPort ports was → was.number ≡ port → symbol_named name was.symbols ≡ Some s
-    → k < symbol_size s → Holds memory was b → byte_at memory (record { port = port; part = SymbolPart name; index = k }) ≡ image_byte was.sizes b.image s.area (s.offset + k)
+old_byte : (memory : List Block) (was : PlantPort) (b : PortBytes) (ports : List PlantPort) (port : ℕ) (name : List ℕ) (s : PlantSymbol) (k : ℕ)
+    → IsSoundPort ports was → was.number ≡ port → symbol_named name was.symbols ≡ Some s
+    → k < symbol_size s → Holds memory was b
+    → byte_at memory (record { port = port; part = SymbolPart name; index = k }) ≡ image_byte was.sizes b.image s.area (s.offset + k)
 old_byte memory was b ports port name s k sound same found u h =
     let at_ = symbol_at name was.symbols s found in
     let own = symbol_sound was was.symbols name s sound.symbols found in
@@ -186,8 +198,10 @@ symbol_reloaded old new memory was p b image so sn eo en h r n t k g u = go (sym
     own : IsSoundSymbol p t
     own = each-get (IsSoundSymbol p) p.symbols n t port.symbols g
 
-    kept_is : (o : Option PlantSymbol) → symbol_named (lower_name t) was.symbols ≡ o → is_kept old new p.number (SymbolPart (lower_name t)) ≡ is_kept_symbol o (Some t)
-    kept_is o e = part-kept old new p.number (SymbolPart (lower_name t)) (Some was) (Some p) eo en ∙ ap (λ x. is_kept_symbol x (symbol_named (lower_name t) p.symbols)) e ∙ ap (is_kept_symbol o) own.found
+    kept_is : (o : Option PlantSymbol) → symbol_named (lower_name t) was.symbols ≡ o
+        → is_kept old new p.number (SymbolPart (lower_name t)) ≡ is_kept_symbol o (Some t)
+    kept_is o e = part-kept old new p.number (SymbolPart (lower_name t)) (Some was) (Some p) eo en
+        ∙ ap (λ x. is_kept_symbol x (symbol_named (lower_name t) p.symbols)) e ∙ ap (is_kept_symbol o) own.found
 
     fresh : (o : Option PlantSymbol) → symbol_named (lower_name t) was.symbols ≡ o → is_kept_symbol o (Some t) ≡ false
         → byte_at (memory_after_reload (is_kept old new) memory (first_memory new)) name ≡ image_byte p.sizes image t.area (t.offset + k)
@@ -198,7 +212,8 @@ symbol_reloaded old new memory was p b image so sn eo en h r n t k g u = go (sym
     some : 0 < length (block_of (first_memory new) p.number (SymbolPart (lower_name t)))
     some = let l = ap length (first-symbol p.number (lower_name t) p t new.ports en own.found) ∙ own.initial in omega (arith, l, u)
 
-    go : (o : Option PlantSymbol) → symbol_named (lower_name t) was.symbols ≡ o → byte_at (memory_after_reload (is_kept old new) memory (first_memory new)) name ≡ image_byte p.sizes image t.area (t.offset + k)
+    go : (o : Option PlantSymbol) → symbol_named (lower_name t) was.symbols ≡ o
+        → byte_at (memory_after_reload (is_kept old new) memory (first_memory new)) name ≡ image_byte p.sizes image t.area (t.offset + k)
     go None e = fresh None e refl
     go (Some s) e =
         elim (cases_Bool (is_same_type s.type t.type)) [
@@ -211,10 +226,12 @@ symbol_reloaded old new memory was p b image so sn eo en h r n t k g u = go (sym
               ∙ sym (r.kept n s t k g e f u)
         ]
 
-gap_reloaded : (old new : Plant) (memory : List Block) (p : PlantPort) (area : Area) (offset : ℕ) (o : Option PlantPort) → port_numbered p.number old.ports ≡ o → port_numbered p.number new.ports ≡ Some p → offset < size_in p.sizes area
+gap_reloaded : (old new : Plant) (memory : List Block) (p : PlantPort) (area : Area) (offset : ℕ) (o : Option PlantPort) → port_numbered p.number old.ports ≡ o
+    → port_numbered p.number new.ports ≡ Some p → offset < size_in p.sizes area
     → byte_at (memory_after_reload (is_kept old new) memory (first_memory new)) (name_in_gap p.number area offset) ≡ Some 0
 gap_reloaded old new memory p area offset o eo en u =
-    byte-new (is_kept old new) memory (first_memory new) (name_in_gap p.number area offset) (part-kept old new p.number (AreaPart area) o (Some p) eo en ∙ never o) ∙ first_gap new p area offset en u
+    byte-new (is_kept old new) memory (first_memory new) (name_in_gap p.number area offset) (part-kept old new p.number (AreaPart area) o (Some p) eo en
+    ∙ never o) ∙ first_gap new p area offset en u
   where
     never : (x : Option PlantPort) → is_kept_part (AreaPart area) x (Some p) ≡ false
     never None = refl
@@ -244,13 +261,16 @@ pub reloads_new_port : ReloadsNewPort
 reloads_new_port old new memory p image sn eo en f =
     let port = port_sound new.ports new.ports p.number p sn en in
     let after : List Block = memory_after_reload (is_kept old new) memory (first_memory new) in
-    let fresh : (n : ByteName) → is_kept old new n.port n.part ≡ false → byte_at after n ≡ byte_at (first_memory new) n = λ n t. byte-new (is_kept old new) memory (first_memory new) n t in
+    let fresh : (n : ByteName) → is_kept old new n.port n.part ≡ false
+    → byte_at after n ≡ byte_at (first_memory new) n = λ n t. byte-new (is_kept old new) memory (first_memory new) n t in
     let tiles = first_tiles new p image sn en f in
     record {
       long = f.long;
       areas = by_tiles after p image port.bytes (record {
-        symbols = λ n s k g u. fresh (name_in_symbol p.number s k) (part-kept old new p.number (SymbolPart (lower_name s)) None (Some p) eo en) ∙ tiles.symbols n s k g u;
-        gaps = λ area offset u c. fresh (name_in_gap p.number area offset) (part-kept old new p.number (AreaPart area) None (Some p) eo en) ∙ tiles.gaps area offset u c;
+        symbols = λ n s k g u. fresh (name_in_symbol p.number s k) (part-kept old new p.number (SymbolPart (lower_name s)) None (Some p) eo en)
+            ∙ tiles.symbols n s k g u;
+        gaps = λ area offset u c. fresh (name_in_gap p.number area offset) (part-kept old new p.number (AreaPart area) None (Some p) eo en)
+            ∙ tiles.gaps area offset u c;
       });
       states = λ k u. fresh (state_name p k) (part-kept old new p.number StatePart None (Some p) eo en) ∙ first_state new p k en;
     }

@@ -1,16 +1,15 @@
 -- A tick steps all signals in the bytes of a port.
-use Rattle.std.proofs.Common.{◌≡◌, ◌≢◌, ℕ, zero, suc, ◌+◌, ◌≤◌, List, [], ◌∷◌, ◌++◌, map, length, take, refl, sym, ◌∙◌, ap, subst, inl, inr, arith}
+use Rattle.std.proofs.Common.{◌≡◌, ◌≢◌, ℕ, zero, suc, ◌+◌, ◌≤◌, List, [], ◌∷◌, ◌++◌, map, length, take, refl, sym, subst, inl, inr, arith}
 use Rattle.std.specs.Prelude.{flat_map, slice_get, Some}
 use Rattle.std.specs.Int.{w64, to_le_bytes}
 use Rattle.std.proofs.lemmas.Bool.{cases_Bool}
-use Rattle.std.proofs.lemmas.List.{length-take}
 use Rattle.signals.specs.Wave.{Wave, value_of}
 use Rattle.ads_plant.specs.Description.{size_in}
 use Rattle.ads_plant.specs.World.{Block, PlantPort, PlantSymbol, SymbolPart, lower_name, symbol_size}
 use Rattle.ads_plant.specs.Named.{AreNamedApart, NotNumbered, AreNumberedApart}
 use Rattle.ads_plant.specs.Sound.{Each, AreApart, IsSoundSymbol, IsSoundPort}
 use Rattle.ads_plant.proofs.SoundLemmas.{each-get}
-use Rattle.ads_machine.specs.World.{symbol_names, numbers_from}
+use Rattle.ads_machine.specs.World.{numbers_from}
 use Rattle.ads_machine.specs.Access.{WholeByte, Put, puts_of, memory_after_put, memory_after_puts}
 use Rattle.ads_machine.specs.Ticks.{has_signal, signal_puts_of_symbol, signal_puts_among, signal_puts, world_after_tick}
 use Rattle.ads_machine.specs.PortBytes.{PortBytes, with_image_bytes, Holds, image_after_signal, image_after_signals}
@@ -45,8 +44,10 @@ are_fine p [] e f = tt
 are_fine p (s ∷ symbols) e f = (record { among = e.0; within = f.0.within }, are_fine p symbols (e.1) (f.1))
 
 -- one symbol is written
-symbol_stepped : (p : PlantPort) (s : PlantSymbol) (value : ℕ) (memory : List Block) (b : PortBytes) → AreNamedApart p.symbols → AreApart p.symbols → IsFineAt p s → Holds memory p b
-    → Holds (memory_after_puts memory (signal_puts_of_symbol p.number s value)) p (record b { image = with_image_bytes p.sizes b.image s.area s.offset (take (symbol_size s) (to_le_bytes w64 value)) })
+symbol_stepped : (p : PlantPort) (s : PlantSymbol) (value : ℕ) (memory : List Block) (b : PortBytes) → AreNamedApart p.symbols → AreApart p.symbols
+    → IsFineAt p s → Holds memory p b
+    → Holds (memory_after_puts memory (signal_puts_of_symbol p.number s value)) p
+    (record b { image = with_image_bytes p.sizes b.image s.area s.offset (take (symbol_size s) (to_le_bytes w64 value)) })
 symbol_stepped p s value memory b named apart fine h =
     let bytes : List ℕ = take (symbol_size s) (to_le_bytes w64 value) in
     let from : s.offset + 0 ≡ s.offset = omega arith in
@@ -54,7 +55,9 @@ symbol_stepped p s value memory b named apart fine h =
     let names = spans_give_names p (fine.among.0) s 0 (symbol_size s) apart (fine.among.1) (omega arith) in
     let short : length bytes ≤ symbol_size s = take-short (symbol_size s) (to_le_bytes w64 value) in
     let done = writes_image memory p b s.area (s.offset + 0) (symbol_size s) bytes named h (omega (arith, within)) short in
-    let P : ℕ → Type 0 = λ at_. Holds (memory_after_puts memory (signal_puts_of_symbol p.number s value)) p (record b { image = with_image_bytes p.sizes b.image s.area at_ bytes }) in
+    let P : ℕ → Type 0
+    = λ at_. Holds (memory_after_puts memory (signal_puts_of_symbol p.number s value)) p
+    (record b { image = with_image_bytes p.sizes b.image s.area at_ bytes }) in
     subst P from (rw (← names) done)
   where
     take-short : (n : ℕ) (xs : List ℕ) → length (take n xs) ≤ n
@@ -62,7 +65,8 @@ symbol_stepped p s value memory b named apart fine h =
     take-short (suc n) [] = omega arith
     take-short (suc n) (x ∷ xs) = let l = take-short n xs in omega (arith, l)
 
-among_stepped : (p : PlantPort) (n value : ℕ) (memory : List Block) (b : PortBytes) → AreNamedApart p.symbols → AreApart p.symbols → (symbols : List PlantSymbol) → Each (IsFineAt p) symbols → Holds memory p b
+among_stepped : (p : PlantPort) (n value : ℕ) (memory : List Block) (b : PortBytes) → AreNamedApart p.symbols → AreApart p.symbols
+    → (symbols : List PlantSymbol) → Each (IsFineAt p) symbols → Holds memory p b
     → Holds (memory_after_puts memory (signal_puts_among p.number n value symbols)) p (record b { image = image_after_signal p.sizes n value symbols b.image })
 unfolding memory_after_puts
 among_stepped p n value memory b named apart [] fine h = h
@@ -73,12 +77,14 @@ among_stepped p n value memory b named apart (s ∷ symbols) fine h =
     ]
 
 -- what other ports' symbols are written
-puts_elsewhere : (p : PlantPort) (port : ℕ) (name : List ℕ) → port ≢ p.number → (ks bytes : List ℕ) → Each (IsAtAnotherPort p) (puts_of (map WholeByte (map (λ k. record { port = port; part = SymbolPart name; index = k }) ks)) bytes)
+puts_elsewhere : (p : PlantPort) (port : ℕ) (name : List ℕ) → port ≢ p.number → (ks bytes : List ℕ)
+    → Each (IsAtAnotherPort p) (puts_of (map WholeByte (map (λ k. record { port = port; part = SymbolPart name; index = k }) ks)) bytes)
 puts_elsewhere p port name ne [] bytes = tt
 puts_elsewhere p port name ne (k ∷ ks) [] = tt
 puts_elsewhere p port name ne (k ∷ ks) (x ∷ bytes) = (ne, puts_elsewhere p port name ne ks bytes)
 
-signal_elsewhere : (p : PlantPort) (port n value : ℕ) → port ≢ p.number → (symbols : List PlantSymbol) → Each (IsAtAnotherPort p) (signal_puts_among port n value symbols)
+signal_elsewhere : (p : PlantPort) (port n value : ℕ) → port ≢ p.number → (symbols : List PlantSymbol)
+    → Each (IsAtAnotherPort p) (signal_puts_among port n value symbols)
 signal_elsewhere p port n value ne [] = tt
 signal_elsewhere p port n value ne (s ∷ symbols) =
     elim (cases_Bool (has_signal n s)) [
@@ -97,7 +103,8 @@ puts_at_ports n value ports = flat_map (λ (q : PlantPort). signal_puts_among q.
 ports_elsewhere : (p : PlantPort) (n value : ℕ) (ports : List PlantPort) → NotNumbered p.number ports → Each (IsAtAnotherPort p) (puts_at_ports n value ports)
 ports_elsewhere p n value [] e = tt
 ports_elsewhere p n value (q ∷ ports) e =
-    each-append p (signal_puts_among q.number n value q.symbols) (puts_at_ports n value ports) (signal_elsewhere p q.number n value (e.0) q.symbols) (ports_elsewhere p n value ports (e.1))
+    each-append p (signal_puts_among q.number n value q.symbols) (puts_at_ports n value ports) (signal_elsewhere p q.number n value (e.0) q.symbols)
+    (ports_elsewhere p n value ports (e.1))
 
 not_first : (n : ℕ) (ports : List PlantPort) (i : ℕ) (p : PlantPort) → NotNumbered n ports → slice_get ports i ≡ Some p → p.number ≢ n
 not_first n [] i p e g = cc
@@ -105,8 +112,10 @@ not_first n (q ∷ ports) zero p e g = let same : q ≡ p = cc in let P : PlantP
 not_first n (q ∷ ports) (suc i) p e g = not_first n ports i p (e.1) g
 
 -- one signal steps at all ports
-ports_stepped : (n value : ℕ) (p : PlantPort) → AreNamedApart p.symbols → AreApart p.symbols → Each (IsFineAt p) p.symbols → (ports : List PlantPort) (i : ℕ) → AreNumberedApart ports → slice_get ports i ≡ Some p
-    → (memory : List Block) (b : PortBytes) → Holds memory p b → Holds (memory_after_puts memory (puts_at_ports n value ports)) p (record b { image = image_after_signal p.sizes n value p.symbols b.image })
+ports_stepped : (n value : ℕ) (p : PlantPort) → AreNamedApart p.symbols → AreApart p.symbols → Each (IsFineAt p) p.symbols → (ports : List PlantPort) (i : ℕ)
+    → AreNumberedApart ports → slice_get ports i ≡ Some p
+    → (memory : List Block) (b : PortBytes) → Holds memory p b
+    → Holds (memory_after_puts memory (puts_at_ports n value ports)) p (record b { image = image_after_signal p.sizes n value p.symbols b.image })
 ports_stepped n value p named apart fine [] i a g memory b h = cc
 ports_stepped n value p named apart fine (q ∷ ports) zero a g memory b h =
     let same : q ≡ p = cc in
@@ -126,8 +135,10 @@ ports_stepped n value p named apart fine (q ∷ ports) (suc i) a g memory b h =
     let done = ports_stepped n value p named apart fine ports i (a.1) g (memory_after_puts memory first) b left in
     subst (λ (m : List Block). Holds m p after) (sym (puts-append memory first others)) done
 
-all_stepped : (p : PlantPort) → AreNamedApart p.symbols → AreApart p.symbols → Each (IsFineAt p) p.symbols → (ports : List PlantPort) (i : ℕ) → AreNumberedApart ports → slice_get ports i ≡ Some p
-    → (waves : List Wave) (n : ℕ) (memory : List Block) (b : PortBytes) → Holds memory p b → Holds (memory_after_puts memory (signal_puts ports n waves)) p (record b { image = image_after_signals p n waves b.image })
+all_stepped : (p : PlantPort) → AreNamedApart p.symbols → AreApart p.symbols → Each (IsFineAt p) p.symbols → (ports : List PlantPort) (i : ℕ)
+    → AreNumberedApart ports → slice_get ports i ≡ Some p
+    → (waves : List Wave) (n : ℕ) (memory : List Block) (b : PortBytes) → Holds memory p b
+    → Holds (memory_after_puts memory (signal_puts ports n waves)) p (record b { image = image_after_signals p n waves b.image })
 unfolding memory_after_puts
 all_stepped p named apart fine ports i a g [] n memory b h = h
 all_stepped p named apart fine ports i a g (wave ∷ waves) n memory b h =

@@ -1,5 +1,5 @@
 -- A control sets the state words, and no byte of an area.
-use Rattle.std.proofs.Common.{◌≡◌, ◌≢◌, ℕ, ◌+◌, ◌<◌, List, [], ◌∷◌, map, length, refl, sym, ◌∙◌, ap, subst, inl, inr, arith}
+use Rattle.std.proofs.Common.{◌≡◌, ℕ, ◌<◌, List, [], ◌∷◌, map, length, refl, sym, ◌∙◌, ap, subst, inl, inr, arith}
 use Rattle.std.specs.Prelude.{slice_get, option_map}
 use Rattle.std.proofs.lemmas.Bool.{cases_eq}
 use Rattle.ads_plant.specs.Description.{Area, size_in}
@@ -7,7 +7,7 @@ use Rattle.ads_plant.specs.World.{ByteName, Block, PlantPort, byte_at, with_byte
 use Rattle.ads_plant.proofs.BlockLemmas.{byte_at-same, byte_at-other, nth-same, nth-other}
 use Rattle.ads_machine.specs.World.{name_at, state_bytes, state_names}
 use Rattle.ads_machine.specs.Access.{WholeByte, puts_of, memory_after_puts}
-use Rattle.ads_machine.specs.PortBytes.{PortBytes, image_byte, state_name, Holds}
+use Rattle.ads_machine.specs.PortBytes.{image_byte, state_name}
 use Rattle.ads_machine.specs.PortLaws.{SetsStates}
 use Rattle.ads_machine.proofs.AreaNames.{names_are_of_areas}
 
@@ -21,12 +21,14 @@ set_byte : (memory : List Block) (p : PlantPort) (image states : List ℕ) (k : 
 set_byte memory p image states k f u s =
     let n = state_name p k in
     record {
-      areas = λ area offset v. byte_at-other memory n (name_at p area offset) f (λ e. (names_are_of_areas p area offset).part (ap (λ (x : ByteName). x.part) (sym e))) ∙ s.areas area offset v;
+      areas = λ area offset v. byte_at-other memory n (name_at p area offset) f
+          (λ e. (names_are_of_areas p area offset).part (ap (λ (x : ByteName). x.part) (sym e))) ∙ s.areas area offset v;
       words = λ i v. elim (cases_eq k i) [
         | inl e ↦
             let P : ℕ → Type 0 = λ j. byte_at (with_byte memory n f) (state_name p j) ≡ slice_get (with_nth_byte states k f) j in
             subst P e (byte_at-same memory n f ∙ ap (option_map f) (s.words k u) ∙ sym (nth-same k f states))
-        | inr ne ↦ byte_at-other memory n (state_name p i) f (λ e. ne (ap (λ (x : ByteName). x.index) e)) ∙ s.words i v ∙ sym (nth-other k i f states (λ q. ne (sym q)))
+        | inr ne ↦ byte_at-other memory n (state_name p i) f (λ e. ne (ap (λ (x : ByteName). x.index) e)) ∙ s.words i v
+            ∙ sym (nth-other k i f states (λ q. ne (sym q)))
       ];
     }
 

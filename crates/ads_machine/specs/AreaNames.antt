@@ -1,6 +1,6 @@
 -- Which names the bytes of an area have: that of the symbol at an offset, or the area's where none stands; and no two
 -- bytes of a port have one name.
-use Rattle.std.specs.Prelude.{◌≡◌, ◌≢◌, ℕ, ◌+◌, ◌-◌, ◌≤◌, List, Bool, true, false, Some, slice_get}
+use Rattle.std.specs.Prelude.{◌≡◌, ◌≢◌, ℕ, ◌+◌, ◌-◌, ◌≤◌, Bool, true, false, Some, slice_get}
 use Rattle.std.specs.List.{list_any}
 use Rattle.ads_plant.specs.Description.{Area}
 use Rattle.ads_plant.specs.World.{PlantPort, PlantSymbol, symbol_size, lower_name}

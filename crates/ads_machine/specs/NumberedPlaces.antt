@@ -6,10 +6,13 @@ use Rattle.std.specs.Option.{option_map_or}
 use Rattle.ads_plant.specs.Description.{Area}
 use Rattle.ads_plant.specs.World.{Plant, PlantPort, PlantSymbol, symbol_size, lower_name, SymbolPart, is_same_area}
 use Rattle.ads_plant.specs.SameTypes.{is_same_type}
+use Rattle.ads_plant.specs.Sizes.{type_size}
+use Rattle.ads_plant.specs.Finding.{Found, found_of}
 use Rattle.ads_plant.specs.Named.{port_numbered}
 use Rattle.ads_plant.specs.Sound.{Each, IsSoundPlant}
 use Rattle.ads_machine.specs.World.{names_at}
 use Rattle.ads_machine.specs.Client.{Place, names_of_place, kept_place}
+use Rattle.ads_machine.specs.ByName.{place_of}
 use Rattle.ads_machine.specs.Reloads.{is_kept}
 use Rattle.ads_machine.specs.HandleLaws.{AgreeingMoves}
 
@@ -97,3 +100,18 @@ abbrev pub PlacesMoveAlike : Type 0
 PlacesMoveAlike = (old new : Plant) (kept : List KeptSymbol) → IsSoundPlant old → IsSoundPlant new
     → AreKeptSymbols old new kept
     → AgreeingMoves (is_same_place old.ports) (is_same_place new.ports) (kept_place (is_kept old new)) (moved_place kept)
+
+-- the place by number of what a name leads to, where its symbol has this number
+abbrev pub numbered_place_of : ℕ → Found → NumberedPlace
+numbered_place_of n f = record {
+  symbol = n;
+  area = f.symbol.area;
+  first = f.symbol.offset + f.part.first;
+  len = type_size f.part.type;
+}
+
+-- What a name leads to is the same place by name and by number.
+abbrev pub FoundPlacesAreSame : Type 0
+FoundPlacesAreSame = (plant : Plant) (p : PlantPort) (port n : ℕ) (name : List ℕ) (f : Found)
+    → port_numbered port plant.ports ≡ Some p → found_of p.symbols name ≡ Some f → slice_get p.symbols n ≡ Some f.symbol
+    → is_same_place plant.ports port (place_of f) (numbered_place_of n f) ≡ true

@@ -1,7 +1,7 @@
 -- The bytes of a port as an image of its four areas, one behind another, and its two state words; and that they are
 -- what stands under the names of these bytes.
-use Rattle.std.specs.Prelude.{◌≡◌, ℕ, ◌+◌, ◌<◌, ◌≤◌, List, [], ◌∷◌, ◌++◌, length, take, drop, slice_get, Option}
-use Rattle.std.specs.Prelude.{if◌then◌else◌, None}
+use Rattle.std.specs.Prelude.{◌≡◌, ℕ, ◌+◌, ◌<◌, List, [], ◌∷◌, ◌++◌, length, take, drop, slice_get, Option}
+use Rattle.std.specs.Prelude.{if◌then◌else◌}
 use Rattle.std.specs.Int.{w64, to_le_bytes}
 use Rattle.signals.specs.Wave.{Wave, value_of}
 use Rattle.ads_plant.specs.Description.{Area, Inputs, Outputs, Memory, Process, Sizes, size_in}

@@ -1,6 +1,6 @@
 -- What reads, writes, controls, steps of signals and reloads are of the bytes of a port.
-use Rattle.std.specs.Prelude.{◌≡◌, ◌≢◌, ℕ, ◌+◌, ◌*◌, ◌/◌, ◌%◌, ◌^◌, ◌<◌, ◌≤◌, List, [], ◌∷◌, length, map, min}
-use Rattle.std.specs.Prelude.{Bool, true, false, Option, Some, None, slice_get, unwrap_or}
+use Rattle.std.specs.Prelude.{◌≡◌, ◌≢◌, ℕ, ◌+◌, ◌/◌, ◌%◌, ◌^◌, ◌<◌, ◌≤◌, List, [], ◌∷◌, length, map, min}
+use Rattle.std.specs.Prelude.{true, false, Some, None, slice_get, unwrap_or}
 use Rattle.ads_plant.specs.Description.{Area, size_in}
 use Rattle.ads_plant.specs.World.{Plant, PlantPort, PlantSymbol, symbol_size, lower_name, Block, with_nth_byte}
 use Rattle.ads_plant.specs.Accepted.{image_size}

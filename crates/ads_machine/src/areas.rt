@@ -7,7 +7,8 @@ ghost use Rattle.ads_machine.specs.PortLaws.{ReadsImage, ReadsBit, ReadsStates};
 ghost use Rattle.ads_machine.specs.PortLaws.{WritesImage, WritesBit, SetsStates, LeavesOtherPorts};
 ghost use Rattle.ads_machine.specs.PortLaws.{StepsSignals, BeginsWithFirstImage, ReloadsImage};
 ghost use Rattle.ads_machine.specs.PortLaws.{ReloadsNewPort};
-ghost use Rattle.ads_machine.specs.NumberedPlaces.{SamePlacesHaveSameBytes, PlacesMoveAlike};
+ghost use Rattle.ads_machine.specs.NumberedPlaces.{FoundPlacesAreSame, SamePlacesHaveSameBytes};
+ghost use Rattle.ads_machine.specs.NumberedPlaces.{PlacesMoveAlike};
 ghost use Rattle.ads_machine.specs.WatchedRanges.{RangesMoveAlike};
 ghost use Rattle.ads_machine.specs.WritableBytes.{WritesBySymbols, WritesInSymbol};
 
@@ -63,9 +64,10 @@ pub fn worlds_begin_with_images()
     ensures new_port { ReloadsNewPort }
 {}
 
-/// A place by name and the same place by number have the same bytes; and a reload moves places and watched ranges by
+/// What a name leads to is one place by name and by number; the same places have the same bytes; and a reload moves places and watched ranges by
 /// number as it moves them by name.
 pub fn numbers_move_as_names()
+    ensures found { FoundPlacesAreSame }
     ensures bytes { SamePlacesHaveSameBytes }
     ensures places { PlacesMoveAlike }
     ensures ranges { RangesMoveAlike }

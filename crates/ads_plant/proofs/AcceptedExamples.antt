@@ -1,13 +1,13 @@
 -- Descriptions that are accepted, and such that are not, computed.
 use Rattle.std.proofs.Common.{◌≡◌, ℕ, List, [], ◌∷◌, ◌++◌, replicate, true, false, refl, lit<, lit≤}
-use Rattle.std.specs.Prelude.{Some, None, codes, pos, negsuc}
+use Rattle.std.specs.Prelude.{codes, pos, negsuc}
 use Rattle.std.specs.Fmt.{digits}
-use Rattle.ads_plant.specs.Plain.{Kind, BOOL, INT, UINT, BYTE, DINT, USINT}
-use Rattle.ads_plant.specs.Listed.{Plain, Text, Struct, Shape, One, Array, Member, EnumValue, NamedType, Structure, Enumeration}
+use Rattle.ads_plant.specs.Plain.{Kind, INT, BYTE, USINT}
+use Rattle.ads_plant.specs.Listed.{Plain, Struct, Shape, One, Member, EnumValue, NamedType, Structure, Enumeration}
 use Rattle.ads_plant.specs.Trees.{trees_of, trees_behind}
 use Rattle.ads_plant.specs.Sizes.{type_size, members_end, type_align, greatest_align, type_depth, greatest_depth}
 use Rattle.ads_plant.specs.Spelling.{type_text}
-use Rattle.ads_plant.specs.Description.{Area, Process, Symbol}
+use Rattle.ads_plant.specs.Description.{Process, Symbol}
 use Rattle.ads_plant.specs.AcceptedTypes.{are_types_behind}
 use Rattle.ads_plant.specs.Accepted.{IsAccepted, is_port, number_bytes}
 use Rattle.ads_plant.proofs.Plant.{axis_type, plain_symbol, count_symbol, title_symbol, symbols_with, port_with, plant}
@@ -44,12 +44,16 @@ unfolding types mix trees_of trees_behind type_size members_end type_align great
 symbols_overlap = refl
 
 -- a name that begins another one
-name_within_name : is_port types 3 (port_with (plain_symbol (codes "Main") (One (Plain BYTE)) Process 0 (0 ∷ []) ∷ plain_symbol (codes "main.a") (One (Plain BYTE)) Process 1 (0 ∷ []) ∷ [])) ≡ false
+name_within_name : is_port types 3
+    (port_with (plain_symbol (codes "Main") (One (Plain BYTE)) Process 0 (0 ∷ []) ∷ plain_symbol (codes "main.a") (One (Plain BYTE)) Process 1
+    (0 ∷ []) ∷ [])) ≡ false
 unfolding trees_of trees_behind type_size type_text digits
 name_within_name = refl
 
 -- a name that has another as its first letters is another name
-name_beside_name : is_port types 3 (port_with (plain_symbol (codes "Main.a") (One (Plain BYTE)) Process 0 (0 ∷ []) ∷ plain_symbol (codes "Main.ab") (One (Plain BYTE)) Process 1 (0 ∷ []) ∷ [])) ≡ true
+name_beside_name : is_port types 3
+    (port_with (plain_symbol (codes "Main.a") (One (Plain BYTE)) Process 0 (0 ∷ []) ∷ plain_symbol (codes "Main.ab") (One (Plain BYTE)) Process 1
+    (0 ∷ []) ∷ [])) ≡ true
 unfolding types mix trees_of trees_behind type_size type_text digits
 name_beside_name = refl
 

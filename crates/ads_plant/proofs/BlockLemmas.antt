@@ -1,10 +1,11 @@
 -- What stands under the names of bytes, once one byte is changed.
-use Rattle.std.proofs.Common.{◌≡◌, ◌≢◌, ◌⊎◌, ℕ, zero, suc, ◌<◌, List, [], ◌∷◌, length, true, false, refl, sym, ◌∙◌, ap, inl, inr, subst, arith}
-use Rattle.std.specs.Prelude.{Bool, None, slice_get, option_map, ◌==◌, ◌&&◌, ◌↔◌, bytes_eq}
-use Rattle.std.proofs.lemmas.Bool.{cases_Bool, cases_eq, and_parts, and_from, eqb-true, eq-eqb, false≢true}
+use Rattle.std.proofs.Common.{◌≡◌, ◌≢◌, ◌⊎◌, ℕ, zero, suc, ◌<◌, List, [], ◌∷◌, length, true, refl, sym, ◌∙◌, ap, inl, inr, subst, arith}
+use Rattle.std.specs.Prelude.{None, slice_get, option_map, ◌==◌, ◌&&◌, bytes_eq}
+use Rattle.std.proofs.lemmas.Bool.{cases_Bool, and_parts, and_from, eqb-true, eq-eqb, false≢true}
 use Rattle.std.proofs.lemmas.Slice.Eq.{bytes_eq-Decides}
 use Rattle.ads_plant.specs.Description.{Area, Inputs, Outputs, Memory, Process}
-use Rattle.ads_plant.specs.World.{Part, SymbolPart, AreaPart, StatePart, ByteName, Block, is_same_area, is_same_part, is_block_of, block_of, byte_at, with_nth_byte, with_byte}
+use Rattle.ads_plant.specs.World.{Part, SymbolPart, AreaPart, StatePart, ByteName, Block, is_same_area, is_same_part, is_block_of, block_of, byte_at}
+use Rattle.ads_plant.specs.World.{with_nth_byte, with_byte}
 use Rattle.ads_plant.specs.Named.{is_same_name}
 use Rattle.ads_plant.specs.BlockLaws.{ChangesAreExact, StandsWithinPart, TellsNamesApart}
 
@@ -97,7 +98,8 @@ nth-length i f [] = refl
 nth-length zero f (x ∷ xs) = refl
 nth-length (suc i) f (x ∷ xs) = ap (λ n. suc n) (nth-length i f xs)
 
-pub with_byte-length : (m : List Block) (n : ByteName) (f : ℕ → ℕ) (port : ℕ) (part : Part) → length (block_of (with_byte m n f) port part) ≡ length (block_of m port part)
+pub with_byte-length : (m : List Block) (n : ByteName) (f : ℕ → ℕ) (port : ℕ) (part : Part)
+    → length (block_of (with_byte m n f) port part) ≡ length (block_of m port part)
 unfolding with_byte
 with_byte-length [] n f port part = refl
 with_byte-length (b ∷ bs) n f port part =

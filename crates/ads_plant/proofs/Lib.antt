@@ -13,3 +13,4 @@ pub mod Plant
 pub mod BlockLemmas
 pub mod CoveringLemmas
 pub mod SoundLemmas
+pub mod FoundLemmas

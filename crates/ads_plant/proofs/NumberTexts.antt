@@ -1,13 +1,13 @@
 -- A number that is written in decimal is read back, and its text has digits and a minus sign alone.
-use Rattle.std.proofs.Common.{◌≡◌, ℕ, zero, suc, ◌+◌, ◌-◌, ◌*◌, ◌/◌, ◌%◌, ◌^◌, ◌<◌, ◌≤◌, Bool, true, false, List, [], ◌∷◌, ◌++◌, length, refl, sym, ◌∙◌, ap, arith, inl, inr}
-use Rattle.std.specs.Prelude.{Option, Some, None, ◌==◌, ◌&&◌, ◌||◌, not, nat_lt, nat_le, ℤ, pos, negsuc}
+use Rattle.std.proofs.Common.{◌≡◌, ℕ, zero, suc, ◌+◌, ◌-◌, ◌*◌, ◌/◌, ◌%◌, ◌^◌, ◌<◌, ◌≤◌, Bool, true, false, List, [], ◌∷◌, ◌++◌, length, refl, ◌∙◌, arith, inl, inr}
+use Rattle.std.specs.Prelude.{Some, ◌==◌, not, ℤ, pos, negsuc}
 use Rattle.std.specs.List.{list_all}
 use Rattle.std.specs.Char.{is_ascii_digit}
 use Rattle.std.specs.Fmt.{decimal, signed_decimal, digits}
 use Rattle.std.proofs.lemmas.Fmt.{decimal_by_steps}
-use Rattle.std.proofs.lemmas.Bool.{cases_Bool, eqb-true, lt-ltb, le-leb, ltb-true, leb-true, ne_eqb}
+use Rattle.std.proofs.lemmas.Bool.{cases_Bool, eqb-true, lt-ltb, le-leb, ltb-true, ne_eqb}
 use Rattle.std.proofs.lemmas.List.Folds.{list_all-append}
-use Rattle.name_paths.specs.Number.{number_from, number_of_digits, is_decimal, is_blank, unsigned_of, negated_of, number_of}
+use Rattle.name_paths.specs.Number.{number_from, is_decimal, unsigned_of, negated_of, number_of}
 use Rattle.ads_plant.specs.AcceptedTypes.{is_index}
 use Rattle.ads_plant.proofs.TypeLemmas.{list_all-follows}
 

@@ -1,6 +1,6 @@
 -- A part lies within its type; the place of an element is below the number of elements.
-use Rattle.std.proofs.Common.{◌≡◌, ◌≢◌, ℕ, suc, ◌+◌, ◌*◌, ◌<◌, ◌≤◌, List, [], ◌∷◌, length, true, refl, sym, ◌∙◌, ap, subst, arith, inl, inr}
-use Rattle.std.specs.Prelude.{Option, Some, None, option_map, option_and_then, nat_lt, bytes_eq, ℤ, pos, negsuc, ◌-ℤ◌, IfSome}
+use Rattle.std.proofs.Common.{◌≡◌, ◌≢◌, ℕ, suc, ◌+◌, ◌*◌, ◌<◌, ◌≤◌, List, [], ◌∷◌, length, refl, sym, ◌∙◌, ap, subst, arith, inl, inr}
+use Rattle.std.specs.Prelude.{Option, Some, None, option_map, option_and_then, nat_lt, bytes_eq, ℤ, pos, negsuc, ◌-ℤ◌}
 use Rattle.std.proofs.lemmas.Bool.{cases_Bool, ltb-true}
 use Rattle.std.proofs.Math.Nat.{mul_assoc}
 use Rattle.std.proofs.lemmas.Nat.{mul-le}
@@ -8,7 +8,7 @@ use Rattle.name_paths.specs.Identifier.{lower}
 use Rattle.name_paths.specs.Path.{Step, name_step, index_step}
 use Rattle.ads_plant.specs.Listed.{Bound}
 use Rattle.ads_plant.specs.Trees.{TypeTree, PlainTree, TextTree, EnumTree, ArrayTree, StructTree, MemberTrees, NoMember, MemberTree}
-use Rattle.ads_plant.specs.Sizes.{element_count, aligned, type_size, members_end, member_start, greatest_align}
+use Rattle.ads_plant.specs.Sizes.{element_count, type_size, members_end, member_start}
 use Rattle.ads_plant.specs.Parts.{TypePart, MemberPart, below, within, element_from, element_of, member_from, member_of, part_of, part_behind, within_part}
 use Rattle.ads_plant.proofs.SizeLemmas.{members_end-le}
 

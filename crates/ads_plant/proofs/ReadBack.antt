@@ -1,24 +1,24 @@
 -- The canonical text of an accepted type is read back.
-use Rattle.std.proofs.Common.{◌≡◌, ℕ, zero, suc, ◌+◌, ◌-◌, ◌^◌, ◌<◌, ◌≤◌, Bool, true, false, List, [], ◌∷◌, ◌++◌, length, get_or, map, take, drop, refl, sym, ◌∙◌, ap, subst, arith, append_assoc, inl, inr, length-append}
-use Rattle.std.specs.Prelude.{Option, Some, None, ◌==◌, ◌&&◌, ◌||◌, not, nat_le, nat_lt, option_map, find, codes, slice_get, slice_index, bytes_eq}
+use Rattle.std.proofs.Common.{◌≡◌, ℕ, zero, suc, ◌+◌, ◌-◌, ◌^◌, ◌<◌, ◌≤◌, Bool, true, false, List, [], ◌∷◌, ◌++◌, length, map, take, refl, sym, ◌∙◌, ap, arith, append_assoc, inl, inr, length-append}
+use Rattle.std.specs.Prelude.{Option, Some, None, ◌==◌, ◌&&◌, ◌||◌, not, nat_le, nat_lt, find, codes, slice_get, slice_index}
 use Rattle.std.specs.Option.{option_map_or}
 use Rattle.std.specs.List.{list_all}
 use Rattle.std.specs.Fmt.{decimal}
 use Rattle.std.specs.Int.{is_in_range}
 use Rattle.std.specs.Char.{to_ascii_lowercase}
-use Rattle.std.proofs.lemmas.Bool.{cases_Bool, and_parts, leb-true, le-leb, ltb-true, ltb-false, lt-ltb, eqb-true}
+use Rattle.std.proofs.lemmas.Bool.{cases_Bool, and_parts, leb-true, le-leb, ltb-true, ltb-false}
 use Rattle.std.proofs.lemmas.List.Folds.{list_all-append}
 use Rattle.std.proofs.lemmas.Slice.Eq.{bytes_eq-Decides}
 use Rattle.name_paths.specs.Identifier.{is_identifier, is_identifier_byte, is_identifier_start, lower}
 use Rattle.ads_plant.specs.Plain.{Kind, BOOL, SINT, USINT, BYTE, INT, UINT, WORD, DINT, UDINT, DWORD, TIME, LINT, ULINT, LWORD, REAL, LREAL, kind_name, all_kinds}
-use Rattle.ads_plant.specs.Listed.{Bound, Elem, Plain, Text, Struct, Enum, Shape, One, Array, NamedType, type_name, is_structure, is_enumeration}
-use Rattle.ads_plant.specs.Trees.{TypeTree, tree_of, trees_of, tree_at, elem_tree}
+use Rattle.ads_plant.specs.Listed.{Bound, Elem, Plain, Text, Struct, Enum, One, Array, NamedType, type_name, is_structure, is_enumeration}
+use Rattle.ads_plant.specs.Trees.{trees_of, tree_at, elem_tree}
 use Rattle.ads_plant.specs.Spelling.{type_text, bound_text, joined_by_comma}
 use Rattle.ads_plant.specs.TypeTexts.{PlainText, StringText, NamedText, TypeText, is_same_word, is_closing, kind_named, string_length_of, named_text_of, other_elem_of, elem_text_of, array_elem_of, array_text_of, type_text_of}
-use Rattle.ads_plant.specs.AcceptedTypes.{AreTypes, is_shape, is_elem, are_bounds, is_type_name, differ, type_words}
-use Rattle.ads_plant.specs.WrittenTypes.{name_at, written_elem, written_type, ends_of_bound, IsReadBack}
+use Rattle.ads_plant.specs.AcceptedTypes.{AreTypes, is_elem, are_bounds, is_type_name, differ}
+use Rattle.ads_plant.specs.WrittenTypes.{name_at, written_elem, ends_of_bound, IsReadBack}
 use Rattle.ads_plant.proofs.NumberTexts.{decimal-digits, is_decimal-decimal}
-use Rattle.ads_plant.proofs.TypeTextLemmas.{free_of, take-front, drop-front, before-stop, joined-free, dimensions_of-bounds}
+use Rattle.ads_plant.proofs.TypeTextLemmas.{take-front, drop-front, before-stop, joined-free, dimensions_of-bounds}
 use Rattle.ads_plant.proofs.TypeLemmas.{stands_at, type_text-named}
 
 -- an element's text is read back, and does not begin as an array's does

@@ -1,8 +1,8 @@
 -- Alignments are not 0, and members stand one behind another.
-use Rattle.std.proofs.Common.{◌≡◌, ℕ, ◌+◌, ◌<◌, ◌≤◌, min, max, List, [], ◌∷◌, refl, arith}
+use Rattle.std.proofs.Common.{ℕ, ◌+◌, ◌<◌, ◌≤◌, arith}
 use Rattle.ads_plant.specs.Plain.{Kind, BOOL, SINT, USINT, BYTE, INT, UINT, WORD, DINT, UDINT, DWORD, TIME, LINT, ULINT, LWORD, REAL, LREAL, kind_size}
 use Rattle.ads_plant.specs.Trees.{TypeTree, PlainTree, TextTree, EnumTree, ArrayTree, StructTree, MemberTrees, NoMember, MemberTree}
-use Rattle.ads_plant.specs.Sizes.{aligned, type_align, greatest_align, type_size, members_end, member_start}
+use Rattle.ads_plant.specs.Sizes.{type_align, greatest_align, type_size, members_end, member_start}
 
 pub kind_size-bounds : (k : Kind) → (0 < kind_size k) × (kind_size k ≤ 8)
 kind_size-bounds BOOL = (omega arith, omega arith)

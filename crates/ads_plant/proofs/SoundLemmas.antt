@@ -1,12 +1,12 @@
 -- An accepted description is sound.
 use Rattle.std.proofs.Common.{◌≡◌, ◌⊎◌, ℕ, zero, suc, subst, ◌<◌, ◌≤◌, List, [], ◌∷◌, map, length, Bool, true, false, refl, sym, ◌∙◌, ap, inl, inr, arith}
-use Rattle.std.specs.Prelude.{◌+◌, nat_lt, nat_le, Some, slice_get, ◌==◌, ◌&&◌, ◌||◌, not, bytes_eq}
+use Rattle.std.specs.Prelude.{◌+◌, nat_lt, nat_le, Some, slice_get, ◌==◌, ◌||◌, not, bytes_eq}
 use Rattle.std.specs.List.{list_all, starts_with, slice_split, onto_first}
 use Rattle.std.specs.Char.{to_ascii_lowercase}
 use Rattle.std.proofs.lemmas.Bool.{cases_Bool, and_parts, eqb-true, eq-eqb, ne_eqb, ltb-false, leb-true, false≢true}
 use Rattle.std.proofs.lemmas.Slice.Eq.{bytes_eq-Decides}
 use Rattle.name_paths.specs.Identifier.{lower}
-use Rattle.name_paths.specs.Name.{is_full_stop, lower_identifiers, is_symbol_name}
+use Rattle.name_paths.specs.Name.{is_full_stop, lower_identifiers}
 use Rattle.ads_plant.specs.Listed.{NamedType}
 use Rattle.ads_plant.specs.Description.{Symbol, Port, Sizes, size_in}
 use Rattle.ads_plant.specs.World.{PlantPort, PlantSymbol, plant_symbol, plant_port, lower_name, is_same_area}
@@ -16,7 +16,7 @@ use Rattle.ads_plant.specs.Covering.{covers}
 use Rattle.ads_plant.specs.Named.{port_numbered, symbol_named, NotNamed, AreNamedApart, NotNumbered, AreNumberedApart}
 use Rattle.ads_plant.specs.Sound.{Each, IsSoundSymbol, HaveNoByteInCommon, AreApart, IsSoundPort, AcceptedAreSound, AcceptedAreNumberedApart}
 use Rattle.ads_plant.proofs.BlockLemmas.{same_bytes, same_area-refl}
-use Rattle.ads_plant.proofs.CoveringLemmas.{StandsAt, stands_at}
+use Rattle.ads_plant.proofs.CoveringLemmas.{stands_at}
 
 -- what holds of each of a list holds of the one at a place
 pub each-get : {X : Type 0} (P : X → Type 0) (xs : List X) (n : ℕ) (x : X) → Each P xs → slice_get xs n ≡ Some x → P x
@@ -67,9 +67,13 @@ names_differ a b e =
     elim (cases_Bool (bytes_eq (lower a.name) (lower b.name))) [
       | inr t ↦ t
       | inl t ↦
-          let same : lower_identifiers a.name ≡ lower_identifiers b.name = lower-split a.name ∙ ap (slice_split is_full_stop) (same_bytes (lower a.name) (lower b.name) t) ∙ sym (lower-split b.name) in
-          let begins : starts_with bytes_eq (lower_identifiers a.name) (lower_identifiers b.name) ≡ true = ap (λ xs. starts_with bytes_eq xs (lower_identifiers b.name)) same ∙ starts_itself (lower_identifiers b.name) in
-          let not_begins = and_parts (not (starts_with bytes_eq (lower_identifiers a.name) (lower_identifiers b.name))) (not (starts_with bytes_eq (lower_identifiers b.name) (lower_identifiers a.name))) e in
+          let same : lower_identifiers a.name ≡ lower_identifiers b.name = lower-split a.name
+          ∙ ap (slice_split is_full_stop) (same_bytes (lower a.name) (lower b.name) t) ∙ sym (lower-split b.name) in
+          let begins : starts_with bytes_eq (lower_identifiers a.name) (lower_identifiers b.name) ≡ true
+          = ap (λ xs. starts_with bytes_eq xs (lower_identifiers b.name)) same ∙ starts_itself (lower_identifiers b.name) in
+          let not_begins
+          = and_parts (not (starts_with bytes_eq (lower_identifiers a.name) (lower_identifiers b.name)))
+          (not (starts_with bytes_eq (lower_identifiers b.name) (lower_identifiers a.name))) e in
           absurd (false≢true (sym (ap not begins) ∙ not_begins.0))
     ]
 
@@ -77,14 +81,16 @@ names_differ a b e =
 abbrev Found : List PlantSymbol → PlantSymbol → Type 0
 Found symbols x = symbol_named (lower_name x) symbols ≡ Some x
 
-behind-found : (types : List NamedType) (h : Symbol) (ys : List PlantSymbol) (ss : List Symbol) → list_all (are_two_names h) ss ≡ true → Each (Found ys) (map (plant_symbol types) ss) → Each (Found (plant_symbol types h ∷ ys)) (map (plant_symbol types) ss)
+behind-found : (types : List NamedType) (h : Symbol) (ys : List PlantSymbol) (ss : List Symbol) → list_all (are_two_names h) ss ≡ true
+    → Each (Found ys) (map (plant_symbol types) ss) → Each (Found (plant_symbol types h ∷ ys)) (map (plant_symbol types) ss)
 behind-found types h ys [] a e = tt
 behind-found types h ys (s ∷ ss) a e =
     let p = and_parts (are_two_names h s) (list_all (are_two_names h) ss) a in
     let t = names_differ h s (p.0) in
     (rw t (e.0), behind-found types h ys ss (p.1) (e.1))
 
-symbols-found : (types : List NamedType) (ss : List Symbol) → all_pairs are_two_names ss ≡ true → Each (Found (map (plant_symbol types) ss)) (map (plant_symbol types) ss)
+symbols-found : (types : List NamedType) (ss : List Symbol) → all_pairs are_two_names ss ≡ true
+    → Each (Found (map (plant_symbol types) ss)) (map (plant_symbol types) ss)
 symbols-found types [] a = tt
 symbols-found types (s ∷ ss) a =
     let p = and_parts (list_all (are_two_names s) ss) (all_pairs are_two_names ss) a in
@@ -92,7 +98,8 @@ symbols-found types (s ∷ ss) a =
     (rw t refl, behind-found types s (map (plant_symbol types) ss) ss (p.0) (symbols-found types ss (p.1)))
 
 -- the names of symbols differ in lower case
-not_named : (types : List NamedType) (h : Symbol) (ss : List Symbol) → list_all (are_two_names h) ss ≡ true → NotNamed (lower h.name) (map (plant_symbol types) ss)
+not_named : (types : List NamedType) (h : Symbol) (ss : List Symbol) → list_all (are_two_names h) ss ≡ true
+    → NotNamed (lower h.name) (map (plant_symbol types) ss)
 not_named types h [] a = tt
 not_named types h (s ∷ ss) a =
     let p = and_parts (are_two_names h s) (list_all (are_two_names h) ss) a in
@@ -121,7 +128,8 @@ none_in_common types s t a area offset e =
     orders true y q = inl refl
     orders false y q = inr q
 
-    apart : is_same_area s.area t.area ≡ true → s.offset ≤ offset → offset < s.offset + size_of_symbol types s → t.offset ≤ offset → offset < t.offset + size_of_symbol types t → ⊥
+    apart : is_same_area s.area t.area ≡ true → s.offset ≤ offset → offset < s.offset + size_of_symbol types s → t.offset ≤ offset
+        → offset < t.offset + size_of_symbol types t → ⊥
     apart same b1 e1 b2 e2 =
         let told : (false || nat_le (s.offset + size_of_symbol types s) t.offset || nat_le (t.offset + size_of_symbol types t) s.offset) ≡ true
         = rw same at a in
@@ -130,7 +138,8 @@ none_in_common types s t a area offset e =
           | inr l ↦ let m = leb-true (t.offset + size_of_symbol types t) s.offset l in omega (arith, m, e2, b1)
         ]
 
-none_with : (types : List NamedType) (h : Symbol) (ss : List Symbol) → list_all (are_apart types h) ss ≡ true → Each (HaveNoByteInCommon (plant_symbol types h)) (map (plant_symbol types) ss)
+none_with : (types : List NamedType) (h : Symbol) (ss : List Symbol) → list_all (are_apart types h) ss ≡ true
+    → Each (HaveNoByteInCommon (plant_symbol types h)) (map (plant_symbol types) ss)
 none_with types h [] a = tt
 none_with types h (s ∷ ss) a =
     let p = and_parts (are_apart types h s) (list_all (are_apart types h) ss) a in
@@ -152,7 +161,8 @@ symbol-sound types sizes signals s e =
     let initial = and_parts (length s.initial == size_of_symbol types s) (begins_with_value types s.shape s.initial) (up_to_initial.1) in
     (place, eqb-true (length s.initial) (size_of_symbol types s) (initial.0))
 
-symbols-sound : (types : List NamedType) (signals : ℕ) (p : PlantPort) (ss : List Symbol) → list_all (is_symbol types p.sizes signals) ss ≡ true → Each (Found p.symbols) (map (plant_symbol types) ss) → Each (IsSoundSymbol p) (map (plant_symbol types) ss)
+symbols-sound : (types : List NamedType) (signals : ℕ) (p : PlantPort) (ss : List Symbol) → list_all (is_symbol types p.sizes signals) ss ≡ true
+    → Each (Found p.symbols) (map (plant_symbol types) ss) → Each (IsSoundSymbol p) (map (plant_symbol types) ss)
 symbols-sound types signals p [] a f = tt
 symbols-sound types signals p (s ∷ ss) a f =
     let q = and_parts (is_symbol types p.sizes signals s) (list_all (is_symbol types p.sizes signals) ss) a in
@@ -166,7 +176,9 @@ PortFound ports x = port_numbered x.number ports ≡ Some x
 abbrev are_two_numbers : ℕ → ℕ → Bool
 are_two_numbers m n = not (m == n)
 
-port_behind : (types : List NamedType) (h : Port) (ys : List PlantPort) (ps : List Port) → list_all (are_two_numbers h.number) (map (λ (p : Port). p.number) ps) ≡ true → Each (PortFound ys) (map (plant_port types) ps) → Each (PortFound (plant_port types h ∷ ys)) (map (plant_port types) ps)
+port_behind : (types : List NamedType) (h : Port) (ys : List PlantPort) (ps : List Port)
+    → list_all (are_two_numbers h.number) (map (λ (p : Port). p.number) ps) ≡ true → Each (PortFound ys) (map (plant_port types) ps)
+    → Each (PortFound (plant_port types h ∷ ys)) (map (plant_port types) ps)
 port_behind types h ys [] a e = tt
 port_behind types h ys (p ∷ ps) a e =
     let q = and_parts (are_two_numbers h.number p.number) (list_all (are_two_numbers h.number) (map (λ (x : Port). x.number) ps)) a in
@@ -177,7 +189,8 @@ port_behind types h ys (p ∷ ps) a e =
     denied false e = refl
     denied true e = absurd (false≢true e)
 
-ports-found : (types : List NamedType) (ps : List Port) → all_pairs are_two_numbers (map (λ (p : Port). p.number) ps) ≡ true → Each (PortFound (map (plant_port types) ps)) (map (plant_port types) ps)
+ports-found : (types : List NamedType) (ps : List Port)
+    → all_pairs are_two_numbers (map (λ (p : Port). p.number) ps) ≡ true → Each (PortFound (map (plant_port types) ps)) (map (plant_port types) ps)
 ports-found types [] a = tt
 ports-found types (p ∷ ps) a =
     let q = and_parts (list_all (are_two_numbers p.number) (map (λ (x : Port). x.number) ps)) (all_pairs are_two_numbers (map (λ (x : Port). x.number) ps)) a in
@@ -198,7 +211,8 @@ port_parts types signals p e =
     let pairs = and_parts (all_pairs are_two_names p.symbols) (all_pairs (are_apart types) p.symbols) (up_to_pairs.1) in
     record { each = symbols.1; names = pairs.0; apart = pairs.1 }
 
-ports-sound : (types : List NamedType) (signals : ℕ) (all : List PlantPort) (ps : List Port) → list_all (is_port types signals) ps ≡ true → Each (PortFound all) (map (plant_port types) ps) → Each (IsSoundPort all) (map (plant_port types) ps)
+ports-sound : (types : List NamedType) (signals : ℕ) (all : List PlantPort) (ps : List Port) → list_all (is_port types signals) ps ≡ true
+    → Each (PortFound all) (map (plant_port types) ps) → Each (IsSoundPort all) (map (plant_port types) ps)
 ports-sound types signals all [] a f = tt
 ports-sound types signals all (p ∷ ps) a f =
     let q = and_parts (is_port types signals p) (list_all (is_port types signals) ps) a in
@@ -215,7 +229,8 @@ ports-sound types signals all (p ∷ ps) a f =
 pub accepted_are_sound : AcceptedAreSound
 accepted_are_sound d signals a = ports-sound d.types signals (map (plant_port d.types) d.ports) d.ports a.each_port (ports-found d.types d.ports a.numbers)
 
-not_numbered : (types : List NamedType) (h : Port) (ps : List Port) → list_all (are_two_numbers h.number) (map (λ (p : Port). p.number) ps) ≡ true → NotNumbered h.number (map (plant_port types) ps)
+not_numbered : (types : List NamedType) (h : Port) (ps : List Port)
+    → list_all (are_two_numbers h.number) (map (λ (p : Port). p.number) ps) ≡ true → NotNumbered h.number (map (plant_port types) ps)
 not_numbered types h [] a = tt
 not_numbered types h (p ∷ ps) a =
     let q = and_parts (are_two_numbers h.number p.number) (list_all (are_two_numbers h.number) (map (λ (x : Port). x.number) ps)) a in
@@ -225,7 +240,8 @@ not_numbered types h (p ∷ ps) a =
     denied false e f = false≢true f
     denied true e f = false≢true e
 
-numbered_apart : (types : List NamedType) (ps : List Port) → all_pairs are_two_numbers (map (λ (p : Port). p.number) ps) ≡ true → AreNumberedApart (map (plant_port types) ps)
+numbered_apart : (types : List NamedType) (ps : List Port)
+    → all_pairs are_two_numbers (map (λ (p : Port). p.number) ps) ≡ true → AreNumberedApart (map (plant_port types) ps)
 numbered_apart types [] a = tt
 numbered_apart types (p ∷ ps) a =
     let q = and_parts (list_all (are_two_numbers p.number) (map (λ (x : Port). x.number) ps)) (all_pairs are_two_numbers (map (λ (x : Port). x.number) ps)) a in
@@ -244,7 +260,8 @@ port_sound (q ∷ qs) all n p e f =
       | inr t ↦ let g : port_numbered n qs ≡ Some p = rw t at f in port_sound qs all n p (e.1) g
     ]
 
-pub symbol_sound : (p : PlantPort) (ss : List PlantSymbol) (name : List ℕ) (s : PlantSymbol) → Each (IsSoundSymbol p) ss → symbol_named name ss ≡ Some s → IsSoundSymbol p s
+pub symbol_sound : (p : PlantPort) (ss : List PlantSymbol) (name : List ℕ) (s : PlantSymbol) → Each (IsSoundSymbol p) ss → symbol_named name ss ≡ Some s
+    → IsSoundSymbol p s
 symbol_sound p [] name s e f = cc
 symbol_sound p (x ∷ xs) name s e f =
     elim (cases_Bool (bytes_eq (lower_name x) name)) [

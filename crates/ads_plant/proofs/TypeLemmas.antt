@@ -1,15 +1,15 @@
 -- What stands at a place of an accepted list of types: its tree in terms of all trees, what its parts name, its size.
-use Rattle.std.proofs.Common.{◌≡◌, ℕ, zero, suc, ◌+◌, ◌<◌, ◌≤◌, min, List, [], ◌∷◌, ◌++◌, length, take, drop, get_or, true, false, refl, sym, ◌∙◌, ap, subst, arith, length-append, inl, inr, Bool, add-suc, add-zero, length-take, append-nil, append_assoc, zero-add}
-use Rattle.std.specs.Prelude.{Option, Some, None, slice_get, unwrap_or, ◌&&◌, nat_le, IsTrue}
+use Rattle.std.proofs.Common.{◌≡◌, ℕ, zero, suc, ◌+◌, ◌<◌, ◌≤◌, List, [], ◌∷◌, ◌++◌, length, take, drop, true, false, refl, sym, ◌∙◌, ap, subst, arith, length-append, Bool, add-zero, append-nil, append_assoc, zero-add}
+use Rattle.std.specs.Prelude.{Option, Some, None, slice_get, nat_le}
 use Rattle.std.specs.Option.{option_map_or}
 use Rattle.std.specs.List.{list_all}
 use Rattle.std.proofs.lemmas.Bool.{and_parts, leb-true}
-use Rattle.std.proofs.lemmas.Option.{slice_get_within, slice_get-get_or}
+use Rattle.std.proofs.lemmas.Option.{slice_get_within}
 use Rattle.ads_plant.specs.Listed.{Elem, Plain, Text, Struct, Enum, Shape, One, Array, Member, NamedType, Structure, Enumeration, type_name, is_structure, is_enumeration}
-use Rattle.ads_plant.specs.Trees.{TypeTree, StructTree, EnumTree, NoMember, MemberTrees, tree_at, elem_tree, shape_tree, member_trees, named_tree, trees_behind, trees_of}
+use Rattle.ads_plant.specs.Trees.{TypeTree, tree_at, elem_tree, shape_tree, member_trees, named_tree, trees_behind, trees_of}
 use Rattle.ads_plant.specs.Sizes.{type_size}
 use Rattle.ads_plant.specs.Spelling.{type_text}
-use Rattle.ads_plant.specs.AcceptedTypes.{AreTypes, are_types_behind, is_next_type, has_parts, is_member, is_shape, is_elem, is_structure_at, is_enumeration_at, are_bounds, is_small_type, is_type_name, is_small_shape, LIMIT, elem_within}
+use Rattle.ads_plant.specs.AcceptedTypes.{AreTypes, are_types_behind, is_next_type, has_parts, is_member, is_shape, is_elem, are_bounds, is_small_type, is_type_name, is_small_shape, LIMIT, elem_within}
 
 -- a longer list has the same at a place
 slice_get-append : {X : Type 0} (xs ys : List X) (p : ℕ) (x : X) → slice_get xs p ≡ Some x → slice_get (xs ++ ys) p ≡ Some x

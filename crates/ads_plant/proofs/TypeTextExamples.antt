@@ -1,5 +1,5 @@
 -- Worked examples of type texts, by computation.
-use Rattle.std.proofs.Common.{◌≡◌, refl, List, [], ◌∷◌, Some, None, pos, negsuc}
+use Rattle.std.proofs.Common.{◌≡◌, refl, [], ◌∷◌, Some, None, pos, negsuc}
 use Rattle.std.specs.Prelude.{codes}
 use Rattle.ads_plant.specs.Plain.{DINT}
 use Rattle.ads_plant.specs.TypeTexts.{type_text_of, PlainText, StringText, NamedText}

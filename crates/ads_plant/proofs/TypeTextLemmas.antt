@@ -1,17 +1,17 @@
 -- A canonical text is read back as the type that it was written for.
-use Rattle.std.proofs.Common.{◌≡◌, ℕ, zero, suc, ◌+◌, ◌-◌, ◌^◌, ◌<◌, ◌≤◌, Bool, true, false, List, [], ◌∷◌, ◌++◌, length, map, take, drop, refl, sym, ◌∙◌, ap, arith, append_assoc, append-nil, inl, inr, length-append}
-use Rattle.std.specs.Prelude.{Option, Some, None, ◌==◌, ◌&&◌, not, nat_le, option_map, option_and_then, flat_map, codes, slice_index, bytes_eq, ℤ, pos, negsuc, int_le, ◌+ℤ◌, ◌-ℤ◌, ◌≤ℤ◌, nat_lt}
+use Rattle.std.proofs.Common.{◌≡◌, ℕ, zero, suc, Bool, true, false, List, [], ◌∷◌, ◌++◌, length, map, take, drop, refl, ◌∙◌, ap, arith, append_assoc, append-nil, inl, inr}
+use Rattle.std.specs.Prelude.{Some, ◌==◌, not, nat_le, ℤ, pos, int_le, ◌+ℤ◌, ◌-ℤ◌, ◌≤ℤ◌, nat_lt}
 use Rattle.std.specs.List.{list_all, before_first, position_or_len, slice_split, onto_first}
 use Rattle.std.specs.Char.{is_ascii_digit}
 use Rattle.std.proofs.lemmas.Int.{ints}
-use Rattle.std.specs.Fmt.{signed_decimal, decimal}
-use Rattle.std.proofs.lemmas.Bool.{cases_Bool, eqb-true, and_parts, le-leb, leb-true}
+use Rattle.std.specs.Fmt.{signed_decimal}
+use Rattle.std.proofs.lemmas.Bool.{cases_Bool, eqb-true, and_parts}
 use Rattle.std.proofs.lemmas.List.Folds.{list_all-append}
 use Rattle.name_paths.specs.Name.{is_full_stop}
 use Rattle.name_paths.specs.Path.{is_comma}
 use Rattle.ads_plant.specs.Listed.{Bound}
 use Rattle.ads_plant.specs.Spelling.{bound_text, high_of, joined_by_comma}
-use Rattle.ads_plant.specs.TypeTexts.{Ends, ElemText, is_closing, ends_of, ends_in_order, high_text_of, all_ends_of, dimensions_of, string_length_of}
+use Rattle.ads_plant.specs.TypeTexts.{is_closing, ends_of, all_ends_of, dimensions_of}
 use Rattle.ads_plant.specs.AcceptedTypes.{is_index, is_bound, are_bounds}
 use Rattle.ads_plant.specs.WrittenTypes.{ends_of_bound}
 use Rattle.ads_plant.proofs.NumberTexts.{IsStop, signed_decimal-free, number_of-signed_decimal}

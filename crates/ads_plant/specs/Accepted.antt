@@ -1,6 +1,7 @@
 -- Which descriptions are accepted for a number of signals: description rules 4 to 15, said over the value. A value
 -- knows no schema, so the limit of a port's image is the greater one.
-use Rattle.std.specs.Prelude.{ℕ, slice_get, ◌+◌, ◌-◌, ◌^◌, ◌≤◌, ◌<◌, List, [], ◌∷◌, length, map, take, Bool, true, false, ◌&&◌, ◌||◌, not, ◌==◌, nat_le, nat_lt, Option, Some, None, IsTrue, bytes_eq, ℤ, pos, negsuc, flat_map}
+use Rattle.std.specs.Prelude.{ℕ, slice_get, ◌+◌, ◌-◌, ◌^◌, ◌≤◌, ◌<◌, List, [], ◌∷◌, length, map, take, Bool, true, false, ◌&&◌, ◌||◌, not, ◌==◌, nat_le}
+use Rattle.std.specs.Prelude.{nat_lt, Option, Some, None, IsTrue, bytes_eq, ℤ, pos, negsuc, flat_map}
 use Rattle.std.specs.List.{list_all, list_any, filter_map, starts_with}
 use Rattle.std.specs.Option.{option_map_or}
 use Rattle.std.specs.Int.{to_le_bytes, w64}

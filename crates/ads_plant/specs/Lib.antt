@@ -19,3 +19,4 @@ pub mod BlockLaws
 pub mod TypeTexts
 pub mod Rights
 pub mod WrittenTypes
+pub mod FoundLaws

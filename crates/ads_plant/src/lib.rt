@@ -3,6 +3,7 @@
 #![tactic(auto)]
 
 ghost use Rattle.ads_plant.specs.BlockLaws.{ChangesAreExact, StandsWithinPart, TellsNamesApart};
+ghost use Rattle.ads_plant.specs.FoundLaws.{FoundLieInSymbols};
 ghost use Rattle.ads_plant.specs.Sound.{AcceptedAreSound, AcceptedAreNumberedApart};
 
 /// Where a byte is changed, it is changed there, stands elsewhere as it did, and leaves each part as long as it was;
@@ -19,4 +20,9 @@ pub fn bytes_stand_under_names()
 pub fn accepted_are_sound()
     ensures sound { AcceptedAreSound }
     ensures numbers { AcceptedAreNumberedApart }
+{}
+
+/// What a name leads to lies within one of the symbols.
+pub fn found_lie_in_symbols()
+    ensures { FoundLieInSymbols }
 {}

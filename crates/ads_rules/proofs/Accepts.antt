@@ -1,6 +1,6 @@
 -- Each description that the verdict gives is an accepted one.
-use Rattle.std.proofs.Common.{◌≡◌, ℕ, zero, suc, ◌+◌, ◌-◌, ◌<◌, ◌≤◌, Bool, true, false, List, [], ◌∷◌, ◌++◌, length, map, refl, sym, ◌∙◌, ap, subst, arith, inl, inr, append_assoc}
-use Rattle.std.specs.Prelude.{Option, Some, None, Result, Ok, Err, is_some, unwrap_or, option_map, ◌&&◌, ◌||◌, ◌==◌, not, nat_le, nat_lt, bytes_eq, flat_map, ℤ, pos, negsuc, if◌then◌else◌}
+use Rattle.std.proofs.Common.{◌≡◌, ℕ, suc, ◌<◌, ◌≤◌, Bool, true, false, List, [], ◌∷◌, ◌++◌, length, map, refl, sym, ◌∙◌, ap, subst, arith, inl, inr}
+use Rattle.std.specs.Prelude.{Option, Some, None, Ok, is_some, option_map, ◌&&◌, ◌==◌, not, nat_le, nat_lt, bytes_eq, flat_map, ℤ, pos, negsuc, if◌then◌else◌}
 use Rattle.std.specs.Option.{option_map_or}
 use Rattle.std.specs.List.{list_all, filter_map}
 use Rattle.std.proofs.lemmas.Bool.{cases_Bool, and_parts, leb-true, ltb-true}
@@ -12,19 +12,19 @@ use Rattle.ads_plant.specs.Description.{Route, Symbol, Port, Description}
 use Rattle.ads_plant.specs.AcceptedTypes.{AreTypes, all_pairs, is_same_number}
 use Rattle.ads_plant.specs.Accepted.{IsAccepted, IMAGE_LIMIT, are_two_nets, is_signal_right, is_port, signals_of}
 use Rattle.ads_rules.specs.Written.{WrittenRoute, WrittenSymbol, WrittenPort, Document}
-use Rattle.ads_rules.specs.Places.{first_wrong, first_through, lesser}
+use Rattle.ads_rules.specs.Places.{first_wrong, first_through}
 use Rattle.ads_rules.specs.Nets.{net_of}
 use Rattle.ads_rules.specs.Shapes.{shape_of_text}
 use Rattle.ads_rules.specs.Described.{symbol_described, port_described, route_described, shape_described, natural_of, types_described, description_of}
 use Rattle.ads_rules.specs.Tables.{is_two, document_in}
 use Rattle.ads_rules.specs.RouteRules.{wrong_net, is_right_route}
 use Rattle.ads_rules.specs.PortRules.{image_limit, is_between, is_port_name, has_right_sizes, is_right_port, wrong_port, has_right_upload, wrong_upload}
-use Rattle.ads_rules.specs.SymbolRules.{wrong_symbol, is_right_name, wrong_name, is_small, wrong_type, is_right_place, wrong_place, is_right_content, wrong_content, is_signal, has_other_signal, is_right_signal, wrong_signal}
-use Rattle.ads_rules.specs.Verdict.{BrokenRule, first_broken, rules_of, judged, document_verdict, verdict_behind, table_verdict}
+use Rattle.ads_rules.specs.SymbolRules.{is_right_name, wrong_name, is_small, wrong_type, is_right_place, wrong_place, is_right_content, wrong_content, is_signal, has_other_signal, is_right_signal, wrong_signal}
+use Rattle.ads_rules.specs.Verdict.{BrokenRule, first_broken, rules_of, judged, verdict_behind, table_verdict}
 use Rattle.ads_rules.proofs.FirstWrong.{both_true, option_map-none, first_right, first_through-none, AreRight, are_right, all_pairs-mapped}
 use Rattle.ads_rules.proofs.TypesAccepted.{lesser-none, when_all, accepted_types}
 use Rattle.ads_rules.proofs.SymbolsAccepted.{two_nets, all_pairs-described, signal_good}
-use Rattle.ads_rules.proofs.PortsAccepted.{AreRightSymbols, facts_good, port_good, two_numbers}
+use Rattle.ads_rules.proofs.PortsAccepted.{facts_good, port_good, two_numbers}
 
 -- routes
 routes_good : (net : List ℕ) (routes : List WrittenRoute) → wrong_net net routes ≡ None → all_pairs are_two_nets (map (λ (r : Route). r.net) (map route_described routes)) ≡ true

@@ -1,5 +1,5 @@
 -- Worked examples of the verdict, by computation.
-use Rattle.std.proofs.Common.{◌≡◌, refl, true, List, [], Some, None, Ok, Err, is_ok, option_map}
+use Rattle.std.proofs.Common.{◌≡◌, refl, true, Some, Err, is_ok, option_map}
 use Rattle.std.specs.Prelude.{codes}
 use Rattle.toml.specs.Parse.{parse_document}
 use Rattle.toml.proofs.OnLiterals.{toml_on_literals}

@@ -1,24 +1,24 @@
 -- Where rules 9 to 15 hold, the ports of a document are accepted.
-use Rattle.std.proofs.Common.{◌≡◌, ℕ, zero, suc, ◌+◌, ◌-◌, ◌<◌, ◌≤◌, Bool, true, false, List, [], ◌∷◌, ◌++◌, length, map, replicate, refl, sym, ◌∙◌, ap, subst, arith, inl, inr, length-append, append_assoc}
-use Rattle.std.specs.Prelude.{Option, Some, None, is_some, unwrap_or, option_map, ◌&&◌, ◌||◌, ◌==◌, not, nat_le, nat_lt, bytes_eq, flat_map, ℤ, pos, negsuc, if◌then◌else◌}
+use Rattle.std.proofs.Common.{◌≡◌, ℕ, zero, suc, ◌-◌, ◌≤◌, Bool, true, false, List, [], ◌∷◌, ◌++◌, length, map, replicate, refl, arith, length-append}
+use Rattle.std.specs.Prelude.{None, is_some, option_map, ◌&&◌, ◌==◌, not, nat_le, nat_lt, ℤ, pos, negsuc}
 use Rattle.std.specs.Option.{option_map_or}
-use Rattle.std.specs.List.{list_all, filter_map}
-use Rattle.std.proofs.lemmas.Bool.{cases_Bool, and_parts, leb-true, le-leb, eqb-true, eq-eqb}
+use Rattle.std.specs.List.{list_all}
+use Rattle.std.proofs.lemmas.Bool.{and_parts, leb-true, le-leb, eq-eqb}
 use Rattle.std.proofs.lemmas.List.{length-map, length-replicate}
 use Rattle.ads_plant.specs.Listed.{NamedType}
 use Rattle.ads_plant.specs.Entries.{upload_size}
-use Rattle.ads_plant.specs.Description.{Sizes, Symbol, Port}
+use Rattle.ads_plant.specs.Description.{Sizes}
 use Rattle.ads_plant.specs.AcceptedTypes.{AreTypes, all_pairs, is_same_number}
 use Rattle.name_paths.specs.Name.{is_symbol_name}
 use Rattle.ads_plant.specs.Accepted.{are_two_names, are_apart, is_symbol, is_signal_right, is_device_name, are_facts, image_size, IMAGE_LIMIT, is_port}
 use Rattle.ads_rules.specs.Written.{WrittenSymbol, WrittenPort}
-use Rattle.ads_rules.specs.Places.{first_wrong, first_through}
+use Rattle.ads_rules.specs.Places.{first_wrong}
 use Rattle.ads_rules.specs.Shapes.{shape_of_text}
 use Rattle.ads_rules.specs.Described.{symbol_described, sizes_described, facts_described, port_described, shape_described, natural_of, area_of}
 use Rattle.ads_rules.specs.PortRules.{is_between, is_natural, is_port_name, has_right_sizes, is_right_port, has_right_upload}
 use Rattle.ads_rules.specs.SymbolRules.{neither_begins, is_right_name, is_small, fits_area, is_right_place, is_right_content}
-use Rattle.ads_rules.proofs.FirstWrong.{both_true, first_right, first_through-none, AreRight, are_right, list_all-mapped, all_pairs-mapped}
-use Rattle.ads_rules.proofs.SymbolsAccepted.{IsRightSymbol, symbol_good}
+use Rattle.ads_rules.proofs.FirstWrong.{both_true, first_right, AreRight, are_right, all_pairs-mapped}
+use Rattle.ads_rules.proofs.SymbolsAccepted.{symbol_good}
 
 -- what the rules on symbols say of the symbols of one port
 pub record AreRightSymbols (types : List NamedType) (signals : ℕ) (p : WrittenPort) : Type 0 where

@@ -1,16 +1,14 @@
 -- A type that is read from a text is one that a description may have.
-use Rattle.std.proofs.Common.{◌≡◌, ℕ, zero, suc, ◌+◌, ◌-◌, ◌^◌, ◌<◌, ◌≤◌, Bool, true, false, List, [], ◌∷◌, length, map, take, drop, refl, sym, ◌∙◌, ap, subst, arith, inl, inr}
-use Rattle.std.specs.Prelude.{Option, Some, None, option_map, option_and_then, ◌&&◌, ◌==◌, nat_le, nat_lt, ℤ, pos, negsuc, int_le, neg_ℤ, nat_abs, bytes_eq, codes, ◌+ℤ◌, ◌-ℤ◌, ◌≤ℤ◌}
+use Rattle.std.proofs.Common.{◌≡◌, ℕ, zero, suc, ◌+◌, ◌≤◌, Bool, true, List, [], ◌∷◌, length, map, take, drop, refl, ap, subst, arith, inl, inr}
+use Rattle.std.specs.Prelude.{Option, Some, None, option_map, option_and_then, ◌&&◌, ◌==◌, nat_le, nat_lt, ℤ, pos, int_le, neg_ℤ, nat_abs, bytes_eq, codes, ◌+ℤ◌, ◌-ℤ◌, ◌≤ℤ◌}
 use Rattle.std.specs.List.{list_all, slice_split, before_first}
-use Rattle.std.proofs.lemmas.Bool.{cases_Bool, and_parts, ltb-true, lt-ltb, leb-true, le-leb}
+use Rattle.std.proofs.lemmas.Bool.{cases_Bool, and_parts, lt-ltb, leb-true}
 use Rattle.std.proofs.lemmas.Int.{ints}
 use Rattle.name_paths.specs.Number.{number_of, unsigned_of, negated_of, number_of_digits, is_decimal}
 use Rattle.name_paths.specs.Name.{is_full_stop}
 use Rattle.name_paths.specs.Path.{is_comma}
-use Rattle.ads_plant.specs.Listed.{Bound}
-use Rattle.ads_plant.specs.Spelling.{high_of}
 use Rattle.ads_plant.specs.TypeTexts.{Ends, ends_in_order, ends_of, high_text_of, all_ends_of, dimensions_of}
-use Rattle.ads_plant.specs.AcceptedTypes.{is_index, is_bound, are_bounds}
+use Rattle.ads_plant.specs.AcceptedTypes.{is_index, is_bound}
 use Rattle.ads_rules.specs.Shapes.{bound_between}
 use Rattle.ads_rules.proofs.FirstWrong.{both_true}
 

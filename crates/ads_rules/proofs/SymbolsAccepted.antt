@@ -1,29 +1,28 @@
 -- Where rules 9 to 15 hold, each port of a document is accepted.
-use Rattle.std.proofs.Common.{◌≡◌, ℕ, zero, suc, ◌+◌, ◌-◌, ◌<◌, ◌≤◌, Bool, true, false, List, [], ◌∷◌, ◌++◌, length, map, replicate, refl, sym, ◌∙◌, ap, subst, arith, inl, inr, length-append}
-use Rattle.std.specs.Prelude.{Option, Some, None, is_some, unwrap_or, option_map, option_and_then, ◌&&◌, ◌||◌, ◌==◌, not, nat_le, nat_lt, bytes_eq, slice_get, ℤ, pos, negsuc, if◌then◌else◌}
+use Rattle.std.proofs.Common.{◌≡◌, ℕ, zero, suc, Bool, true, false, List, [], ◌∷◌, length, map, replicate, refl, sym, ◌∙◌, ap, subst, inl, inr}
+use Rattle.std.specs.Prelude.{Option, Some, None, is_some, unwrap_or, option_map, ◌&&◌, ◌==◌, not, nat_le, nat_lt, bytes_eq, slice_get, ℤ, pos, negsuc}
 use Rattle.std.specs.Option.{option_map_or}
-use Rattle.std.specs.List.{list_all, list_any}
-use Rattle.std.proofs.lemmas.Bool.{cases_Bool, and_parts, leb-true, le-leb, eqb-true, eq-eqb}
+use Rattle.std.specs.List.{list_all}
+use Rattle.std.proofs.lemmas.Bool.{cases_Bool, and_parts, eqb-true, eq-eqb}
 use Rattle.std.proofs.lemmas.List.{length-map}
 use Rattle.std.proofs.lemmas.Slice.Eq.{bytes_eq-Decides}
 use Rattle.ads_base.specs.NetId.{net_text}
 use Rattle.name_paths.specs.Name.{is_symbol_name}
 use Rattle.ads_plant.specs.Plain.{Kind, BOOL, SINT, USINT, BYTE, INT, UINT, WORD, DINT, UDINT, DWORD, TIME, LINT, ULINT, LWORD, REAL, LREAL, kind_size}
 use Rattle.ads_plant.proofs.TypeLemmas.{stands_at}
-use Rattle.ads_plant.specs.Listed.{Elem, Plain, Text, Struct, Enum, Shape, One, Array, NamedType, Structure, Enumeration, is_enumeration}
-use Rattle.ads_plant.specs.Description.{Sizes, size_in, Symbol}
+use Rattle.ads_plant.specs.Listed.{Plain, Text, Struct, Enum, Shape, One, Array, NamedType, Structure, Enumeration, is_enumeration}
+use Rattle.ads_plant.specs.Description.{Sizes}
 use Rattle.ads_plant.specs.Trees.{tree_of}
 use Rattle.ads_plant.specs.Sizes.{type_size}
 use Rattle.ads_plant.specs.AcceptedTypes.{AreTypes, is_enumeration_at, all_pairs, is_comment, is_shape, is_small_shape, LIMIT}
-use Rattle.ads_plant.specs.Accepted.{number_bytes, are_two_nets, size_of_symbol, are_two_names, are_apart, begins_with_value, may_have_signal, is_signal_right, is_symbol}
-use Rattle.ads_rules.specs.Written.{WrittenSymbol, WrittenPort}
+use Rattle.ads_plant.specs.Accepted.{number_bytes, are_two_nets, begins_with_value, may_have_signal, is_signal_right, is_symbol}
+use Rattle.ads_rules.specs.Written.{WrittenSymbol}
 use Rattle.ads_rules.specs.Places.{first_wrong}
 use Rattle.ads_rules.specs.Nets.{net_of, is_net, numbers_in}
 use Rattle.ads_rules.specs.Shapes.{shape_of_text}
-use Rattle.ads_rules.specs.Described.{shape_described, symbol_described, sizes_described, nets_described, initial_described, default_bytes, bytes_of_hex, natural_of}
-use Rattle.ads_rules.specs.PortRules.{is_natural}
-use Rattle.ads_rules.specs.SymbolRules.{is_small, fits_area, is_right_place, are_right_bytes, is_right_initial, is_right_writer, are_right_writers, is_right_content, is_signal, has_other_signal}
-use Rattle.ads_rules.proofs.FirstWrong.{both_true, none_of, AreRight, are_right, list_all-mapped, all_pairs-mapped}
+use Rattle.ads_rules.specs.Described.{shape_described, symbol_described, nets_described, initial_described, default_bytes, bytes_of_hex, natural_of}
+use Rattle.ads_rules.specs.SymbolRules.{is_small, fits_area, are_right_bytes, is_right_initial, is_right_writer, are_right_writers, is_right_content, is_signal, has_other_signal}
+use Rattle.ads_rules.proofs.FirstWrong.{both_true, none_of, are_right}
 use Rattle.ads_rules.proofs.TextsRead.{shape_of_text-good}
 
 -- NetIds of two texts that differ are two

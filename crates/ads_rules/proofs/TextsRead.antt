@@ -1,17 +1,16 @@
 -- The shape that a type text names is one that a description may have.
-use Rattle.std.proofs.Common.{◌≡◌, ℕ, zero, suc, ◌+◌, ◌-◌, ◌<◌, ◌≤◌, Bool, true, false, List, [], ◌∷◌, length, map, take, drop, refl, sym, ◌∙◌, ap, subst, arith, inl, inr}
-use Rattle.std.specs.Prelude.{Option, Some, None, is_some, option_map, option_and_then, if◌then◌else◌, ◌&&◌, ◌==◌, not, nat_le, nat_lt, bytes_eq, codes, slice_get, slice_index, position}
-use Rattle.std.specs.Option.{option_map_or}
+use Rattle.std.proofs.Common.{◌≡◌, ℕ, zero, suc, ◌-◌, ◌<◌, Bool, true, List, [], ◌∷◌, length, map, take, drop, refl, subst, arith, inl, inr}
+use Rattle.std.specs.Prelude.{Option, Some, None, is_some, option_map, option_and_then, if◌then◌else◌, ◌&&◌, ◌==◌, not, nat_le, nat_lt, codes, slice_get, slice_index}
 use Rattle.std.specs.List.{list_all, before_first, position_or_len}
-use Rattle.std.proofs.lemmas.Bool.{cases_Bool, and_parts, leb-true, le-leb, ltb-true, lt-ltb}
+use Rattle.std.proofs.lemmas.Bool.{cases_Bool, and_parts, ltb-true, lt-ltb}
 use Rattle.std.proofs.lemmas.List.{length-map}
 use Rattle.name_paths.specs.Number.{is_decimal, number_of_digits}
-use Rattle.ads_plant.specs.Listed.{Elem, Plain, Text, Struct, Enum, Shape, One, Array, NamedType, Structure, Enumeration, type_name, is_structure, is_enumeration}
+use Rattle.ads_plant.specs.Listed.{Elem, Plain, Text, Shape, NamedType, Structure, Enumeration, type_name}
 use Rattle.ads_plant.specs.TypeTexts.{Ends, ElemText, PlainText, StringText, NamedText, TypeText, type_text_of, array_text_of, array_elem_of, elem_text_of, other_elem_of, string_length_of, named_text_of, kind_named, is_same_word, is_closing, dimensions_of}
 use Rattle.ads_plant.specs.AcceptedTypes.{is_shape, is_elem, is_bound, are_bounds}
 use Rattle.ads_rules.specs.Shapes.{place_named, elem_at, elem_named, shape_with, shape_named, shape_of_text, bound_between}
 use Rattle.ads_rules.proofs.FirstWrong.{both_true}
-use Rattle.ads_rules.proofs.ShapesRead.{good_ends, AreDimensions, dimensions_of-good, bounds_between-good}
+use Rattle.ads_rules.proofs.ShapesRead.{AreDimensions, dimensions_of-good, bounds_between-good}
 
 -- the length of a text type is in range
 abbrev good_elem : ElemText → Bool

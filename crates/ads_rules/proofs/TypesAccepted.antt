@@ -1,13 +1,13 @@
 -- Where rules 6 to 8 hold, the types of a document are accepted.
-use Rattle.std.proofs.Common.{◌≡◌, ℕ, zero, suc, ◌+◌, ◌<◌, ◌≤◌, Bool, true, false, List, [], ◌∷◌, ◌++◌, length, map, refl, sym, ◌∙◌, ap, subst, arith, inl, inr, append_assoc, append-nil, length-append}
-use Rattle.std.specs.Prelude.{Option, Some, None, is_some, unwrap_or, option_map, option_and_then, ◌&&◌, not, nat_le, nat_lt, IsTrue, if◌then◌else◌}
+use Rattle.std.proofs.Common.{◌≡◌, ℕ, suc, ◌≤◌, Bool, true, false, List, [], ◌∷◌, ◌++◌, length, map, refl, sym, ◌∙◌, ap, subst, arith, inl, inr, append_assoc, append-nil}
+use Rattle.std.specs.Prelude.{Option, Some, None, is_some, unwrap_or, option_and_then, ◌&&◌, not, nat_lt, if◌then◌else◌}
 use Rattle.std.specs.Option.{option_map_or}
 use Rattle.std.specs.List.{list_all}
-use Rattle.std.proofs.lemmas.Bool.{cases_Bool, and_parts, leb-true, ltb-false}
+use Rattle.std.proofs.lemmas.Bool.{cases_Bool, and_parts, ltb-false}
 use Rattle.std.proofs.lemmas.List.{length-map}
 use Rattle.ads_plant.specs.Plain.{Kind, SINT, is_base}
 use Rattle.ads_plant.specs.TypeTexts.{kind_named}
-use Rattle.ads_plant.specs.Listed.{Shape, One, Plain, Member, EnumValue, NamedType, Structure, Enumeration, type_name}
+use Rattle.ads_plant.specs.Listed.{Shape, One, Plain, Member, EnumValue, NamedType, Enumeration, type_name}
 use Rattle.ads_plant.specs.Trees.{trees_of, named_tree}
 use Rattle.ads_plant.specs.AcceptedTypes.{AreTypes, are_types_behind, is_next_type, is_type_name, has_parts, is_member, is_short_identifier, is_comment, is_shape, is_small_shape, is_small_type, is_in_range, is_same_number, are_two_values, is_count, differ, all_pairs}
 use Rattle.ads_rules.specs.Written.{WrittenMember, WrittenValue, WrittenType, WrittenStructure, WrittenEnumeration, written_name, written_members}
@@ -16,7 +16,7 @@ use Rattle.ads_rules.specs.Shapes.{shape_of_text}
 use Rattle.ads_rules.specs.Described.{shape_described, member_described, value_described, base_of, type_described, types_behind, types_described}
 use Rattle.ads_rules.specs.TypeRules.{is_right_type_name, wrong_type_name, is_right_value, are_right_values, has_right_parts, is_right_member, wrong_member_of, wrong_part}
 use Rattle.ads_rules.specs.SizeRules.{members_of, is_right_size, wrong_size}
-use Rattle.ads_rules.proofs.FirstWrong.{both_true, none_of, first_right, first_through-none, list_all-both, AreRight, are_right, list_all-mapped, all_pairs-mapped}
+use Rattle.ads_rules.proofs.FirstWrong.{both_true, none_of, first_right, first_through-none, AreRight, are_right, list_all-mapped, all_pairs-mapped}
 use Rattle.ads_rules.proofs.TextsRead.{shape_of_text-good}
 
 -- a type that a text names is described as that

@@ -1,6 +1,6 @@
 -- The description that a document writes. It is looked at only where the rules hold, so what a broken rule leaves open
 -- has some value here.
-use Rattle.std.specs.Prelude.{ℕ, ◌+◌, ◌-◌, List, [], ◌∷◌, ◌++◌, length, map, replicate, slice_get, Bool, Option, Some, None, option_map, option_and_then, unwrap_or, ℤ, pos, negsuc, find, if◌then◌else◌, codes, bytes_eq}
+use Rattle.std.specs.Prelude.{ℕ, ◌-◌, List, [], ◌∷◌, ◌++◌, length, map, replicate, slice_get, Option, Some, None, option_map, option_and_then, unwrap_or, ℤ, pos, negsuc, find, codes, bytes_eq}
 use Rattle.std.specs.Option.{option_map_or}
 use Rattle.std.specs.Result.{result_ok}
 use Rattle.hex.specs.Hex.{decode_of}

@@ -1,5 +1,5 @@
 -- Description rules 9 and 15: ports, and the size of their uploads.
-use Rattle.std.specs.Prelude.{ℕ, ◌+◌, List, [], length, map, Bool, true, false, not, ◌&&◌, nat_lt, nat_le, Option, Some, None, if◌then◌else◌, ℤ, pos, negsuc}
+use Rattle.std.specs.Prelude.{ℕ, List, [], length, map, Bool, true, false, not, ◌&&◌, nat_lt, nat_le, Option, Some, None, if◌then◌else◌, ℤ, pos, negsuc}
 use Rattle.std.specs.List.{list_all}
 use Rattle.ads_plant.specs.Listed.{NamedType}
 use Rattle.ads_plant.specs.Entries.{upload_size}

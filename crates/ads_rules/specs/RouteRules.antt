@@ -1,5 +1,5 @@
 -- Description rules 3 to 5: the schema, NetIds, and the rights of routes.
-use Rattle.std.specs.Prelude.{ℕ, suc, List, [], Bool, not, ◌&&◌, ◌||◌, ◌==◌, Option, Some, None, is_some, option_map, if◌then◌else◌, bytes_eq, ℤ, pos, negsuc}
+use Rattle.std.specs.Prelude.{ℕ, suc, List, [], Bool, not, ◌&&◌, ◌||◌, Option, Some, None, is_some, option_map, if◌then◌else◌, bytes_eq, ℤ, pos}
 use Rattle.std.specs.List.{list_all}
 use Rattle.ads_rules.specs.Written.{WrittenRoute}
 use Rattle.ads_rules.specs.Places.{first_wrong}

@@ -1,5 +1,5 @@
 -- The type that a text names among the types of a list.
-use Rattle.std.specs.Prelude.{ℕ, ◌+◌, List, [], ◌∷◌, map, Option, Some, None, option_map, option_and_then, position, slice_get, nat_abs, ◌-ℤ◌, Bool, false, if◌then◌else◌}
+use Rattle.std.specs.Prelude.{ℕ, ◌+◌, List, [], ◌∷◌, map, Option, Some, option_map, option_and_then, position, slice_get, nat_abs, ◌-ℤ◌, false, if◌then◌else◌}
 use Rattle.std.specs.Option.{option_map_or}
 use Rattle.ads_plant.specs.Listed.{Bound, Elem, Plain, Text, Struct, Enum, Shape, One, Array, NamedType, type_name, is_structure}
 use Rattle.ads_plant.specs.TypeTexts.{Ends, ElemText, PlainText, StringText, NamedText, TypeText, type_text_of, is_same_word}

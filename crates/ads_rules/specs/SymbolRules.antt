@@ -1,5 +1,6 @@
 -- Description rules 10 to 14: symbols, counted through all ports.
-use Rattle.std.specs.Prelude.{ℕ, ◌+◌, List, [], length, Bool, true, false, not, ◌&&◌, ◌==◌, nat_lt, nat_le, Option, Some, None, is_some, is_none, flat_map, bytes_eq, ℤ, pos, negsuc}
+use Rattle.std.specs.Prelude.{ℕ, ◌+◌, List, [], length, Bool, true, false, not, ◌&&◌, ◌==◌, nat_lt, nat_le, Option, Some, None, is_some, is_none, flat_map}
+use Rattle.std.specs.Prelude.{bytes_eq, ℤ, pos, negsuc}
 use Rattle.std.specs.Option.{option_map_or}
 use Rattle.std.specs.List.{list_all}
 use Rattle.name_paths.specs.Name.{is_symbol_name}

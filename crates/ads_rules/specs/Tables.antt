@@ -1,7 +1,7 @@
 -- Which tables a description's document has, and their keys. None where description rule 2 is broken: an unknown or a
 -- missing key, or a value of another kind. The keys of schema 2 are keys exactly where `schema` is the integer 2.
-use Rattle.std.specs.Prelude.{ℕ, List, [], ◌∷◌, Bool, true, false, ◌&&◌, ◌==◌, Option, Some, None, is_some, option_and_then, if◌then◌else◌, codes, ℤ, pos, negsuc}
-use Rattle.toml.specs.Data.{Data, Members, get_member, as_str, as_integer, as_bool}
+use Rattle.std.specs.Prelude.{ℕ, List, [], ◌∷◌, Bool, false, ◌&&◌, ◌==◌, Option, Some, is_some, if◌then◌else◌, codes, ℤ, pos, negsuc}
+use Rattle.toml.specs.Data.{Members, get_member, as_str, as_integer, as_bool}
 use Rattle.ads_rules.specs.Fields.{◌>>=◌, only_keys, required, optional, maybe, array_of, tables_of, if_so}
 use Rattle.ads_rules.specs.Written.{WrittenRoute, WrittenMember, WrittenValue, WrittenType, WrittenStructure, WrittenEnumeration, WrittenSymbol, WrittenPort, Document}
 

@@ -1,6 +1,9 @@
-use Rattle.ads_machine.proofs.PlacesMoved.{same_places_have_same_bytes, places_move_alike}
+use Rattle.ads_machine.proofs.PlacesMoved.{found_places_are_same, same_places_have_same_bytes, places_move_alike}
 use Rattle.ads_machine.proofs.RangesMoved.{ranges_move_alike}
 use Rattle.ads_machine.proofs.areas.numbers_move_as_names.Goals as goal
+
+pub returns-clause-found : goal.returns-clause-found
+returns-clause-found c = found_places_are_same
 
 pub returns-clause-bytes : goal.returns-clause-bytes
 returns-clause-bytes c = same_places_have_same_bytes
