@@ -3,6 +3,7 @@
 
     python3 bench/wrong_bodies.py NAME..     at the top of a clone, for these crates
     python3 bench/wrong_bodies.py            for each crate that has such a folder, which takes hours
+    python3 bench/wrong_bodies.py --look     proves nothing: tells which edits of must-fail/ and of wrong-bodies/ no longer apply
 
 An edit has the form of those in must-fail/: a line `file: src/lib.rt`, and pairs of lines `old: TEXT` and `new: TEXT`. The tree is copied into a scratch
 folder without what rt made; there the edits stand in must-fail/, alone, and `rt must-fail NAME` tries them. Nothing in the tree is changed. It begins with
@@ -76,7 +77,56 @@ def told(name, said):
     return count
 
 
+def pairs_of(edit):
+    """The changes of an edit, in order: the file, the old text and the new one."""
+    with open(edit, encoding="utf-8") as it:
+        lines = it.read().split("\n")
+    file, pairs = "", []
+    for line in lines:
+        if line.startswith("file: "):
+            file = line[len("file: ") :]
+        elif line.startswith("old: "):
+            pairs.append([file, line[len("old: ") :], None])
+        elif line.startswith("new:") and pairs:
+            pairs[-1][2] = line[len("new: ") :]
+    return pairs
+
+
+def why_not(edit, crate):
+    """Why an edit does not apply to the crate as it stands; None if it does."""
+    texts = {}
+    for file, old, new in pairs_of(edit):
+        path = f"crates/{crate}/{file}"
+        if not os.path.isfile(path):
+            return f"there is no {file}"
+        if path not in texts:
+            with open(path, encoding="utf-8") as it:
+                texts[path] = it.read()
+        count = texts[path].count(old)
+        if count != 1 or new is None:
+            return f"its old text stands {count} times in {file}" if new is not None else "it has an old text with no new one"
+        texts[path] = texts[path].replace(old, new)
+    return None if texts else "it changes nothing"
+
+
+def look():
+    """Prints each edit that does not apply, and returns how many they are."""
+    count = lacking = 0
+    for crate in sorted(os.listdir("crates")):
+        for kind in ("must-fail", "wrong-bodies"):
+            folder = f"crates/{crate}/{kind}"
+            for name in sorted(os.listdir(folder)) if os.path.isdir(folder) else ():
+                if name.endswith(".edit"):
+                    why, count = why_not(f"{folder}/{name}", crate), count + 1
+                    lacking += why is not None
+                    print(f"{folder}/{name}: {why}\n" if why else "", end="")
+    print(f"{count} edits, {lacking} no longer apply")
+    return lacking
+
+
 def main():
+    if sys.argv[1:] == ["--look"]:
+        return 1 if look() else 0
     names = sys.argv[1:] or crates_with_edits()
     lacking = [it for it in names if it not in crates_with_edits()]
     if lacking:
