@@ -29,9 +29,9 @@ with_bit-suc k v n =
     let q = n / 2 in
     let b = bit_at q k in
     let within : b * 2 ^ k ≤ q = (
-      let small = mul-le-mul_right (2 ^ k) (mod-le (q / 2 ^ k) 2) in
-      let all = div-mul-le_self q (2 ^ k) in
-      omega (arith, small, all)
+    let small = mul-le-mul_right (2 ^ k) (mod-le (q / 2 ^ k) 2) in
+    let all = div-mul-le_self q (2 ^ k) in
+    omega (arith, small, all)
     ) in
     let e = halves n in
     ap (λ (m : ℕ). (n - m * 2 ^ suc k) + v * 2 ^ suc k) (bit_at-suc n k)
@@ -60,8 +60,7 @@ bit_put-others (suc k) v n (suc i) l ne =
 pub puts_bits : PutsBits
 puts_bits memory n bit value byte e =
     let most = min-le_right value 1 in
-    let below : min value 1 < 2 = omega (arith, most) in
-    (
+    let below : min value 1 < 2 = omega (arith, most) in (
       with_bit bit (min value 1) byte,
       byte_at-same memory n (byte_after (OneBit n bit) value) ∙ ap (option_map (byte_after (OneBit n bit) value)) e,
       record { here = bit_put-here bit (min value 1) byte below; others = λ i ne. bit_put-others bit (min value 1) byte i below ne },

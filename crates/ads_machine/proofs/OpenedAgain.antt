@@ -1,5 +1,5 @@
 -- Once the connections that are gone are forgotten, a number that none bears is a new connection's.
-use Rattle.std.proofs.Common.{◌≡◌, ℕ, List, [], ◌∷◌, ◌++◌, map, Bool, true, false, refl, sym, ◌∙◌, ap, inl, inr}
+use Rattle.std.proofs.Common.{◌≡◌, ℕ, List, [], ◌∷◌, ◌++◌, map, Bool, true, false, cond, refl, sym, ◌∙◌, ap, subst, inl, inr}
 use Rattle.std.specs.Prelude.{Option, Some, None, ◌==◌, not, filter}
 use Rattle.std.proofs.lemmas.Bool.{cases_Bool}
 use Rattle.ads_outside.specs.declared.event.Event.TheVariants as event
@@ -29,7 +29,10 @@ there-stays {C} c (l ∷ ls) k e g =
           let f : Some l ≡ Some k = rw t at e in
           let same : l ≡ k = cc in
           let here : l.gone ≡ false = ap (λ (x : Connection C). x.gone) same ∙ g in
-          rw (here, t) f
+          let rest : List (Connection C) = filter (λ (x : Connection C). not x.gone) ls in
+          let first : connection_of c (l ∷ rest) ≡ Some k = rw t f in
+          let P : Bool → Type 0 = λ b. connection_of c (cond (not b) (l ∷ rest) rest) ≡ Some k in
+          subst P (sym here) first
       | inr t ↦
           let f : connection_of c ls ≡ Some k = rw t at e in
           elim (cases_Bool l.gone) [
