@@ -3,7 +3,7 @@ use Rattle.std.proofs.Common.{◌≡◌, ℕ, List, [], ◌∷◌, length, Bool,
 use Rattle.std.specs.Prelude.{Option, Some, None}
 use Rattle.std.proofs.lemmas.Bool.{cases_Bool, false≢true}
 use Rattle.ads_plant.specs.Description.{Area}
-use Rattle.ads_plant.specs.World.{Block, Part, SymbolPart, AreaPart, StatePart, ByteName, PlantSymbol, PlantPort, Plant, symbol_size, is_block_of, block_of}
+use Rattle.ads_plant.specs.World.{Block, Part, SymbolPart, AreaPart, StatePart, PlantSymbol, PlantPort, Plant, symbol_size, is_block_of, block_of}
 use Rattle.ads_plant.proofs.BlockLemmas.{with_byte-length}
 use Rattle.ads_plant.proofs.SameSizes.{same_type-size}
 use Rattle.ads_machine.specs.World.{port_numbered, first_memory}

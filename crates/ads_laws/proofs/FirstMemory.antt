@@ -11,7 +11,7 @@ use Rattle.ads_machine.specs.World.{port_numbered, covers, name_among, name_at, 
 use Rattle.ads_machine.specs.Writes.{symbol_named}
 pub use Rattle.ads_machine.proofs.FirstMemory.{first-symbol}
 use Rattle.ads_machine.proofs.FirstMemory.{first-states as states_first, first-area as area_first}
-use Rattle.ads_laws.specs.Soundness.{Each, IsSoundSymbol, IsSoundPort, IsSoundPlant}
+use Rattle.ads_laws.specs.Soundness.{Each, IsSoundSymbol, IsSoundPlant}
 
 -- the state words are four bytes
 pub first-states : (n : ℕ) (p : PlantPort) (ps : List PlantPort) → port_numbered n ps ≡ Some p → length (block_of (flat_map first_blocks ps) n StatePart) ≡ 4

@@ -6,7 +6,6 @@ pub mod Worlds
 pub mod Isolated
 pub mod Exact
 pub mod Refused
-pub mod Areas
 pub mod Numbers
 pub mod FirstMemory
 pub mod FineActs

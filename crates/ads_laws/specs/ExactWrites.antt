@@ -1,21 +1,21 @@
 -- Which bytes a move may change, and to what.
-use Rattle.std.specs.Prelude.{◌≡◌, ◌≢◌, ℕ, ◌+◌, ◌<◌, ◌≤◌, List, [], ◌∷◌, ◌++◌, map, length, take}
-use Rattle.std.specs.Prelude.{drop, min}
+use Rattle.std.specs.Prelude.{◌≡◌, ◌≢◌, ℕ, ◌≤◌, List, [], map, length}
+use Rattle.std.specs.Prelude.{min}
 use Rattle.std.specs.Prelude.{Bool, true, false, Some, None, option_map, Result, Ok, Err}
 use Rattle.std.specs.Int.{bit_at}
 use Rattle.ads_outside.specs.declared.event.Event.{Event}
 use Rattle.ads_outside.specs.declared.event.Event.TheVariants as event
 use Rattle.ads_outside.specs.declared.moves.Move.{Move}
 use Rattle.ads_outside.specs.declared.moves.Move.TheVariants as move
-use Rattle.ads_plant.specs.Description.{Area, size_in, Description}
-use Rattle.ads_plant.specs.World.{ByteName, Block, PlantPort, PlantSymbol, lower_name, byte_at}
+use Rattle.ads_plant.specs.Description.{Description}
+use Rattle.ads_plant.specs.World.{ByteName, Block, byte_at}
 use Rattle.ads_machine.specs.Device.{DescriptionFault}
 use Rattle.ads_machine.specs.MachineState.{MachineState}
 use Rattle.ads_machine.specs.Moves.{state_after_move}
 use Rattle.ads_formats.specs.Groups.{value_by_handle}
 use Rattle.ads_formats.specs.Request.{Write}
-use Rattle.ads_machine.specs.World.{World, Setup, name_at, names_at, content_of}
-use Rattle.ads_machine.specs.Access.{WholeByte, OneBit, addressed_name, values_at, Put, byte_after, puts_of}
+use Rattle.ads_machine.specs.World.{World, Setup}
+use Rattle.ads_machine.specs.Access.{WholeByte, OneBit, addressed_name, values_at, Put, byte_after}
 use Rattle.ads_machine.specs.Access.{memory_after_put, memory_after_puts}
 use Rattle.ads_machine.specs.Handles.{Live, kept_status}
 use Rattle.ads_machine.specs.Client.{Place, names_of_place, Client}
@@ -90,42 +90,6 @@ abbrev pub PutsBits : Type 0
 PutsBits = (memory : List Block) (n : ByteName) (bit value byte : ℕ) → byte_at memory n ≡ Some byte
     → (new : ℕ) × (byte_at (memory_after_put memory (record { place = OneBit n bit; value = value })) n ≡ Some new)
     × IsBitPut bit (min value 1) byte new
-
--- A read of a byte group gives these bytes of the area's content.
-abbrev pub ReadsContent : Type 0
-ReadsContent = (p : PlantPort) (area : Area) (offset len : ℕ) (memory : List Block)
-    → offset + len ≤ size_in p.sizes area
-    → values_at memory (map WholeByte (names_at p area offset len))
-    ≡ take len (drop offset (content_of memory p area))
-
--- each byte of an area is there
-abbrev pub IsThere : List Block → PlantPort → Area → Type 0
-IsThere memory p area = (i : ℕ) → i < size_in p.sizes area → byte_at memory (name_at p area i) ≢ None
-
--- no two bytes of an area have one name
-abbrev pub AreInjective : PlantPort → Area → Type 0
-AreInjective p area = (i j : ℕ) → name_at p area i ≡ name_at p area j → i ≡ j
-
--- A write to a byte group puts its bytes there, and leaves all other bytes of the area.
-abbrev pub WritesContent : Type 0
-WritesContent = (p : PlantPort) (area : Area) (offset : ℕ) (bytes : List ℕ) (memory : List Block)
-    → offset + length bytes ≤ size_in p.sizes area → IsThere memory p area → AreInjective p area
-    → content_of (memory_after_puts memory (puts_of (map WholeByte (names_at p area offset (length bytes))) bytes)) p area
-    ≡ take offset (content_of memory p area)
-    ++ (bytes ++ drop (offset + length bytes) (content_of memory p area))
-
--- no symbol of the list has this name in lower case
-abbrev pub NotNamed : List ℕ → List PlantSymbol → Type 0
-NotNamed name [] = Unit {0}
-NotNamed name (s ∷ ss) = (lower_name s ≢ name) × NotNamed name ss
-
-abbrev pub AreNamedApart : List PlantSymbol → Type 0
-AreNamedApart [] = Unit {0}
-AreNamedApart (s ∷ ss) = NotNamed (lower_name s) ss × AreNamedApart ss
-
--- Where symbols' names differ, no two bytes of an area have one name.
-abbrev pub NamesAreInjective : Type 0
-NamesAreInjective = (p : PlantPort) (area : Area) → AreNamedApart p.symbols → AreInjective p area
 
 -- what a write of bytes to the first ones of a place leaves
 pub record WritesPlace (port : ℕ) (place : Place) (bytes : List ℕ) (old new : List Block) : Type 0 where

@@ -2,8 +2,7 @@
 #![tactic(auto)]
 
 ghost use Rattle.ads_laws.specs.Isolation.{IsIsolated, SeesOnlyItself, TakesAsAlone, TakesAllAsAlone};
-ghost use Rattle.ads_laws.specs.ExactWrites.{ChangesOnlyByWrites, PutsAreExact, ReadsContent};
-ghost use Rattle.ads_laws.specs.ExactWrites.{WritesContent, NamesAreInjective, PutsBits, WritesByHandle};
+ghost use Rattle.ads_laws.specs.ExactWrites.{ChangesOnlyByWrites, PutsAreExact, PutsBits, WritesByHandle};
 ghost use Rattle.ads_laws.specs.Refusals.{RefusalChangesNothing, TurnedAwayChangesNothing, ResultChangesNothing};
 ghost use Rattle.ads_laws.specs.Refusals.{RefusedReloadCounts, DeadHandleTouchesNothing};
 ghost use Rattle.ads_laws.specs.Refusals.{NumbersNeverFall};
@@ -27,15 +26,11 @@ pub fn clients_are_isolated()
 
 /// A byte changes between two moves only by an accepted write or control that addresses it, by its
 /// signal's step on a tick, or by an accepted reload; a put leaves its value there and all else as it
-/// was; a bit's put leaves the other bits of its byte; a read or a write of a byte group is one of the area's content; and
-/// a write by handle is one of the first bytes of its place.
+/// was; a bit's put leaves the other bits of its byte; and a write by handle is one of the first bytes of its place.
 pub fn writes_are_exact()
     ensures changes { ChangesOnlyByWrites }
     ensures puts { PutsAreExact }
     ensures bits { PutsBits }
-    ensures reads { ReadsContent }
-    ensures writes { WritesContent }
-    ensures names { NamesAreInjective }
     ensures handles { WritesByHandle }
 {}
 

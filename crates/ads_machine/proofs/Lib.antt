@@ -39,3 +39,4 @@ pub mod PlacesMoved
 pub mod RangesMoved
 pub mod AreaContent
 pub mod WritableBytes
+pub mod WorldBytes

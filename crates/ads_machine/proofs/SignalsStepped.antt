@@ -106,7 +106,7 @@ ports_elsewhere p n value (q ∷ ports) e =
     each-append p (signal_puts_among q.number n value q.symbols) (puts_at_ports n value ports) (signal_elsewhere p q.number n value (e.0) q.symbols)
     (ports_elsewhere p n value ports (e.1))
 
-not_first : (n : ℕ) (ports : List PlantPort) (i : ℕ) (p : PlantPort) → NotNumbered n ports → slice_get ports i ≡ Some p → p.number ≢ n
+pub not_first : (n : ℕ) (ports : List PlantPort) (i : ℕ) (p : PlantPort) → NotNumbered n ports → slice_get ports i ≡ Some p → p.number ≢ n
 not_first n [] i p e g = cc
 not_first n (q ∷ ports) zero p e g = let same : q ≡ p = cc in let P : PlantPort → Type 0 = λ x. x.number ≢ n in subst P same (e.0)
 not_first n (q ∷ ports) (suc i) p e g = not_first n ports i p (e.1) g

@@ -55,3 +55,4 @@ pub mod NumberedPlaces
 pub mod WatchedRanges
 pub mod AreaContent
 pub mod WritableBytes
+pub mod WorldBytes

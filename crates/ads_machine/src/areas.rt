@@ -10,6 +10,7 @@ ghost use Rattle.ads_machine.specs.PortLaws.{ReloadsNewPort};
 ghost use Rattle.ads_machine.specs.NumberedPlaces.{FoundPlacesAreSame, SamePlacesHaveSameBytes};
 ghost use Rattle.ads_machine.specs.NumberedPlaces.{PlacesMoveAlike};
 ghost use Rattle.ads_machine.specs.WatchedRanges.{RangesMoveAlike};
+ghost use Rattle.ads_machine.specs.WorldBytes.{AreasAreAtTheirPorts, WritesOnePort, TicksAllPorts};
 ghost use Rattle.ads_machine.specs.WritableBytes.{WritesBySymbols, WritesInSymbol};
 
 /// The symbol or the gap at an offset of an area gives the name of the byte there; bytes of a symbol in a row are bytes
@@ -71,4 +72,11 @@ pub fn numbers_move_as_names()
     ensures bytes { SamePlacesHaveSameBytes }
     ensures places { PlacesMoveAlike }
     ensures ranges { RangesMoveAlike }
+{}
+
+/// What is written at one port leaves the bytes of all others, and a tick steps all signals at all ports.
+pub fn worlds_hold_all_ports()
+    ensures areas { AreasAreAtTheirPorts }
+    ensures writes { WritesOnePort }
+    ensures ticks { TicksAllPorts }
 {}

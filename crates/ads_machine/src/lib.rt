@@ -13,7 +13,7 @@ ghost use Rattle.ads_machine.specs.SumLaws.{RunsInTurn};
 pub use areas::{
     areas_have_content, bytes_have_names, numbers_move_as_names, reads_are_of_the_image,
     signals_step_in_the_image, symbols_tell_who_writes, worlds_begin_with_images,
-    writes_are_of_the_image,
+    worlds_hold_all_ports, writes_are_of_the_image,
 };
 
 /// Over any machine: the play of a script keeps the turns: each event is followed by the offers to each connection.

@@ -1,5 +1,4 @@
 use Rattle.ads_laws.proofs.Exact.{changes_only_by_writes, puts_are_exact}
-use Rattle.ads_laws.proofs.Areas.{reads_content, writes_content, names_are_injective}
 use Rattle.ads_laws.proofs.BitWrites.{puts_bits}
 use Rattle.ads_laws.proofs.HandleWrites.{writes_by_handle}
 use Rattle.ads_laws.proofs.writes_are_exact.Goals as goal
@@ -15,12 +14,3 @@ returns-clause-bits c = puts_bits
 
 pub returns-clause-handles : goal.returns-clause-handles
 returns-clause-handles c = writes_by_handle
-
-pub returns-clause-reads : goal.returns-clause-reads
-returns-clause-reads c = reads_content
-
-pub returns-clause-writes : goal.returns-clause-writes
-returns-clause-writes c = writes_content
-
-pub returns-clause-names : goal.returns-clause-names
-returns-clause-names c = names_are_injective
