@@ -21,3 +21,11 @@ pub items_in_more : {X : Type 0} (kind : Data → Option X) (vs : List Value) (i
     → all ≡ option_map (λ ys. (xs ++ x ∷ []) ++ ys) (items_in kind (items_view (drop (i + 1) vs)))
 items_in_more kind vs i v x xs all below is gives so_far =
     so_far ∙ ap (option_map (λ ys. xs ++ ys)) (items_in-drop kind vs i v x below is gives) ∙ onto xs x (items_in kind (items_view (drop (i + 1) vs)))
+
+-- nothing is read where the i-th is no x
+pub items_in_none : {X : Type 0} (kind : Data → Option X) (vs : List Value) (i : ℕ) (v : Value) (xs : List X) (all : Option (List X))
+    → i < length vs → v ≡ get_or vs i v → None ≡ kind (view v)
+    → all ≡ option_map (λ ys. xs ++ ys) (items_in kind (items_view (drop i vs))) → None ≡ all
+items_in_none kind vs i v xs all below is none so_far =
+    let left : items_in kind (items_view (drop i vs)) ≡ None = rw (drop-cons vs i v, ← is, ← none) refl in
+    sym (so_far ∙ ap (option_map (λ ys. xs ++ ys)) left)

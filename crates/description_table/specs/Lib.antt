@@ -1,3 +1,3 @@
-pub mod Keys
 pub mod Parts
+pub mod PartViews
 pub mod Views

@@ -5,10 +5,8 @@ ghost use Rattle.ads_rules.specs.Tables.{document_in, is_two};
 ghost use Rattle.description_table.specs.Views.{document_view};
 
 use crate::fields::{required_integer, required_text};
-use crate::keys::{TableKind, only_keys};
-use crate::ports::required_ports;
-use crate::routes::optional_routes;
-use crate::types::optional_types;
+use crate::keys::only_keys;
+use crate::tables::{optional_tables, required_tables};
 use crate::written::Document;
 use ads_base::NoMemory;
 use std::alloc::Global;
@@ -19,7 +17,7 @@ use toml::Table;
 pub fn document_in<'a>(alloc: Global, table: &'a Table) -> Result<Option<Document<'a>>, NoMemory>
     ensures { IfOk result (λ found. option_map document_view found ≡ document_in (table_view table.now)) }
 {
-    if !only_keys(table, TableKind::Document) {
+    if !only_keys(table, &["schema", "net", "route", "type", "port"]) {
         return Ok(None);
     }
     let Some(schema) = required_integer(table, "schema") else {
@@ -29,13 +27,13 @@ pub fn document_in<'a>(alloc: Global, table: &'a Table) -> Result<Option<Documen
         return Ok(None);
     };
     let second = is_second(schema);
-    let Some(routes) = optional_routes(alloc, table)? else {
+    let Some(routes) = optional_tables(alloc, table, "route", second)? else {
         return Ok(None);
     };
-    let Some(types) = optional_types(alloc, table, second)? else {
+    let Some(types) = optional_tables(alloc, table, "type", second)? else {
         return Ok(None);
     };
-    let Some(ports) = required_ports(alloc, table, second)? else {
+    let Some(ports) = required_tables(alloc, table, "port", second)? else {
         return Ok(None);
     };
     Ok(Some(Document {

@@ -1,65 +1,32 @@
 //! The ports of a document.
-ghost use Rattle.std.specs.Prelude.{◌≡◌, [], codes, map, option_map, IfOk};
-ghost use Rattle.toml.specs.View.{view, items_view, table_view};
-ghost use Rattle.ads_rules.specs.Fields.{required, optional, items_in, table_of, tables_of};
+ghost use Rattle.std.specs.Prelude.{◌≡◌, option_map, IfOk};
+ghost use Rattle.toml.specs.View.{table_view};
+ghost use Rattle.ads_rules.specs.Written as rules;
 ghost use Rattle.ads_rules.specs.Tables.{port_in};
-ghost use Rattle.description_table.specs.Parts.{facts_in, sizes_in};
 ghost use Rattle.description_table.specs.Views.{port_view};
 
-use crate::fields::{items_in, optional_integer, required_integer, required_text, value_at};
-use crate::keys::{TableKind, only_keys};
-use crate::symbols::optional_symbols;
+use crate::keys::only_keys;
+use crate::parts::{facts_in, sizes_in};
+use crate::tables::{FromTable, optional_tables};
 use crate::written::WrittenPort;
 use ads_base::NoMemory;
 use std::alloc::Global;
-use toml::{Table, Value};
+use toml::Table;
 
-/// The tables under the key `port`.
-pub fn required_ports<'a>(
-    alloc: Global,
-    table: &'a Table,
-    second: bool,
-) -> Result<Option<Vec<WrittenPort<'a>>>, NoMemory>
-    ensures { IfOk result (λ found. option_map (λ v. map port_view v.items) found
-        ≡ required (tables_of (port_in second)) (codes "port") (table_view table.now)) }
-{
-    let Some(value) = value_at(table, "port") else {
-        return Ok(None);
-    };
-    match items_in(value) {
-        None => Ok(None),
-        Some(items) => ports_in(alloc, items, second),
-    }
-}
+/// The keys of a port's table.
+const PORT_KEYS: [&str; 10] = [
+    "port", "name", "major", "minor", "build", "inputs", "outputs", "memory", "data", "symbol",
+];
 
-fn ports_in<'a>(
-    alloc: Global,
-    items: &'a [Value],
-    second: bool,
-) -> Result<Option<Vec<WrittenPort<'a>>>, NoMemory>
-    ensures { IfOk result (λ found. option_map (λ v. map port_view v.items) found
-        ≡ items_in (table_of (port_in second)) (items_view items.now)) }
-{
-    let mut ports = Vec::new(alloc);
-    for item in items {
-        let Some(port) = port_at(alloc, item, second)? else {
-            return Ok(None);
-        };
-        ports.push(port)?;
-    }
-    Ok(Some(ports))
-}
+impl<'a> FromTable<'a> for WrittenPort<'a> {
+    ghost Written = { rules.WrittenPort };
 
-fn port_at<'a>(
-    alloc: Global,
-    item: &'a Value,
-    second: bool,
-) -> Result<Option<WrittenPort<'a>>, NoMemory>
-    ensures { IfOk result (λ found. option_map port_view found ≡ table_of (port_in second) (view item.now)) }
-{
-    match item.as_table() {
-        None => Ok(None),
-        Some(table) => port_in(alloc, table, second),
+    ghost written_in = { port_in };
+
+    ghost written_view = { port_view };
+
+    fn from_table(alloc: Global, table: &'a Table, second: bool) -> Result<Option<Self>, NoMemory> {
+        port_in(alloc, table, second)
     }
 }
 
@@ -71,50 +38,28 @@ fn port_in<'a>(
 ) -> Result<Option<WrittenPort<'a>>, NoMemory>
     ensures { IfOk result (λ found. option_map port_view found ≡ port_in second (table_view table.now)) }
 {
-    if !only_keys(table, TableKind::Port) {
+    if !only_keys(table, &PORT_KEYS) {
         return Ok(None);
     }
-    let Some((number, name, major, minor, build)) = facts_in(table) else {
+    let Some(facts) = facts_in(table) else {
         return Ok(None);
     };
-    let Some((inputs, outputs, memory, process)) = sizes_in(table) else {
+    let Some(sizes) = sizes_in(table) else {
         return Ok(None);
     };
-    let Some(symbols) = optional_symbols(alloc, table, second)? else {
+    let Some(symbols) = optional_tables(alloc, table, "symbol", second)? else {
         return Ok(None);
     };
     Ok(Some(WrittenPort {
-        number,
-        name,
-        major,
-        minor,
-        build,
-        inputs,
-        outputs,
-        memory,
-        process,
+        number: facts.number,
+        name: facts.name,
+        major: facts.major,
+        minor: facts.minor,
+        build: facts.build,
+        inputs: sizes.inputs,
+        outputs: sizes.outputs,
+        memory: sizes.memory,
+        process: sizes.process,
         symbols,
     }))
-}
-
-fn facts_in(table: &Table) -> Option<(i64, &[u8], i64, i64, i64)>
-    ensures { option_map (λ (number, name, major, minor, build). (number, name.now, major, minor, build)) result
-        ≡ facts_in (table_view table.now) }
-{
-    let number = required_integer(table, "port")?;
-    let name = required_text(table, "name")?;
-    let major = required_integer(table, "major")?;
-    let minor = required_integer(table, "minor")?;
-    let build = required_integer(table, "build")?;
-    Some((number, name, major, minor, build))
-}
-
-fn sizes_in(table: &Table) -> Option<(i64, i64, i64, i64)>
-    ensures { result ≡ sizes_in (table_view table.now) }
-{
-    let inputs = optional_integer(table, "inputs")?;
-    let outputs = optional_integer(table, "outputs")?;
-    let memory = optional_integer(table, "memory")?;
-    let process = optional_integer(table, "data")?;
-    Some((inputs, outputs, memory, process))
 }

@@ -1,65 +1,27 @@
 //! The types of a document.
-ghost use Rattle.std.specs.Prelude.{◌≡◌, [], codes, map, option_map, IfOk};
-ghost use Rattle.toml.specs.View.{view, items_view, table_view};
-ghost use Rattle.ads_rules.specs.Fields.{required, optional, items_in, table_of, tables_of};
+ghost use Rattle.std.specs.Prelude.{◌≡◌, option_map, IfOk};
+ghost use Rattle.toml.specs.View.{table_view};
+ghost use Rattle.ads_rules.specs.Written as rules;
 ghost use Rattle.ads_rules.specs.Tables.{type_in, structure_in, enumeration_in};
 ghost use Rattle.description_table.specs.Views.{type_view, structure_view, enumeration_view};
 
-use crate::fields::{items_in, required_text, value_at};
-use crate::keys::{TableKind, only_keys};
-use crate::members::required_members;
-use crate::values::required_values;
+use crate::fields::{required_text, value_at};
+use crate::keys::only_keys;
+use crate::tables::{FromTable, required_tables};
 use crate::written::{WrittenEnumeration, WrittenStructure, WrittenType};
 use ads_base::NoMemory;
 use std::alloc::Global;
-use toml::{Table, Value};
+use toml::Table;
 
-/// The tables under the key `type`; an absent key gives none.
-pub fn optional_types<'a>(
-    alloc: Global,
-    table: &'a Table,
-    second: bool,
-) -> Result<Option<Vec<WrittenType<'a>>>, NoMemory>
-    ensures { IfOk result (λ found. option_map (λ v. map type_view v.items) found
-        ≡ optional (tables_of (type_in second)) [] (codes "type") (table_view table.now)) }
-{
-    let Some(value) = value_at(table, "type") else {
-        return Ok(Some(Vec::new(alloc)));
-    };
-    match items_in(value) {
-        None => Ok(None),
-        Some(items) => types_in(alloc, items, second),
-    }
-}
+impl<'a> FromTable<'a> for WrittenType<'a> {
+    ghost Written = { rules.WrittenType };
 
-fn types_in<'a>(
-    alloc: Global,
-    items: &'a [Value],
-    second: bool,
-) -> Result<Option<Vec<WrittenType<'a>>>, NoMemory>
-    ensures { IfOk result (λ found. option_map (λ v. map type_view v.items) found
-        ≡ items_in (table_of (type_in second)) (items_view items.now)) }
-{
-    let mut types = Vec::new(alloc);
-    for item in items {
-        let Some(kind) = kind_at(alloc, item, second)? else {
-            return Ok(None);
-        };
-        types.push(kind)?;
-    }
-    Ok(Some(types))
-}
+    ghost written_in = { type_in };
 
-fn kind_at<'a>(
-    alloc: Global,
-    item: &'a Value,
-    second: bool,
-) -> Result<Option<WrittenType<'a>>, NoMemory>
-    ensures { IfOk result (λ found. option_map type_view found ≡ table_of (type_in second) (view item.now)) }
-{
-    match item.as_table() {
-        None => Ok(None),
-        Some(table) => kind_in(alloc, table, second),
+    ghost written_view = { type_view };
+
+    fn from_table(alloc: Global, table: &'a Table, second: bool) -> Result<Option<Self>, NoMemory> {
+        kind_in(alloc, table, second)
     }
 }
 
@@ -109,13 +71,13 @@ fn structure_in<'a>(
 ) -> Result<Option<WrittenStructure<'a>>, NoMemory>
     ensures { IfOk result (λ found. option_map structure_view found ≡ structure_in (table_view table.now)) }
 {
-    if !only_keys(table, TableKind::Structure) {
+    if !only_keys(table, &["name", "member"]) {
         return Ok(None);
     }
     let Some(name) = required_text(table, "name") else {
         return Ok(None);
     };
-    let Some(members) = required_members(alloc, table)? else {
+    let Some(members) = required_tables(alloc, table, "member", false)? else {
         return Ok(None);
     };
     Ok(Some(WrittenStructure { name, members }))
@@ -128,7 +90,7 @@ fn enumeration_in<'a>(
 ) -> Result<Option<WrittenEnumeration<'a>>, NoMemory>
     ensures { IfOk result (λ found. option_map enumeration_view found ≡ enumeration_in (table_view table.now)) }
 {
-    if !only_keys(table, TableKind::Enumeration) {
+    if !only_keys(table, &["name", "base", "value"]) {
         return Ok(None);
     }
     let Some(name) = required_text(table, "name") else {
@@ -137,7 +99,7 @@ fn enumeration_in<'a>(
     let Some(base) = required_text(table, "base") else {
         return Ok(None);
     };
-    let Some(values) = required_values(alloc, table)? else {
+    let Some(values) = required_tables(alloc, table, "value", true)? else {
         return Ok(None);
     };
     Ok(Some(WrittenEnumeration { name, base, values }))

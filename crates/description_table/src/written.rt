@@ -1,14 +1,14 @@
 //! A description as its document writes it. Everything borrows the document.
 
 /// `[[route]]`
-#[derive(Clone, Copy, Debug)]
+#[derive(Clone, Copy)]
 pub struct WrittenRoute<'a> {
     pub net: &'a [u8],
     pub rights: &'a [u8],
 }
 
 /// `[[type.member]]`
-#[derive(Clone, Copy, Debug)]
+#[derive(Clone, Copy)]
 pub struct WrittenMember<'a> {
     pub name: &'a [u8],
     pub kind: &'a [u8],
@@ -16,21 +16,21 @@ pub struct WrittenMember<'a> {
 }
 
 /// `[[type.value]]`
-#[derive(Clone, Copy, Debug)]
+#[derive(Clone, Copy)]
 pub struct WrittenValue<'a> {
     pub name: &'a [u8],
     pub number: i64,
 }
 
 /// A structure under `[[type]]`.
-#[derive(Debug, Drop)]
+#[derive(Drop)]
 pub struct WrittenStructure<'a> {
     pub name: &'a [u8],
     pub members: Vec<WrittenMember<'a>>,
 }
 
 /// An enumeration under `[[type]]`.
-#[derive(Debug, Drop)]
+#[derive(Drop)]
 pub struct WrittenEnumeration<'a> {
     pub name: &'a [u8],
     pub base: &'a [u8],
@@ -38,14 +38,14 @@ pub struct WrittenEnumeration<'a> {
 }
 
 /// `[[type]]`
-#[derive(Debug, Drop)]
+#[derive(Drop)]
 pub enum WrittenType<'a> {
     Structure(WrittenStructure<'a>),
     Enumeration(WrittenEnumeration<'a>),
 }
 
 /// `[[port.symbol]]`
-#[derive(Debug, Drop)]
+#[derive(Drop)]
 pub struct WrittenSymbol<'a> {
     pub name: &'a [u8],
     pub kind: &'a [u8],
@@ -60,7 +60,7 @@ pub struct WrittenSymbol<'a> {
 }
 
 /// `[[port]]`
-#[derive(Debug, Drop)]
+#[derive(Drop)]
 pub struct WrittenPort<'a> {
     pub number: i64,
     pub name: &'a [u8],
@@ -76,7 +76,7 @@ pub struct WrittenPort<'a> {
 }
 
 /// The whole document.
-#[derive(Debug, Drop)]
+#[derive(Drop)]
 pub struct Document<'a> {
     pub schema: i64,
     pub net: &'a [u8],
