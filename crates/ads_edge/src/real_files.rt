@@ -37,9 +37,7 @@ impl<R: SystemFiles + Drop> RealFiles<R> {
 impl<R: SystemFiles + Drop> Files for RealFiles<R> {
     ghost use Rattle.std.specs.Prelude.{None};
 
-    ghost contents = { λ _. None };
-
-    ghost fault_count = { λ f. f.faults };
+    ghost state = { λ f. record { held = None; names = None; faults = f.faults } };
 
     fn faults(&self) -> u64 {
         self.faults

@@ -22,9 +22,7 @@ impl<'a, R: Print> RealSink<'a, R> {
 impl<R: Print> Sink for RealSink<'_, R> {
     ghost use Rattle.std.specs.Prelude.{None};
 
-    ghost contents = { λ _. None };
-
-    ghost fault_count = { λ s. s.faults };
+    ghost state = { λ s. record { held = None; faults = s.faults; wants = 0 } };
 
     fn faults(&self) -> u64 {
         self.faults

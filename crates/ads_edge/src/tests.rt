@@ -15,7 +15,8 @@ fn a_file_is_read_and_a_missing_one_is_a_fault(rt: HostRuntime) -> Result<(), Fa
         got => assert!(rt; false, "{got:?}"),
     }
     assert_eq!(rt; files.faults(), 0);
-    assert!(rt; matches!(&files.read("no such file"), Got::Failed));
+    fs::remove_file(&rt, "ads_edge.tmp")?;
+    assert!(rt; matches!(&files.read("ads_edge.tmp"), Got::Failed));
     assert_eq!(rt; files.faults(), 1);
     Ok(())
 }

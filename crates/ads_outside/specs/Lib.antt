@@ -6,3 +6,5 @@ pub mod Puts
 pub mod FailingCalls
 pub mod MemFiles
 pub mod MemSink
+pub mod FilesState
+pub mod SinkState

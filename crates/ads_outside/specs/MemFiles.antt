@@ -7,9 +7,10 @@ use Rattle.ads_outside.specs.Limit.{file_limit}
 use Rattle.ads_outside.specs.Named.{bytes_of}
 use Rattle.ads_outside.specs.FailingCalls.{FailingCalls, fails_next, called, faulted}
 
--- the files, and the calls that are to fail
+-- the files, the names that were read, and the calls that are to fail
 pub record HeldFiles : Type 0 where
   pub files : List NamedFile
+  pub names : List (List ℕ)
   pub failing : FailingCalls
 
 -- what is answered of a file: a missing one is a fault

@@ -1,9 +1,8 @@
-//! What no clause says: that calls succeed with ample memory, and at which byte a file is too long.
+//! What no clause says: that calls succeed with ample memory.
 
 use crate::{Event, Files, Got, MemFiles, MemSink, NamedFile, NamedFiles, Put, Sink};
 use ads_base::{Calls, Octets};
 use std::alloc::Global;
-use std::process::Abort;
 use std::test::Fail;
 
 fn octets(alloc: Global, bytes: &[u8]) -> Result<Octets, Fail> {
@@ -12,15 +11,6 @@ fn octets(alloc: Global, bytes: &[u8]) -> Result<Octets, Fail> {
 
 fn calls(alloc: Global, numbers: &[u64]) -> Result<Calls, Fail> {
     Ok(Calls::from_vec(Vec::from_slice(alloc, numbers)?))
-}
-
-// A file of so many zeros.
-fn zeros(alloc: Global, len: usize) -> Result<Octets, Fail> {
-    let mut bytes = Octets::new(alloc);
-    for _ in 0..len {
-        bytes.push(alloc, 0)?;
-    }
-    Ok(bytes)
 }
 
 fn one_file(alloc: Global, name: &[u8], bytes: Octets) -> Result<NamedFiles, Fail> {
@@ -34,13 +24,6 @@ fn is_bytes(got: &Got, expected: &[u8]) -> bool {
     match got {
         Got::Bytes(bytes) => bytes.as_slice() == expected,
         _ => false,
-    }
-}
-
-fn length_read(got: &Got) -> Option<usize> {
-    match got {
-        Got::Bytes(bytes) => Some(bytes.len()),
-        _ => None,
     }
 }
 
@@ -89,31 +72,14 @@ fn files_are_read_by_their_names(rt: HostRuntime) -> Result<(), Fail> {
         "reading leaves the file"
     );
     assert_eq!(rt; files.faults(), 2);
-    Ok(())
-}
-
-fn read_of_length(rt: &impl Abort, alloc: Global, len: usize) -> Result<Got, Fail> {
-    let files = one_file(alloc, b"f", zeros(alloc, len)?)?;
-    let mut files = MemFiles::new(alloc, files, Calls::new(alloc));
-    let got = files.read("f");
-    assert_eq!(rt; files.faults(), 0);
-    Ok(got)
-}
-
-#[test]
-fn a_file_is_too_long_above_the_limit(rt: HostRuntime) -> Result<(), Fail> {
-    let alloc = rt.alloc();
-    let longest = read_of_length(&rt, alloc, 16_777_216)?;
-    assert_eq!(rt; length_read(&longest), Some(16_777_216));
-    let longer = read_of_length(&rt, alloc, 16_777_217)?;
-    assert!(rt; matches!(longer, Got::TooLong));
+    assert_eq!(rt; files.names().len(), 4, "each reading is noted");
     Ok(())
 }
 
 #[test]
 fn a_sink_holds_what_was_put(rt: HostRuntime) -> Result<(), Fail> {
     let alloc = rt.alloc();
-    let mut sink = MemSink::new(alloc, calls(alloc, &[2])?);
+    let mut sink = MemSink::with_parts(alloc, calls(alloc, &[2, 4])?, calls(alloc, &[0, 3])?);
     assert_eq!(rt; sink.put(b"one "), Put::All);
     assert_eq!(rt;
         sink.put(b"two "),
@@ -123,6 +89,12 @@ fn a_sink_holds_what_was_put(rt: HostRuntime) -> Result<(), Fail> {
     assert_eq!(rt; sink.faults(), 1);
     assert_eq!(rt; sink.put(b"three"), Put::All);
     assert_eq!(rt; sink.bytes(), b"one three".as_slice());
-    assert_eq!(rt; sink.faults(), 1);
+    assert_eq!(rt; sink.put(b"four"), Put::Failed, "so is the fourth");
+    assert_eq!(rt;
+        sink.bytes(),
+        b"one threefou".as_slice(),
+        "which leaves three bytes"
+    );
+    assert_eq!(rt; sink.faults(), 2);
     Ok(())
 }

@@ -1,39 +1,34 @@
--- What a sink holds after a piece, and after two.
-use Rattle.std.proofs.Common.{◌≡◌, ℕ, List, ◌++◌, length, Option, Some, None, inl, subst, ap, sym, ◌∙◌, refl}
-use Rattle.std.proofs.Math.Seq.{take-length}
-use Rattle.ads_outside.specs.declared.put.Put.{Put}
-use Rattle.ads_outside.specs.declared.put.Put.TheVariants as put
-use Rattle.ads_outside.specs.Puts.{Appends, AppendsPart, Puts}
+-- What is printed of an outcome, and how a run that printed it ends.
+use Rattle.std.proofs.Common.{◌≡◌, ℕ, List, Option, Some, None, inl, inr, subst}
 use Rattle.ads_outside.specs.declared.named_file.NamedFile.{NamedFile}
+use Rattle.ads_outside.specs.SinkState.{SinkState}
+use Rattle.ads_run.specs.declared.outcome.Outcome.{Outcome}
 use Rattle.ads_run.specs.declared.status.Status.{Status}
 use Rattle.ads_run.specs.declared.status.Status.TheVariants as status
-use Rattle.ads_run.specs.LastLine.{last_line_of}
-use Rattle.ads_run.specs.Verdict.{Verdict, verdict_of}
-use Rattle.ads_run.specs.Ends.{AppendsTwoParts, Prints, IsTold}
+use Rattle.ads_run.specs.Verdict.{Verdict, ended, verdict_of}
+use Rattle.ads_run.specs.Outcomes.{verdict_in, IsOutcome, Decides}
+use Rattle.ads_run.specs.Ends.{PrintsVerdict, EndsBy, OverFiles}
 
--- all of a piece is a part of it
-pub AppendsPart-all : (old new : Option (List ℕ)) (piece : List ℕ) → Appends old new piece → AppendsPart old new piece
-AppendsPart-all None new piece all = tt
-AppendsPart-all (Some old) new piece all = (length piece, all ∙ ap (λ t. Some (old ++ t)) (sym (take-length piece)))
+-- what is printed of an outcome is printed of its verdict
+prints : (verdict : Verdict) (o : Outcome) (s : Status) (old new : SinkState) → IsOutcome verdict o → PrintsVerdict (verdict_in o) s old new → PrintsVerdict verdict s old new
+prints verdict o s old new is printed = let P : Verdict → Type 0 = λ v. PrintsVerdict v s old new in subst P is printed
 
--- whatever a sink answers, some first bytes of the piece stand there
-pub AppendsPart-puts : (answer : Put) (old new : Option (List ℕ)) (piece : List ℕ) → Puts answer old new piece → AppendsPart old new piece
-AppendsPart-puts put.All old new piece puts = AppendsPart-all old new piece puts
-AppendsPart-puts put.Failed old new piece puts = puts
-AppendsPart-puts put.Memory old new piece puts = puts
+ends : (verdict : Verdict) (failed : Type 0) (o : Outcome) (s : Status) (old new : SinkState) → PrintsVerdict (verdict_in o) s old new → Decides verdict failed o → EndsBy verdict failed s old new
+ends verdict failed o s old new printed (inl is) = inl (prints verdict o s old new is printed)
+ends verdict failed o s old new printed (inr fault) = inr (fault.0, prints (ended status.ReadFault) o s old new fault.1 printed)
 
--- nothing of a text, and a part of the line on want of memory
-AppendsTwoParts-line : (old new : Option (List ℕ)) (text : List ℕ) → AppendsPart old new (last_line_of status.Memory) → AppendsTwoParts old new text
-AppendsTwoParts-line None new text part = tt
-AppendsTwoParts-line (Some old) new text part = (0, part.0, part.1)
+-- a run that printed what was decided ends by the verdict
+pub ends_as_decided : (files : Option (List NamedFile)) (verdict_for : List NamedFile → Verdict) (failed : Type 0) (o : Outcome) (s : Status) (old new : SinkState) → PrintsVerdict (verdict_in o) s old new
+    → OverFiles files (λ held. Decides (verdict_for held) failed o) → OverFiles files (λ held. EndsBy (verdict_for held) failed s old new)
+ends_as_decided None verdict_for failed o s old new printed decided = (decided.0, ends (verdict_for decided.0) failed o s old new printed decided.1)
+ends_as_decided (Some held) verdict_for failed o s old new printed decided = ends (verdict_for held) failed o s old new printed decided
 
-Prints-line : (verdict : Verdict) (s : Status) (old new : Option (List ℕ)) → s ≡ status.Memory → AppendsPart old new (last_line_of status.Memory) → Prints verdict s old new
-Prints-line verdict s old new e part =
-    let P : Status → Type 0 = λ t. Prints verdict t old new in
-    subst P (sym e) (verdict.text, inl refl, AppendsTwoParts-line old new verdict.text part)
+-- what is printed of an outcome's bytes is printed of the outcome
+pub prints_outcome : (o : Outcome) (text : List ℕ) (s : Status) (old new : SinkState) → text ≡ o.text → PrintsVerdict (record { status = o.status; text = text }) s old new → PrintsVerdict (verdict_in o) s old new
+prints_outcome o text s old new is printed = let P : List ℕ → Type 0 = λ t. PrintsVerdict (record { status = o.status; text = t }) s old new in subst P is printed
 
--- a run that ended for want of memory before anything was printed
-pub Prints-memory : (signals : ℕ) (files : Option (List NamedFile)) (words : List (List ℕ)) (s : Status) (old new : Option (List ℕ)) → s ≡ status.Memory → AppendsPart old new (last_line_of status.Memory)
-    → IsTold files (λ held. Prints (verdict_of signals words held) s old new)
-Prints-memory signals None words s old new e part = tt
-Prints-memory signals (Some held) words s old new e part = Prints-line (verdict_of signals words held) s old new e part
+-- the same end for as many signals
+pub same_count : (files : Option (List NamedFile)) (n m : ℕ) (words : List (List ℕ)) (failed : Type 0) (s : Status) (old new : SinkState) → n ≡ m
+    → OverFiles files (λ held. EndsBy (verdict_of n words held) failed s old new) → OverFiles files (λ held. EndsBy (verdict_of m words held) failed s old new)
+same_count files n m words failed s old new e ends_so =
+    let P : ℕ → Type 0 = λ k. OverFiles files (λ held. EndsBy (verdict_of k words held) failed s old new) in subst P e ends_so

@@ -1,4 +1,5 @@
 pub mod EndLemmas
+pub mod DecidedLemmas
 pub mod FramesLemmas
 pub mod WholePlayLemmas
 pub mod FreshLemmas

@@ -1,5 +1,4 @@
-pub mod StatusNumber
-pub mod LastLine
+pub mod StatusTable
 pub mod Selftest
 pub mod Tasks
 pub mod ProgramWaves
@@ -9,7 +8,6 @@ pub mod Verdict
 pub mod Ends
 pub mod FramesInOrder
 pub mod Outcomes
-pub mod Endings
 pub mod WholePlay
 pub mod Fresh
 pub mod Playing

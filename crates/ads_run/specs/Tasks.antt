@@ -1,5 +1,5 @@
 -- What the words ask for: a job and the file that it is done with.
-use Rattle.std.specs.Prelude.{ℕ, List, Option, Some, None}
+use Rattle.std.specs.Prelude.{ℕ, List, [], ◌∷◌, Option, Some, None}
 use Rattle.cli_words.specs.declared.command.Command.{Command}
 use Rattle.cli_words.specs.declared.command.Command.TheVariants as command
 use Rattle.cli_words.specs.Commands.{command_of}
@@ -16,3 +16,11 @@ task_of_command (Some c) = None
 -- the task that the words ask for, if they are a command that is built
 abbrev pub asked_task : List (List ℕ) → Option Task
 asked_task words = task_of_command (command_of words)
+
+-- the names of its files, in the order in which they are read
+abbrev pub files_of_task : Option Task → List (List ℕ)
+files_of_task None = []
+files_of_task (Some task) = task.file ∷ []
+
+abbrev pub asked_files : List (List ℕ) → List (List ℕ)
+asked_files words = files_of_task (asked_task words)

@@ -12,7 +12,7 @@ use Rattle.ads_run.specs.declared.status.Status.TheVariants as status
 use Rattle.ads_run.specs.declared.task.Job.{Job}
 use Rattle.ads_run.specs.declared.task.Job.TheVariants as job
 use Rattle.ads_run.specs.declared.task.Task.{Task}
-use Rattle.ads_run.specs.LastLine.{last_line_of}
+use Rattle.ads_run.specs.StatusTable.{last_line_of}
 use Rattle.ads_run.specs.Report.{report_of}
 use Rattle.ads_run.specs.Selftest.{selftest_text}
 use Rattle.ads_run.specs.Tasks.{asked_task}

@@ -2,7 +2,7 @@
 
 ghost use Rattle.std.specs.Prelude.{◌≡◌, ◌++◌, ◌∷◌, [], codes, IfOk};
 ghost use Rattle.ads_machine.specs.SummaryText.{counted};
-ghost use Rattle.ads_run.specs.LastLine.{last_line_of, description_line};
+ghost use Rattle.ads_run.specs.StatusTable.{last_line_of, description_line};
 
 use crate::status::Status;
 use ads_base::{NoMemory, Octets};

@@ -12,8 +12,6 @@ mod report;
 mod selftest;
 mod status;
 mod task;
-#[cfg(test)]
-mod tests;
 mod top_call;
 
 pub use crate::program::status_of;

@@ -1,13 +1,12 @@
 //! What the words and the files lead to.
 
-ghost use Rattle.std.specs.Prelude.{◌≡◌, ◌≢◌, ◌≤◌, map, length, string_bytes, IfOk, None, Some};
+ghost use Rattle.std.specs.Prelude.{◌≡◌, ◌≢◌, ◌≤◌, ◌∷◌, [], map, length, string_bytes, IfOk, MatchResult, None, Some};
+ghost use Rattle.ads_outside.specs.FilesState.{ReadsAll, ReadsSome};
 ghost use Rattle.ads_outside.specs.Rose.{Rose};
-ghost use Rattle.ads_run.specs.LastLine.{last_line_of};
-ghost use Rattle.ads_run.specs.Tasks.{asked_task};
+ghost use Rattle.ads_run.specs.Tasks.{asked_task, asked_files};
 ghost use Rattle.ads_run.specs.Verdict.{verdict_of, verdict_of_task, verdict_of_bytes, ended as verdict_ended};
-ghost use Rattle.ads_run.specs.Ends.{IsTold};
-ghost use Rattle.ads_run.specs.Outcomes.{HasLine, Decides, IsOutcome};
-ghost use Rattle.ads_run.specs.Endings.{IsPlain};
+ghost use Rattle.ads_run.specs.Ends.{OverFiles};
+ghost use Rattle.ads_run.specs.Outcomes.{Decides, IsOutcome};
 
 use crate::check::check;
 use crate::last_line::last_line;
@@ -34,17 +33,19 @@ pub fn outcome_of<F: Files>(
     files: &mut F,
 ) -> Result<Outcome, NoMemory>
     ensures usage { IfOk result (λ o. o.status ≡ Status.Usage → asked_task (map string_bytes words.now) ≡ None) }
-    ensures asked { IfOk result (λ o. asked_task (map string_bytes words.now) ≡ None → o.status ≡ Status.Usage) }
-    ensures line { IfOk result HasLine }
-    ensures plain { IfOk result (λ o. IsPlain o.status) }
-    ensures told { IfOk result (λ o. IsTold (F.contents files.old)
+    ensures asked { IfOk result (λ o. asked_task (map string_bytes words.now) ≡ None
+        → IsOutcome (verdict_ended Status.Usage) o) }
+    ensures plain { IfOk result (λ o. o.status ≢ Status.WriteFault) }
+    ensures decided { IfOk result (λ o. OverFiles (F.state files.old).held
         (λ held. Decides (verdict_of signals (map string_bytes words.now) held)
-        (Rose (F.fault_count files.old) (F.fault_count files.new)) o)) }
+        (Rose (F.state files.old).faults (F.state files.new).faults) o)) }
     ensures fault { IfOk result (λ o. o.status ≡ Status.ReadFault
-        → Rose (F.fault_count files.old) (F.fault_count files.new)) }
-    ensures later { F.fault_count files.old ≤ F.fault_count files.new }
+        → Rose (F.state files.old).faults (F.state files.new).faults) }
     ensures unread { asked_task (map string_bytes words.now) ≡ None → files.new ≡ files.old }
-    ensures files { F.contents files.new ≡ F.contents files.old }
+    ensures reads { MatchResult result
+        (λ o. ReadsAll (F.state files.old).names (F.state files.new).names (asked_files (map string_bytes words.now)))
+        (λ e. ReadsSome (F.state files.old).names (F.state files.new).names (asked_files (map string_bytes words.now))) }
+    ensures held { (F.state files.new).held ≡ (F.state files.old).held }
 {
     match task_asked(alloc, words)? {
         Some(task) => outcome_of_task(alloc, &task, signals, files),
@@ -60,19 +61,26 @@ fn outcome_of_task<F: Files>(
     files: &mut F,
 ) -> Result<Outcome, NoMemory>
     ensures no_usage { IfOk result (λ o. o.status ≢ Status.Usage) }
-    ensures line { IfOk result HasLine }
-    ensures plain { IfOk result (λ o. IsPlain o.status) }
-    ensures told { IfOk result (λ o. IsTold (F.contents files.old)
+    ensures plain { IfOk result (λ o. o.status ≢ Status.WriteFault) }
+    ensures decided { IfOk result (λ o. OverFiles (F.state files.old).held
         (λ held. Decides (verdict_of_task signals (Some task.now) held)
-        (Rose (F.fault_count files.old) (F.fault_count files.new)) o)) }
+        (Rose (F.state files.old).faults (F.state files.new).faults) o)) }
     ensures fault { IfOk result (λ o. o.status ≡ Status.ReadFault
-        → Rose (F.fault_count files.old) (F.fault_count files.new)) }
-    ensures later { F.fault_count files.old ≤ F.fault_count files.new }
-    ensures files { F.contents files.new ≡ F.contents files.old }
+        → Rose (F.state files.old).faults (F.state files.new).faults) }
+    ensures reads { MatchResult result
+        (λ o. ReadsAll (F.state files.old).names (F.state files.new).names (task.now.file ∷ []))
+        (λ e. ReadsSome (F.state files.old).names (F.state files.new).names (task.now.file ∷ [])) }
+    ensures held { (F.state files.new).held ≡ (F.state files.old).held }
 {
     match files.read(task.file.as_str()) {
-        Got::Bytes(bytes) => outcome_of_bytes(alloc, task.job, signals, bytes.as_slice()),
-        Got::TooLong => ended(alloc, Status::TooLong),
+        Got::Bytes(bytes) => {
+            let outcome = outcome_of_bytes(alloc, task.job, signals, bytes.as_slice())?;
+            Ok(outcome)
+        }
+        Got::TooLong => {
+            let told = ended(alloc, Status::TooLong)?;
+            Ok(told)
+        }
         Got::Failed => ended(alloc, Status::ReadFault),
         Got::Memory => Err(NoMemory),
     }
@@ -87,9 +95,7 @@ fn outcome_of_bytes(
 ) -> Result<Outcome, NoMemory>
     requires { length bytes.now ≤ 16777216 }
     ensures decided { IfOk result (IsOutcome (verdict_of_bytes signals job bytes.now)) }
-    ensures ends { IfOk result (λ o. (o.status ≢ Status.Usage) × (o.status ≢ Status.ReadFault)) }
-    ensures line { IfOk result HasLine }
-    ensures plain { IfOk result (λ o. IsPlain o.status) }
+    ensures ends { IfOk result (λ o. (o.status ≢ Status.Usage) × (o.status ≢ Status.ReadFault) × (o.status ≢ Status.WriteFault)) }
 {
     match job {
         Job::Selftest => selftest(alloc, bytes),

@@ -1,9 +1,9 @@
 //! The program's run: its words, the files of the disk, standard output, and the signals that it has.
 
-ghost use Rattle.std.specs.Prelude.{◌≡◌, ◌≢◌, drop, map, string_bytes, IfOk};
+ghost use Rattle.std.specs.Prelude.{◌≡◌, ◌≢◌, drop, map, string_bytes, IfOk, OnErr};
 ghost use Rattle.ads_outside.specs.Rose.{Rose};
-ghost use Rattle.ads_run.specs.Verdict.{verdict_of};
-ghost use Rattle.ads_run.specs.Ends.{EndsAs, Prints, IsTold};
+ghost use Rattle.ads_run.specs.Verdict.{verdict_of, ended};
+ghost use Rattle.ads_run.specs.Ends.{EndsBy, OverFiles, PrintsVerdict};
 
 use crate::ending::{end_without_memory, print_and_end};
 use crate::last_line::USAGE_LINE;
@@ -52,7 +52,7 @@ fn words_of(all: &[String]) -> &[String]
 fn end_without_words<S: Sink>(kind: ErrorKind, out: &mut S) -> Status
     ensures memory { kind ≡ ErrorKind.OutOfMemory → result ≡ Status.Memory }
     ensures usage { kind ≢ ErrorKind.OutOfMemory
-        → EndsAs Status.Usage result ⊥ (Rose (S.fault_count out.old) (S.fault_count out.new)) }
+        → PrintsVerdict (ended Status.Usage) result (S.state out.old) (S.state out.new) }
 {
     if kind == ErrorKind::OutOfMemory {
         return end_without_memory(out);
@@ -67,13 +67,10 @@ fn run_program<F: Files, S: Sink>(
     files: &mut F,
     out: &mut S,
 ) -> Result<Status, NoMemory>
-    ensures status { IfOk result (λ status. IsTold (F.contents files.old) (λ held.
-        EndsAs (verdict_of 3 (map string_bytes words.now) held).status status
-        (Rose (F.fault_count files.old) (F.fault_count files.new))
-        (Rose (S.fault_count out.old) (S.fault_count out.new)))) }
-    ensures text { IfOk result (λ status. IsTold (F.contents files.old) (λ held.
-        Prints (verdict_of 3 (map string_bytes words.now) held) status
-        (S.contents out.old) (S.contents out.new))) }
+    ensures ok { IfOk result (λ status. OverFiles (F.state files.old).held (λ held.
+        EndsBy (verdict_of 3 (map string_bytes words.now) held)
+        (Rose (F.state files.old).faults (F.state files.new).faults) status (S.state out.old) (S.state out.new))) }
+    ensures no_memory { OnErr result ((files.new ≡ files.old) × (out.new ≡ out.old)) }
 {
     let ProgramSignals {
         ramp,

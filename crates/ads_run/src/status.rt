@@ -24,7 +24,7 @@ pub enum Status {
 }
 
 impl Status {
-    ghost use Rattle.ads_run.specs.StatusNumber.{number_of};
+    ghost use Rattle.ads_run.specs.StatusTable.{number_of};
 
     /// The exit status of the process.
     pub fn number(self) -> u8

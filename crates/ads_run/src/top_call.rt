@@ -6,9 +6,9 @@ ghost use Rattle.ads_machine.specs.ScriptLine.{ScriptLine};
 ghost use Rattle.ads_machine.specs.BuiltLines.{built_lines};
 ghost use Rattle.ads_machine.specs.Script.{script_of};
 ghost use Rattle.ads_run.specs.Selftest.{selftest_log};
-ghost use Rattle.ads_run.specs.Tasks.{asked_task};
-ghost use Rattle.ads_run.specs.Verdict.{verdict_of};
-ghost use Rattle.ads_run.specs.Ends.{EndsAs, Prints, PrintsLine, IsTold};
+ghost use Rattle.ads_run.specs.Tasks.{asked_task, asked_files};
+ghost use Rattle.ads_run.specs.Verdict.{verdict_of, ended};
+ghost use Rattle.ads_run.specs.Ends.{EndsBy, PrintsVerdict, ReadsFiles, OverFiles};
 ghost use Rattle.ads_run.specs.FramesInOrder.{GivesFramesInOrder};
 
 use crate::ending::{end_without_memory, print_and_end};
@@ -42,28 +42,25 @@ pub fn run<F: Files, S: Sink>(
     signals: Vec<Box<dyn Signal>>,
 ) -> Status
     requires signals { length signals.items ≤ 4294967295 }
+    // The status and all that is printed, by the bytes that the files hold; where they are not told, by some bytes.
+    ensures ends { OverFiles (F.state files.old).held (λ held.
+        EndsBy (verdict_of (length signals.items) (map string_bytes words.now) held)
+        (Rose (F.state files.old).faults (F.state files.new).faults) result (S.state out.old) (S.state out.new)) }
+
     // The words: usage exactly where they are no command, want of memory and a failed writing aside.
     ensures usage { result ≡ Status.Usage → asked_task (map string_bytes words.now) ≡ None }
     ensures no_command { asked_task (map string_bytes words.now) ≡ None
-        → EndsAs Status.Usage result ⊥ (Rose (S.fault_count out.old) (S.fault_count out.new)) }
+        → PrintsVerdict (ended Status.Usage) result (S.state out.old) (S.state out.new) }
     ensures unread { asked_task (map string_bytes words.now) ≡ None → files.new ≡ files.old }
 
-    // Where the files tell what they hold: the status and all that is printed.
-    ensures status { IsTold (F.contents files.old) (λ held.
-        EndsAs (verdict_of (length signals.items) (map string_bytes words.now) held).status result
-        (Rose (F.fault_count files.old) (F.fault_count files.new))
-        (Rose (S.fault_count out.old) (S.fault_count out.new))) }
-    ensures text { IsTold (F.contents files.old) (λ held.
-        Prints (verdict_of (length signals.items) (map string_bytes words.now) held) result
-        (S.contents out.old) (S.contents out.new)) }
+    // The files that are read are those of the command, and stay as they are.
+    ensures reads { ReadsFiles result (F.state files.old).names (F.state files.new).names
+        (asked_files (map string_bytes words.now)) }
+    ensures held { (F.state files.new).held ≡ (F.state files.old).held }
 
-    // Told or not: the last line, and the causes of faults.
-    ensures line { PrintsLine result (S.contents out.old) (S.contents out.new) }
-    ensures read_fault { result ≡ Status.ReadFault
-        → Rose (F.fault_count files.old) (F.fault_count files.new) }
-    ensures write_fault { result ≡ Status.WriteFault
-        → Rose (S.fault_count out.old) (S.fault_count out.new) }
-    ensures files { F.contents files.new ≡ F.contents files.old }
+    // The causes of faults.
+    ensures read_fault { result ≡ Status.ReadFault → Rose (F.state files.old).faults (F.state files.new).faults }
+    ensures write_fault { result ≡ Status.WriteFault → Rose (S.state out.old).faults (S.state out.new).faults }
 
     // What the log of a script promises, whose text is printed.
     ensures frames { (script : List ℕ) (lines : List ScriptLine)
