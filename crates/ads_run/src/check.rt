@@ -13,7 +13,7 @@ use std::alloc::Global;
 use symbol_file::{DescFault, read};
 
 /// The outcome of `check` over the bytes of a description, for this number of signals.
-#[tactic(auto, unfolding(symbol_file::specs::Reading::text_verdict))]
+#[tactic(auto, unfolding(ads_rules::specs::TextVerdict::text_verdict))]
 pub fn check(alloc: Global, bytes: &[u8], signals: u32) -> Result<Outcome, NoMemory>
     ensures { IfOk result (IsOutcome (verdict_of_description (text_verdict signals bytes.now))) }
 {
