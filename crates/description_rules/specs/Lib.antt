@@ -4,6 +4,7 @@ pub mod Faults
 pub mod Known
 pub mod KnownTypes
 pub mod NameStarts
+pub mod NamedShapes
 pub mod Next
 pub mod NextMember
 pub mod NextName

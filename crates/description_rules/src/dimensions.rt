@@ -2,26 +2,28 @@
 ghost use Rattle.std.specs.Prelude.{◌≡◌, ◌≤◌, ◌^◌, map, nat_le, true, IfOk};
 ghost use Rattle.ads_plant.specs.Sizes.{element_count};
 ghost use Rattle.ads_plant.specs.AcceptedTypes.{LIMIT};
-ghost use Rattle.ads_rules.specs.Shapes.{bound_between, shape_with};
-ghost use Rattle.type_layout.specs.Shapes.{bound_of, elem_of, shape_of};
-ghost use Rattle.type_layout.specs.ReadTexts.{ends_of, text_of};
+ghost use Rattle.ads_rules.specs.Shapes.{bound_between};
+ghost use Rattle.type_layout.specs.Shapes.{bound_of, shape_of};
+ghost use Rattle.type_layout.specs.ReadTexts.{ends_of};
+ghost use Rattle.description_rules.specs.NamedShapes.{ends_read, shape_read};
 
+use crate::named_shapes::NamedShape;
 use ads_base::NoMemory;
 use std::alloc::Global;
-use type_layout::{Bound, Bounds, Elem, Ends, Shape, TypeText};
+use type_layout::{Bound, Bounds, Ends, Shape};
 
 /// The greatest number of elements of an array.
 pub const MAX_ELEMENTS: u128 = 1_048_576;
 
-/// The number of elements of an array, 1 where the text is no array.
-pub fn element_count(t: &TypeText<'_>) -> u128
-    ensures count { result ≡ element_count (map bound_between (text_of t.now).ends) }
+/// The number of elements of an array, 1 where the shape is no array.
+pub fn element_count(s: &NamedShape) -> u128
+    ensures count { result ≡ element_count (map bound_between (ends_read s.now)) }
     ensures bound { result ≤ 2 ^ 96 }
 {
-    let first = index_count(t.first) as u128;
-    let second = index_count(t.second) as u128;
-    let third = index_count(t.third) as u128;
-    match t.count {
+    let first = index_count(s.first) as u128;
+    let second = index_count(s.second) as u128;
+    let third = index_count(s.third) as u128;
+    match s.count {
         0 => 1,
         1 => first,
         2 => first * second,
@@ -37,28 +39,28 @@ pub fn index_count(e: Ends) -> u64
     (e.high as i64 - e.low as i64).unsigned_abs() + 1
 }
 
-/// The shape with these dimensions and this element.
-pub fn build_shape(alloc: Global, t: &TypeText<'_>, elem: Elem) -> Result<Shape, NoMemory>
-    requires { nat_le (element_count (map bound_between (text_of t.now).ends)) LIMIT ≡ true }
-    ensures { IfOk result (λ s. shape_of s ≡ shape_with (text_of t.now).ends (elem_of elem)) }
+/// The shape that was read.
+pub fn build_shape(alloc: Global, s: &NamedShape) -> Result<Shape, NoMemory>
+    requires { nat_le (element_count (map bound_between (ends_read s.now))) LIMIT ≡ true }
+    ensures { IfOk result (λ built. shape_of built ≡ shape_read s.now) }
 {
     let mut bounds = Bounds::new(alloc);
-    match t.count {
-        0 => Ok(Shape::One(elem)),
+    match s.count {
+        0 => Ok(Shape::One(s.elem)),
         1 => {
-            bounds.push(alloc, bound_of(t.first))?;
-            Ok(Shape::Array(bounds, elem))
+            bounds.push(alloc, bound_of(s.first))?;
+            Ok(Shape::Array(bounds, s.elem))
         }
         2 => {
-            bounds.push(alloc, bound_of(t.first))?;
-            bounds.push(alloc, bound_of(t.second))?;
-            Ok(Shape::Array(bounds, elem))
+            bounds.push(alloc, bound_of(s.first))?;
+            bounds.push(alloc, bound_of(s.second))?;
+            Ok(Shape::Array(bounds, s.elem))
         }
         _ => {
-            bounds.push(alloc, bound_of(t.first))?;
-            bounds.push(alloc, bound_of(t.second))?;
-            bounds.push(alloc, bound_of(t.third))?;
-            Ok(Shape::Array(bounds, elem))
+            bounds.push(alloc, bound_of(s.first))?;
+            bounds.push(alloc, bound_of(s.second))?;
+            bounds.push(alloc, bound_of(s.third))?;
+            Ok(Shape::Array(bounds, s.elem))
         }
     }
 }

@@ -9,7 +9,7 @@ ghost use Rattle.description_rules.specs.Extents.{extent_view, extent_of};
 use type_layout::{Bound, Elem, Kind, Shape};
 
 /// How a type lies in memory, and how deep structures are nested in it.
-#[derive(Clone, Copy, Debug, PartialEq, Eq)]
+#[derive(Clone, Copy)]
 pub struct Extent {
     pub size: u128,
     pub align: u128,

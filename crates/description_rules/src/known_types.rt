@@ -15,9 +15,9 @@ ghost use Rattle.description_rules.specs.Known.{IsFair, IsFairArray};
 
 use crate::dimensions::{MAX_ELEMENTS, element_count};
 use crate::extents::{Extent, kind_size};
-use crate::shapes::elem_named;
+use crate::named_shapes::{described_shape, named_shape};
 use name_index::NameIndex;
-use type_layout::{Elem, Kind, Types, read_type_text};
+use type_layout::{Elem, Types};
 
 /// Types, how each of them lies in memory, and where each stands by its name.
 #[derive(Drop)]
@@ -28,7 +28,7 @@ pub struct KnownTypes {
 }
 
 /// How the type that a text names lies in memory.
-#[tactic(auto, unfolding(ads_rules::specs::Shapes::shape_of_text, ads_plant::specs::Sizes::type_size, ads_plant::specs::Sizes::type_align, ads_plant::specs::Sizes::type_depth))]
+#[tactic(auto, unfolding(ads_plant::specs::Sizes::type_size, ads_plant::specs::Sizes::type_align, ads_plant::specs::Sizes::type_depth))]
 pub fn text_extent(known: &KnownTypes, text: &[u8]) -> Extent
     requires known { IsKnown known.now }
     requires small { is_small_shape (shape_described (types_of known.now.types) text.now) ≡ true }
@@ -36,17 +36,12 @@ pub fn text_extent(known: &KnownTypes, text: &[u8]) -> Extent
         ≡ extent_of (tree_of (types_of known.now.types) (shape_described (types_of known.now.types) text.now)) }
     ensures fair { IsFairArray result }
 {
-    let Some(t) = read_type_text(text) else {
-        return elem_extent(known, Elem::Plain(Kind::Bool));
-    };
-    let Some(elem) = elem_named(known, t.elem) else {
-        return elem_extent(known, Elem::Plain(Kind::Bool));
-    };
-    let e = elem_extent(known, elem);
-    if t.count == 0 {
+    let shape = described_shape(known, text);
+    let e = elem_extent(known, shape.elem);
+    if shape.count == 0 {
         return e;
     }
-    let size = product(element_count(&t), e.size);
+    let size = product(element_count(&shape), e.size);
     Extent {
         size,
         align: e.align,
@@ -55,23 +50,18 @@ pub fn text_extent(known: &KnownTypes, text: &[u8]) -> Extent
 }
 
 /// The number of bytes of the type that a text names.
-#[tactic(auto, unfolding(ads_rules::specs::Shapes::shape_of_text, ads_plant::specs::Sizes::type_size))]
+#[tactic(auto, unfolding(ads_plant::specs::Sizes::type_size))]
 pub fn text_size(known: &KnownTypes, text: &[u8]) -> u128
     requires known { IsKnown known.now }
     ensures size { result ≡ type_size (tree_of (types_of known.now.types) (shape_described (types_of known.now.types) text.now)) }
     ensures bound { result ≤ 2 ^ 120 }
 {
-    let Some(t) = read_type_text(text) else {
-        return elem_extent(known, Elem::Plain(Kind::Bool)).size;
-    };
-    let Some(elem) = elem_named(known, t.elem) else {
-        return elem_extent(known, Elem::Plain(Kind::Bool)).size;
-    };
-    let size = elem_extent(known, elem).size;
-    if t.count == 0 {
+    let shape = described_shape(known, text);
+    let size = elem_extent(known, shape.elem).size;
+    if shape.count == 0 {
         return size;
     }
-    large_product(element_count(&t), size)
+    large_product(element_count(&shape), size)
 }
 
 fn large_product(elements: u128, size: u128) -> u128
@@ -84,18 +74,14 @@ fn large_product(elements: u128, size: u128) -> u128
 }
 
 /// Whether a text names a type of at most 1,048,576 elements and bytes.
-#[tactic(auto, unfolding(ads_rules::specs::Shapes::shape_of_text))]
 pub fn is_small_type(known: &KnownTypes, text: &[u8]) -> bool
     requires known { IsKnown known.now }
     ensures { result ≡ option_map_or (is_small (types_of known.now.types)) (shape_of_text (types_of known.now.types) text.now) false }
 {
-    let Some(t) = read_type_text(text) else {
+    let Some(shape) = named_shape(known, text) else {
         return false;
     };
-    if elem_named(known, t.elem).is_none() {
-        return false;
-    }
-    element_count(&t) <= MAX_ELEMENTS && text_size(known, text) <= 1_048_576
+    element_count(&shape) <= MAX_ELEMENTS && text_size(known, text) <= 1_048_576
 }
 
 fn product(elements: u128, size: u128) -> u128

@@ -8,6 +8,7 @@ mod enum_values;
 mod extents;
 mod known_types;
 mod member_rules;
+mod named_shapes;
 mod names;
 mod nets;
 mod numbers;

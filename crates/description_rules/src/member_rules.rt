@@ -38,8 +38,20 @@ fn first_wrong_member(
     ensures { IfOk result (λ place. place ≡ first_wrong (is_right_named names.now) [] (map member_view members.now)) }
 {
     let mut seen = SeenTexts::new(alloc);
+    first_wrong_among(alloc, names, &mut seen, members)
+}
+
+fn first_wrong_among(
+    alloc: Global,
+    names: &SeenTexts,
+    seen: &mut SeenTexts,
+    members: &[WrittenMember<'_>],
+) -> Result<Option<usize>, NoMemory>
+    requires { seen.old ≡ [] }
+    ensures { IfOk result (λ place. place ≡ first_wrong (is_right_named names.now) [] (map member_view members.now)) }
+{
     for (i, member) in members.iter().enumerate() {
-        if !is_right_member(alloc, names, &mut seen, member)? {
+        if !is_right_member(alloc, names, seen, member)? {
             return Ok(Some(i));
         }
     }

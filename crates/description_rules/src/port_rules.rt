@@ -48,8 +48,19 @@ fn first_wrong_port(
     ensures { IfOk result (λ place. place ≡ first_wrong (is_right_port limit) [] (map port_view ports.now)) }
 {
     let mut seen = SeenNumbers::new(alloc);
+    first_wrong_among(&mut seen, limit, ports)
+}
+
+fn first_wrong_among(
+    seen: &mut SeenNumbers,
+    limit: u32,
+    ports: &[WrittenPort<'_>],
+) -> Result<Option<usize>, NoMemory>
+    requires { seen.old ≡ [] }
+    ensures { IfOk result (λ place. place ≡ first_wrong (is_right_port limit) [] (map port_view ports.now)) }
+{
     for (i, port) in ports.iter().enumerate() {
-        if !is_right_port(&mut seen, limit, port)? {
+        if !is_right_port(seen, limit, port)? {
             return Ok(Some(i));
         }
     }

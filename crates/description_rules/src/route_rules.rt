@@ -48,8 +48,20 @@ fn wrong_route(alloc: Global, routes: &[WrittenRoute<'_>]) -> Result<Option<usiz
     ensures within { IfOk result (λ place. IfSome place (λ i. i < length routes.now)) }
 {
     let mut seen = SeenTexts::new(alloc);
+    first_wrong_route(alloc, &mut seen, routes)
+}
+
+fn first_wrong_route(
+    alloc: Global,
+    seen: &mut SeenTexts,
+    routes: &[WrittenRoute<'_>],
+) -> Result<Option<usize>, NoMemory>
+    requires { seen.old ≡ [] }
+    ensures first { IfOk result (λ place. place ≡ first_wrong is_right_route [] (map route_view routes.now)) }
+    ensures within { IfOk result (λ place. IfSome place (λ i. i < length routes.now)) }
+{
     for (i, route) in routes.iter().enumerate() {
-        if !is_right_route(alloc, &mut seen, route)? {
+        if !is_right_route(alloc, seen, route)? {
             return Ok(Some(i));
         }
     }

@@ -9,13 +9,12 @@ ghost use Rattle.description_rules.specs.KnownTypes.{IsKnown};
 
 use crate::dimensions::{MAX_ELEMENTS, build_shape, element_count};
 use crate::known_types::KnownTypes;
-use crate::shapes::elem_named;
+use crate::named_shapes::described_shape;
 use ads_base::NoMemory;
 use std::alloc::Global;
-use type_layout::{Elem, Kind, Shape, read_type_text};
+use type_layout::Shape;
 
 /// The type that a text names among those that are known; None where it is an array of too many elements.
-#[tactic(auto, unfolding(ads_rules::specs::Shapes::shape_of_text))]
 pub fn small_shape(
     alloc: Global,
     known: &KnownTypes,
@@ -24,14 +23,9 @@ pub fn small_shape(
     requires { IsKnown known.now }
     ensures { IfOk result (IsShapeOrLarge (shape_described (types_of known.now.types) text.now)) }
 {
-    let Some(t) = read_type_text(text) else {
-        return Ok(Some(Shape::One(Elem::Plain(Kind::Bool))));
-    };
-    let Some(elem) = elem_named(known, t.elem) else {
-        return Ok(Some(Shape::One(Elem::Plain(Kind::Bool))));
-    };
-    if element_count(&t) <= MAX_ELEMENTS {
-        Ok(Some(build_shape(alloc, &t, elem)?))
+    let shape = described_shape(known, text);
+    if element_count(&shape) <= MAX_ELEMENTS {
+        Ok(Some(build_shape(alloc, &shape)?))
     } else {
         Ok(None)
     }

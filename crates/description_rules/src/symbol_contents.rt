@@ -15,14 +15,14 @@ ghost use Rattle.description_table.specs.Views.{port_view, symbol_view, text_vie
 
 use crate::enum_values::is_value_at;
 use crate::known_types::{KnownTypes, text_size};
+use crate::named_shapes::described_shape;
 use crate::names::is_comment;
 use crate::nets::read_net;
-use crate::shapes::elem_named;
 use ads_base::NoMemory;
 use description_table::{WrittenPort, WrittenSymbol};
 use hex::FromHexError;
 use std::alloc::Global;
-use type_layout::{Elem, read_type_text};
+use type_layout::Elem;
 
 /// Rule 13: initial bytes, comments and writers.
 #[tactic(auto, unfolding(ads_rules::specs::SymbolRules::wrong_content))]
@@ -99,19 +99,13 @@ fn are_right_bytes(known: &KnownTypes, text: &[u8], bytes: &[u8]) -> bool
 }
 
 // Whether bytes are those of a value, where the type that a text names is an enumeration.
-#[tactic(auto, unfolding(ads_rules::specs::Shapes::shape_of_text))]
 fn begins_with_value(known: &KnownTypes, text: &[u8], bytes: &[u8]) -> bool
     requires { IsKnown known.now }
     ensures { result ≡ begins_with_value (types_of known.now.types) (shape_described (types_of known.now.types) text.now) bytes.now }
 {
-    let Some(t) = read_type_text(text) else {
-        return true;
-    };
-    let Some(elem) = elem_named(known, t.elem) else {
-        return true;
-    };
-    if t.count == 0 {
-        begins_elem(known, elem, bytes)
+    let shape = described_shape(known, text);
+    if shape.count == 0 {
+        begins_elem(known, shape.elem, bytes)
     } else {
         true
     }

@@ -33,8 +33,21 @@ fn wrong_name_in(alloc: Global, symbols: &[WrittenSymbol<'_>]) -> Result<Option<
 {
     let mut whole = SeenTexts::new(alloc);
     let mut starts = SeenTexts::new(alloc);
+    first_wrong_name(alloc, &mut whole, &mut starts, symbols)
+}
+
+fn first_wrong_name(
+    alloc: Global,
+    whole: &mut SeenTexts,
+    starts: &mut SeenTexts,
+    symbols: &[WrittenSymbol<'_>],
+) -> Result<Option<usize>, NoMemory>
+    requires whole { whole.old ≡ [] }
+    requires starts { starts.old ≡ [] }
+    ensures { IfOk result (λ place. place ≡ first_wrong is_right_name [] (map symbol_view symbols.now)) }
+{
     for (i, symbol) in symbols.iter().enumerate() {
-        if !is_right_name(alloc, &mut whole, &mut starts, symbol.name)? {
+        if !is_right_name(alloc, whole, starts, symbol.name)? {
             return Ok(Some(i));
         }
     }

@@ -23,7 +23,7 @@ use std::alloc::Global;
 use type_layout::Area;
 
 /// The bytes of a symbol, and whether it has an area and lies within it.
-#[derive(Clone, Copy, Debug)]
+#[derive(Clone, Copy)]
 pub struct Placed {
     pub area: Area,
     pub offset: u64,
@@ -60,23 +60,24 @@ fn wrong_place_in(
     ensures { IfOk result (λ place. place ≡ first_wrong (is_right_place (types_of known.now.types) (port_view port.now)) []
         (map symbol_view port.now.symbols.items)) }
 {
-    first_wrong_place(alloc, known, port, port.symbols.as_slice())
+    let mut taken = Vec::new(alloc);
+    first_wrong_place(&mut taken, known, port, port.symbols.as_slice())
 }
 
 fn first_wrong_place(
-    alloc: Global,
+    taken: &mut Vec<ByteRange>,
     known: &KnownTypes,
     port: &WrittenPort<'_>,
     symbols: &[WrittenSymbol<'_>],
 ) -> Result<Option<usize>, NoMemory>
     requires known { IsKnown known.now }
+    requires taken { taken.old.items ≡ [] }
     ensures { IfOk result (λ place. place ≡ first_wrong is_right_behind []
         (map (symbol_place (types_of known.now.types) (sizes_described (port_view port.now))) symbols.now)) }
 {
-    let mut taken = Vec::new(alloc);
     for (i, symbol) in symbols.iter().enumerate() {
         let place = place_of(known, port, symbol);
-        if !take_place(&mut taken, place)? {
+        if !take_place(taken, place)? {
             return Ok(Some(i));
         }
     }

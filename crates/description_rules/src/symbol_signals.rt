@@ -14,16 +14,16 @@ ghost use Rattle.description_rules.specs.NextNumber.{IsNextUse};
 ghost use Rattle.description_table.specs.Views.{port_view, symbol_view};
 
 use crate::known_types::KnownTypes;
+use crate::named_shapes::described_shape;
 use crate::numbers::is_signal;
 use crate::seen_numbers::{SeenNumbers, note_number};
-use crate::shapes::elem_named;
 use ads_base::NoMemory;
 use description_table::{WrittenPort, WrittenSymbol};
 use std::alloc::Global;
-use type_layout::{Elem, read_type_text};
+use type_layout::Elem;
 
 /// The signal that a symbol names, and whether it is there and the symbol may have one.
-#[derive(Clone, Copy, Debug)]
+#[derive(Clone, Copy)]
 pub struct SignalUse {
     pub right: bool,
     pub signal: Option<i64>,
@@ -93,18 +93,16 @@ fn use_of(known: &KnownTypes, signals: u32, symbol: &WrittenSymbol<'_>) -> Signa
     }
 }
 
-#[tactic(auto, unfolding(ads_rules::specs::Shapes::shape_of_text))]
 fn may_have_signal(known: &KnownTypes, text: &[u8]) -> bool
     requires { IsKnown known.now }
     ensures { result ≡ may_have_signal (shape_described (types_of known.now.types) text.now) }
 {
-    let Some(t) = read_type_text(text) else {
-        return true;
-    };
-    let Some(elem) = elem_named(known, t.elem) else {
-        return true;
-    };
-    if t.count == 0 { is_plain(elem) } else { false }
+    let shape = described_shape(known, text);
+    if shape.count == 0 {
+        is_plain(shape.elem)
+    } else {
+        false
+    }
 }
 
 fn is_plain(elem: Elem) -> bool
@@ -120,8 +118,15 @@ fn first_wrong_use(alloc: Global, uses: &[SignalUse]) -> Result<Option<usize>, N
     ensures { IfOk result (λ place. place ≡ first_wrong is_right_use [] (map use_view uses.now)) }
 {
     let mut seen = SeenNumbers::new(alloc);
+    first_wrong_among(&mut seen, uses)
+}
+
+fn first_wrong_among(seen: &mut SeenNumbers, uses: &[SignalUse]) -> Result<Option<usize>, NoMemory>
+    requires { seen.old ≡ [] }
+    ensures { IfOk result (λ place. place ≡ first_wrong is_right_use [] (map use_view uses.now)) }
+{
     for (i, one) in uses.iter().enumerate() {
-        if !is_right_use(&mut seen, one)? {
+        if !is_right_use(seen, one)? {
             return Ok(Some(i));
         }
     }

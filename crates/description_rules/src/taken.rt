@@ -5,7 +5,7 @@ ghost use Rattle.description_rules.specs.Taken.{AreInOrder, Takes, IsPlaceOf, is
 use ads_base::NoMemory;
 
 /// Bytes from a start to an end, which is the first byte behind them.
-#[derive(Clone, Copy, Debug)]
+#[derive(Clone, Copy)]
 pub struct ByteRange {
     pub start: u128,
     pub end: u128,

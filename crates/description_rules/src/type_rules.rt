@@ -35,8 +35,19 @@ fn first_wrong_name(alloc: Global, types: &[WrittenType<'_>]) -> Result<Option<u
     ensures { IfOk result (λ place. place ≡ first_wrong is_right_type_name [] (map type_view types.now)) }
 {
     let mut seen = SeenTexts::new(alloc);
+    first_wrong_among(alloc, &mut seen, types)
+}
+
+fn first_wrong_among(
+    alloc: Global,
+    seen: &mut SeenTexts,
+    types: &[WrittenType<'_>],
+) -> Result<Option<usize>, NoMemory>
+    requires { seen.old ≡ [] }
+    ensures { IfOk result (λ place. place ≡ first_wrong is_right_type_name [] (map type_view types.now)) }
+{
     for (i, kind) in types.iter().enumerate() {
-        if !is_right_type_name(alloc, &mut seen, kind)? {
+        if !is_right_type_name(alloc, seen, kind)? {
             return Ok(Some(i));
         }
     }
@@ -92,13 +103,24 @@ fn first_wrong_part(alloc: Global, types: &[WrittenType<'_>]) -> Result<Option<u
     ensures { IfOk result (λ place. place ≡ first_through (λ t. length (written_members t)) wrong_member_of [] (map type_view types.now)) }
 {
     let mut names = SeenTexts::new(alloc);
+    first_wrong_behind(alloc, &mut names, types)
+}
+
+fn first_wrong_behind(
+    alloc: Global,
+    names: &mut SeenTexts,
+    types: &[WrittenType<'_>],
+) -> Result<Option<u128>, NoMemory>
+    requires { names.old ≡ [] }
+    ensures { IfOk result (λ place. place ≡ first_through (λ t. length (written_members t)) wrong_member_of [] (map type_view types.now)) }
+{
     let mut count: u128 = 0;
     for kind in types {
-        if let Some(place) = wrong_member_of(alloc, &names, kind)? {
+        if let Some(place) = wrong_member_of(alloc, names, kind)? {
             return Ok(Some(count + place as u128));
         }
         count += kind.member_count() as u128;
-        note_type(alloc, &mut names, kind)?;
+        note_type(alloc, names, kind)?;
     }
     Ok(None)
 }

@@ -7,47 +7,44 @@ ghost use Rattle.ads_plant.specs.Trees.{trees_of, elem_tree, tree_at, tree_of};
 ghost use Rattle.ads_rules.specs.Shapes.{bound_between};
 ghost use Rattle.ads_rules.specs.Described.{shape_described};
 ghost use Rattle.type_layout.specs.Shapes.{kind_of, elem_of};
-ghost use Rattle.type_layout.specs.ReadTexts.{ends_of, text_of};
+ghost use Rattle.type_layout.specs.ReadTexts.{ends_of};
 ghost use Rattle.type_layout.specs.NamedTypes.{types_of};
 ghost use Rattle.description_rules.specs.KnownTypes.{IsKnown};
+ghost use Rattle.description_rules.specs.NamedShapes.{ends_read};
 ghost use Rattle.description_rules.specs.Within.{IsWithin};
 
 use crate::decimal_lens::{decimal_len, signed_decimal_len};
 use crate::dimensions::index_count;
 use crate::known_types::KnownTypes;
-use crate::shapes::{elem_named, name_of};
-use type_layout::{Elem, Ends, Kind, NamedType, TypeText, read_type_text};
+use crate::named_shapes::{NamedShape, described_shape};
+use crate::shapes::name_of;
+use type_layout::{Elem, Ends, Kind, NamedType};
 
 /// The length of the canonical text of the type that a text names.
-#[tactic(auto, using(crate::proofs::LengthLemmas::lengths), unfolding(ads_rules::specs::Shapes::shape_of_text, ads_plant::specs::Spelling::type_text))]
+#[tactic(auto, using(crate::proofs::LengthLemmas::lengths), unfolding(ads_plant::specs::Spelling::type_text))]
 pub fn type_text_len(known: &KnownTypes, text: &[u8]) -> u128
     requires { IsKnown known.now }
     ensures value { result ≡ length (type_text (tree_of (types_of known.now.types) (shape_described (types_of known.now.types) text.now))) }
     ensures bound { result ≤ 2 ^ 69 }
 {
-    let Some(t) = read_type_text(text) else {
-        return kind_name_len(Kind::Bool);
-    };
-    let Some(elem) = elem_named(known, t.elem) else {
-        return kind_name_len(Kind::Bool);
-    };
-    let element = elem_text_len(known.types.as_slice(), elem);
-    if t.count == 0 {
+    let shape = described_shape(known, text);
+    let element = elem_text_len(known.types.as_slice(), shape.elem);
+    if shape.count == 0 {
         return element;
     }
-    12 + bounds_len(&t) + element
+    12 + bounds_len(&shape) + element
 }
 
 // The length of the dimensions of an array, with commas between them.
 #[tactic(auto, using(crate::proofs::LengthLemmas::lengths))]
-fn bounds_len(t: &TypeText<'_>) -> u128
-    ensures value { result ≡ length (joined_by_comma (map bound_text (map bound_between (text_of t.now).ends))) }
+fn bounds_len(s: &NamedShape) -> u128
+    ensures value { result ≡ length (joined_by_comma (map bound_text (map bound_between (ends_read s.now)))) }
     ensures bound { result ≤ 2 ^ 68 }
 {
-    let first = bound_len(t.first);
-    let second = bound_len(t.second);
-    let third = bound_len(t.third);
-    match t.count {
+    let first = bound_len(s.first);
+    let second = bound_len(s.second);
+    let third = bound_len(s.third);
+    match s.count {
         0 => 0,
         1 => first,
         2 => first + 1 + second,

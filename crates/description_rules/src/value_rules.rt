@@ -57,8 +57,22 @@ fn first_wrong_value(
 {
     let mut names = SeenTexts::new(alloc);
     let mut numbers = SeenNumbers::new(alloc);
+    first_wrong_behind(alloc, &mut names, &mut numbers, base, values)
+}
+
+fn first_wrong_behind(
+    alloc: Global,
+    names: &mut SeenTexts,
+    numbers: &mut SeenNumbers,
+    base: Kind,
+    values: &[WrittenValue<'_>],
+) -> Result<Option<usize>, NoMemory>
+    requires names { names.old ≡ [] }
+    requires numbers { numbers.old ≡ [] }
+    ensures { IfOk result (λ place. place ≡ first_wrong (is_right_value (kind_of base)) [] (map value_view values.now)) }
+{
     for (i, value) in values.iter().enumerate() {
-        if !is_right_value(alloc, &mut names, &mut numbers, base, value)? {
+        if !is_right_value(alloc, names, numbers, base, value)? {
             return Ok(Some(i));
         }
     }

@@ -10,7 +10,7 @@ use Rattle.description_rules.proofs.symbol_places.first_wrong_place.Goals as goa
 
 pub loop-i-init : goal.loop-i-init
 loop-i-init c =
-    rw c.new-taken.ensures.items (record {
+    rw c.requires.taken (record {
       first = first_from-start is_right_behind (symbol_place (types_of c.args.known.now.types) (sizes_described (port_view c.args.port.now))) c.args.symbols.now;
       stand = stand-none;
     })

@@ -5,7 +5,7 @@ use Rattle.description_rules.specs.NextMember.{is_right_named}
 use Rattle.description_rules.proofs.FirstLemmas.{first_from}
 use Rattle.description_rules.proofs.LowerLemmas.{lower_name}
 use Rattle.description_rules.proofs.MemberLemmas.{member_name}
-use Rattle.description_rules.proofs.member_rules.first_wrong_member.Given as goal
+use Rattle.description_rules.proofs.member_rules.first_wrong_among.Given as goal
 
 -- those before this one are right, and their names noted
 abbrev pub invariant-loop-i : goal.invariant-loop-i

@@ -5,10 +5,10 @@ use Rattle.description_rules.specs.NextMember.{is_member_alone, is_right_named}
 use Rattle.description_rules.proofs.FirstLemmas.{first_from-start, first_from-right, first_from-wrong}
 use Rattle.description_rules.proofs.LowerLemmas.{right-lower, noted-lower}
 use Rattle.description_rules.proofs.MemberLemmas.{member_name}
-use Rattle.description_rules.proofs.member_rules.first_wrong_member.Goals as goal
+use Rattle.description_rules.proofs.member_rules.first_wrong_among.Goals as goal
 
 pub loop-i-init : goal.loop-i-init
-loop-i-init c = record { first = first_from-start (is_right_named c.args.names.now) member_view c.args.members.now; noted = c.new-seen.ensures }
+loop-i-init c = record { first = first_from-start (is_right_named c.args.names.now) member_view c.args.members.now; noted = c.requires }
 
 pub returns-then-not-branch : goal.returns-then-not-branch
 returns-then-not-branch c =

@@ -3,7 +3,7 @@ use Rattle.ads_rules.specs.Places.{first_wrong}
 use Rattle.description_rules.specs.Placed.{use_view, is_right_use}
 use Rattle.description_rules.specs.NextNumber.{AreNamed}
 use Rattle.description_rules.proofs.FirstLemmas.{first_from}
-use Rattle.description_rules.proofs.symbol_signals.first_wrong_use.Given as goal
+use Rattle.description_rules.proofs.symbol_signals.first_wrong_among.Given as goal
 
 -- those before this one are right, and their signals noted
 abbrev pub invariant-loop-i : goal.invariant-loop-i

@@ -4,10 +4,10 @@ use Rattle.description_table.specs.Views.{port_view}
 use Rattle.description_rules.specs.NextPort.{number_view}
 use Rattle.description_rules.proofs.FirstLemmas.{first_from-start, first_from-right, first_from-wrong, take-more}
 use Rattle.description_rules.proofs.PortSeenLemmas.{is_right_port-noted, port-noted}
-use Rattle.description_rules.proofs.port_rules.first_wrong_port.Goals as goal
+use Rattle.description_rules.proofs.port_rules.first_wrong_among.Goals as goal
 
 pub loop-i-init : goal.loop-i-init
-loop-i-init c = record { first = first_from-start (is_right_port c.args.limit) port_view c.args.ports.now; noted = c.new-seen.ensures }
+loop-i-init c = record { first = first_from-start (is_right_port c.args.limit) port_view c.args.ports.now; noted = c.requires }
 
 pub returns-then-not-branch : goal.returns-then-not-branch
 returns-then-not-branch c =

@@ -3,10 +3,10 @@ use Rattle.std.proofs.lemmas.List.{get_or_default}
 use Rattle.description_rules.specs.Placed.{use_view, is_right_use}
 use Rattle.description_rules.proofs.FirstLemmas.{first_from-start, first_from-right, first_from-wrong, take-more}
 use Rattle.description_rules.proofs.NumberSeenLemmas.{named-none, named-more, is_right_use-named}
-use Rattle.description_rules.proofs.symbol_signals.first_wrong_use.Goals as goal
+use Rattle.description_rules.proofs.symbol_signals.first_wrong_among.Goals as goal
 
 pub loop-i-init : goal.loop-i-init
-loop-i-init c = rw c.new-seen.ensures (record { first = first_from-start is_right_use use_view c.args.uses.now; named = named-none })
+loop-i-init c = rw c.requires (record { first = first_from-start is_right_use use_view c.args.uses.now; named = named-none })
 
 pub returns-then-not-branch : goal.returns-then-not-branch
 returns-then-not-branch c =

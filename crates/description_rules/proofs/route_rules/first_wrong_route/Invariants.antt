@@ -4,7 +4,7 @@ use Rattle.ads_rules.specs.RouteRules.{is_right_route}
 use Rattle.ads_rules.specs.Written.{WrittenRoute}
 use Rattle.description_table.specs.Views.{route_view}
 use Rattle.description_rules.proofs.FirstLemmas.{first_from}
-use Rattle.description_rules.proofs.route_rules.wrong_route.Given as goal
+use Rattle.description_rules.proofs.route_rules.first_wrong_route.Given as goal
 
 -- the routes before this one are right, and their NetIds noted
 abbrev pub invariant-loop-i : goal.invariant-loop-i

@@ -4,11 +4,11 @@ use Rattle.description_table.specs.Views.{symbol_view}
 use Rattle.description_rules.specs.NextName.{name_view}
 use Rattle.description_rules.proofs.FirstLemmas.{first_from-start, first_from-right, first_from-wrong, take-more}
 use Rattle.description_rules.proofs.NameStartLemmas.{noted-none, noted-next, is_right-noted}
-use Rattle.description_rules.proofs.symbol_names.wrong_name_in.Goals as goal
+use Rattle.description_rules.proofs.symbol_names.first_wrong_name.Goals as goal
 
 pub loop-i-init : goal.loop-i-init
 loop-i-init c =
-    rw (c.new-whole.ensures, c.new-starts.ensures) (record { first = first_from-start is_right_name symbol_view c.args.symbols.now; noted = noted-none })
+    rw (c.requires.whole, c.requires.starts) (record { first = first_from-start is_right_name symbol_view c.args.symbols.now; noted = noted-none })
 
 pub returns-then-not-branch : goal.returns-then-not-branch
 returns-then-not-branch c =

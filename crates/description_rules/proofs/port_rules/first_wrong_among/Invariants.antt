@@ -4,7 +4,7 @@ use Rattle.ads_rules.specs.PortRules.{is_right_port}
 use Rattle.description_table.specs.Views.{port_view}
 use Rattle.description_rules.specs.NextPort.{number_view}
 use Rattle.description_rules.proofs.FirstLemmas.{first_from}
-use Rattle.description_rules.proofs.port_rules.first_wrong_port.Given as goal
+use Rattle.description_rules.proofs.port_rules.first_wrong_among.Given as goal
 
 -- those before this one are right, and their numbers noted
 abbrev pub invariant-loop-i : goal.invariant-loop-i

@@ -4,7 +4,7 @@ use Rattle.ads_rules.specs.RouteRules.{is_right_route}
 use Rattle.description_table.specs.Views.{route_view}
 use Rattle.description_rules.proofs.FirstLemmas.{first_from-right, first_from-wrong}
 use Rattle.description_rules.proofs.RouteLemmas.{is_right_route-noted, noted-more}
-use Rattle.description_rules.proofs.route_rules.wrong_route.Goals as goal
+use Rattle.description_rules.proofs.route_rules.first_wrong_route.Goals as goal
 
 pub returns-then-not-branch-clause-first : goal.returns-then-not-branch-clause-first
 returns-then-not-branch-clause-first c =

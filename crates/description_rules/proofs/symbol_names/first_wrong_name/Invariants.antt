@@ -5,7 +5,7 @@ use Rattle.description_table.specs.Views.{symbol_view}
 use Rattle.description_rules.specs.NameStarts.{AreNoted}
 use Rattle.description_rules.specs.NextName.{name_view}
 use Rattle.description_rules.proofs.FirstLemmas.{first_from}
-use Rattle.description_rules.proofs.symbol_names.wrong_name_in.Given as goal
+use Rattle.description_rules.proofs.symbol_names.first_wrong_name.Given as goal
 
 -- the symbols before this one are right, and their names noted
 abbrev pub invariant-loop-i : goal.invariant-loop-i

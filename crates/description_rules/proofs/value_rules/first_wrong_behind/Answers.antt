@@ -6,13 +6,13 @@ use Rattle.description_table.specs.Views.{value_view}
 use Rattle.description_rules.proofs.FirstLemmas.{first_from-start, first_from-right, first_from-wrong, take-more}
 use Rattle.description_rules.proofs.LowerLemmas.{noted-lower}
 use Rattle.description_rules.proofs.ValueLemmas.{value_name, value_number, is_right_value-noted}
-use Rattle.description_rules.proofs.value_rules.first_wrong_value.Goals as goal
+use Rattle.description_rules.proofs.value_rules.first_wrong_behind.Goals as goal
 
 pub loop-i-init : goal.loop-i-init
 loop-i-init c = record {
   first = first_from-start (is_right_value (kind_of c.args.base)) value_view c.args.values.now;
-  named = c.new-names.ensures;
-  numbered = c.new-numbers.ensures;
+  named = c.requires.names;
+  numbered = c.requires.numbers;
 }
 
 pub returns-then-not-branch : goal.returns-then-not-branch

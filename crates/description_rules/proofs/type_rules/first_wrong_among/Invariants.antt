@@ -5,7 +5,7 @@ use Rattle.ads_rules.specs.TypeRules.{is_right_type_name}
 use Rattle.description_table.specs.Views.{type_view}
 use Rattle.description_rules.proofs.FirstLemmas.{first_from}
 use Rattle.description_rules.proofs.LowerLemmas.{lower_name}
-use Rattle.description_rules.proofs.type_rules.first_wrong_name.Given as goal
+use Rattle.description_rules.proofs.type_rules.first_wrong_among.Given as goal
 
 -- those before this one are right, and their names noted
 abbrev pub invariant-loop-i : goal.invariant-loop-i

@@ -5,7 +5,7 @@ use Rattle.ads_rules.specs.TypeRules.{wrong_member_of}
 use Rattle.description_table.specs.Views.{type_view}
 use Rattle.description_rules.specs.NextMember.{AreTypeNames}
 use Rattle.description_rules.proofs.ThroughLemmas.{through_from}
-use Rattle.description_rules.proofs.type_rules.first_wrong_part.Given as goal
+use Rattle.description_rules.proofs.type_rules.first_wrong_behind.Given as goal
 
 -- the members of the types before this one are right, and the names of these types noted
 abbrev pub invariant-loop-kind : goal.invariant-loop-kind

@@ -6,13 +6,13 @@ use Rattle.description_rules.specs.NameStarts.{is_none_of}
 use Rattle.description_rules.proofs.FirstLemmas.{take-more}
 use Rattle.description_rules.proofs.ThroughLemmas.{through_from, through_from-start, through_from-right, through_from-wrong}
 use Rattle.description_rules.proofs.MemberLemmas.{wrong_member-named, type_names-more}
-use Rattle.description_rules.proofs.type_rules.first_wrong_part.Goals as goal
+use Rattle.description_rules.proofs.type_rules.first_wrong_behind.Goals as goal
 
 pub loop-kind-init : goal.loop-kind-init
 loop-kind-init c = record {
   first = through_from-start (λ t. length (written_members t)) wrong_member_of type_view c.args.types.now;
   small = omega arith;
-  named = λ text. ap (λ names. is_none_of names text) c.new-names.ensures;
+  named = λ text. ap (λ names. is_none_of names text) c.requires;
 }
 
 pub returns-in-Some : goal.returns-in-Some

@@ -5,10 +5,10 @@ use Rattle.ads_rules.specs.TypeRules.{is_right_type_name}
 use Rattle.description_table.specs.Views.{type_view}
 use Rattle.description_rules.proofs.FirstLemmas.{first_from-start, first_from-right, first_from-wrong}
 use Rattle.description_rules.proofs.LowerLemmas.{right-lower, noted-lower}
-use Rattle.description_rules.proofs.type_rules.first_wrong_name.Goals as goal
+use Rattle.description_rules.proofs.type_rules.first_wrong_among.Goals as goal
 
 pub loop-i-init : goal.loop-i-init
-loop-i-init c = record { first = first_from-start is_right_type_name type_view c.args.types.now; noted = c.new-seen.ensures }
+loop-i-init c = record { first = first_from-start is_right_type_name type_view c.args.types.now; noted = c.requires }
 
 pub returns-then-not-branch : goal.returns-then-not-branch
 returns-then-not-branch c =

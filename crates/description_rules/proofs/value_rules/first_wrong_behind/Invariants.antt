@@ -6,7 +6,7 @@ use Rattle.description_table.specs.Views.{value_view}
 use Rattle.description_rules.proofs.FirstLemmas.{first_from}
 use Rattle.description_rules.proofs.LowerLemmas.{lower_name}
 use Rattle.description_rules.proofs.ValueLemmas.{value_name, value_number}
-use Rattle.description_rules.proofs.value_rules.first_wrong_value.Given as goal
+use Rattle.description_rules.proofs.value_rules.first_wrong_behind.Given as goal
 
 -- those before this one are right, and their names and numbers noted
 abbrev pub invariant-loop-i : goal.invariant-loop-i
