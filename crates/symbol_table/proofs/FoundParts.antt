@@ -14,7 +14,7 @@ use Rattle.ads_plant.proofs.PartLemmas.{part_behind-end}
 use Rattle.type_layout.specs.Shapes.{shape_of_ref}
 use Rattle.type_layout.specs.Descriptions.{area_of}
 use Rattle.std.proofs.lemmas.Option.{slice_get-map}
-use Rattle.symbol_table.specs.Comments.{comment_behind}
+use Rattle.ads_plant.specs.PartTexts.{comment_behind}
 use Rattle.symbol_table.specs.Tables.{TableSymbol, SymbolTable, table_symbol}
 use Rattle.symbol_table.proofs.PlacedSymbols.{IsSoundSymbol}
 use Rattle.symbol_table.specs.FoundParts.{part_in, IsSound, Tells, TellsPlace}

@@ -38,9 +38,9 @@ pub record Covers (area : Area) (k : ℕ) (s : TableSymbol) : Type 0 where
 
 covers-means : (area : Area) (k : ℕ) (s : TableSymbol) → covers area k s ≡ true → Covers area k s
 covers-means area k s h =
-    let parts = and_parts (is_same_area s.area area) (nat_le s.offset k && nat_lt k (s.offset + s.size)) h in
-    let bounds = and_parts (nat_le s.offset k) (nat_lt k (s.offset + s.size)) parts.1 in
-    record { same = parts.0; begins = leb-true s.offset k bounds.0; ends = ltb-true k (s.offset + s.size) bounds.1 }
+    let parts = and_parts (is_same_area s.area area && nat_le s.offset k) (nat_lt k (s.offset + s.size)) h in
+    let begins = and_parts (is_same_area s.area area) (nat_le s.offset k) parts.0 in
+    record { same = begins.0; begins = leb-true s.offset k begins.1; ends = ltb-true k (s.offset + s.size) parts.1 }
 
 covered : (symbols : List TableSymbol) (area : Area) (k n : ℕ) (s : TableSymbol) → slice_get symbols n ≡ Some s → is_same_area s.area area ≡ true → s.offset ≤ k → k < s.offset + s.size → is_covered symbols area k ≡ true
 covered symbols area k n s e same begins ends = any_passes_from_place (covers area k) symbols n s e (covers-is area k s same begins ends)

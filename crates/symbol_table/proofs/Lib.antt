@@ -8,7 +8,7 @@ pub mod PlacesInOrder
 pub mod PlaceSearch
 pub mod RowsRead
 pub mod Gaps
-pub mod MemberComments
+pub mod MemberTexts
 pub mod Steps
 pub mod Matching
 pub mod PositiveSizes
@@ -18,3 +18,6 @@ pub mod MovedWithin
 pub mod TestTables
 pub mod RangeSearch
 pub mod DeclaredRows
+pub mod SpelledTexts
+pub mod PlantRanges
+pub mod NameSteps

@@ -24,10 +24,10 @@ not_ended-numbers x z a n k later = grind (arith, nat_tests)
 ended_before-numbers : (x y z a n b k : ℕ) → (nat_lt x y || ((x == y) && nat_le (a + n) b)) ≡ true → (nat_lt y z || ((y == z) && nat_le b k)) ≡ true → (nat_lt x z || ((x == z) && nat_le (a + n) k)) ≡ true
 ended_before-numbers x y z a n b k before begins = grind (arith, nat_tests)
 
-covers-ended-numbers : (x z a n k : ℕ) → ((x == z) && (nat_le a k && nat_lt k (a + n))) ≡ true → (nat_lt x z || ((x == z) && nat_le (a + n) k)) ≡ false
+covers-ended-numbers : (x z a n k : ℕ) → ((x == z) && nat_le a k && nat_lt k (a + n)) ≡ true → (nat_lt x z || ((x == z) && nat_le (a + n) k)) ≡ false
 covers-ended-numbers x z a n k covered = grind (arith, nat_tests)
 
-begun-ended-numbers : (x z a n k : ℕ) → ((x == z) && (nat_le a k && nat_lt k (a + n))) ≡ false → (nat_lt x z || ((x == z) && nat_le a k)) ≡ true → (nat_lt x z || ((x == z) && nat_le (a + n) k)) ≡ true
+begun-ended-numbers : (x z a n k : ℕ) → ((x == z) && nat_le a k && nat_lt k (a + n)) ≡ false → (nat_lt x z || ((x == z) && nat_le a k)) ≡ true → (nat_lt x z || ((x == z) && nat_le (a + n) k)) ≡ true
 begun-ended-numbers x z a n k free begins = grind (arith, nat_tests)
 
 -- and the byte l, which is not before k
@@ -43,13 +43,13 @@ record Between (x z a n k l : ℕ) : Type 0 where
 between-numbers : (x z a n k l : ℕ) → (nat_lt x z || ((x == z) && nat_le a l)) ≡ true → (nat_lt x z || ((x == z) && nat_le (a + n) k)) ≡ false → Between x z a n k l
 between-numbers x z a n k l begins not_ended = record { same = grind (arith, nat_tests); begins = grind (arith, nat_tests); ends = grind (arith, nat_tests) }
 
-covers-begun-numbers : (x z a n k l : ℕ) → k ≤ l → ((x == z) && (nat_le a k && nat_lt k (a + n))) ≡ true → (nat_lt x z || ((x == z) && nat_le a l)) ≡ false → ⊥
+covers-begun-numbers : (x z a n k l : ℕ) → k ≤ l → ((x == z) && nat_le a k && nat_lt k (a + n)) ≡ true → (nat_lt x z || ((x == z) && nat_le a l)) ≡ false → ⊥
 covers-begun-numbers x z a n k l order covered later = grind (arith, nat_tests)
 
-ended-covers-numbers : (x z a n k l : ℕ) → k ≤ l → (nat_lt x z || ((x == z) && nat_le (a + n) k)) ≡ true → ((x == z) && (nat_le a l && nat_lt l (a + n))) ≡ true → ⊥
+ended-covers-numbers : (x z a n k l : ℕ) → k ≤ l → (nat_lt x z || ((x == z) && nat_le (a + n) k)) ≡ true → ((x == z) && nat_le a l && nat_lt l (a + n)) ≡ true → ⊥
 ended-covers-numbers x z a n k l order ended covered = grind (arith, nat_tests)
 
-at-covers-numbers : (x z a n k : ℕ) → (x == z) ≡ true → a ≤ k → k < a + n → ((x == z) && (nat_le a k && nat_lt k (a + n))) ≡ true
+at-covers-numbers : (x z a n k : ℕ) → (x == z) ≡ true → a ≤ k → k < a + n → ((x == z) && nat_le a k && nat_lt k (a + n)) ≡ true
 at-covers-numbers x z a n k same begins ends = grind (arith, nat_tests)
 
 module _ (symbols : List TableSymbol) (numbers : List ℕ) (area : Area) (at : ℕ) (order : IsPlaceOrder symbols numbers) (begun : ℕ) (has : HasBegun symbols numbers area at begun) where
@@ -162,13 +162,21 @@ module _ (symbols : List TableSymbol) (numbers : List ℕ) (area : Area) (at len
       let any = ltb-true 0 s.size (list_all-get has_bytes symbols n s bytes sn) in
       elim (cases_Bool (nat_le s.offset at)) [
         | inl le ↦ record {
-            owner = s; there = sn; byte = at; from = omega arith; upto = omega (arith, some);
-            covered = at-covers-numbers (area_number s.area) (area_number area) s.offset s.size at between.same (leb-true s.offset at le) ends;
-          }
+          owner = s;
+          there = sn;
+          byte = at;
+          from = omega arith;
+          upto = omega (arith, some);
+          covered = at-covers-numbers (area_number s.area) (area_number area) s.offset s.size at between.same (leb-true s.offset at le) ends;
+        }
         | inr more ↦
             let behind : at < s.offset = grind (arith, nat_tests) in
             record {
-              owner = s; there = sn; byte = s.offset; from = omega (arith, behind); upto = omega (arith, begins_, some);
+              owner = s;
+              there = sn;
+              byte = s.offset;
+              from = omega (arith, behind);
+              upto = omega (arith, begins_, some);
               covered = at-covers-numbers (area_number s.area) (area_number area) s.offset s.size s.offset between.same (omega arith) (omega (arith, any));
             }
       ]

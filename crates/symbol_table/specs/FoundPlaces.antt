@@ -1,14 +1,17 @@
 -- The place, type and comment of what a path leads to.
-use Rattle.std.specs.Prelude.{◌≡◌, ◌+◌, List, Option, Some, None, slice_get}
+use Rattle.std.specs.Prelude.{◌≡◌, ℕ, ◌+◌, ◌++◌, List, map, Option, Some, None, slice_get}
+use Rattle.name_paths.specs.Path.{Step}
+use Rattle.ads_plant.specs.Description.{Port}
 use Rattle.ads_plant.specs.Listed.{NamedType}
 use Rattle.ads_plant.specs.Trees.{tree_of}
 use Rattle.ads_plant.specs.Sizes.{type_size}
 use Rattle.ads_plant.specs.AcceptedTypes.{IsSized}
-use Rattle.ads_plant.specs.World.{PlantSymbol}
+use Rattle.ads_plant.specs.World.{PlantSymbol, plant_symbol}
 use Rattle.ads_plant.specs.Finding as plant
 use Rattle.type_layout.specs.Shapes.{shape_of_ref}
 use Rattle.type_layout.specs.Descriptions.{area_of}
-use Rattle.symbol_table.specs.Comments.{comment_of_found}
+use Rattle.ads_plant.specs.PartTexts.{comment_of_found, name_of_found}
+use Rattle.symbol_table.specs.Tables.{SymbolTable, IsTableOf}
 use Rattle.symbol_table.specs.declared.found.Found.{Found}
 
 -- the number of the symbol among these, its area, the part's place in it and its bytes, its type, which may be asked for
@@ -28,3 +31,10 @@ Finds types symbols None None = Unit {0}
 Finds types symbols None (Some answer) = ⊥
 Finds types symbols (Some led) None = ⊥
 Finds types symbols (Some led) (Some answer) = IsFound types symbols led answer
+
+-- the declared name of what a path leads to is appended, where it leads into the symbol with this number
+abbrev pub PutsName : List NamedType → SymbolTable → List Step → ℕ → List ℕ → List ℕ → Type 0
+PutsName types table path number old new =
+    (port : Port) (led : plant.Found) → IsTableOf types port table
+    → plant.found_of_steps (map (plant_symbol types) port.symbols) path ≡ Some led
+    → slice_get (map (plant_symbol types) port.symbols) number ≡ Some led.symbol → new ≡ old ++ name_of_found led

@@ -1,6 +1,5 @@
 pub mod Moves
 pub mod Ranks
-pub mod Comments
 pub mod FoundParts
 pub mod FoundPlaces
 pub mod NameKeys
@@ -15,3 +14,4 @@ pub mod TestPorts
 pub mod Tiles
 pub mod Tiling
 pub mod Ranges
+pub mod MemberTexts

@@ -1,16 +1,16 @@
 -- What stands at a byte of an area: a symbol, or a gap between symbols.
-use Rattle.std.specs.Prelude.{◌≡◌, ℕ, ◌+◌, ◌-◌, ◌<◌, ◌≤◌, Bool, false, ◌&&◌, nat_lt, nat_le, IsTrue, slice_get, List}
+use Rattle.std.specs.Prelude.{◌≡◌, ℕ, ◌+◌, ◌-◌, ◌<◌, ◌≤◌, Bool, false, IsTrue, slice_get, List}
 use Rattle.std.specs.List.{list_any}
 use Rattle.std.specs.Option.{option_map_or}
 use Rattle.ads_plant.specs.Description.{Area, size_in}
-use Rattle.ads_plant.specs.World.{is_same_area}
+use Rattle.ads_plant.specs.Covering.{is_byte_of}
 use Rattle.symbol_table.specs.Tables.{TableSymbol, SymbolTable}
 use Rattle.symbol_table.specs.declared.tile.Tile.{Tile}
 use Rattle.symbol_table.specs.declared.tile.Tile.TheVariants as tile
 
 -- a byte of an area belongs to a symbol
 abbrev pub covers : Area → ℕ → TableSymbol → Bool
-covers area k s = is_same_area s.area area && (nat_le s.offset k && nat_lt k (s.offset + s.size))
+covers area k s = is_byte_of s.area s.offset s.size area k
 
 -- whether a byte of an area belongs to one of these symbols
 abbrev pub is_covered : List TableSymbol → Area → ℕ → Bool

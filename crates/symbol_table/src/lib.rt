@@ -2,10 +2,10 @@
 #![tactic(auto)]
 
 mod by_place;
-mod comments;
 mod found;
 mod index;
 mod kept;
+mod members;
 mod moves;
 #[cfg(test)]
 mod moves_tests;
@@ -16,6 +16,7 @@ mod place;
 mod ranges;
 mod ranks;
 mod row;
+mod spelled;
 mod table;
 #[cfg(test)]
 mod table_tests;

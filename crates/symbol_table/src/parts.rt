@@ -1,16 +1,17 @@
 //! The part of a symbol that the steps behind its name lead to.
 
-ghost use Rattle.std.specs.Prelude.{◌≡◌, ◌<◌, drop, option_map};
+ghost use Rattle.std.specs.Prelude.{◌≡◌, ◌<◌, count_by, drop, length, option_map};
+ghost use Rattle.name_paths.specs.Name.{identifiers_of, is_full_stop};
 ghost use Rattle.name_paths.specs.Steps.{step_of};
 ghost use Rattle.ads_plant.specs.AcceptedTypes.{AreTypes};
 ghost use Rattle.ads_plant.specs.Parts.{part_behind, part_of, within_part};
 ghost use Rattle.ads_plant.specs.Trees.{tree_of};
 ghost use Rattle.type_layout.specs.Shapes.{shape_of_ref};
 ghost use Rattle.type_layout.specs.NamedTypes.{types_of};
-ghost use Rattle.symbol_table.specs.Comments.{comment_of_step, comment_behind};
+ghost use Rattle.ads_plant.specs.PartTexts.{comment_of_step, comment_behind};
 ghost use Rattle.symbol_table.specs.FoundParts.{part_in, IsSound, Tells};
 
-use crate::comments::comment_at;
+use crate::members::comment_at;
 use name_paths::{LaterSteps, Path, Step};
 use type_layout::{TypeRef, Types, member};
 
@@ -29,6 +30,21 @@ pub fn steps_behind<'a>(path: &Path<'a>, count: usize) -> LaterSteps<'a>
 {
     let (_, later) = path.first();
     skip(later, count - 1)
+}
+
+/// The steps of a path behind as many as a name has identifiers.
+#[tactic(auto, using(crate::proofs::NameSteps::behind_name))]
+pub fn steps_behind_name<'a>(path: &Path<'a>, name: &[u8]) -> LaterSteps<'a>
+    ensures { result ≡ drop (length (identifiers_of name.now)) path.now }
+{
+    let (_, later) = path.first();
+    skip(later, stop_count(name))
+}
+
+fn stop_count(name: &[u8]) -> usize
+    ensures { result ≡ count_by is_full_stop name.now }
+{
+    name.iter().filter(|c| **c == b'.').count()
 }
 
 fn skip(later: LaterSteps<'_>, count: usize) -> LaterSteps<'_>

@@ -56,7 +56,5 @@ fn ended(rows: &[SymbolRow], numbers: &[u32], area: Area, at: u32) -> usize
 fn covers(row: &SymbolRow, area: Area, at: u32) -> bool
     ensures { result ≡ covers (area_of area) at (symbol_of_row row.now) }
 {
-    is_same_area(row.area, area)
-        && row.at <= at
-        && (at as u64) < row.at as u64 + row.len as u64
+    is_same_area(row.area, area) && row.at <= at && (at as u64) < row.at as u64 + row.len as u64
 }

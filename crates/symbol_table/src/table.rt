@@ -1,6 +1,6 @@
 //! The table of a port's symbols.
 
-ghost use Rattle.std.specs.Prelude.{◌≡◌, ℕ, ◌+◌, ◌-◌, ◌*◌, ◌^◌, ◌<◌, ◌≤◌, List, length, map, slice_get, Some, IfOk, All};
+ghost use Rattle.std.specs.Prelude.{◌≡◌, ℕ, ◌+◌, ◌-◌, ◌*◌, ◌^◌, ◌<◌, ◌≤◌, List, length, map, slice_get, Some, IfOk, OnOk, OnErr, All};
 ghost use Rattle.ads_plant.specs.Description.{Port, size_in};
 ghost use Rattle.ads_plant.specs.Finding.{found_of_steps};
 ghost use Rattle.ads_plant.specs.Listed.{NamedType};
@@ -9,11 +9,12 @@ ghost use Rattle.ads_plant.specs.Trees.{tree_of};
 ghost use Rattle.ads_plant.specs.World.{plant_symbol};
 ghost use Rattle.type_layout.specs.Descriptions.{area_of, port_of};
 ghost use Rattle.type_layout.specs.NamedTypes.{types_of};
-ghost use Rattle.symbol_table.specs.Comments.{comment_behind};
+ghost use Rattle.type_layout.specs.Spelled.{Extends};
+ghost use Rattle.ads_plant.specs.PartTexts.{comment_behind};
 ghost use Rattle.symbol_table.specs.FoundParts.{TellsPlace};
-ghost use Rattle.symbol_table.specs.FoundPlaces.{Finds};
+ghost use Rattle.symbol_table.specs.FoundPlaces.{Finds, PutsName};
 ghost use Rattle.symbol_table.specs.PlaceOrders.{IsPlaceOrder};
-ghost use Rattle.symbol_table.specs.Ranges.{AreInRange};
+ghost use Rattle.symbol_table.specs.Ranges.{AreInRange, AllStandIn};
 ghost use Rattle.symbol_table.specs.Rows.{symbols_of_rows, declared_by_rows, IsSizedRow};
 ghost use Rattle.symbol_table.specs.Tables.{TableSymbol, table_of, IsPlaced, IsTableOf, IsTableWith, number_called};
 ghost use Rattle.symbol_table.specs.Tiles.{IsTileAt};
@@ -21,12 +22,13 @@ ghost use Rattle.symbol_table.specs.Tiles.{IsTileAt};
 use crate::by_place::place_order;
 use crate::name_order::NameOrder;
 use crate::names::names_of;
-use crate::parts::{Part, part_behind, steps_behind};
+use crate::parts::{Part, part_behind, steps_behind, steps_behind_name};
 use crate::ranges::numbers_in;
 use crate::row::{SymbolRow, rows_of};
+use crate::spelled::append_steps;
 use crate::tiling::{size_of_area, tile_at};
 use crate::{Found, Place, Tile};
-use ads_base::{NoMemory, Steps};
+use ads_base::{NoMemory, Octets, Steps};
 use name_index::NameIndex;
 use name_paths::{LaterSteps, Path};
 use std::alloc::Global;
@@ -134,6 +136,52 @@ impl Table {
         }
     }
 
+    /// Appends the declared name of what a path leads to, which `find` told: the symbol's name, the names of the members,
+    /// and the indexes.
+    pub fn put_name(
+        &self,
+        alloc: Global,
+        types: &Types,
+        path: &Path<'_>,
+        found: &Found<'_>,
+        out: &mut Octets,
+    ) -> Result<(), NoMemory>
+        requires types { IsTableWith (types_of types.now) self.now }
+        requires there { found.now.place.symbol < length self.now.symbols }
+        ensures ok { OnOk result
+            (PutsName (types_of types.now) self.now path.now found.now.place.symbol out.old out.new) }
+        ensures no_memory { OnErr result (out.new ≡ out.old) }
+    {
+        let before = out.len();
+        let put = self.append_name(alloc, types, path, found.place.symbol, out);
+        if put.is_err() {
+            out.cut(before);
+        }
+        put
+    }
+
+    // After want of memory a part of the name may stand there.
+    fn append_name(
+        &self,
+        alloc: Global,
+        types: &Types,
+        path: &Path<'_>,
+        number: u32,
+        out: &mut Octets,
+    ) -> Result<(), NoMemory>
+        requires types { IsTableWith (types_of types.now) self.now }
+        requires there { number < length self.now.symbols }
+        ensures ok { OnOk result (PutsName (types_of types.now) self.now path.now number out.old out.new) }
+        ensures no_memory { OnErr result (Extends out.old out.new) }
+    {
+        let row = &self.rows[number as usize];
+        let name = row.name.as_slice();
+        out.put(alloc, name)?;
+        let steps = steps_behind_name(path, name);
+        append_steps(alloc, types, row.kind.as_ref(), &steps, out)?;
+        Ok(())
+    }
+
     /// What stands at a byte of an area: a symbol, or a gap between symbols.
     pub fn tile(&self, area: Area, at: u32) -> Tile
         requires { at < size_in self.now.sizes (area_of area) }
@@ -152,7 +200,9 @@ impl Table {
     /// places. What lies between them belongs to no symbol. They are found by halving.
     pub fn symbols_in(&self, area: Area, at: u32, len: u32) -> &[u32]
         requires { at + len ≤ size_in self.now.sizes (area_of area) }
-        ensures { AreInRange self.now.symbols (area_of area) at len result.now }
+        ensures range { AreInRange self.now.symbols (area_of area) at len result.now }
+        ensures plant { (types : List NamedType) (port : Port) → IsTableOf types port self.now
+            → AllStandIn (map (plant_symbol types) port.symbols) (area_of area) at len result.now }
     {
         let size = size_of_area(self.sizes, area);
         numbers_in(

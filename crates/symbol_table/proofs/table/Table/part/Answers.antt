@@ -9,7 +9,7 @@ use Rattle.ads_plant.specs.Parts.{part_behind}
 use Rattle.type_layout.specs.Shapes.{shape_of, shape_of_ref}
 use Rattle.type_layout.specs.NamedTypes.{types_of}
 use Rattle.type_layout.specs.Descriptions.{area_of, sizes_of}
-use Rattle.symbol_table.specs.Comments.{comment_behind}
+use Rattle.ads_plant.specs.PartTexts.{comment_behind}
 use Rattle.symbol_table.specs.Tables.{TableSymbol, SymbolTable}
 use Rattle.symbol_table.specs.Rows.{symbol_of_row}
 use Rattle.symbol_table.proofs.RowsRead.{row_there}

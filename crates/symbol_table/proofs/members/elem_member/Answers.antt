@@ -5,7 +5,7 @@ use Rattle.ads_plant.specs.Listed.{Enum}
 use Rattle.type_layout.specs.Shapes.{elem_of}
 use Rattle.type_layout.specs.NamedTypes.{types_of}
 use Rattle.type_layout.proofs.Leaves.{no_member}
-use Rattle.symbol_table.proofs.comments.elem_comment.Goals as goal
+use Rattle.symbol_table.proofs.members.elem_member.Goals as goal
 
 pub returns-in-Enum : goal.returns-in-Enum
 returns-in-Enum c =

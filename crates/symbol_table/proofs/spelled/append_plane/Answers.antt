@@ -1,0 +1,14 @@
+-- The indexes with a comma between them, and their brackets.
+use Rattle.std.proofs.Common.{rules, ◌≡◌, [], ◌∷◌, ◌++◌, ◌∙◌, ap}
+use Rattle.ads_plant.specs.PartTexts.{text_of_indexes}
+use Rattle.ads_plant.specs.Spelling.{integer_text}
+use Rattle.symbol_table.proofs.SpelledTexts.{plane_text}
+use Rattle.symbol_table.proofs.spelled.append_plane.Goals as goal
+
+pub returns-clause-ok : goal.returns-clause-ok
+returns-clause-ok c =
+    let one : c.append_index.new.out ≡ c.args.out.now ++ 91 ∷ integer_text c.args.i = search rules in
+    let two : c.append_index-2.new.out ≡ c.append_index.new.out ++ 44 ∷ integer_text c.args.j = search rules in
+    let whole : c.append_index-2.new.out ++ 93 ∷ [] ≡ c.args.out.now ++ text_of_indexes (c.args.i ∷ c.args.j ∷ [])
+    = ap (λ t. t ++ 93 ∷ []) (two ∙ ap (λ t. t ++ 44 ∷ integer_text c.args.j) one) ∙ plane_text c.args.out.now c.args.i c.args.j in
+    rw whole at c.push.ensures.ok
