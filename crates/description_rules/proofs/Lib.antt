@@ -21,3 +21,4 @@ pub mod PortSeenLemmas
 pub mod LowerLemmas
 pub mod MemberLemmas
 pub mod ValueLemmas
+pub mod ShapeLemmas

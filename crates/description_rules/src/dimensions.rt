@@ -1,9 +1,9 @@
 //! The dimensions of arrays, looked at before they are built.
-ghost use Rattle.std.specs.Prelude.{◌≡◌, ◌≤◌, ◌^◌, map, nat_le, true, IfOk};
+ghost use Rattle.std.specs.Prelude.{◌≡◌, ◌≤◌, ◌^◌, [], map, nat_le, true, IfOk, OnOk};
 ghost use Rattle.ads_plant.specs.Sizes.{element_count};
 ghost use Rattle.ads_plant.specs.AcceptedTypes.{LIMIT};
 ghost use Rattle.ads_rules.specs.Shapes.{bound_between};
-ghost use Rattle.type_layout.specs.Shapes.{bound_of, shape_of};
+ghost use Rattle.type_layout.specs.Shapes.{bound_of, bounds_of, shape_of};
 ghost use Rattle.type_layout.specs.ReadTexts.{ends_of};
 ghost use Rattle.description_rules.specs.NamedShapes.{ends_read, shape_read};
 
@@ -44,23 +44,30 @@ pub fn build_shape(alloc: Global, s: &NamedShape) -> Result<Shape, NoMemory>
     requires { nat_le (element_count (map bound_between (ends_read s.now))) LIMIT ≡ true }
     ensures { IfOk result (λ built. shape_of built ≡ shape_read s.now) }
 {
+    if s.count == 0 {
+        return Ok(Shape::One(s.elem));
+    }
     let mut bounds = Bounds::new(alloc);
+    put_bounds(alloc, &mut bounds, s)?;
+    Ok(Shape::Array(bounds, s.elem))
+}
+
+fn put_bounds(alloc: Global, bounds: &mut Bounds, s: &NamedShape) -> Result<(), NoMemory>
+    requires none { bounds.old ≡ [] }
+    requires small { nat_le (element_count (map bound_between (ends_read s.now))) LIMIT ≡ true }
+    ensures { OnOk result (bounds_of bounds.new ≡ map bound_between (ends_read s.now)) }
+{
     match s.count {
-        0 => Ok(Shape::One(s.elem)),
-        1 => {
-            bounds.push(alloc, bound_of(s.first))?;
-            Ok(Shape::Array(bounds, s.elem))
-        }
+        0 => Ok(()),
+        1 => bounds.push(alloc, bound_of(s.first)),
         2 => {
             bounds.push(alloc, bound_of(s.first))?;
-            bounds.push(alloc, bound_of(s.second))?;
-            Ok(Shape::Array(bounds, s.elem))
+            bounds.push(alloc, bound_of(s.second))
         }
         _ => {
             bounds.push(alloc, bound_of(s.first))?;
             bounds.push(alloc, bound_of(s.second))?;
-            bounds.push(alloc, bound_of(s.third))?;
-            Ok(Shape::Array(bounds, s.elem))
+            bounds.push(alloc, bound_of(s.third))
         }
     }
 }
