@@ -39,7 +39,7 @@ pub record EqualMembers (ms ns : MemberTrees) : Type 0 where
 mutual
   unfolding has_same_parts type_size type_align
 
-  same_parts-size : (t u : TypeTree) → has_same_parts t u ≡ true → EqualSize t u
+  pub same_parts-size : (t u : TypeTree) → has_same_parts t u ≡ true → EqualSize t u
   same_parts-size (PlainTree k) (PlainTree l) e = let s = same_kind-size k l e in record { size = s; align = s }
   same_parts-size (TextTree m) (TextTree n) e = record { size = ap (λ x. x + 1) (eqb-true m n e); align = refl }
   same_parts-size (EnumTree name k) (EnumTree other l) e = let s = same_kind-size k l e in record { size = s; align = s }

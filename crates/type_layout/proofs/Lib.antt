@@ -4,3 +4,6 @@ pub mod ManyDimensions
 pub mod MemberTurns
 pub mod Numbers
 pub mod Places
+pub mod SameNumbers
+pub mod SameShapeLemmas
+pub mod Partners

@@ -6,3 +6,4 @@ pub mod FoundParts
 pub mod Spelled
 pub mod ReadTexts
 pub mod Dimensions
+pub mod SameShapes

@@ -106,7 +106,7 @@ fn structure_member<'a>(
 }
 
 // Whether two names are the same, ASCII case aside.
-fn is_same_name(a: &[u8], b: &[u8]) -> bool
+pub(crate) fn is_same_name(a: &[u8], b: &[u8]) -> bool
     ensures { result ≡ bytes_eq (lower a.now) (lower b.now) }
 {
     a.eq_ignore_ascii_case(b)

@@ -1,0 +1,6 @@
+-- The recursion goes down the members.
+use Rattle.std.proofs.Common.{length}
+use Rattle.type_layout.proofs.same_types.+are_same_members.Given as goal
+
+abbrev pub decreases-are_same_members : goal.decreases-are_same_members
+decreases-are_same_members l = length l.ms.now
