@@ -11,8 +11,6 @@ mod no_memory;
 mod octets;
 mod peer;
 mod steps;
-#[cfg(test)]
-mod tests;
 
 pub use ams_addr::AmsAddr;
 pub use calls::Calls;

@@ -10,8 +10,6 @@ mod reply_writing;
 mod request;
 mod request_reading;
 mod request_writing;
-#[cfg(test)]
-mod tests;
 
 pub use fault::ReadFault;
 pub use laws::what_is_written_is_read;

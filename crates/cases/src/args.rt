@@ -3,7 +3,7 @@
 use crate::fault::Fault;
 use crate::folder::Sheet;
 use crate::pieces::{cut_at, put_word};
-use ads_base::{Octets, read_decimal};
+use ads_base::{NoMemory, Octets, read_decimal};
 use std::alloc::Global;
 
 /// The words of a case that are still to be read.
@@ -69,6 +69,33 @@ impl<'a> Args<'a> {
         u32::try_from(self.number()?).ok().ok_or(Fault::BadArgument)
     }
 
+    /// Whether a word of an answer is the one that must come: as it is written, as the number that is wanted behind
+    /// `0x`, or as the bytes that are wanted.
+    pub fn are_same(&self, wanted: &[u8], word: &[u8]) -> Result<bool, NoMemory> {
+        if wanted == word {
+            return Ok(true);
+        }
+        if wanted.is_empty() || word.is_empty() {
+            return Ok(false);
+        }
+        if let [b'0', b'x', ..] = wanted {
+            return Ok(number_of(wanted) == read_decimal(word));
+        }
+        let wanted = self.bytes_of(wanted)?;
+        let bytes = self.bytes_of(word)?;
+        Ok(wanted.is_some() && wanted == bytes)
+    }
+
+    // The bytes that a word writes, where it writes some.
+    fn bytes_of(&self, word: &[u8]) -> Result<Option<Vec<u8>>, NoMemory> {
+        let mut bytes = Octets::new(self.alloc);
+        match put_word(self.alloc, self.sheets, word, &mut bytes) {
+            Ok(()) => Ok(Some(bytes.into_vec())),
+            Err(Fault::Memory) => Err(NoMemory),
+            Err(_) => Ok(None),
+        }
+    }
+
     /// The bytes that the next word writes.
     pub fn bytes(&mut self) -> Result<Octets, Fault> {
         let word = self.word();
@@ -91,11 +118,11 @@ impl<'a> Args<'a> {
 pub fn next_word(text: &[u8]) -> (&[u8], &[u8]) {
     let mut rest = text;
     for _ in 0..text.len() {
-        let (word, behind) = cut_at(rest, b' ');
-        if !word.is_empty() {
-            return (word, behind);
+        match cut_at(rest, b' ') {
+            ([], Some(behind)) => rest = behind,
+            (word, Some(behind)) => return (word, behind),
+            (word, None) => return (word, &[]),
         }
-        rest = behind;
     }
     (&[], &[])
 }

@@ -61,28 +61,19 @@ fn compared(alloc: Global, args: &mut Args<'_>, answer: &[u8]) -> Result<Verdict
     if args.word() != b"=>".as_slice() {
         return Ok(Verdict::Unreadable("`=>` does not follow the arguments"));
     }
-    if are_same_words(args.rest(), answer) {
-        Ok(Verdict::Right)
-    } else {
-        Ok(Verdict::Came(Octets::copy_of(alloc, answer)?))
-    }
-}
-
-// Whether two texts have the same words, however many spaces stand between them.
-fn are_same_words(expected: &[u8], answer: &[u8]) -> bool {
-    let mut expected = expected;
-    let mut answer = answer;
+    let mut wanted = args.rest();
+    let mut came = answer;
     for _ in 0..usize::MAX {
-        let (wanted, behind_wanted) = next_word(expected);
-        let (word, behind) = next_word(answer);
-        if wanted != word {
-            return false;
+        let (wanted_word, wanted_behind) = next_word(wanted);
+        let (word, behind) = next_word(came);
+        if !args.are_same(wanted_word, word)? {
+            return Ok(Verdict::Came(Octets::copy_of(alloc, answer)?));
         }
         if word.is_empty() {
-            return true;
+            break;
         }
-        expected = behind_wanted;
-        answer = behind;
+        wanted = wanted_behind;
+        came = behind;
     }
-    false
+    Ok(Verdict::Right)
 }

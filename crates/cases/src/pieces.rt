@@ -5,8 +5,8 @@ use crate::folder::Sheet;
 use ads_base::{Octets, read_decimal};
 use std::alloc::Global;
 
-/// The text before the first such byte outside of quotes, and the text behind it, which is empty where there is none.
-pub fn cut_at(text: &[u8], stop: u8) -> (&[u8], &[u8]) {
+/// The text before the first such byte outside of quotes, and the text behind that byte, where there is one.
+pub fn cut_at(text: &[u8], stop: u8) -> (&[u8], Option<&[u8]>) {
     let mut quoted = false;
     let mut escaped = false;
     for i in 0..text.len() {
@@ -18,10 +18,10 @@ pub fn cut_at(text: &[u8], stop: u8) -> (&[u8], &[u8]) {
         } else if byte == b'"' {
             quoted = !quoted;
         } else if byte == stop && !quoted {
-            return (&text[..i], &text[i + 1..]);
+            return (&text[..i], Some(&text[i + 1..]));
         }
     }
-    (text, &[])
+    (text, None)
 }
 
 /// Appends the bytes that a word writes: pieces joined by `+`, each hexadecimal digits, a text in quotes or the file
@@ -34,35 +34,33 @@ pub fn put_word(
 ) -> Result<(), Fault> {
     let mut rest = word;
     for _ in 0..word.len() {
-        if rest.is_empty() {
-            break;
-        }
         let (piece, behind) = cut_at(rest, b'+');
         put_piece(alloc, sheets, piece, out)?;
-        rest = behind;
+        match behind {
+            Some(behind) => rest = behind,
+            None => return Ok(()),
+        }
     }
-    Ok(())
+    Err(Fault::BadArgument)
 }
 
 fn put_piece(alloc: Global, sheets: &[Sheet], piece: &[u8], out: &mut Octets) -> Result<(), Fault> {
     let (unit, times) = cut_at(piece, b'*');
+    let Some(times) = times else {
+        return put_unit(alloc, sheets, unit, out);
+    };
+    let times = read_decimal(times).ok_or(Fault::BadArgument)?;
     let mut bytes = Octets::new(alloc);
     put_unit(alloc, sheets, unit, &mut bytes)?;
-    for _ in 0..times_of(times)? {
+    for _ in 0..times {
         out.put(alloc, bytes.as_slice())?;
     }
     Ok(())
 }
 
-fn times_of(text: &[u8]) -> Result<u64, Fault> {
-    if text.is_empty() {
-        return Ok(1);
-    }
-    read_decimal(text).ok_or(Fault::BadArgument)
-}
-
 fn put_unit(alloc: Global, sheets: &[Sheet], unit: &[u8], out: &mut Octets) -> Result<(), Fault> {
     match unit {
+        [] => Err(Fault::BadArgument),
         [b'"', text @ .., b'"'] => put_quoted(alloc, text, out),
         [b'@', name @ ..] => put_file(alloc, sheets, name, out),
         _ => put_digits(alloc, unit, out),
@@ -125,7 +123,12 @@ fn put_quoted(alloc: Global, text: &[u8], out: &mut Octets) -> Result<(), Fault>
                 out.push(alloc, b'\n')?;
                 rest = others;
             }
-            [b'\\', byte, others @ ..] | [byte, others @ ..] => {
+            [b'\\', byte, others @ ..] if *byte == b'\\' || *byte == b'"' => {
+                out.push(alloc, *byte)?;
+                rest = others;
+            }
+            [b'\\' | b'"', ..] => return Err(Fault::BadArgument),
+            [byte, others @ ..] => {
                 out.push(alloc, *byte)?;
                 rest = others;
             }

@@ -1,6 +1,7 @@
-//! A file of cases. A line that begins with a space goes on with the case above it, an empty line and one that
-//! begins with `#` say nothing to the program, and every other line begins a case.
+//! A file of cases. A line that begins with a space goes on with the case above it, and with its last word where a `+`
+//! follows. An empty line and one that begins with `#` say nothing to the program. Every other line begins a case.
 
+use crate::args::next_word;
 use crate::case::{Verdict, tried};
 use crate::folder::Sheet;
 use ads_base::{NoMemory, Octets};
@@ -37,7 +38,7 @@ pub fn tried_all(
         number = number.saturating_add(1);
         match line {
             [] | [b'#', ..] => {}
-            [b' ', ..] => open.text.put(alloc, line)?,
+            [b' ', ..] => go_on(alloc, line, &mut open.text)?,
             _ => {
                 close(alloc, sheets, sheet, &open, &mut count, out)?;
                 open.line = number;
@@ -47,6 +48,24 @@ pub fn tried_all(
     }
     close(alloc, sheets, sheet, &open, &mut count, out)?;
     Ok(count)
+}
+
+// Appends a line that begins with spaces.
+fn go_on(alloc: Global, line: &[u8], text: &mut Octets) -> Result<(), NoMemory> {
+    let (word, _) = next_word(line);
+    if let [b'+', ..] = word {
+        return text.put(alloc, without_indent(line));
+    }
+    text.put(alloc, line)
+}
+
+fn without_indent(line: &[u8]) -> &[u8] {
+    for i in 0..line.len() {
+        if line[i] != b' ' {
+            return &line[i..];
+        }
+    }
+    line
 }
 
 // Tries the case that was read, if there is one.

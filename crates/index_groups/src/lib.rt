@@ -5,8 +5,6 @@ mod access;
 mod areas;
 mod groups;
 mod rule;
-#[cfg(test)]
-mod tests;
 
 pub use access::Reach;
 pub use groups::{AreaGroup, area_group, byte_group};

@@ -3,8 +3,6 @@
 
 mod lower;
 mod name_index;
-#[cfg(test)]
-mod tests;
 
 pub use lower::lower_copy;
 pub use name_index::NameIndex;

@@ -17,6 +17,3 @@ pub use name::is_symbol_name;
 pub use number::read_number;
 pub use path::Path;
 pub use step::Step;
-
-#[cfg(test)]
-mod tests;

@@ -2,7 +2,5 @@
 #![tactic(auto)]
 
 mod routes;
-#[cfg(test)]
-mod tests;
 
 pub use routes::Routes;

@@ -6,8 +6,6 @@ mod place;
 mod reading;
 mod samples;
 mod skipping;
-#[cfg(test)]
-mod tests;
 mod writing;
 
 pub use notes::Notes;

@@ -3,8 +3,6 @@
 
 mod code;
 mod laws;
-#[cfg(test)]
-mod tests;
 
 pub use code::Code;
 pub use laws::codes_and_numbers_agree;

@@ -7,8 +7,6 @@ mod ramp;
 mod signal;
 mod square;
 mod table8;
-#[cfg(test)]
-mod tests;
 
 pub use bank::Bank;
 pub use ramp::Ramp;

@@ -3,8 +3,6 @@
 
 mod entry;
 mod reading;
-#[cfg(test)]
-mod tests;
 mod writing;
 
 pub use entry::Entry;

@@ -15,8 +15,6 @@ mod same_types;
 mod shape;
 mod spelling;
 mod structures;
-#[cfg(test)]
-mod tests;
 mod upload;
 mod words;
 

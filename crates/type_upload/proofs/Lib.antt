@@ -8,5 +8,4 @@ pub mod TextLengths
 pub mod LayoutLemmas
 pub mod MemberLemmas
 pub mod EntryLemmas
-pub mod TestedTypes
 mod Examples

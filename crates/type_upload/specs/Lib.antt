@@ -3,4 +3,3 @@ pub mod Places
 pub mod Layouts
 pub mod WrittenFields
 pub mod NextMembers
-pub mod TestTypes

@@ -8,8 +8,6 @@ mod members;
 mod places;
 mod reading;
 mod skipping;
-#[cfg(test)]
-mod tests;
 mod writing;
 
 pub use entry::TypeEntry;

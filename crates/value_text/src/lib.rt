@@ -6,8 +6,6 @@ mod laws;
 mod numbers;
 mod quotes;
 mod reading;
-#[cfg(test)]
-mod tests;
 mod writing;
 
 pub use laws::{
