@@ -9,7 +9,7 @@ use Rattle.toml.specs.Parse.{parse_document}
 use Rattle.ads_plant.specs.Description.{Description}
 use Rattle.ads_plant.specs.Accepted.{IsAccepted}
 use Rattle.ads_rules.specs.Verdict.{BrokenRule, table_verdict}
-use Rattle.ads_rules.specs.TextVerdict.{Described, Breaks, text_verdict, verdict_of_rules, verdict_of_document, document_of}
+use Rattle.ads_rules.specs.TextVerdict.{DESCRIPTION_LIMIT, Described, Breaks, text_verdict, verdict_of_rules, verdict_of_document, document_of}
 use Rattle.ads_rules.proofs.Accepts.{table_verdict-accepted}
 use Rattle.type_layout.specs.Descriptions.{description_of}
 use Rattle.type_layout.specs.declared.description.Description as layout
@@ -42,24 +42,24 @@ document_of-none bytes none =
     ]
 
 -- rule 1
-pub text_verdict-long : (signals : ℕ) (bytes : List ℕ) → 16777216 < length bytes → Breaks 1 0 ≡ text_verdict signals bytes
+pub text_verdict-long : (signals : ℕ) (bytes : List ℕ) → DESCRIPTION_LIMIT < length bytes → Breaks 1 0 ≡ text_verdict signals bytes
 unfolding text_verdict
 text_verdict-long signals bytes long =
-    elim (cases_Bool (nat_lt 16777216 (length bytes))) [
+    elim (cases_Bool (nat_lt DESCRIPTION_LIMIT (length bytes))) [
       | inl t ↦ rw t refl
-      | inr t ↦ let small = ltb-false 16777216 (length bytes) t in absurd (omega arith)
+      | inr t ↦ let small = ltb-false DESCRIPTION_LIMIT (length bytes) t in absurd (omega arith)
     ]
 
-pub text_verdict-short : (signals : ℕ) (bytes : List ℕ) (document : Option Members) → length bytes ≤ 16777216 → document ≡ document_of bytes
+pub text_verdict-short : (signals : ℕ) (bytes : List ℕ) (document : Option Members) → length bytes ≤ DESCRIPTION_LIMIT → document ≡ document_of bytes
     → verdict_of_document signals document ≡ text_verdict signals bytes
 unfolding text_verdict
 text_verdict-short signals bytes document short is =
-    elim (cases_Bool (nat_lt 16777216 (length bytes))) [
-      | inl t ↦ let long = ltb-true 16777216 (length bytes) t in absurd (omega arith)
+    elim (cases_Bool (nat_lt DESCRIPTION_LIMIT (length bytes))) [
+      | inl t ↦ let long = ltb-true DESCRIPTION_LIMIT (length bytes) t in absurd (omega arith)
       | inr t ↦ rw t (ap (verdict_of_document signals) is)
     ]
 
-pub verdict-behind : {E : Type 0} (signals : ℕ) (bytes : List ℕ) (table : Members) (r : Result (Result layout.Description DescFault) E) → length bytes ≤ 16777216
+pub verdict-behind : {E : Type 0} (signals : ℕ) (bytes : List ℕ) (table : Members) (r : Result (Result layout.Description DescFault) E) → length bytes ≤ DESCRIPTION_LIMIT
     → Some table ≡ document_of bytes → IfOk r (λ answer. answer_of answer ≡ verdict_of_rules (table_verdict signals table)) → IfOk r (IsVerdict signals bytes)
 verdict-behind signals bytes table (Ok answer) short is e = e ∙ text_verdict-short signals bytes (Some table) short is
 verdict-behind signals bytes table (Err error) short is e = tt
