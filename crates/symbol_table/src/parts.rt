@@ -16,7 +16,7 @@ use name_paths::{LaterSteps, Path, Step};
 use type_layout::{TypeRef, Types, member};
 
 /// A part of a symbol: its first byte within the symbol, its type and its comment.
-#[derive(Clone, Copy, Debug)]
+#[derive(Clone, Copy)]
 pub struct Part<'a> {
     pub first: u32,
     pub kind: TypeRef<'a>,

@@ -7,3 +7,4 @@ pub mod Places
 pub mod SameNumbers
 pub mod SameShapeLemmas
 pub mod Partners
+pub mod KnownExtents

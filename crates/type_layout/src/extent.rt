@@ -6,7 +6,7 @@ ghost use Rattle.ads_plant.specs.Trees.{tree_of, trees_of, elem_tree, tree_at};
 ghost use Rattle.ads_plant.specs.AcceptedTypes.{AreTypes, IsSized, LIMIT, is_elem, is_structure_at, is_enumeration_at};
 ghost use Rattle.type_layout.specs.Shapes.{elem_of, bounds_of, shape_of_ref};
 ghost use Rattle.type_layout.specs.NamedTypes.{types_of};
-ghost use Rattle.type_layout.specs.Extents.{HasExtent};
+ghost use Rattle.type_layout.specs.Extents.{AreExtents, HasExtent};
 
 use crate::{Bound, Elem, NamedType, TypeRef, Types};
 
@@ -16,7 +16,7 @@ pub fn size(types: &Types, t: TypeRef<'_>) -> u32
     requires sized { IsSized (types_of types.now) (shape_of_ref t) }
     ensures { result ≡ type_size (tree_of (types_of types.now) (shape_of_ref t.entry)) }
 {
-    type_extent(types.as_slice(), t).size
+    type_extent(types.as_slice(), &[], t).size
 }
 
 /// The alignment of a type: the number of bytes at whose multiples it may stand.
@@ -25,26 +25,29 @@ pub fn align(types: &Types, t: TypeRef<'_>) -> u32
     requires sized { IsSized (types_of types.now) (shape_of_ref t) }
     ensures { result ≡ type_align (tree_of (types_of types.now) (shape_of_ref t.entry)) }
 {
-    type_extent(types.as_slice(), t).align
+    type_extent(types.as_slice(), &[], t).align
 }
 
-// Size and alignment, found together, so that each type is met once.
-#[derive(Clone, Copy)]
-pub(crate) struct Extent {
+/// The size and the alignment of a type.
+#[derive(Clone, Copy, Debug, PartialEq, Eq)]
+pub struct Extent {
     pub size: u32,
     pub align: u32,
 }
 
+// Size and alignment are found together. Those of the first named types may be known already.
+
 #[cycle(extent)]
-pub(crate) fn type_extent(types: &[NamedType], t: TypeRef<'_>) -> Extent
+pub(crate) fn type_extent(types: &[NamedType], known: &[Extent], t: TypeRef<'_>) -> Extent
     requires types { AreTypes (types_of types.now) }
+    requires known { AreExtents (types_of types.now) known.now }
     requires sized { IsSized (types_of types.now) (shape_of_ref t) }
     ensures { HasExtent (tree_of (types_of types.now) (shape_of_ref t.entry)) result }
 {
     match t {
-        TypeRef::One(elem) => elem_extent(types, elem),
+        TypeRef::One(elem) => elem_extent(types, known, elem),
         TypeRef::Array(bounds, elem) => {
-            let each = elem_extent(types, elem);
+            let each = elem_extent(types, known, elem);
             Extent {
                 size: element_total(bounds) * each.size,
                 align: each.align,
@@ -54,8 +57,9 @@ pub(crate) fn type_extent(types: &[NamedType], t: TypeRef<'_>) -> Extent
 }
 
 #[cycle(extent)]
-pub(crate) fn elem_extent(types: &[NamedType], elem: Elem) -> Extent
+pub(crate) fn elem_extent(types: &[NamedType], known: &[Extent], elem: Elem) -> Extent
     requires types { AreTypes (types_of types.now) }
+    requires known { AreExtents (types_of types.now) known.now }
     requires named { IsTrue (is_elem (types_of types.now) (elem_of elem)) }
     ensures { HasExtent (elem_tree (trees_of (types_of types.now)) (elem_of elem)) result }
 {
@@ -68,14 +72,21 @@ pub(crate) fn elem_extent(types: &[NamedType], elem: Elem) -> Extent
             size: u32::from(n) + 1,
             align: 1,
         },
-        Elem::Struct(place) => struct_extent(types, place),
+        Elem::Struct(place) => {
+            if (place as usize) < known.len() {
+                known[place as usize]
+            } else {
+                struct_extent(types, known, place)
+            }
+        }
         Elem::Enum(place) => enum_extent(types, place),
     }
 }
 
 #[cycle(extent)]
-fn struct_extent(types: &[NamedType], place: u16) -> Extent
+pub(crate) fn struct_extent(types: &[NamedType], known: &[Extent], place: u16) -> Extent
     requires types { AreTypes (types_of types.now) }
+    requires known { AreExtents (types_of types.now) known.now }
     requires there { IsTrue (is_structure_at (types_of types.now) place) }
     ensures { HasExtent (tree_at (trees_of (types_of types.now)) place) result }
 {
@@ -86,7 +97,7 @@ fn struct_extent(types: &[NamedType], place: u16) -> Extent
     let mut end = 0;
     let mut greatest = 1;
     for member in members {
-        let extent = type_extent(types, member.kind.as_ref());
+        let extent = type_extent(types, known, member.kind.as_ref());
         end = next_multiple(end, extent.align) + extent.size;
         greatest = extent.align.max(greatest);
     }
@@ -96,7 +107,7 @@ fn struct_extent(types: &[NamedType], place: u16) -> Extent
     }
 }
 
-fn enum_extent(types: &[NamedType], place: u16) -> Extent
+pub(crate) fn enum_extent(types: &[NamedType], place: u16) -> Extent
     requires types { AreTypes (types_of types.now) }
     requires there { IsTrue (is_enumeration_at (types_of types.now) place) }
     ensures { HasExtent (tree_at (trees_of (types_of types.now)) place) result }

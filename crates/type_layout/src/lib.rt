@@ -4,6 +4,7 @@
 mod description;
 mod enumerations;
 mod extent;
+mod extents;
 mod kind;
 mod laws;
 mod named_type;
@@ -20,7 +21,8 @@ mod words;
 
 pub use description::{Description, Rights, RouteDesc, Routes4};
 pub use enumerations::{EnumType, EnumValue, EnumValues};
-pub use extent::{align, size};
+pub use extent::{Extent, align, size};
+pub use extents::Extents;
 pub use kind::Kind;
 pub use laws::canonical_texts_are_read_back;
 pub use named_type::{NamedType, Types};

@@ -11,9 +11,10 @@ ghost use Rattle.ads_plant.specs.Parts.{part_of, part_of_member, within, element
 ghost use Rattle.ads_plant.specs.AcceptedTypes.{AreTypes, IsSized, LIMIT, is_elem, is_structure_at};
 ghost use Rattle.type_layout.specs.Shapes.{elem_of, bound_of, bounds_of, shape_of_ref};
 ghost use Rattle.type_layout.specs.NamedTypes.{types_of};
+ghost use Rattle.type_layout.specs.Extents.{AreExtents};
 ghost use Rattle.type_layout.specs.FoundParts.{part_in, IsSizedPart};
 
-use crate::extent::{elem_extent, next_multiple, type_extent};
+use crate::extent::{Extent, elem_extent, next_multiple, type_extent};
 use crate::{Bound, Elem, NamedType, TypeRef, Types};
 use name_paths::{Indexes, Step};
 
@@ -27,14 +28,31 @@ pub fn member<'a>(types: &'a Types, t: TypeRef<'a>, step: &Step<'_>) -> Option<(
         ≡ part_of (tree_of (types_of types.now) (shape_of_ref t.entry)) (step_of step.now) }
     ensures sized { IfSome result (IsSizedPart (types_of types.now)) }
 {
+    member_among(types.as_slice(), &[], t, step)
+}
+
+// The same, where the sizes of the first named types are known.
+pub(crate) fn member_among<'a>(
+    types: &'a [NamedType],
+    known: &[Extent],
+    t: TypeRef<'a>,
+    step: &Step<'_>,
+) -> Option<(u32, TypeRef<'a>)>
+    requires types { AreTypes (types_of types.now) }
+    requires known { AreExtents (types_of types.now) known.now }
+    requires sized { IsSized (types_of types.now) (shape_of_ref t) }
+    ensures part { option_map (part_in (types_of types.now)) result
+        ≡ part_of (tree_of (types_of types.now) (shape_of_ref t.entry)) (step_of step.now) }
+    ensures sized { IfSome result (IsSizedPart (types_of types.now)) }
+{
     match t {
         TypeRef::One(elem) => match step {
-            Step::Name(name) => element_member(types.as_slice(), elem, name),
+            Step::Name(name) => element_member(types, known, elem, name),
             Step::Index(_) => None,
         },
         TypeRef::Array(bounds, elem) => match step {
             Step::Name(_) => None,
-            Step::Index(indexes) => array_element(types.as_slice(), bounds, elem, indexes),
+            Step::Index(indexes) => array_element(types, known, bounds, elem, indexes),
         },
     }
 }
@@ -42,11 +60,13 @@ pub fn member<'a>(types: &'a Types, t: TypeRef<'a>, step: &Step<'_>) -> Option<(
 // The element of an array with these indexes.
 fn array_element<'a>(
     types: &'a [NamedType],
+    known: &[Extent],
     bounds: &[Bound],
     elem: Elem,
     indexes: &Indexes,
 ) -> Option<(u32, TypeRef<'a>)>
     requires types { AreTypes (types_of types.now) }
+    requires known { AreExtents (types_of types.now) known.now }
     requires sized { IsSized (types_of types.now) (Array (bounds_of bounds.now) (elem_of elem)) }
     ensures part { option_map (part_in (types_of types.now)) result
         ≡ element_of (tree_of (types_of types.now) (Array (bounds_of bounds.now) (elem_of elem)))
@@ -54,13 +74,19 @@ fn array_element<'a>(
     ensures sized { IfSome result (IsSizedPart (types_of types.now)) }
 {
     let number = element_number(bounds, indexes)?;
-    let size = elem_extent(types, elem).size;
+    let size = elem_extent(types, known, elem).size;
     Some((number * size, TypeRef::One(elem)))
 }
 
 // The member with this name, where the element is a structure.
-fn element_member<'a>(types: &'a [NamedType], elem: Elem, name: &[u8]) -> Option<(u32, TypeRef<'a>)>
+fn element_member<'a>(
+    types: &'a [NamedType],
+    known: &[Extent],
+    elem: Elem,
+    name: &[u8],
+) -> Option<(u32, TypeRef<'a>)>
     requires types { AreTypes (types_of types.now) }
+    requires known { AreExtents (types_of types.now) known.now }
     requires named { IsTrue (is_elem (types_of types.now) (elem_of elem)) }
     ensures part { option_map (part_in (types_of types.now)) result
         ≡ option_map part_of_member
@@ -68,7 +94,7 @@ fn element_member<'a>(types: &'a [NamedType], elem: Elem, name: &[u8]) -> Option
     ensures sized { IfSome result (IsSizedPart (types_of types.now)) }
 {
     match elem {
-        Elem::Struct(place) => structure_member(types, place, name),
+        Elem::Struct(place) => structure_member(types, known, place, name),
         Elem::Plain(_) => None,
         Elem::Text(_) => None,
         Elem::Enum(_) => None,
@@ -78,10 +104,12 @@ fn element_member<'a>(types: &'a [NamedType], elem: Elem, name: &[u8]) -> Option
 // The member of a structure with this name.
 fn structure_member<'a>(
     types: &'a [NamedType],
+    known: &[Extent],
     place: u16,
     name: &[u8],
 ) -> Option<(u32, TypeRef<'a>)>
     requires types { AreTypes (types_of types.now) }
+    requires known { AreExtents (types_of types.now) known.now }
     requires there { IsTrue (is_structure_at (types_of types.now) place) }
     ensures part { option_map (part_in (types_of types.now)) result
         ≡ option_map part_of_member
@@ -95,7 +123,7 @@ fn structure_member<'a>(
     let mut end = 0;
     for member in members {
         let kind = member.kind.as_ref();
-        let extent = type_extent(types, kind);
+        let extent = type_extent(types, known, kind);
         let start = next_multiple(end, extent.align);
         if is_same_name(member.name.as_slice(), name) {
             return Some((start, kind));

@@ -30,7 +30,7 @@ struct_extent-type_extent-extent-requires t c =
     c.loop-member.member-index c.member-item.result c.loop-member.end c.requires.types c.requires.there c.index-types-place.is c.in-Struct.is
     c.as_slice-members.ensures c.loop-member-test.true c.member-item.is (c.loop-member.invariant.0) in
     let earlier : rank (elem_within (shape_of_ref c.as_ref.result)) ≤ c.args.place = rw c.as_ref.ensures turn.earlier in
-    (omega (arith, earlier, c.decreases), (c.requires.types, rw c.as_ref.ensures turn.sized))
+    (omega (arith, earlier, c.decreases), (c.requires.types, (c.requires.known, rw c.as_ref.ensures turn.sized)))
 
 pub struct_extent-next_multiple-requires-clause-unit : goal.struct_extent-next_multiple-requires-clause-unit
 struct_extent-next_multiple-requires-clause-unit t c =

@@ -5,7 +5,7 @@ use Rattle.name_paths.specs.Indexes.{numbers_of_indexes}
 use Rattle.type_layout.specs.Shapes.{elem_of, shape_of_ref}
 use Rattle.type_layout.specs.NamedTypes.{types_of}
 use Rattle.type_layout.proofs.Leaves.{no_element}
-use Rattle.type_layout.proofs.parts.member.Goals as goal
+use Rattle.type_layout.proofs.parts.member_among.Goals as goal
 
 pub returns-in-Index-clause-part : goal.returns-in-Index-clause-part
 returns-in-Index-clause-part c =
