@@ -1,14 +1,15 @@
 -- A refusal changes nothing, a dead handle touches nothing, and no number is given twice.
-use Rattle.std.proofs.Common.{◌≡◌, ◌≢◌, ◌⊎◌, ℕ, List, [], ◌∷◌, length, true, false, refl, sym, ap, subst, inl, inr}
-use Rattle.std.specs.Prelude.{Option, Some, None, Err, nat_lt}
-use Rattle.std.proofs.lemmas.Bool.{cases_Bool, le-ltb}
+use Rattle.std.proofs.Common.{◌≡◌, ◌≢◌, ◌⊎◌, ℕ, ◌<◌, List, [], ◌∷◌, length, true, false, refl, sym, ◌∙◌, ap, subst, inl, inr, arith}
+use Rattle.std.specs.Prelude.{Option, Some, None, Result, Ok, Err, nat_lt, ◌==◌}
+use Rattle.std.proofs.lemmas.Bool.{cases_Bool, le-ltb, ltb-false, eq-eqb, false≢true}
 use Rattle.ads_plant.specs.World.{PlantPort, Block}
-use Rattle.ads_formats.specs.Codes.{no_error, invalid_group, not_permitted, mode_not_supported, watch_too_big}
+use Rattle.ads_formats.specs.Codes.{no_error, invalid_group, invalid_size, not_permitted, mode_not_supported, watch_too_big}
 use Rattle.ads_formats.specs.Groups.{Group, ValueByHandle, value_by_handle, group_in, group_of}
 use Rattle.ads_formats.specs.Request.{Request}
 use Rattle.ads_machine.specs.Moves.{state_after_move}
 use Rattle.ads_machine.specs.Events.{state_after_event}
 use Rattle.ads_machine.specs.World.{Setup, setup_of}
+use Rattle.ads_machine.specs.Access.{Addressed}
 use Rattle.ads_machine.specs.Handles.{HandleStatus, Never, Released, Outdated, Live, kept_status}
 use Rattle.ads_machine.specs.Watches.{Mode}
 use Rattle.ads_machine.specs.Client.{Place, Client, client_after}
@@ -25,7 +26,7 @@ use Rattle.ads_machine.specs.SumPackets.{acts_of, decide_single, decide_parts}
 use Rattle.ads_machine.specs.Packets.{decide}
 use Rattle.ads_machine.specs.Replies.{outcome_in_all, performed}
 use Rattle.ads_machine.proofs.DecisionCases.{decide-cases}
-use Rattle.ads_laws.specs.Refusals.{RefusalChangesNothing, IsTurnedAway, TurnedAwayChangesNothing, result_told, ResultChangesNothing, RefusedReloadCounts, dead_code, IsRefused, RefusesHandle, RefusesAnyForm, DeadHandleTouchesNothing}
+use Rattle.ads_laws.specs.Refusals.{RefusalChangesNothing, IsTurnedAway, TurnedAwayChangesNothing, result_told, ResultChangesNothing, RefusedReloadCounts, dead_code, IsRefused, BadAdditionsAreRefused, RefusesHandle, RefusesAnyForm, DeadHandleTouchesNothing}
 
 pub refusal_changes_nothing : RefusalChangesNothing
 unfolding client_after
@@ -123,6 +124,40 @@ add-refused c k g offset len cycle code (Some mode) e =
       | inl t ↦ (watch_too_big, rw t refl)
       | inr t ↦ (code, rw (t, e) refl)
     ]
+
+reach-none : (c : Client) (p : PlantPort) (offset len : ℕ) → reach_of c p None offset len ≡ Err invalid_group
+unfolding reach_of
+reach-none c p offset len = refl
+
+bad-addition : (c : Client) (k : Asker) (g : Option Group) (offset len cycle : ℕ) (m : Option Mode) → (m ≡ None) ⊎ ((MAX_WATCHED < len) ⊎ ((len ≡ 0) ⊎ (g ≡ None))) → IsRefused (add_act c k g offset len cycle m)
+bad-addition c k g offset len cycle None bad = (mode_not_supported, refl)
+bad-addition c k g offset len cycle (Some mode) bad =
+    elim (cases_Bool (nat_lt MAX_WATCHED len)) [
+      | inl t ↦ (watch_too_big, rw t refl)
+      | inr t ↦ reached (reach_of c k.port g offset len) refl t
+    ]
+  where
+    none : (watched : List Addressed) → reach_of c k.port g offset len ≡ Ok watched → nat_lt MAX_WATCHED len ≡ false → (len == 0) ≡ false → (Some mode ≡ None) ⊎ ((MAX_WATCHED < len) ⊎ ((len ≡ 0) ⊎ (g ≡ None))) → ⊥
+    none watched e t z (inl m) = cc
+    none watched e t z (inr (inl l)) = let few = ltb-false MAX_WATCHED len t in omega (arith, few, l)
+    none watched e t z (inr (inr (inl empty))) = false≢true (sym z ∙ eq-eqb len 0 empty)
+    none watched e t z (inr (inr (inr off))) =
+        let P : Option Group → Type 0 = λ o. reach_of c k.port o offset len ≡ Ok watched in
+        let both : Err invalid_group ≡ Ok watched = sym (reach-none c k.port offset len) ∙ subst P off e in
+        cc
+
+    reached : (r : Result (List Addressed) ℕ) → reach_of c k.port g offset len ≡ r → nat_lt MAX_WATCHED len ≡ false → IsRefused (add_act c k g offset len cycle (Some mode))
+    reached (Err code) e t = (code, rw (t, e) refl)
+    reached (Ok watched) e t =
+        elim (cases_Bool (len == 0)) [
+          | inl z ↦ (invalid_size, rw (t, e, z) refl)
+          | inr z ↦ absurd (none watched e t z bad)
+        ]
+
+pub bad_additions_are_refused : BadAdditionsAreRefused
+unfolding act_of
+bad_additions_are_refused table d c k group offset len number delay cycle bad =
+    bad-addition c k (answered_group table ADD_DEVICE_NOTIFICATION group) offset len cycle (mode_of number) bad
 
 read_write-refused : (c : Client) (p : PlantPort) (g : Option Group) (len : ℕ) (bytes : List ℕ) → (g ≡ Some ValueByHandle) ⊎ (g ≡ None) → IsRefused (read_write_group c p g len bytes)
 unfolding read_write_group

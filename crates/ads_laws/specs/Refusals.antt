@@ -1,5 +1,5 @@
 -- A refusal changes nothing, and a handle that is not live touches nothing.
-use Rattle.std.specs.Prelude.{◌≡◌, ◌≢◌, ◌⊎◌, ℕ, ◌+◌, ◌≤◌, List, length, true, false, Option, Some}
+use Rattle.std.specs.Prelude.{◌≡◌, ◌≢◌, ◌⊎◌, ℕ, ◌+◌, ◌≤◌, List, length, true, false, Option, Some, ◌<◌}
 use Rattle.std.specs.Prelude.{None, Err}
 use Rattle.ads_plant.specs.World.{Block}
 use Rattle.ads_formats.specs.Codes.{no_error, not_permitted, symbol_not_found}
@@ -95,6 +95,18 @@ pub record RefusesHandle (table : AnswerTable) (d : Setup) (c : Client) (k : Ask
 -- it is refused, so it reads, writes and changes nothing
 abbrev pub IsRefused : Act → Type 0
 IsRefused a = (code : ℕ) × (a ≡ Refusal code)
+
+-- an addition of an unknown mode, of too many bytes or of none, or of a group that additions do not have
+abbrev pub IsBadAddition : AnswerTable → ℕ → ℕ → ℕ → Type 0
+IsBadAddition table group len number =
+    (mode_of number ≡ None) ⊎ ((MAX_WATCHED < len) ⊎ ((len ≡ 0)
+    ⊎ (answered_group table ADD_DEVICE_NOTIFICATION group ≡ None)))
+
+-- Such an addition is refused, and so touches no name.
+abbrev pub BadAdditionsAreRefused : Type 0
+BadAdditionsAreRefused = (table : AnswerTable) (d : Setup) (c : Client) (k : Asker)
+    (group offset len number delay cycle : ℕ) → IsBadAddition table group len number
+    → IsRefused (act_of table d c k (AddDeviceNotification group offset len number delay cycle))
 
 -- any access by such a handle, whatever is asked and whatever the table answers
 pub record RefusesAnyForm (table : AnswerTable) (d : Setup) (c : Client) (k : Asker) (handle : ℕ) : Type 0 where

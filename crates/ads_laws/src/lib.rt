@@ -4,7 +4,7 @@
 ghost use Rattle.ads_laws.specs.Isolation.{IsIsolated, SeesOnlyItself, TakesAsAlone, TakesAllAsAlone};
 ghost use Rattle.ads_laws.specs.ExactWrites.{ChangesOnlyByWrites, PutsAreExact, PutsBits, WritesByHandle};
 ghost use Rattle.ads_laws.specs.Refusals.{RefusalChangesNothing, TurnedAwayChangesNothing, ResultChangesNothing};
-ghost use Rattle.ads_laws.specs.Refusals.{RefusedReloadCounts, DeadHandleTouchesNothing};
+ghost use Rattle.ads_laws.specs.Refusals.{RefusedReloadCounts, BadAdditionsAreRefused, DeadHandleTouchesNothing};
 ghost use Rattle.ads_laws.specs.Refusals.{NumbersNeverFall};
 ghost use Rattle.ads_laws.specs.Histories.{HandlesAreHistory};
 ghost use Rattle.ads_laws.specs.Soundness.{AcceptedAreSound};
@@ -36,12 +36,14 @@ pub fn writes_are_exact()
 
 /// A request whose result is not 0 leaves the bytes and its client as they were; so does a packet whose reply tells
 /// such a result, and one that gets an AMS error or no answer, or ends the connection; and a reload whose description is
-/// refused leaves all but its count.
+/// refused leaves all but its count. An addition of an unknown mode, of too many bytes or of none, or of a group that
+/// additions do not have is refused.
 pub fn refusals_change_nothing()
     ensures requests { RefusalChangesNothing }
     ensures results { ResultChangesNothing }
     ensures packets { TurnedAwayChangesNothing }
     ensures reloads { RefusedReloadCounts }
+    ensures additions { BadAdditionsAreRefused }
 {}
 
 /// A read, a write or an addition by a handle that was never granted at this port, is released or is

@@ -1,5 +1,5 @@
 -- What a machine that is served stands for: a state, and the connections that are blocked. Over any step.
-use Rattle.std.specs.Prelude.{◌≡◌, ◌≤◌, ℕ, List, [], ◌∷◌, length, Bool, false, ◌&&◌, not, if◌then◌else◌}
+use Rattle.std.specs.Prelude.{◌≡◌, ℕ, List, [], ◌∷◌, Bool, false, ◌&&◌, not, if◌then◌else◌}
 use Rattle.std.specs.Prelude.{Option, Some, None}
 use Rattle.ads_outside.specs.declared.event.Event.{Event}
 use Rattle.ads_outside.specs.declared.event.Event.TheVariants as event
@@ -39,8 +39,3 @@ is_to_be_shut (Some k) = not k.gone && k.closing
 
 abbrev pub is_to_be_shut_at : {W C : Type 0} → ℕ → Running W C → Bool
 is_to_be_shut_at c x = is_to_be_shut (connection_of c x.state.connections)
-
--- so many bytes are at most what is offered
-abbrev pub FitsOffer : ℕ → Option (List ℕ) → Type 0
-FitsOffer n None = ⊥
-FitsOffer n (Some left) = n ≤ length left

@@ -17,12 +17,13 @@ use Rattle.ads_machine.specs.Client.{Client}
 use Rattle.ads_machine.specs.Answers.{all_answered, answered_group}
 use Rattle.ads_machine.specs.Outcomes.{outcome_of_reload}
 use Rattle.ads_machine.specs.AdsDevice.{reloading}
+use Rattle.ads_machine.proofs.Played.{play_keeps_turns}
 use Rattle.ads_laws.proofs.Isolated.{isolated, takes_as_alone, takes_all_as_alone}
 use Rattle.ads_laws.proofs.EveryState.{every_state_fits}
 use Rattle.ads_laws.proofs.RepliesFit.{replies_fit}
 use Rattle.ads_laws.proofs.Refused.{refused_reload_counts, dead_handle_touches_nothing}
-use Rattle.ads_product.specs.Server.{read_of_verdict, read_description}
-use Rattle.ads_product.specs.ServerLaws.{ReadsDescriptions, IsRefused, TellsReloads, ServerIsIsolated, ServerTakesAsAlone, ServerStateFits, ServerRepliesFit, ServerRefusesDeadHandles}
+use Rattle.ads_product.specs.Server.{read_of_verdict, read_description, server, server_start}
+use Rattle.ads_product.specs.ServerLaws.{ReadsDescriptions, IsRefused, TellsReloads, ServerPlaysInTurns, ServerIsIsolated, ServerTakesAsAlone, ServerStateFits, ServerRepliesFit, ServerRefusesDeadHandles}
 
 rules-accepted : (signals : ℕ) (table : Members) (x : Description) → read_of_verdict (verdict_of_rules (table_verdict signals table)) ≡ Ok x → IsAccepted x signals
 rules-accepted signals table x h = go (table_verdict signals table) refl h
@@ -56,6 +57,9 @@ tells_reloads s bytes = record {
   rule = λ rule item e. refused s bytes (Breaks rule item) (BreaksRule rule item) e refl;
   syntax = λ e. refused s bytes text.NoDocument NoDocument e refl;
 }
+
+pub server_plays_in_turns : ServerPlaysInTurns
+server_plays_in_turns description signals lines = play_keeps_turns World Client server (server_start description signals) lines
 
 pub server_is_isolated : ServerIsIsolated
 server_is_isolated description signals c log apart = isolated all_answered read_description description signals c log apart

@@ -15,6 +15,7 @@ use Rattle.ads_machine.specs.MachineState.{MachineState}
 use Rattle.ads_machine.specs.Moves.{state_after_move}
 use Rattle.ads_machine.specs.Offers.{taken_of}
 use Rattle.ads_machine.specs.Turns.{KeepsTurns}
+use Rattle.ads_machine.specs.ScriptLine.{ScriptLine}
 use Rattle.ads_machine.specs.Delivery.{IsPrefix, AreOffers, is_short, is_cut_off}
 use Rattle.ads_machine.specs.World.{World, Setup}
 use Rattle.ads_machine.specs.Handles.{kept_status}
@@ -31,7 +32,7 @@ use Rattle.ads_laws.specs.Soundness.{ReadsAccepted}
 use Rattle.ads_laws.specs.Reachable.{AllFits}
 use Rattle.ads_laws.specs.RepliesFit.{AllAnswersFit}
 use Rattle.ads_laws.specs.Refusals.{dead_code, RefusesAnyForm}
-use Rattle.ads_product.specs.Server.{read_description, server_device, server, server_start, server_after, server_output}
+use Rattle.ads_product.specs.Server.{read_description, server_device, server, server_start, server_after, server_output, server_play}
 
 -- Each description that is read is an accepted one.
 abbrev pub ReadsDescriptions : Type 0
@@ -51,6 +52,11 @@ pub record TellsReload (s : MachineState World Client) (bytes : List ℕ) : Type
 
 abbrev pub TellsReloads : Type 0
 TellsReloads = (s : MachineState World Client) (bytes : List ℕ) → TellsReload s bytes
+
+-- The play of a script keeps the turns, so what is said of such logs is said of it.
+abbrev pub ServerPlaysInTurns : Type 0
+ServerPlaysInTurns = (description : Description) (signals : List Wave) (lines : List ScriptLine)
+    → KeepsTurns server (server_start description signals) (server_play description signals lines)
 
 -- none of the bytes that a connection reads, were it alone, is written by another
 abbrev pub IsUntouchedHere : Description → List Wave → ℕ → List Move → Type 0

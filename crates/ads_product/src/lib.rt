@@ -1,7 +1,8 @@
 //! The server that the program is: its device is closed, and its laws have no premise that nobody can check.
 #![tactic(auto)]
 
-ghost use Rattle.ads_product.specs.ServerLaws.{ReadsDescriptions, TellsReloads, ServerIsIsolated, ServerTakesAsAlone};
+ghost use Rattle.ads_product.specs.ServerLaws.{ReadsDescriptions, TellsReloads, ServerPlaysInTurns};
+ghost use Rattle.ads_product.specs.ServerLaws.{ServerIsIsolated, ServerTakesAsAlone};
 ghost use Rattle.ads_product.specs.ServerLaws.{ServerStateFits, ServerRepliesFit, ServerRefusesDeadHandles};
 
 /// Each description that the server reads is an accepted one; a reload of any other text is told its least broken rule
@@ -9,6 +10,11 @@ ghost use Rattle.ads_product.specs.ServerLaws.{ServerStateFits, ServerRepliesFit
 pub fn descriptions_are_read()
     ensures accepted { ReadsDescriptions }
     ensures told { TellsReloads }
+{}
+
+/// The play of a script keeps the turns: each event is followed by the offers to each connection.
+pub fn scripts_are_played_in_turns()
+    ensures { ServerPlaysInTurns }
 {}
 
 /// A client none of whose read or notified bytes another client writes is given, byte for byte, what it would be given

@@ -1,4 +1,4 @@
-use Rattle.ads_laws.proofs.Refused.{refusal_changes_nothing, result_changes_nothing, turned_away_changes_nothing, refused_reload_counts}
+use Rattle.ads_laws.proofs.Refused.{refusal_changes_nothing, result_changes_nothing, turned_away_changes_nothing, refused_reload_counts, bad_additions_are_refused}
 use Rattle.ads_laws.proofs.refusals_change_nothing.Goals as goal
 
 pub returns-clause-requests : goal.returns-clause-requests
@@ -12,3 +12,6 @@ returns-clause-packets c = turned_away_changes_nothing
 
 pub returns-clause-reloads : goal.returns-clause-reloads
 returns-clause-reloads c = refused_reload_counts
+
+pub returns-clause-additions : goal.returns-clause-additions
+returns-clause-additions c = bad_additions_are_refused
