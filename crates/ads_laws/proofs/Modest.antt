@@ -164,10 +164,10 @@ part-short s m steps p e =
     let f : Found = record { symbol = s; steps = steps; part = p } in
     let name = m.name in
     let path = m.path in
-    let t = tame-steps (whole_of s) steps (record { name = s.name; comment = s.comment }) p 296295 m.tame (omega (arith, name, path)) m.comment e in
+    let t = tame-steps (whole_of s) steps s.name s.comment p 296295 m.tame (omega (arith, name, path)) m.comment e in
     let len = length-entry_fields (entry_of_part f) in
-    let own = t.name in
-    let said = t.comment in
+    let own = t.short_name in
+    let said = t.short_comment in
     let text = text-short p.type t.tame in
     omega (arith, len, own, said, text)
 

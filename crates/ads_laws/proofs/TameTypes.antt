@@ -1,5 +1,5 @@
 -- The types of an accepted description have short texts, and so have the names of their parts.
-use Rattle.std.proofs.Common.{◌≡◌, ℕ, suc, ◌+◌, ◌-◌, ◌*◌, ◌<◌, ◌≤◌, List, [], ◌∷◌, map, length, true, refl, sym, ◌∙◌, ap, subst, arith, inl, inr}
+use Rattle.std.proofs.Common.{◌≡◌, ℕ, suc, ◌+◌, ◌-◌, ◌*◌, ◌<◌, ◌≤◌, List, [], ◌∷◌, ◌++◌, map, length, true, refl, sym, ◌∙◌, ap, subst, arith, inl, inr}
 use Rattle.std.specs.Prelude.{Option, Some, None, nat_lt, nat_le, ◌^◌, max, bytes_eq, option_map, option_and_then, ℤ, pos, negsuc, ◌+ℤ◌, ◌-ℤ◌}
 use Rattle.std.specs.List.{list_all}
 use Rattle.std.specs.Int.Signed.{mag}
@@ -16,7 +16,7 @@ use Rattle.ads_plant.specs.Parts.{TypePart, MemberPart, below, within, element_f
 use Rattle.ads_plant.specs.Spelling.{integer_text, high_of, joined_by_comma, type_text}
 use Rattle.ads_plant.specs.AcceptedTypes.{is_bound, are_bounds}
 use Rattle.ads_plant.proofs.TextLengths.{index-mag, integer-short, bound_parts, three_bounds, commas, joined-short, kind-short, string-short, array-short}
-use Rattle.ads_machine.specs.Entries.{PartText, step_text, type_behind, text_behind, text_of_steps}
+use Rattle.ads_plant.specs.PartTexts.{text_of_step, type_behind, name_behind, comment_of_step, comment_behind}
 
 -- numbers
 
@@ -136,8 +136,8 @@ indexes-short n (b ∷ bs) (i ∷ is) k e f = go (within b i) refl f (λ m g. in
 -- a step from a type to a part of it
 pub record IsTameStep (t : TypeTree) (step : Step) (p : TypePart) : Type 0 where
   pub tame : IsTame p.type
-  pub name : length (step_text t step).name + path_len p.type ≤ path_len t
-  pub comment : length (step_text t step).comment ≤ 255
+  pub name : length (text_of_step t step) + path_len p.type ≤ path_len t
+  pub comment : length (comment_of_step t step) ≤ 255
 
 tame-member : (at : ℕ) (ms : MemberTrees) (name : List ℕ) (m : MemberPart) → AreTame ms → member_from at ms name ≡ Some m
     → IsTame m.type × (length m.name ≤ 255) × (length m.comment ≤ 255) × (256 + path_len m.type ≤ members_path ms)
@@ -205,29 +205,32 @@ tame-step t (name_step name) p h f = tame-name t name (member_of t name) p h ref
 tame-step t (index_step indexes) p h f = tame-element t indexes p h f
 
 -- the entry of a part behind some steps
-pub record IsTamePart (most : ℕ) (text : PartText) (p : TypePart) : Type 0 where
+pub record IsTamePart (most : ℕ) (name comment : List ℕ) (p : TypePart) : Type 0 where
   pub tame : IsTame p.type
-  pub name : length text.name ≤ most
-  pub comment : length text.comment ≤ 255
+  pub short_name : length name ≤ most
+  pub short_comment : length comment ≤ 255
 
-pub tame-steps : (whole : TypePart) (steps : List Step) (text : PartText) (p : TypePart) (most : ℕ) → IsTame whole.type → length text.name + path_len whole.type ≤ most → length text.comment ≤ 255
-    → part_behind whole steps ≡ Some p → IsTamePart most (text_of_steps text whole.type steps) p
-unfolding part_behind text_of_steps
-tame-steps whole [] text p most h l c e =
+pub tame-steps : (whole : TypePart) (steps : List Step) (name comment : List ℕ) (p : TypePart) (most : ℕ) → IsTame whole.type → length name + path_len whole.type ≤ most → length comment ≤ 255
+    → part_behind whole steps ≡ Some p → IsTamePart most (name_behind name whole.type steps) (comment_behind comment whole.type steps) p
+unfolding part_behind name_behind comment_behind
+tame-steps whole [] name comment p most h l c e =
     let same : whole ≡ p = cc in
-    subst (IsTamePart most text) same (record { tame = h; name = omega (arith, l); comment = c })
-tame-steps whole (step ∷ steps) text p most h l c e =
-    go (part_of whole.type step) refl e (λ v a b d f. tame-steps (within_part whole v) steps (text_behind text (step_text whole.type step)) p most a b d f)
+    subst (IsTamePart most name comment) same (record { tame = h; short_name = omega (arith, l); short_comment = c })
+tame-steps whole (step ∷ steps) name comment p most h l c e =
+    go (part_of whole.type step) refl e (λ v a b d f. tame-steps (within_part whole v) steps (name ++ text_of_step whole.type step) (comment_of_step whole.type step) p most a b d f)
   where
-    next : PartText
-    next = text_behind text (step_text whole.type step)
+    next : List ℕ
+    next = name ++ text_of_step whole.type step
+
+    said : List ℕ
+    said = comment_of_step whole.type step
 
     go : (o : Option TypePart) → part_of whole.type step ≡ o → option_and_then (λ v. part_behind (within_part whole v) steps) o ≡ Some p
-        → ((v : TypePart) → IsTame v.type → length next.name + path_len v.type ≤ most → length next.comment ≤ 255 → part_behind (within_part whole v) steps ≡ Some p → IsTamePart most (text_of_steps next v.type steps) p)
-        → IsTamePart most (text_of_steps next (type_behind whole.type o) steps) p
+        → ((v : TypePart) → IsTame v.type → length next + path_len v.type ≤ most → length said ≤ 255 → part_behind (within_part whole v) steps ≡ Some p → IsTamePart most (name_behind next v.type steps) (comment_behind said v.type steps) p)
+        → IsTamePart most (name_behind next (type_behind whole.type o) steps) (comment_behind said (type_behind whole.type o) steps) p
     go None q f rest = cc
     go (Some v) q f rest =
         let s = tame-step whole.type step v h q in
         let n = s.name in
-        let x = length-append text.name (step_text whole.type step).name in
+        let x = length-append name (text_of_step whole.type step) in
         rest v s.tame (omega (arith, l, n, x)) s.comment f

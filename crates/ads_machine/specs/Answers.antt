@@ -1,49 +1,15 @@
 -- What the server answers: its commands, and the index groups of each command. The machine takes this
 -- as an argument; everything else stands whole whatever it holds.
-use Rattle.std.specs.Prelude.{ℕ, Bool, true, false, ◌&&◌, ◌==◌, nat_le, if◌then◌else◌}
+use Rattle.std.specs.Prelude.{ℕ, Bool, false, ◌&&◌, ◌==◌, nat_le, if◌then◌else◌}
 use Rattle.std.specs.Prelude.{Option, Some, None, option_and_then}
-use Rattle.ads_formats.specs.Groups.{Group, AreaBytes, AreaBit, ValueByHandle, group_of}
-use Rattle.ads_formats.specs.Groups.{is_read, is_written, is_read_written}
+pub use Rattle.ads_formats.specs.Commands.{READ_DEVICE_INFO, READ, WRITE, READ_STATE, WRITE_CONTROL}
+pub use Rattle.ads_formats.specs.Commands.{ADD_DEVICE_NOTIFICATION, DELETE_DEVICE_NOTIFICATION, DEVICE_NOTIFICATION, READ_WRITE}
+use Rattle.ads_formats.specs.Groups.{Group, group_of, is_read, is_written, is_read_written, is_value_group}
 
 -- the commands, by their ids; and the groups that a command answers
 pub record AnswerTable : Type 0 where
   pub is_answered : ℕ → Bool
   pub answers_group : ℕ → Group → Bool
-
--- the command ids
-abbrev pub READ_DEVICE_INFO : ℕ
-READ_DEVICE_INFO = 1
-
-abbrev pub READ : ℕ
-READ = 2
-
-abbrev pub WRITE : ℕ
-WRITE = 3
-
-abbrev pub READ_STATE : ℕ
-READ_STATE = 4
-
-abbrev pub WRITE_CONTROL : ℕ
-WRITE_CONTROL = 5
-
-abbrev pub ADD_DEVICE_NOTIFICATION : ℕ
-ADD_DEVICE_NOTIFICATION = 6
-
-abbrev pub DELETE_DEVICE_NOTIFICATION : ℕ
-DELETE_DEVICE_NOTIFICATION = 7
-
-abbrev pub DEVICE_NOTIFICATION : ℕ
-DEVICE_NOTIFICATION = 8
-
-abbrev pub READ_WRITE : ℕ
-READ_WRITE = 9
-
--- the groups that a notification may watch
-abbrev pub is_watched : Group → Bool
-is_watched (AreaBytes area) = true
-is_watched (AreaBit area) = true
-is_watched ValueByHandle = true
-is_watched group = false
 
 abbrev pub no_group : Group → Bool
 no_group group = false
@@ -53,7 +19,7 @@ abbrev pub groups_of_command : ℕ → Group → Bool
 groups_of_command command =
     if command == READ then is_read
     else if command == WRITE then is_written
-    else if command == ADD_DEVICE_NOTIFICATION then is_watched
+    else if command == ADD_DEVICE_NOTIFICATION then is_value_group
     else if command == READ_WRITE then is_read_written
     else no_group
 

@@ -1,17 +1,15 @@
 -- The entries that uploads and the extended info by name give. Beckhoff Information System,
 -- "AdsSymbolEntry", "AdsDatatypeEntry". Which fields a part has is this project's own choice.
-use Rattle.std.specs.Prelude.{ℕ, ◌+◌, List, [], ◌∷◌, ◌++◌, length, map, if◌then◌else◌}
-use Rattle.std.specs.Prelude.{Option, Some, None, ℤ}
+use Rattle.std.specs.Prelude.{ℕ, ◌+◌, List, ◌++◌, length, map, if◌then◌else◌}
 use Rattle.std.specs.Int.{w32, to_le_bytes}
-use Rattle.name_paths.specs.Path.{Step, name_step, index_step}
 use Rattle.ads_plant.specs.Description.{Area, Inputs, Outputs, Memory, Process}
-use Rattle.ads_plant.specs.Trees.{TypeTree, trees_of}
+use Rattle.ads_plant.specs.Trees.{trees_of}
 use Rattle.ads_plant.specs.Sizes.{type_size}
-use Rattle.ads_plant.specs.Parts.{MemberPart, member_of, part_of, TypePart}
-use Rattle.ads_plant.specs.Spelling.{type_text, integer_text, joined_by_comma}
+use Rattle.ads_plant.specs.Spelling.{type_text}
 use Rattle.ads_plant.specs.Entries.{type_id}
 use Rattle.ads_plant.specs.World.{Plant, PlantSymbol, PlantPort}
 use Rattle.ads_plant.specs.Finding.{Found}
+use Rattle.ads_plant.specs.PartTexts.{name_of_found, comment_of_found}
 use Rattle.ads_formats.specs.Groups.{memory_bytes, process_bytes, input_bytes, output_bytes}
 use Rattle.ads_formats.specs.SymbolEntry.{SymbolEntry, upload_bytes}
 use Rattle.ads_formats.specs.TypeEntry.{type_upload_bytes}
@@ -34,55 +32,18 @@ READ_ONLY = 0x0020
 abbrev pub symbol_flags : PlantSymbol → ℕ
 symbol_flags s = (if s.persistent then PERSISTENT else 0) + (if s.read_only then READ_ONLY else 0)
 
--- what an entry says of a part beside its place: how it is written behind the symbol's name, and its
--- comment
-pub record PartText : Type 0 where
-  pub name : List ℕ
-  pub comment : List ℕ
-
--- a full stop and the declared name of a member, and its comment
-abbrev pub member_text : Option MemberPart → PartText
-member_text None = record { name = []; comment = [] }
-member_text (Some m) = record { name = 46 ∷ m.name; comment = m.comment }
-
--- indexes in brackets; an element has no comment
-abbrev pub index_text : List ℤ → PartText
-index_text indexes =
-    record { name = 91 ∷ joined_by_comma (map integer_text indexes) ++ 93 ∷ []; comment = [] }
-
-abbrev pub step_text : TypeTree → Step → PartText
-step_text type (name_step name) = member_text (member_of type name)
-step_text type (index_step indexes) = index_text indexes
-
--- the type behind a step, where it leads to a part
-abbrev pub type_behind : TypeTree → Option TypePart → TypeTree
-type_behind type None = type
-type_behind type (Some part) = part.type
-
--- a text behind another; the comment is that of the last step
-abbrev pub text_behind : PartText → PartText → PartText
-text_behind first last = record { name = first.name ++ last.name; comment = last.comment }
-
--- the text of a part behind these steps
-unfoldable pub text_of_steps : PartText → TypeTree → List Step → PartText
-text_of_steps text type [] = text
-text_of_steps text type (step ∷ steps) =
-    text_of_steps (text_behind text (step_text type step)) (type_behind type (part_of type step)) steps
-
 -- the entry of a part of a symbol; the whole symbol has its own comment
 unfoldable pub entry_of_part : Found → SymbolEntry
-entry_of_part f =
-    let text = text_of_steps (record { name = f.symbol.name; comment = f.symbol.comment }) f.symbol.type f.steps in
-    record {
-      group = group_of_area f.symbol.area;
-      offset = f.symbol.offset + f.part.first;
-      size = type_size f.part.type;
-      type_id = type_id f.part.type;
-      flags = symbol_flags f.symbol;
-      name = text.name;
-      type_name = type_text f.part.type;
-      comment = text.comment;
-    }
+entry_of_part f = record {
+  group = group_of_area f.symbol.area;
+  offset = f.symbol.offset + f.part.first;
+  size = type_size f.part.type;
+  type_id = type_id f.part.type;
+  flags = symbol_flags f.symbol;
+  name = name_of_found f;
+  type_name = type_text f.part.type;
+  comment = comment_of_found f;
+}
 
 abbrev pub entry_of_symbol : PlantSymbol → SymbolEntry
 entry_of_symbol s = record {

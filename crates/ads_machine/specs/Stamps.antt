@@ -3,19 +3,16 @@
 -- Beckhoff Information System, "ADS Device Notification".
 use Rattle.std.specs.Prelude.{ℕ, List, [], ◌∷◌, ◌++◌, length, map, flat_map, Bool}
 use Rattle.std.specs.Prelude.{◌&&◌}
-use Rattle.std.specs.Prelude.{◌==◌, bytes_eq, if◌then◌else◌}
+use Rattle.std.specs.Prelude.{◌==◌, if◌then◌else◌}
 use Rattle.ads_plant.specs.World.{Block}
 use Rattle.ads_formats.specs.Codes.{no_error}
-use Rattle.ads_formats.specs.Header.{AmsAddress, header_bytes, request_flags}
+use Rattle.ads_formats.specs.Commands.{DEVICE_NOTIFICATION}
+use Rattle.ads_formats.specs.Header.{AmsAddress, is_same_address, header_bytes, request_flags}
 use Rattle.ads_formats.specs.Notification.{Sample, notification_bytes}
 use Rattle.ads_frames.specs.Frame.{frame_bytes}
 use Rattle.ads_machine.specs.Device.{Produced, Notification}
 use Rattle.ads_machine.specs.Access.{Addressed, values_at}
 use Rattle.ads_machine.specs.Watches.{Watch, AddressedSample, samples_of, addressed_sample, checked_watch}
-use Rattle.ads_machine.specs.Answers.{DEVICE_NOTIFICATION}
-
-abbrev pub is_same_address : AmsAddress → AmsAddress → Bool
-is_same_address a b = bytes_eq a.net b.net && (a.port == b.port)
 
 -- the samples that go from one port to one address
 pub record SampleGroup : Type 0 where

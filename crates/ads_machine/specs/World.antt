@@ -1,14 +1,16 @@
 -- The world of the device: its plant, the symbol version, the signals, and the bytes under their
 -- names. No name tells where a symbol stands: a byte keeps its name when a reload moves its symbol.
-use Rattle.std.specs.Prelude.{ℕ, zero, suc, ◌+◌, ◌-◌, List, [], ◌∷◌, ◌++◌, map, flat_map, find}
-use Rattle.std.specs.Prelude.{Bool, ◌&&◌, ◌==◌, nat_le, nat_lt, if◌then◌else◌, Option, replicate}
+use Rattle.std.specs.Prelude.{ℕ, zero, suc, ◌+◌, ◌-◌, List, [], ◌∷◌, ◌++◌, map, flat_map}
+use Rattle.std.specs.Prelude.{if◌then◌else◌, replicate}
 use Rattle.std.specs.Int.{w16, to_le_bytes}
 use Rattle.signals.specs.Wave.{Wave}
 use Rattle.ads_plant.specs.Description.{Area, Inputs, Outputs, Memory, Process, size_in}
 use Rattle.ads_plant.specs.Description.{Description}
-use Rattle.ads_plant.specs.World.{Plant, PlantPort, PlantSymbol, plant_of, symbol_size, lower_name}
+use Rattle.ads_plant.specs.World.{Plant, PlantPort, PlantSymbol, plant_of, lower_name}
 use Rattle.ads_plant.specs.World.{SymbolPart, AreaPart, StatePart, ByteName, Block}
-use Rattle.ads_plant.specs.World.{is_same_area, byte_or_zero}
+use Rattle.ads_plant.specs.World.{byte_or_zero}
+pub use Rattle.ads_plant.specs.Covering.{covers}
+pub use Rattle.ads_plant.specs.Named.{port_numbered}
 
 pub record World : Type 0 where
   pub plant : Plant
@@ -24,19 +26,10 @@ pub record Setup : Type 0 where
 abbrev pub setup_of : World → Setup
 setup_of w = record { plant = w.plant; version = w.version }
 
--- the port of a number
-abbrev pub port_numbered : ℕ → List PlantPort → Option PlantPort
-port_numbered number ports = find (λ (p : PlantPort). p.number == number) ports
-
 -- so many numbers, from a first one on
 unfoldable pub numbers_from : ℕ → ℕ → List ℕ
 numbers_from first zero = []
 numbers_from first (suc n) = first ∷ numbers_from (first + 1) n
-
--- whether a symbol stands at a byte of an area
-abbrev pub covers : Area → ℕ → PlantSymbol → Bool
-covers area offset s =
-    is_same_area s.area area && nat_le s.offset offset && nat_lt offset (s.offset + symbol_size s)
 
 -- the name of a byte: of the first of these symbols that stands there, else of the area
 abbrev pub name_among : ℕ → Area → ℕ → List PlantSymbol → ByteName

@@ -1,12 +1,13 @@
 -- Write and WriteControl: who may write what. Beckhoff Information System, "ADS Write", "ADS Write
 -- Control".
 use Rattle.std.specs.Prelude.{ℕ, List, [], length, Bool, true, false, ◌&&◌, ◌||◌, not, ◌==◌}
-use Rattle.std.specs.Prelude.{if◌then◌else◌, Option, Some, None, Result, Ok, Err, find, bytes_eq, map}
+use Rattle.std.specs.Prelude.{if◌then◌else◌, Option, Some, None, Result, Ok, Err, bytes_eq, map}
 use Rattle.std.specs.List.{list_all, list_any}
 use Rattle.ads_plant.specs.Description.{Rights, Read, Write, Control}
-use Rattle.ads_plant.specs.World.{PlantPort, PlantSymbol, lower_name, Part, SymbolPart, AreaPart, StatePart}
+use Rattle.ads_plant.specs.World.{PlantPort, PlantSymbol, Part, SymbolPart, AreaPart, StatePart}
+pub use Rattle.ads_plant.specs.Named.{symbol_named}
 use Rattle.ads_formats.specs.Codes.{invalid_group, not_permitted, invalid_size, invalid_value, symbol_not_found}
-use Rattle.ads_formats.specs.Groups.{Group, AreaBytes, AreaBit, ValueByHandle, ReleaseHandle}
+use Rattle.ads_formats.specs.Groups.{Group, ReleaseHandle, is_value_group}
 use Rattle.ads_formats.specs.Header.{AmsAddress}
 use Rattle.ads_formats.specs.Numbers.{number32}
 use Rattle.ads_machine.specs.World.{state_names, state_bytes, RUN, STOP}
@@ -31,10 +32,6 @@ abbrev pub may_control : Rights → Bool
 may_control Read = false
 may_control Write = false
 may_control Control = true
-
--- the symbol of a name in lower case
-abbrev pub symbol_named : List ℕ → List PlantSymbol → Option PlantSymbol
-symbol_named name symbols = find (λ (s : PlantSymbol). bytes_eq (lower_name s) name) symbols
 
 -- a read-only symbol is written by nobody, and one with writers by these alone
 abbrev pub is_writable_symbol : List ℕ → Option PlantSymbol → Bool
@@ -69,13 +66,6 @@ release_act c p bytes =
     if not (length bytes == 4) then Refusal invalid_size
     else if is_releasable (kept_status c.handles (number32 0 bytes) p.number)
     then changing [] (Releases (number32 0 bytes)) else Refusal symbol_not_found
-
--- bytes, a bit, or a value by handle
-abbrev pub is_value_group : Group → Bool
-is_value_group (AreaBytes area) = true
-is_value_group (AreaBit area) = true
-is_value_group ValueByHandle = true
-is_value_group group = false
 
 -- Rights are not looked at where a handle is released. Else the group comes first, then the rights,
 -- then what is addressed, then what may be written.
