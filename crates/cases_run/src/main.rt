@@ -1,0 +1,37 @@
+//! Tries whole runs of the server over files and a sink in memory. Each file that data/runs.txt names is one run: its
+//! words, its files, the calls that fail, and the status and the output that must come.
+#![tactic(auto)]
+
+mod draft;
+mod fault;
+mod folder;
+mod line;
+mod run_case;
+mod tally;
+mod told;
+
+use crate::fault::Fault;
+use crate::tally::{Tally, try_all};
+use std::process::ExitCode;
+
+fn main(rt: HostRuntime) -> ExitCode {
+    match try_all(&rt).and_then(|tally| end(&rt, tally)) {
+        Ok(true) => ExitCode::from(0),
+        Ok(false) => ExitCode::from(1),
+        Err(fault) => {
+            let _ = println!(rt; "{fault:?}");
+            ExitCode::from(1)
+        }
+    }
+}
+
+// The counts are told. Whether there were runs, and all went as wanted.
+fn end(rt: &HostRuntime, tally: Tally) -> Result<bool, Fault> {
+    let Tally {
+        good,
+        differing,
+        unreadable,
+    } = tally;
+    println!(rt; "runs as wanted {good}, differing {differing}, unreadable {unreadable}")?;
+    Ok(good > 0 && differing == 0 && unreadable == 0)
+}

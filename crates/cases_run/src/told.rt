@@ -1,0 +1,38 @@
+//! What is printed of runs that did not go as wanted.
+
+use crate::fault::Fault;
+use std::str;
+
+/// A file that describes no run: its name, the line, and what is wrong.
+pub fn tell_fault(rt: &HostRuntime, name: &str, line: u32, what: &str) -> Result<(), Fault> {
+    println!(rt; "{name}, line {line}: {what}")?;
+    Ok(())
+}
+
+/// The run of this file that ends at this line ended in another way than is wanted there.
+pub fn tell_difference(rt: &HostRuntime, name: &str, line: u32) -> Result<(), Fault> {
+    println!(rt; "{name}, the run up to line {line}, differs")?;
+    Ok(())
+}
+
+/// How a run ended, or was to end: its status, and what it printed.
+pub fn tell_end(rt: &HostRuntime, word: &str, status: u8, out: &[u8]) -> Result<(), Fault> {
+    println!(rt; "  {word}: status {status}")?;
+    match str::from_utf8(out) {
+        Ok(text) => tell_lines(rt, text),
+        Err(_) => {
+            println!(rt; "    bytes that are no text")?;
+            Ok(())
+        }
+    }
+}
+
+fn tell_lines(rt: &HostRuntime, text: &str) -> Result<(), Fault> {
+    for line in text.lines() {
+        println!(rt; "    | {line}")?;
+    }
+    if !text.is_empty() && !text.ends_with('\n') {
+        println!(rt; "    (without an end of line)")?;
+    }
+    Ok(())
+}
