@@ -19,9 +19,18 @@ fn main(rt: HostRuntime) -> ExitCode {
         Ok(true) => ExitCode::from(0),
         Ok(false) => ExitCode::from(1),
         Err(fault) => {
-            let _ = println!(rt; "{fault:?}");
+            let what = words_of(fault);
+            let _ = println!(rt; "no runs: {what}");
             ExitCode::from(1)
         }
+    }
+}
+
+fn words_of(fault: Fault) -> &'static str {
+    match fault {
+        Fault::Memory => "memory was wanting",
+        Fault::Off(what) => what,
+        Fault::Unwritten => "standard output cannot be written",
     }
 }
 

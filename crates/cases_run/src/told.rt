@@ -28,6 +28,9 @@ pub fn tell_end(rt: &HostRuntime, word: &str, status: u8, out: &[u8]) -> Result<
 }
 
 fn tell_lines(rt: &HostRuntime, text: &str) -> Result<(), Fault> {
+    if text.is_empty() {
+        println!(rt; "    (nothing is printed)")?;
+    }
     for line in text.lines() {
         println!(rt; "    | {line}")?;
     }
