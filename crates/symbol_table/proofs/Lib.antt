@@ -21,3 +21,4 @@ pub mod DeclaredRows
 pub mod SpelledTexts
 pub mod PlantRanges
 pub mod NameSteps
+pub mod TableExtents

@@ -5,8 +5,7 @@ use Rattle.std.specs.List.{All}
 use Rattle.std.proofs.lemmas.List.{length-map}
 use Rattle.std.proofs.lemmas.Option.{slice_get-get_or}
 use Rattle.type_layout.proofs.Places.{read_at}
-use Rattle.ads_plant.specs.Description.{Sizes}
-use Rattle.symbol_table.specs.Tables.{SymbolTable}
+use Rattle.symbol_table.specs.Tables.{TableSymbol, SymbolTable}
 use Rattle.symbol_table.specs.declared.row.SymbolRow.{SymbolRow}
 use Rattle.symbol_table.specs.Rows.{symbol_of_row, symbols_of_rows}
 
@@ -25,9 +24,9 @@ stands_at rows numbers i row each below read =
     }
 
 -- a row that is read by its number, in the table whose rows they are
-pub row_there : (table : SymbolTable) (sizes : Sizes) (rows : List SymbolRow) (number : ℕ) (row : SymbolRow) → record { sizes = sizes; symbols = symbols_of_rows rows } ≡ table → number < length table.symbols
+pub row_there : (table : SymbolTable) (rows : List SymbolRow) (number : ℕ) (row : SymbolRow) → symbols_of_rows rows ≡ table.symbols → number < length table.symbols
     → row ≡ get_or rows number row → slice_get table.symbols number ≡ Some (symbol_of_row row)
-row_there table sizes rows number row same below read =
-    let count : length table.symbols ≡ length rows = ap (λ (t : SymbolTable). length t.symbols) (sym same) ∙ length-map rows symbol_of_row in
+row_there table rows number row same below read =
+    let count : length table.symbols ≡ length rows = ap (λ (ss : List TableSymbol). length ss) (sym same) ∙ length-map rows symbol_of_row in
     let within : number < length rows = omega (arith, count, below) in
-    ap (λ (t : SymbolTable). slice_get t.symbols number) (sym same) ∙ read_at symbol_of_row rows number row within read
+    ap (λ (ss : List TableSymbol). slice_get ss number) (sym same) ∙ read_at symbol_of_row rows number row within read

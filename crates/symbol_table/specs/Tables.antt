@@ -5,6 +5,8 @@ use Rattle.name_paths.specs.Identifier.{lower}
 use Rattle.ads_plant.specs.Listed.{Shape, NamedType}
 use Rattle.ads_plant.specs.Description.{Area, Sizes, size_in, Symbol, Port}
 use Rattle.ads_plant.specs.AcceptedTypes.{AreTypes, LIMIT, all_pairs, is_shape, is_small_shape}
+use Rattle.type_layout.specs.Extents.{extents_of}
+use Rattle.type_layout.specs.declared.extent.Extent.{Extent}
 use Rattle.ads_plant.specs.Accepted.{size_of_symbol, are_two_names, are_apart}
 
 -- a symbol as the table keeps it: all that the description says of it, and the bytes that it has
@@ -21,10 +23,11 @@ pub record TableSymbol : Type 0 where
   pub signal : Option ℕ
   pub writers : List (List ℕ)
 
--- the sizes of a port's areas, and its symbols in the order of the description
+-- the sizes of a port's areas, its symbols in the order of the description, and the extents of the types that they name
 pub record SymbolTable : Type 0 where
   pub sizes : Sizes
   pub symbols : List TableSymbol
+  pub extents : List Extent
 
 -- a symbol of a description with these types
 abbrev pub table_symbol : List NamedType → Symbol → TableSymbol
@@ -59,7 +62,11 @@ declared s = record {
 
 -- the table of a port of a description with these types
 abbrev pub table_of : List NamedType → Port → SymbolTable
-table_of types p = record { sizes = p.sizes; symbols = map (table_symbol types) p.symbols }
+table_of types p = record {
+  sizes = p.sizes;
+  symbols = map (table_symbol types) p.symbols;
+  extents = extents_of types;
+}
 
 -- a symbol whose type is accepted
 abbrev pub is_typed : List NamedType → Symbol → Bool

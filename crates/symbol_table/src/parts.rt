@@ -6,6 +6,7 @@ ghost use Rattle.name_paths.specs.Steps.{step_of};
 ghost use Rattle.ads_plant.specs.AcceptedTypes.{AreTypes};
 ghost use Rattle.ads_plant.specs.Parts.{part_behind, part_of, within_part};
 ghost use Rattle.ads_plant.specs.Trees.{tree_of};
+ghost use Rattle.type_layout.specs.Extents.{extents_of};
 ghost use Rattle.type_layout.specs.Shapes.{shape_of_ref};
 ghost use Rattle.type_layout.specs.NamedTypes.{types_of};
 ghost use Rattle.ads_plant.specs.PartTexts.{comment_of_step, comment_behind};
@@ -13,7 +14,7 @@ ghost use Rattle.symbol_table.specs.FoundParts.{part_in, IsSound, Tells};
 
 use crate::members::comment_at;
 use name_paths::{LaterSteps, Path, Step};
-use type_layout::{TypeRef, Types, member};
+use type_layout::{Extents, TypeRef, Types};
 
 /// A part of a symbol: its first byte within the symbol, its type and its comment.
 #[derive(Clone, Copy)]
@@ -60,8 +61,14 @@ fn skip(later: LaterSteps<'_>, count: usize) -> LaterSteps<'_>
 }
 
 /// The part behind these steps; None where one of them leads to nothing.
-pub fn part_behind<'a>(types: &'a Types, part: Part<'a>, steps: &LaterSteps<'_>) -> Option<Part<'a>>
+pub fn part_behind<'a>(
+    types: &'a Types,
+    extents: &Extents,
+    part: Part<'a>,
+    steps: &LaterSteps<'_>,
+) -> Option<Part<'a>>
     requires types { AreTypes (types_of types.now) }
+    requires extents { extents.now ≡ extents_of (types_of types.now) }
     requires sound { IsSound (types_of types.now) part }
     ensures { Tells (types_of types.now)
         (comment_behind part.entry.comment.now (tree_of (types_of types.now) (shape_of_ref part.entry.kind)) steps.now)
@@ -69,23 +76,29 @@ pub fn part_behind<'a>(types: &'a Types, part: Part<'a>, steps: &LaterSteps<'_>)
 {
     match steps.next() {
         None => Some(part),
-        Some((step, rest)) => match part_at(types, part, &step) {
+        Some((step, rest)) => match part_at(types, extents, part, &step) {
             None => None,
-            Some(next) => part_behind(types, next, &rest),
+            Some(next) => part_behind(types, extents, next, &rest),
         },
     }
 }
 
 // The part that one step leads to.
-fn part_at<'a>(types: &'a Types, part: Part<'a>, step: &Step<'_>) -> Option<Part<'a>>
+fn part_at<'a>(
+    types: &'a Types,
+    extents: &Extents,
+    part: Part<'a>,
+    step: &Step<'_>,
+) -> Option<Part<'a>>
     requires types { AreTypes (types_of types.now) }
+    requires extents { extents.now ≡ extents_of (types_of types.now) }
     requires sound { IsSound (types_of types.now) part }
     ensures { Tells (types_of types.now)
         (comment_of_step (tree_of (types_of types.now) (shape_of_ref part.entry.kind)) (step_of step.now))
         (option_map (within_part (part_in (types_of types.now) part.entry))
         (part_of (tree_of (types_of types.now) (shape_of_ref part.entry.kind)) (step_of step.now))) result }
 {
-    let (first, kind) = member(types, part.kind, step)?;
+    let (first, kind) = extents.member(types, part.kind, step)?;
     let comment = comment_at(types, part.kind, step);
     Some(Part {
         first: part.first + first,

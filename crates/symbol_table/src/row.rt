@@ -3,6 +3,7 @@
 ghost use Rattle.std.specs.Prelude.{◌≡◌, IsTrue, IfOk, map};
 ghost use Rattle.std.specs.List.{list_all};
 ghost use Rattle.ads_plant.specs.AcceptedTypes.{AreTypes};
+ghost use Rattle.type_layout.specs.Extents.{extents_of};
 ghost use Rattle.type_layout.specs.Shapes.{shape_of};
 ghost use Rattle.type_layout.specs.NamedTypes.{types_of};
 ghost use Rattle.type_layout.specs.Descriptions.{symbol_of, symbols_of, nets_of};
@@ -11,7 +12,7 @@ ghost use Rattle.symbol_table.specs.Rows.{symbol_of_row, symbols_of_rows};
 
 use ads_base::{NoMemory, Octets};
 use std::alloc::Global;
-use type_layout::{Area, Bounds, Nets, Shape, SymbolDesc, Types, size};
+use type_layout::{Area, Bounds, Extents, Nets, Shape, SymbolDesc, Types};
 
 /// A symbol as the table keeps it: all that the description says of it, and the bytes that it has.
 #[derive(Debug, Drop)]
@@ -39,27 +40,35 @@ pub fn rows_of(
     alloc: Global,
     symbols: &[SymbolDesc],
     types: &Types,
+    extents: &Extents,
 ) -> Result<Vec<SymbolRow>, NoMemory>
     requires types { AreTypes (types_of types.now) }
+    requires extents { extents.now ≡ extents_of (types_of types.now) }
     requires each { IsTrue (list_all (is_typed (types_of types.now)) (symbols_of symbols.now)) }
     ensures { IfOk result (λ rows. symbols_of_rows rows.items
         ≡ map (table_symbol (types_of types.now)) (symbols_of symbols.now)) }
 {
     let mut rows = Vec::new(alloc);
     for symbol in symbols {
-        let row = row_of(alloc, symbol, types)?;
+        let row = row_of(alloc, symbol, types, extents)?;
         rows.push(row)?;
     }
     Ok(rows)
 }
 
-fn row_of(alloc: Global, symbol: &SymbolDesc, types: &Types) -> Result<SymbolRow, NoMemory>
+fn row_of(
+    alloc: Global,
+    symbol: &SymbolDesc,
+    types: &Types,
+    extents: &Extents,
+) -> Result<SymbolRow, NoMemory>
     requires types { AreTypes (types_of types.now) }
+    requires extents { extents.now ≡ extents_of (types_of types.now) }
     requires typed { IsTrue (is_typed (types_of types.now) (symbol_of symbol.now)) }
     ensures { IfOk result (λ row. symbol_of_row row
         ≡ table_symbol (types_of types.now) (symbol_of symbol.now)) }
 {
-    let len = size(types, symbol.kind.as_ref());
+    let len = extents.size(types, symbol.kind.as_ref());
     let name = Octets::copy_of(alloc, symbol.name.as_slice())?;
     let kind = copy_of_shape(alloc, &symbol.kind)?;
     let comment = Octets::copy_of(alloc, symbol.comment.as_slice())?;

@@ -8,6 +8,7 @@ ghost use Rattle.ads_plant.specs.PartTexts.{name_behind, text_of_indexes, text_o
 ghost use Rattle.ads_plant.specs.Parts.{member_of, part_of};
 ghost use Rattle.ads_plant.specs.Spelling.{integer_text};
 ghost use Rattle.ads_plant.specs.Trees.{tree_of};
+ghost use Rattle.type_layout.specs.Extents.{extents_of};
 ghost use Rattle.type_layout.specs.Shapes.{shape_of_ref};
 ghost use Rattle.type_layout.specs.NamedTypes.{types_of};
 ghost use Rattle.type_layout.specs.Spelled.{Extends};
@@ -16,17 +17,19 @@ use crate::members::member_named;
 use ads_base::{NoMemory, Octets};
 use name_paths::{Indexes, LaterSteps, Step};
 use std::alloc::Global;
-use type_layout::{TypeRef, Types, member};
+use type_layout::{Extents, TypeRef, Types};
 
 /// Appends these steps as they are declared. After want of memory a part of the text may stand there.
 pub fn append_steps(
     alloc: Global,
     types: &Types,
+    extents: &Extents,
     kind: TypeRef<'_>,
     steps: &LaterSteps<'_>,
     out: &mut Octets,
 ) -> Result<(), NoMemory>
     requires types { AreTypes (types_of types.now) }
+    requires extents { extents.now ≡ extents_of (types_of types.now) }
     requires sized { IsSized (types_of types.now) (shape_of_ref kind) }
     ensures ok { OnOk result (out.new
         ≡ name_behind out.old (tree_of (types_of types.now) (shape_of_ref kind.entry)) steps.now) }
@@ -36,21 +39,34 @@ pub fn append_steps(
         None => Ok(()),
         Some((step, rest)) => {
             append_step(alloc, types, kind, &step, out)?;
-            append_steps(alloc, types, kind_behind(types, kind, &step), &rest, out)
+            append_steps(
+                alloc,
+                types,
+                extents,
+                kind_behind(types, extents, kind, &step),
+                &rest,
+                out,
+            )
         }
     }
 }
 
 // The type behind a step, where it leads to a part.
-fn kind_behind<'a>(types: &'a Types, kind: TypeRef<'a>, step: &Step<'_>) -> TypeRef<'a>
+fn kind_behind<'a>(
+    types: &'a Types,
+    extents: &Extents,
+    kind: TypeRef<'a>,
+    step: &Step<'_>,
+) -> TypeRef<'a>
     requires types { AreTypes (types_of types.now) }
+    requires extents { extents.now ≡ extents_of (types_of types.now) }
     requires sized { IsSized (types_of types.now) (shape_of_ref kind) }
     ensures kind { tree_of (types_of types.now) (shape_of_ref result)
         ≡ type_behind (tree_of (types_of types.now) (shape_of_ref kind.entry))
         (part_of (tree_of (types_of types.now) (shape_of_ref kind.entry)) (step_of step.now)) }
     ensures sized { IsSized (types_of types.now) (shape_of_ref result) }
 {
-    match member(types, kind, step) {
+    match extents.member(types, kind, step) {
         None => kind,
         Some((_, next)) => next,
     }

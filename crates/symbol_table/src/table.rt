@@ -34,13 +34,14 @@ use name_paths::{LaterSteps, Path};
 use std::alloc::Global;
 use std::marker::Model;
 use std::sync::ledger::Ledger;
-use type_layout::{Area, PortDesc, Sizes, Types, size};
+use type_layout::{Area, Extents, PortDesc, Sizes, Types};
 
 /// The symbols of a port, found by their names, by paths and by their places. Contracts see the sizes of the areas and,
 /// of each symbol in the order of the description, what is kept of it.
 #[derive(Drop)]
 pub struct Table {
     sizes: Sizes,
+    extents: Extents,
     rows: Vec<SymbolRow>,
     names: NameIndex,
     by_name: NameOrder,
@@ -55,7 +56,7 @@ impl Model for Table {
 
     ghost Value = { SymbolTable };
 
-    ghost view = { λ t. record { sizes = sizes_of t.sizes; symbols = symbols_of_rows t.rows.items } };
+    ghost view = { λ t. record { sizes = sizes_of t.sizes; symbols = symbols_of_rows t.rows.items; extents = t.extents } };
 
     ghost invariant = { λ t. IsSoundTable (sizes_of t.sizes) (symbols_of_rows t.rows.items) t.names t.by_name t.by_place.items };
 }
@@ -66,12 +67,14 @@ impl Table {
         requires { IsPlaced (types_of types.now) (port_of port.now) }
         ensures { IfOk result (λ table. table ≡ table_of (types_of types.now) (port_of port.now)) }
     {
-        let rows = rows_of(alloc, port.symbols.as_slice(), types)?;
+        let extents = Extents::build(alloc, types)?;
+        let rows = rows_of(alloc, port.symbols.as_slice(), types, &extents)?;
         let names = names_of(alloc, rows.as_slice())?;
         let by_name = NameOrder::build(alloc, rows.as_slice())?;
         let by_place = place_order(alloc, rows.as_slice())?;
         Ok(Table {
             sizes: port.sizes,
+            extents,
             rows,
             names,
             by_name,
@@ -117,7 +120,7 @@ impl Table {
             kind: row.kind.as_ref(),
             comment: row.comment.as_slice(),
         };
-        match part_behind(types, whole, &steps) {
+        match part_behind(types, &self.extents, whole, &steps) {
             None => None,
             Some(part) => {
                 let area_size = size_of_area(self.sizes, row.area);
@@ -127,7 +130,7 @@ impl Table {
                         symbol: number,
                         area: row.area,
                         at: row.at + part.first,
-                        len: size(types, part.kind),
+                        len: self.extents.size(types, part.kind),
                     },
                     kind: part.kind,
                     comment: part.comment,
@@ -178,7 +181,7 @@ impl Table {
         let name = row.name.as_slice();
         out.put(alloc, name)?;
         let steps = steps_behind_name(path, name);
-        append_steps(alloc, types, row.kind.as_ref(), &steps, out)?;
+        append_steps(alloc, types, &self.extents, row.kind.as_ref(), &steps, out)?;
         Ok(())
     }
 

@@ -8,7 +8,7 @@ ghost use Rattle.ads_plant.specs.World as world;
 ghost use Rattle.type_layout.specs.Descriptions.{area_of, sizes_of};
 ghost use Rattle.symbol_table.specs.Rows.{symbols_of_rows};
 ghost use Rattle.symbol_table.specs.PlaceOrders.{has_bytes, is_within, IsPlaceOrder};
-ghost use Rattle.symbol_table.specs.Tiles.{IsTileAt, IsTileWithin};
+ghost use Rattle.symbol_table.specs.Tiles.{IsTileWithin};
 ghost use Rattle.symbol_table.specs.Tiling.{begins_by, HasBegun, EndsLast, HasNoneBefore, BeginsFirst, HasNoneBehind, StartsGap, EndsGap, ends_by};
 ghost use Rattle.symbol_table.specs.Rows.{symbol_of_row};
 
@@ -23,8 +23,7 @@ pub fn tile_at(rows: &[SymbolRow], numbers: &[u32], sizes: Sizes, area: Area, at
     requires bytes { IsTrue (list_all has_bytes (symbols_of_rows rows.now)) }
     requires within { IsTrue (list_all (is_within (sizes_of sizes)) (symbols_of_rows rows.now)) }
     requires there { at < size_in (sizes_of sizes) (area_of area) }
-    ensures { IsTileAt (record { sizes = sizes_of sizes; symbols = symbols_of_rows rows.now })
-        (area_of area) at result }
+    ensures { IsTileWithin (symbols_of_rows rows.now) (area_of area) (size_in (sizes_of sizes) (area_of area)) at result }
 {
     let size = size_of_area(sizes, area);
     tile_within(rows, numbers, size, area, at)
