@@ -2,7 +2,6 @@
 #![tactic(auto)]
 
 mod access;
-mod areas;
 mod groups;
 mod rule;
 

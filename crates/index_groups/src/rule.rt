@@ -7,7 +7,6 @@ ghost use Rattle.type_layout.specs.Descriptions.{area_of, sizes_of};
 ghost use Rattle.index_groups.specs.Access.{answer_meant, IsWithin};
 
 use crate::Reach;
-use crate::areas::area_size;
 use crate::groups::{AreaGroup, area_group};
 use return_codes::Code;
 use type_layout::{Area, Sizes};
@@ -44,7 +43,7 @@ fn byte_reach(sizes: &Sizes, area: Area, offset: u32, len: u32) -> Result<Reach,
         ≡ byte_range (area_of area) (size_in (sizes_of sizes.now) (area_of area)) offset len }
     ensures within { IfOk result (IsWithin (sizes_of sizes.now)) }
 {
-    let size = area_size(sizes, area);
+    let size = sizes.in_area(area);
     if offset > size {
         return Err(Code::C703);
     }
@@ -64,7 +63,7 @@ fn bit_reach(sizes: &Sizes, area: Area, offset: u32, len: u32) -> Result<Reach, 
         ≡ bit_range (area_of area) (size_in (sizes_of sizes.now) (area_of area)) offset len }
     ensures within { IfOk result (IsWithin (sizes_of sizes.now)) }
 {
-    let size = area_size(sizes, area);
+    let size = sizes.in_area(area);
     if offset / 8 >= size {
         return Err(Code::C703);
     }

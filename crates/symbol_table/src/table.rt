@@ -26,7 +26,7 @@ use crate::parts::{Part, part_behind, steps_behind, steps_behind_name};
 use crate::ranges::numbers_in;
 use crate::row::{SymbolRow, rows_of};
 use crate::spelled::append_steps;
-use crate::tiling::{size_of_area, tile_at};
+use crate::tiling::tile_at;
 use crate::{Found, Place, Tile};
 use ads_base::{NoMemory, Octets, Steps};
 use name_index::NameIndex;
@@ -123,7 +123,7 @@ impl Table {
         match part_behind(types, &self.extents, whole, &steps) {
             None => None,
             Some(part) => {
-                let area_size = size_of_area(self.sizes, row.area);
+                let area_size = self.sizes.in_area(row.area);
                 prove!(row.at <= area_size);
                 Some(Found {
                     place: Place {
@@ -207,7 +207,7 @@ impl Table {
         ensures plant { (types : List NamedType) (port : Port) → IsTableOf types port self.now
             → AllStandIn (map (plant_symbol types) port.symbols) (area_of area) at len result.now }
     {
-        let size = size_of_area(self.sizes, area);
+        let size = self.sizes.in_area(area);
         numbers_in(
             self.rows.as_slice(),
             self.by_place.as_slice(),

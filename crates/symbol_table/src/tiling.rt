@@ -25,7 +25,7 @@ pub fn tile_at(rows: &[SymbolRow], numbers: &[u32], sizes: Sizes, area: Area, at
     requires there { at < size_in (sizes_of sizes) (area_of area) }
     ensures { IsTileWithin (symbols_of_rows rows.now) (area_of area) (size_in (sizes_of sizes) (area_of area)) at result }
 {
-    let size = size_of_area(sizes, area);
+    let size = sizes.in_area(area);
     tile_within(rows, numbers, size, area, at)
 }
 
@@ -173,16 +173,4 @@ pub fn is_same_area(a: Area, b: Area) -> bool
     ensures { result ≡ world.is_same_area (area_of a) (area_of b) }
 {
     number_of_area(a) == number_of_area(b)
-}
-
-/// The size of an area in bytes.
-pub fn size_of_area(sizes: Sizes, area: Area) -> u32
-    ensures { result ≡ size_in (sizes_of sizes) (area_of area) }
-{
-    match area {
-        Area::Inputs => sizes.inputs,
-        Area::Outputs => sizes.outputs,
-        Area::Memory => sizes.memory,
-        Area::Process => sizes.process,
-    }
 }

@@ -8,3 +8,4 @@ pub mod SameNumbers
 pub mod SameShapeLemmas
 pub mod Partners
 pub mod KnownExtents
+pub mod NamedThere

@@ -23,6 +23,24 @@ pub struct Sizes {
     pub process: u32,
 }
 
+impl Sizes {
+    ghost use Rattle.std.specs.Prelude.{◌≡◌};
+    ghost use Rattle.ads_plant.specs.Description.{size_in};
+    ghost use Rattle.type_layout.specs.Descriptions.{area_of, sizes_of};
+
+    /// The size of an area.
+    pub fn in_area(&self, area: Area) -> u32
+        ensures { result ≡ size_in (sizes_of self.now) (area_of area) }
+    {
+        match area {
+            Area::Inputs => self.inputs,
+            Area::Outputs => self.outputs,
+            Area::Memory => self.memory,
+            Area::Process => self.process,
+        }
+    }
+}
+
 /// What a device tells of itself: its version, and its name filled with NULs.
 #[derive(Clone, Copy, Debug, PartialEq, Eq)]
 pub struct DeviceFacts4 {

@@ -6,4 +6,4 @@ use Rattle.symbol_table.proofs.tiling.tile_at.Goals as goal
 
 pub tile_within-requires-clause-within : goal.tile_within-requires-clause-within
 tile_within-requires-clause-within c =
-    rw c.size_of_area-size.ensures (all_end_by (symbols_of_rows c.args.rows.now) (sizes_of c.args.sizes) (area_of c.args.area) c.requires.within)
+    rw c.in_area-size.ensures (all_end_by (symbols_of_rows c.args.rows.now) (sizes_of c.args.sizes) (area_of c.args.area) c.requires.within)

@@ -31,7 +31,7 @@ prove-unreachable-requires c =
     let row = c.index-row.result.now in
     let there = row_there c.args.self.now c.self.inside.rows.items c.args.number row (ap (λ (t : SymbolTable). t.symbols) c.self.view_is) c.requires.there c.index-row.ensures in
     let sound = sound_symbol (types_of c.args.types.now) c.args.self.now c.args.number (symbol_of_row row) c.requires.types there in
-    let size : c.size_of_area-area_size.result ≡ size_in c.args.self.now.sizes (area_of row.area) = c.size_of_area-area_size.ensures ∙ ap (λ (t : SymbolTable). size_in t.sizes (area_of row.area)) c.self.view_is in
+    let size : c.in_area-area_size.result ≡ size_in c.args.self.now.sizes (area_of row.area) = c.in_area-area_size.ensures ∙ ap (λ (t : SymbolTable). size_in t.sizes (area_of row.area)) c.self.view_is in
     let within : row.«at» + row.len ≤ size_in c.args.self.now.sizes (area_of row.area) = sound.within in
     let over = c.if-prove.true in
     omega (arith, size, within, over)
@@ -42,9 +42,9 @@ overflow_add-result c =
     let row = c.index-row.result.now in
     let there = row_there c.args.self.now c.self.inside.rows.items c.args.number row (ap (λ (t : SymbolTable). t.symbols) c.self.view_is) c.requires.there c.index-row.ensures in
     let sound = sound_symbol types c.args.self.now c.args.number (symbol_of_row row) c.requires.types there in
-    let size : c.size_of_area-area_size.result ≡ size_in c.args.self.now.sizes (area_of row.area) = c.size_of_area-area_size.ensures ∙ ap (λ (t : SymbolTable). size_in t.sizes (area_of row.area)) c.self.view_is in
+    let size : c.in_area-area_size.result ≡ size_in c.args.self.now.sizes (area_of row.area) = c.in_area-area_size.ensures ∙ ap (λ (t : SymbolTable). size_in t.sizes (area_of row.area)) c.self.view_is in
     let within : row.«at» + row.len ≤ size_in c.args.self.now.sizes (area_of row.area) = sound.within in
-    let fits : c.size_of_area-area_size.result < 4294967296 = c.size_of_area-area_size.type_inv in
+    let fits : c.in_area-area_size.result < 4294967296 = c.in_area-area_size.type_inv in
     let first = told_within types _ (record { first = 0; type = tree_of types (shape_of_ref c.as_ref.result) }) c.args.steps c.in-Some.part refl c.in-Some.ensures in
     let kind = ap (λ (s : Shape). type_size (tree_of types s)) c.as_ref.ensures in
     let is_size : row.len ≡ type_size (tree_of types (shape_of row.kind)) = sound.size_is in
