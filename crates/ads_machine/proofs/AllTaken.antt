@@ -13,7 +13,7 @@ use Rattle.ads_machine.specs.MachineState.{MachineState, start_of, present_numbe
 use Rattle.ads_machine.specs.Moves.{EventStep, state_after_move, state_after}
 use Rattle.ads_machine.specs.Offers.{not_taken, is_gone, is_among, blocked_after_move, blocked_after, taken_of}
 use Rattle.ads_machine.specs.Turns.{LogTurn, moves_of_turn, AreTurns}
-use Rattle.ads_machine.specs.Delivery.{is_cut_off, is_short_from, is_short, PassesOn, OnlyAdds, KeepsThere, TakesAll}
+use Rattle.ads_machine.specs.Delivery.{is_cut_off, is_short_from, is_short, PassesOn, KeepsThere, TakesAll}
 use Rattle.ads_machine.proofs.Waiting.{joined_bytes, left_none}
 use Rattle.ads_machine.proofs.Delivered.{MaybeGave}
 use Rattle.ads_machine.proofs.TurnsKept.{offers_kept, gave_offers}

@@ -12,7 +12,7 @@ use Rattle.ads_machine.specs.MachineState.{MachineState, Exchange, exchange_of, 
 use Rattle.ads_machine.specs.Moves.{EventStep, with_gone, with_took, state_after_move, state_after}
 use Rattle.ads_machine.specs.Offers.{left_after, waiting_of, waiting_at, taken_of}
 use Rattle.ads_machine.specs.Turns.{IsOffer}
-use Rattle.ads_machine.specs.Delivery.{IsPrefix, AreOffers, Adds, AddsTo, OnlyAdds}
+use Rattle.ads_machine.specs.Delivery.{IsPrefix, AreOffers, AddsTo, OnlyAdds}
 use Rattle.ads_machine.proofs.Waiting.{joined_bytes, offer_next}
 use Rattle.ads_machine.proofs.Changes.{KeepsNumber, exchange_own, exchange_other, exchange_none, with_gone-number, with_took-number}
 

@@ -1,5 +1,5 @@
 -- Once the connections that are gone are forgotten, a number that none bears is a new connection's.
-use Rattle.std.proofs.Common.{◌≡◌, ℕ, List, [], ◌∷◌, ◌++◌, map, Bool, true, false, cond, refl, sym, ◌∙◌, ap, subst, inl, inr}
+use Rattle.std.proofs.Common.{◌≡◌, ℕ, List, [], ◌∷◌, map, Bool, false, cond, refl, sym, ◌∙◌, ap, subst, inl, inr}
 use Rattle.std.specs.Prelude.{Option, Some, None, ◌==◌, not, filter}
 use Rattle.std.proofs.lemmas.Bool.{cases_Bool}
 use Rattle.ads_outside.specs.declared.event.Event.TheVariants as event

@@ -1,6 +1,6 @@
 -- The server's machine only adds to what its connections are given, and keeps them there: so what is proved
 -- of any machine that does holds of it.
-use Rattle.std.proofs.Common.{◌≡◌, ◌≢◌, ◌⊎◌, ℕ, List, [], ◌∷◌, ◌++◌, map, Bool, false, refl, sym, ◌∙◌, ap, subst, inl, inr, append_assoc}
+use Rattle.std.proofs.Common.{◌≡◌, ◌≢◌, ℕ, List, [], ◌∷◌, ◌++◌, map, false, refl, sym, ◌∙◌, ap, subst, inl, inr, append_assoc}
 use Rattle.std.specs.Prelude.{Option, Some, None, ◌==◌, option_map}
 use Rattle.std.proofs.lemmas.Bool.{cases_Bool, cases_eq, false≢true}
 use Rattle.std.proofs.lemmas.List.{append-nil}
@@ -16,7 +16,7 @@ use Rattle.ads_machine.specs.Moves.{with_gone, state_after}
 use Rattle.ads_machine.specs.Events.{moment_of_tick, connection_after_tick, connection_after_reload, after_reload, state_after_event}
 use Rattle.ads_machine.specs.Offers.{left_after, not_taken, taken_of}
 use Rattle.ads_machine.specs.Turns.{KeepsTurns}
-use Rattle.ads_machine.specs.Delivery.{IsPrefix, Adds, AddsTo, PassesOn, is_cut_off, is_short, TakesOutput}
+use Rattle.ads_machine.specs.Delivery.{IsPrefix, Adds, AddsTo, PassesOn, is_cut_off, is_short}
 use Rattle.ads_machine.specs.Output.{ServerOnlyAdds, ServerKeepsThere}
 use Rattle.ads_machine.proofs.Find.{or_else, test_same, connection_of-append, connection_of-map}
 use Rattle.ads_machine.proofs.Growth.{Grows, bytes_of_grown, StaysOrIsThere, after_piece-grows, connection_after_tick-grows, connection_after_reload-grows, after_piece-stays, after_tick-stays, after_reload-stays}

@@ -1,5 +1,5 @@
 -- What a log delivers, over any machine: how an event changes the state is an argument.
-use Rattle.std.specs.Prelude.{◌≡◌, ◌⊎◌, ℕ, List, [], ◌∷◌, ◌++◌, length, Bool, true, false, ◌||◌, nat_lt, ◌==◌}
+use Rattle.std.specs.Prelude.{◌≡◌, ◌⊎◌, ℕ, List, [], ◌∷◌, ◌++◌, length, Bool, false, ◌||◌, nat_lt, ◌==◌}
 use Rattle.std.specs.Prelude.{if◌then◌else◌, Option, Some, None}
 use Rattle.ads_outside.specs.declared.event.Event.{Event}
 use Rattle.ads_outside.specs.declared.event.Event.TheVariants as event

@@ -1,6 +1,6 @@
 -- What an event makes of the server's machine: connections are opened and closed, pieces are taken, and
 -- ticks and reloads reach the device and each of its clients.
-use Rattle.std.specs.Prelude.{ℕ, ◌+◌, List, [], ◌∷◌, ◌++◌, max, map, if◌then◌else◌}
+use Rattle.std.specs.Prelude.{ℕ, ◌+◌, [], ◌∷◌, ◌++◌, max, map, if◌then◌else◌}
 use Rattle.ads_outside.specs.declared.event.Event.{Event}
 use Rattle.ads_outside.specs.declared.event.Event.TheVariants as event
 use Rattle.ads_machine.specs.Device.{Device, ClientOutcome, Reloading, Accepted, Refused}

@@ -14,7 +14,6 @@ use Rattle.ads_formats.specs.Request.{Request, request_of}
 use Rattle.ads_machine.specs.World.{Setup, port_numbered}
 use Rattle.ads_machine.specs.Client.{Client}
 use Rattle.ads_machine.specs.Answers.{AnswerTable, DEVICE_NOTIFICATION}
-use Rattle.ads_machine.specs.Writes.{Asker}
 use Rattle.ads_machine.specs.Decisions.{Decision, NoAnswer, EndConnection, AmsError, refuse}
 use Rattle.ads_machine.specs.SumPackets.{decide_request}
 
