@@ -1,13 +1,12 @@
 -- A put of a bit leaves the other bits of its byte.
 use Rattle.std.proofs.Common.{◌≡◌, ◌≢◌, ℕ, zero, suc, ◌+◌, ◌-◌, ◌*◌, ◌/◌, ◌%◌, ◌^◌, ◌<◌, ◌≤◌, refl, sym, ◌∙◌, ap, arith}
-use Rattle.std.specs.Prelude.{min, option_map, Some}
+use Rattle.std.specs.Prelude.{min, option_map}
 use Rattle.std.specs.Int.{bit_at}
 use Rattle.std.proofs.lemmas.Nat.Bits.{bit_at-suc, bit_at_lowest}
 use Rattle.std.proofs.lemmas.Nat.{div-mul-add, mod-mul-add}
 use Rattle.std.proofs.Math.Nat.{div-mul-le_self, div-one, min-le_right, mod-le, mod-lt, mod-add-div', mul-le-mul_right, pow-suc}
-use Rattle.ads_plant.specs.World.{byte_at}
 use Rattle.ads_machine.specs.Access.{OneBit, with_bit, byte_after}
-use Rattle.ads_laws.specs.ExactWrites.{IsBitPut, PutsBits}
+use Rattle.ads_laws.specs.ExactWrites.{PutsBits}
 use Rattle.ads_laws.proofs.Memory.{byte_at-same}
 
 -- a number is twice its half, and its lowest bit

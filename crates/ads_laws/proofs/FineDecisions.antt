@@ -1,5 +1,5 @@
 -- What a packet leaves of a client fits the plant, if the client fitted it before.
-use Rattle.std.proofs.Common.{◌≡◌, ℕ, ◌-◌, List, [], ◌∷◌, refl, sym, subst, inl, inr}
+use Rattle.std.proofs.Common.{◌≡◌, ℕ, ◌-◌, List, [], ◌∷◌, sym, subst, inl, inr}
 use Rattle.std.specs.Prelude.{Option, Some, None, ◌==◌, not}
 use Rattle.std.proofs.lemmas.Bool.{cases_Bool}
 use Rattle.ads_plant.specs.World.{Plant}

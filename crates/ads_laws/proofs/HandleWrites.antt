@@ -1,15 +1,15 @@
 -- An accepted write by a live handle writes the first bytes of its place, and nothing else.
 use Rattle.std.proofs.Common.{◌≡◌, ◌≢◌, ◌⊎◌, ℕ, ◌+◌, ◌<◌, ◌≤◌, List, [], ◌∷◌, map, length, Bool, true, false, cond, refl, sym, ◌∙◌, ap, subst, inl, inr, arith}
-use Rattle.std.specs.Prelude.{Option, Some, None, option_map, unwrap_or, nat_lt, not, Result, Ok, Err}
+use Rattle.std.specs.Prelude.{Option, Some, None, option_map, unwrap_or, nat_lt, Ok}
 use Rattle.std.proofs.lemmas.Bool.{cases_Bool, ltb-false}
-use Rattle.ads_plant.specs.World.{ByteName, Block, SymbolPart, byte_at, byte_or_zero}
+use Rattle.ads_plant.specs.World.{ByteName, Block, SymbolPart, byte_at}
 use Rattle.ads_formats.specs.Groups.{Group, ValueByHandle, value_by_handle}
-use Rattle.ads_machine.specs.World.{Setup, numbers_from, symbol_names}
+use Rattle.ads_machine.specs.World.{numbers_from, symbol_names}
 use Rattle.ads_machine.specs.Access.{Addressed, WholeByte, values_at, Put, memory_after_put, memory_after_puts, puts_of}
 use Rattle.ads_machine.specs.Handles.{HandleStatus, Live, kept_status}
 use Rattle.ads_machine.specs.Client.{Place, names_of_place, Client}
 use Rattle.ads_machine.specs.Acts.{Access, Act, Refusal, Allowed, writing}
-use Rattle.ads_machine.specs.Answers.{AnswerTable, answered_group, WRITE}
+use Rattle.ads_machine.specs.Answers.{answered_group, WRITE}
 use Rattle.ads_machine.specs.Reach.{addressed_in_place, addressed_by_status, reach_of}
 use Rattle.ads_machine.specs.Writes.{Asker, may_write, are_writable, write_act, write_group}
 use Rattle.ads_machine.specs.Requests.{act_of}

@@ -1,31 +1,29 @@
 -- The handles of a connection are what its history in the log says.
-use Rattle.std.proofs.Common.{◌≡◌, ◌≢◌, ◌⊎◌, ℕ, List, [], ◌∷◌, ◌++◌, map, length, Bool, true, false, cond, refl, sym, ◌∙◌, ap, subst, inl, inr}
+use Rattle.std.proofs.Common.{◌≡◌, ℕ, List, [], ◌∷◌, ◌++◌, map, length, Bool, true, false, cond, refl, sym, ◌∙◌, ap, subst, inl, inr}
 use Rattle.std.specs.Prelude.{Option, Some, None, option_map, ◌==◌, not, Result, Ok, Err}
 use Rattle.std.proofs.lemmas.Bool.{cases_Bool, cases_eq}
-use Rattle.std.proofs.lemmas.List.Concat.{flat_map-append}
 use Rattle.ads_plant.specs.Description.{Description}
-use Rattle.ads_plant.specs.World.{plant_of}
 use Rattle.ads_outside.specs.declared.event.Event.{Event}
 use Rattle.ads_outside.specs.declared.event.Event.TheVariants as event
 use Rattle.ads_outside.specs.declared.moves.Move.{Move}
 use Rattle.ads_outside.specs.declared.moves.Move.TheVariants as move
-use Rattle.ads_machine.specs.Device.{Device, FrameOutcome, DescriptionFault}
+use Rattle.ads_machine.specs.Device.{FrameOutcome, DescriptionFault}
 use Rattle.ads_machine.specs.Connection.{Connection, fresh_connection, connection_of, is_deaf}
 use Rattle.ads_machine.specs.MachineState.{MachineState, Exchange, exchange_of, after_exchange}
 use Rattle.ads_machine.specs.Piece.{with_received, packets_left, with_one_taken, with_client, after_outcome, after_packet, after_packets, with_piece, end_of_piece, after_piece}
-use Rattle.ads_machine.specs.Moves.{EventStep, with_gone, with_took, state_after_move, state_after}
+use Rattle.ads_machine.specs.Moves.{with_gone, with_took, state_after_move, state_after}
 use Rattle.ads_machine.specs.Events.{after_client_outcome, moment_of_tick, connection_after_tick, connection_after_reload, after_reload, state_after_event}
 use Rattle.ads_machine.specs.World.{World, setup_of}
-use Rattle.ads_machine.specs.Handles.{Handle, HandleEvent, Reload, kept_status, handles_after, status_of}
+use Rattle.ads_machine.specs.Handles.{Handle, HandleEvent, kept_status, handles_after}
 use Rattle.ads_machine.specs.HandleLaws.{handles_after_all, handles_of}
-use Rattle.ads_machine.specs.Client.{Place, Client, Effect, NoEffect, Grants, Releases, Adds, Deletes, client_after, kept_place, client_after_reload}
+use Rattle.ads_machine.specs.Client.{Place, Client, Effect, NoEffect, Grants, Releases, Adds, Deletes, client_after, client_after_reload}
 use Rattle.ads_machine.specs.Acts.{Act, effect_of, client_after_acts}
 use Rattle.ads_machine.specs.Answers.{AnswerTable}
 use Rattle.ads_machine.specs.Decisions.{Decision, acts_in}
 use Rattle.ads_machine.specs.Packets.{decide}
 use Rattle.ads_machine.specs.Replies.{performed}
 use Rattle.ads_machine.specs.Ticks.{world_after_tick, client_after_tick}
-use Rattle.ads_machine.specs.Reloads.{is_kept, world_after_reload, client_reloaded}
+use Rattle.ads_machine.specs.Reloads.{world_after_reload, client_reloaded}
 use Rattle.ads_machine.specs.AdsDevice.{DescriptionReading, reloading, ads_device, server_step}
 use Rattle.ads_machine.specs.Projection.{acts_of_packet, acts_of_packets, acts_of_piece, acts_at}
 use Rattle.ads_machine.proofs.Find.{or_else, test_same, test_other, connection_of-append, connection_of-map}

@@ -1,6 +1,6 @@
 -- What each request, tick and reload keeps of a client is kept by every log.
 use Rattle.std.proofs.Common.{◌≡◌, ℕ, List, [], ◌∷◌, Bool, true, false, cond, refl, sym, subst}
-use Rattle.std.specs.Prelude.{Option, Some, None, ◌==◌, ◌%◌}
+use Rattle.std.specs.Prelude.{Option, Some, None}
 use Rattle.ads_formats.specs.Request.{Request}
 use Rattle.ads_machine.specs.Device.{FrameOutcome, ClientOutcome}
 use Rattle.ads_machine.specs.Connection.{Connection, is_deaf}
