@@ -1,5 +1,5 @@
 -- What the code's borrowed records are: a document as the rules have it.
-use Rattle.std.specs.Prelude.{ℕ, List, map, Option, option_map}
+use Rattle.std.specs.Prelude.{ℕ, List, map, option_map}
 use Rattle.ads_rules.specs.Written as rules
 use Rattle.description_table.specs.declared.written.WrittenRoute.{WrittenRoute}
 use Rattle.description_table.specs.declared.written.WrittenMember.{WrittenMember}
