@@ -56,8 +56,7 @@ fn add_type(alloc: Global, known: &mut KnownTypes, kind: &WrittenType<'_>) -> Re
     if extent.size > 1_048_576 || extent.depth > 16 {
         return Ok(false);
     }
-    let number = known.types.len() as u32;
-    known.names.add(alloc, name_of(&named), number)?;
+    known.names.add(alloc, name_of(&named))?;
     known.types.push(alloc, named)?;
     known.extents.push(extent)?;
     Ok(true)

@@ -14,7 +14,7 @@ use Rattle.std.proofs.lemmas.Slice.Eq.{bytes_eq-Decides}
 use Rattle.indexmap.specs.IndexMap.{insert_entry}
 use Rattle.name_paths.specs.Identifier.{lower}
 use Rattle.name_index.specs.Entries.{number_of, AddsEntry}
-use Rattle.name_index.specs.Numbered.{AreNumbered}
+use Rattle.name_index.specs.Numbered.{NameNumbers, AreNumbered}
 
 abbrev pub shown : Vec ℕ × ℕ → List ℕ × ℕ
 shown e = (e.0.items, e.1)
@@ -94,14 +94,21 @@ position-push p xs x =
     rw (position_or_len_push p xs x, length_push xs x) (found_more (position_or_len p xs) (length xs) (p x) (prefix_len-le-length (λ y. not (p y)) xs))
 
 -- one more name, whose number is how many there were
-pub AreNumbered-push : (names : List (List ℕ)) (name : List ℕ) (old new : List (List ℕ × ℕ)) (low : List ℕ) (number : ℕ) → AreNumbered names old → low ≡ lower name
-    → number ≡ length names → AddsEntry (low, number) old new → AreNumbered (names ++ name ∷ []) new
-AreNumbered-push names name old new low number are is_low is_last added = λ l.
-    added l ∙ number_of-push l old (low, number)
-    ∙ ap (λ o. behind o (bytes_eq l low) number) (are l)
-    ∙ ap (λ b. behind (position (λ n. bytes_eq (lower n) l) names) b number) (nat_list_eq_equiv.symm l low ∙ ap (λ k. bytes_eq k l) is_low)
-    ∙ ap (λ n. behind (position (λ m. bytes_eq (lower m) l) names) (bytes_eq (lower name) l) n) is_last
-    ∙ sym (position-push (λ m. bytes_eq (lower m) l) names name)
+pub AreNumbered-push : (names : List (List ℕ)) (name : List ℕ) (old new : NameNumbers) (low : List ℕ) → AreNumbered names old → low ≡ lower name
+    → AddsEntry (low, old.count) old.entries new.entries → new.count ≡ old.count + 1 → AreNumbered (names ++ name ∷ []) new
+AreNumbered-push names name old new low are is_low added more = record {
+  first = λ l. first_more names name old.entries new.entries low old.count are.first is_low are.counted added l;
+  counted = more ∙ ap (λ n. n + 1) are.counted ∙ sym (length_push names name);
+}
+  where
+    first_more : (names : List (List ℕ)) (name : List ℕ) (old new : List (List ℕ × ℕ)) (low : List ℕ) (number : ℕ) → ((l : List ℕ) → number_of l old ≡ position (λ n. bytes_eq (lower n) l) names) → low ≡ lower name
+        → number ≡ length names → AddsEntry (low, number) old new → (l : List ℕ) → number_of l new ≡ position (λ n. bytes_eq (lower n) l) (names ++ name ∷ [])
+    first_more names name old new low number are is_low is_last added l =
+        added l ∙ number_of-push l old (low, number)
+        ∙ ap (λ o. behind o (bytes_eq l low) number) (are l)
+        ∙ ap (λ b. behind (position (λ n. bytes_eq (lower n) l) names) b number) (nat_list_eq_equiv.symm l low ∙ ap (λ k. bytes_eq k l) is_low)
+        ∙ ap (λ n. behind (position (λ m. bytes_eq (lower m) l) names) (bytes_eq (lower name) l) n) is_last
+        ∙ sym (position-push (λ m. bytes_eq (lower m) l) names name)
 
 pub none_is : (o : Option ℕ) → is_some o ≡ false → o ≡ None
 none_is None e = refl

@@ -1,6 +1,6 @@
 //! The numbers of names, under the names in lower case.
 
-ghost use Rattle.std.specs.Prelude.{◌≡◌, ℕ, ◌++◌, ◌∷◌, [], List, length, OnOk, OnErr};
+ghost use Rattle.std.specs.Prelude.{◌≡◌, ℕ, ◌+◌, ◌^◌, ◌<◌, ◌++◌, ◌∷◌, [], List, OnOk, OnErr};
 ghost use Rattle.name_paths.specs.Identifier.{lower};
 ghost use Rattle.name_index.specs.Numbered.{AreNumbered, first_called};
 ghost use Rattle.name_index.specs.Entries.{number_of, AddsEntry};
@@ -16,14 +16,17 @@ use std::marker::Model;
 #[derive(Drop)]
 pub struct NameIndex {
     numbers: IndexMap<Vec<u8>, u32>,
+    // How many names were added.
+    count: u32,
 }
 
 impl Model for NameIndex {
-    ghost use Rattle.std.specs.Prelude.{List, ℕ, map};
+    ghost use Rattle.std.specs.Prelude.{map};
+    ghost use Rattle.name_index.specs.Numbered.{NameNumbers};
 
-    ghost Value = { List (List ℕ × ℕ) };
+    ghost Value = { NameNumbers };
 
-    ghost view = { λ n. map (λ e. (e.0.items, e.1)) n.numbers.entries };
+    ghost view = { λ n. record { entries = map (λ e. (e.0.items, e.1)) n.numbers.entries; count = n.count } };
 }
 
 impl NameIndex {
@@ -33,6 +36,7 @@ impl NameIndex {
     {
         NameIndex {
             numbers: IndexMap::new(alloc),
+            count: 0,
         }
     }
 
@@ -49,25 +53,27 @@ impl NameIndex {
     }
 
     /// One more name, whose number is how many there were.
-    pub fn add(&mut self, alloc: Global, name: &[u8], number: u32) -> Result<(), NoMemory>
-        ensures ok { OnOk result ((names : List (List ℕ)) → AreNumbered names self.old → number ≡ length names
+    pub fn add(&mut self, alloc: Global, name: &[u8]) -> Result<(), NoMemory>
+        requires { self.old.count + 1 < 2 ^ 32 }
+        ensures ok { OnOk result ((names : List (List ℕ)) → AreNumbered names self.old
             → AreNumbered (names ++ name.now ∷ []) self.new) }
         ensures no_memory { OnErr result (self.new ≡ self.old) }
     {
         let low = lower_copy(alloc, name)?;
-        self.add_lower(low, number)?;
+        self.add_lower(low, self.count)?;
+        self.count += 1;
         Ok(())
     }
 
     fn number(&self, low: &[u8]) -> Option<u32>
-        ensures { result ≡ number_of low.now self.now }
+        ensures { result ≡ number_of low.now self.now.entries }
     {
         self.numbers.get(low).copied()
     }
 
     // A name that is longer than the room for a copy is compared with each.
     fn number_of_long(&self, name: &[u8]) -> Option<u32>
-        ensures { result ≡ number_of (lower name.now) self.now }
+        ensures { result ≡ number_of (lower name.now) self.now.entries }
     {
         for (low, number) in &self.numbers {
             if is_lower_of(low.as_slice(), name) {
@@ -79,7 +85,8 @@ impl NameIndex {
 
     // A further name in lower case, which counts where it is new.
     fn add_lower(&mut self, low: Vec<u8>, number: u32) -> Result<(), NoMemory>
-        ensures ok { OnOk result (AddsEntry (low.items, number) self.old self.new) }
+        ensures ok { OnOk result (AddsEntry (low.items, number) self.old.entries self.new.entries) }
+        ensures counted { OnOk result (self.new.count ≡ self.old.count) }
         ensures no_memory { OnErr result (self.new ≡ self.old) }
     {
         if self.number(low.as_slice()).is_some() {

@@ -15,8 +15,8 @@ pub fn names_of(alloc: Global, rows: &[SymbolRow]) -> Result<NameIndex, NoMemory
     ensures { IfOk result (AreNamesOf (symbols_of_rows rows.now)) }
 {
     let mut names = NameIndex::new(alloc);
-    for (number, row) in rows.iter().enumerate() {
-        names.add(alloc, row.name.as_slice(), number as u32)?;
+    for row in rows {
+        names.add(alloc, row.name.as_slice())?;
     }
     Ok(names)
 }

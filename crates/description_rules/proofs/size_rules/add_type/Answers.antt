@@ -23,8 +23,6 @@ returns c =
     let name : map type_name (types_of c.push.new.self) ≡ map type_name types ++ c.name_of.result.now ∷ []
     = ap (map type_name) longer ∙ map-append type_name types (type ∷ [])
     ∙ ap (λ n. map type_name types ++ n ∷ []) (sym (c.name_of.ensures ∙ ap type_name built.0)) in
-    let is_last : c.len-number.result ≡ length (map type_name types)
-    = omega (arith, c.len-number.ensures, length-map types type_name, length-map c.args.known.now.types named_type_of) in
     record {
       answer = is_right_size-from types type extent built.1 c.type_extent-extent.ensures.extent c.if-extent-gt1048576.false c.if-extent-gt16.false;
       types = λ _. longer;
@@ -32,7 +30,15 @@ returns c =
         extents = AreKnown-push types (types_of c.push.new.self) c.args.known.now.extents.items c.push-2.new.self.items type extent c.requires.known.extents
             c.type_extent-extent.ensures.extent c.if-extent-gt1048576.false c.type_extent-extent.ensures.fair.1 c.type_extent-extent.ensures.fair.0 c.if-extent-gt16.false
             longer c.in_ok-push-2.ensures.items;
-        names = subst (λ names. AreNumbered names c.add.new.self) (sym name) (c.in_ok-add.ensures.ok (map type_name types) c.requires.known.names is_last);
+        names = subst (λ names. AreNumbered names c.add.new.self) (sym name) (c.in_ok-add.ensures.ok (map type_name types) c.requires.known.names);
         few = omega (arith, c.requires.few, ap length c.in_ok-push.ensures.ok, length_push c.args.known.now.types c.in-Some.named);
       };
     }
+
+-- the types so far are counted
+pub add-requires : goal.add-requires
+add-requires c =
+    let types = types_of c.args.known.now.types in
+    let counted = c.requires.known.names.counted in
+    let few = c.requires.few in
+    omega (arith, counted, few, length-map types type_name, length-map c.args.known.now.types named_type_of)

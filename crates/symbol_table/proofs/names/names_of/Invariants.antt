@@ -4,5 +4,5 @@ use Rattle.symbol_table.specs.Names.{AreNamesOf}
 use Rattle.symbol_table.specs.Rows.{symbols_of_rows}
 use Rattle.symbol_table.proofs.names.names_of.Given as goal
 
-abbrev pub invariant-loop-number : goal.invariant-loop-number
-invariant-loop-number l = AreNamesOf (symbols_of_rows (take l.number l.rows)) l.names
+abbrev pub invariant-loop-row : goal.invariant-loop-row
+invariant-loop-row l = AreNamesOf (symbols_of_rows (take l.row-index l.rows)) l.names

@@ -6,4 +6,4 @@ use Rattle.name_index.proofs.name_index.NameIndex.number_of_long.Given as goal
 
 -- no entry before these has the name
 abbrev pub invariant-loop-low : goal.invariant-loop-low
-invariant-loop-low l = number_of (lower l.name) l.self ≡ number_of (lower l.name) (map shown l.low-iterator)
+invariant-loop-low l = number_of (lower l.name) l.self.entries ≡ number_of (lower l.name) (map shown l.low-iterator)
