@@ -9,7 +9,7 @@ use Rattle.std.proofs.lemmas.List.{length-append}
 use Rattle.std.proofs.Math.Seq.{drop-cons}
 use Rattle.std.proofs.lemmas.List.Elements.{All-head, All-tail, All-get_or}
 use Rattle.std.proofs.lemmas.List.Edits.{get_or-remove_below, get_or-remove_above, length-remove, length-insert}
-use Rattle.slab.specs.Slab.{Slab, get, Updates}
+use Rattle.slab.specs.Slab.{Slab, get, slab_len, Updates}
 use Rattle.ads_formats.specs.Ranges.{Range}
 use Rattle.ads_machine.specs.Watches.{Watch, is_due, is_due_after, is_sent, after_check}
 use Rattle.notify_table.specs.declared.turn.Turn.{Turn}
@@ -18,7 +18,7 @@ use Rattle.notify_table.specs.Turns.{AreInTurn, HasHandle, moment_after, next_mo
 use Rattle.notify_table.specs.Schedules.{no_watch, nth_watch, watch_in, watch_at, Keeps, IsKept, key_of, OncePer}
 use Rattle.notify_table.specs.Schedules.{AreScheduled, IsSettled}
 use Rattle.notify_table.proofs.Filtered.{insert-remove, All-insert, All-remove, map-insert, map-remove, OncePer-others}
-use Rattle.notify_table.proofs.Filtered.{OncePer-insert, OncePer-remove}
+use Rattle.notify_table.proofs.Filtered.{OncePer-insert, OncePer-remove, length-insert_one}
 
 module _ (old new : Slab (Watch Range)) (key : ℕ) (slot : Option (Watch Range)) where
   -- where the record of one key changes, the others are as they were
@@ -48,12 +48,13 @@ module _ (old new : Slab (Watch Range)) (w : Watch Range) (ts : List Turn) (plac
       let here : watch_at new t ≡ w = ap watch_in updates.changed in
       map-insert (watch_at new) ts place t ∙ rw (here, same_watches old new (key_of t) (Some w) updates ts apart) refl
 
-  pub scheduled_after : Updates old new (key_of t) (Some w) → All (λ u. key_of u ≢ key_of t) ts
+  pub scheduled_after : Updates old new (key_of t) (Some w) → slab_len new ≡ length ts + 1 → All (λ u. key_of u ≢ key_of t) ts
       → All (IsKept old) ts → OncePer key_of ts → Keeps (Some w) t → AreInTurn (insert ts place t) → AreScheduled new (insert ts place t)
-  scheduled_after updates apart kept once keeps in_turn = record {
+  scheduled_after updates stored apart kept once keeps in_turn = record {
     in_turn = in_turn;
     kept = All-insert (IsKept new) ts place t (still_kept old new (key_of t) (Some w) updates ts apart kept)
         (subst (λ (s : Option (Watch Range)). Keeps s t) (sym updates.changed) keeps);
+    no_other = stored ∙ sym (length-insert_one ts place t);
     apart = OncePer-insert key_of ts place t once apart;
   }
 
@@ -98,14 +99,22 @@ module _ (records new : Slab (Watch Range)) (ts us : List Turn) (ws : List (Watc
   pub others_in_turn : AreScheduled records ts → i < length ts → us ≡ remove ts i → AreInTurn us
   others_in_turn scheduled within us_is = rw us_is (in_turn-remove ts i within scheduled.in_turn)
 
+  others_left : AreScheduled records ts → i < length ts → us ≡ remove ts i → slab_len records ≡ length us + 1
+  others_left scheduled within us_is =
+      let shorter = length-remove ts i within in
+      let same = ap length us_is in
+      let stored = scheduled.no_other in
+      omega (arith, shorter, same, stored)
+
   -- its record is dropped
   pub removed_scheduled : AreScheduled records ts → i < length ts → t ≡ get_or ts i t → us ≡ remove ts i → Updates records new (key_of t) None
-      → AreScheduled new us
-  removed_scheduled scheduled within t_is us_is updates =
+      → slab_len new + 1 ≡ slab_len records → AreScheduled new us
+  removed_scheduled scheduled within t_is us_is updates one_less =
       let apart = others_apart scheduled within t_is us_is in
       record {
         in_turn = others_in_turn scheduled within us_is;
         kept = still_kept records new (key_of t) None updates us apart (others_kept scheduled us_is);
+        no_other = let left = others_left scheduled within us_is in omega (arith, left, one_less);
         apart = others_once scheduled within us_is;
       }
 
@@ -118,13 +127,14 @@ module _ (records new : Slab (Watch Range)) (ts us : List Turn) (ws : List (Watc
 
   -- its record is changed, and it stands elsewhere
   pub changed_scheduled : (vs : List Turn) (place : ℕ) (u : Turn) (w : Watch Range) → AreScheduled records ts → i < length ts → t ≡ get_or ts i t
-      → us ≡ remove ts i → vs ≡ insert us place u → key_of u ≡ key_of t → Updates records new (key_of t) (Some w) → Keeps (Some w) u → AreInTurn vs
-      → AreScheduled new vs
-  changed_scheduled vs place u w scheduled within t_is us_is vs_is key_is updates keeps in_turn =
+      → us ≡ remove ts i → vs ≡ insert us place u → key_of u ≡ key_of t → Updates records new (key_of t) (Some w)
+      → slab_len new ≡ slab_len records → Keeps (Some w) u → AreInTurn vs → AreScheduled new vs
+  changed_scheduled vs place u w scheduled within t_is us_is vs_is key_is updates no_more keeps in_turn =
       let apart = others_apart scheduled within t_is us_is in
       let in_turn_at : AreInTurn (insert us place u) = rw vs_is at in_turn in
       rw vs_is (scheduled_after records new w us place u
-      (rw key_is updates) (rw key_is apart) (others_kept scheduled us_is) (others_once scheduled within us_is) keeps in_turn_at)
+      (rw key_is updates) (no_more ∙ others_left scheduled within us_is) (rw key_is apart)
+      (others_kept scheduled us_is) (others_once scheduled within us_is) keeps in_turn_at)
 
   pub changed_watches : (vs : List Turn) (place : ℕ) (u : Turn) (w : Watch Range) → map (watch_at records) ts ≡ ws → AreScheduled records ts
       → i < length ts → t ≡ get_or ts i t → us ≡ remove ts i → vs ≡ insert us place u → key_of u ≡ key_of t → Updates records new (key_of t) (Some w)
@@ -137,11 +147,12 @@ module _ (records new : Slab (Watch Range)) (ts us : List Turn) (ws : List (Watc
 -- a turn is added with its record
 module _ (records new : Slab (Watch Range)) (ts vs : List Turn) (place : ℕ) (t : Turn) (w : Watch Range) where
   pub added_scheduled : AreScheduled records ts → get records (key_of t) ≡ None → Updates records new (key_of t) (Some w)
-      → vs ≡ insert ts place t → Keeps (Some w) t → AreInTurn vs → AreScheduled new vs
-  added_scheduled scheduled vacant updates vs_is keeps in_turn =
+      → slab_len new ≡ slab_len records + 1 → vs ≡ insert ts place t → Keeps (Some w) t → AreInTurn vs → AreScheduled new vs
+  added_scheduled scheduled vacant updates one_more vs_is keeps in_turn =
       let apart = vacant_apart records (key_of t) ts vacant scheduled.kept in
       let in_turn_at : AreInTurn (insert ts place t) = rw vs_is at in_turn in
-      rw vs_is (scheduled_after records new w ts place t updates apart scheduled.kept scheduled.apart keeps in_turn_at)
+      let stored = one_more ∙ ap (λ n. n + 1) scheduled.no_other in
+      rw vs_is (scheduled_after records new w ts place t updates stored apart scheduled.kept scheduled.apart keeps in_turn_at)
 
   pub added_watches : (ws : List (Watch Range)) → map (watch_at records) ts ≡ ws → AreScheduled records ts → get records (key_of t) ≡ None
       → Updates records new (key_of t) (Some w) → vs ≡ insert ts place t → map (watch_at new) vs ≡ insert ws place w
@@ -151,7 +162,12 @@ module _ (records new : Slab (Watch Range)) (ts vs : List Turn) (place : ℕ) (t
 -- how much room there is for records plays no part
 pub any_capacity : (records : Slab (Watch Range)) (capacity : ℕ) (ts : List Turn) → AreScheduled records ts
     → AreScheduled (record records { capacity = capacity }) ts
-any_capacity records capacity ts scheduled = record { in_turn = scheduled.in_turn; kept = scheduled.kept; apart = scheduled.apart }
+any_capacity records capacity ts scheduled = record {
+  in_turn = scheduled.in_turn;
+  kept = scheduled.kept;
+  no_other = scheduled.no_other;
+  apart = scheduled.apart;
+}
 
 -- a checked notification keeps its handle
 pub Keeps-checked : (now : ℕ) (bytes : List ℕ) (slot : Option (Watch Range)) (t u : Turn) → Keeps slot t → handle_of_turn u ≡ handle_of_turn t

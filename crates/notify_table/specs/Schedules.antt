@@ -1,7 +1,7 @@
 -- The notifications of a schedule. Private: no public clause cites this file.
-use Rattle.std.specs.Prelude.{◌≡◌, ℕ, ◌+◌, ◌≤◌, List, [], insert, remove, ◌==◌}
+use Rattle.std.specs.Prelude.{◌≡◌, ℕ, ◌+◌, ◌≤◌, List, [], length, insert, remove, ◌==◌}
 use Rattle.std.specs.Prelude.{Option, None, Some, IsSome, unwrap_or, All, count_by, slice_index_or}
-use Rattle.slab.specs.Slab.{Slab, get}
+use Rattle.slab.specs.Slab.{Slab, get, slab_len}
 use Rattle.ads_plant.specs.Description.{Process}
 use Rattle.ads_formats.specs.Ranges.{Range, Bytes}
 use Rattle.ads_machine.specs.Watches.{Watch, Cyclic}
@@ -51,10 +51,11 @@ key_of t = t.key
 abbrev pub OncePer : {X : Type 0} → (X → ℕ) → List X → Type 0
 OncePer n xs = (k : ℕ) → count_by (λ x. n x == k) xs ≤ 1
 
--- each turn has a record of its own, and the turns stand in their order
+-- each turn has a record of its own, no other record is stored, and the turns stand in their order
 pub record AreScheduled (records : Slab (Watch Range)) (turns : List Turn) : Type 0 where
   pub in_turn : AreInTurn turns
   pub kept : All (IsKept records) turns
+  pub no_other : slab_len records ≡ length turns
   pub apart : OncePer key_of turns
 
 -- the notification at a place goes on like this or is gone, and the next is looked at

@@ -2,7 +2,7 @@
 
 ghost use Rattle.std.specs.Prelude.{◌≡◌, ℕ, ◌+◌, ◌<◌, ◌≤◌, [], map, filter, length, insert, remove, position};
 ghost use Rattle.std.specs.Prelude.{nat_eq, IsSome, IfSome, Some, All, option_map, IfOk, OnOk, OnErr};
-ghost use Rattle.slab.specs.Slab.{get, Updates};
+ghost use Rattle.slab.specs.Slab.{get, slab_len, Updates};
 ghost use Rattle.ads_machine.specs.Watches.{is_due, is_sent, after_check, watch_after_reload, watches_after_reload};
 ghost use Rattle.index_groups.specs.Access.{range_meant};
 ghost use Rattle.notify_table.specs.Specs.{new_watch, before_checks};
@@ -203,6 +203,7 @@ fn check_record(records: &mut Slab<Record>, key: usize, now: u64, bytes: &[u8]) 
     ensures next { result.1 ≡ next_moment (after_check now bytes.now (watch_under records.old key)) }
     ensures updates { Updates records.old records.new key
         (Some (after_check now bytes.now (watch_under records.old key))) }
+    ensures no_more { slab_len records.new ≡ slab_len records.old }
 {
     match records.get_mut(key) {
         Some(record) => {
@@ -240,8 +241,9 @@ fn moved_of(records: &Slab<Record>, key: usize, m: &Moves) -> Option<Reach>
 fn put_reach(records: &mut Slab<Record>, key: usize, reach: Reach)
     requires there { IsSome (get records.old key) }
     requires len { watched_len (range_meant reach) ≡ watched_len (watch_under records.old key).watched }
-    ensures { Updates records.old records.new key
+    ensures updates { Updates records.old records.new key
         (Some (record (watch_under records.old key) { watched = range_meant reach })) }
+    ensures no_more { slab_len records.new ≡ slab_len records.old }
 {
     match records.get_mut(key) {
         Some(record) => record.put(reach),

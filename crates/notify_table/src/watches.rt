@@ -83,8 +83,8 @@ impl Watches {
         self.schedule.len() >= MAX_LIVE || self.granted == u32::MAX
     }
 
-    /// Deletes a notification; the client's address plays no part. 0x714 where no live notification of this port has
-    /// the handle.
+    /// Deletes a notification, and nothing of it stays; the client's address plays no part. 0x714 where no live
+    /// notification of this port has the handle.
     pub fn delete(&mut self, handle: u32, port: u16) -> Result<(), Code>
         ensures live { IsOk result ↔ IsTrue (is_live port handle self.old) }
         ensures ok { OnOk result (self.new ≡ table_after self.old (Deleted handle)) }
@@ -147,8 +147,8 @@ impl Watches {
     }
 
     /// A reload. A notification all of whose bytes, or the byte of whose bit, are of one kept symbol goes on at its new
-    /// place, with the moment of its last check and the bytes that it last sent. All others end, and are given by
-    /// rising handle.
+    /// place, with the moment of its last check and the bytes that it last sent. All others end, are given by rising
+    /// handle, and nothing of them stays.
     pub fn moved(&mut self, alloc: Global, m: &Moves) -> Result<EndedList, NoMemory>
         ensures ended { IfOk result (λ ended. map ended_meant ended
             ≡ map end_of (ended_watches (range_after m.now) self.old.watches)) }

@@ -23,6 +23,7 @@ invariant_of-self c =
     (record { next = c.check_record-sent.result.1; handle = c.remove-turn.result.handle; key = c.remove-turn.result.key })
     (after_check c.args.now c.args.bytes.now (watch_at c.self.inside.records c.remove-turn.result))
     c.self.invariant within c.remove-turn.ensures.value c.remove-turn.ensures.items c.put_turn.ensures.put.2 refl c.check_record-sent.ensures.updates
+    c.check_record-sent.ensures.no_more
     (Keeps-checked c.args.now c.args.bytes.now (get c.self.inside.records c.remove-turn.result.key) c.remove-turn.result _
     (keeps_of c.self.inside.records c.self.inside.turns.items c.args.at c.remove-turn.result c.self.invariant within c.remove-turn.ensures.value)
     refl c.check_record-sent.ensures.next)

@@ -6,7 +6,7 @@ invariant_of-self c =
     removed_scheduled c.self.inside.records c.remove.new.self c.self.inside.turns.items c.remove-turn.new.self.items c.args.self.now c.args.at
     c.remove-turn.result
     c.self.invariant (within_turns c.self.inside.records c.self.inside.turns.items c.args.self.now c.args.at c.self.view_is c.requires)
-    c.remove-turn.ensures.value c.remove-turn.ensures.items c.remove.ensures.updates
+    c.remove-turn.ensures.value c.remove-turn.ensures.items c.remove.ensures.updates c.remove.ensures.len
 
 pub returns : goal.returns
 returns c =

@@ -23,6 +23,6 @@ returns-in-Some c =
           c.args.self.now c.args.at
           c.index-turn.result.now c.self.inside.turns.items c.args.at c.index-turn.result.now there c.self.view_is c.self.invariant within
           c.index-turn.ensures refl
-          (put_back c.self.inside.turns.items c.args.at c.index-turn.result.now within c.index-turn.ensures) refl c.put_reach.ensures,
+          (put_back c.self.inside.turns.items c.args.at c.index-turn.result.now within c.index-turn.ensures) refl c.put_reach.ensures.updates,
       refl,
     )
