@@ -1,6 +1,6 @@
 //! The numbers of names, under the names in lower case.
 
-ghost use Rattle.std.specs.Prelude.{◌≡◌, ℕ, ◌+◌, ◌^◌, ◌<◌, ◌++◌, ◌∷◌, [], List, OnOk, OnErr};
+ghost use Rattle.std.specs.Prelude.{◌≡◌, ℕ, ◌+◌, ◌^◌, ◌<◌, ◌++◌, ◌∷◌, [], List, length, OnOk, OnErr};
 ghost use Rattle.name_paths.specs.Identifier.{lower};
 ghost use Rattle.name_index.specs.Numbered.{AreNumbered, first_called};
 ghost use Rattle.name_index.specs.Entries.{number_of, AddsEntry};
@@ -50,6 +50,14 @@ impl NameIndex {
         }
         put_lower(&mut room, name);
         self.number(&room[..name.len()])
+    }
+
+    /// How many names were added.
+    pub fn len(&self) -> u32
+        ensures count { result ≡ self.now.count }
+        ensures names { (names : List (List ℕ)) → AreNumbered names self.now → result ≡ length names }
+    {
+        self.count
     }
 
     /// One more name, whose number is how many there were.

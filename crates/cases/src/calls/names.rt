@@ -27,15 +27,16 @@ pub fn make(
 // Names that are added, numbered from 0, and names that are looked for.
 fn names(alloc: Global, args: &mut Args<'_>, answer: &mut Answer) -> Result<(), Fault> {
     let mut index = NameIndex::new(alloc);
-    let mut number = 0u32;
     for _ in 0..usize::MAX {
         if !args.has_more() {
             break;
         }
         match args.word() {
             b"add" => {
-                index.add(alloc, args.bytes()?.as_slice(), number)?;
-                number = number.saturating_add(1);
+                if index.len() == u32::MAX {
+                    return Err(Fault::BadArgument);
+                }
+                index.add(alloc, args.bytes()?.as_slice())?;
             }
             b"find" => match index.find(args.bytes()?.as_slice()) {
                 Some(number) => answer.number(u64::from(number))?,

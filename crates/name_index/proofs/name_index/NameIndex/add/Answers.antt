@@ -14,6 +14,6 @@ returns-clause-ok c = λ names are.
     let entries : new.entries ≡ after.entries = ap (λ (n : NameNumbers). n.entries) c.self.view_is in
     let number : c.add_lower.inside.count ≡ old.count = ap (λ (n : NameNumbers). n.count) c.add_lower.view_is in
     let added : AddsEntry (low, old.count) old.entries new.entries = λ l.
-        ap (number_of l) entries ∙ c.in_ok-add_lower.ensures.ok l ∙ ap (λ k. number_of l (old.entries ++ (low, k) ∷ [])) number in
+    ap (number_of l) entries ∙ c.in_ok-add_lower.ensures.ok l ∙ ap (λ k. number_of l (old.entries ++ (low, k) ∷ [])) number in
     let more : new.count ≡ old.count + 1 = ap (λ n. n + 1) (ap (λ (n : NameNumbers). n.count) c.self.view_is ∙ c.in_ok-add_lower.ensures.counted) in
     AreNumbered-push names c.args.name.now old new low are c.in_ok-low.ensures added more
