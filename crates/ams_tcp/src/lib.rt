@@ -5,8 +5,6 @@ mod cut;
 mod encoding;
 mod front;
 mod splitter;
-#[cfg(test)]
-mod tests;
 
 pub use cut::Cut;
 pub use encoding::put_frame;

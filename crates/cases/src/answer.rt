@@ -1,13 +1,16 @@
 //! The answer of a call, written as words.
 
-use ads_base::{NoMemory, Octets};
+use ads_base::{NetId, NoMemory, Octets};
 use std::alloc::Global;
+use type_layout::Kind;
 
 /// The words of an answer so far.
 #[derive(Drop)]
 pub struct Answer {
     alloc: Global,
     words: Octets,
+    /// Memory was wanting for a word that was said plainly.
+    is_cut: bool,
 }
 
 impl Answer {
@@ -15,11 +18,73 @@ impl Answer {
         Answer {
             alloc,
             words: Octets::new(alloc),
+            is_cut: false,
         }
     }
 
     pub fn as_slice(&self) -> &[u8] {
         self.words.as_slice()
+    }
+
+    /// What the plain calls below met, which say nothing then.
+    pub fn fault(&self) -> Result<(), NoMemory> {
+        if self.is_cut { Err(NoMemory) } else { Ok(()) }
+    }
+
+    pub fn say(&mut self, word: &str) {
+        let said = self.word(word);
+        self.note(said);
+    }
+
+    pub fn say_all(&mut self, other: &Answer) {
+        let said = self.raw(other.as_slice());
+        self.note(said);
+    }
+
+    pub fn tell(&mut self, n: u64) {
+        let said = self.number(n);
+        self.note(said);
+    }
+
+    pub fn tell_signed(&mut self, n: i64) {
+        let said = self.signed(n);
+        self.note(said);
+    }
+
+    pub fn tell_code(&mut self, number: u32) {
+        let said = self.code(number);
+        self.note(said);
+    }
+
+    pub fn tell_net(&mut self, net: NetId) {
+        let said = self.net(net);
+        self.note(said);
+    }
+
+    pub fn tell_kind(&mut self, kind: Kind) {
+        let said = self.kind(kind);
+        self.note(said);
+    }
+
+    pub fn name(&mut self, name: &str, n: u64) {
+        self.say(name);
+        self.tell(n);
+    }
+
+    pub fn hex(&mut self, bytes: &[u8]) {
+        let said = self.bytes(bytes);
+        self.note(said);
+    }
+
+    pub fn quote(&mut self, text: &[u8]) {
+        let said = self.text(text);
+        self.note(said);
+    }
+
+    fn note(&mut self, said: Result<(), NoMemory>) {
+        if said.is_err() {
+            self.is_cut = true;
+        }
     }
 
     /// A word as it stands.
@@ -59,6 +124,19 @@ impl Answer {
     pub fn field(&mut self, name: &str, n: u64) -> Result<(), NoMemory> {
         self.word(name)?;
         self.number(n)
+    }
+
+    /// The text of a NetId.
+    pub fn net(&mut self, net: NetId) -> Result<(), NoMemory> {
+        let [a, b, c, d, e, f] = net.bytes;
+        let text = format!(in self.alloc; "{a}.{b}.{c}.{d}.{e}.{f}")?;
+        self.word(text.as_str())
+    }
+
+    /// A plain type, by its name in the library.
+    pub fn kind(&mut self, kind: Kind) -> Result<(), NoMemory> {
+        let text = format!(in self.alloc; "{kind:?}")?;
+        self.word(text.as_str())
     }
 
     /// Bytes as hexadecimal digits; more than 16 that are all the same as `a5*1048576`, none as `""`.

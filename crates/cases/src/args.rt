@@ -16,6 +16,8 @@ pub struct Args<'a> {
     cut: Option<usize>,
     /// How many bytes the last argument has.
     whole: usize,
+    /// Why a word that was read plainly was none.
+    fault: Option<Fault>,
 }
 
 impl<'a> Args<'a> {
@@ -26,6 +28,7 @@ impl<'a> Args<'a> {
             rest,
             cut,
             whole: 0,
+            fault: None,
         }
     }
 
@@ -93,6 +96,61 @@ impl<'a> Args<'a> {
             Ok(()) => Ok(Some(bytes.into_vec())),
             Err(Fault::Memory) => Err(NoMemory),
             Err(_) => Ok(None),
+        }
+    }
+
+    /// What the plain readers below met, which answer 0 or no bytes then.
+    pub fn fault(&self) -> Result<(), Fault> {
+        match self.fault {
+            Some(fault) => Err(fault),
+            None => Ok(()),
+        }
+    }
+
+    /// Tells that an argument is none that the call takes.
+    pub fn refuse(&mut self) {
+        self.fault = Some(Fault::BadArgument);
+    }
+
+    pub fn u64(&mut self) -> u64 {
+        let read = self.number();
+        match read {
+            Ok(n) => n,
+            Err(fault) => {
+                self.fault = Some(fault);
+                0
+            }
+        }
+    }
+
+    pub fn u32(&mut self) -> u32 {
+        u32::try_from(self.below(1 << 32)).unwrap_or(0)
+    }
+
+    pub fn u16(&mut self) -> u16 {
+        u16::try_from(self.below(1 << 16)).unwrap_or(0)
+    }
+
+    pub fn u8(&mut self) -> u8 {
+        u8::try_from(self.below(1 << 8)).unwrap_or(0)
+    }
+
+    fn below(&mut self, limit: u64) -> u64 {
+        let n = self.u64();
+        if n >= limit {
+            self.refuse();
+        }
+        n
+    }
+
+    pub fn octets(&mut self) -> Octets {
+        let read = self.bytes();
+        match read {
+            Ok(bytes) => bytes,
+            Err(fault) => {
+                self.fault = Some(fault);
+                Octets::new(self.alloc)
+            }
         }
     }
 

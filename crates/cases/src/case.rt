@@ -5,6 +5,7 @@ use crate::args::{Args, next_word};
 use crate::calls;
 use crate::fault::Fault;
 use crate::folder::Sheet;
+use crate::objects::Objects;
 use ads_base::{NoMemory, Octets};
 use std::alloc::Global;
 
@@ -20,24 +21,34 @@ pub enum Verdict {
 }
 
 /// Tries a case.
-pub fn tried(alloc: Global, sheets: &[Sheet], case: &[u8]) -> Result<Verdict, NoMemory> {
+pub fn tried(
+    alloc: Global,
+    sheets: &[Sheet],
+    objects: &mut Objects,
+    case: &[u8],
+) -> Result<Verdict, NoMemory> {
     let (first, behind) = next_word(case);
     if first == b"cuts".as_slice() {
-        return tried_cut(alloc, sheets, behind);
+        return tried_cut(alloc, sheets, objects, behind);
     }
     let mut args = Args::new(alloc, sheets, case, None);
-    tried_once(alloc, &mut args)
+    tried_once(alloc, objects, &mut args)
 }
 
 // The last argument is cut at each place, from no byte on to all but one; the answer must always be the same.
-fn tried_cut(alloc: Global, sheets: &[Sheet], case: &[u8]) -> Result<Verdict, NoMemory> {
+fn tried_cut(
+    alloc: Global,
+    sheets: &[Sheet],
+    objects: &mut Objects,
+    case: &[u8],
+) -> Result<Verdict, NoMemory> {
     let mut whole = 1;
     for len in 0..usize::MAX {
         if len >= whole {
             break;
         }
         let mut args = Args::new(alloc, sheets, case, Some(len));
-        match tried_once(alloc, &mut args)? {
+        match tried_once(alloc, objects, &mut args)? {
             Verdict::Right => whole = args.whole(),
             other => return Ok(other),
         }
@@ -45,9 +56,13 @@ fn tried_cut(alloc: Global, sheets: &[Sheet], case: &[u8]) -> Result<Verdict, No
     Ok(Verdict::Right)
 }
 
-fn tried_once(alloc: Global, args: &mut Args<'_>) -> Result<Verdict, NoMemory> {
+fn tried_once(
+    alloc: Global,
+    objects: &mut Objects,
+    args: &mut Args<'_>,
+) -> Result<Verdict, NoMemory> {
     let mut answer = Answer::new(alloc);
-    match calls::make(alloc, args, &mut answer) {
+    match calls::make(alloc, objects, args, &mut answer) {
         Ok(()) => compared(alloc, args, answer.as_slice()),
         Err(Fault::Memory) => Err(NoMemory),
         Err(Fault::NoCall) => Ok(Verdict::Unreadable("its first word names no call")),

@@ -7,6 +7,7 @@ mod calls;
 mod case;
 mod fault;
 mod folder;
+mod objects;
 mod pieces;
 mod report;
 mod sheet;

@@ -4,6 +4,7 @@
 use crate::args::next_word;
 use crate::case::{Verdict, tried};
 use crate::folder::Sheet;
+use crate::objects::Objects;
 use ads_base::{NoMemory, Octets};
 use std::alloc::Global;
 
@@ -33,6 +34,7 @@ pub fn tried_all(
         line: 0,
         text: Octets::new(alloc),
     };
+    let mut objects = Objects::new(alloc)?;
     let mut number = 0u64;
     for line in sheet.bytes.as_slice().split(|b| *b == b'\n') {
         number = number.saturating_add(1);
@@ -40,13 +42,13 @@ pub fn tried_all(
             [] | [b'#', ..] => {}
             [b' ', ..] => go_on(alloc, line, &mut open.text)?,
             _ => {
-                close(alloc, sheets, sheet, &open, &mut count, out)?;
+                close(alloc, sheets, sheet, &mut objects, &open, &mut count, out)?;
                 open.line = number;
                 open.text = Octets::copy_of(alloc, line)?;
             }
         }
     }
-    close(alloc, sheets, sheet, &open, &mut count, out)?;
+    close(alloc, sheets, sheet, &mut objects, &open, &mut count, out)?;
     Ok(count)
 }
 
@@ -73,6 +75,7 @@ fn close(
     alloc: Global,
     sheets: &[Sheet],
     sheet: &Sheet,
+    objects: &mut Objects,
     open: &Open,
     count: &mut Count,
     out: &mut Octets,
@@ -82,7 +85,7 @@ fn close(
         return Ok(());
     }
     count.cases = count.cases.saturating_add(1);
-    let verdict = tried(alloc, sheets, case)?;
+    let verdict = tried(alloc, sheets, objects, case)?;
     if matches!(verdict, Verdict::Right) {
         return Ok(());
     }

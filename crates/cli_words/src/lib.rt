@@ -9,8 +9,6 @@ mod division;
 mod form;
 mod read;
 mod refusal;
-#[cfg(test)]
-mod tests;
 mod text;
 mod values;
 

@@ -27,8 +27,6 @@ mod symbol_places;
 mod symbol_signals;
 mod symbol_types;
 mod taken;
-#[cfg(test)]
-mod tests;
 mod type_building;
 mod type_rules;
 mod type_text_lens;

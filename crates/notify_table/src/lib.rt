@@ -5,8 +5,6 @@ mod laws;
 mod record;
 mod schedule;
 mod spec;
-#[cfg(test)]
-mod tests;
 mod turn;
 mod watches;
 

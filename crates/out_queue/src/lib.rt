@@ -2,7 +2,5 @@
 #![tactic(auto)]
 
 mod out_queue;
-#[cfg(test)]
-mod tests;
 
 pub use out_queue::{MAX_QUEUED, OutQueue, Pushed};

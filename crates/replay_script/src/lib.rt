@@ -11,8 +11,6 @@ mod progress;
 mod reader;
 mod script;
 mod summary_line;
-#[cfg(test)]
-mod tests;
 mod texts;
 
 pub use counts::Counts;

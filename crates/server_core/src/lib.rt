@@ -7,8 +7,6 @@ mod laws;
 mod outcome;
 mod served_core;
 mod summary;
-#[cfg(test)]
-mod tests;
 
 pub use laws::gone_connections_are_forgotten;
 pub use outcome::Outcome;

@@ -3,4 +3,3 @@ pub mod Stops
 pub mod Forms
 pub mod SumCommand
 pub mod PartValues
-pub mod Register

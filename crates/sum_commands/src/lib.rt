@@ -10,8 +10,6 @@ mod refusals;
 mod room;
 mod run;
 mod running;
-#[cfg(test)]
-mod tests;
 
 pub use part_service::PartService;
 pub use run::run_sum;

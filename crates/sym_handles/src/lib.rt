@@ -4,7 +4,5 @@
 mod entries;
 mod handles;
 mod records;
-#[cfg(test)]
-mod tests;
 
 pub use handles::{Full, Handles, MAX_LIVE};

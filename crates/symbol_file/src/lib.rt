@@ -11,8 +11,6 @@ mod ports;
 mod reading;
 mod routes;
 mod symbols;
-#[cfg(test)]
-mod tests;
 
 pub use fault::DescFault;
 pub use reading::read;

@@ -15,7 +15,6 @@ pub mod PositiveSizes
 pub mod PlacedSymbols
 pub mod FoundParts
 pub mod MovedWithin
-pub mod TestTables
 pub mod RangeSearch
 pub mod DeclaredRows
 pub mod SpelledTexts

@@ -10,7 +10,6 @@ pub mod PlaceOrders
 pub mod Rows
 pub mod Sound
 pub mod Tables
-pub mod TestPorts
 pub mod Tiles
 pub mod Tiling
 pub mod Ranges

@@ -7,8 +7,6 @@ mod index;
 mod kept;
 mod members;
 mod moves;
-#[cfg(test)]
-mod moves_tests;
 mod name_order;
 mod names;
 mod parts;
@@ -18,10 +16,6 @@ mod ranks;
 mod row;
 mod spelled;
 mod table;
-#[cfg(test)]
-mod table_tests;
-#[cfg(test)]
-mod test_ports;
 mod tile;
 mod tiling;
 
