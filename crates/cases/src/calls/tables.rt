@@ -67,6 +67,7 @@ fn of_table(
     let table = Table::build(alloc, port, types)?;
     match call {
         b"find" => find(&table, types, args, answer),
+        b"find_all" => find_all(&table, types, args, answer),
         b"named" => match table.named(alloc, args.octets().as_slice())? {
             Some(number) => answer.tell(u64::from(number)),
             None => answer.say("none"),
@@ -79,25 +80,43 @@ fn of_table(
     Ok(())
 }
 
-// PATH, and how often it is looked up.
+// A path.
 fn find(table: &Table, types: &Types, args: &mut Args<'_>, answer: &mut Answer)
     requires { IsTableWith (types_of types.now) table.now }
 {
     let text = args.octets();
-    let times = if args.has_more() { args.u64() } else { 1 };
     let Some(path) = Path::read(text.as_slice()) else {
         answer.say("no path");
         return;
     };
-    for _ in 1..times {
-        let _ = found(table, types, &path);
-    }
     match found(table, types, &path) {
         Some(found) => {
             say_place(&found.place, answer);
             answer.quote(found.comment);
         }
         None => answer.say("none"),
+    }
+}
+
+// Paths, all of which are looked up so many times.
+fn find_all(table: &Table, types: &Types, args: &mut Args<'_>, answer: &mut Answer)
+    requires { IsTableWith (types_of types.now) table.now }
+{
+    let times = args.u64();
+    for _ in 0..args.rest().len() {
+        if !args.has_more() {
+            break;
+        }
+        let text = args.octets();
+        if let Some(path) = Path::read(text.as_slice()) {
+            for _ in 0..times {
+                let _ = found(table, types, &path);
+            }
+            match found(table, types, &path) {
+                Some(found) => answer.tell(u64::from(found.place.symbol)),
+                None => answer.say("none"),
+            }
+        }
     }
 }
 
