@@ -6,7 +6,8 @@ use crate::pieces::{cut_at, put_word};
 use ads_base::{NoMemory, Octets, read_decimal};
 use std::alloc::Global;
 
-/// The words of a case that are still to be read.
+/// The words of a case that are still to be read. A word that is off its form is read as 0 or no bytes; that it was is
+/// kept, and told at the end by `fault`.
 #[derive(Drop)]
 pub struct Args<'a> {
     alloc: Global,
@@ -16,7 +17,6 @@ pub struct Args<'a> {
     cut: Option<usize>,
     /// How many bytes the last argument has.
     whole: usize,
-    /// Why a word that was read plainly was none.
     fault: Option<Fault>,
 }
 
@@ -42,6 +42,19 @@ impl<'a> Args<'a> {
         self.rest
     }
 
+    /// Why an argument can't be read or taken, if one can't.
+    pub fn fault(&self) -> Result<(), Fault> {
+        match self.fault {
+            Some(fault) => Err(fault),
+            None => Ok(()),
+        }
+    }
+
+    /// Tells that an argument is none that the call takes.
+    pub fn refuse(&mut self) {
+        self.fault = Some(Fault::BadArgument);
+    }
+
     /// Whether a further word stands before `=>`.
     pub fn has_more(&self) -> bool {
         let (word, _) = next_word(self.rest);
@@ -56,20 +69,57 @@ impl<'a> Args<'a> {
     }
 
     /// The next word as a number, in decimal or behind `0x`.
-    pub fn number(&mut self) -> Result<u64, Fault> {
-        number_of(self.word()).ok_or(Fault::BadArgument)
+    pub fn u64(&mut self) -> u64 {
+        match number_of(self.word()) {
+            Some(n) => n,
+            None => {
+                self.refuse();
+                0
+            }
+        }
     }
 
-    pub fn number8(&mut self) -> Result<u8, Fault> {
-        u8::try_from(self.number()?).ok().ok_or(Fault::BadArgument)
+    pub fn u32(&mut self) -> u32 {
+        let n = self.u64();
+        if n < 1 << 32 {
+            return n as u32;
+        }
+        self.refuse();
+        0
     }
 
-    pub fn number16(&mut self) -> Result<u16, Fault> {
-        u16::try_from(self.number()?).ok().ok_or(Fault::BadArgument)
+    pub fn u16(&mut self) -> u16 {
+        let n = self.u64();
+        if n < 1 << 16 {
+            return n as u16;
+        }
+        self.refuse();
+        0
     }
 
-    pub fn number32(&mut self) -> Result<u32, Fault> {
-        u32::try_from(self.number()?).ok().ok_or(Fault::BadArgument)
+    pub fn u8(&mut self) -> u8 {
+        let n = self.u64();
+        if n < 1 << 8 {
+            return n as u8;
+        }
+        self.refuse();
+        0
+    }
+
+    /// The bytes that the next word writes.
+    pub fn octets(&mut self) -> Octets {
+        let word = self.word();
+        let mut bytes = Octets::new(self.alloc);
+        if let Err(fault) = put_word(self.alloc, self.sheets, word, &mut bytes) {
+            self.fault = Some(fault);
+        }
+        if !self.has_more() {
+            self.whole = bytes.len();
+            if let Some(cut) = self.cut {
+                bytes.cut(cut.min(bytes.len()));
+            }
+        }
+        bytes
     }
 
     /// Whether a word of an answer is the one that must come: as it is written, as the number that is wanted behind
@@ -97,78 +147,6 @@ impl<'a> Args<'a> {
             Err(Fault::Memory) => Err(NoMemory),
             Err(_) => Ok(None),
         }
-    }
-
-    /// What the plain readers below met, which answer 0 or no bytes then.
-    pub fn fault(&self) -> Result<(), Fault> {
-        match self.fault {
-            Some(fault) => Err(fault),
-            None => Ok(()),
-        }
-    }
-
-    /// Tells that an argument is none that the call takes.
-    pub fn refuse(&mut self) {
-        self.fault = Some(Fault::BadArgument);
-    }
-
-    pub fn u64(&mut self) -> u64 {
-        let read = self.number();
-        match read {
-            Ok(n) => n,
-            Err(fault) => {
-                self.fault = Some(fault);
-                0
-            }
-        }
-    }
-
-    pub fn u32(&mut self) -> u32 {
-        u32::try_from(self.below(1 << 32)).unwrap_or(0)
-    }
-
-    pub fn u16(&mut self) -> u16 {
-        u16::try_from(self.below(1 << 16)).unwrap_or(0)
-    }
-
-    pub fn u8(&mut self) -> u8 {
-        u8::try_from(self.below(1 << 8)).unwrap_or(0)
-    }
-
-    fn below(&mut self, limit: u64) -> u64 {
-        let n = self.u64();
-        if n >= limit {
-            self.refuse();
-        }
-        n
-    }
-
-    pub fn octets(&mut self) -> Octets {
-        let read = self.bytes();
-        match read {
-            Ok(bytes) => bytes,
-            Err(fault) => {
-                self.fault = Some(fault);
-                Octets::new(self.alloc)
-            }
-        }
-    }
-
-    /// The bytes that the next word writes.
-    pub fn bytes(&mut self) -> Result<Octets, Fault> {
-        let word = self.word();
-        if word.is_empty() {
-            return Err(Fault::BadArgument);
-        }
-        let mut bytes = Octets::new(self.alloc);
-        put_word(self.alloc, self.sheets, word, &mut bytes)?;
-        if !self.has_more() {
-            self.whole = bytes.len();
-            if let Some(cut) = self.cut {
-                bytes.cut(cut.min(bytes.len()));
-            }
-        }
-        Ok(bytes)
     }
 }
 

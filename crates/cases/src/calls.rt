@@ -57,11 +57,13 @@ fn of_library(
     answer: &mut Answer,
 ) -> Result<(), Fault> {
     let (library, call) = cut_at(args.word(), b'.');
-    let call = call.ok_or(Fault::NoCall)?;
+    let Some(call) = call else {
+        return Err(Fault::NoCall);
+    };
     match library {
         b"ads_base" => base::make(alloc, call, args, answer),
         b"ads_commands" => payloads::make(alloc, call, args, answer),
-        b"ams_header" => header::make(alloc, call, args, answer),
+        b"ams_header" => header::make(call, args, answer),
         b"ams_tcp" => frames::make(alloc, &mut objects.splitter, call, args, answer),
         b"cli_words" => words::make(alloc, call, args, answer),
         b"index_groups" => groups::make(call, args, answer),

@@ -19,6 +19,9 @@ fn main(rt: HostRuntime) -> ExitCode {
     match report::print_all(&rt) {
         Ok(0) => ExitCode::SUCCESS,
         Ok(_) => ExitCode::from(1),
-        Err(_) => ExitCode::from(2),
+        Err(_) => {
+            let _ = rt.eprintln("cases: the files can't be read, or memory is wanting");
+            ExitCode::from(2)
+        }
     }
 }

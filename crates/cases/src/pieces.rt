@@ -49,7 +49,9 @@ fn put_piece(alloc: Global, sheets: &[Sheet], piece: &[u8], out: &mut Octets) ->
     let Some(times) = times else {
         return put_unit(alloc, sheets, unit, out);
     };
-    let times = read_decimal(times).ok_or(Fault::BadArgument)?;
+    let Some(times) = read_decimal(times) else {
+        return Err(Fault::BadArgument);
+    };
     let mut bytes = Octets::new(alloc);
     put_unit(alloc, sheets, unit, &mut bytes)?;
     for _ in 0..times {

@@ -13,20 +13,20 @@ pub fn make(
     answer: &mut Answer,
 ) -> Result<(), Fault> {
     match call {
-        b"code_of" => code_of(alloc, args, answer),
-        _ => Err(Fault::NoCall),
+        b"code_of" => match Code::of(args.u32()) {
+            Some(code) => show(alloc, code, answer)?,
+            None => answer.say("none"),
+        },
+        _ => return Err(Fault::NoCall),
     }
+    Ok(())
 }
 
-// The code of a number: how it is printed, its number and its text.
-fn code_of(alloc: Global, args: &mut Args<'_>, answer: &mut Answer) -> Result<(), Fault> {
-    let Some(code) = Code::of(args.number32()?) else {
-        answer.word("none")?;
-        return Ok(());
-    };
+// How the code is printed, its number and its text.
+fn show(alloc: Global, code: Code, answer: &mut Answer) -> Result<(), Fault> {
     let printed = format!(in alloc; "{code}")?;
-    answer.text(printed.as_bytes())?;
-    answer.number(u64::from(code.number()))?;
-    answer.text(code.text().as_bytes())?;
+    answer.quote(printed.as_bytes());
+    answer.tell(u64::from(code.number()));
+    answer.quote(code.text().as_bytes());
     Ok(())
 }

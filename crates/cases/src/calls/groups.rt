@@ -3,59 +3,83 @@
 use crate::answer::Answer;
 use crate::args::Args;
 use crate::fault::Fault;
-use ads_base::NoMemory;
-use index_groups::{Reach, reach};
+use index_groups::{AreaGroup, Reach, area_group, byte_group, reach};
 use type_layout::{Area, Sizes};
 
 pub fn make(call: &[u8], args: &mut Args<'_>, answer: &mut Answer) -> Result<(), Fault> {
     match call {
         b"reach" => reached(args, answer),
-        _ => Err(Fault::NoCall),
-    }
-}
-
-// The sizes of inputs, outputs, memory and data; then group, offset and length of the access.
-fn reached(args: &mut Args<'_>, answer: &mut Answer) -> Result<(), Fault> {
-    let sizes = Sizes {
-        inputs: args.number32()?,
-        outputs: args.number32()?,
-        memory: args.number32()?,
-        process: args.number32()?,
-    };
-    let group = args.number32()?;
-    let offset = args.number32()?;
-    let len = args.number32()?;
-    match reach(&sizes, group, offset, len) {
-        Ok(reach) => show(&reach, answer)?,
-        Err(code) => answer.code(code.number())?,
+        b"area_group" => group_known(args, answer),
+        b"byte_group" => bytes_named(args, answer),
+        _ => return Err(Fault::NoCall),
     }
     Ok(())
 }
 
-fn show(reach: &Reach, answer: &mut Answer) -> Result<(), NoMemory> {
-    match reach {
-        Reach::Bytes { area, at, len } => {
-            show_area(*area, answer)?;
-            answer.field("bytes", u64::from(*at))?;
-            answer.number(u64::from(*len))
-        }
-        Reach::Bit { area, at, bit } => {
-            show_area(*area, answer)?;
-            answer.field("bit", u64::from(*at))?;
-            answer.number(u64::from(*bit))
-        }
-        Reach::Size { area } => {
-            show_area(*area, answer)?;
-            answer.word("size")
-        }
+// The sizes of inputs, outputs, memory and data; then group, offset and length of the access.
+fn reached(args: &mut Args<'_>, answer: &mut Answer) {
+    let sizes = Sizes {
+        inputs: args.u32(),
+        outputs: args.u32(),
+        memory: args.u32(),
+        process: args.u32(),
+    };
+    let group = args.u32();
+    let offset = args.u32();
+    let len = args.u32();
+    match reach(&sizes, group, offset, len) {
+        Ok(reach) => show(&reach, answer),
+        Err(code) => answer.tell_code(code.number()),
     }
 }
 
-fn show_area(area: Area, answer: &mut Answer) -> Result<(), NoMemory> {
-    answer.word(match area {
+// A group: what it names, and of which area.
+fn group_known(args: &mut Args<'_>, answer: &mut Answer) {
+    match area_group(args.u32()) {
+        Some(AreaGroup::Bytes(area)) => show_group(area, "bytes", answer),
+        Some(AreaGroup::Bit(area)) => show_group(area, "bit", answer),
+        Some(AreaGroup::Size(area)) => show_group(area, "size", answer),
+        None => answer.say("none"),
+    }
+}
+
+fn show_group(area: Area, kind: &str, answer: &mut Answer) {
+    answer.say(word_of(area));
+    answer.say(kind);
+}
+
+// An area: the group of its bytes.
+fn bytes_named(args: &mut Args<'_>, answer: &mut Answer) {
+    match args.word() {
+        b"inputs" => answer.tell_code(byte_group(Area::Inputs)),
+        b"outputs" => answer.tell_code(byte_group(Area::Outputs)),
+        b"memory" => answer.tell_code(byte_group(Area::Memory)),
+        b"data" => answer.tell_code(byte_group(Area::Process)),
+        _ => args.refuse(),
+    }
+}
+
+fn show(reach: &Reach, answer: &mut Answer) {
+    match reach {
+        Reach::Bytes { area, at, len } => {
+            answer.say(word_of(*area));
+            answer.name("bytes", u64::from(*at));
+            answer.tell(u64::from(*len));
+        }
+        Reach::Bit { area, at, bit } => {
+            answer.say(word_of(*area));
+            answer.name("bit", u64::from(*at));
+            answer.tell(u64::from(*bit));
+        }
+        Reach::Size { area } => show_group(*area, "size", answer),
+    }
+}
+
+fn word_of(area: Area) -> &'static str {
+    match area {
         Area::Inputs => "inputs",
         Area::Outputs => "outputs",
         Area::Memory => "memory",
         Area::Process => "data",
-    })
+    }
 }

@@ -3,93 +3,90 @@
 use crate::answer::Answer;
 use crate::args::Args;
 use crate::fault::Fault;
-use ads_base::{AmsAddr, NetId, NoMemory, Octets};
+use ads_base::{AmsAddr, NetId};
 use ams_header::{Header, answer_of, put, read};
-use std::alloc::Global;
 
-pub fn make(
-    alloc: Global,
-    call: &[u8],
-    args: &mut Args<'_>,
-    answer: &mut Answer,
-) -> Result<(), Fault> {
+pub fn make(call: &[u8], args: &mut Args<'_>, answer: &mut Answer) -> Result<(), Fault> {
     match call {
-        b"read" => header_read(alloc, args, answer),
+        b"read" => header_read(args, answer),
         b"put" => header_put(args, answer),
-        b"answer_of" => answered(alloc, args, answer),
-        _ => Err(Fault::NoCall),
+        b"answer_of" => answered(args, answer),
+        _ => return Err(Fault::NoCall),
     }
+    Ok(())
 }
 
-fn header_read(alloc: Global, args: &mut Args<'_>, answer: &mut Answer) -> Result<(), Fault> {
-    let bytes = args.bytes()?;
+fn header_read(args: &mut Args<'_>, answer: &mut Answer) {
+    let bytes = args.octets();
     match read(bytes.as_slice()) {
         Some((header, payload)) => {
-            show(alloc, &header, answer)?;
-            answer.word("payload")?;
-            answer.bytes(payload)?;
+            show(&header, answer);
+            answer.say("payload");
+            answer.hex(payload);
         }
-        None => answer.word("none")?,
+        None => answer.say("none"),
     }
-    Ok(())
 }
 
-fn header_put(args: &mut Args<'_>, answer: &mut Answer) -> Result<(), Fault> {
-    let header = header_of(args)?;
+fn header_put(args: &mut Args<'_>, answer: &mut Answer) {
+    let header = header_of(args);
     let mut out = [0xffu8; 32];
     put(&header, &mut out);
-    answer.bytes(&out)?;
-    Ok(())
+    answer.hex(&out);
 }
 
 // The header, then the error and the length of the answer.
-fn answered(alloc: Global, args: &mut Args<'_>, answer: &mut Answer) -> Result<(), Fault> {
-    let header = header_of(args)?;
-    let error = args.number32()?;
-    let len = args.number32()?;
-    show(alloc, &answer_of(&header, error, len), answer)?;
-    Ok(())
+fn answered(args: &mut Args<'_>, answer: &mut Answer) {
+    let header = header_of(args);
+    let error = args.u32();
+    let len = args.u32();
+    show(&answer_of(&header, error, len), answer);
 }
 
 // The fields in their order on the wire.
-fn header_of(args: &mut Args<'_>) -> Result<Header, Fault> {
-    Ok(Header {
-        target: address_of(args)?,
-        source: address_of(args)?,
-        command: args.number16()?,
-        flags: args.number16()?,
-        len: args.number32()?,
-        error: args.number32()?,
-        id: args.number32()?,
-    })
+fn header_of(args: &mut Args<'_>) -> Header {
+    Header {
+        target: address_of(args),
+        source: address_of(args),
+        command: args.u16(),
+        flags: args.u16(),
+        len: args.u32(),
+        error: args.u32(),
+        id: args.u32(),
+    }
 }
 
-// A NetId as a text, and a port.
-fn address_of(args: &mut Args<'_>) -> Result<AmsAddr, Fault> {
-    let net = NetId::read(args.word()).ok_or(Fault::BadArgument)?;
-    let port = args.number16()?;
-    Ok(AmsAddr { net, port })
+// A NetId as its text, and a port.
+fn address_of(args: &mut Args<'_>) -> AmsAddr {
+    AmsAddr {
+        net: net_of(args),
+        port: args.u16(),
+    }
 }
 
-fn show(alloc: Global, header: &Header, answer: &mut Answer) -> Result<(), NoMemory> {
-    show_address(alloc, "target", &header.target, answer)?;
-    show_address(alloc, "source", &header.source, answer)?;
-    answer.field("command", u64::from(header.command))?;
-    answer.field("flags", u64::from(header.flags))?;
-    answer.field("len", u64::from(header.len))?;
-    answer.field("error", u64::from(header.error))?;
-    answer.field("id", u64::from(header.id))
+/// The NetId whose text is the next word.
+pub fn net_of(args: &mut Args<'_>) -> NetId {
+    match NetId::read(args.word()) {
+        Some(net) => net,
+        None => {
+            args.refuse();
+            NetId { bytes: [0; 6] }
+        }
+    }
 }
 
-fn show_address(
-    alloc: Global,
-    name: &str,
-    address: &AmsAddr,
-    answer: &mut Answer,
-) -> Result<(), NoMemory> {
-    let mut net = Octets::new(alloc);
-    address.net.write(alloc, &mut net)?;
-    answer.word(name)?;
-    answer.raw(net.as_slice())?;
-    answer.number(u64::from(address.port))
+fn show(header: &Header, answer: &mut Answer) {
+    show_address("target", &header.target, answer);
+    show_address("source", &header.source, answer);
+    answer.name("command", u64::from(header.command));
+    answer.name("flags", u64::from(header.flags));
+    answer.name("len", u64::from(header.len));
+    answer.name("error", u64::from(header.error));
+    answer.name("id", u64::from(header.id));
+}
+
+fn show_address(name: &str, address: &AmsAddr, answer: &mut Answer) {
+    answer.say(name);
+    answer.tell_net(address.net);
+    answer.tell(u64::from(address.port));
 }

@@ -7,8 +7,8 @@ use crate::fault::Fault;
 use ads_base::{NoMemory, Octets};
 use std::alloc::Global;
 use type_layout::{
-    Bound, Bounds, Elem, ElemText, Ends, Kind, NamedType, TypeRef, TypeText, Types, read_type_text,
-    type_text,
+    Bound, Bounds, Elem, ElemText, Ends, NamedType, SameTypes, Shape, TypeRef, TypeText, Types,
+    read_type_text, type_text,
 };
 
 pub fn make(
@@ -19,40 +19,39 @@ pub fn make(
 ) -> Result<(), Fault> {
     match call {
         b"read_type_text" => type_read(args, answer),
-        b"type_text" => type_written(alloc, args, answer),
-        _ => Err(Fault::NoCall),
-    }
-}
-
-fn type_read(args: &mut Args<'_>, answer: &mut Answer) -> Result<(), Fault> {
-    let text = args.bytes()?;
-    match read_type_text(text.as_slice()) {
-        Some(read) => show(&read, answer)?,
-        None => answer.word("none")?,
+        b"type_text" => type_written(alloc, args, answer)?,
+        b"same_types" => types_compared(alloc, args, answer)?,
+        _ => return Err(Fault::NoCall),
     }
     Ok(())
+}
+
+fn type_read(args: &mut Args<'_>, answer: &mut Answer) {
+    let text = args.octets();
+    match read_type_text(text.as_slice()) {
+        Some(read) => show(&read, answer),
+        None => answer.say("none"),
+    }
 }
 
 // A description, and a type text that names types of it: the canonical text.
 fn type_written(alloc: Global, args: &mut Args<'_>, answer: &mut Answer) -> Result<(), Fault> {
     let description = description_of(alloc, args)?;
-    let text = args.bytes()?;
-    let read = read_type_text(text.as_slice()).ok_or(Fault::BadArgument)?;
-    let types = &description.types;
-    let elem = elem_of(types, &read.elem).ok_or(Fault::BadArgument)?;
+    let shape = shape_of(alloc, &description.types, args)?;
     let mut out = Octets::new(alloc);
-    if read.count == 0 {
-        put_text(alloc, types, TypeRef::One(elem), &mut out)?;
-    } else {
-        let bounds = bounds_of(alloc, &read)?;
-        put_text(
-            alloc,
-            types,
-            TypeRef::Array(bounds.as_slice(), elem),
-            &mut out,
-        )?;
-    }
-    answer.text(out.as_slice())?;
+    put_text(alloc, &description.types, shape.as_ref(), &mut out)?;
+    answer.quote(out.as_slice());
+    Ok(())
+}
+
+// Two descriptions, and a type text of each: whether the types are the same.
+fn types_compared(alloc: Global, args: &mut Args<'_>, answer: &mut Answer) -> Result<(), Fault> {
+    let old = description_of(alloc, args)?;
+    let new = description_of(alloc, args)?;
+    let same = SameTypes::build(alloc, &old.types, &new.types)?;
+    let a = shape_of(alloc, &old.types, args)?;
+    let b = shape_of(alloc, &new.types, args)?;
+    answer.tell_truth(same.is_same(a.as_ref(), b.as_ref()));
     Ok(())
 }
 
@@ -65,6 +64,22 @@ fn put_text(alloc: Global, types: &Types, t: TypeRef<'_>, out: &mut Octets) -> R
     }
     type_text(alloc, types, t, out)?;
     Ok(())
+}
+
+// The type that the next word writes.
+fn shape_of(alloc: Global, types: &Types, args: &mut Args<'_>) -> Result<Shape, Fault> {
+    let text = args.octets();
+    let Some(read) = read_type_text(text.as_slice()) else {
+        return Err(Fault::BadArgument);
+    };
+    let Some(elem) = elem_of(types, &read.elem) else {
+        return Err(Fault::BadArgument);
+    };
+    if read.count == 0 {
+        return Ok(Shape::One(elem));
+    }
+    let bounds = bounds_of(alloc, &read)?;
+    Ok(Shape::Array(bounds, elem))
 }
 
 fn elem_of(types: &Types, text: &ElemText<'_>) -> Option<Elem> {
@@ -87,61 +102,39 @@ fn named(types: &Types, name: &[u8]) -> Option<Elem> {
     None
 }
 
-fn bounds_of(alloc: Global, read: &TypeText<'_>) -> Result<Bounds, Fault> {
+fn bounds_of(alloc: Global, read: &TypeText<'_>) -> Result<Bounds, NoMemory> {
     let mut bounds = Bounds::new(alloc);
-    bounds.push(alloc, bound_of(read.first)?)?;
+    bounds.push(alloc, bound_of(read.first))?;
     if read.count > 1 {
-        bounds.push(alloc, bound_of(read.second)?)?;
+        bounds.push(alloc, bound_of(read.second))?;
     }
     if read.count > 2 {
-        bounds.push(alloc, bound_of(read.third)?)?;
+        bounds.push(alloc, bound_of(read.third))?;
     }
     Ok(bounds)
 }
 
-fn bound_of(ends: Ends) -> Result<Bound, Fault> {
-    let count = i64::from(ends.high) - i64::from(ends.low) + 1;
-    let count = u32::try_from(count).ok().ok_or(Fault::BadArgument)?;
-    Ok(Bound {
+// The bound with these ends; one of all numbers of 32 bits has one element less.
+fn bound_of(ends: Ends) -> Bound {
+    Bound {
         low: ends.low,
-        count,
-    })
+        count: ends.high.abs_diff(ends.low).saturating_add(1),
+    }
 }
 
-// The ends of each dimension, and the element.
-fn show(read: &TypeText<'_>, answer: &mut Answer) -> Result<(), NoMemory> {
-    answer.field("dimensions", u64::from(read.count))?;
+// The number of dimensions, the ends of three, and the element.
+fn show(read: &TypeText<'_>, answer: &mut Answer) {
+    answer.name("dimensions", u64::from(read.count));
     for ends in [read.first, read.second, read.third] {
-        answer.signed(i64::from(ends.low))?;
-        answer.signed(i64::from(ends.high))?;
+        answer.tell_signed(i64::from(ends.low));
+        answer.tell_signed(i64::from(ends.high));
     }
     match read.elem {
-        ElemText::Plain(kind) => answer.word(word_of(kind)),
-        ElemText::Text(n) => answer.field("text", u64::from(n)),
+        ElemText::Plain(kind) => answer.tell_kind(kind),
+        ElemText::Text(n) => answer.name("text", u64::from(n)),
         ElemText::Named(name) => {
-            answer.word("named")?;
-            answer.text(name)
+            answer.say("named");
+            answer.quote(name);
         }
-    }
-}
-
-fn word_of(kind: Kind) -> &'static str {
-    match kind {
-        Kind::Bool => "Bool",
-        Kind::Sint => "Sint",
-        Kind::Usint => "Usint",
-        Kind::Byte => "Byte",
-        Kind::Int => "Int",
-        Kind::Uint => "Uint",
-        Kind::Word => "Word",
-        Kind::Dint => "Dint",
-        Kind::Udint => "Udint",
-        Kind::Dword => "Dword",
-        Kind::Time => "Time",
-        Kind::Lint => "Lint",
-        Kind::Ulint => "Ulint",
-        Kind::Lword => "Lword",
-        Kind::Real => "Real",
-        Kind::Lreal => "Lreal",
     }
 }

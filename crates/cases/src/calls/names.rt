@@ -3,6 +3,7 @@
 use crate::answer::Answer;
 use crate::args::Args;
 use crate::fault::Fault;
+use ads_base::NoMemory;
 use name_index::{NameIndex, lower_copy};
 use std::alloc::Global;
 
@@ -14,36 +15,45 @@ pub fn make(
 ) -> Result<(), Fault> {
     match call {
         b"lower_copy" => {
-            let text = args.bytes()?;
+            let text = args.octets();
             let lower = lower_copy(alloc, text.as_slice())?;
-            answer.text(lower.as_slice())?;
-            Ok(())
+            answer.quote(lower.as_slice());
         }
-        b"names" => names(alloc, args, answer),
-        _ => Err(Fault::NoCall),
+        b"names" => names(alloc, args, answer)?,
+        _ => return Err(Fault::NoCall),
     }
+    Ok(())
 }
 
 // Names that are added, numbered from 0, and names that are looked for.
-fn names(alloc: Global, args: &mut Args<'_>, answer: &mut Answer) -> Result<(), Fault> {
+fn names(alloc: Global, args: &mut Args<'_>, answer: &mut Answer) -> Result<(), NoMemory> {
     let mut index = NameIndex::new(alloc);
     for _ in 0..usize::MAX {
         if !args.has_more() {
             break;
         }
         match args.word() {
-            b"add" => {
-                if index.len() == u32::MAX {
-                    return Err(Fault::BadArgument);
-                }
-                index.add(alloc, args.bytes()?.as_slice())?;
-            }
-            b"find" => match index.find(args.bytes()?.as_slice()) {
-                Some(number) => answer.number(u64::from(number))?,
-                None => answer.word("none")?,
-            },
-            _ => return Err(Fault::BadArgument),
+            b"add" => add(alloc, args, &mut index)?,
+            b"find" => find(&index, args, answer),
+            _ => args.refuse(),
         }
     }
     Ok(())
+}
+
+fn add(alloc: Global, args: &mut Args<'_>, index: &mut NameIndex) -> Result<(), NoMemory> {
+    let name = args.octets();
+    if index.len() == u32::MAX {
+        args.refuse();
+        return Ok(());
+    }
+    index.add(alloc, name.as_slice())
+}
+
+fn find(index: &NameIndex, args: &mut Args<'_>, answer: &mut Answer) {
+    let name = args.octets();
+    match index.find(name.as_slice()) {
+        Some(number) => answer.tell(u64::from(number)),
+        None => answer.say("none"),
+    }
 }

@@ -3,81 +3,71 @@
 use crate::answer::Answer;
 use crate::args::Args;
 use crate::fault::Fault;
-use ads_base::NoMemory;
 use name_paths::{Indexes, Path, Step, is_identifier, is_symbol_name, read_number};
 
 pub fn make(call: &[u8], args: &mut Args<'_>, answer: &mut Answer) -> Result<(), Fault> {
     match call {
-        b"is_identifier" => {
-            let text = args.bytes()?;
-            answer.truth(is_identifier(text.as_slice()))?;
-        }
-        b"is_symbol_name" => {
-            let text = args.bytes()?;
-            answer.truth(is_symbol_name(text.as_slice()))?;
-        }
-        b"read_number" => number_read(args, answer)?,
-        b"path" => path_read(args, answer)?,
-        b"path.step" => step_read(args, answer)?,
+        b"is_identifier" => answer.tell_truth(is_identifier(args.octets().as_slice())),
+        b"is_symbol_name" => answer.tell_truth(is_symbol_name(args.octets().as_slice())),
+        b"read_number" => number_read(args, answer),
+        b"path" => path_read(args, answer),
+        b"path.step" => step_read(args, answer),
         _ => return Err(Fault::NoCall),
     }
     Ok(())
 }
 
-fn number_read(args: &mut Args<'_>, answer: &mut Answer) -> Result<(), Fault> {
-    let text = args.bytes()?;
+fn number_read(args: &mut Args<'_>, answer: &mut Answer) {
+    let text = args.octets();
     match read_number(text.as_slice()) {
-        Some(n) => answer.signed(i64::from(n))?,
-        None => answer.word("none")?,
+        Some(n) => answer.tell_signed(i64::from(n)),
+        None => answer.say("none"),
     }
-    Ok(())
 }
 
 // The steps of a path, in order.
-fn path_read(args: &mut Args<'_>, answer: &mut Answer) -> Result<(), Fault> {
-    let text = args.bytes()?;
+fn path_read(args: &mut Args<'_>, answer: &mut Answer) {
+    let text = args.octets();
     let Some(path) = Path::read(text.as_slice()) else {
-        answer.word("none")?;
-        return Ok(());
+        answer.say("none");
+        return;
     };
     let (first, mut later) = path.first();
-    answer.text(first)?;
+    answer.quote(first);
     for _ in 0..text.len() {
         let Some((step, behind)) = later.next() else {
             break;
         };
-        show(&step, answer)?;
+        show(&step, answer);
         later = behind;
     }
-    Ok(())
 }
 
 // The path, and the number of the step, counted from 0.
-fn step_read(args: &mut Args<'_>, answer: &mut Answer) -> Result<(), Fault> {
-    let text = args.bytes()?;
-    let n = args.number32()? as usize;
+fn step_read(args: &mut Args<'_>, answer: &mut Answer) {
+    let text = args.octets();
+    let n = args.u32() as usize;
     let Some(path) = Path::read(text.as_slice()) else {
-        answer.word("none")?;
-        return Ok(());
+        answer.say("none");
+        return;
     };
     match path.step(n) {
-        Some(step) => show(&step, answer)?,
-        None => answer.word("none")?,
+        Some(step) => show(&step, answer),
+        None => answer.say("none"),
     }
-    Ok(())
 }
 
-fn show(step: &Step<'_>, answer: &mut Answer) -> Result<(), NoMemory> {
+fn show(step: &Step<'_>, answer: &mut Answer) {
     match step {
-        Step::Name(name) => answer.text(name),
+        Step::Name(name) => answer.quote(name),
         Step::Index(indexes) => show_indexes(indexes, answer),
     }
 }
 
 // The number of indexes, and the three places.
-fn show_indexes(indexes: &Indexes, answer: &mut Answer) -> Result<(), NoMemory> {
-    answer.field("index", u64::from(indexes.count))?;
-    answer.signed(i64::from(indexes.i))?;
-    answer.signed(i64::from(indexes.j))?;
-    answer.signed(i64::from(indexes.k))
+fn show_indexes(indexes: &Indexes, answer: &mut Answer) {
+    answer.name("index", u64::from(indexes.count));
+    answer.tell_signed(i64::from(indexes.i));
+    answer.tell_signed(i64::from(indexes.j));
+    answer.tell_signed(i64::from(indexes.k));
 }

@@ -1,10 +1,16 @@
 //! Calls of ads_commands.
 
+ghost use Rattle.std.specs.Prelude.{◌≤◌, length};
+
 use super::{replies, requests};
 use crate::answer::Answer;
 use crate::args::Args;
 use crate::fault::Fault;
+use ads_base::Octets;
 use std::alloc::Global;
+
+// The greatest length of the data of a payload that is written.
+const GREATEST_DATA: usize = 2_000_000;
 
 pub fn make(
     alloc: Global,
@@ -14,9 +20,22 @@ pub fn make(
 ) -> Result<(), Fault> {
     match call {
         b"read_request" => requests::request_read(args, answer),
-        b"put_request" => requests::request_put(alloc, args, answer),
+        b"put_request" => requests::request_put(alloc, args, answer)?,
         b"read_reply" => replies::reply_read(args, answer),
-        b"put_reply" => replies::reply_put(alloc, args, answer),
-        _ => Err(Fault::NoCall),
+        b"put_reply" => replies::reply_put(alloc, args, answer)?,
+        _ => return Err(Fault::NoCall),
     }
+    Ok(())
+}
+
+/// The data that the next word writes, which is short enough for a payload.
+pub fn data_of(args: &mut Args<'_>) -> Octets
+    ensures { length result ≤ 2000000 }
+{
+    let mut data = args.octets();
+    if data.len() > GREATEST_DATA {
+        args.refuse();
+        data.cut(GREATEST_DATA);
+    }
+    data
 }

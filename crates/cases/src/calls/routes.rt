@@ -2,8 +2,9 @@
 
 use crate::answer::Answer;
 use crate::args::Args;
+use crate::calls::header::net_of;
 use crate::fault::Fault;
-use ads_base::NetId;
+use ads_base::{NetId, NoMemory};
 use net_routes::Routes;
 use std::alloc::Global;
 use type_layout::{Rights, RouteDesc, Routes4};
@@ -15,44 +16,51 @@ pub fn make(
     answer: &mut Answer,
 ) -> Result<(), Fault> {
     match call {
-        b"routes" => routes(alloc, args, answer),
-        _ => Err(Fault::NoCall),
+        b"routes" => routes(alloc, args, answer)?,
+        _ => return Err(Fault::NoCall),
     }
+    Ok(())
 }
 
 // Routes, each a NetId and its rights, and behind `ask` NetIds: the rights of each.
-fn routes(alloc: Global, args: &mut Args<'_>, answer: &mut Answer) -> Result<(), Fault> {
-    let mut list = Routes4::new(alloc);
-    for _ in 0..usize::MAX {
-        let word = args.word();
-        if word == b"ask".as_slice() {
-            break;
-        }
-        let net = NetId::read(word).ok_or(Fault::BadArgument)?;
-        let rights = rights_of(args.word())?;
-        list.push(alloc, RouteDesc { net, rights })?;
-    }
+fn routes(alloc: Global, args: &mut Args<'_>, answer: &mut Answer) -> Result<(), NoMemory> {
+    let list = routes_of(alloc, args)?;
     let routes = Routes::build(alloc, &list)?;
     for _ in 0..usize::MAX {
         if !args.has_more() {
             break;
         }
-        let net = NetId::read(args.word()).ok_or(Fault::BadArgument)?;
-        answer.word(match routes.rights(net) {
+        answer.say(match routes.rights(net_of(args)) {
             Some(Rights::Read) => "read",
             Some(Rights::Write) => "write",
             Some(Rights::Control) => "control",
             None => "none",
-        })?;
+        });
     }
     Ok(())
 }
 
-fn rights_of(word: &[u8]) -> Result<Rights, Fault> {
-    match word {
-        b"read" => Ok(Rights::Read),
-        b"write" => Ok(Rights::Write),
-        b"control" => Ok(Rights::Control),
-        _ => Err(Fault::BadArgument),
+fn routes_of(alloc: Global, args: &mut Args<'_>) -> Result<Routes4, NoMemory> {
+    let mut list = Routes4::new(alloc);
+    for _ in 0..usize::MAX {
+        // The word `ask`, or the end.
+        let Some(net) = NetId::read(args.word()) else {
+            break;
+        };
+        let rights = rights_of(args);
+        list.push(alloc, RouteDesc { net, rights })?;
+    }
+    Ok(list)
+}
+
+fn rights_of(args: &mut Args<'_>) -> Rights {
+    match args.word() {
+        b"read" => Rights::Read,
+        b"write" => Rights::Write,
+        b"control" => Rights::Control,
+        _ => {
+            args.refuse();
+            Rights::Read
+        }
     }
 }

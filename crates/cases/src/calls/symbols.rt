@@ -16,27 +16,27 @@ pub fn make(
     match call {
         b"read_entry" => entry_read(args, answer),
         b"read_entries" => entries_read(args, answer),
-        b"put_entry" => entry_put(alloc, args, answer),
-        _ => Err(Fault::NoCall),
-    }
-}
-
-fn entry_read(args: &mut Args<'_>, answer: &mut Answer) -> Result<(), Fault> {
-    let bytes = args.bytes()?;
-    match read_entry(bytes.as_slice()) {
-        Some((entry, rest)) => {
-            show(&entry, answer)?;
-            answer.word("rest")?;
-            answer.bytes(rest)?;
-        }
-        None => answer.word("none")?,
+        b"put_entry" => entry_put(alloc, args, answer)?,
+        _ => return Err(Fault::NoCall),
     }
     Ok(())
 }
 
+fn entry_read(args: &mut Args<'_>, answer: &mut Answer) {
+    let bytes = args.octets();
+    match read_entry(bytes.as_slice()) {
+        Some((entry, rest)) => {
+            show(&entry, answer);
+            answer.say("rest");
+            answer.hex(rest);
+        }
+        None => answer.say("none"),
+    }
+}
+
 // How many entries stand one after another, and what stands behind them.
-fn entries_read(args: &mut Args<'_>, answer: &mut Answer) -> Result<(), Fault> {
-    let bytes = args.bytes()?;
+fn entries_read(args: &mut Args<'_>, answer: &mut Answer) {
+    let bytes = args.octets();
     let mut rest = bytes.as_slice();
     let mut entries = 0u64;
     for _ in 0..bytes.len() {
@@ -46,24 +46,24 @@ fn entries_read(args: &mut Args<'_>, answer: &mut Answer) -> Result<(), Fault> {
         entries = entries.saturating_add(1);
         rest = behind;
     }
-    answer.field("entries", entries)?;
-    answer.word("rest")?;
-    answer.bytes(rest)?;
-    Ok(())
+    answer.name("entries", entries);
+    answer.say("rest");
+    answer.hex(rest);
 }
 
 // Group, offset, size, type id, flags, name, type and comment.
-fn entry_put(alloc: Global, args: &mut Args<'_>, answer: &mut Answer) -> Result<(), Fault> {
-    let group = args.number32()?;
-    let offset = args.number32()?;
-    let size = args.number32()?;
-    let type_id = args.number32()?;
-    let flags = args.number32()?;
-    let name = args.bytes()?;
-    let kind = args.bytes()?;
-    let comment = args.bytes()?;
+fn entry_put(alloc: Global, args: &mut Args<'_>, answer: &mut Answer) -> Result<(), NoMemory> {
+    let group = args.u32();
+    let offset = args.u32();
+    let size = args.u32();
+    let type_id = args.u32();
+    let flags = args.u32();
+    let name = args.octets();
+    let kind = args.octets();
+    let comment = args.octets();
     if name.len() > 65535 || kind.len() > 65535 || comment.len() > 65535 {
-        return Err(Fault::BadArgument);
+        args.refuse();
+        return Ok(());
     }
     let entry = Entry {
         group,
@@ -77,17 +77,17 @@ fn entry_put(alloc: Global, args: &mut Args<'_>, answer: &mut Answer) -> Result<
     };
     let mut out = Octets::new(alloc);
     put_entry(alloc, &entry, &mut out)?;
-    answer.bytes(out.as_slice())?;
+    answer.hex(out.as_slice());
     Ok(())
 }
 
-fn show(entry: &Entry<'_>, answer: &mut Answer) -> Result<(), NoMemory> {
-    answer.field("group", u64::from(entry.group))?;
-    answer.field("offset", u64::from(entry.offset))?;
-    answer.field("size", u64::from(entry.size))?;
-    answer.field("type_id", u64::from(entry.type_id))?;
-    answer.field("flags", u64::from(entry.flags))?;
-    answer.text(entry.name)?;
-    answer.text(entry.kind)?;
-    answer.text(entry.comment)
+fn show(entry: &Entry<'_>, answer: &mut Answer) {
+    answer.name("group", u64::from(entry.group));
+    answer.name("offset", u64::from(entry.offset));
+    answer.name("size", u64::from(entry.size));
+    answer.name("type_id", u64::from(entry.type_id));
+    answer.name("flags", u64::from(entry.flags));
+    answer.quote(entry.name);
+    answer.quote(entry.kind);
+    answer.quote(entry.comment);
 }

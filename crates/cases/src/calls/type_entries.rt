@@ -4,7 +4,7 @@ use crate::answer::Answer;
 use crate::args::Args;
 use crate::calls::description::description_of;
 use crate::fault::Fault;
-use ads_base::{NoMemory, Octets};
+use ads_base::Octets;
 use std::alloc::Global;
 use type_upload::{TypeEntry, put_types, read_type};
 
@@ -17,27 +17,27 @@ pub fn make(
     match call {
         b"read_type" => type_read(args, answer),
         b"read_types" => types_read(args, answer),
-        b"put_types" => types_put(alloc, args, answer),
-        _ => Err(Fault::NoCall),
-    }
-}
-
-fn type_read(args: &mut Args<'_>, answer: &mut Answer) -> Result<(), Fault> {
-    let bytes = args.bytes()?;
-    match read_type(bytes.as_slice()) {
-        Some((entry, rest)) => {
-            show(&entry, answer)?;
-            answer.word("rest")?;
-            answer.bytes(rest)?;
-        }
-        None => answer.word("none")?,
+        b"put_types" => types_put(alloc, args, answer)?,
+        _ => return Err(Fault::NoCall),
     }
     Ok(())
 }
 
+fn type_read(args: &mut Args<'_>, answer: &mut Answer) {
+    let bytes = args.octets();
+    match read_type(bytes.as_slice()) {
+        Some((entry, rest)) => {
+            show(&entry, answer);
+            answer.say("rest");
+            answer.hex(rest);
+        }
+        None => answer.say("none"),
+    }
+}
+
 // How many entries stand one after another, and what stands behind them.
-fn types_read(args: &mut Args<'_>, answer: &mut Answer) -> Result<(), Fault> {
-    let bytes = args.bytes()?;
+fn types_read(args: &mut Args<'_>, answer: &mut Answer) {
+    let bytes = args.octets();
     let mut rest = bytes.as_slice();
     let mut entries = 0u64;
     for _ in 0..bytes.len() {
@@ -47,10 +47,9 @@ fn types_read(args: &mut Args<'_>, answer: &mut Answer) -> Result<(), Fault> {
         entries = entries.saturating_add(1);
         rest = behind;
     }
-    answer.field("entries", entries)?;
-    answer.word("rest")?;
-    answer.bytes(rest)?;
-    Ok(())
+    answer.name("entries", entries);
+    answer.say("rest");
+    answer.hex(rest);
 }
 
 // A description: the upload of its types.
@@ -58,20 +57,20 @@ fn types_put(alloc: Global, args: &mut Args<'_>, answer: &mut Answer) -> Result<
     let description = description_of(alloc, args)?;
     let mut out = Octets::new(alloc);
     put_types(alloc, &description.types, &mut out)?;
-    answer.bytes(out.as_slice())?;
+    answer.hex(out.as_slice());
     Ok(())
 }
 
-fn show(entry: &TypeEntry<'_>, answer: &mut Answer) -> Result<(), NoMemory> {
-    answer.field("size", u64::from(entry.size))?;
-    answer.field("offset", u64::from(entry.offset))?;
-    answer.field("type_id", u64::from(entry.type_id))?;
-    answer.field("flags", u64::from(entry.flags))?;
-    answer.text(entry.name)?;
-    answer.text(entry.kind)?;
-    answer.text(entry.comment)?;
-    answer.word("dims")?;
-    answer.bytes(entry.dims)?;
-    answer.field("subs", u64::from(entry.subs))?;
-    answer.bytes(entry.sub_bytes)
+fn show(entry: &TypeEntry<'_>, answer: &mut Answer) {
+    answer.name("size", u64::from(entry.size));
+    answer.name("offset", u64::from(entry.offset));
+    answer.name("type_id", u64::from(entry.type_id));
+    answer.name("flags", u64::from(entry.flags));
+    answer.quote(entry.name);
+    answer.quote(entry.kind);
+    answer.quote(entry.comment);
+    answer.say("dims");
+    answer.hex(entry.dims);
+    answer.name("subs", u64::from(entry.subs));
+    answer.hex(entry.sub_bytes);
 }

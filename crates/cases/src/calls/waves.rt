@@ -3,7 +3,7 @@
 use crate::answer::Answer;
 use crate::args::Args;
 use crate::fault::Fault;
-use ads_base::Calls;
+use ads_base::{Calls, NoMemory};
 use signals::{Bank, Ramp, Signal, Square, Table8};
 use std::alloc::Global;
 
@@ -44,26 +44,26 @@ fn bank(alloc: Global, args: &mut Args<'_>, answer: &mut Answer) -> Result<(), F
                 let table = Table8::new(alloc, values.as_slice())?;
                 list.push(Box::new(alloc, table)?)?;
             }
-            _ => return Err(Fault::BadArgument),
+            _ => args.refuse(),
         }
     }
     if list.len() > 16 {
         return Err(Fault::BadArgument);
     }
-    steps(Bank::new(list), args, answer)
+    steps(Bank::new(list), args, answer);
+    Ok(())
 }
 
 fn wanted_signals(alloc: Global, args: &mut Args<'_>) -> Result<Vec<Wanted>, Fault> {
     let mut wanted = Vec::new(alloc);
     for _ in 0..usize::MAX {
         match args.word() {
-            b"ramp" => wanted.push(Wanted::Ramp(args.number32()?))?,
-            b"square" => {
-                let low = args.number()?;
-                let high = args.number()?;
-                wanted.push(Wanted::Square(low, high, args.number32()?))?;
+            b"ramp" => wanted.push(Wanted::Ramp(args.u32()))?,
+            b"square" => wanted.push(Wanted::Square(args.u64(), args.u64(), args.u32()))?,
+            b"table" => {
+                let values = values_of(alloc, args)?;
+                wanted.push(Wanted::Table(values))?;
             }
-            b"table" => wanted.push(Wanted::Table(values_of(alloc, args)?))?,
             b"step" => break,
             _ => return Err(Fault::BadArgument),
         }
@@ -72,24 +72,24 @@ fn wanted_signals(alloc: Global, args: &mut Args<'_>) -> Result<Vec<Wanted>, Fau
 }
 
 // How many values, and the values.
-fn values_of(alloc: Global, args: &mut Args<'_>) -> Result<Calls, Fault> {
+fn values_of(alloc: Global, args: &mut Args<'_>) -> Result<Calls, NoMemory> {
     let mut values = Calls::new(alloc);
-    for _ in 0..args.number32()? {
-        values.push(alloc, args.number()?)?;
+    for _ in 0..args.u8() {
+        values.push(alloc, args.u64())?;
     }
     Ok(values)
 }
 
-fn steps(mut bank: Bank, args: &mut Args<'_>, answer: &mut Answer) -> Result<(), Fault> {
+fn steps(mut bank: Bank, args: &mut Args<'_>, answer: &mut Answer) {
     for _ in 0..usize::MAX {
         if !args.has_more() {
             break;
         }
-        let n = args.number32()?;
-        if n >= bank.count() {
-            return Err(Fault::BadArgument);
+        let n = args.u32();
+        if n < bank.count() {
+            answer.tell(bank.step(n));
+        } else {
+            args.refuse();
         }
-        answer.number(bank.step(n))?;
     }
-    Ok(())
 }
