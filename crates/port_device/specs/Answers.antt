@@ -1,0 +1,58 @@
+-- How the calls of a port answer what the machine says of a request.
+use Rattle.std.specs.Prelude.{◌≡◌, ◌+◌, ◌≤◌, ℕ, true, List, ◌++◌, Result, Ok, Err, Some, IfOk, slice_get}
+use Rattle.return_codes.specs.declared.code.Code.{Code}
+use Rattle.return_codes.specs.Code.{number_of}
+use Rattle.ads_plant.specs.World.{PlantPort}
+use Rattle.type_layout.specs.Descriptions.{area_of}
+use Rattle.symbol_table.specs.Tables.{SymbolTable, TableSymbol}
+use Rattle.symbol_table.specs.declared.place.Place.{Place}
+use Rattle.index_groups.specs.declared.access.Reach.{Reach}
+use Rattle.index_groups.specs.declared.access.Reach.TheVariants as reach
+use Rattle.index_groups.specs.Access.{range_meant}
+use Rattle.ads_formats.specs.Codes.{no_error}
+use Rattle.ads_machine.specs.World.{World}
+use Rattle.ads_machine.specs.Access.{values_at}
+use Rattle.ads_machine.specs.Client as client
+use Rattle.ads_machine.specs.NumberedPlaces.{NumberedPlace, is_same_place}
+use Rattle.ads_machine.specs.Acts.{Act, Outcome, outcome_of}
+use Rattle.ads_machine.specs.Reach.{addressed_by_range, addressed_in_place}
+use Rattle.ads_machine.specs.Reads.{read_act}
+
+-- data behind what stood there, or the code, and then nothing
+abbrev pub Answers : Outcome → Result (Unit {0}) Code → List ℕ → List ℕ → Type 0
+Answers o (Ok done) old new = (o.code ≡ no_error) × (new ≡ old ++ o.bytes)
+Answers o (Err code) old new = (o.code ≡ number_of code) × (new ≡ old)
+
+-- the answer to an act over the bytes of a world
+abbrev pub AnswersAct : World → Act → Result (Unit {0}) Code → List ℕ → List ℕ → Type 0
+AnswersAct w act answer old new = Answers (outcome_of w.memory act) answer old new
+
+-- so many bytes for what is read there
+abbrev pub HasRoom : Reach → ℕ → Type 0
+HasRoom (reach.Bytes area at len) room = room ≡ len
+HasRoom (reach.Bit area at bit) room = room ≡ 1
+HasRoom (reach.Size area) room = ⊥
+
+-- what is read at a range
+abbrev pub ReadsRange : World → PlantPort → Reach → List ℕ → Type 0
+ReadsRange w p r bytes = IfOk (addressed_by_range p (Ok (range_meant r))) (λ places. bytes ≡ values_at w.memory places)
+
+-- bytes of a symbol of the table
+pub record IsPlaceOf (table : SymbolTable) (place : Place) : Type 0 where
+  pub symbol : TableSymbol
+  pub there : slice_get table.symbols place.symbol ≡ Some symbol
+  pub area : area_of place.area ≡ symbol.area
+  pub begins : symbol.offset ≤ place.«at»
+  pub ends : place.«at» + place.len ≤ symbol.offset + symbol.size
+
+-- the place of the code, told by numbers
+abbrev pub numbered : Place → NumberedPlace
+numbered p = record { symbol = p.symbol; area = area_of p.area; first = p.«at»; len = p.len }
+
+-- the place of the code is the place by name of this port
+abbrev pub IsNamed : World → PlantPort → Place → client.Place → Type 0
+IsNamed w p place named = is_same_place w.plant.ports p.number named (numbered place) ≡ true
+
+-- a read of the first bytes of a place
+abbrev pub place_read_act : PlantPort → client.Place → ℕ → Act
+place_read_act p named len = read_act (addressed_in_place p.number named len)

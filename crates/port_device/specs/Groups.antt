@@ -1,0 +1,46 @@
+-- The groups that the code tells apart, against the machine's.
+use Rattle.std.specs.Prelude.{Bool, true, false, Option, Some, None, if◌then◌else◌}
+use Rattle.type_layout.specs.Descriptions.{area_of}
+use Rattle.ads_formats.specs.Groups.{Group, AreaBytes, AreaBit, AreaSize, HandleByName, ValueByName, ValueByHandle, ReleaseHandle, InfoByName, SymbolVersion, ExtendedInfoByName, SymbolUpload, UploadInfo, TypeUpload, UploadInfoWithTypes, SumRead, SumWrite, SumReadWrite}
+use Rattle.port_device.specs.declared.group.Group.TheVariants as value
+use Rattle.port_device.specs.declared.group.Group as declared
+
+abbrev pub group_meant : declared.Group → Group
+group_meant (value.Bytes area) = AreaBytes (area_of area)
+group_meant (value.Bit area) = AreaBit (area_of area)
+group_meant (value.Size area) = AreaSize (area_of area)
+group_meant value.HandleByName = HandleByName
+group_meant value.ValueByName = ValueByName
+group_meant value.ValueByHandle = ValueByHandle
+group_meant value.ReleaseHandle = ReleaseHandle
+group_meant value.InfoByName = InfoByName
+group_meant value.SymbolVersion = SymbolVersion
+group_meant value.ExtendedInfoByName = ExtendedInfoByName
+group_meant value.SymbolUpload = SymbolUpload
+group_meant value.UploadInfo = UploadInfo
+group_meant value.TypeUpload = TypeUpload
+group_meant value.UploadInfoWithTypes = UploadInfoWithTypes
+group_meant value.SumRead = SumRead
+group_meant value.SumWrite = SumWrite
+group_meant value.SumReadWrite = SumReadWrite
+
+-- the groups of Read that a port answers here: bytes, a bit and the size of an area, and the symbol version
+abbrev pub read_by_port : Option Group → Option Group
+read_by_port (Some (AreaBytes area)) = Some (AreaBytes area)
+read_by_port (Some (AreaBit area)) = Some (AreaBit area)
+read_by_port (Some (AreaSize area)) = Some (AreaSize area)
+read_by_port (Some SymbolVersion) = Some SymbolVersion
+read_by_port group = None
+
+abbrev pub is_version_group : Option Group → Bool
+is_version_group (Some SymbolVersion) = true
+is_version_group group = false
+
+-- the groups of Write that a port answers by itself: bytes and bits
+abbrev pub is_written_by_port : Option Group → Bool
+is_written_by_port (Some (AreaBytes area)) = true
+is_written_by_port (Some (AreaBit area)) = true
+is_written_by_port group = false
+
+abbrev pub written_by_port : Option Group → Option Group
+written_by_port group = if is_written_by_port group then group else None

@@ -1,0 +1,28 @@
+-- Which ports hold a world: the description and the version are the world's, and so are the bytes.
+use Rattle.std.specs.Prelude.{◌≡◌, ℕ, List, [], ◌∷◌}
+use Rattle.ads_plant.specs.Description.{Port}
+use Rattle.ads_plant.specs.World.{PlantPort, plant_port}
+use Rattle.ads_plant.specs.Sound.{IsSoundPlant, IsSoundPort}
+use Rattle.symbol_table.specs.Tables.{IsTableOf}
+use Rattle.ads_machine.specs.World.{World}
+use Rattle.ads_machine.specs.PortBytes as bytes
+use Rattle.port_device.specs.PortMemory.{PortMemory}
+
+-- the port of the plant that is held
+pub record HoldsPort (w : World) (p : PlantPort) (m : PortMemory) : Type 0 where
+  pub port : Port
+  pub plant : p ≡ plant_port m.types port
+  pub table : IsTableOf m.types port m.table
+  pub number : m.number ≡ port.number
+  pub facts : m.facts ≡ port.facts
+  pub types : m.types ≡ w.plant.types
+  pub version : m.version ≡ w.version
+  pub plant_sound : IsSoundPlant w.plant
+  pub sound : IsSoundPort w.plant.ports p
+  pub holds : bytes.Holds w.memory p m.bytes
+
+-- one behind another
+abbrev pub HoldEach : World → List PlantPort → List PortMemory → Type 0
+HoldEach w [] [] = Unit {0}
+HoldEach w (p ∷ ps) (m ∷ ms) = HoldsPort w p m × HoldEach w ps ms
+HoldEach w ps ms = ⊥

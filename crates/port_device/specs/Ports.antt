@@ -1,0 +1,29 @@
+-- The port that the code's value is. No public clause cites this file.
+use Rattle.std.specs.Prelude.{◌≡◌, ◌≤◌, length}
+use Rattle.std.specs.Arc.{arc_value}
+use Rattle.ads_plant.specs.Description.{Port}
+use Rattle.ads_plant.specs.Accepted.{image_size, IMAGE_LIMIT}
+use Rattle.type_layout.specs.declared.port.Sizes.{Sizes}
+use Rattle.type_layout.specs.Descriptions.{sizes_of, facts_of}
+use Rattle.type_layout.specs.NamedTypes.{types_of}
+use Rattle.symbol_table.specs.Tables.{IsTableOf}
+use Rattle.port_device.specs.declared.port.Port.TheInside.{Inside}
+use Rattle.port_device.specs.PortMemory.{PortMemory}
+
+abbrev pub memory_in : Inside → PortMemory
+memory_in p = record {
+  types = types_of (arc_value p.types);
+  number = p.number;
+  facts = facts_of p.facts;
+  table = p.table;
+  version = p.version;
+  bytes = record { image = p.image; ads = p.ads; device = p.device };
+}
+
+-- the port of an accepted description, with all its bytes
+pub record IsPortMemory (sizes : Sizes) (m : PortMemory) : Type 0 where
+  pub port : Port
+  pub table : IsTableOf m.types port m.table
+  pub sizes_are : m.table.sizes ≡ sizes_of sizes
+  pub few : image_size m.table.sizes ≤ IMAGE_LIMIT
+  pub bytes : length m.bytes.image ≡ image_size m.table.sizes

@@ -1,0 +1,74 @@
+//! Index groups by their numbers. Beckhoff Information System, "Index Group/Offset Specification".
+
+ghost use Rattle.std.specs.Prelude.{◌≡◌, option_map};
+ghost use Rattle.ads_formats.specs.Groups.{group_of};
+ghost use Rattle.port_device.specs.Groups.{group_meant, is_written_by_port};
+
+use type_layout::Area;
+
+/// What an index group names.
+#[derive(Clone, Copy, Debug, PartialEq, Eq)]
+pub enum Group {
+    Bytes(Area),
+    Bit(Area),
+    Size(Area),
+    HandleByName,
+    ValueByName,
+    ValueByHandle,
+    ReleaseHandle,
+    InfoByName,
+    SymbolVersion,
+    ExtendedInfoByName,
+    SymbolUpload,
+    UploadInfo,
+    TypeUpload,
+    UploadInfoWithTypes,
+    SumRead,
+    SumWrite,
+    SumReadWrite,
+}
+
+/// The group of a number. None exactly where no group has it.
+#[tactic(auto, unfolding(ads_formats::specs::Groups::group_in, ads_formats::specs::Groups::group_of))]
+pub fn group_named(number: u32) -> Option<Group>
+    ensures { option_map group_meant result ≡ group_of number }
+{
+    match number {
+        0x4020 => Some(Group::Bytes(Area::Memory)),
+        0x4021 => Some(Group::Bit(Area::Memory)),
+        0x4025 => Some(Group::Size(Area::Memory)),
+        0x4040 => Some(Group::Bytes(Area::Process)),
+        0x4045 => Some(Group::Size(Area::Process)),
+        0xF003 => Some(Group::HandleByName),
+        0xF004 => Some(Group::ValueByName),
+        0xF005 => Some(Group::ValueByHandle),
+        0xF006 => Some(Group::ReleaseHandle),
+        0xF007 => Some(Group::InfoByName),
+        0xF008 => Some(Group::SymbolVersion),
+        0xF009 => Some(Group::ExtendedInfoByName),
+        0xF00B => Some(Group::SymbolUpload),
+        0xF00C => Some(Group::UploadInfo),
+        0xF00E => Some(Group::TypeUpload),
+        0xF00F => Some(Group::UploadInfoWithTypes),
+        0xF020 => Some(Group::Bytes(Area::Inputs)),
+        0xF021 => Some(Group::Bit(Area::Inputs)),
+        0xF025 => Some(Group::Size(Area::Inputs)),
+        0xF030 => Some(Group::Bytes(Area::Outputs)),
+        0xF031 => Some(Group::Bit(Area::Outputs)),
+        0xF035 => Some(Group::Size(Area::Outputs)),
+        0xF080 => Some(Group::SumRead),
+        0xF081 => Some(Group::SumWrite),
+        0xF082 => Some(Group::SumReadWrite),
+        _ => None,
+    }
+}
+
+/// Whether a write reaches bytes or a bit by the group of a number.
+pub(crate) fn is_written(number: u32) -> bool
+    ensures { result ≡ is_written_by_port (group_of number) }
+{
+    match group_named(number) {
+        Some(Group::Bytes(_)) | Some(Group::Bit(_)) => true,
+        _ => false,
+    }
+}

@@ -1,0 +1,14 @@
+//! The memory of a plant: its ports with their bytes, symbols and state words, and what they answer.
+#![tactic(auto)]
+
+mod areas;
+mod bits;
+mod group;
+mod port;
+mod reading;
+mod writable;
+mod writing;
+
+pub use group::{Group, group_named};
+pub use port::Port;
+pub use writing::{RUN, STOP};

@@ -1,0 +1,70 @@
+//! One port: its symbols, its bytes and its state words.
+
+ghost use Rattle.std.specs.Prelude.{◌≡◌, ℕ};
+ghost use Rattle.type_layout.specs.Descriptions.{facts_of, sizes_of};
+ghost use Rattle.port_device.specs.PortMemory.{PortMemory};
+
+use process_image::Image;
+use std::alloc::Global;
+use std::marker::Model;
+use std::sync::Arc;
+use symbol_table::Table;
+use type_layout::{DeviceFacts4, Sizes, Types};
+
+/// A port of a plant. Contracts see what its description says of it, the symbol version, and its bytes: the areas one behind
+/// another, and the two state words.
+#[derive(Drop)]
+pub struct Port {
+    pub(crate) types: Arc<Types, Global>,
+    pub(crate) number: u16,
+    pub(crate) facts: DeviceFacts4,
+    pub(crate) sizes: Sizes,
+    pub(crate) table: Table,
+    pub(crate) version: u8,
+    pub(crate) ads: u16,
+    pub(crate) device: u16,
+    pub(crate) image: Image,
+}
+
+impl Model for Port {
+    ghost use Rattle.port_device.specs.PortMemory.{PortMemory};
+
+    ghost Value = { PortMemory };
+
+    ghost use Rattle.port_device.specs.Ports.{memory_in, IsPortMemory};
+
+    ghost view = { memory_in };
+
+    ghost invariant = { λ p. IsPortMemory p.sizes (memory_in p) };
+}
+
+impl Port {
+    /// The ADS state and the device state. Beckhoff Information System, "ADS Read State".
+    pub fn state(&self) -> (u16, u16)
+        ensures ads { result.0 ≡ self.now.bytes.ads }
+        ensures device { result.1 ≡ self.now.bytes.device }
+    {
+        (self.ads, self.device)
+    }
+
+    /// The symbol version, which rises by one at each accepted reload.
+    pub fn version(&self) -> u8
+        ensures { result ≡ self.now.version }
+    {
+        self.version
+    }
+
+    /// What the device tells of itself. Beckhoff Information System, "ADS Read Device Info".
+    pub fn facts(&self) -> DeviceFacts4
+        ensures { facts_of result ≡ self.now.facts }
+    {
+        self.facts
+    }
+
+    /// The sizes of the areas.
+    pub fn sizes(&self) -> &Sizes
+        ensures { sizes_of result.now ≡ self.now.table.sizes }
+    {
+        &self.sizes
+    }
+}
