@@ -1,13 +1,13 @@
 -- Which groups a port answers by itself, and what a range by a group is.
-use Rattle.std.proofs.Common.{◌≡◌, ℕ, ◌+◌, ◌≤◌, ◌<◌, List, length, true, false, refl, sym, ◌∙◌, ap, subst, inl, inr, arith}
+use Rattle.std.proofs.Common.{◌≡◌, ℕ, ◌+◌, ◌<◌, List, length, true, false, refl, sym, ◌∙◌, ap, subst, inl, inr, arith}
 use Rattle.std.specs.Prelude.{Bool, ◌/◌, ◌%◌, Option, Some, None, Ok, Err, Result, min, nat_lt, nat_le, ◌==◌, ◌||◌, not, if◌then◌else◌}
 use Rattle.std.proofs.lemmas.Bool.{cases_Bool, false≢true, eqb-true, lt-ltb, ltb-true, leb-true, leb-false}
 use Rattle.ads_plant.specs.Description.{Area, Sizes, size_in}
 use Rattle.ads_formats.specs.Codes.{invalid_group, invalid_offset, invalid_size, not_permitted}
-use Rattle.ads_formats.specs.Groups.{Group, AreaBytes, AreaBit, AreaSize, HandleByName, ValueByName, ValueByHandle, ReleaseHandle, InfoByName, SymbolVersion, ExtendedInfoByName, SymbolUpload, UploadInfo, TypeUpload, UploadInfoWithTypes, SumRead, SumWrite, SumReadWrite, group_of}
+use Rattle.ads_formats.specs.Groups.{Group, AreaBytes, AreaBit, AreaSize, group_of}
 use Rattle.ads_formats.specs.Ranges.{Range, Bytes, Bit, Size, greatest_len, byte_range, bit_range, size_range, range_in, range_of}
 use Rattle.ads_machine.specs.Client as client
-use Rattle.ads_machine.specs.Acts.{Act, Refusal}
+use Rattle.ads_machine.specs.Acts.{Refusal}
 use Rattle.ads_machine.specs.Reach.{addressed_by_range, reach_of}
 use Rattle.ads_machine.specs.Writes.{Asker, may_write, write_act, write_group}
 use Rattle.ads_machine.proofs.Find.{test_other}
@@ -100,7 +100,8 @@ size_long area n h = let no : nat_lt n 4 ≡ false = is_false (nat_lt n 4) (λ t
 
 long_alike : (g : Option Group) (sizes : Sizes) (offset m n : ℕ) → greatest_len < m → greatest_len < n → range_in g sizes offset m ≡ range_in g sizes offset n
 unfolding range_in
-long_alike (Some (AreaBytes area)) sizes offset m n h k = bytes_long area (size_in sizes area) offset m h ∙ sym (bytes_long area (size_in sizes area) offset n k)
+long_alike (Some (AreaBytes area)) sizes offset m n h k =
+    bytes_long area (size_in sizes area) offset m h ∙ sym (bytes_long area (size_in sizes area) offset n k)
 long_alike (Some (AreaBit area)) sizes offset m n h k = bit_long area (size_in sizes area) offset m h ∙ sym (bit_long area (size_in sizes area) offset n k)
 long_alike (Some (AreaSize area)) sizes offset m n h k = size_long area m h ∙ sym (size_long area n k)
 long_alike g sizes offset m n h k = refl

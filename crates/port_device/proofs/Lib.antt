@@ -1,8 +1,11 @@
+mod AskLemmas
 mod BitLemmas
-mod ImageLemmas
 mod GroupLemmas
+mod ImageLemmas
+mod NameLemmas
 mod PlaceLemmas
 mod PlaceWrites
 mod PortLemmas
+mod ReadLemmas
 mod WritableLemmas
 mod WriteLemmas

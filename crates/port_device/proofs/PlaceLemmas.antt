@@ -1,8 +1,8 @@
 -- Places by name of a port, and the bytes that they are.
 use Rattle.std.proofs.Common.{◌≡◌, ℕ, ◌+◌, ◌≤◌, List, ◌++◌, map, true, false, refl, sym, ◌∙◌, ap, subst, arith}
-use Rattle.std.specs.Prelude.{Bool, Option, Some, None, Ok, Err, slice_get, bytes_eq, ◌&&◌, ◌==◌, nat_le, nat_lt, if◌then◌else◌}
+use Rattle.std.specs.Prelude.{Option, Some, None, Ok, Err, slice_get, bytes_eq, ◌&&◌, ◌==◌, nat_le, nat_lt, if◌then◌else◌}
 use Rattle.std.specs.Option.{option_map_or}
-use Rattle.std.proofs.lemmas.Bool.{and_parts, eqb-true, lt-ltb, le-leb, ltb-true, false≢true}
+use Rattle.std.proofs.lemmas.Bool.{and_parts, eqb-true, ltb-true, false≢true}
 use Rattle.type_layout.specs.Descriptions.{area_of}
 use Rattle.type_layout.specs.declared.port.Sizes.{Sizes}
 use Rattle.ads_plant.specs.Description.{size_in}
@@ -17,7 +17,7 @@ use Rattle.ads_machine.specs.PortBytes.{image_bytes}
 use Rattle.ads_machine.specs.Reads.{read_act}
 use Rattle.ads_machine.specs.Client as client
 use Rattle.ads_machine.specs.Client.{names_of_place}
-use Rattle.ads_machine.specs.NumberedPlaces.{NumberedPlace, is_place_in, is_place_at, is_same_place}
+use Rattle.ads_machine.specs.NumberedPlaces.{NumberedPlace, is_place_in, is_place_at}
 use Rattle.ads_machine.specs.Reach.{addressed_in_place}
 use Rattle.ads_machine.proofs.PlacesMoved.{same_places_have_same_bytes}
 use Rattle.symbol_table.specs.declared.place.Place.{Place}
@@ -34,7 +34,8 @@ len_in : (place : client.Place) (q : NumberedPlace) (s : PlantSymbol) → is_pla
 len_in place q s t =
     let whole = and_parts (bytes_eq (lower_name s) place.symbol && is_same_area q.area s.area && (q.first == s.offset + place.first) && (q.len == place.len))
     (nat_le (place.first + place.len) (symbol_size s)) t in
-    let parts = and_parts (bytes_eq (lower_name s) place.symbol && is_same_area q.area s.area && (q.first == s.offset + place.first)) (q.len == place.len) whole.0 in
+    let parts = and_parts (bytes_eq (lower_name s) place.symbol && is_same_area q.area s.area && (q.first == s.offset + place.first))
+    (q.len == place.len) whole.0 in
     eqb-true q.len place.len parts.1
 
 len_at : (place : client.Place) (q : NumberedPlace) (o : Option PlantSymbol) → option_map_or (is_place_in place q) o false ≡ true → q.len ≡ place.len

@@ -1,6 +1,6 @@
 -- Which act a write of the first bytes of a place is.
 use Rattle.std.proofs.Common.{◌≡◌, ℕ, ◌≤◌, List, map, length, true, false, ◌∙◌, ap}
-use Rattle.std.specs.Prelude.{Ok, Err, nat_lt, not, if◌then◌else◌}
+use Rattle.std.specs.Prelude.{Ok, nat_lt, not, if◌then◌else◌}
 use Rattle.type_layout.specs.Descriptions.{area_of}
 use Rattle.ads_formats.specs.Codes.{invalid_size, not_permitted}
 use Rattle.ads_machine.specs.World.{World, names_at}
@@ -29,8 +29,8 @@ pub place_too_long : (w : World) (k : Asker) (place : Place) (named : client.Pla
     → nat_lt place.len (length bytes) ≡ true → place_write_act k named bytes ≡ Refusal invalid_size
 place_too_long w k place named bytes may t h = permitted k named bytes may ∙ ap (write_act k bytes) (place_short w k.port place named (length bytes) t h)
 
-pub place_is : (w : World) (k : Asker) (m : PortMemory) (place : Place) (named : client.Place) (bytes : List ℕ) → may_write k.rights ≡ true → HoldsPort w k.port m
-    → IsNamed w k.port place named → length bytes ≤ place.len
+pub place_is : (w : World) (k : Asker) (m : PortMemory) (place : Place) (named : client.Place) (bytes : List ℕ) → may_write k.rights ≡ true
+    → HoldsPort w k.port m → IsNamed w k.port place named → length bytes ≤ place.len
     → place_write_act k named bytes ≡ write_act k bytes (Ok (map WholeByte (names_at k.port (area_of place.area) place.«at» (length bytes))))
 place_is w k m place named bytes may h t few =
     permitted k named bytes may ∙ ap (write_act k bytes) (place_bytes w k.port m place named (length bytes) h t few)

@@ -1,5 +1,5 @@
 -- A port that holds a world: its sizes, and what is read of its image.
-use Rattle.std.proofs.Common.{◌≡◌, ℕ, ◌+◌, ◌<◌, ◌≤◌, map, sym, ◌∙◌, ap, subst, arith}
+use Rattle.std.proofs.Common.{◌≡◌, ℕ, ◌+◌, ◌<◌, ◌≤◌, map, sym, ◌∙◌, ap, subst}
 use Rattle.std.specs.Prelude.{Some, unwrap_or, ◌/◌, ◌%◌, ◌^◌}
 use Rattle.ads_plant.specs.Description.{Area, size_in}
 use Rattle.ads_plant.specs.Description as plant

@@ -1,7 +1,7 @@
 -- Who may write the symbols of a port, by the rows of its table.
-use Rattle.std.proofs.Common.{◌≡◌, ℕ, ◌+◌, ◌<◌, List, [], ◌∷◌, map, length, get_or, true, refl, sym, ◌∙◌, ap, subst}
-use Rattle.std.specs.Prelude.{Bool, ◌||◌, ◌&&◌, ◌==◌, not, Option, Some, slice_get, option_map, bytes_eq, ◌↔◌}
-use Rattle.std.specs.List.{All, Contains, AllPass, list_all, list_any}
+use Rattle.std.proofs.Common.{◌≡◌, ℕ, ◌<◌, List, [], ◌∷◌, map, length, get_or, true, refl, sym, ◌∙◌, ap, subst}
+use Rattle.std.specs.Prelude.{◌||◌, ◌&&◌, ◌==◌, not, Some, slice_get, option_map, bytes_eq, ◌↔◌}
+use Rattle.std.specs.List.{list_all, list_any}
 use Rattle.std.specs.Option.{option_map_or}
 use Rattle.std.proofs.lemmas.List.{length-map}
 use Rattle.std.proofs.lemmas.List.Elements.{All-contains}
@@ -10,7 +10,7 @@ use Rattle.std.proofs.lemmas.Option.{slice_get-map, slice_get_read}
 use Rattle.ads_base.specs.declared.net_id.NetId.{NetId}
 use Rattle.type_layout.specs.Descriptions.{nets_of}
 use Rattle.ads_plant.specs.Listed.{NamedType}
-use Rattle.ads_plant.specs.Description.{Area, Symbol, Port}
+use Rattle.ads_plant.specs.Description.{Area, Symbol}
 use Rattle.ads_plant.specs.World.{PlantPort, plant_symbol}
 use Rattle.ads_machine.specs.World.{World}
 use Rattle.ads_machine.specs.Writes.{is_writable_symbol}
@@ -24,12 +24,14 @@ use Rattle.port_device.specs.PortMemory.{PortMemory}
 use Rattle.port_device.specs.Holds.{HoldsPort}
 use Rattle.port_device.specs.Changed.{is_writable_row, is_writable_number}
 
-any_of_nets : (net : List ℕ) (writers : List NetId) → list_any (λ (writer : NetId). bytes_eq net writer.bytes) writers ≡ list_any (bytes_eq net) (nets_of writers)
+any_of_nets : (net : List ℕ) (writers : List NetId) → list_any (λ (writer : NetId). bytes_eq net writer.bytes) writers
+    ≡ list_any (bytes_eq net) (nets_of writers)
 any_of_nets net [] = refl
 any_of_nets net (w ∷ ws) = ap (λ b. bytes_eq net w.bytes || b) (any_of_nets net ws)
 
 pub row_writable : (net : List ℕ) (row : SymbolRow)
-    → (not row.read_only && ((length row.writers == 0) || list_any (λ (writer : NetId). bytes_eq net writer.bytes) row.writers)) ≡ is_writable_row net (symbol_of_row row)
+    → (not row.read_only && ((length row.writers == 0) || list_any (λ (writer : NetId). bytes_eq net writer.bytes) row.writers))
+    ≡ is_writable_row net (symbol_of_row row)
 row_writable net row =
     ap (λ b. not row.read_only && ((length row.writers == 0) || b)) (any_of_nets net row.writers)
     ∙ sym (ap (λ n. not row.read_only && ((n == 0) || list_any (bytes_eq net) (nets_of row.writers))) (length-map row.writers (λ (n : NetId). n.bytes)))
@@ -38,7 +40,8 @@ row_writable net row =
 pub number_writable : (net : List ℕ) (rows : List SymbolRow) (n : ℕ) (row : SymbolRow) → n < length rows → row ≡ get_or rows n row
     → is_writable_number net (symbols_of_rows rows) n ≡ is_writable_row net (symbol_of_row row)
 number_writable net rows n row h e =
-    ap (λ o. option_map_or (is_writable_row net) o true) (slice_get-map symbol_of_row rows n ∙ ap (option_map symbol_of_row) (slice_get_read rows (length rows) n row refl h e))
+    ap (λ o. option_map_or (is_writable_row net) o true) (slice_get-map symbol_of_row rows n
+    ∙ ap (option_map symbol_of_row) (slice_get_read rows (length rows) n row refl h e))
 
 -- the test of a number is that of the plant's symbol
 number_may : (net : List ℕ) (types : List NamedType) (symbols : List Symbol) (n : ℕ) (s : Symbol) → slice_get symbols n ≡ Some s

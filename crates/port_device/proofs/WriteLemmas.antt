@@ -1,6 +1,6 @@
 -- How writes to a port end.
 use Rattle.std.proofs.Common.{◌≡◌, ℕ, ◌+◌, ◌<◌, ◌≤◌, List, [], ◌∷◌, map, length, true, false, refl, sym, ◌∙◌, ap, subst, arith}
-use Rattle.std.specs.Prelude.{Bool, Ok, Err, min, not, ◌||◌, ◌==◌, if◌then◌else◌}
+use Rattle.std.specs.Prelude.{Ok, Err, min, ◌||◌, ◌==◌, if◌then◌else◌}
 use Rattle.return_codes.specs.declared.code.Code.{Code}
 use Rattle.return_codes.specs.declared.code.Code.TheVariants.{C704}
 use Rattle.return_codes.specs.Code.{number_of}
@@ -25,7 +25,8 @@ use Rattle.port_device.proofs.GroupLemmas.{is_false}
 use Rattle.port_device.proofs.PortLemmas.{same_sizes}
 
 -- a refusal leaves the world
-pub refused : (w : World) (p : PlantPort) (m : PortMemory) (act : Act) (code : Code) → HoldsPort w p m → act ≡ Refusal (number_of code) → EndsAs w p act (Err code) m
+pub refused : (w : World) (p : PlantPort) (m : PortMemory) (act : Act) (code : Code) → HoldsPort w p m → act ≡ Refusal (number_of code)
+    → EndsAs w p act (Err code) m
 refused w p m act code h e =
     let own : EndsAs w p (Refusal (number_of code)) (Err code) m = record { code = refl; holds = h } in
     let P : Act → Type 0 = λ a. EndsAs w p a (Err code) m in subst P (sym e) own
@@ -70,7 +71,8 @@ bytes_put w k m area offset bytes h within may =
     let P : plant.Sizes → Type 0 = λ x. offset + length bytes ≤ size_in x area in
     let there : offset + length bytes ≤ size_in k.port.sizes area = subst P (sym e) within in
     let places : List Addressed = map WholeByte (names_at k.port area offset (length bytes)) in
-    let Q : plant.Sizes → Type 0 = λ x. EndsAs w k.port (write_act k bytes (Ok places)) (Ok tt) (with_image m (with_image_bytes x m.bytes.image area offset bytes)) in
+    let Q : plant.Sizes
+    → Type 0 = λ x. EndsAs w k.port (write_act k bytes (Ok places)) (Ok tt) (with_image m (with_image_bytes x m.bytes.image area offset bytes)) in
     let after = writes_image w.memory k.port m.bytes area offset (length bytes) bytes h.sound.names h.holds there (omega arith) in
     let b = m.bytes in
     subst Q e (put w k m bytes places (record b { image = with_image_bytes k.port.sizes m.bytes.image area offset bytes }) h
@@ -97,7 +99,8 @@ bit_put w k m area offset bit value h within may =
     (with_image m (with_nth_byte m.bytes.image (start_in x area + offset) (with_bit bit (min value 1)))) in
     let after = writes_bit w.memory k.port m.bytes area offset bit value h.sound.names h.holds there in
     let b = m.bytes in
-    subst Q e (put w k m (value ∷ []) places (record b { image = with_nth_byte m.bytes.image (start_in k.port.sizes area + offset) (with_bit bit (min value 1)) }) h
+    subst Q e (put w k m (value ∷ []) places
+    (record b { image = with_nth_byte m.bytes.image (start_in k.port.sizes area + offset) (with_bit bit (min value 1)) }) h
     (((writes_by_symbols k.address.net w.plant.ports k.port area offset h.sound).bit bit).1 may) after)
 
 pub bit_not_put : (w : World) (k : Asker) (m : PortMemory) (area : Area) (offset bit value : ℕ) → HoldsPort w k.port m

@@ -1,7 +1,11 @@
 -- How the calls of a port answer what the machine says of a request.
-use Rattle.std.specs.Prelude.{◌≡◌, ◌+◌, ◌≤◌, ℕ, true, List, ◌++◌, Result, Ok, Err, Some, IfOk, slice_get}
+use Rattle.std.specs.Prelude.{◌≡◌, ◌+◌, ◌≤◌, ℕ, true, List, ◌++◌, Result, Ok, Err, Option, Some, None, IfOk, slice_get}
+use Rattle.std.specs.Int.{w32, to_le_bytes}
 use Rattle.return_codes.specs.declared.code.Code.{Code}
+use Rattle.return_codes.specs.declared.code.Code.TheVariants.{C710}
 use Rattle.return_codes.specs.Code.{number_of}
+use Rattle.ads_plant.specs.Description.{size_in}
+use Rattle.ads_plant.specs.Finding.{Found}
 use Rattle.ads_plant.specs.World.{PlantPort}
 use Rattle.type_layout.specs.Descriptions.{area_of}
 use Rattle.symbol_table.specs.Tables.{SymbolTable, TableSymbol}
@@ -10,11 +14,13 @@ use Rattle.index_groups.specs.declared.access.Reach.{Reach}
 use Rattle.index_groups.specs.declared.access.Reach.TheVariants as reach
 use Rattle.index_groups.specs.Access.{range_meant}
 use Rattle.ads_formats.specs.Codes.{no_error}
+use Rattle.ads_formats.specs.Ranges.{Range, Size}
 use Rattle.ads_machine.specs.World.{World}
 use Rattle.ads_machine.specs.Access.{values_at}
 use Rattle.ads_machine.specs.Client as client
 use Rattle.ads_machine.specs.NumberedPlaces.{NumberedPlace, is_same_place}
-use Rattle.ads_machine.specs.Acts.{Act, Outcome, outcome_of}
+use Rattle.ads_machine.specs.Acts.{Act, Outcome, fixed_data, outcome_of}
+use Rattle.ads_machine.specs.ByName.{place_of}
 use Rattle.ads_machine.specs.Reach.{addressed_by_range, addressed_in_place}
 use Rattle.ads_machine.specs.Reads.{read_act}
 
@@ -37,6 +43,11 @@ HasRoom (reach.Size area) room = ⊥
 abbrev pub ReadsRange : World → PlantPort → Reach → List ℕ → Type 0
 ReadsRange w p r bytes = IfOk (addressed_by_range p (Ok (range_meant r))) (λ places. bytes ≡ values_at w.memory places)
 
+-- a read of what a range names: bytes, a bit, or the size of an area
+abbrev pub range_read_act : PlantPort → Result Range ℕ → Act
+range_read_act p (Ok (Size area)) = fixed_data (to_le_bytes w32 (size_in p.sizes area))
+range_read_act p range = read_act (addressed_by_range p range)
+
 -- bytes of a symbol of the table
 pub record IsPlaceOf (table : SymbolTable) (place : Place) : Type 0 where
   pub symbol : TableSymbol
@@ -56,3 +67,10 @@ IsNamed w p place named = is_same_place w.plant.ports p.number named (numbered p
 -- a read of the first bytes of a place
 abbrev pub place_read_act : PlantPort → client.Place → ℕ → Act
 place_read_act p named len = read_act (addressed_in_place p.number named len)
+
+-- the place of what a name leads to; 0x710 where it leads to nothing
+abbrev pub FindsPlace : World → PlantPort → Option Found → Result Place Code → Type 0
+FindsPlace w p None (Ok place) = ⊥
+FindsPlace w p None (Err code) = code ≡ C710
+FindsPlace w p (Some led) (Ok place) = IsNamed w p place (place_of led)
+FindsPlace w p (Some led) (Err code) = ⊥

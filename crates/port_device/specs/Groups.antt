@@ -1,7 +1,9 @@
 -- The groups that the code tells apart, against the machine's.
 use Rattle.std.specs.Prelude.{Bool, true, false, Option, Some, None, if◌then◌else◌}
 use Rattle.type_layout.specs.Descriptions.{area_of}
-use Rattle.ads_formats.specs.Groups.{Group, AreaBytes, AreaBit, AreaSize, HandleByName, ValueByName, ValueByHandle, ReleaseHandle, InfoByName, SymbolVersion, ExtendedInfoByName, SymbolUpload, UploadInfo, TypeUpload, UploadInfoWithTypes, SumRead, SumWrite, SumReadWrite}
+use Rattle.ads_formats.specs.Groups.{Group, AreaBytes, AreaBit, AreaSize, HandleByName, ValueByName, ValueByHandle, ReleaseHandle}
+use Rattle.ads_formats.specs.Groups.{InfoByName, SymbolVersion, ExtendedInfoByName, SymbolUpload, UploadInfo}
+use Rattle.ads_formats.specs.Groups.{TypeUpload, UploadInfoWithTypes, SumRead, SumWrite, SumReadWrite}
 use Rattle.port_device.specs.declared.group.Group.TheVariants as value
 use Rattle.port_device.specs.declared.group.Group as declared
 
@@ -44,3 +46,17 @@ is_written_by_port group = false
 
 abbrev pub written_by_port : Option Group → Option Group
 written_by_port group = if is_written_by_port group then group else None
+
+-- the groups of ReadWrite that a port answers here: a value and an info by name
+abbrev pub is_value_by_name : Option Group → Bool
+is_value_by_name (Some ValueByName) = true
+is_value_by_name group = false
+
+abbrev pub is_info_by_name : Option Group → Bool
+is_info_by_name (Some InfoByName) = true
+is_info_by_name group = false
+
+abbrev pub asked_of_port : Option Group → Option Group
+asked_of_port (Some ValueByName) = Some ValueByName
+asked_of_port (Some InfoByName) = Some InfoByName
+asked_of_port group = None

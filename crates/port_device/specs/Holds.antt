@@ -1,5 +1,5 @@
 -- Which ports hold a world: the description and the version are the world's, and so are the bytes.
-use Rattle.std.specs.Prelude.{◌≡◌, ℕ, List, [], ◌∷◌}
+use Rattle.std.specs.Prelude.{◌≡◌, List, [], ◌∷◌}
 use Rattle.ads_plant.specs.Description.{Port}
 use Rattle.ads_plant.specs.World.{PlantPort, plant_port}
 use Rattle.ads_plant.specs.Sound.{IsSoundPlant, IsSoundPort}

@@ -33,6 +33,18 @@ pub(crate) fn start_of(sizes: &Sizes, area: Area) -> u32
     }
 }
 
+/// The size of an area.
+pub(crate) fn size_of(sizes: &Sizes, area: Area) -> u32
+    ensures { result ≡ size_in (sizes_of sizes.now) (area_of area) }
+{
+    match area {
+        Area::Inputs => sizes.inputs,
+        Area::Outputs => sizes.outputs,
+        Area::Memory => sizes.memory,
+        Area::Process => sizes.process,
+    }
+}
+
 /// The part of the image that some bytes of an area are.
 pub(crate) fn span_of(sizes: &Sizes, area: Area, at: u32, len: u32) -> Span
     requires few { image_size (sizes_of sizes.now) ≤ IMAGE_LIMIT }

@@ -2,7 +2,7 @@
 
 ghost use Rattle.std.specs.Prelude.{◌≡◌, option_map};
 ghost use Rattle.ads_formats.specs.Groups.{group_of};
-ghost use Rattle.port_device.specs.Groups.{group_meant, is_written_by_port};
+ghost use Rattle.port_device.specs.Groups.{group_meant, is_info_by_name, is_value_by_name, is_version_group, is_written_by_port};
 
 use type_layout::Area;
 
@@ -69,6 +69,36 @@ pub(crate) fn is_written(number: u32) -> bool
 {
     match group_named(number) {
         Some(Group::Bytes(_)) | Some(Group::Bit(_)) => true,
+        _ => false,
+    }
+}
+
+/// Whether the group of a number is that of the symbol version.
+pub(crate) fn is_version(number: u32) -> bool
+    ensures { result ≡ is_version_group (group_of number) }
+{
+    match group_named(number) {
+        Some(Group::SymbolVersion) => true,
+        _ => false,
+    }
+}
+
+/// Whether the group of a number gives a value by its name.
+pub(crate) fn is_value_by_name(number: u32) -> bool
+    ensures { result ≡ is_value_by_name (group_of number) }
+{
+    match group_named(number) {
+        Some(Group::ValueByName) => true,
+        _ => false,
+    }
+}
+
+/// Whether the group of a number gives an info by name.
+pub(crate) fn is_info_by_name(number: u32) -> bool
+    ensures { result ≡ is_info_by_name (group_of number) }
+{
+    match group_named(number) {
+        Some(Group::InfoByName) => true,
         _ => false,
     }
 }

@@ -2,8 +2,10 @@
 #![tactic(auto)]
 
 mod areas;
+mod asking;
 mod bits;
 mod group;
+mod naming;
 mod port;
 mod reading;
 mod writable;

@@ -1,25 +1,57 @@
 //! Reads of an area's bytes, a bit, a size, and of a symbol's bytes.
 
-ghost use Rattle.std.specs.Prelude.{◌≡◌, ℕ, ◌++◌, length, IfOk, OnOk, OnErr};
+ghost use Rattle.std.specs.Prelude.{◌≡◌, [], ◌∷◌, length, IfOk, OnErr};
 ghost use Rattle.ads_plant.specs.World.{PlantPort};
 ghost use Rattle.ads_formats.specs.Groups.{group_of};
 ghost use Rattle.ads_machine.specs.World.{World, setup_of};
 ghost use Rattle.ads_machine.specs.Client as client;
-ghost use Rattle.ads_machine.specs.Reads.{read_group};
-ghost use Rattle.index_groups.specs.Access.{IsWithin};
-ghost use Rattle.port_device.specs.Answers.{AnswersAct, HasRoom, ReadsRange, IsPlaceOf, IsNamed, place_read_act};
+ghost use Rattle.ads_machine.specs.Reads.{fixed_reply, read_group};
+ghost use Rattle.index_groups.specs.Access.{IsWithin, range_meant};
+ghost use Rattle.port_device.specs.Answers.{AnswersAct, HasRoom, ReadsRange, IsPlaceOf, IsNamed, place_read_act, range_read_act};
+ghost use Rattle.port_device.specs.Groups.{read_by_port};
 ghost use Rattle.port_device.specs.Holds.{HoldsPort};
 
-use crate::areas::{byte_of, bytes_of};
+use crate::areas::{byte_of, bytes_of, size_of};
 use crate::bits::bit_of;
+use crate::group::is_version;
 use crate::port::Port;
-use ads_base::{NoMemory, Octets};
-use index_groups::Reach;
+use ads_base::{NoMemory, Octets, put32};
+use index_groups::{Reach, reach};
 use return_codes::Code;
 use std::alloc::Global;
 use symbol_table::Place;
 
 impl Port {
+    /// Appends what Read gives of the bytes, a bit or the size of an area, or the symbol version.
+    ///
+    /// | refused by | where |
+    /// |---|---|
+    /// | 0x702 | the group names none of these |
+    /// | 0x703 | the range begins outside the area |
+    /// | 0x705 | it ends outside; or the size or the version has more bytes than were asked for |
+    ///
+    /// Beckhoff Information System, "ADS Read".
+    pub fn read(
+        &self,
+        alloc: Global,
+        group: u32,
+        offset: u32,
+        len: u32,
+        out: &mut Octets,
+    ) -> Result<Result<(), Code>, NoMemory>
+        ensures answer { IfOk result (λ answer. (w : World) (c : client.Client) (p : PlantPort) → HoldsPort w p self.now
+            → AnswersAct w (read_group (setup_of w) c p (read_by_port (group_of group)) offset len) answer out.old out.new) }
+        ensures no_memory { OnErr result (out.new ≡ out.old) }
+    {
+        if is_version(group) {
+            return self.read_version(alloc, len, out);
+        }
+        match reach(&self.sizes, group, offset, len) {
+            Ok(range) => self.read_reach(alloc, range, out),
+            Err(code) => Ok(Err(code)),
+        }
+    }
+
     /// Writes the bytes of a range, or the 0 or 1 of a bit, to `out`.
     pub fn peek(&self, r: Reach, out: &mut [u8])
         requires within { IsWithin self.now.table.sizes r }
@@ -59,5 +91,52 @@ impl Port {
             bytes_of(&self.image, &self.sizes, place.area, place.at, len),
         )?;
         Ok(Ok(()))
+    }
+
+    // The symbol version is one byte.
+    fn read_version(
+        &self,
+        alloc: Global,
+        len: u32,
+        out: &mut Octets,
+    ) -> Result<Result<(), Code>, NoMemory>
+        ensures answer { IfOk result (λ answer. (w : World) (p : PlantPort) → HoldsPort w p self.now
+            → AnswersAct w (fixed_reply len (w.version ∷ [])) answer out.old out.new) }
+        ensures no_memory { OnErr result (out.new ≡ out.old) }
+    {
+        if len == 0 {
+            return Ok(Err(Code::C705));
+        }
+        out.push(alloc, self.version)?;
+        Ok(Ok(()))
+    }
+
+    // What stands at a range, or the size of an area.
+    fn read_reach(
+        &self,
+        alloc: Global,
+        range: Reach,
+        out: &mut Octets,
+    ) -> Result<Result<(), Code>, NoMemory>
+        requires { IsWithin self.now.table.sizes range }
+        ensures answer { IfOk result (λ answer. (w : World) (p : PlantPort) → HoldsPort w p self.now
+            → AnswersAct w (range_read_act p (Ok (range_meant range))) answer out.old out.new) }
+        ensures no_memory { OnErr result (out.new ≡ out.old) }
+    {
+        match range {
+            Reach::Bytes { area, at, len } => {
+                out.put(alloc, bytes_of(&self.image, &self.sizes, area, at, len))?;
+                Ok(Ok(()))
+            }
+            Reach::Bit { area, at, bit } => {
+                let byte = byte_of(&self.image, &self.sizes, area, at);
+                out.push(alloc, bit_of(byte, bit))?;
+                Ok(Ok(()))
+            }
+            Reach::Size { area } => {
+                put32(alloc, out, size_of(&self.sizes, area))?;
+                Ok(Ok(()))
+            }
+        }
     }
 }

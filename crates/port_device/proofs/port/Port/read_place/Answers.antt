@@ -24,5 +24,5 @@ returns-clause-answer c = λ w p named h t.
     let m : PortMemory = memory_in c.self.inside in
     let P : PortMemory → Type 0 = λ x. IsPlaceOf x.table c.args.place in
     let within = place_within c.self.inside.sizes m c.args.place c.self.invariant (subst P (sym c.self.view_is) c.requires) in
-    place_read w p m c.args.place named _ c.args.len c.args.out.now c.put.new.self (subst (HoldsPort w p) (sym c.self.view_is) h) t c.self.invariant.sizes_are within
-    c.if-len-place.false (c.in_ok-put.ensures.ok ∙ ap (λ bs. c.args.out.now ++ bs) c.bytes_of.ensures)
+    place_read w p m c.args.place named _ c.args.len c.args.out.now c.put.new.self (subst (HoldsPort w p) (sym c.self.view_is) h) t
+    c.self.invariant.sizes_are within c.if-len-place.false (c.in_ok-put.ensures.ok ∙ ap (λ bs. c.args.out.now ++ bs) c.bytes_of.ensures)

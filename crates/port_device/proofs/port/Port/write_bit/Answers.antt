@@ -33,4 +33,5 @@ returns-clause-answer c = λ w k h net.
     let within = subst Q (sym c.self.view_is) c.requires.within in
     let P : List ℕ → Type 0 = λ n. MayWriteSymbolsAt n k.port (area_of c.args.area) c.args.«at» 1 in
     let may = subst P (sym net) ((c.may_write.ensures w k.port h).0 c.if-not-may_write.false) in
-    bit_written w k m _ (area_of c.args.area) c.args.«at» c.args.bit c.args.value c.put_bit.new.image held c.self.invariant.sizes_are within may c.put_bit.ensures
+    bit_written w k m _ (area_of c.args.area) c.args.«at» c.args.bit c.args.value c.put_bit.new.image held c.self.invariant.sizes_are
+    within may c.put_bit.ensures

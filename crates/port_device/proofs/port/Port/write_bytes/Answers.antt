@@ -1,4 +1,4 @@
-use Rattle.std.proofs.Common.{List, ◌+◌, ◌≤◌, ℕ, length, sym, ◌∙◌, subst, ◌≡◌, true, false}
+use Rattle.std.proofs.Common.{List, ◌+◌, ◌≤◌, ℕ, length, sym, ◌∙◌, subst}
 use Rattle.std.proofs.lemmas.Bool.{false≢true}
 use Rattle.ads_plant.specs.Description.{size_in}
 use Rattle.ads_machine.specs.WritableBytes.{MayWriteSymbolsAt}
@@ -23,4 +23,5 @@ returns-clause-answer c = λ w k h net.
     let within = subst Q (sym c.self.view_is) c.requires in
     let P : List ℕ → Type 0 = λ n. MayWriteSymbolsAt n k.port (area_of c.args.area) c.args.«at» (length c.args.bytes.now) in
     let may = subst P (sym net) ((c.may_write.ensures w k.port h).0 c.if-not-may_write.false) in
-    bytes_written w k m _ (area_of c.args.area) c.args.«at» c.args.bytes.now c.put_bytes.new.image held c.self.invariant.sizes_are within may c.put_bytes.ensures
+    bytes_written w k m _ (area_of c.args.area) c.args.«at» c.args.bytes.now c.put_bytes.new.image held c.self.invariant.sizes_are within
+    may c.put_bytes.ensures

@@ -1,0 +1,107 @@
+-- Which act a read of a group is, and what is answered to it.
+use Rattle.std.proofs.Common.{◌≡◌, ℕ, ◌+◌, ◌<◌, List, [], ◌∷◌, ◌++◌, true, false, refl, sym, ◌∙◌, ap, subst, arith}
+use Rattle.std.specs.Prelude.{Bool, Option, Some, Result, Ok, Err, IfOk, nat_lt, nat_le, ◌==◌, ◌||◌, ◌/◌, ◌%◌, if◌then◌else◌}
+use Rattle.ads_base.specs.declared.no_memory.NoMemory.{NoMemory}
+use Rattle.std.specs.Int.{w32, to_le_bytes}
+use Rattle.std.proofs.lemmas.Bool.{false≢true, ltb-true}
+use Rattle.return_codes.specs.declared.code.Code.{Code}
+use Rattle.return_codes.specs.declared.code.Code.TheVariants.{C705}
+use Rattle.return_codes.specs.Code.{number_of}
+use Rattle.ads_plant.specs.Description.{Area, Sizes, size_in}
+use Rattle.ads_plant.specs.World.{PlantPort}
+use Rattle.ads_formats.specs.Codes.{invalid_offset, invalid_size}
+use Rattle.ads_formats.specs.Groups.{Group, AreaBytes, AreaBit, AreaSize, SymbolVersion, group_of}
+use Rattle.ads_formats.specs.Ranges.{Range, Bytes, Bit, Size, greatest_len, byte_range, bit_range, size_range, range_in, range_of}
+use Rattle.ads_machine.specs.World.{World, Setup}
+use Rattle.ads_machine.specs.Client as client
+use Rattle.ads_machine.specs.Acts.{Act, Refusal, fixed_data}
+use Rattle.ads_machine.specs.Reach.{addressed_by_range, reach_of}
+use Rattle.ads_machine.specs.Reads.{fixed_reply, read_act, read_group}
+use Rattle.port_device.specs.PortMemory.{PortMemory}
+use Rattle.port_device.specs.Holds.{HoldsPort}
+use Rattle.port_device.specs.Answers.{AnswersAct, range_read_act}
+use Rattle.port_device.specs.Groups.{is_version_group, read_by_port}
+use Rattle.port_device.proofs.GroupLemmas.{is_false}
+use Rattle.port_device.proofs.PortLemmas.{same_sizes}
+
+-- a range that is refused, or is none of a size, is read as what it addresses
+
+abbrev IsAddressed : PlantPort → Result Range ℕ → Type 0
+IsAddressed p q = range_read_act p q ≡ read_act (addressed_by_range p q)
+
+behind_refusal : (p : PlantPort) (b : Bool) (x : ℕ) (q : Result Range ℕ) → IsAddressed p q → IsAddressed p (if b then Err x else q)
+behind_refusal p true x q h = refl
+behind_refusal p false x q h = h
+
+before_refusal : (p : PlantPort) (b : Bool) (x : ℕ) (area : Area) (offset bit : ℕ) → IsAddressed p (if b then Ok (Bit area offset bit) else Err x)
+before_refusal p true x area offset bit = refl
+before_refusal p false x area offset bit = refl
+
+bytes_addressed : (p : PlantPort) (area : Area) (size offset len : ℕ) → IsAddressed p (byte_range area size offset len)
+unfolding byte_range
+bytes_addressed p area size offset len =
+    behind_refusal p (nat_lt size offset) invalid_offset _
+    (behind_refusal p (nat_lt size (offset + len) || nat_lt greatest_len len) invalid_size (Ok (Bytes area offset len)) refl)
+
+bit_addressed : (p : PlantPort) (area : Area) (size offset len : ℕ) → IsAddressed p (bit_range area size offset len)
+unfolding bit_range
+bit_addressed p area size offset len =
+    behind_refusal p (nat_le size (offset / 8)) invalid_offset _ (before_refusal p (len == 1) invalid_size area (offset / 8) (offset % 8))
+
+sized : (p : PlantPort) (area : Area) (b : Bool)
+    → (if b then Refusal invalid_size else fixed_data (to_le_bytes w32 (size_in p.sizes area)))
+    ≡ range_read_act p (if b then Err invalid_size else Ok (Size area))
+sized p area true = refl
+sized p area false = refl
+
+size_read : (p : PlantPort) (area : Area) (len : ℕ) → fixed_reply len (to_le_bytes w32 (size_in p.sizes area)) ≡ range_read_act p (size_range area len)
+unfolding size_range
+size_read p area len = sized p area (nat_lt len 4)
+
+pub read_by_range : (d : Setup) (c : client.Client) (p : PlantPort) (g : Option Group) (offset len : ℕ) → is_version_group g ≡ false
+    → read_group d c p (read_by_port g) offset len ≡ range_read_act p (range_in g p.sizes offset len)
+unfolding read_group reach_of range_in
+read_by_range d c p (Some (AreaBytes area)) offset len h = sym (bytes_addressed p area (size_in p.sizes area) offset len)
+read_by_range d c p (Some (AreaBit area)) offset len h = sym (bit_addressed p area (size_in p.sizes area) offset len)
+read_by_range d c p (Some (AreaSize area)) offset len h = size_read p area len
+read_by_range d c p (Some SymbolVersion) offset len h = absurd (false≢true (sym h))
+read_by_range d c p g offset len h = refl
+
+pub read_of_version : (d : Setup) (c : client.Client) (p : PlantPort) (g : Option Group) (offset len : ℕ) → is_version_group g ≡ true
+    → read_group d c p (read_by_port g) offset len ≡ fixed_reply len (d.version ∷ [])
+unfolding read_group
+read_of_version d c p (Some SymbolVersion) offset len h = refl
+read_of_version d c p g offset len h = absurd (false≢true h)
+
+-- the act behind another name has the same answer
+pub answers_along : (w : World) (act other : Act) (answer : Result (Unit {0}) Code) (old new : List ℕ) → other ≡ act → AnswersAct w act answer old new
+    → AnswersAct w other answer old new
+answers_along w act other answer old new e h = let P : Act → Type 0 = λ a. AnswersAct w a answer old new in subst P (sym e) h
+
+-- a refusal answers nothing
+pub refusal_answers : (w : World) (act : Act) (code : Code) (out : List ℕ) → act ≡ Refusal (number_of code) → AnswersAct w act (Err code) out out
+refusal_answers w act code out e = answers_along w (Refusal (number_of code)) act (Err code) out out e (refl, refl)
+
+-- an answer that is passed on
+pub reads_as : (m : PortMemory) (r : Result (Result (Unit {0}) Code) NoMemory) (act : World → PlantPort → Act) (other : World → client.Client → PlantPort → Act)
+    (old new : List ℕ) → ((w : World) (c : client.Client) (p : PlantPort) → HoldsPort w p m → other w c p ≡ act w p)
+    → IfOk r (λ answer. (w : World) (p : PlantPort) → HoldsPort w p m → AnswersAct w (act w p) answer old new)
+    → IfOk r (λ answer. (w : World) (c : client.Client) (p : PlantPort) → HoldsPort w p m → AnswersAct w (other w c p) answer old new)
+reads_as m (Ok answer) act other old new e h = λ w c p held. answers_along w (act w p) (other w c p) answer old new (e w c p held) (h w p held)
+reads_as m (Err no_memory) act other old new e h = h
+
+pub range_at_port : (w : World) (p : PlantPort) (m : PortMemory) (sizes : Sizes) (group offset len : ℕ) (q : Result Range ℕ) → HoldsPort w p m
+    → m.table.sizes ≡ sizes → q ≡ range_of sizes group offset len → range_in (group_of group) p.sizes offset len ≡ q
+unfolding range_of
+range_at_port w p m sizes group offset len q h s rule = ap (λ x. range_in (group_of group) x offset len) (same_sizes w p m h ∙ s) ∙ sym rule
+
+pub version_refused : (w : World) (len : ℕ) (out : List ℕ) → len ≡ 0 → AnswersAct w (fixed_reply len (w.version ∷ [])) (Err C705) out out
+version_refused w len out e =
+    let P : ℕ → Type 0 = λ n. AnswersAct w (fixed_reply n (w.version ∷ [])) (Err C705) out out in subst P (sym e) (refl, refl)
+
+pub version_read : (w : World) (len : ℕ) (old new : List ℕ) → 0 < len → new ≡ old ++ w.version ∷ []
+    → AnswersAct w (fixed_reply len (w.version ∷ [])) (Ok tt) old new
+version_read w len old new h e =
+    let enough : nat_lt len 1 ≡ false = is_false (nat_lt len 1) (λ t. omega (arith, ltb-true len 1 t, h)) in
+    answers_along w (fixed_data (w.version ∷ [])) (fixed_reply len (w.version ∷ [])) (Ok tt) old new
+    (ap (λ b. if b then Refusal invalid_size else fixed_data (w.version ∷ [])) enough) (refl, e)
