@@ -9,22 +9,39 @@ use type_layout::Area;
 /// What an index group names.
 #[derive(Clone, Copy, Debug, PartialEq, Eq)]
 pub enum Group {
+    /// The bytes of an area; the offset is the first byte.
     Bytes(Area),
+    /// A bit of an area; the offset is its byte times 8 plus its number.
     Bit(Area),
+    /// The size of an area.
     Size(Area),
+    /// 0xF003: a handle of what a name leads to.
     HandleByName,
+    /// 0xF004: the value of what a name leads to.
     ValueByName,
+    /// 0xF005: a value; the offset is the handle.
     ValueByHandle,
+    /// 0xF006: the end of a handle.
     ReleaseHandle,
+    /// 0xF007: byte group, offset and length of what a name leads to.
     InfoByName,
+    /// 0xF008: the symbol version.
     SymbolVersion,
+    /// 0xF009: the symbol entry of what a name leads to.
     ExtendedInfoByName,
+    /// 0xF00B: the entries of all symbols.
     SymbolUpload,
+    /// 0xF00C: how many symbols there are, and the size of their upload.
     UploadInfo,
+    /// 0xF00E: the entries of all named types.
     TypeUpload,
+    /// 0xF00F: the same numbers of symbols and of types.
     UploadInfoWithTypes,
+    /// 0xF080: reads in one request.
     SumRead,
+    /// 0xF081: writes in one request.
     SumWrite,
+    /// 0xF082: reads and writes in one request.
     SumReadWrite,
 }
 
