@@ -2,7 +2,7 @@
 
 use crate::fault::Fault;
 use crate::folder::Sheet;
-use ads_base::{Octets, read_decimal};
+use ads_base::{NoMemory, Octets, read_decimal};
 use std::alloc::Global;
 
 /// The text before the first such byte outside of quotes, and the text behind that byte, where there is one.
@@ -54,10 +54,22 @@ fn put_piece(alloc: Global, sheets: &[Sheet], piece: &[u8], out: &mut Octets) ->
     };
     let mut bytes = Octets::new(alloc);
     put_unit(alloc, sheets, unit, &mut bytes)?;
-    for _ in 0..times {
-        out.put(alloc, bytes.as_slice())?;
-    }
+    put_often(alloc, bytes.as_slice(), times, out)?;
     Ok(())
+}
+
+// Appends bytes so often: for each binary digit of the number, from the highest on, what there is is doubled, and the
+// bytes are put once more where the digit is 1.
+fn put_often(alloc: Global, bytes: &[u8], times: u64, out: &mut Octets) -> Result<(), NoMemory> {
+    let mut all = Octets::new(alloc);
+    for digit in 0..64u32 {
+        let half = Octets::copy_of(alloc, all.as_slice())?;
+        all.put(alloc, half.as_slice())?;
+        if (times >> (63 - digit)) % 2 == 1 {
+            all.put(alloc, bytes)?;
+        }
+    }
+    out.put(alloc, all.as_slice())
 }
 
 fn put_unit(alloc: Global, sheets: &[Sheet], unit: &[u8], out: &mut Octets) -> Result<(), Fault> {

@@ -29,13 +29,13 @@ pub fn make(
 }
 
 /// The data that the next word writes, which is short enough for a payload.
-pub fn data_of(args: &mut Args<'_>) -> Octets
+pub fn data_of(alloc: Global, args: &mut Args<'_>) -> Octets
     ensures { length result ≤ 2000000 }
 {
-    let mut data = args.octets();
-    if data.len() > GREATEST_DATA {
-        args.refuse();
-        data.cut(GREATEST_DATA);
+    let data = args.octets();
+    if data.len() <= GREATEST_DATA {
+        return data;
     }
-    data
+    args.refuse();
+    Octets::new(alloc)
 }

@@ -26,12 +26,12 @@ pub fn reply_put(alloc: Global, args: &mut Args<'_>, answer: &mut Answer) -> Res
         b"info" => put_info(alloc, code, args, &mut out)?,
         b"read" => put_reply(
             alloc,
-            &Reply::Read(code, data_of(args).as_slice()),
+            &Reply::Read(code, data_of(alloc, args).as_slice()),
             &mut out,
         )?,
         b"read_write" => put_reply(
             alloc,
-            &Reply::ReadWrite(code, data_of(args).as_slice()),
+            &Reply::ReadWrite(code, data_of(alloc, args).as_slice()),
             &mut out,
         )?,
         b"write" => put_reply(alloc, &Reply::Write(code), &mut out)?,

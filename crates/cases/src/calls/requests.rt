@@ -53,7 +53,7 @@ fn put_read(alloc: Global, args: &mut Args<'_>, out: &mut Octets) -> Result<(), 
 fn put_write(alloc: Global, args: &mut Args<'_>, out: &mut Octets) -> Result<(), NoMemory> {
     let group = args.u32();
     let offset = args.u32();
-    let data = data_of(args);
+    let data = data_of(alloc, args);
     let request = Request::Write {
         group,
         offset,
@@ -65,7 +65,7 @@ fn put_write(alloc: Global, args: &mut Args<'_>, out: &mut Octets) -> Result<(),
 fn put_control(alloc: Global, args: &mut Args<'_>, out: &mut Octets) -> Result<(), NoMemory> {
     let ads = args.u16();
     let device = args.u16();
-    let data = data_of(args);
+    let data = data_of(alloc, args);
     let request = Request::Control {
         ads,
         device,
@@ -92,7 +92,7 @@ fn put_delete(alloc: Global, args: &mut Args<'_>, out: &mut Octets) -> Result<()
 }
 
 fn put_note(alloc: Global, args: &mut Args<'_>, out: &mut Octets) -> Result<(), NoMemory> {
-    let data = data_of(args);
+    let data = data_of(alloc, args);
     put_request(alloc, &Request::Note(data.as_slice()), out)
 }
 
@@ -100,7 +100,7 @@ fn put_read_write(alloc: Global, args: &mut Args<'_>, out: &mut Octets) -> Resul
     let group = args.u32();
     let offset = args.u32();
     let read_len = args.u32();
-    let data = data_of(args);
+    let data = data_of(alloc, args);
     let request = Request::ReadWrite {
         group,
         offset,
