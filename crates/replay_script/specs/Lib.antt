@@ -1,3 +1,3 @@
-pub mod Answered
+pub mod Script
 pub mod Lines
 pub mod Shown

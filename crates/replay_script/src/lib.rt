@@ -4,12 +4,15 @@
 mod bytes;
 mod counts;
 mod line;
+mod line_kind;
 mod lines;
 mod log_lines;
+mod number_list;
 mod numbers;
 mod progress;
 mod reader;
 mod script;
+mod script_line;
 mod summary_line;
 mod texts;
 
@@ -17,5 +20,6 @@ pub use counts::Counts;
 pub use log_lines::log_text;
 pub use reader::read_script;
 pub use script::Script;
+pub use script_line::ScriptLine;
 pub use summary_line::summary_text;
 pub use texts::put_counted;

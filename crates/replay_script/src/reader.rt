@@ -1,9 +1,8 @@
 //! The reading of a script.
 
 ghost use Rattle.std.specs.Prelude.{◌≡◌, ◌≤◌, IfOk, length};
-ghost use Rattle.ads_machine.specs.BuiltLines.{built_lines};
+ghost use Rattle.ads_machine.specs.BuiltLines.{all_lines};
 ghost use Rattle.ads_machine.specs.Script.{script_of};
-ghost use Rattle.replay_script.specs.Answered.{answered};
 
 use crate::Script;
 use crate::lines::first_line;
@@ -11,10 +10,11 @@ use crate::progress::Progress;
 use ads_base::NoMemory;
 use std::alloc::Global;
 
-/// The script of some bytes, or the number of its first line off the grammar, counted from 1.
+/// The script of some bytes, or the number of its first line off the grammar, counted from 1. A `reload` whose text
+/// has no full stop is off the grammar at its own line.
 pub fn read_script(alloc: Global, bytes: &[u8]) -> Result<Result<Script, u32>, NoMemory>
     requires { length bytes.now ≤ 16777216 }
-    ensures { IfOk result (λ answer. script_of built_lines bytes.now ≡ answered answer) }
+    ensures { IfOk result (λ answer. script_of all_lines bytes.now ≡ answer) }
 {
     let mut progress = Progress::new(alloc);
     let mut rest = bytes;
@@ -25,5 +25,5 @@ pub fn read_script(alloc: Global, bytes: &[u8]) -> Result<Result<Script, u32>, N
         }
         rest = others;
     }
-    Ok(Ok(progress.into_script()))
+    Ok(progress.into_script())
 }

@@ -1,57 +1,75 @@
 //! A script that was read.
 
-ghost use Rattle.std.specs.Prelude.{◌≡◌, [], ◌∷◌, ◌++◌, length, OnOk, OnErr};
+ghost use Rattle.std.specs.Prelude.{◌≡◌, [], ◌∷◌, ◌++◌, map, OnOk, OnErr};
+ghost use Rattle.replay_script.specs.Script.{line_meant, is_event, event_count};
 
+use crate::ScriptLine;
 use ads_base::{ListOf, NoMemory};
-use ads_outside::Event;
 use std::alloc::Global;
 use std::marker::Model;
 
-/// The events of a script, in order.
+/// What the lines of a script say, in order. Contracts see it as the lines of the machine's script.
 #[derive(Debug, Drop)]
 pub struct Script {
-    events: ListOf<Event>,
+    lines: ListOf<ScriptLine>,
 }
 
 impl Model for Script {
-    ghost use Rattle.std.specs.Prelude.{List};
-    ghost use Rattle.ads_outside.specs.declared.event.Event.{Event};
+    ghost use Rattle.std.specs.Prelude.{List, map};
+    ghost use Rattle.ads_machine.specs.ScriptLine.{ScriptLine};
+    ghost use Rattle.replay_script.specs.Script.{line_meant};
 
-    ghost Value = { List Event };
+    ghost Value = { List ScriptLine };
 
-    ghost view = { λ s. s.events };
+    ghost view = { λ s. map line_meant s.lines };
 }
 
 impl Script {
-    /// The number of events.
+    /// The number of events: a line that says how a connection takes lets it be writable, and one that fails an
+    /// offer is none.
     pub fn events(&self) -> u64
-        ensures { result ≡ length self.now }
+        ensures { result ≡ event_count self.now }
     {
-        self.events.len() as u64
+        let mut events: u64 = 0;
+        for line in self.lines.as_slice() {
+            if is_event(line) {
+                events += 1;
+            }
+        }
+        events
     }
 
-    /// The events.
-    pub fn as_slice(&self) -> &[Event]
-        ensures { result.now ≡ self.now }
+    /// What the lines say.
+    pub fn as_slice(&self) -> &[ScriptLine]
+        ensures { map line_meant result.now ≡ self.now }
     {
-        self.events.as_slice()
+        self.lines.as_slice()
     }
 
-    /// No events.
+    /// No lines.
     pub(crate) fn new(alloc: Global) -> Self
         ensures { result ≡ [] }
     {
         Script {
-            events: ListOf::new(alloc),
+            lines: ListOf::new(alloc),
         }
     }
 
-    /// Appends an event.
-    pub(crate) fn push(&mut self, alloc: Global, event: Event) -> Result<(), NoMemory>
-        ensures ok { OnOk result (self.new ≡ self.old ++ event ∷ []) }
+    /// Appends a line.
+    pub(crate) fn push(&mut self, alloc: Global, line: ScriptLine) -> Result<(), NoMemory>
+        ensures ok { OnOk result (self.new ≡ self.old ++ line_meant line ∷ []) }
         ensures no_memory { OnErr result (self.new ≡ self.old) }
     {
-        self.events.push(alloc, event)?;
+        self.lines.push(alloc, line)?;
         Ok(())
+    }
+}
+
+fn is_event(line: &ScriptLine) -> bool
+    ensures { result ≡ is_event (line_meant line.now) }
+{
+    match line {
+        ScriptLine::Happens(_) | ScriptLine::TakesAtMost(_, _) => true,
+        ScriptLine::FailsNext(_) => false,
     }
 }

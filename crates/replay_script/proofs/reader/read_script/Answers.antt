@@ -19,9 +19,9 @@ loop-rest-preserved c =
     let read = rw e at c.in_ok-take.ensures.read in
     let counted = rw e at c.in_ok-take.ensures.lines in
     Reads-read c.args.bytes.now c.loop-rest.rest.now c.first_line.result.0.now c.first_line.result.1.now c.loop-rest.progress c.take.new.self
-    c.loop-rest.invariant c.first_line.ensures.lines c.first_line.ensures.shorter read counted c.in_ok-take.ensures.outside
+    c.loop-rest.invariant c.first_line.ensures.lines c.first_line.ensures.shorter read counted
 
 pub returns : goal.returns
 returns c =
     let none = eqb-true _ _ (sym c.is_empty.ensures ∙ c.loop-rest-test.false) in
-    Reads-end c.args.bytes.now c.loop-rest.rest.now c.loop-rest.progress c.loop-rest.invariant none ∙ ap (λ said. Ok said) (sym c.into_script.ensures)
+    Reads-end c.args.bytes.now c.loop-rest.rest.now c.loop-rest.progress c.loop-rest.invariant none ∙ sym c.into_script.ensures

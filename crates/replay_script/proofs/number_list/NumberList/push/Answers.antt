@@ -1,0 +1,7 @@
+-- A number that is not there goes last.
+use Rattle.std.proofs.Common.{◌∙◌}
+use Rattle.replay_script.proofs.NumberLemmas.{pushed}
+use Rattle.replay_script.proofs.number_list.NumberList.push.Goals as goal
+
+pub returns : goal.returns
+returns c = c.in_ok-insert.ensures.keys ∙ rw c.self.view_is (pushed c.args.number c.args.self.now c.requires)

@@ -1,0 +1,8 @@
+-- A word behind `reload` is off the grammar.
+use Rattle.std.specs.Option.{option_copied}
+use Rattle.replay_script.specs.Lines.{words_behind}
+use Rattle.replay_script.proofs.GrammarLemmas.{after_reload}
+use Rattle.replay_script.proofs.progress.Progress.begin_text.Goals as goal
+
+pub returns-in-Some-clause-read : goal.returns-in-Some-clause-read
+returns-in-Some-clause-read c = rw c.in-Some.is (after_reload c.args.self.now c.in-Some.field-0.now)
