@@ -3,7 +3,7 @@ ghost use Rattle.std.specs.Prelude.{◌≡◌, ◌+◌, ◌<◌, ◌≤◌, ◌�
 ghost use Rattle.std.specs.List.{concat};
 ghost use Rattle.out_queue.specs.Queue.{QUEUE_LIMIT, queued, front_of, FitsFront, frames_after};
 
-use ads_base::NoMemory;
+use ads_base::{NoMemory, Octets};
 use bytes::{Buf, Bytes};
 use std::alloc::Global;
 use std::collections::VecDeque;
@@ -64,6 +64,24 @@ impl OutQueue {
         let copy = Bytes::copy_from_slice(alloc, frame)?;
         self.frames.push_back(copy)?;
         self.bytes += frame.len();
+        Ok(Pushed::Done)
+    }
+
+    /// The same for a frame that the caller gives away: none of its bytes is copied.
+    pub fn push_owned(&mut self, _alloc: Global, frame: Octets) -> Result<Pushed, NoMemory>
+        ensures over { IfOk result (λ pushed. (pushed ≡ Pushed.Over)
+            ↔ (QUEUE_LIMIT < queued self.old + length frame)) }
+        ensures done { result ≡ Ok Pushed.Done → self.new ≡ self.old ++ frame ∷ [] }
+        ensures unchanged { result ≡ Ok Pushed.Over → self.new ≡ self.old }
+        ensures no_memory { OnErr result (self.new ≡ self.old) }
+    {
+        let len = frame.len();
+        if len > MAX_QUEUED - self.bytes {
+            return Ok(Pushed::Over);
+        }
+        let bytes = Bytes::from_vec(frame.into_vec())?;
+        self.frames.push_back(bytes)?;
+        self.bytes += len;
         Ok(Pushed::Done)
     }
 
