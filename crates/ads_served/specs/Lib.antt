@@ -1,0 +1,3 @@
+pub mod Standing
+pub mod Due
+pub mod Opened

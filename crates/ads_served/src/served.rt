@@ -1,0 +1,98 @@
+//! A machine that is served.
+
+ghost use Rattle.std.specs.Prelude.{◌≡◌, ◌≤◌, ◌<◌, ℕ, List, length, Option, Some, None, OnOk, OnErr, IfOk, IfSome, IsErr, slice_get};
+ghost use Rattle.std.specs.Prelude.{option_copied};
+ghost use Rattle.ads_outside.specs.declared.event.Event.{Event as EventOf};
+ghost use Rattle.ads_outside.specs.declared.event.Event.TheVariants as event;
+ghost use Rattle.ads_outside.specs.declared.moves.Move.TheVariants as move;
+ghost use Rattle.ads_outside.specs.declared.reload_note.ReloadNote.{ReloadNote};
+ghost use Rattle.ads_machine.specs.Connection.{MAX_QUEUED};
+ghost use Rattle.ads_machine.specs.MachineState.{MachineState, present_numbers};
+ghost use Rattle.ads_machine.specs.Moves.{EventStep};
+ghost use Rattle.ads_machine.specs.Running.{OpensNew, offer_at, is_to_be_shut_at};
+ghost use Rattle.ads_served.specs.Standing.{Standing, standing_after};
+ghost use Rattle.ads_served.specs.Due.{LeavesOutIdle, FitsOffer};
+ghost use Rattle.ads_served.specs.Opened.{AreApart, OpensAlone};
+
+use ads_base::{ListOf, NoMemory};
+use ads_outside::Event;
+use std::alloc::Global;
+use std::thread::Threads;
+
+/// A machine over connections: events go in, frames for each connection come out.
+pub trait Served {
+    /// Its world, and what it keeps for a client.
+    ghost World: { Type 0 };
+
+    ghost Client: { Type 0 };
+
+    /// How an event changes its state.
+    ghost steps: { EventStep World Client };
+
+    /// What it notes of an event: one note of a reload.
+    ghost noted: { MachineState World Client → EventOf → List ReloadNote };
+
+    /// What it stands for.
+    ghost serves: { Self → Standing World Client → Type 0 };
+
+    /// What it offers to a connection.
+    ghost offer_in: { Self → ℕ → Option (List ℕ) };
+
+    /// How many offers to a connection are left at most.
+    ghost offers_left: { Self → ℕ → ℕ };
+
+    /// Memory was wanting.
+    ghost has_failed: { Self → Type 0 };
+
+    /// Takes one event. After want of memory it answers want of memory from then on.
+    fn step<T: Threads + Sync>(
+        &mut self,
+        rt: &T,
+        alloc: Global,
+        event: &Event,
+    ) -> Result<(), NoMemory>
+        ensures follows { OnOk result ((x : Standing World Client) → serves self.old x → OpensNew x.running event.now
+            → serves self.new (standing_after steps noted x (move.Event event.now))) }
+        ensures no_memory { OnErr result (has_failed self.new) }
+        ensures from_then_on { has_failed self.old → IsErr result };
+
+    /// The n-th connection that is there, in the order of opening; None past the last.
+    fn connection(&self, n: usize) -> Option<u32>
+        ensures { (x : Standing World Client) → serves self.now x → result ≡ slice_get (present_numbers x.running.state) n };
+
+    /// The connections that have something to be offered or are to be shut, in the order of opening. Others may
+    /// stand among them, and none is left out that is to be served.
+    fn due(&self, alloc: Global) -> Result<ListOf<u32>, NoMemory>
+        ensures { IfOk result (λ numbers. (x : Standing World Client) → serves self.now x → LeavesOutIdle x.running numbers) };
+
+    /// What is left of the first frame that waits for a connection; None where it is not there, nothing waits, or it
+    /// is blocked: its last offer was not taken whole, and it was not writable since.
+    fn offer_of(&self, conn: u32) -> Option<&[u8]>
+        ensures offer { option_copied result ≡ offer_in self.now conn }
+        ensures machine { (x : Standing World Client) → serves self.now x → option_copied result ≡ offer_at conn x.running }
+        ensures bound { IfSome result (λ left. length left.now ≤ MAX_QUEUED) };
+
+    /// The first n bytes of what was offered to a connection were taken.
+    fn took(&mut self, conn: u32, n: u32)
+        requires { FitsOffer n (offer_in self.old conn) }
+        ensures follows { (x : Standing World Client) (left bytes : List ℕ) → serves self.old x → offer_in self.old conn ≡ Some left
+            → length bytes ≡ n → serves self.new (standing_after steps noted x (move.Took conn (length left) bytes)) }
+        ensures fewer { offers_left self.new conn < offers_left self.old conn }
+        ensures from_then_on { has_failed self.old → has_failed self.new };
+
+    /// Whether a connection that is there is to be shut.
+    fn closing(&self, conn: u32) -> bool
+        ensures { (x : Standing World Client) → serves self.now x → result ≡ is_to_be_shut_at conn x.running };
+
+    /// Removes a connection that was lost or shut; nothing changes where it is not there.
+    fn remove(&mut self, conn: u32)
+        ensures shut { (x : Standing World Client) → serves self.old x → serves self.new (standing_after steps noted x (move.Shut conn)) }
+        ensures lost { (x : Standing World Client) → serves self.old x → serves self.new (standing_after steps noted x (move.Lost conn)) }
+        ensures from_then_on { has_failed self.old → has_failed self.new };
+
+    /// No two connections of what it stands for have one number.
+    ghost apart: { (m : Self) (x : Standing World Client) → serves m x → AreApart x.running.state.connections };
+
+    /// An event brings no connection but the one that it opens.
+    ghost opens_alone: { OpensAlone steps };
+}
