@@ -1,0 +1,8 @@
+//! The session of one client: what it sends is cut into frames, and each is answered from the ports.
+#![tactic(auto)]
+
+mod session;
+mod taken;
+
+pub use session::Session;
+pub use taken::Taken;
