@@ -2,3 +2,4 @@ pub mod HeadLemmas
 pub mod PartLemmas
 pub mod ReplyLemmas
 pub mod StopLemmas
+pub mod RunningLemmas

@@ -85,12 +85,13 @@ unfolding left_in_turn
 left_in_turn-cons leaves s r rs = refl
 
 -- a part is run, and then those behind it
-pub runs-suc : {S : Type 0} (given : S → Request → Outcome) (leaves : S → Request → S) (form : Form) (k : ℕ)
-    (heads written : List ℕ) (s s1 s2 : S) (f f1 f2 out out1 out2 : List ℕ)
-    → Runs given leaves (part_of form heads written) s s1 f f1 out out1
-    → RunsAll given leaves form k (drop (head_width form) heads) (drop (written_len form heads) written) s1 s2 f1 f2 out1 out2
-    → RunsAll given leaves form (suc k) heads written s s2 f f2 out out2
-runs-suc given leaves form k heads written s s1 s2 f f1 f2 out out1 out2 one more =
+pub runs-suc : {V S : Type 0} (stands_for : V → S → Type 0) (given : S → Request → Outcome) (leaves : S → Request → S)
+    (form : Form) (k : ℕ) (heads written : List ℕ) (s : S) (v1 v2 : V) (f f1 f2 out out1 out2 : List ℕ)
+    → Runs stands_for given leaves (part_of form heads written) s v1 f f1 out out1
+    → RunsAll stands_for given leaves form k (drop (head_width form) heads) (drop (written_len form heads) written)
+    (leaves s (part_of form heads written)) v2 f1 f2 out1 out2
+    → RunsAll stands_for given leaves form (suc k) heads written s v2 f f2 out out2
+runs-suc stands_for given leaves form k heads written s v1 v2 f f1 f2 out out1 out2 one more =
     let r = part_of form heads written in
     let rs = parts_of form k (drop (head_width form) heads) (drop (written_len form heads) written) in
     let o = given s r in
@@ -103,55 +104,46 @@ runs-suc given leaves form k heads written s s1 s2 f f1 f2 out out1 out2 one mor
     let fronts = fronts_in-cons form heads written o os in
     let bytes = data_in-cons form k heads written o os in
     record {
-      state = cc (left, one.state, more.state);
-      front = cc (gave, fronts, one.state, one.front, more.front, append_assoc f (front_of r o) (fronts_in form os));
-      bytes = cc (gave, bytes, one.state, one.bytes, more.bytes, append_assoc out (data_of r o) (data_in form k (drop (head_width form) heads) os));
+      state = subst (stands_for v2) (sym left) more.state;
+      front = cc (gave, fronts, one.front, more.front, append_assoc f (front_of r o) (fronts_in form os));
+      bytes = cc (gave, bytes, one.bytes, more.bytes, append_assoc out (data_of r o) (data_in form k (drop (head_width form) heads) os));
       asked = omega (arith, one.asked, more.asked, all_asked-step form (suc k) k heads written refl);
       room = omega (arith, more.room, ap length one.front, length-append f (front_of r o), front-len form heads written o, mul-suc (front_width form) k);
     }
 
-pub runs-step : {S : Type 0} (given : S → Request → Outcome) (leaves : S → Request → S) (form : Form) (m k : ℕ)
-    (heads written : List ℕ) (s s1 s2 : S) (f f1 f2 out out1 out2 : List ℕ) → m ≡ suc k
-    → Runs given leaves (part_of form heads written) s s1 f f1 out out1
-    → RunsAll given leaves form k (drop (head_width form) heads) (drop (written_len form heads) written) s1 s2 f1 f2 out1 out2
-    → RunsAll given leaves form m heads written s s2 f f2 out out2
-runs-step given leaves form m k heads written s s1 s2 f f1 f2 out out1 out2 e one more =
-    subst (λ x. RunsAll given leaves form x heads written s s2 f f2 out out2) (sym e)
-    (runs-suc given leaves form k heads written s s1 s2 f f1 f2 out out1 out2 one more)
-
 -- no part is run
-runs-zero : {S : Type 0} (given : S → Request → Outcome) (leaves : S → Request → S) (form : Form)
-    (heads written : List ℕ) (s : S) (f out : List ℕ)
-    → RunsAll given leaves form zero heads written s s f f out out
+runs-zero : {V S : Type 0} (stands_for : V → S → Type 0) (given : S → Request → Outcome) (leaves : S → Request → S)
+    (form : Form) (heads written : List ℕ) (s : S) (v : V) (f out : List ℕ) → stands_for v s
+    → RunsAll stands_for given leaves form zero heads written s v f f out out
 unfolding given_in_turn left_in_turn
-runs-zero given leaves form.Reads heads written s f out = record {
-  state = refl;
+runs-zero stands_for given leaves form.Reads heads written s v f out stands = record {
+  state = stands;
   front = sym (append-nil f);
   bytes = sym (append-nil out);
   asked = omega arith;
   room = omega arith;
 }
-runs-zero given leaves form.Writes heads written s f out = record {
-  state = refl;
+runs-zero stands_for given leaves form.Writes heads written s v f out stands = record {
+  state = stands;
   front = sym (append-nil f);
   bytes = sym (append-nil out);
   asked = omega arith;
   room = omega arith;
 }
-runs-zero given leaves form.ReadWrites heads written s f out = record {
-  state = refl;
+runs-zero stands_for given leaves form.ReadWrites heads written s v f out stands = record {
+  state = stands;
   front = sym (append-nil f);
   bytes = sym (append-nil out);
   asked = omega arith;
   room = omega arith;
 }
 
-pub runs-none : {S : Type 0} (given : S → Request → Outcome) (leaves : S → Request → S) (form : Form) (m : ℕ)
-    (heads written : List ℕ) (s : S) (f out : List ℕ) → m ≡ 0
-    → RunsAll given leaves form m heads written s s f f out out
-runs-none given leaves form m heads written s f out e =
-    subst (λ x. RunsAll given leaves form x heads written s s f f out out) (sym e)
-    (runs-zero given leaves form heads written s f out)
+pub runs-none : {V S : Type 0} (stands_for : V → S → Type 0) (given : S → Request → Outcome) (leaves : S → Request → S)
+    (form : Form) (m : ℕ) (heads written : List ℕ) (s : S) (v : V) (f out : List ℕ) → m ≡ 0 → stands_for v s
+    → RunsAll stands_for given leaves form m heads written s v f f out out
+runs-none stands_for given leaves form m heads written s v f out e stands =
+    subst (λ x. RunsAll stands_for given leaves form x heads written s v f f out out) (sym e)
+    (runs-zero stands_for given leaves form heads written s v f out stands)
 
 -- where the parts that are left are said by equations
 pub record IsBehind (form : Form) (heads written : List ℕ) (form' : Form) (heads' written' : List ℕ) : Type 0 where
@@ -165,17 +157,21 @@ pub parts-next : (form form' : Form) (m k : ℕ) (heads written heads' written' 
 parts-next form form' m k heads written heads' written' e b has =
     rw (b.form_same, b.heads_left, b.written_left) (parts-step form m k heads written e has).behind
 
-pub runs-next : {S : Type 0} (given : S → Request → Outcome) (leaves : S → Request → S) (form form' : Form) (m k : ℕ)
-    (heads written heads' written' : List ℕ) (r : Request) (s s1 s2 : S) (f f1 f2 out out1 out2 : List ℕ) → m ≡ suc k
+pub runs-next : {V S : Type 0} (stands_for : V → S → Type 0) (given : S → Request → Outcome) (leaves : S → Request → S)
+    (form form' : Form) (m k : ℕ) (heads written heads' written' : List ℕ) (r : Request) (s : S) (v1 v2 : V)
+    (f f1 f2 out out1 out2 : List ℕ) → m ≡ suc k
     → IsBehind form heads written form' heads' written' → r ≡ part_of form heads written
-    → Runs given leaves r s s1 f f1 out out1
-    → RunsAll given leaves form' k heads' written' s1 s2 f1 f2 out1 out2
-    → RunsAll given leaves form m heads written s s2 f f2 out out2
-runs-next given leaves form form' m k heads written heads' written' r s s1 s2 f f1 f2 out out1 out2 e b first one more =
-    let here : Runs given leaves (part_of form heads written) s s1 f f1 out out1 =
-    subst (λ x. Runs given leaves x s s1 f f1 out out1) first one in
-    let behind : RunsAll given leaves form k (drop (head_width form) heads) (drop (written_len form heads) written) s1 s2 f1 f2 out1 out2 =
-    subst (λ x. RunsAll given leaves x k (drop (head_width form) heads) (drop (written_len form heads) written) s1 s2 f1 f2 out1 out2) b.form_same
-    (subst (λ x. RunsAll given leaves form' k x (drop (written_len form heads) written) s1 s2 f1 f2 out1 out2) b.heads_left
-    (subst (λ x. RunsAll given leaves form' k heads' x s1 s2 f1 f2 out1 out2) b.written_left more)) in
-    runs-step given leaves form m k heads written s s1 s2 f f1 f2 out out1 out2 e here behind
+    → Runs stands_for given leaves r s v1 f f1 out out1
+    → RunsAll stands_for given leaves form' k heads' written' (leaves s r) v2 f1 f2 out1 out2
+    → RunsAll stands_for given leaves form m heads written s v2 f f2 out out2
+runs-next stands_for given leaves form form' m k heads written heads' written' r s v1 v2 f f1 f2 out out1 out2 e b first one more =
+    let here : Runs stands_for given leaves (part_of form heads written) s v1 f f1 out out1 =
+    subst (λ x. Runs stands_for given leaves x s v1 f f1 out out1) first one in
+    let more' : RunsAll stands_for given leaves form' k heads' written' (leaves s (part_of form heads written)) v2 f1 f2 out1 out2 =
+    subst (λ x. RunsAll stands_for given leaves form' k heads' written' (leaves s x) v2 f1 f2 out1 out2) first more in
+    let behind : RunsAll stands_for given leaves form k (drop (head_width form) heads) (drop (written_len form heads) written) (leaves s (part_of form heads written)) v2 f1 f2 out1 out2 =
+    subst (λ x. RunsAll stands_for given leaves x k (drop (head_width form) heads) (drop (written_len form heads) written) (leaves s (part_of form heads written)) v2 f1 f2 out1 out2) b.form_same
+    (subst (λ x. RunsAll stands_for given leaves form' k x (drop (written_len form heads) written) (leaves s (part_of form heads written)) v2 f1 f2 out1 out2) b.heads_left
+    (subst (λ x. RunsAll stands_for given leaves form' k heads' x (leaves s (part_of form heads written)) v2 f1 f2 out1 out2) b.written_left more')) in
+    subst (λ x. RunsAll stands_for given leaves form x heads written s v2 f f2 out out2) (sym e)
+    (runs-suc stands_for given leaves form k heads written s v1 v2 f f1 f2 out out1 out2 here behind)

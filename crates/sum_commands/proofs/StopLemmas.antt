@@ -19,23 +19,22 @@ parts_of-next form form' m k heads written heads' written' r e b first =
     let parts = parts_of-suc form k heads written in
     cc (parts, b.form_same, b.heads_left, b.written_left)
 
-module _ {S : Type 0} (leaves : S → Request → S) (may_leave : S → Request → S → Type 0) where
+module _ {V S : Type 0} (stands_for : V → S → Type 0) (leaves : S → Request → S) (may_leave : S → Request → V → Type 0) where
   -- a part that may have stopped is the first of those among which it stops
-  stops-first : (r : Request) (rs : List Request) (s s' : S) → MayStop leaves may_leave r s s'
-      → StopsAmong leaves may_leave (r ∷ rs) s s'
-  stops-first r rs s s' (inl done) = Done (subst (λ x. StopsAmong leaves may_leave rs x s') done Stops)
-  stops-first r rs s s' (inr wants) = Wants wants
+  stops-first : (r : Request) (rs : List Request) (s : S) (v : V) → MayStop stands_for leaves may_leave r s v
+      → StopsAmong stands_for leaves may_leave (r ∷ rs) s v
+  stops-first r rs s v (inl done) = Done (Stops done)
+  stops-first r rs s v (inr wants) = Wants wants
 
-  pub stops-here : (rs : List Request) (r : Request) (behind : List Request) (s s' : S) → rs ≡ r ∷ behind
-      → MayStop leaves may_leave r s s' → StopsAmong leaves may_leave rs s s'
-  stops-here rs r behind s s' e may =
-      subst (λ x. StopsAmong leaves may_leave x s s') (sym e) (stops-first r behind s s' may)
+  pub stops-here : (rs : List Request) (r : Request) (behind : List Request) (s : S) (v : V) → rs ≡ r ∷ behind
+      → MayStop stands_for leaves may_leave r s v → StopsAmong stands_for leaves may_leave rs s v
+  stops-here rs r behind s v e may =
+      subst (λ x. StopsAmong stands_for leaves may_leave x s v) (sym e) (stops-first r behind s v may)
 
-  pub stops-later : (rs : List Request) (r : Request) (behind : List Request) (s s1 s' : S) → rs ≡ r ∷ behind
-      → s1 ≡ leaves s r → StopsAmong leaves may_leave behind s1 s' → StopsAmong leaves may_leave rs s s'
-  stops-later rs r behind s s1 s' e done later =
-      subst (λ x. StopsAmong leaves may_leave x s s') (sym e)
-      (Done (subst (λ x. StopsAmong leaves may_leave behind x s') done later))
+  pub stops-later : (rs : List Request) (r : Request) (behind : List Request) (s : S) (v : V) → rs ≡ r ∷ behind
+      → StopsAmong stands_for leaves may_leave behind (leaves s r) v → StopsAmong stands_for leaves may_leave rs s v
+  stops-later rs r behind s v e later =
+      subst (λ x. StopsAmong stands_for leaves may_leave x s v) (sym e) (Done later)
 
 pub parts-sum_in : (form : Form) (n : ℕ) (bytes : List ℕ)
     → (sum_in form n bytes).parts ≡ parts_of form n bytes (drop (head_width form * n) bytes)

@@ -85,9 +85,9 @@ pub record IsAccepted (s : SumRequest) (n len read_len : ℕ) : Type 0 where
   pub short : s.reply_len ≤ greatest_len
 
 -- n parts are run: the state that they leave, and what was appended to the fronts and to the data
-pub record RunsAll {S : Type 0} (given : S → Request → Outcome) (leaves : S → Request → S) (form : Form) (n : ℕ)
-    (heads written : List ℕ) (before after : S) (fronts fronts' : List ℕ) (out out' : List ℕ) : Type 0 where
-  pub state : after ≡ left_in_turn leaves before (parts_of form n heads written)
+pub record RunsAll {V S : Type 0} (stands_for : V → S → Type 0) (given : S → Request → Outcome) (leaves : S → Request → S)
+    (form : Form) (n : ℕ) (heads written : List ℕ) (before : S) (after : V) (fronts fronts' : List ℕ) (out out' : List ℕ) : Type 0 where
+  pub state : stands_for after (left_in_turn leaves before (parts_of form n heads written))
   pub front : fronts'
       ≡ fronts ++ fronts_in form (given_in_turn given leaves before (parts_of form n heads written))
   pub bytes : out'
@@ -96,9 +96,9 @@ pub record RunsAll {S : Type 0} (given : S → Request → Outcome) (leaves : S 
   pub room : length fronts' ≡ length fronts + front_width form * n
 
 -- n parts are run, and their reply was appended
-pub record Replies {S : Type 0} (given : S → Request → Outcome) (leaves : S → Request → S) (form : Form) (n : ℕ)
-    (heads written : List ℕ) (before after : S) (out out' : List ℕ) : Type 0 where
-  pub state : after ≡ left_in_turn leaves before (parts_of form n heads written)
+pub record Replies {V S : Type 0} (stands_for : V → S → Type 0) (given : S → Request → Outcome) (leaves : S → Request → S)
+    (form : Form) (n : ℕ) (heads written : List ℕ) (before : S) (after : V) (out out' : List ℕ) : Type 0 where
+  pub state : stands_for after (left_in_turn leaves before (parts_of form n heads written))
   pub bytes : out'
       ≡ out ++ (fronts_in form (given_in_turn given leaves before (parts_of form n heads written))
       ++ data_in form n heads (given_in_turn given leaves before (parts_of form n heads written)))

@@ -3,3 +3,4 @@ pub mod Stops
 pub mod Forms
 pub mod SumCommand
 pub mod PartValues
+pub mod Served

@@ -36,10 +36,10 @@ asked_of (Read group offset len) = len
 asked_of (ReadWrite group offset read_len bytes) = read_len
 asked_of _ = 0
 
--- a part is run: the state that it leaves, and what was appended to the fronts and to the data
-pub record Runs {S : Type 0} (given : S → Request → Outcome) (leaves : S → Request → S) (r : Request)
-    (before after : S) (fronts fronts' : List ℕ) (out out' : List ℕ) : Type 0 where
-  pub state : after ≡ leaves before r
+-- a part is run in a state: the service then stands for the one that it leaves; and what was appended to the fronts and to the data
+pub record Runs {V S : Type 0} (stands_for : V → S → Type 0) (given : S → Request → Outcome) (leaves : S → Request → S)
+    (r : Request) (before : S) (after : V) (fronts fronts' : List ℕ) (out out' : List ℕ) : Type 0 where
+  pub state : stands_for after (leaves before r)
   pub front : fronts' ≡ fronts ++ front_of r (given before r)
   pub bytes : out' ≡ out ++ data_of r (given before r)
   pub asked : length out' ≤ length out + asked_of r

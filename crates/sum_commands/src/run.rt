@@ -6,6 +6,7 @@ ghost use Rattle.ads_formats.specs.Groups.{sum_read, sum_read_write};
 ghost use Rattle.ads_formats.specs.Ranges.{greatest_len};
 ghost use Rattle.ads_machine.specs.Sums.{MAX_PARTS};
 ghost use Rattle.sum_commands.specs.Forms.{HasParts, RunsAll, Replies, parts_of};
+ghost use Rattle.sum_commands.specs.Served.{StandsForSome};
 ghost use Rattle.sum_commands.specs.Stops.{StopsAmong};
 ghost use Rattle.sum_commands.specs.SumCommand.{sum_of, refusal_in, refused_by, sum_reply, left_by_sum};
 
@@ -42,7 +43,7 @@ pub fn run_sum<P: PartService>(
 ) -> Result<Result<(), Code>, NoMemory>
     requires from { sum_read ≤ group }
     requires to { group ≤ sum_read_write }
-    requires can_run { P.can_run (P.state service.old) }
+    requires some { StandsForSome P.stands_for service.old }
 
     // Refused exactly by the code of the definition, with no part run.
     ensures code { IfOk result (λ answer. refused_by answer
@@ -50,17 +51,16 @@ pub fn run_sum<P: PartService>(
     ensures err { IfOk result (λ answer. OnErr answer ((service.new ≡ service.old) × (out.new ≡ out.old))) }
 
     // Else the parts run one after another.
-    ensures reply { IfOk result (λ answer. OnOk answer (out.new
-        ≡ out.old ++ sum_reply P.given P.left (P.state service.old) (sum_of group n bytes.now))) }
-    ensures leaves { IfOk result (λ answer. OnOk answer (P.state service.new
-        ≡ left_by_sum P.left (P.state service.old) (sum_of group n bytes.now))) }
-    ensures can_run { IfOk result (λ answer. P.can_run (P.state service.new)) }
+    ensures reply { IfOk result (λ answer. OnOk answer ((s : P.State) → P.stands_for service.old s
+        → out.new ≡ out.old ++ sum_reply P.given P.left s (sum_of group n bytes.now))) }
+    ensures leaves { IfOk result (λ answer. OnOk answer ((s : P.State) → P.stands_for service.old s
+        → P.stands_for service.new (left_by_sum P.left s (sum_of group n bytes.now)))) }
     ensures asked { IfOk result (λ answer. length out.new ≤ length out.old + read_len) }
     ensures short { IfOk result (λ answer. length out.new ≤ length out.old + greatest_len) }
 
     // Where memory is wanting the parts that ran stay done.
-    ensures wants { OnErr result (StopsAmong P.left P.may_leave
-        (sum_of group n bytes.now).parts (P.state service.old) (P.state service.new)) }
+    ensures wants { OnErr result ((s : P.State) → P.stands_for service.old s
+        → StopsAmong P.stands_for P.left P.may_leave (sum_of group n bytes.now).parts s service.new) }
     ensures no_memory { OnErr result (out.new ≡ out.old) }
 {
     let form = Form::of(group);
@@ -92,12 +92,12 @@ fn put_reply<P: PartService>(
 ) -> Result<(), NoMemory>
     requires few { n ≤ MAX_PARTS }
     requires parts { HasParts rest.form n rest.heads.now rest.written.now }
-    requires can_run { P.can_run (P.state service.old) }
-    ensures ok { OnOk result (Replies P.given P.left rest.entry.form n rest.entry.heads.now rest.entry.written.now
-        (P.state service.old) (P.state service.new) out.old out.new) }
-    ensures can_run { OnOk result (P.can_run (P.state service.new)) }
-    ensures wants { OnErr result (StopsAmong P.left P.may_leave
-        (parts_of rest.entry.form n rest.entry.heads.now rest.entry.written.now) (P.state service.old) (P.state service.new)) }
+    requires some { StandsForSome P.stands_for service.old }
+    ensures ok { OnOk result ((s : P.State) → P.stands_for service.old s
+        → Replies P.stands_for P.given P.left rest.entry.form n rest.entry.heads.now rest.entry.written.now
+        s service.new out.old out.new) }
+    ensures wants { OnErr result ((s : P.State) → P.stands_for service.old s → StopsAmong P.stands_for P.left P.may_leave
+        (parts_of rest.entry.form n rest.entry.heads.now rest.entry.written.now) s service.new) }
     ensures no_memory { OnErr result (Extends out.old out.new) }
 {
     let start = out.len();
@@ -118,12 +118,12 @@ fn run_parts<P: PartService>(
     out: &mut Octets,
 ) -> Result<(), NoMemory>
     requires parts { HasParts rest.form n rest.heads.now rest.written.now }
-    requires can_run { P.can_run (P.state service.old) }
-    ensures ok { OnOk result (RunsAll P.given P.left rest.entry.form n rest.entry.heads.now rest.entry.written.now
-        (P.state service.old) (P.state service.new) fronts.old fronts.new out.old out.new) }
-    ensures can_run { OnOk result (P.can_run (P.state service.new)) }
-    ensures wants { OnErr result (StopsAmong P.left P.may_leave
-        (parts_of rest.entry.form n rest.entry.heads.now rest.entry.written.now) (P.state service.old) (P.state service.new)) }
+    requires some { StandsForSome P.stands_for service.old }
+    ensures ok { OnOk result ((s : P.State) → P.stands_for service.old s
+        → RunsAll P.stands_for P.given P.left rest.entry.form n rest.entry.heads.now rest.entry.written.now
+        s service.new fronts.old fronts.new out.old out.new) }
+    ensures wants { OnErr result ((s : P.State) → P.stands_for service.old s → StopsAmong P.stands_for P.left P.may_leave
+        (parts_of rest.entry.form n rest.entry.heads.now rest.entry.written.now) s service.new) }
     ensures no_memory { OnErr result (Extends out.old out.new) }
 {
     let mut rest = rest;

@@ -4,6 +4,7 @@ ghost use Rattle.std.specs.Prelude.{OnOk, OnErr};
 ghost use Rattle.ads_base.specs.Octets.{Extends};
 ghost use Rattle.ads_formats.specs.Request.{Read, Write, ReadWrite};
 ghost use Rattle.sum_commands.specs.Parts.{Runs};
+ghost use Rattle.sum_commands.specs.Served.{StandsForSome};
 ghost use Rattle.sum_commands.specs.Stops.{MayStop};
 ghost use Rattle.sum_commands.specs.PartValues.{part_meant};
 
@@ -22,12 +23,11 @@ pub(crate) fn run_part<P: PartService>(
     fronts: &mut Octets,
     out: &mut Octets,
 ) -> Result<(), NoMemory>
-    requires { P.can_run (P.state service.old) }
-    ensures ok { OnOk result (Runs P.given P.left (part_meant part.entry)
-        (P.state service.old) (P.state service.new) fronts.old fronts.new out.old out.new) }
-    ensures can_run { OnOk result (P.can_run (P.state service.new)) }
-    ensures wants { OnErr result
-        (MayStop P.left P.may_leave (part_meant part.entry) (P.state service.old) (P.state service.new)) }
+    requires { StandsForSome P.stands_for service.old }
+    ensures ok { OnOk result ((s : P.State) → P.stands_for service.old s
+        → Runs P.stands_for P.given P.left (part_meant part.entry) s service.new fronts.old fronts.new out.old out.new) }
+    ensures wants { OnErr result ((s : P.State) → P.stands_for service.old s
+        → MayStop P.stands_for P.left P.may_leave (part_meant part.entry) s service.new) }
     ensures no_memory { OnErr result (Extends out.old out.new) }
 {
     match part {
@@ -57,12 +57,11 @@ fn run_read<P: PartService>(
     fronts: &mut Octets,
     out: &mut Octets,
 ) -> Result<(), NoMemory>
-    requires { P.can_run (P.state service.old) }
-    ensures ok { OnOk result (Runs P.given P.left (Read group offset len)
-        (P.state service.old) (P.state service.new) fronts.old fronts.new out.old out.new) }
-    ensures can_run { OnOk result (P.can_run (P.state service.new)) }
-    ensures wants { OnErr result
-        (MayStop P.left P.may_leave (Read group offset len) (P.state service.old) (P.state service.new)) }
+    requires { StandsForSome P.stands_for service.old }
+    ensures ok { OnOk result ((s : P.State) → P.stands_for service.old s
+        → Runs P.stands_for P.given P.left (Read group offset len) s service.new fronts.old fronts.new out.old out.new) }
+    ensures wants { OnErr result ((s : P.State) → P.stands_for service.old s
+        → MayStop P.stands_for P.left P.may_leave (Read group offset len) s service.new) }
     ensures no_memory { OnErr result (Extends out.old out.new) }
 {
     let before = out.len();
@@ -81,12 +80,11 @@ fn run_write<P: PartService>(
     fronts: &mut Octets,
     out: &mut Octets,
 ) -> Result<(), NoMemory>
-    requires { P.can_run (P.state service.old) }
-    ensures ok { OnOk result (Runs P.given P.left (Write group offset bytes.now)
-        (P.state service.old) (P.state service.new) fronts.old fronts.new out.old out.new) }
-    ensures can_run { OnOk result (P.can_run (P.state service.new)) }
-    ensures wants { OnErr result
-        (MayStop P.left P.may_leave (Write group offset bytes.now) (P.state service.old) (P.state service.new)) }
+    requires { StandsForSome P.stands_for service.old }
+    ensures ok { OnOk result ((s : P.State) → P.stands_for service.old s
+        → Runs P.stands_for P.given P.left (Write group offset bytes.now) s service.new fronts.old fronts.new out.old out.new) }
+    ensures wants { OnErr result ((s : P.State) → P.stands_for service.old s
+        → MayStop P.stands_for P.left P.may_leave (Write group offset bytes.now) s service.new) }
     ensures no_memory { OnErr result (Extends out.old out.new) }
 {
     let answer = service.write(group, offset, bytes);
@@ -103,12 +101,11 @@ fn run_read_write<P: PartService>(
     fronts: &mut Octets,
     out: &mut Octets,
 ) -> Result<(), NoMemory>
-    requires { P.can_run (P.state service.old) }
-    ensures ok { OnOk result (Runs P.given P.left (ReadWrite group offset read_len bytes.now)
-        (P.state service.old) (P.state service.new) fronts.old fronts.new out.old out.new) }
-    ensures can_run { OnOk result (P.can_run (P.state service.new)) }
-    ensures wants { OnErr result
-        (MayStop P.left P.may_leave (ReadWrite group offset read_len bytes.now) (P.state service.old) (P.state service.new)) }
+    requires { StandsForSome P.stands_for service.old }
+    ensures ok { OnOk result ((s : P.State) → P.stands_for service.old s
+        → Runs P.stands_for P.given P.left (ReadWrite group offset read_len bytes.now) s service.new fronts.old fronts.new out.old out.new) }
+    ensures wants { OnErr result ((s : P.State) → P.stands_for service.old s
+        → MayStop P.stands_for P.left P.may_leave (ReadWrite group offset read_len bytes.now) s service.new) }
     ensures no_memory { OnErr result (Extends out.old out.new) }
 {
     let before = out.len();

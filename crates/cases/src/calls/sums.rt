@@ -81,15 +81,13 @@ impl PartService for Register {
 
     ghost State = { ℕ };
 
-    ghost state = { λ r. r.number };
-
-    ghost can_run = { λ _. Unit {0} };
+    ghost stands_for = { λ r s. s ≡ r.number };
 
     ghost given = { register_given };
 
     ghost left = { register_left };
 
-    ghost may_leave = { λ before _ after. after ≡ before };
+    ghost may_leave = { λ before _ after. after.number ≡ before };
 
     fn read(
         &mut self,
