@@ -1,2 +1,3 @@
 pub mod SessionState
 pub mod StandsFor
+pub mod Asking

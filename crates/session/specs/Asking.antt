@@ -1,0 +1,28 @@
+-- A client who asks a port of a world, and what a single request of his does: one of a packet, or a part of a sum.
+use Rattle.ads_plant.specs.World.{PlantPort}
+use Rattle.ads_formats.specs.Request.{Request}
+use Rattle.ads_machine.specs.World.{World, setup_of}
+use Rattle.ads_machine.specs.Client.{Client, client_after}
+use Rattle.ads_machine.specs.Acts.{Act, Outcome, outcome_of, effect_of}
+use Rattle.ads_machine.specs.Answers.{all_answered}
+use Rattle.ads_machine.specs.Requests.{act_of}
+use Rattle.ads_machine.specs.Writes.{Asker}
+use Rattle.port_device.specs.Endings.{world_after_act}
+
+pub record Asking : Type 0 where
+  pub world : World
+  pub client : Client
+  pub asker : Asker
+
+abbrev pub act_asked : Asking → Request → Act
+act_asked a r = act_of all_answered (setup_of a.world) a.client a.asker r
+
+abbrev pub outcome_asked : Asking → Request → Outcome
+outcome_asked a r = outcome_of a.world.memory (act_asked a r)
+
+abbrev pub asking_after : Asking → Request → Asking
+asking_after a r = record {
+  world = world_after_act a.world (act_asked a r);
+  client = client_after a.client (effect_of (act_asked a r));
+  asker = a.asker;
+}
