@@ -15,7 +15,7 @@ use Rattle.ads_plant.specs.World.{PlantPort}
 use Rattle.ads_plant.specs.Finding as plant
 use Rattle.ads_plant.specs.Finding.{found_of}
 use Rattle.ads_formats.specs.Codes.{invalid_group, invalid_size}
-use Rattle.ads_formats.specs.Groups.{Group, ValueByName, InfoByName}
+use Rattle.ads_formats.specs.Groups.{Group, HandleByName, ValueByName, ValueByHandle, InfoByName, ExtendedInfoByName}
 use Rattle.ads_machine.specs.World.{World}
 use Rattle.ads_machine.specs.Access.{Addressed, WholeByte}
 use Rattle.ads_machine.specs.Client as client
@@ -30,25 +30,33 @@ use Rattle.symbol_table.specs.FoundPlaces.{Finds}
 use Rattle.port_device.specs.PortMemory.{PortMemory}
 use Rattle.port_device.specs.Holds.{HoldsPort}
 use Rattle.port_device.specs.Answers.{AnswersAct, IsNamed, FindsPlace, place_read_act}
-use Rattle.port_device.specs.Groups.{is_value_by_name, is_info_by_name, asked_of_port}
+use Rattle.port_device.specs.Groups.{is_value_by_name, is_info_by_name, is_entry_by_name, without_handles}
 use Rattle.port_device.proofs.ReadLemmas.{answers_along, refusal_answers}
 
 pub asked_value : (c : client.Client) (p : PlantPort) (g : Option Group) (len : ℕ) (name : List ℕ) → is_value_by_name g ≡ true
-    → read_write_group c p (asked_of_port g) len name ≡ read_write_group c p (Some ValueByName) len name
+    → read_write_group c p (without_handles g) len name ≡ read_write_group c p (Some ValueByName) len name
 asked_value c p (Some ValueByName) len name h = refl
 asked_value c p g len name h = absurd (false≢true h)
 
 pub asked_info : (c : client.Client) (p : PlantPort) (g : Option Group) (len : ℕ) (name : List ℕ) → is_info_by_name g ≡ true
-    → read_write_group c p (asked_of_port g) len name ≡ read_write_group c p (Some InfoByName) len name
+    → read_write_group c p (without_handles g) len name ≡ read_write_group c p (Some InfoByName) len name
 asked_info c p (Some InfoByName) len name h = refl
 asked_info c p g len name h = absurd (false≢true h)
 
+pub asked_entry : (c : client.Client) (p : PlantPort) (g : Option Group) (len : ℕ) (name : List ℕ) → is_entry_by_name g ≡ true
+    → read_write_group c p (without_handles g) len name ≡ read_write_group c p (Some ExtendedInfoByName) len name
+asked_entry c p (Some ExtendedInfoByName) len name h = refl
+asked_entry c p g len name h = absurd (false≢true h)
+
 pub asked_otherwise : (c : client.Client) (p : PlantPort) (g : Option Group) (len : ℕ) (name : List ℕ) → is_value_by_name g ≡ false → is_info_by_name g ≡ false
-    → read_write_group c p (asked_of_port g) len name ≡ Refusal invalid_group
+    → is_entry_by_name g ≡ false → read_write_group c p (without_handles g) len name ≡ Refusal invalid_group
 unfolding read_write_group
-asked_otherwise c p (Some ValueByName) len name h k = absurd (false≢true (sym h))
-asked_otherwise c p (Some InfoByName) len name h k = absurd (false≢true (sym k))
-asked_otherwise c p g len name h k = refl
+asked_otherwise c p (Some ValueByName) len name h k l = absurd (false≢true (sym h))
+asked_otherwise c p (Some InfoByName) len name h k l = absurd (false≢true (sym k))
+asked_otherwise c p (Some ExtendedInfoByName) len name h k l = absurd (false≢true (sym l))
+asked_otherwise c p (Some HandleByName) len name h k l = refl
+asked_otherwise c p (Some ValueByHandle) len name h k l = refl
+asked_otherwise c p g len name h k l = refl
 
 -- a value
 

@@ -1,3 +1,4 @@
+pub mod AcceptedPorts
 mod AskLemmas
 mod BitLemmas
 mod GroupLemmas
@@ -7,5 +8,7 @@ mod PlaceLemmas
 mod PlaceWrites
 mod PortLemmas
 mod ReadLemmas
+pub mod UploadLengths
+mod UploadReads
 mod WritableLemmas
 mod WriteLemmas

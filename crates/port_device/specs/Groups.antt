@@ -26,7 +26,21 @@ group_meant value.SumRead = SumRead
 group_meant value.SumWrite = SumWrite
 group_meant value.SumReadWrite = SumReadWrite
 
--- the groups of Read that a port answers here: bytes, a bit and the size of an area, and the symbol version
+-- the groups that need no handle: a read of a value by its handle, and the handle of a name, are no port's
+abbrev pub without_handles : Option Group → Option Group
+without_handles (Some HandleByName) = None
+without_handles (Some ValueByHandle) = None
+without_handles group = group
+
+-- the groups that give an upload, or the sizes of uploads
+abbrev pub uploads_alone : Option Group → Option Group
+uploads_alone (Some SymbolUpload) = Some SymbolUpload
+uploads_alone (Some UploadInfo) = Some UploadInfo
+uploads_alone (Some TypeUpload) = Some TypeUpload
+uploads_alone (Some UploadInfoWithTypes) = Some UploadInfoWithTypes
+uploads_alone group = None
+
+-- the other groups of Read: bytes, a bit and the size of an area, and the symbol version
 abbrev pub read_by_port : Option Group → Option Group
 read_by_port (Some (AreaBytes area)) = Some (AreaBytes area)
 read_by_port (Some (AreaBit area)) = Some (AreaBit area)
@@ -47,7 +61,7 @@ is_written_by_port group = false
 abbrev pub written_by_port : Option Group → Option Group
 written_by_port group = if is_written_by_port group then group else None
 
--- the groups of ReadWrite that a port answers here: a value and an info by name
+-- the groups of ReadWrite that a port answers: a value, an info and an entry by name
 abbrev pub is_value_by_name : Option Group → Bool
 is_value_by_name (Some ValueByName) = true
 is_value_by_name group = false
@@ -56,7 +70,6 @@ abbrev pub is_info_by_name : Option Group → Bool
 is_info_by_name (Some InfoByName) = true
 is_info_by_name group = false
 
-abbrev pub asked_of_port : Option Group → Option Group
-asked_of_port (Some ValueByName) = Some ValueByName
-asked_of_port (Some InfoByName) = Some InfoByName
-asked_of_port group = None
+abbrev pub is_entry_by_name : Option Group → Bool
+is_entry_by_name (Some ExtendedInfoByName) = true
+is_entry_by_name group = false

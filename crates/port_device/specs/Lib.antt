@@ -4,4 +4,5 @@ pub mod Answers
 pub mod Endings
 pub mod Changed
 pub mod Groups
+pub mod Uploads
 pub mod Ports

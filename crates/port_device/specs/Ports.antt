@@ -1,5 +1,6 @@
 -- The port that the code's value is. No public clause cites this file.
-use Rattle.std.specs.Prelude.{◌≡◌, ◌≤◌, length}
+use Rattle.std.specs.Prelude.{◌≡◌, ◌≤◌, length, IsTrue}
+use Rattle.std.specs.List.{list_all}
 use Rattle.std.specs.Arc.{arc_value}
 use Rattle.ads_plant.specs.Description.{Port}
 use Rattle.ads_plant.specs.Accepted.{image_size, IMAGE_LIMIT}
@@ -8,6 +9,8 @@ use Rattle.type_layout.specs.Descriptions.{sizes_of, facts_of}
 use Rattle.type_layout.specs.NamedTypes.{types_of}
 use Rattle.symbol_table.specs.Tables.{IsTableOf}
 use Rattle.port_device.specs.declared.port.Port.TheInside.{Inside}
+use Rattle.port_device.specs.declared.upload.UploadSizes.{UploadSizes}
+use Rattle.port_device.specs.Uploads.{AreUploadSizes, has_short_texts}
 use Rattle.port_device.specs.PortMemory.{PortMemory}
 
 abbrev pub memory_in : Inside → PortMemory
@@ -20,10 +23,12 @@ memory_in p = record {
   bytes = record { image = p.image; ads = p.ads; device = p.device };
 }
 
--- the port of an accepted description, with all its bytes
-pub record IsPortMemory (sizes : Sizes) (m : PortMemory) : Type 0 where
+-- the port of an accepted description, with all its bytes and the lengths of its uploads
+pub record IsPortMemory (sizes : Sizes) (uploads : UploadSizes) (m : PortMemory) : Type 0 where
   pub port : Port
   pub table : IsTableOf m.types port m.table
   pub sizes_are : m.table.sizes ≡ sizes_of sizes
   pub few : image_size m.table.sizes ≤ IMAGE_LIMIT
   pub bytes : length m.bytes.image ≡ image_size m.table.sizes
+  pub texts : IsTrue (list_all has_short_texts m.table.symbols)
+  pub uploads_are : AreUploadSizes m.types m.table uploads

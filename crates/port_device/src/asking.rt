@@ -1,4 +1,4 @@
-//! What is asked by name: a value, and an info.
+//! What is asked by name: a value, an info, and an entry.
 
 ghost use Rattle.std.specs.Prelude.{◌≡◌, ◌≤◌, ◌++◌, IfOk, OnOk, OnErr};
 ghost use Rattle.std.specs.Int.{w32, to_le_bytes};
@@ -11,10 +11,10 @@ ghost use Rattle.index_groups.specs.AreaGroups.{byte_number};
 ghost use Rattle.type_layout.specs.Descriptions.{area_of};
 ghost use Rattle.type_layout.specs.Spelled.{Extends};
 ghost use Rattle.port_device.specs.Answers.{AnswersAct};
-ghost use Rattle.port_device.specs.Groups.{asked_of_port};
+ghost use Rattle.port_device.specs.Groups.{without_handles};
 ghost use Rattle.port_device.specs.Holds.{HoldsPort};
 
-use crate::group::{is_info_by_name, is_value_by_name};
+use crate::group::{is_entry_by_name, is_info_by_name, is_value_by_name};
 use crate::port::Port;
 use ads_base::{NoMemory, Octets, put32};
 use index_groups::byte_group;
@@ -23,12 +23,13 @@ use std::alloc::Global;
 use symbol_table::Place;
 
 impl Port {
-    /// Appends what ReadWrite gives of a name: the first bytes of a value, or the info.
+    /// Appends what ReadWrite gives of a name, where it grants no handle: the first bytes of a value, the info, or the entry.
     ///
     /// | group | gives | refused by |
     /// |---|---|---|
     /// | 0xF004 | as many bytes of the value | 0x710, then 0x705 where it has fewer |
     /// | 0xF007 | byte group 4, offset 4, length 4 | 0x705 for a length below 12, then 0x710 |
+    /// | 0xF009 | the symbol entry of the part | 0x710, then 0x705 where it has more bytes |
     /// | any other | | 0x702 |
     ///
     /// Beckhoff Information System, "ADS Read Write".
@@ -41,7 +42,7 @@ impl Port {
         out: &mut Octets,
     ) -> Result<Result<(), Code>, NoMemory>
         ensures answer { IfOk result (λ answer. (w : World) (c : client.Client) (p : PlantPort) → HoldsPort w p self.now
-            → AnswersAct w (read_write_group c p (asked_of_port (group_of group)) len name.now) answer out.old out.new) }
+            → AnswersAct w (read_write_group c p (without_handles (group_of group)) len name.now) answer out.old out.new) }
         ensures no_memory { OnErr result (out.new ≡ out.old) }
     {
         if is_value_by_name(group) {
@@ -49,6 +50,9 @@ impl Port {
         }
         if is_info_by_name(group) {
             return self.info_by_name(alloc, len, name, out);
+        }
+        if is_entry_by_name(group) {
+            return self.entry_by_name(alloc, len, name, out);
         }
         Ok(Err(Code::C702))
     }

@@ -2,7 +2,7 @@
 
 ghost use Rattle.std.specs.Prelude.{◌≡◌, option_map};
 ghost use Rattle.ads_formats.specs.Groups.{group_of};
-ghost use Rattle.port_device.specs.Groups.{group_meant, is_info_by_name, is_value_by_name, is_version_group, is_written_by_port};
+ghost use Rattle.port_device.specs.Groups.{group_meant, is_entry_by_name, is_info_by_name, is_value_by_name, is_version_group, is_written_by_port};
 
 use type_layout::Area;
 
@@ -116,6 +116,16 @@ pub(crate) fn is_info_by_name(number: u32) -> bool
 {
     match group_named(number) {
         Some(Group::InfoByName) => true,
+        _ => false,
+    }
+}
+
+/// Whether the group of a number gives an entry by name.
+pub(crate) fn is_entry_by_name(number: u32) -> bool
+    ensures { result ≡ is_entry_by_name (group_of number) }
+{
+    match group_named(number) {
+        Some(Group::ExtendedInfoByName) => true,
         _ => false,
     }
 }

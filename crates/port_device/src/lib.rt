@@ -4,10 +4,14 @@
 mod areas;
 mod asking;
 mod bits;
+mod counting;
+mod described;
 mod group;
 mod naming;
 mod port;
 mod reading;
+mod upload;
+mod uploads;
 mod writable;
 mod writing;
 

@@ -4,6 +4,7 @@ ghost use Rattle.std.specs.Prelude.{◌≡◌, ℕ};
 ghost use Rattle.type_layout.specs.Descriptions.{facts_of, sizes_of};
 ghost use Rattle.port_device.specs.PortMemory.{PortMemory};
 
+use crate::upload::UploadSizes;
 use process_image::Image;
 use std::alloc::Global;
 use std::marker::Model;
@@ -24,6 +25,7 @@ pub struct Port {
     pub(crate) ads: u16,
     pub(crate) device: u16,
     pub(crate) image: Image,
+    pub(crate) uploads: UploadSizes,
 }
 
 impl Model for Port {
@@ -35,7 +37,7 @@ impl Model for Port {
 
     ghost view = { memory_in };
 
-    ghost invariant = { λ p. IsPortMemory p.sizes (memory_in p) };
+    ghost invariant = { λ p. IsPortMemory p.sizes p.uploads (memory_in p) };
 }
 
 impl Port {

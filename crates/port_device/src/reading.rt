@@ -8,13 +8,14 @@ ghost use Rattle.ads_machine.specs.Client as client;
 ghost use Rattle.ads_machine.specs.Reads.{fixed_reply, read_group};
 ghost use Rattle.index_groups.specs.Access.{IsWithin, range_meant};
 ghost use Rattle.port_device.specs.Answers.{AnswersAct, HasRoom, ReadsRange, IsPlaceOf, IsNamed, place_read_act, range_read_act};
-ghost use Rattle.port_device.specs.Groups.{read_by_port};
+ghost use Rattle.port_device.specs.Groups.{read_by_port, without_handles};
 ghost use Rattle.port_device.specs.Holds.{HoldsPort};
 
 use crate::areas::{byte_of, bytes_of, size_of};
 use crate::bits::bit_of;
 use crate::group::is_version;
 use crate::port::Port;
+use crate::upload::upload_named;
 use ads_base::{NoMemory, Octets, put32};
 use index_groups::{Reach, reach};
 use return_codes::Code;
@@ -22,16 +23,36 @@ use std::alloc::Global;
 use symbol_table::Place;
 
 impl Port {
-    /// Appends what Read gives of the bytes, a bit or the size of an area, or the symbol version.
+    /// Appends what Read gives of a group that needs no handle: the bytes, a bit or the size of an area, the symbol
+    /// version, or an upload.
     ///
     /// | refused by | where |
     /// |---|---|
     /// | 0x702 | the group names none of these |
     /// | 0x703 | the range begins outside the area |
-    /// | 0x705 | it ends outside; or the size or the version has more bytes than were asked for |
+    /// | 0x705 | it ends outside; or the size, the version or the upload has more bytes than were asked for |
     ///
     /// Beckhoff Information System, "ADS Read".
     pub fn read(
+        &self,
+        alloc: Global,
+        group: u32,
+        offset: u32,
+        len: u32,
+        out: &mut Octets,
+    ) -> Result<Result<(), Code>, NoMemory>
+        ensures answer { IfOk result (λ answer. (w : World) (c : client.Client) (p : PlantPort) → HoldsPort w p self.now
+            → AnswersAct w (read_group (setup_of w) c p (without_handles (group_of group)) offset len) answer out.old out.new) }
+        ensures no_memory { OnErr result (out.new ≡ out.old) }
+    {
+        match upload_named(group) {
+            Some(upload) => self.read_upload(alloc, upload, len, out),
+            None => self.read_range(alloc, group, offset, len, out),
+        }
+    }
+
+    // What Read gives of a group that gives no upload.
+    fn read_range(
         &self,
         alloc: Global,
         group: u32,

@@ -23,6 +23,8 @@ invariant_of-self c = record {
   sizes_are = c.self.invariant.sizes_are;
   few = c.self.invariant.few;
   bytes = ap length c.put_bit.ensures ∙ nth-length _ _ _ ∙ c.self.invariant.bytes;
+  texts = c.self.invariant.texts;
+  uploads_are = c.self.invariant.uploads_are;
 }
 
 pub returns-clause-answer : goal.returns-clause-answer

@@ -1,0 +1,58 @@
+-- How many bytes the upload of symbols has, and which symbols the rows of a table are.
+use Rattle.std.proofs.Common.{◌≡◌, ℕ, List, [], ◌∷◌, map, length, refl, sym, ◌∙◌, ap, arith}
+use Rattle.std.proofs.lemmas.List.{length-append}
+use Rattle.std.proofs.lemmas.List.Sums.{sum_by-cons}
+use Rattle.ads_plant.specs.Listed.{NamedType}
+use Rattle.ads_plant.specs.Description.{Symbol}
+use Rattle.ads_plant.specs.World.{plant_symbol}
+use Rattle.ads_plant.specs.Entries.{symbol_entry_length, upload_size}
+use Rattle.ads_formats.specs.SymbolEntry.{entry_bytes, upload_bytes}
+use Rattle.ads_formats.proofs.EntryLemmas.{length-entry_fields}
+use Rattle.ads_machine.specs.Entries.{entry_of_symbol}
+use Rattle.std.specs.Prelude.{Result, Ok, Err, IfOk}
+use Rattle.ads_base.specs.declared.no_memory.NoMemory.{NoMemory}
+use Rattle.ads_plant.specs.Description.{Port}
+use Rattle.symbol_table.specs.Tables.{TableSymbol, SymbolTable, table_symbol, table_of, declared, IsTableOf}
+use Rattle.symbol_table.specs.Rows.{symbol_of_row, symbols_of_rows, declared_by_rows}
+use Rattle.symbol_table.specs.declared.row.SymbolRow.{SymbolRow}
+use Rattle.port_device.specs.Uploads.{described, symbols_upload}
+
+length-entry : (types : List NamedType) (s : Symbol) → length (entry_bytes (entry_of_symbol (plant_symbol types s))) ≡ symbol_entry_length types s
+length-entry types s = let e = length-entry_fields (entry_of_symbol (plant_symbol types s)) in omega (arith, e)
+
+pub length-upload : (types : List NamedType) (ss : List Symbol)
+    → length (upload_bytes (map entry_of_symbol (map (plant_symbol types) ss))) ≡ upload_size types ss
+length-upload types [] = refl
+length-upload types (s ∷ ss) =
+    let one = length-entry types s in
+    let rest = length-upload types ss in
+    let all = length-append (entry_bytes (entry_of_symbol (plant_symbol types s))) (upload_bytes (map entry_of_symbol (map (plant_symbol types) ss))) in
+    let sum = sum_by-cons (symbol_entry_length types) s ss in
+    omega (arith, one, rest, all, sum)
+
+-- the rows of a table
+
+declared-rows : (rows : List SymbolRow) → declared_by_rows rows ≡ map declared (symbols_of_rows rows)
+declared-rows [] = refl
+declared-rows (r ∷ rows) = ap (λ rest. declared (symbol_of_row r) ∷ rest) (declared-rows rows)
+
+pub rows_described : (rows : List SymbolRow) (table : SymbolTable) → symbols_of_rows rows ≡ table.symbols → declared_by_rows rows ≡ described table
+rows_described rows table same = declared-rows rows ∙ ap (map declared) same
+
+declared-table : (types : List NamedType) (symbols : List Symbol) → map declared (map (table_symbol types) symbols) ≡ symbols
+declared-table types [] = refl
+declared-table types (s ∷ symbols) = ap (λ rest. s ∷ rest) (declared-table types symbols)
+
+-- the symbols of the port whose table it is
+pub described_symbols : (types : List NamedType) (port : Port) (table : SymbolTable) → table ≡ table_of types port → described table ≡ port.symbols
+described_symbols types port table same =
+    ap (λ (t : SymbolTable). map declared t.symbols) same ∙ declared-table types port.symbols
+
+-- a count that is passed on
+pub counted_as : (r : Result ℕ NoMemory) (m n : ℕ) → m ≡ n → IfOk r (λ size. size ≡ m) → IfOk r (λ size. size ≡ n)
+counted_as (Ok size) m n e h = h ∙ e
+counted_as (Err no_memory) m n e h = h
+
+pub rows_upload : (types : List NamedType) (rows : List SymbolRow) (table : SymbolTable) → symbols_of_rows rows ≡ table.symbols
+    → upload_size types (declared_by_rows rows) ≡ length (symbols_upload types table)
+rows_upload types rows table same = ap (upload_size types) (rows_described rows table same) ∙ sym (length-upload types (described table))
