@@ -7,6 +7,7 @@ mod NameLemmas
 mod PlaceLemmas
 mod PlaceWrites
 mod PortLemmas
+pub mod PortsLemmas
 mod ReadLemmas
 pub mod UploadLengths
 mod UploadReads

@@ -6,3 +6,7 @@ pub mod Changed
 pub mod Groups
 pub mod Uploads
 pub mod Ports
+pub mod Lends
+pub mod InsidePorts
+pub mod PlaceOfPort
+pub mod KeptSymbols

@@ -7,14 +7,18 @@ mod bits;
 mod counting;
 mod described;
 mod group;
+mod moving;
 mod naming;
 mod port;
+mod ports;
 mod reading;
 mod upload;
 mod uploads;
+mod reloading;
 mod writable;
 mod writing;
 
 pub use group::{Group, group_named};
 pub use port::Port;
+pub use ports::Ports;
 pub use writing::{RUN, STOP};

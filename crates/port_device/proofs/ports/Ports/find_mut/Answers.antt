@@ -1,0 +1,22 @@
+use borrow.Follows.Closed.{read_of}
+use Rattle.std.proofs.Common.{◌≡◌, List, ◌∙◌, ap}
+use Rattle.std.specs.Prelude.{slice_get}
+use Rattle.std.specs.Borrow.{MutBor}
+use Rattle.std.specs.Option.{ghost_name_of}
+use Rattle.port_device.specs.PortMemory.{PortMemory, PortsMemory, memory_numbered}
+use Rattle.port_device.specs.InsidePorts.{ports_in}
+use Rattle.port_device.specs.PlaceOfPort.{place_numbered}
+use Rattle.port_device.proofs.PortsLemmas.{get-place_numbered, lent_at, with_place}
+use Rattle.port_device.proofs.ports.Ports.find_mut.Goals as goal
+
+pub returns : goal.returns
+returns c =
+    let m : PortsMemory = ports_in c.self.inside in
+    let number = c.args.port in
+    let place = c.place_of-place.result in
+    let is_place : place ≡ place_numbered number m.ports = c.place_of-place.ensures ∙ ap (place_numbered number) c.as_slice.ensures.value in
+    let found = lent_at (λ (x : MutBor PortMemory). x.now) m.ports c.self.inside.ports.len place c.get_mut.result (c.self.inside.ports.ok.0) (c.get_mut.ensures.variant.1) (c.get_mut.ensures.variant.0) c.get_mut.ensures.value in
+    rw (← c.self.view_is) (
+      λ t. read_of (ghost_name_of c.get_mut.result) (λ (w : PortMemory). with_place m number place w is_place t) m,
+      record { lends = tt; value = found ∙ ap (slice_get m.ports) is_place ∙ get-place_numbered number m.ports },
+    )

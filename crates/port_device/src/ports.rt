@@ -1,0 +1,84 @@
+//! All ports of a plant.
+
+ghost use Rattle.std.specs.Prelude.{◌≡◌, ◌==◌, List, option_map, IfOk};
+ghost use Rattle.std.specs.Option.{option_copied};
+ghost use Rattle.std.specs.Borrow.{sem};
+ghost use Rattle.signals.specs.Wave.{Wave};
+ghost use Rattle.type_layout.specs.Descriptions.{description_of};
+ghost use Rattle.ads_machine.specs.World.{world_of};
+ghost use Rattle.port_device.specs.PortMemory.{memory_numbered};
+ghost use Rattle.port_device.specs.Holds.{HoldsPorts, WasAccepted};
+ghost use Rattle.port_device.specs.PlaceOfPort.{place_numbered};
+
+use crate::Port;
+use ads_base::NoMemory;
+use std::alloc::Global;
+use std::marker::Model;
+use std::sync::Arc;
+use type_layout::{Description, Types};
+
+/// The ports of a plant, in the order of the description. Contracts see the types and the symbol version, which they share,
+/// and each port.
+#[derive(Drop)]
+pub struct Ports {
+    pub(crate) types: Arc<Types, Global>,
+    pub(crate) version: u8,
+    pub(crate) ports: Vec<Port>,
+}
+
+impl Model for Ports {
+    ghost use Rattle.port_device.specs.PortMemory.{PortsMemory};
+
+    ghost Value = { PortsMemory };
+
+    ghost use Rattle.port_device.specs.InsidePorts.{ports_in};
+
+    ghost view = { ports_in };
+}
+
+impl Ports {
+    ghost use Rattle.port_device.specs.Lends.{LendsPort};
+
+    /// The ports of an accepted description, with their first bytes, in state 5 (RUN) and with symbol version 1.
+    pub fn build(_alloc: Global, d: &Description) -> Result<Ports, NoMemory>
+        requires { WasAccepted (description_of d.now) }
+        ensures { IfOk result (λ ports. (signals : List Wave) → HoldsPorts (world_of (description_of d.now) signals) ports) }
+    {
+        let _types = &d.types;
+        Err(NoMemory)
+    }
+
+    /// The port with a number.
+    pub fn find(&self, port: u16) -> Option<&Port>
+        ensures { option_copied result ≡ memory_numbered port self.now.ports }
+    {
+        self.ports.get(place_of(self.ports.as_slice(), port))
+    }
+
+    /// The port with a number, for writing. What is left of it is that port from then on, and all others stay.
+    pub fn find_mut(&mut self, port: u16) -> Option<&mut Port>
+        ensures* lends { sem 𝓛 (LendsPort self.entry port result) }
+        ensures value { option_map (λ r. r.now) result ≡ memory_numbered port self.old.ports }
+    {
+        let place = place_of(self.ports.as_slice(), port);
+        self.ports.get_mut(place)
+    }
+}
+
+// The place of the port with a number in the order of the description; the number of ports where there is none.
+fn place_of(ports: &[Port], number: u16) -> usize
+    ensures { result ≡ place_numbered number ports.now }
+{
+    for (i, port) in ports.iter().enumerate() {
+        if has_number(port, number) {
+            return i;
+        }
+    }
+    ports.len()
+}
+
+fn has_number(port: &Port, number: u16) -> bool
+    ensures { result ≡ (port.now.number == number) }
+{
+    port.number == number
+}
