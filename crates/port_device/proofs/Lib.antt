@@ -8,6 +8,7 @@ mod PlaceLemmas
 mod PlaceWrites
 mod PortLemmas
 pub mod PortsLemmas
+pub mod PutLemmas
 mod ReadLemmas
 pub mod UploadLengths
 mod UploadReads

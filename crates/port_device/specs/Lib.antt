@@ -10,3 +10,4 @@ pub mod Lends
 pub mod InsidePorts
 pub mod PlaceOfPort
 pub mod KeptSymbols
+pub mod PlacedBytes
