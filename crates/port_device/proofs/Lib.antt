@@ -1,6 +1,7 @@
 pub mod AcceptedPorts
 mod AskLemmas
 mod BitLemmas
+pub mod FilledLemmas
 mod GroupLemmas
 mod ImageLemmas
 mod NameLemmas

@@ -4,12 +4,17 @@ use Rattle.ads_plant.specs.Description.{Area, Sizes, size_in}
 use Rattle.ads_plant.specs.Covering.{is_byte_of}
 use Rattle.ads_plant.specs.Sound.{Each}
 use Rattle.ads_machine.specs.PortBytes.{with_image_bytes}
+use Rattle.symbol_table.specs.Tables.{TableSymbol}
 
 -- bytes for an area, from an offset on
 pub record PlacedBytes : Type 0 where
   pub area : Area
   pub offset : ℕ
   pub bytes : List ℕ
+
+-- bytes of a symbol of a table, at its place
+abbrev pub placed_symbol : (TableSymbol → List ℕ) → TableSymbol → PlacedBytes
+placed_symbol f s = record { area = s.area; offset = s.offset; bytes = f s }
 
 -- an image after all of them were put
 abbrev pub with_all_bytes : Sizes → List ℕ → List PlacedBytes → List ℕ
