@@ -1,6 +1,7 @@
 pub mod AcceptedPorts
 mod AskLemmas
 mod BitLemmas
+mod EntryRows
 pub mod FilledLemmas
 mod GroupLemmas
 mod ImageLemmas

@@ -12,7 +12,7 @@ use Rattle.ads_machine.specs.Entries.{entry_of_symbol}
 use Rattle.std.specs.Prelude.{Result, Ok, Err, IfOk}
 use Rattle.ads_base.specs.declared.no_memory.NoMemory.{NoMemory}
 use Rattle.ads_plant.specs.Description.{Port}
-use Rattle.symbol_table.specs.Tables.{TableSymbol, SymbolTable, table_symbol, table_of, declared, IsTableOf}
+use Rattle.symbol_table.specs.Tables.{SymbolTable, table_symbol, table_of, declared}
 use Rattle.symbol_table.specs.Rows.{symbol_of_row, symbols_of_rows, declared_by_rows}
 use Rattle.symbol_table.specs.declared.row.SymbolRow.{SymbolRow}
 use Rattle.port_device.specs.Uploads.{described, symbols_upload}

@@ -1,16 +1,34 @@
--- Which act a read of an upload is.
-use Rattle.std.proofs.Common.{◌≡◌, ℕ, true, false, refl, sym, ◌∙◌, ap, subst}
-use Rattle.std.specs.Prelude.{Option, Some, None}
+-- Which act a read of an upload is, and what is answered to it.
+use Rattle.std.proofs.Common.{◌≡◌, ℕ, ◌<◌, ◌≤◌, List, [], ◌∷◌, ◌++◌, length, map, true, false, refl, sym, ◌∙◌, ap, arith}
+use Rattle.std.specs.Prelude.{Option, Some, None, Ok, Err, nat_lt, flat_map, if◌then◌else◌}
+use Rattle.std.specs.Int.{w32, to_le_bytes}
+use Rattle.std.proofs.lemmas.Bool.{lt-ltb, ltb-true}
+use Rattle.std.proofs.lemmas.List.{append-nil, length-map}
+use Rattle.return_codes.specs.declared.code.Code.TheVariants.{C705}
+use Rattle.ads_plant.specs.Description.{Symbol}
+use Rattle.ads_plant.specs.Listed.{NamedType}
+use Rattle.ads_plant.specs.World.{plant_symbol}
+use Rattle.ads_formats.specs.Codes.{invalid_size}
+use Rattle.ads_formats.specs.SymbolEntry.{upload_bytes}
+use Rattle.ads_machine.specs.Acts.{Refusal, fixed_data}
+use Rattle.ads_machine.specs.Entries.{entry_of_symbol, symbol_upload_of, upload_info_of, upload_info_with_types_of}
 use Rattle.ads_plant.specs.World.{PlantPort}
-use Rattle.ads_formats.specs.Groups.{Group, AreaBytes, AreaBit, AreaSize, HandleByName, ValueByName, ValueByHandle, ReleaseHandle}
-use Rattle.ads_formats.specs.Groups.{InfoByName, SymbolVersion, ExtendedInfoByName, SymbolUpload, UploadInfo}
-use Rattle.ads_formats.specs.Groups.{TypeUpload, UploadInfoWithTypes, SumRead, SumWrite, SumReadWrite}
-use Rattle.ads_machine.specs.World.{Setup}
+use Rattle.ads_formats.specs.Groups.{Group, AreaBytes, AreaBit, AreaSize}
+use Rattle.ads_formats.specs.Groups.{SymbolVersion, SymbolUpload, UploadInfo}
+use Rattle.ads_formats.specs.Groups.{TypeUpload, UploadInfoWithTypes}
+use Rattle.ads_machine.specs.World.{World, Setup}
 use Rattle.ads_machine.specs.Client as client
 use Rattle.ads_machine.specs.Reach.{reach_of}
-use Rattle.ads_machine.specs.Reads.{read_group}
+use Rattle.ads_machine.specs.Reads.{fixed_reply, read_group}
 use Rattle.port_device.specs.Groups.{read_by_port, uploads_alone, without_handles}
-use Rattle.port_device.specs.Uploads.{upload_group, upload_act}
+use Rattle.symbol_table.specs.Tables.{SymbolTable, table_symbol}
+use Rattle.port_device.specs.PortMemory.{PortMemory}
+use Rattle.port_device.specs.Holds.{HoldsPort}
+use Rattle.port_device.specs.Answers.{AnswersAct}
+use Rattle.port_device.specs.Uploads.{upload_group, upload_act, symbols_upload, types_upload}
+use Rattle.port_device.proofs.GroupLemmas.{is_false}
+use Rattle.port_device.proofs.ReadLemmas.{answers_along}
+use Rattle.port_device.proofs.UploadLengths.{described_symbols}
 use Rattle.port_device.specs.declared.upload.Upload.{Upload}
 use Rattle.port_device.specs.declared.upload.Upload.TheVariants.{Symbols, SymbolSizes, Types, AllSizes}
 
@@ -50,3 +68,55 @@ pub read_of_upload : (d : Setup) (c : client.Client) (p : PlantPort) (g : Option
     → uploads_alone g ≡ Some (upload_group u) → read_group d c p (without_handles g) offset len ≡ upload_act d p u len
 read_of_upload d c p g u offset len h =
     ap (λ x. read_group d c p x offset len) (upload_alone g (upload_group u) h) ∙ upload_read d c p u offset len
+
+-- what has more bytes than were asked for is refused, and else given
+
+pub fixed_refused : (w : World) (len size : ℕ) (bytes out : List ℕ) → size ≡ length bytes → len < size → AnswersAct w (fixed_reply len bytes) (Err C705) out out
+fixed_refused w len size bytes out e h =
+    let short : nat_lt len (length bytes) ≡ true = lt-ltb len (length bytes) (omega (arith, e, h)) in
+    answers_along w (Refusal invalid_size) (fixed_reply len bytes) (Err C705) out out
+    (ap (λ b. if b then Refusal invalid_size else fixed_data bytes) short) (refl, refl)
+
+pub fixed_given : (w : World) (len size : ℕ) (bytes put old new : List ℕ) → size ≡ length bytes → size ≤ len → put ≡ bytes → new ≡ old ++ put
+    → AnswersAct w (fixed_reply len bytes) (Ok tt) old new
+fixed_given w len size bytes put old new e h same there =
+    let enough : nat_lt len (length bytes) ≡ false = is_false (nat_lt len (length bytes)) (λ t. omega (arith, ltb-true len (length bytes) t, e, h)) in
+    answers_along w (fixed_data bytes) (fixed_reply len bytes) (Ok tt) old new
+    (ap (λ b. if b then Refusal invalid_size else fixed_data bytes) enough)
+    (refl, there ∙ ap (λ bs. old ++ bs) (same ∙ sym (append-nil bytes)))
+
+-- the upload of a port's table is that of the plant's port
+pub upload_at_port : (w : World) (p : PlantPort) (m : PortMemory) → HoldsPort w p m → symbols_upload m.types m.table ≡ symbol_upload_of p
+upload_at_port w p m h =
+    ap (λ (ss : List Symbol). upload_bytes (map entry_of_symbol (map (plant_symbol m.types) ss))) (described_symbols m.types h.port m.table h.table.same)
+    ∙ sym (ap (λ (q : PlantPort). upload_bytes (map entry_of_symbol q.symbols)) h.plant)
+
+-- so many symbols has the plant's port
+pub count_at_port : (w : World) (p : PlantPort) (m : PortMemory) → HoldsPort w p m → length m.table.symbols ≡ length p.symbols
+count_at_port w p m h =
+    ap (λ (t : SymbolTable). length t.symbols) h.table.same ∙ length-map h.port.symbols (table_symbol m.types)
+    ∙ sym (length-map h.port.symbols (plant_symbol m.types)) ∙ sym (ap (λ (q : PlantPort). length q.symbols) h.plant)
+
+-- numbers of 4 bytes
+abbrev pub four_bytes : List ℕ → List ℕ
+four_bytes numbers = flat_map (to_le_bytes w32) numbers
+
+pub sizes_put : (w : World) (p : PlantPort) (m : PortMemory) (count size : ℕ) → HoldsPort w p m → count ≡ length m.table.symbols
+    → size ≡ length (symbols_upload m.types m.table) → four_bytes (count ∷ size ∷ []) ≡ upload_info_of p
+sizes_put w p m count size h ec es =
+    let counts = ec ∙ count_at_port w p m h in
+    let sizes = es ∙ ap length (upload_at_port w p m h) in
+    ap (λ n. four_bytes (n ∷ size ∷ [])) counts ∙ ap (λ n. four_bytes (length p.symbols ∷ n ∷ [])) sizes
+
+pub all_sizes_put : (w : World) (p : PlantPort) (m : PortMemory) (count size named bytes : ℕ) → HoldsPort w p m → count ≡ length m.table.symbols
+    → size ≡ length (symbols_upload m.types m.table) → named ≡ length m.types → bytes ≡ length (types_upload m.types)
+    → four_bytes (count ∷ size ∷ named ∷ bytes ∷ 0 ∷ 0 ∷ []) ≡ upload_info_with_types_of w.plant p
+all_sizes_put w p m count size named bytes h ec es en eb =
+    let counts = ec ∙ count_at_port w p m h in
+    let sizes = es ∙ ap length (upload_at_port w p m h) in
+    let types = en ∙ ap (λ (ts : List NamedType). length ts) h.types in
+    let own = eb ∙ ap (λ (ts : List NamedType). length (types_upload ts)) h.types in
+    ap (λ n. four_bytes (n ∷ size ∷ named ∷ bytes ∷ 0 ∷ 0 ∷ [])) counts
+    ∙ ap (λ n. four_bytes (length p.symbols ∷ n ∷ named ∷ bytes ∷ 0 ∷ 0 ∷ [])) sizes
+    ∙ ap (λ n. four_bytes (length p.symbols ∷ length (symbol_upload_of p) ∷ n ∷ bytes ∷ 0 ∷ 0 ∷ [])) types
+    ∙ ap (λ n. four_bytes (length p.symbols ∷ length (symbol_upload_of p) ∷ length w.plant.types ∷ n ∷ 0 ∷ 0 ∷ [])) own

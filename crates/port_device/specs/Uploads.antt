@@ -3,7 +3,7 @@ use Rattle.std.specs.Prelude.{◌≡◌, ℕ, List, length, map, Bool, ◌&&◌,
 use Rattle.ads_plant.specs.Listed.{NamedType}
 use Rattle.ads_plant.specs.Description.{Symbol}
 use Rattle.ads_plant.specs.Trees.{trees_of}
-use Rattle.ads_plant.specs.World.{PlantSymbol, plant_symbol, PlantPort}
+use Rattle.ads_plant.specs.World.{plant_symbol, PlantPort}
 use Rattle.ads_formats.specs.Groups as groups
 use Rattle.ads_formats.specs.SymbolEntry.{upload_bytes}
 use Rattle.ads_formats.specs.TypeEntry.{type_upload_bytes}

@@ -1,5 +1,5 @@
 use Rattle.std.proofs.Common.{sym, ◌∙◌, ap}
-use Rattle.std.specs.Prelude.{Some, None, option_map}
+use Rattle.std.specs.Prelude.{option_map}
 use Rattle.ads_formats.specs.Groups.{group_of}
 use Rattle.ads_machine.specs.World.{setup_of}
 use Rattle.ads_machine.specs.Reads.{read_group}
@@ -14,7 +14,7 @@ pub returns-in-Some-clause-answer : goal.returns-in-Some-clause-answer
 returns-in-Some-clause-answer c =
     let g = group_of c.args.group in
     reads_as c.args.self.now c.read_upload.result (λ w p. upload_act (setup_of w) p c.in-Some.upload c.args.len)
-    (λ w d p. read_group (setup_of w) d p (without_handles g) c.args.offset c.args.len) c.args.out.now c.read_upload.new._out
+    (λ w d p. read_group (setup_of w) d p (without_handles g) c.args.offset c.args.len) c.args.out.now c.read_upload.new.out
     (λ w d p h. read_of_upload (setup_of w) d p g c.in-Some.upload c.args.offset c.args.len
     (sym c.upload_named.ensures ∙ ap (option_map upload_group) c.in-Some.is))
     c.read_upload.ensures.answer

@@ -1,0 +1,17 @@
+use Rattle.type_layout.specs.NamedTypes.{types_of}
+use Rattle.port_device.specs.Rows.{rows_bytes}
+use Rattle.port_device.specs.Uploads.{symbols_upload}
+use Rattle.port_device.proofs.EntryRows.{entry_rows, rows_are_upload, put_as}
+use Rattle.port_device.proofs.entries.put_symbols.Goals as goal
+
+pub append_rows-put-requires-clause-rows : goal.append_rows-put-requires-clause-rows
+append_rows-put-requires-clause-rows c =
+    let types = types_of c.args.types.now in
+    entry_rows types c.args.table.now c.symbols.result.now c.symbols.ensures.rows c.requires.table c.requires.texts
+    (c.symbols.ensures.sized types c.requires.table)
+
+pub returns-else-is_err-clause-ok : goal.returns-else-is_err-clause-ok
+returns-else-is_err-clause-ok c =
+    let types = types_of c.args.types.now in
+    put_as c.append_rows-put.result c.args.out.now c.append_rows-put.new.out (rows_bytes types c.symbols.result.now) (symbols_upload types c.args.table.now)
+    (rows_are_upload types c.args.table.now c.symbols.result.now c.symbols.ensures.rows) c.append_rows-put.ensures.ok
