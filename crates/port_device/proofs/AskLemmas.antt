@@ -22,15 +22,18 @@ use Rattle.ads_machine.specs.Client as client
 use Rattle.ads_machine.specs.Client.{names_of_place}
 use Rattle.ads_machine.specs.Acts.{Act, Refusal, fixed_data, reading}
 use Rattle.ads_machine.specs.ByName.{place_of, value_act, info_of, if_found, read_write_group}
-use Rattle.ads_machine.specs.Entries.{group_of_area}
-use Rattle.ads_machine.specs.Reads.{read_act}
+use Rattle.ads_machine.specs.Entries.{group_of_area, entry_of_part}
+use Rattle.ads_formats.specs.SymbolEntry.{entry_bytes}
+use Rattle.name_paths.specs.Path.{Step, steps_of}
+use Rattle.ads_machine.specs.Reads.{fixed_reply, read_act}
 use Rattle.symbol_table.specs.declared.found.Found.{Found}
 use Rattle.symbol_table.specs.declared.place.Place.{Place}
 use Rattle.symbol_table.specs.FoundPlaces.{Finds}
 use Rattle.port_device.specs.PortMemory.{PortMemory}
 use Rattle.port_device.specs.Holds.{HoldsPort}
-use Rattle.port_device.specs.Answers.{AnswersAct, IsNamed, FindsPlace, place_read_act}
+use Rattle.port_device.specs.Answers.{AnswersAct, IsNamed, FindsPlace, place_read_act, path_entry_act}
 use Rattle.port_device.specs.Groups.{is_value_by_name, is_info_by_name, is_entry_by_name, without_handles}
+use Rattle.port_device.proofs.NameLemmas.{found_by_path, found_by_none}
 use Rattle.port_device.proofs.ReadLemmas.{answers_along, refusal_answers}
 
 pub asked_value : (c : client.Client) (p : PlantPort) (g : Option Group) (len : ℕ) (name : List ℕ) → is_value_by_name g ≡ true
@@ -103,7 +106,7 @@ info_unknown w c p types len name out None h e finds =
     ∙ ap (λ x. if_found x (λ f. fixed_data (info_of f))) e)
 info_unknown w c p types len name out (Some led) h e finds = absurd finds
 
-same_group : (area : Area) → byte_number area ≡ group_of_area area
+pub same_group : (area : Area) → byte_number area ≡ group_of_area area
 same_group Inputs = refl
 same_group Outputs = refl
 same_group Memory = refl
@@ -129,6 +132,20 @@ info_found w c p types len name old new found (Some led) h e finds put =
     (ap (λ b. if b then Refusal invalid_size else if_found (found_of p.symbols name) (λ f. fixed_data (info_of f))) h
     ∙ ap (λ x. if_found x (λ f. fixed_data (info_of f))) e)
     (refl, put ∙ ap (λ bs. old ++ bs) same)
+
+-- an entry
+
+pub entry_asked : (c : client.Client) (p : PlantPort) (path : List Step) (len : ℕ) (name : List ℕ) → steps_of (plant.without_nul name) ≡ Some path
+    → read_write_group c p (Some ExtendedInfoByName) len name ≡ path_entry_act p path len
+unfolding read_write_group
+entry_asked c p path len name e = sym (ap (λ o. if_found o (λ f. fixed_reply len (entry_bytes (entry_of_part f)))) (found_by_path p.symbols name path e))
+
+pub entry_unknown : (w : World) (c : client.Client) (p : PlantPort) (len : ℕ) (name out : List ℕ) → steps_of (plant.without_nul name) ≡ None
+    → AnswersAct w (read_write_group c p (Some ExtendedInfoByName) len name) (Err C710) out out
+unfolding read_write_group
+entry_unknown w c p len name out e =
+    refusal_answers w (if_found (found_of p.symbols name) (λ f. fixed_reply len (entry_bytes (entry_of_part f)))) C710 out
+    (sym (ap (λ o. if_found o (λ f. fixed_reply len (entry_bytes (entry_of_part f)))) (found_by_none p.symbols name e)))
 
 -- answers that are passed on
 

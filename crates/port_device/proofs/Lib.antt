@@ -3,9 +3,11 @@ mod AskLemmas
 mod BitLemmas
 mod EntryRows
 pub mod FilledLemmas
+mod FoundEntries
 mod GroupLemmas
 mod ImageLemmas
 mod NameLemmas
+mod PartTexts
 mod PlaceLemmas
 mod PlaceWrites
 mod PortLemmas

@@ -6,7 +6,7 @@ use Rattle.ads_plant.specs.Listed.{NamedType}
 use Rattle.ads_plant.specs.Description.{Symbol}
 use Rattle.ads_plant.specs.World.{plant_symbol}
 use Rattle.ads_plant.specs.Entries.{symbol_entry_length, upload_size}
-use Rattle.ads_formats.specs.SymbolEntry.{entry_bytes, upload_bytes}
+use Rattle.ads_formats.specs.SymbolEntry.{SymbolEntry, entry_len, entry_bytes, upload_bytes}
 use Rattle.ads_formats.proofs.EntryLemmas.{length-entry_fields}
 use Rattle.ads_machine.specs.Entries.{entry_of_symbol}
 use Rattle.std.specs.Prelude.{Result, Ok, Err, IfOk}
@@ -16,6 +16,9 @@ use Rattle.symbol_table.specs.Tables.{SymbolTable, table_symbol, table_of, decla
 use Rattle.symbol_table.specs.Rows.{symbol_of_row, symbols_of_rows, declared_by_rows}
 use Rattle.symbol_table.specs.declared.row.SymbolRow.{SymbolRow}
 use Rattle.port_device.specs.Uploads.{described, symbols_upload}
+
+pub length-entry_bytes : (e : SymbolEntry) → length (entry_bytes e) ≡ entry_len e
+length-entry_bytes e = let fields = length-entry_fields e in omega (arith, fields)
 
 length-entry : (types : List NamedType) (s : Symbol) → length (entry_bytes (entry_of_symbol (plant_symbol types s))) ≡ symbol_entry_length types s
 length-entry types s = let e = length-entry_fields (entry_of_symbol (plant_symbol types s)) in omega (arith, e)

@@ -5,7 +5,8 @@ use Rattle.return_codes.specs.declared.code.Code.{Code}
 use Rattle.return_codes.specs.declared.code.Code.TheVariants.{C710}
 use Rattle.return_codes.specs.Code.{number_of}
 use Rattle.ads_plant.specs.Description.{size_in}
-use Rattle.ads_plant.specs.Finding.{Found}
+use Rattle.ads_plant.specs.Finding.{Found, found_of_steps}
+use Rattle.name_paths.specs.Path.{Step}
 use Rattle.ads_plant.specs.World.{PlantPort}
 use Rattle.type_layout.specs.Descriptions.{area_of}
 use Rattle.symbol_table.specs.Tables.{SymbolTable, TableSymbol}
@@ -20,9 +21,11 @@ use Rattle.ads_machine.specs.Access.{values_at}
 use Rattle.ads_machine.specs.Client as client
 use Rattle.ads_machine.specs.NumberedPlaces.{NumberedPlace, is_same_place}
 use Rattle.ads_machine.specs.Acts.{Act, Outcome, fixed_data, outcome_of}
-use Rattle.ads_machine.specs.ByName.{place_of}
+use Rattle.ads_machine.specs.ByName.{place_of, if_found}
+use Rattle.ads_machine.specs.Entries.{entry_of_part}
+use Rattle.ads_formats.specs.SymbolEntry.{entry_bytes}
 use Rattle.ads_machine.specs.Reach.{addressed_by_range, addressed_in_place}
-use Rattle.ads_machine.specs.Reads.{read_act}
+use Rattle.ads_machine.specs.Reads.{fixed_reply, read_act}
 
 -- data behind what stood there, or the code, and then nothing
 abbrev pub Answers : Outcome → Result (Unit {0}) Code → List ℕ → List ℕ → Type 0
@@ -67,6 +70,10 @@ IsNamed w p place named = is_same_place w.plant.ports p.number named (numbered p
 -- a read of the first bytes of a place
 abbrev pub place_read_act : PlantPort → client.Place → ℕ → Act
 place_read_act p named len = read_act (addressed_in_place p.number named len)
+
+-- the entry of what a path leads to
+abbrev pub path_entry_act : PlantPort → List Step → ℕ → Act
+path_entry_act p path len = if_found (found_of_steps p.symbols path) (λ f. fixed_reply len (entry_bytes (entry_of_part f)))
 
 -- the place of what a name leads to; 0x710 where it leads to nothing
 abbrev pub FindsPlace : World → PlantPort → Option Found → Result Place Code → Type 0

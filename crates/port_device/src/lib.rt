@@ -13,10 +13,10 @@ mod naming;
 mod port;
 mod ports;
 mod reading;
+mod reloading;
 mod type_ids;
 mod upload;
 mod uploads;
-mod reloading;
 mod writable;
 mod writing;
 

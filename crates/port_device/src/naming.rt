@@ -49,7 +49,7 @@ impl Port {
 }
 
 // What a path leads to; nobody counts the steps.
-fn find_in<'a, L: Ledger>(
+pub(crate) fn find_in<'a, L: Ledger>(
     table: &'a Table,
     types: &'a Types,
     path: &Path<'_>,
@@ -68,7 +68,7 @@ fn find_in<'a, L: Ledger>(
 }
 
 // A name without the NUL at its end.
-fn without_nul(name: &[u8]) -> &[u8]
+pub(crate) fn without_nul(name: &[u8]) -> &[u8]
     ensures { result.now ≡ without_nul name.now }
 {
     if name.is_empty() {

@@ -26,7 +26,7 @@ pub returns-then-is_entry_by_name-clause-answer : goal.returns-then-is_entry_by_
 returns-then-is_entry_by_name-clause-answer c =
     let g = group_of c.args.group in
     asked_as c.args.self.now c.entry_by_name.result (λ w d p. read_write_group d p (Some ExtendedInfoByName) c.args.len c.args.name.now)
-    (λ w d p. read_write_group d p (without_handles g) c.args.len c.args.name.now) c.args.out.now c.entry_by_name.new._out
+    (λ w d p. read_write_group d p (without_handles g) c.args.len c.args.name.now) c.args.out.now c.entry_by_name.new.out
     (λ w d p. asked_entry d p g c.args.len c.args.name.now (sym c.is_entry_by_name.ensures ∙ c.if-is_entry_by_name.true)) c.entry_by_name.ensures.answer
 
 pub returns-clause-answer : goal.returns-clause-answer
