@@ -4,6 +4,9 @@ mod BitLemmas
 mod EntryRows
 pub mod FilledLemmas
 mod FoundEntries
+pub mod BuiltLemmas
+pub mod FilledLemmas
+pub mod FirstPortLemmas
 mod GroupLemmas
 mod ImageLemmas
 mod NameLemmas

@@ -12,3 +12,4 @@ pub mod InsidePorts
 pub mod PlaceOfPort
 pub mod KeptSymbols
 pub mod PlacedBytes
+pub mod FirstPorts

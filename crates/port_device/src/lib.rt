@@ -4,9 +4,12 @@
 mod areas;
 mod asking;
 mod bits;
+mod building;
+mod copying;
 mod counting;
 mod described;
 mod entries;
+mod first_image;
 mod group;
 mod moving;
 mod naming;

@@ -11,6 +11,9 @@ ghost use Rattle.port_device.specs.Holds.{HoldsPorts, WasAccepted};
 ghost use Rattle.port_device.specs.PlaceOfPort.{place_numbered};
 
 use crate::Port;
+use crate::building::first_ports;
+use crate::copying::shared_types;
+use crate::counting::types_size;
 use ads_base::NoMemory;
 use std::alloc::Global;
 use std::marker::Model;
@@ -40,12 +43,18 @@ impl Ports {
     ghost use Rattle.port_device.specs.Lends.{LendsPort};
 
     /// The ports of an accepted description, with their first bytes, in state 5 (RUN) and with symbol version 1.
-    pub fn build(_alloc: Global, d: &Description) -> Result<Ports, NoMemory>
+    pub fn build(alloc: Global, d: &Description) -> Result<Ports, NoMemory>
         requires { WasAccepted (description_of d.now) }
         ensures { IfOk result (λ ports. (signals : List Wave) → HoldsPorts (world_of (description_of d.now) signals) ports) }
     {
-        let _types = &d.types;
-        Err(NoMemory)
+        let types = shared_types(alloc, &d.types)?;
+        let types_len = types_size(alloc, &types)?;
+        let ports = first_ports(alloc, &types, types_len, d.ports.as_slice(), 1)?;
+        Ok(Ports {
+            types,
+            version: 1,
+            ports,
+        })
     }
 
     /// The port with a number.

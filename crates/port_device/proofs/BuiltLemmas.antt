@@ -1,0 +1,85 @@
+-- The ports that are built of an accepted description hold its world.
+use Rattle.std.proofs.Common.{◌≡◌, ℕ, zero, suc, ◌<◌, List, [], ◌∷◌, length, map, refl, sym, ◌∙◌, ap, subst, arith}
+use Rattle.std.specs.Prelude.{Some, slice_get, slice_index_or, All}
+use Rattle.signals.specs.Wave.{Wave}
+use Rattle.ads_plant.specs.Listed.{NamedType}
+use Rattle.ads_plant.specs.Description.{Port, Description}
+use Rattle.ads_plant.specs.World.{PlantPort, Block, plant_port, plant_of}
+use Rattle.ads_plant.specs.Sound.{Each, IsSoundPort, IsSoundPlant}
+use Rattle.ads_plant.proofs.SoundLemmas.{accepted_are_sound, accepted_are_numbered_apart}
+use Rattle.ads_machine.specs.World.{World, RUN, first_memory, world_of}
+use Rattle.ads_machine.specs.PortBytes.{PortBytes, Holds}
+use Rattle.ads_machine.proofs.Reloaded.{begins_with_first_image}
+use Rattle.symbol_table.specs.Tables.{IsTableOf}
+use Rattle.type_layout.specs.Descriptions.{port_of, ports_of, description_of}
+use Rattle.type_layout.specs.declared.port.PortDesc.{PortDesc}
+use Rattle.type_layout.specs.declared.description.Description as layout
+use Rattle.port_device.specs.PortMemory.{PortMemory, PortsMemory}
+use Rattle.port_device.specs.Holds.{HoldsPort, HoldEach, HoldsPorts, WasAccepted}
+use Rattle.port_device.specs.FirstPorts.{IsOfAccepted, IsFirstPort, AreFirstPorts}
+
+-- each port of a description that was accepted
+pub each_of_accepted : (d : layout.Description) (types : List NamedType) → WasAccepted (description_of d) → (description_of d).types ≡ types
+    → All (λ (p : PortDesc). IsOfAccepted types (port_of p)) d.ports
+each_of_accepted d types was e k x u = record {
+  description = description_of d;
+  signals = was.signals;
+  accepted = was.is;
+  types_are = e;
+  place = k;
+  there = there d.ports k u;
+}
+  where
+    there : (ps : List PortDesc) (i : ℕ) → i < length ps → slice_get (ports_of ps) i ≡ Some (port_of (slice_index_or ps i x))
+    there [] i h = absurd (omega (arith, h))
+    there (p ∷ ps) zero h = refl
+    there (p ∷ ps) (suc i) h = there ps i (omega (arith, h))
+
+-- the bytes of one of them
+first-bytes : (d : Description) (types : List NamedType) (version : ℕ) (port : Port) (m : PortMemory) → IsSoundPlant (plant_of d) → d.types ≡ types
+    → IsSoundPort (plant_of d).ports (plant_port types port) → IsFirstPort types port version m
+    → Holds (first_memory (plant_of d)) (plant_port types port) m.bytes
+first-bytes d types version port m sound e p first =
+    let held = begins_with_first_image (plant_of d) (plant_port types port) m.bytes.image sound p.found first.image in
+    let same : ◌≡◌ {A = PortBytes} (record { image = m.bytes.image; ads = RUN; device = 0 }) m.bytes
+    = ap (λ n. record { image = m.bytes.image; ads = n; device = 0 }) (sym first.ads)
+    ∙ ap (λ n. record { image = m.bytes.image; ads = m.bytes.ads; device = n }) (sym first.device) in
+    subst (Holds (first_memory (plant_of d)) (plant_port types port)) same held
+
+-- each holds its port
+first_each : (d : Description) (waves : List Wave) (types : List NamedType) (ps : List Port) (ms : List PortMemory) → IsSoundPlant (plant_of d) → d.types ≡ types
+    → Each (IsSoundPort (plant_of d).ports) (map (plant_port types) ps) → AreFirstPorts types 1 ps ms
+    → HoldEach (world_of d waves) (map (plant_port types) ps) ms
+first_each d waves types [] [] sound e ports first = tt
+first_each d waves types [] (m ∷ ms) sound e ports first = absurd first
+first_each d waves types (p ∷ ps) [] sound e ports first = absurd first
+first_each d waves types (p ∷ ps) (m ∷ ms) sound e ports first =
+    let f = first.0 in (
+      record {
+        port = p;
+        plant = ap (λ ts. plant_port ts p) (sym f.types_are);
+        table = subst (λ ts. IsTableOf ts p m.table) (sym f.types_are) f.table;
+        number = f.number;
+        facts = f.facts;
+        types = f.types_are ∙ sym e;
+        version = f.version_is;
+        plant_sound = sound;
+        sound = ports.0;
+        holds = first-bytes d types 1 p m sound e (ports.0) f;
+      },
+      first_each d waves types ps ms sound e (ports.1) (first.1),
+    )
+
+pub first_ports_hold : (d : Description) (waves : List Wave) (types : List NamedType) (ms : List PortMemory) → WasAccepted d → d.types ≡ types
+    → AreFirstPorts types 1 d.ports ms → HoldsPorts (world_of d waves) (record { types = types; version = 1; ports = ms })
+first_ports_hold d waves types ms was e first =
+    let sound = accepted_are_sound d was.signals was.is in
+    let P : List NamedType → Type 0 = λ ts. HoldEach (world_of d waves) (map (plant_port ts) d.ports) ms in
+    let Q : List NamedType → Type 0 = λ ts. Each (IsSoundPort (plant_of d).ports) (map (plant_port ts) d.ports) in
+    record {
+      types = sym e;
+      version = refl;
+      plant_sound = sound;
+      apart = accepted_are_numbered_apart d was.signals was.is;
+      each = subst P (sym e) (first_each d waves types d.ports ms sound e (subst Q e sound) first);
+    }

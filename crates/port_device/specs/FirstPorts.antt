@@ -1,0 +1,45 @@
+-- The ports of an accepted description as they begin.
+use Rattle.std.specs.Prelude.{◌≡◌, ℕ, ◌+◌, ◌≤◌, List, [], ◌∷◌, length, slice_get, Some}
+use Rattle.ads_plant.specs.Listed.{NamedType}
+use Rattle.ads_plant.specs.Description.{Sizes, size_in, Port, Description}
+use Rattle.ads_plant.specs.Accepted.{IsAccepted}
+use Rattle.ads_plant.specs.World.{plant_port}
+use Rattle.symbol_table.specs.Rows.{symbol_of_row}
+use Rattle.symbol_table.specs.Tables.{TableSymbol, IsTableOf}
+use Rattle.symbol_table.specs.declared.row.SymbolRow.{SymbolRow}
+use Rattle.ads_machine.specs.World.{RUN}
+use Rattle.ads_machine.specs.PortLaws.{IsFirstImage}
+use Rattle.port_device.specs.PortMemory.{PortMemory}
+
+-- a port of an accepted description with these types
+pub record IsOfAccepted (types : List NamedType) (port : Port) : Type 0 where
+  pub description : Description
+  pub signals : ℕ
+  pub accepted : IsAccepted description signals
+  pub types_are : description.types ≡ types
+  pub place : ℕ
+  pub there : slice_get description.ports place ≡ Some port
+
+-- its initial bytes lie in its area
+abbrev pub FitsSymbol : Sizes → TableSymbol → Type 0
+FitsSymbol sizes s = s.offset + length s.initial ≤ size_in sizes s.area
+
+abbrev pub FitsRow : Sizes → SymbolRow → Type 0
+FitsRow sizes r = FitsSymbol sizes (symbol_of_row r)
+
+-- a port as it begins, with this symbol version: it has its first bytes, and runs
+pub record IsFirstPort (types : List NamedType) (port : Port) (version : ℕ) (m : PortMemory) : Type 0 where
+  pub types_are : m.types ≡ types
+  pub number : m.number ≡ port.number
+  pub facts : m.facts ≡ port.facts
+  pub version_is : m.version ≡ version
+  pub table : IsTableOf types port m.table
+  pub ads : m.bytes.ads ≡ RUN
+  pub device : m.bytes.device ≡ 0
+  pub image : IsFirstImage (plant_port types port) m.bytes.image
+
+-- each port of a list as it begins, in the same order
+abbrev pub AreFirstPorts : List NamedType → ℕ → List Port → List PortMemory → Type 0
+AreFirstPorts types version [] [] = Unit {0}
+AreFirstPorts types version (p ∷ ps) (m ∷ ms) = IsFirstPort types p version m × AreFirstPorts types version ps ms
+AreFirstPorts types version ps ms = ⊥
