@@ -36,7 +36,13 @@ impl Model for Ports {
 
     ghost use Rattle.port_device.specs.InsidePorts.{ports_in};
 
+    ghost use Rattle.std.specs.Arc.{arc_value};
+    ghost use Rattle.ads_plant.specs.AcceptedTypes.{AreTypes};
+    ghost use Rattle.type_layout.specs.NamedTypes.{types_of};
+
     ghost view = { ports_in };
+
+    ghost invariant = { λ p. AreTypes (types_of (arc_value p.types)) };
 }
 
 impl Ports {
