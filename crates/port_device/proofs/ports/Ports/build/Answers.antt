@@ -26,3 +26,6 @@ returns c =
     let P : List PortDesc → Type 0 = λ ps. AreFirstPorts types 1 (ports_of ps) c.in_ok-ports.ports.items in
     let first = subst P c.as_slice.ensures c.in_ok-ports.ensures in
     λ signals. first_ports_hold (description_of c.args.d.now) signals types c.in_ok-ports.ports.items c.requires (sym c.in_ok-types.ensures) first
+
+pub invariant_of-result : goal.invariant_of-result
+invariant_of-result c = subst AreTypes (sym c.in_ok-types.ensures) c.requires.is.types
