@@ -1,11 +1,10 @@
 -- An image of zeros into which each symbol of a sound port put as many bytes as it has.
-use Rattle.std.proofs.Common.{◌≡◌, ℕ, zero, suc, ◌+◌, ◌<◌, List, [], ◌∷◌, map, length, replicate, true, false, refl, sym, ◌∙◌, ap, arith}
+use Rattle.std.proofs.Common.{◌≡◌, ℕ, zero, suc, ◌+◌, ◌<◌, List, [], ◌∷◌, map, length, replicate, false, refl, sym, ◌∙◌, ap, arith}
 use Rattle.std.specs.Prelude.{Some, slice_get, option_map}
 use Rattle.std.specs.List.{list_any}
-use Rattle.std.proofs.lemmas.Bool.{false≢true}
 use Rattle.std.proofs.lemmas.Option.{slice_get-map}
 use Rattle.ads_plant.specs.Listed.{NamedType}
-use Rattle.ads_plant.specs.Description.{Area, Sizes, Symbol, size_in}
+use Rattle.ads_plant.specs.Description.{Area, Symbol, size_in}
 use Rattle.ads_plant.specs.World.{PlantPort, PlantSymbol, plant_symbol, symbol_size}
 use Rattle.ads_plant.specs.Accepted.{image_size}
 use Rattle.ads_plant.specs.Covering.{covers, is_byte_of}
@@ -16,7 +15,7 @@ use Rattle.ads_machine.specs.PortBytes.{start_in, image_byte}
 use Rattle.ads_machine.proofs.ImageLemmas.{area_within}
 use Rattle.symbol_table.specs.Tables.{TableSymbol, table_symbol}
 use Rattle.port_device.specs.PlacedBytes.{PlacedBytes, placed_symbol, with_all_bytes, is_put_at, FitsArea, PutNoByteTwice, ArePutApart}
-use Rattle.port_device.proofs.PutLemmas.{ArePut, all_put}
+use Rattle.port_device.proofs.PutLemmas.{all_put}
 
 -- bytes of a symbol, at its place
 abbrev pub placed : (PlantSymbol → List ℕ) → PlantSymbol → PlacedBytes
@@ -75,21 +74,26 @@ zero-count : (n : ℕ) → length {A = ℕ} (replicate n 0) ≡ n
 zero-count zero = refl
 zero-count (suc n) = ap (λ k. suc k) (zero-count n)
 
-pub filled : (ports : List PlantPort) (p : PlantPort) (f : PlantSymbol → List ℕ) → IsSoundPort ports p → Each (Fills f) p.symbols
-    → IsFilled p f (with_all_bytes p.sizes (replicate (image_size p.sizes) 0) (map (placed f) p.symbols))
-filled ports p f sound fills =
-    let empty : List ℕ = replicate (image_size p.sizes) 0 in
-    let long = zero-count (image_size p.sizes) in
-    let put = all_put p.sizes (map (placed f) p.symbols) empty long (all_fit p f p.symbols sound.symbols fills) (put_apart f p.symbols fills sound.bytes) in
+-- over an image whose gaps are zeros
+pub filled_over : (ports : List PlantPort) (p : PlantPort) (f : PlantSymbol → List ℕ) (image : List ℕ) → IsSoundPort ports p → Each (Fills f) p.symbols
+    → length image ≡ image_size p.sizes
+    → ((area : Area) (offset : ℕ) → offset < size_in p.sizes area → is_covered p area offset ≡ false → image_byte p.sizes image area offset ≡ Some 0)
+    → IsFilled p f (with_all_bytes p.sizes image (map (placed f) p.symbols))
+filled_over ports p f image sound fills long gaps =
+    let put = all_put p.sizes (map (placed f) p.symbols) image long (all_fit p f p.symbols sound.symbols fills) (put_apart f p.symbols fills sound.bytes) in
     record {
       long = put.long ∙ long;
       symbols = λ n s k g u.
           let same : length (f s) ≡ symbol_size s = each-get (Fills f) p.symbols n s fills g in
           put.each n (placed f s) k (slice_get-map (placed f) p.symbols n ∙ ap (option_map (placed f)) g) (omega (arith, same, u));
-      gaps = λ area offset u c.
-          let whole = area_within p.sizes area in
-          put.rest area offset u (none-put f p.symbols area offset fills ∙ c) ∙ zeros (image_size p.sizes) (start_in p.sizes area + offset) (omega (arith, whole, u));
+      gaps = λ area offset u c. put.rest area offset u (none-put f p.symbols area offset fills ∙ c) ∙ gaps area offset u c;
     }
+
+pub filled : (ports : List PlantPort) (p : PlantPort) (f : PlantSymbol → List ℕ) → IsSoundPort ports p → Each (Fills f) p.symbols
+    → IsFilled p f (with_all_bytes p.sizes (replicate (image_size p.sizes) 0) (map (placed f) p.symbols))
+filled ports p f sound fills =
+    filled_over ports p f (replicate (image_size p.sizes) 0) sound fills (zero-count (image_size p.sizes)) (λ area offset u c.
+    let whole = area_within p.sizes area in zeros (image_size p.sizes) (start_in p.sizes area + offset) (omega (arith, whole, u)))
 
 -- symbols of a table, and of its plant's port, that have the same bytes
 pub placed-table : (types : List NamedType) (g : TableSymbol → List ℕ) (f : PlantSymbol → List ℕ) (ss : List Symbol)

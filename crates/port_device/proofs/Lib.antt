@@ -19,5 +19,7 @@ pub mod PutLemmas
 mod ReadLemmas
 pub mod UploadLengths
 mod UploadReads
+pub mod ReloadLemmas
+pub mod ReloadedImage
 mod WritableLemmas
 mod WriteLemmas

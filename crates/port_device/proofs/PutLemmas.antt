@@ -40,7 +40,7 @@ tail [] ys k = let e : 0 + k ≡ k = omega arith in ap (slice_get ys) e
 tail (x ∷ xs) ys k =
     let e : length (x ∷ xs) + k ≡ suc (length xs + k) = omega arith in ap (slice_get (x ∷ (xs ++ ys))) e ∙ tail xs ys k
 
-dropped : (xs : List ℕ) (n k : ℕ) → slice_get (drop n xs) k ≡ slice_get xs (n + k)
+pub dropped : (xs : List ℕ) (n k : ℕ) → slice_get (drop n xs) k ≡ slice_get xs (n + k)
 dropped [] zero k = refl
 dropped [] (suc n) k = refl
 dropped (x ∷ xs) zero k = let e : k ≡ 0 + k = omega arith in ap (slice_get (x ∷ xs)) e

@@ -13,3 +13,4 @@ pub mod PlaceOfPort
 pub mod KeptSymbols
 pub mod PlacedBytes
 pub mod FirstPorts
+pub mod Reloaded

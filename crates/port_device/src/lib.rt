@@ -11,6 +11,7 @@ mod described;
 mod entries;
 mod first_image;
 mod group;
+mod kept;
 mod moving;
 mod naming;
 mod port;

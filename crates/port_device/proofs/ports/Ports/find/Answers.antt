@@ -2,7 +2,7 @@ use Rattle.std.proofs.Common.{◌≡◌, ◌∙◌, ap}
 use Rattle.std.specs.Prelude.{slice_get}
 use Rattle.std.specs.List.{HoldsAt}
 use Rattle.std.specs.Borrow.{Bor}
-use Rattle.port_device.specs.PortMemory.{PortMemory, PortsMemory, memory_numbered}
+use Rattle.port_device.specs.PortMemory.{PortMemory, PortsMemory}
 use Rattle.port_device.specs.InsidePorts.{ports_in}
 use Rattle.port_device.specs.PlaceOfPort.{place_numbered}
 use Rattle.port_device.proofs.PortsLemmas.{get-place_numbered, looked_up}

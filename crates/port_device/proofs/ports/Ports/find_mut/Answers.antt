@@ -1,9 +1,9 @@
 use borrow.Follows.Closed.{read_of}
-use Rattle.std.proofs.Common.{◌≡◌, List, ◌∙◌, ap}
+use Rattle.std.proofs.Common.{◌≡◌, ◌∙◌, ap}
 use Rattle.std.specs.Prelude.{slice_get}
 use Rattle.std.specs.Borrow.{MutBor}
 use Rattle.std.specs.Option.{ghost_name_of}
-use Rattle.port_device.specs.PortMemory.{PortMemory, PortsMemory, memory_numbered}
+use Rattle.port_device.specs.PortMemory.{PortMemory, PortsMemory}
 use Rattle.port_device.specs.InsidePorts.{ports_in}
 use Rattle.port_device.specs.PlaceOfPort.{place_numbered}
 use Rattle.port_device.proofs.PortsLemmas.{get-place_numbered, lent_at, with_place}
