@@ -1,6 +1,8 @@
 //! The session of one client: what it sends is cut into frames, and each is answered from the ports.
 #![tactic(auto)]
 
+mod groups;
+mod looking;
 mod session;
 mod taken;
 

@@ -1,0 +1,8 @@
+use Rattle.session.proofs.LookLemmas.{looks-up, looked-placed}
+use Rattle.session.proofs.looking.look.Goals as goal
+
+pub returns-clause-looks : goal.returns-clause-looks
+returns-clause-looks c = λ ports hs kept_for. looks-up ports hs _ c.args.handle c.args.number _ kept_for c.look.ensures.answer
+
+pub returns-clause-placed : goal.returns-clause-placed
+returns-clause-placed c = looked-placed c.args.port.now c.args.handles.now c.args.handle c.args.number _ c.requires.some c.requires.number c.look.ensures.answer

@@ -1,0 +1,21 @@
+-- The groups of handles and of sums, which a session answers and no port does. No public clause cites this file.
+use Rattle.std.specs.Prelude.{Bool, true, false, Option, Some}
+use Rattle.ads_formats.specs.Groups.{Group, HandleByName, ValueByHandle, ReleaseHandle, SumRead, SumWrite, SumReadWrite}
+
+abbrev pub is_handle_by_name : Option Group → Bool
+is_handle_by_name (Some HandleByName) = true
+is_handle_by_name group = false
+
+abbrev pub is_value_by_handle : Option Group → Bool
+is_value_by_handle (Some ValueByHandle) = true
+is_value_by_handle group = false
+
+abbrev pub is_release : Option Group → Bool
+is_release (Some ReleaseHandle) = true
+is_release group = false
+
+abbrev pub is_sum : Option Group → Bool
+is_sum (Some SumRead) = true
+is_sum (Some SumWrite) = true
+is_sum (Some SumReadWrite) = true
+is_sum group = false

@@ -1,0 +1,47 @@
+//! The groups of handles and of sums.
+
+ghost use Rattle.std.specs.Prelude.{◌≡◌};
+ghost use Rattle.ads_formats.specs.Groups.{group_of};
+ghost use Rattle.session.specs.HandleGroups as groups;
+
+use port_device::{Group, group_named};
+
+/// Whether the group of a number gives a handle by a name.
+pub(crate) fn is_handle_by_name(number: u32) -> bool
+    ensures { result ≡ groups.is_handle_by_name (group_of number) }
+{
+    match group_named(number) {
+        Some(Group::HandleByName) => true,
+        _ => false,
+    }
+}
+
+/// Whether the group of a number is that of values by their handles.
+pub(crate) fn is_value_by_handle(number: u32) -> bool
+    ensures { result ≡ groups.is_value_by_handle (group_of number) }
+{
+    match group_named(number) {
+        Some(Group::ValueByHandle) => true,
+        _ => false,
+    }
+}
+
+/// Whether the group of a number releases a handle.
+pub(crate) fn is_release(number: u32) -> bool
+    ensures { result ≡ groups.is_release (group_of number) }
+{
+    match group_named(number) {
+        Some(Group::ReleaseHandle) => true,
+        _ => false,
+    }
+}
+
+/// Whether the group of a number is that of a sum.
+pub(crate) fn is_sum(number: u32) -> bool
+    ensures { result ≡ groups.is_sum (group_of number) }
+{
+    match group_named(number) {
+        Some(Group::SumRead) | Some(Group::SumWrite) | Some(Group::SumReadWrite) => true,
+        _ => false,
+    }
+}

@@ -1,0 +1,59 @@
+//! The place of a handle, and the bytes there.
+
+ghost use Rattle.std.specs.Prelude.{◌≡◌, List, IfOk, OnErr};
+ghost use Rattle.ads_plant.specs.World.{PlantPort};
+ghost use Rattle.ads_machine.specs.Client as client;
+ghost use Rattle.ads_machine.specs.Handles as machine;
+ghost use Rattle.ads_machine.specs.Reach.{addressed_by_status};
+ghost use Rattle.ads_machine.specs.Reads.{read_act};
+ghost use Rattle.port_device.specs.Answers.{AnswersAct, IsPlaceOf};
+ghost use Rattle.session.specs.Asking.{Asking};
+ghost use Rattle.session.specs.Asks.{Asks, SomeAsks, LooksUp};
+ghost use Rattle.session.specs.StandsFor.{KeptFor};
+
+use ads_base::{NoMemory, Octets};
+use port_device::Port;
+use return_codes::Code;
+use std::alloc::Global;
+use sym_handles::Handles;
+use symbol_table::Place;
+
+/// The place of a handle of this port; 0x710 where it was never granted here or is released, 0x711 where it is outdated.
+pub(crate) fn look(
+    handles: &Handles,
+    port: &Port,
+    number: u16,
+    handle: u32,
+) -> Result<Place, Code>
+    requires some { SomeAsks port.now handles.now }
+    requires number { number ≡ port.now.number }
+    ensures looks { (ports : List PlantPort) (hs : List (machine.Handle client.Place)) → KeptFor ports hs handles.now
+        → LooksUp ports number (machine.kept_status hs handle number) result }
+    ensures placed { IfOk result (IsPlaceOf port.now.table) }
+{
+    let _known = port;
+    handles.look(handle, number)
+}
+
+/// Appends the first bytes of a value by its handle.
+pub(crate) fn read_value(
+    alloc: Global,
+    handles: &Handles,
+    port: &Port,
+    number: u16,
+    handle: u32,
+    len: u32,
+    out: &mut Octets,
+) -> Result<Result<(), Code>, NoMemory>
+    requires some { SomeAsks port.now handles.now }
+    requires number { number ≡ port.now.number }
+    ensures answer { IfOk result (λ answer. (a : Asking) → Asks a port.now handles.now
+        → AnswersAct a.world (read_act (addressed_by_status a.asker.port.number
+        (machine.kept_status a.client.handles handle a.asker.port.number) len)) answer out.old out.new) }
+    ensures no_memory { OnErr result (out.new ≡ out.old) }
+{
+    match look(handles, port, number, handle) {
+        Ok(place) => port.read_place(alloc, place, len, out),
+        Err(code) => Ok(Err(code)),
+    }
+}
