@@ -1,2 +1,3 @@
 pub mod LookLemmas
 pub mod ValueLemmas
+pub mod PortsKept

@@ -77,17 +77,21 @@ placed-in types symbols place named s there is =
     let p = plant_symbol types s in
     let q = numbered place in
     let first : (bytes_eq (lower_name p) named.symbol && is_same_area q.area p.area && (q.first == p.offset + named.first) && (q.len == named.len) ≡ true)
-        × (nat_le (named.first + named.len) (symbol_size p) ≡ true) = and_parts _ _ is in
+    × (nat_le (named.first + named.len) (symbol_size p) ≡ true) = and_parts _ _ is in
     let second : (bytes_eq (lower_name p) named.symbol && is_same_area q.area p.area && (q.first == p.offset + named.first) ≡ true)
-        × ((q.len == named.len) ≡ true) = and_parts _ _ first.0 in
+    × ((q.len == named.len) ≡ true) = and_parts _ _ first.0 in
     let third : (bytes_eq (lower_name p) named.symbol && is_same_area q.area p.area ≡ true)
-        × ((q.first == p.offset + named.first) ≡ true) = and_parts _ _ second.0 in
+    × ((q.first == p.offset + named.first) ≡ true) = and_parts _ _ second.0 in
     let fourth : (bytes_eq (lower_name p) named.symbol ≡ true) × (is_same_area q.area p.area ≡ true) = and_parts _ _ third.0 in
     let begins : place.«at» ≡ s.offset + named.first = eqb-true q.first (p.offset + named.first) third.1 in
     let long : place.len ≡ named.len = eqb-true q.len named.len second.1 in
-    let ends : named.first + named.len ≤ symbol_size p = leb-true (named.first + named.len) (symbol_size p) first.1 in
-    (table_symbol types s, slice_get-map (table_symbol types) symbols place.symbol ∙ ap (option_map (table_symbol types)) there,
-    same_area-true q.area p.area fourth.1, omega (arith, begins), omega (arith, begins, long, ends))
+    let ends : named.first + named.len ≤ symbol_size p = leb-true (named.first + named.len) (symbol_size p) first.1 in (
+      table_symbol types s,
+      slice_get-map (table_symbol types) symbols place.symbol ∙ ap (option_map (table_symbol types)) there,
+      same_area-true q.area p.area fourth.1,
+      omega (arith, begins),
+      omega (arith, begins, long, ends),
+    )
 
 placed-at : (types : List NamedType) (symbols : List Symbol) (place : Place) (named : client.Place) (o : Option Symbol) → slice_get symbols place.symbol ≡ o
     → option_map_or (is_place_in named (numbered place)) (option_map (plant_symbol types) o) false ≡ true

@@ -47,9 +47,9 @@ read-live w p m place len Outdated answer old new h looks said = absurd looks
 pub value-read : (m : PortMemory) (kept : Kept) (number handle len : ℕ) (place : Place) (r : Result (Result (Unit {0}) Code) NoMemory) (old new : List ℕ)
     → number ≡ m.number → LookedUp number handle kept (Ok place)
     → IfOk r (λ answer. (v : World) (q : PlantPort) (named : client.Place) → HoldsPort v q m → IsNamed v q place named
-        → AnswersAct v (place_read_act q named len) answer old new)
+    → AnswersAct v (place_read_act q named len) answer old new)
     → IfOk r (λ answer. (a : Asking) → Asks a m kept
-        → AnswersAct a.world (read_act (addressed_by_status a.asker.port.number (kept_status a.client.handles handle a.asker.port.number) len)) answer old new)
+    → AnswersAct a.world (read_act (addressed_by_status a.asker.port.number (kept_status a.client.handles handle a.asker.port.number) len)) answer old new)
 value-read m kept number handle len place (Err no_memory) old new is looked said = tt
 value-read m kept number handle len place (Ok answer) old new is looked said = λ a asks.
     read-live a.world a.asker.port m place len (kept_status a.client.handles handle a.asker.port.number) answer old new asks.held

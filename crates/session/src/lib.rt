@@ -4,6 +4,7 @@
 mod groups;
 mod looking;
 mod session;
+mod take;
 mod taken;
 
 pub use session::Session;

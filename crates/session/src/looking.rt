@@ -19,12 +19,7 @@ use sym_handles::Handles;
 use symbol_table::Place;
 
 /// The place of a handle of this port; 0x710 where it was never granted here or is released, 0x711 where it is outdated.
-pub(crate) fn look(
-    handles: &Handles,
-    port: &Port,
-    number: u16,
-    handle: u32,
-) -> Result<Place, Code>
+pub(crate) fn look(handles: &Handles, port: &Port, number: u16, handle: u32) -> Result<Place, Code>
     requires some { SomeAsks port.now handles.now }
     requires number { number ≡ port.now.number }
     ensures looks { (ports : List PlantPort) (hs : List (machine.Handle client.Place)) → KeptFor ports hs handles.now

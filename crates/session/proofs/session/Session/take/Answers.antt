@@ -1,0 +1,5 @@
+use Rattle.session.proofs.PortsKept.{keep-same, keep-with}
+use Rattle.session.proofs.session.Session.take.Goals as goal
+
+pub returns-clause-keeps : goal.returns-clause-keeps
+returns-clause-keeps c = keep-same c.args._ports.now

@@ -1,0 +1,45 @@
+-- What a session makes of an AMS packet, against the machine.
+use Rattle.std.specs.Prelude.{◌≡◌, ℕ, ◌<◌, ◌≤◌, ◌^◌, List, length}
+use Rattle.ads_frames.specs.Frame.{frame_bytes}
+use Rattle.ads_plant.specs.Description.{Route}
+use Rattle.ads_plant.specs.Rights.{rights_of}
+use Rattle.ads_plant.specs.World.{Plant}
+use Rattle.ads_machine.specs.Answers.{all_answered}
+use Rattle.ads_machine.specs.Client.{Client}
+use Rattle.ads_machine.specs.Device.{Answer, Answered, Silent, Closing, FrameOutcome}
+use Rattle.ads_machine.specs.Packets.{decide}
+use Rattle.ads_machine.specs.Replies.{performed}
+use Rattle.ads_machine.specs.World.{World, setup_of}
+use Rattle.port_device.specs.PortMemory.{PortsMemory}
+use Rattle.port_device.specs.Holds.{HoldsPorts}
+use Rattle.session.specs.declared.taken.Taken.{Taken}
+use Rattle.session.specs.declared.taken.Taken.TheVariants as taken
+use Rattle.session.specs.SessionState.{SessionState}
+use Rattle.session.specs.StandsFor.{StandsFor}
+
+-- what the server that answers everything makes of an AMS packet
+abbrev pub outcome_of_packet : World → Client → List ℕ → FrameOutcome World Client
+outcome_of_packet w c ams = performed (decide all_answered (setup_of w) c ams) ams w c
+
+-- this is the plant's NetId, and these are its routes
+pub record HasAddress (plant : Plant) (net : List ℕ) (routes : List Route) : Type 0 where
+  pub net_is : plant.net ≡ net
+  pub routes_are : (n : List ℕ) → rights_of n routes ≡ rights_of n plant.routes
+
+-- the answer of the machine, as a whole frame
+abbrev pub IsAnswer : Answer → Taken → Type 0
+IsAnswer (Answered packet) (taken.Answer frame) = frame ≡ frame_bytes packet
+IsAnswer Silent taken.Silent = Unit {0}
+IsAnswer Closing taken.Close = Unit {0}
+IsAnswer _ _ = ⊥
+
+-- what comes of a packet: its answer, and ports and session that stand for the world and the client after it
+pub record Takes (o : FrameOutcome World Client) (answer : Taken) (ports : PortsMemory) (s : SessionState) : Type 0 where
+  pub answered : IsAnswer o.answer answer
+  pub held : HoldsPorts o.world ports
+  pub stands : StandsFor o.world.plant o.client s
+
+-- a frame has a header, and its length fits 32 bits
+abbrev pub FitsFrame : Taken → Type 0
+FitsFrame (taken.Answer frame) = (38 ≤ length frame) × (length frame < 2 ^ 32)
+FitsFrame _ = Unit {0}
