@@ -20,9 +20,13 @@ act_asked a r = act_of all_answered (setup_of a.world) a.client a.asker r
 abbrev pub outcome_asked : Asking → Request → Outcome
 outcome_asked a r = outcome_of a.world.memory (act_asked a r)
 
-abbrev pub asking_after : Asking → Request → Asking
-asking_after a r = record {
-  world = world_after_act a.world (act_asked a r);
-  client = client_after a.client (effect_of (act_asked a r));
+-- the asking after an act
+abbrev pub after_act : Asking → Act → Asking
+after_act a act = record {
+  world = world_after_act a.world act;
+  client = client_after a.client (effect_of act);
   asker = a.asker;
 }
+
+abbrev pub asking_after : Asking → Request → Asking
+asking_after a r = after_act a (act_asked a r)

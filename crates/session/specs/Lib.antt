@@ -5,3 +5,5 @@ pub mod Takes
 pub mod Asking
 pub mod HandleGroups
 pub mod Asks
+pub mod Ends
+pub mod Grants

@@ -1,11 +1,14 @@
 //! The session of one client: what it sends is cut into frames, and each is answered from the ports.
 #![tactic(auto)]
 
+mod granting;
 mod groups;
 mod looking;
+mod reading;
 mod session;
 mod take;
 mod taken;
+mod writing;
 
 pub use session::Session;
 pub use taken::Taken;

@@ -1,0 +1,40 @@
+use Rattle.std.proofs.Common.{sym}
+use Rattle.ads_formats.specs.Groups.{group_of}
+use Rattle.ads_formats.specs.Request.{Read}
+use Rattle.ads_machine.specs.World.{World, setup_of}
+use Rattle.ads_machine.specs.Client.{Client}
+use Rattle.ads_machine.specs.Handles.{kept_status}
+use Rattle.ads_machine.specs.Reach.{addressed_by_status}
+use Rattle.ads_machine.specs.Reads.{read_act, read_group}
+use Rattle.ads_plant.specs.World.{PlantPort}
+use Rattle.port_device.specs.Groups.{without_handles}
+use Rattle.session.specs.Asking.{Asking, act_asked}
+use Rattle.session.proofs.ReadLemmas.{read-by-handle, read-by-port, answer-along, port-answer, read-asked}
+use Rattle.session.proofs.reading.read.Goals as goal
+
+pub returns-then-is_value_by_handle-clause-answer : goal.returns-then-is_value_by_handle-clause-answer
+returns-then-is_value_by_handle-clause-answer c =
+    answer-along c.args.port.now c.args.handles.now
+    (λ a. read_act (addressed_by_status a.asker.port.number (kept_status a.client.handles c.args.offset a.asker.port.number) c.args.len))
+    (λ a. act_asked a (Read c.args.group c.args.offset c.args.len)) c.read_value.result _ _
+    (λ a. read-by-handle a c.args.group c.args.offset c.args.len (sym c.if-is_value_by_handle.ensures)) c.read_value.ensures.answer
+
+pub returns-then-is_value_by_handle-clause-asked : goal.returns-then-is_value_by_handle-clause-asked
+returns-then-is_value_by_handle-clause-asked c =
+    read-asked c.args.port.now c.args.handles.now c.args.group c.args.offset c.args.len c.read_value.result _ _ c.requires.some
+    (returns-then-is_value_by_handle-clause-answer c)
+
+pub returns-clause-answer : goal.returns-clause-answer
+returns-clause-answer c =
+    answer-along c.args.port.now c.args.handles.now
+    (λ a. read_group (setup_of a.world) a.client a.asker.port (without_handles (group_of c.args.group)) c.args.offset c.args.len)
+    (λ a. act_asked a (Read c.args.group c.args.offset c.args.len)) c.read.result _ _
+    (λ a. read-by-port a c.args.group c.args.offset c.args.len (sym c.if-is_value_by_handle.ensures))
+    (port-answer c.args.port.now c.args.handles.now
+    (λ (w : World) (x : Client) (p : PlantPort). read_group (setup_of w) x p (without_handles (group_of c.args.group)) c.args.offset c.args.len)
+    c.read.result _ _ c.read.ensures.answer)
+
+pub returns-clause-asked : goal.returns-clause-asked
+returns-clause-asked c =
+    read-asked c.args.port.now c.args.handles.now c.args.group c.args.offset c.args.len c.read.result _ _ c.requires.some
+    (returns-clause-answer c)

@@ -1,0 +1,100 @@
+//! A single ReadWrite of a client at a port: one of a packet, or a part of a sum.
+
+ghost use Rattle.std.specs.Prelude.{◌≡◌, ◌+◌, ◌≤◌, length, IfOk, OnOk, OnErr};
+ghost use Rattle.ads_formats.specs.Groups.{HandleByName};
+ghost use Rattle.ads_formats.specs.Request.{ReadWrite};
+ghost use Rattle.ads_machine.specs.ByName.{read_write_group, grant_act};
+ghost use Rattle.ads_machine.specs.Client as client;
+ghost use Rattle.port_device.specs.Answers.{AnswersAct};
+ghost use Rattle.session.specs.Asking.{Asking, act_asked, asking_after, after_act};
+ghost use Rattle.session.specs.Asks.{Asks, SomeAsks};
+ghost use Rattle.session.specs.Grants.{IsPlaceNamed, handle_act};
+
+use crate::groups::is_handle_by_name;
+use ads_base::{NoMemory, Octets, put32};
+use port_device::Port;
+use return_codes::Code;
+use std::alloc::Global;
+use sym_handles::Handles;
+use symbol_table::Place;
+
+/// Grants a handle for a name, or appends what the port gives of a name. Beckhoff Information System, "ADS Read Write".
+pub(crate) fn read_write(
+    alloc: Global,
+    handles: &mut Handles,
+    port: &Port,
+    number: u16,
+    group: u32,
+    offset: u32,
+    len: u32,
+    bytes: &[u8],
+    out: &mut Octets,
+) -> Result<Result<(), Code>, NoMemory>
+    requires some { SomeAsks port.now handles.old }
+    requires number { number ≡ port.now.number }
+    ensures answer { IfOk result (λ answer. (a : Asking) → Asks a port.now handles.old
+        → AnswersAct a.world (act_asked a (ReadWrite group offset len bytes.now)) answer out.old out.new) }
+    ensures leaves { OnOk result ((a : Asking) → Asks a port.now handles.old
+        → Asks (asking_after a (ReadWrite group offset len bytes.now)) port.now handles.new) }
+    ensures asked { OnOk result (length out.new ≤ length out.old + len) }
+    ensures no_memory { OnErr result (out.new ≡ out.old) }
+{
+    let _any = offset;
+    if is_handle_by_name(group) {
+        return grant(alloc, handles, port, number, len, bytes, out);
+    }
+    port.ask(alloc, group, len, bytes, out)
+}
+
+// A handle of 4 bytes for what a name leads to: 0x705 for a length below 4, 0x710 where it leads to nothing, then 0x700 where
+// no more handles are granted.
+fn grant(
+    alloc: Global,
+    handles: &mut Handles,
+    port: &Port,
+    number: u16,
+    len: u32,
+    name: &[u8],
+    out: &mut Octets,
+) -> Result<Result<(), Code>, NoMemory>
+    requires number { number ≡ port.now.number }
+    ensures answer { IfOk result (λ answer. (a : Asking) → Asks a port.now handles.old
+        → AnswersAct a.world (handle_act a len name.now) answer out.old out.new) }
+    ensures leaves { OnOk result ((a : Asking) → Asks a port.now handles.old
+        → Asks (after_act a (handle_act a len name.now)) port.now handles.new) }
+    ensures no_memory { OnErr result (out.new ≡ out.old) }
+{
+    if len < 4 {
+        return Ok(Err(Code::C705));
+    }
+    match port.place(name) {
+        Ok(place) => grant_place(alloc, handles, port, number, place, out),
+        Err(code) => Ok(Err(code)),
+    }
+}
+
+// A handle for a place. After want of memory for its number it is granted all the same, and never told.
+fn grant_place(
+    alloc: Global,
+    handles: &mut Handles,
+    port: &Port,
+    number: u16,
+    place: Place,
+    out: &mut Octets,
+) -> Result<Result<(), Code>, NoMemory>
+    requires number { number ≡ port.now.number }
+    ensures answer { IfOk result (λ answer. (a : Asking) (named : client.Place) → Asks a port.now handles.old
+        → IsPlaceNamed a place named → AnswersAct a.world (grant_act a.client a.asker.port named) answer out.old out.new) }
+    ensures leaves { OnOk result ((a : Asking) (named : client.Place) → Asks a port.now handles.old
+        → IsPlaceNamed a place named → Asks (after_act a (grant_act a.client a.asker.port named)) port.now handles.new) }
+    ensures no_memory { OnErr result (out.new ≡ out.old) }
+{
+    let _known = port;
+    match handles.grant(alloc, number, place)? {
+        Ok(handle) => {
+            put32(alloc, out, handle)?;
+            Ok(Ok(()))
+        }
+        Err(_full) => Ok(Err(Code::C700)),
+    }
+}

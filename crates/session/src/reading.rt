@@ -1,0 +1,40 @@
+//! A single Read of a client at a port: one of a packet, or a part of a sum.
+
+ghost use Rattle.std.specs.Prelude.{◌≡◌, ◌+◌, ◌≤◌, length, IfOk, OnOk, OnErr};
+ghost use Rattle.ads_formats.specs.Request.{Read};
+ghost use Rattle.port_device.specs.Answers.{AnswersAct};
+ghost use Rattle.session.specs.Asking.{Asking, act_asked};
+ghost use Rattle.session.specs.Asks.{Asks, SomeAsks};
+
+use crate::groups::is_value_by_handle;
+use crate::looking::read_value;
+use ads_base::{NoMemory, Octets};
+use port_device::Port;
+use return_codes::Code;
+use std::alloc::Global;
+use sym_handles::Handles;
+
+/// Appends what Read gives: a value by its handle, or what the port gives of the group.
+/// Beckhoff Information System, "ADS Read".
+pub(crate) fn read(
+    alloc: Global,
+    handles: &Handles,
+    port: &Port,
+    number: u16,
+    group: u32,
+    offset: u32,
+    len: u32,
+    out: &mut Octets,
+) -> Result<Result<(), Code>, NoMemory>
+    requires some { SomeAsks port.now handles.now }
+    requires number { number ≡ port.now.number }
+    ensures answer { IfOk result (λ answer. (a : Asking) → Asks a port.now handles.now
+        → AnswersAct a.world (act_asked a (Read group offset len)) answer out.old out.new) }
+    ensures asked { OnOk result (length out.new ≤ length out.old + len) }
+    ensures no_memory { OnErr result (out.new ≡ out.old) }
+{
+    if is_value_by_handle(group) {
+        return read_value(alloc, handles, port, number, offset, len, out);
+    }
+    port.read(alloc, group, offset, len, out)
+}

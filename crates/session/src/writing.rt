@@ -1,0 +1,96 @@
+//! A single Write of a client at a port: one of a packet, or a part of a sum.
+
+ghost use Rattle.std.specs.Prelude.{◌≡◌, length};
+ghost use Rattle.ads_formats.specs.Request.{Write};
+ghost use Rattle.ads_machine.specs.Handles.{kept_status};
+ghost use Rattle.ads_machine.specs.Reach.{addressed_by_status};
+ghost use Rattle.ads_machine.specs.Writes as machine;
+ghost use Rattle.type_layout.specs.Descriptions.{rights_of};
+ghost use Rattle.port_device.specs.Endings.{IsAsker, KeepsDescription};
+ghost use Rattle.session.specs.Asking.{Asking, act_asked};
+ghost use Rattle.session.specs.Asks.{Asks, SomeAsks};
+ghost use Rattle.session.specs.Ends.{EndsAct, value_write_act};
+
+use crate::groups::{is_release, is_value_by_handle};
+use crate::looking::look;
+use ads_base::{NetId, get32};
+use port_device::Port;
+use return_codes::Code;
+use sym_handles::Handles;
+use type_layout::Rights;
+
+/// Writes to a value by its handle, releases a handle, or writes what the port reaches by the group.
+/// Beckhoff Information System, "ADS Write".
+pub(crate) fn write(
+    handles: &mut Handles,
+    port: &mut Port,
+    number: u16,
+    group: u32,
+    offset: u32,
+    bytes: &[u8],
+    rights: Rights,
+    net: NetId,
+) -> Result<(), Code>
+    requires some { SomeAsks port.old handles.old }
+    requires number { number ≡ port.old.number }
+    ensures ends { (a : Asking) → Asks a port.old handles.old → IsAsker a.asker (rights_of rights) net.bytes
+        → EndsAct a (act_asked a (Write group offset bytes.now)) result port.new handles.new }
+    ensures keeps { KeepsDescription port.old port.new }
+{
+    if is_release(group) {
+        return release(handles, port, number, bytes);
+    }
+    if is_value_by_handle(group) {
+        return write_value(handles, port, number, offset, bytes, rights, net);
+    }
+    port.write(group, offset, bytes, rights, net)
+}
+
+// Releases a handle, whose 4 bytes are the data. Rights are not looked at.
+fn release(handles: &mut Handles, port: &Port, number: u16, bytes: &[u8]) -> Result<(), Code>
+    requires number { number ≡ port.now.number }
+    ensures ends { (a : Asking) → Asks a port.now handles.old
+        → EndsAct a (machine.release_act a.client a.asker.port bytes.now) result port.now handles.new }
+{
+    let _known = port;
+    if bytes.len() != 4 {
+        return Err(Code::C705);
+    }
+    handles.release(get32(bytes, 0), number)
+}
+
+// Writes the first bytes of a value by its handle. The rights come first.
+fn write_value(
+    handles: &Handles,
+    port: &mut Port,
+    number: u16,
+    handle: u32,
+    bytes: &[u8],
+    rights: Rights,
+    net: NetId,
+) -> Result<(), Code>
+    requires some { SomeAsks port.old handles.now }
+    requires number { number ≡ port.old.number }
+    ensures ends { (a : Asking) → Asks a port.old handles.now → IsAsker a.asker (rights_of rights) net.bytes
+        → EndsAct a (value_write_act a handle bytes.now) result port.new handles.now }
+    ensures keeps { KeepsDescription port.old port.new }
+{
+    if !may_write(rights) {
+        return Err(Code::C704);
+    }
+    match look(handles, port, number, handle) {
+        Ok(place) => port.write_place(place, bytes, rights, net),
+        Err(code) => Err(code),
+    }
+}
+
+// Whether the rights are more than those to read.
+fn may_write(rights: Rights) -> bool
+    ensures { result ≡ machine.may_write (rights_of rights) }
+{
+    match rights {
+        Rights::Read => false,
+        Rights::Write => true,
+        Rights::Control => true,
+    }
+}
