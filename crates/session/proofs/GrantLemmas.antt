@@ -1,6 +1,6 @@
 -- Which act a single ReadWrite is, what it answers and what it leaves.
 use Rattle.std.proofs.Common.{◌≡◌, ℕ, ◌+◌, ◌<◌, ◌≤◌, ◌⊎◌, ◌↔◌, List, [], ◌∷◌, ◌++◌, length, map, true, false, refl, inl, inr, sym, ◌∙◌, ap, subst, arith}
-use Rattle.std.specs.Prelude.{Bool, Option, Some, None, option_and_then, Result, Ok, Err, IfOk, OnOk, OnErr, IsErr, nat_lt, nat_le, ◌||◌, if◌then◌else◌}
+use Rattle.std.specs.Prelude.{Bool, Option, Some, None, option_and_then, Result, Ok, Err, IfOk, OnOk, OnErr, IsErr, is_err, nat_lt, nat_le, ◌||◌, if◌then◌else◌}
 use Rattle.std.specs.Int.{w32, to_le_bytes}
 use Rattle.std.proofs.lemmas.Bool.{cases_Bool, false≢true, ltb-false, ltb-true, lt-ltb, leb-true, le-leb, or_cases}
 use Rattle.std.proofs.Math.Bool.{or-true}
@@ -288,3 +288,36 @@ pub asked-leaves : (m : PortMemory) (kept kept' : Kept) (group offset len : ℕ)
 asked-leaves m kept kept' group offset len bytes (Err no_memory) is said = tt
 asked-leaves m kept kept' group offset len bytes (Ok answer) is said = λ a asks.
     leaves-along a (handle_act a len bytes) (act_asked a (ReadWrite group offset len bytes)) m kept' (asks-handle a group offset len bytes is) (said a asks)
+
+-- a refusal answers nothing, and leaves all as it was
+
+pub refused-answers : (w : World) (act : Act) (code : Code) (out : List ℕ) → act ≡ Refusal (number_of code) → AnswersAct w act (Err code) out out
+refused-answers w act code out is = let P : Act → Type 0 = λ x. AnswersAct w x (Err code) out out in subst P (sym is) (refl, refl)
+
+pub refused-leaves : (a : Asking) (act : Act) (code : ℕ) (m : PortMemory) (kept : Kept) → act ≡ Refusal code → Asks a m kept → Asks (after_act a act) m kept
+refused-leaves a act code m kept is asks = leaves-along a (Refusal code) act m kept is (idle-leaves a (Refusal code) m kept tt asks)
+
+-- whether no more can be granted, as the answer says
+
+pub said-full : (answer : Result ℕ Full) (full : Full) (kept : Kept) → answer ≡ Err full
+    → ((history : History) → Represents kept history → (IsErr answer ↔ IsFull history)) → (history : History) → Represents kept history → IsFull history
+said-full answer full kept is said history r = (said history r).0 (ap is_err is)
+
+pub said-not-full : (answer : Result ℕ Full) (handle : ℕ) (kept : Kept) → answer ≡ Ok handle
+    → ((history : History) → Represents kept history → (IsErr answer ↔ IsFull history)) → (history : History) → Represents kept history → IsFull history → ⊥
+said-not-full answer handle kept is said history r full = false≢true (sym (ap is_err is) ∙ (said history r).1 full)
+
+-- what is said of a grant that was given
+
+pub given : (P : ℕ → Type 0) (answer : Result ℕ Full) (handle : ℕ) → answer ≡ Ok handle → IfOk answer P → P handle
+given P answer handle is said = let Q : Result ℕ Full → Type 0 = λ r. IfOk r P in subst Q is said
+
+pub not-given : (P : Type 0) (answer : Result ℕ Full) (full : Full) → answer ≡ Err full → OnErr answer P → P
+not-given P answer full is said = let Q : Result ℕ Full → Type 0 = λ r. OnErr r P in subst Q is said
+
+-- a grant that was refused leaves all as it was
+pub full-leaves : (a : Asking) (m : PortMemory) (kept kept' : Kept) (named : client.Place) → Asks a m kept → kept' ≡ kept
+    → ((history : History) → Represents kept history → IsFull history) → Asks (after_act a (grant_act a.client a.asker.port named)) m kept'
+full-leaves a m kept kept' named asks same full =
+    let P : Kept → Type 0 = λ k. Asks (after_act a (grant_act a.client a.asker.port named)) m k in
+    subst P (sym same) (refused-leaves a (grant_act a.client a.asker.port named) _ m kept (full-act a m kept named asks full) asks)

@@ -7,3 +7,4 @@ pub mod HandleGroups
 pub mod Asks
 pub mod Ends
 pub mod Grants
+pub mod Single

@@ -6,6 +6,7 @@ mod groups;
 mod looking;
 mod reading;
 mod session;
+mod single;
 mod take;
 mod taken;
 mod writing;

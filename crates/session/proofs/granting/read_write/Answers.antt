@@ -1,0 +1,49 @@
+use Rattle.std.proofs.Common.{sym}
+use Rattle.ads_formats.specs.Groups.{group_of}
+use Rattle.ads_formats.specs.Request.{ReadWrite}
+use Rattle.ads_plant.specs.World.{PlantPort}
+use Rattle.ads_machine.specs.World.{World}
+use Rattle.ads_machine.specs.ByName.{read_write_group}
+use Rattle.ads_machine.specs.Client.{Client}
+use Rattle.port_device.specs.Groups.{without_handles}
+use Rattle.session.specs.Asking.{act_asked}
+use Rattle.session.specs.Grants.{handle_act}
+use Rattle.session.proofs.ReadLemmas.{answer-along, port-answer}
+use Rattle.session.proofs.GrantLemmas.{asks-handle, asks-port, read_write-asked, asked-leaves, port-leaves}
+use Rattle.session.proofs.granting.read_write.Goals as goal
+
+pub returns-then-is_handle_by_name-clause-answer : goal.returns-then-is_handle_by_name-clause-answer
+returns-then-is_handle_by_name-clause-answer c =
+    answer-along c.args.port.now c.args.handles.now (λ a. handle_act a c.args.len c.args.bytes.now)
+    (λ a. act_asked a (ReadWrite c.args.group c.args.offset c.args.len c.args.bytes.now)) c.grant.result _ _
+    (λ a. asks-handle a c.args.group c.args.offset c.args.len c.args.bytes.now (sym c.if-is_handle_by_name.ensures)) c.grant.ensures.answer
+
+pub returns-then-is_handle_by_name-clause-leaves : goal.returns-then-is_handle_by_name-clause-leaves
+returns-then-is_handle_by_name-clause-leaves c =
+    asked-leaves c.args.port.now c.args.handles.now _ c.args.group c.args.offset c.args.len c.args.bytes.now c.grant.result
+    (sym c.if-is_handle_by_name.ensures) c.grant.ensures.leaves
+
+pub returns-then-is_handle_by_name-clause-asked : goal.returns-then-is_handle_by_name-clause-asked
+returns-then-is_handle_by_name-clause-asked c =
+    read_write-asked c.args.port.now c.args.handles.now c.args.group c.args.offset c.args.len c.args.bytes.now c.grant.result _ _ c.requires.some
+    (returns-then-is_handle_by_name-clause-answer c)
+
+pub returns-clause-answer : goal.returns-clause-answer
+returns-clause-answer c =
+    answer-along c.args.port.now c.args.handles.now
+    (λ a. read_write_group a.client a.asker.port (without_handles (group_of c.args.group)) c.args.len c.args.bytes.now)
+    (λ a. act_asked a (ReadWrite c.args.group c.args.offset c.args.len c.args.bytes.now)) c.ask.result _ _
+    (λ a. asks-port a c.args.group c.args.offset c.args.len c.args.bytes.now (sym c.if-is_handle_by_name.ensures))
+    (port-answer c.args.port.now c.args.handles.now
+    (λ (w : World) (x : Client) (p : PlantPort). read_write_group x p (without_handles (group_of c.args.group)) c.args.len c.args.bytes.now)
+    c.ask.result _ _ c.ask.ensures.answer)
+
+pub returns-clause-leaves : goal.returns-clause-leaves
+returns-clause-leaves c =
+    port-leaves c.args.port.now c.args.handles.now c.args.group c.args.offset c.args.len c.args.bytes.now c.ask.result
+    (sym c.if-is_handle_by_name.ensures)
+
+pub returns-clause-asked : goal.returns-clause-asked
+returns-clause-asked c =
+    read_write-asked c.args.port.now c.args.handles.now c.args.group c.args.offset c.args.len c.args.bytes.now c.ask.result _ _ c.requires.some
+    (returns-clause-answer c)
