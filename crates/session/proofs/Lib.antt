@@ -6,3 +6,5 @@ pub mod HandleChanges
 pub mod WriteLemmas
 pub mod Tests
 pub mod GrantLemmas
+pub mod NotesHead
+pub mod NotesGrouped

@@ -1,5 +1,4 @@
 -- A client who asks a port of a world, and what a single request of his does: one of a packet, or a part of a sum.
-use Rattle.ads_plant.specs.World.{PlantPort}
 use Rattle.ads_formats.specs.Request.{Request}
 use Rattle.ads_machine.specs.World.{World, setup_of}
 use Rattle.ads_machine.specs.Client.{Client, client_after}

@@ -8,3 +8,5 @@ pub mod Asks
 pub mod Ends
 pub mod Grants
 pub mod Single
+pub mod NoteFrames
+pub mod NoteGroups

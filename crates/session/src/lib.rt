@@ -5,11 +5,16 @@ mod granting;
 mod groups;
 mod looking;
 mod reading;
+mod notes;
+mod notes_group;
+mod notes_groups;
+mod notes_head;
 mod session;
 mod single;
 mod take;
 mod taken;
 mod writing;
 
+pub use notes::{FrameList, NoteFrame};
 pub use session::Session;
 pub use taken::Taken;

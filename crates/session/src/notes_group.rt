@@ -1,0 +1,102 @@
+//! The samples that go from one port to one address, written into their frame.
+
+ghost use Rattle.std.specs.Prelude.{◌≡◌, ◌+◌, ◌<◌, ◌≤◌, ◌++◌, length, IfOk, OnOk};
+ghost use Rattle.ads_formats.specs.Notification.{sample_bytes};
+ghost use Rattle.notify_table.specs.Specs.{address_of};
+ghost use Rattle.session.specs.NoteFrames.{produced_of, IsNoteFrame};
+ghost use Rattle.session.specs.NoteGroups.{is_group_for, no_samples, group_with, sample, frame_of_group};
+
+use crate::NoteFrame;
+use crate::notes_head::{HEAD, put_head};
+use ads_base::{AmsAddr, NetId, NoMemory, Octets, put32};
+use std::alloc::Global;
+use std::marker::Model;
+
+/// Samples from a port to an address. Contracts see how many they are, and their text.
+#[derive(Drop)]
+pub(crate) struct NoteGroup {
+    port: u16,
+    to: AmsAddr,
+    count: u32,
+    // Room for what stands before the samples, and the samples.
+    bytes: Octets,
+}
+
+impl Model for NoteGroup {
+    ghost use Rattle.std.specs.Prelude.{◌+◌, ◌*◌, ◌≤◌, length, drop};
+    ghost use Rattle.notify_table.specs.Specs.{address_of};
+    ghost use Rattle.session.specs.NoteGroups.{GroupText};
+
+    ghost Value = { GroupText };
+
+    ghost view = { λ g. record { port = g.port; address = address_of g.to; count = g.count; text = drop 58 g.bytes } };
+
+    ghost invariant = { λ g. (58 ≤ length g.bytes) × (g.count ≤ 512) × (length g.bytes ≤ 58 + 2056 * g.count) };
+}
+
+impl NoteGroup {
+    /// No samples yet.
+    pub fn new(alloc: Global, port: u16, to: AmsAddr) -> Result<NoteGroup, NoMemory>
+        ensures { IfOk result (λ group. group ≡ no_samples port (address_of to)) }
+    {
+        let mut bytes = Octets::new(alloc);
+        bytes.put(alloc, &[0; HEAD])?;
+        Ok(NoteGroup {
+            port,
+            to,
+            count: 0,
+            bytes,
+        })
+    }
+
+    /// Whether the samples of this port and address belong here.
+    pub fn is_for(&self, port: u16, to: AmsAddr) -> bool
+        ensures { result ≡ is_group_for port (address_of to) self.now }
+    {
+        self.port == port && self.to == to
+    }
+
+    /// Adds a sample. After want of memory a part of it may stand there.
+    pub fn add(&mut self, alloc: Global, handle: u32, bytes: &[u8]) -> Result<(), NoMemory>
+        requires few { self.old.count < 512 }
+        requires short { length bytes.now ≤ 2048 }
+        ensures ok { OnOk result (self.new ≡ group_with (sample handle bytes.now) self.old) }
+        ensures count { self.new.count ≡ self.old.count + 1 }
+    {
+        self.count += 1;
+        put_sample(alloc, handle, bytes, &mut self.bytes)?;
+        Ok(())
+    }
+
+    /// The frame, from this NetId at this moment.
+    pub fn into_frame(self, net: NetId, now: u64) -> NoteFrame
+        ensures frame { produced_of result ≡ frame_of_group net.bytes now self }
+        ensures short { IsNoteFrame result }
+    {
+        let NoteGroup {
+            port,
+            to,
+            count,
+            mut bytes,
+        } = self;
+        let from = AmsAddr { net, port };
+        put_head(&mut bytes, to, from, now, count);
+        NoteFrame {
+            samples: count,
+            frame: bytes,
+        }
+    }
+}
+
+// Appends a sample. After want of memory a part of it may stand there.
+fn put_sample(alloc: Global, handle: u32, bytes: &[u8], out: &mut Octets) -> Result<(), NoMemory>
+    requires { length bytes.now ≤ 2048 }
+    ensures ok { OnOk result (out.new ≡ out.old ++ sample_bytes (sample handle bytes.now)) }
+    ensures longer { length out.old ≤ length out.new }
+    ensures short { length out.new ≤ length out.old + 2056 }
+{
+    put32(alloc, out, handle)?;
+    put32(alloc, out, bytes.len() as u32)?;
+    out.put(alloc, bytes)?;
+    Ok(())
+}
