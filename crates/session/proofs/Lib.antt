@@ -8,3 +8,5 @@ pub mod Tests
 pub mod GrantLemmas
 pub mod NotesHead
 pub mod NotesGrouped
+pub mod TickBytes
+pub mod TickChecks

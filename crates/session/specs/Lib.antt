@@ -10,3 +10,4 @@ pub mod Grants
 pub mod Single
 pub mod NoteFrames
 pub mod NoteGroups
+pub mod Checks

@@ -21,6 +21,9 @@ pub record GroupTexts : Type 0 where
   pub groups : List GroupText
   pub added : ℕ
 
+abbrev pub no_groups : GroupTexts
+no_groups = record { groups = []; added = 0 }
+
 abbrev pub is_group_for : ℕ → AmsAddress → GroupText → Bool
 is_group_for port address g = (port == g.port) && is_same_address address g.address
 
@@ -45,8 +48,11 @@ groups_with s (g ∷ gs) =
     else g ∷ groups_with s gs
 
 -- one after another
+abbrev pub groups_after : List GroupText → List AddressedSample → List GroupText
+groups_after groups samples = fold (λ (gs : List GroupText) (s : AddressedSample). groups_with s gs) groups samples
+
 abbrev pub grouped_text : List AddressedSample → List GroupText
-grouped_text samples = fold (λ (groups : List GroupText) (s : AddressedSample). groups_with s groups) [] samples
+grouped_text samples = groups_after [] samples
 
 -- number of stamps 4, time 8, number of samples 4, samples
 abbrev pub stamp_text : ℕ → GroupText → List ℕ

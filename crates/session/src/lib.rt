@@ -14,6 +14,8 @@ mod single;
 mod take;
 mod taken;
 mod writing;
+mod tick_bytes;
+mod tick_checks;
 
 pub use notes::{FrameList, NoteFrame};
 pub use session::Session;

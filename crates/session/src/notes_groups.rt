@@ -3,7 +3,7 @@
 ghost use Rattle.std.specs.Prelude.{◌≡◌, ◌+◌, ◌<◌, ◌≤◌, [], ◌∷◌, ◌++◌, length, map, All, IfOk, OnOk, position};
 ghost use Rattle.notify_table.specs.Specs.{address_of};
 ghost use Rattle.session.specs.NoteFrames.{produced_of, IsNoteFrame};
-ghost use Rattle.session.specs.NoteGroups.{is_group_for, groups_with, addressed, frame_of_group, group_with, sample, no_samples};
+ghost use Rattle.session.specs.NoteGroups.{no_groups, is_group_for, groups_with, addressed, frame_of_group, group_with, sample, no_samples};
 
 use crate::FrameList;
 use crate::notes_group::NoteGroup;
@@ -34,7 +34,7 @@ impl Model for NoteGroups {
 
 impl NoteGroups {
     pub fn new(alloc: Global) -> NoteGroups
-        ensures { result ≡ record { groups = []; added = 0 } }
+        ensures { result ≡ no_groups }
     {
         NoteGroups {
             groups: Vec::new(alloc),

@@ -1,0 +1,66 @@
+-- What a check finds in a range of a port.
+use Rattle.std.proofs.Common.{◌≡◌, ℕ, ◌/◌, ◌%◌, ◌^◌, ◌<◌, ◌≤◌, List, set, get_or, Option, Some, None, Ok, refl, sym, ap, subst, ◌∙◌, arith}
+use Rattle.std.proofs.Math.Nat.{div-eq_of_lt}
+use Rattle.std.proofs.Math.Pow.{pow_mono}
+use Rattle.ads_plant.specs.Description.{Area}
+use Rattle.ads_plant.specs.Named.{port_numbered}
+use Rattle.ads_plant.specs.World.{PlantPort}
+use Rattle.ads_formats.specs.Ranges.{Range, Bytes, Bit}
+use Rattle.ads_machine.specs.Reach.{addressed_by_range}
+use Rattle.ads_machine.specs.World.{World, names_at, numbers_from}
+use Rattle.port_device.proofs.PortsLemmas.{found_is_held}
+use Rattle.port_device.specs.Holds.{HoldsPort, HoldsPorts, HoldsFound}
+use Rattle.port_device.specs.PortMemory.{PortMemory, PortsMemory, memory_numbered}
+use Rattle.session.specs.Checks.{bytes_there, IsInSizes, IsInFound, IsReadable}
+
+-- the plant's sizes are the table's
+same_sizes : (w : World) (p : PlantPort) (m : PortMemory) → HoldsPort w p m → p.sizes ≡ m.table.sizes
+same_sizes w p m h = ap (λ (q : PlantPort). q.sizes) h.plant ∙ sym (ap (λ t. t.sizes) h.table.same)
+
+-- the port of the plant that is held by the one that was found
+pub port_found : (w : World) (m : PortsMemory) (number : ℕ) (f : PortMemory) → HoldsPorts w m
+    → memory_numbered number m.ports ≡ Some f
+    → (p : PlantPort) × (port_numbered number w.plant.ports ≡ Some p) × HoldsPort w p f
+port_found w m number f holds found =
+    by_found (port_numbered number w.plant.ports) (memory_numbered number m.ports) (found_is_held w m number holds) found
+  where
+    by_found : (o : Option PlantPort) (q : Option PortMemory) → HoldsFound w o q → q ≡ Some f
+        → (p : PlantPort) × (o ≡ Some p) × HoldsPort w p f
+    by_found (Some p) (Some g) held same = (p, refl, (let e : g ≡ f = cc in subst (λ (x : PortMemory). HoldsPort w p x) e held))
+    by_found (Some p) None held same = absurd held
+    by_found None (Some g) held same = absurd held
+    by_found None None held same = absurd cc
+
+-- what can be read lies in the port that was found
+pub in_found : (m : PortsMemory) (number : ℕ) (range : Range) (f : PortMemory) → IsReadable m number range
+    → memory_numbered number m.ports ≡ Some f → IsInSizes f.table.sizes range
+in_found m number range f readable found =
+    let (p, at, held) = port_found readable.world m number f readable.holds found in
+    let within : IsInSizes p.sizes range = subst (λ (o : Option PlantPort). IsInFound o range) at readable.within in
+    subst (λ sizes. IsInSizes sizes range) (same_sizes readable.world p f held) within
+
+-- and it was found
+pub not_missing : (m : PortsMemory) (number : ℕ) (range : Range) → IsReadable m number range
+    → memory_numbered number m.ports ≡ None → ⊥
+not_missing m number range readable missing =
+    by_found (port_numbered number readable.world.plant.ports) (memory_numbered number m.ports)
+    (found_is_held readable.world m number readable.holds) readable.within missing
+  where
+    by_found : (o : Option PlantPort) (q : Option PortMemory) → HoldsFound readable.world o q → IsInFound o range → q ≡ None → ⊥
+    by_found None q held within same = within
+    by_found (Some p) None held within same = held
+    by_found (Some p) (Some g) held within same = cc
+
+-- a bit of the byte that was found
+pub bit_found : (w : World) (p : PlantPort) (area : Area) (at_ bit value : ℕ) (out : List ℕ)
+    → out ≡ bytes_there w (addressed_by_range p (Ok (Bytes area at_ 1))) → value ≡ (get_or out 0 0 / 2 ^ bit) % 2
+    → set out 0 value ≡ bytes_there w (addressed_by_range p (Ok (Bit area at_ bit)))
+unfolding names_at numbers_from
+bit_found w p area at_ bit value out found is = rw (is, found) refl
+
+-- a byte has no bit above its eighth
+pub no_bit : (byte bit : ℕ) → byte < 256 → 8 ≤ bit → 0 ≡ (byte / 2 ^ bit) % 2
+no_bit byte bit small high =
+    let power : 2 ^ 8 ≤ 2 ^ bit = pow_mono high in
+    let none : byte / 2 ^ bit ≡ 0 = div-eq_of_lt (omega (arith, power)) in
+    rw none refl

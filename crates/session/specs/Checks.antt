@@ -1,0 +1,80 @@
+-- The checks of a tick, where what is watched is told by ranges. Private: no public clause cites this file.
+use Rattle.std.specs.Prelude.{◌≡◌, ℕ, ◌+◌, ◌<◌, ◌≤◌, List, [], map, flat_map, All, Option, Some, None, Result, Ok, Err, IfSome}
+use Rattle.ads_plant.specs.Description.{Sizes, size_in}
+use Rattle.ads_plant.specs.Named.{port_numbered}
+use Rattle.ads_plant.specs.World.{PlantPort}
+use Rattle.ads_formats.specs.Ranges.{Range, Bytes, Bit, Size}
+use Rattle.ads_machine.specs.Access.{Addressed, values_at}
+use Rattle.ads_machine.specs.Reach.{addressed_by_range}
+use Rattle.ads_machine.specs.Watches.{Watch, AddressedSample, samples_of, checked_watch}
+use Rattle.ads_machine.specs.World.{World}
+use Rattle.notify_table.specs.Table.{WatchTable, watch_of_handle, table_after, Checked}
+use Rattle.notify_table.proofs.TickLemmas.{checked_among}
+use Rattle.port_device.specs.Holds.{HoldsPorts}
+use Rattle.port_device.specs.PortMemory.{PortsMemory}
+use Rattle.session.specs.NoteGroups.{GroupText, groups_after, grouped_text}
+
+abbrev pub bytes_there : World → Result (List Addressed) ℕ → List ℕ
+bytes_there w (Ok places) = values_at w.memory places
+bytes_there w (Err code) = []
+
+-- what a check finds in a range of a port
+abbrev pub bytes_found : World → Option PlantPort → Range → List ℕ
+bytes_found w None range = []
+bytes_found w (Some p) range = bytes_there w (addressed_by_range p (Ok range))
+
+-- what the check of a notification finds
+abbrev pub found_in : World → Watch Range → List ℕ
+found_in w v = bytes_found w (port_numbered v.port w.plant.ports) v.watched
+
+-- a range whose bytes or bit lie in an area, where these are the sizes of the areas
+abbrev pub IsInSizes : Sizes → Range → Type 0
+IsInSizes sizes (Bytes area offset len) = offset + len ≤ size_in sizes area
+IsInSizes sizes (Bit area offset bit) = offset < size_in sizes area
+IsInSizes sizes (Size area) = ⊥
+
+abbrev pub IsInFound : Option PlantPort → Range → Type 0
+IsInFound None range = ⊥
+IsInFound (Some p) range = IsInSizes p.sizes range
+
+-- what a notification watches lies in its port
+abbrev pub IsInPort : World → Watch Range → Type 0
+IsInPort w v = IsInFound (port_numbered v.port w.plant.ports) v.watched
+
+-- what is watched lies in these ports
+pub record IsReadable (ports : PortsMemory) (port : ℕ) (range : Range) : Type 0 where
+  pub world : World
+  pub holds : HoldsPorts world ports
+  pub within : IsInFound (port_numbered port world.plant.ports) range
+
+pub record AreReadable (ports : PortsMemory) (watches : List (Watch Range)) : Type 0 where
+  pub world : World
+  pub holds : HoldsPorts world ports
+  pub within : All (IsInPort world) watches
+
+-- the sample of a check, if one is sent
+abbrev pub samples_for : ℕ → (Watch Range → List ℕ) → Option (Watch Range) → List AddressedSample
+samples_for now found None = []
+samples_for now found (Some v) = samples_of now (found v) v
+
+-- the check of one notification, and what it adds to the groups of samples
+pub record IsCheck (w : World) (now handle : ℕ) (old : WatchTable) (before : List GroupText) (new : WatchTable) (after : List GroupText) : Type 0 where
+  pub watches : IfSome (watch_of_handle handle old) (λ v. new ≡ table_after old (Checked handle now (found_in w v)))
+  pub groups : after ≡ groups_after before (samples_for now (found_in w) (watch_of_handle handle old))
+
+-- the samples of the notifications with these handles
+abbrev pub samples_among : ℕ → World → WatchTable → List ℕ → List AddressedSample
+samples_among now w t handles = flat_map (λ h. samples_for now (found_in w) (watch_of_handle h t)) handles
+
+-- the checks of the notifications with these handles
+pub record AreChecked (w : World) (now : ℕ) (handles : List ℕ) (old new : WatchTable) (made : List GroupText) : Type 0 where
+  pub watches : new ≡ record old { watches = map (checked_among now (found_in w) handles) old.watches }
+  pub groups : made ≡ grouped_text (samples_among now w old handles)
+
+-- the samples of all that is due
+abbrev pub samples_found : ℕ → World → List (Watch Range) → List AddressedSample
+samples_found now w watches = flat_map (λ (v : Watch Range). samples_of now (found_in w v) v) watches
+
+-- the notifications after the checks of all that is due
+abbrev pub table_checked : ℕ → World → WatchTable → WatchTable
+table_checked now w t = record t { watches = map (λ (v : Watch Range). checked_watch now (found_in w v) v) t.watches }

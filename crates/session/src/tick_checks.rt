@@ -1,0 +1,173 @@
+//! The checks of a tick.
+
+ghost use Rattle.std.specs.Prelude.{◌≡◌, ◌+◌, ◌<◌, ◌≤◌, length, map, All, Some, IsTrue, IsSomeAnd, IfOk, OnOk, option_map};
+ghost use Rattle.std.specs.List.Sorted.{IsStrictlyIncreasing};
+ghost use Rattle.ads_machine.specs.Stamps.{frames_of_samples};
+ghost use Rattle.ads_machine.specs.Watches.{is_due};
+ghost use Rattle.ads_machine.specs.World.{World};
+ghost use Rattle.index_groups.specs.Access.{range_meant};
+ghost use Rattle.notify_table.specs.Specs.{new_watch, before_checks};
+ghost use Rattle.notify_table.specs.Table.{watch_of_handle, watched_len, due_handles, IsTable};
+ghost use Rattle.port_device.specs.Holds.{HoldsPorts};
+ghost use Rattle.session.specs.Checks.{IsReadable, AreReadable, IsCheck, AreChecked, samples_found, table_checked};
+ghost use Rattle.session.specs.NoteGroups.{no_groups};
+ghost use Rattle.session.specs.NoteFrames.{produced_of, IsNoteFrame};
+
+use crate::FrameList;
+use crate::notes_groups::NoteGroups;
+use crate::tick_bytes::peek;
+use ads_base::{NetId, NoMemory, Steps};
+use index_groups::Reach;
+use notify_table::{Handles32, Spec, Watches};
+use port_device::Ports;
+use std::alloc::Global;
+use std::marker::Brand;
+use std::sync::ledger::{Blank, Ledger};
+
+// The most bytes that a notification watches.
+const MOST_BYTES: usize = 2048;
+
+/// Checks all notifications that are due at a moment, by rising handle, and gives the frames of their samples. It costs what is
+/// due.
+pub(crate) fn check_due(
+    alloc: Global,
+    watches: &mut Watches,
+    ports: &Ports,
+    net: NetId,
+    now: u64,
+) -> Result<FrameList, NoMemory>
+    requires { AreReadable ports.now watches.old.watches }
+    ensures watches { OnOk result ((w : World) → HoldsPorts w ports.now → watches.new ≡ table_checked now w watches.old) }
+    ensures frames { IfOk result (λ frames. (w : World) → HoldsPorts w ports.now
+        → map produced_of frames ≡ frames_of_samples net.bytes now (samples_found now w watches.old.watches)) }
+    ensures short { IfOk result (All IsNoteFrame) }
+{
+    let handles = due(alloc, watches, now)?;
+    let mut groups = NoteGroups::new(alloc);
+    check_all(alloc, watches, ports, handles.as_slice(), now, &mut groups)?;
+    groups.into_frames(alloc, net, now)
+}
+
+// Checks the notifications with these handles, which are those that are due.
+fn check_all(
+    alloc: Global,
+    watches: &mut Watches,
+    ports: &Ports,
+    handles: &[u32],
+    now: u64,
+    groups: &mut NoteGroups,
+) -> Result<(), NoMemory>
+    requires readable { AreReadable ports.now watches.old.watches }
+    requires due { handles.now ≡ due_handles now watches.old }
+    requires rising { IsStrictlyIncreasing handles.now }
+    requires table { IsTable watches.old }
+    requires none { groups.old ≡ no_groups }
+    ensures { OnOk result ((w : World) → HoldsPorts w ports.now
+        → AreChecked w now handles.now watches.old watches.new groups.new.groups) }
+{
+    let mut room = [0; MOST_BYTES];
+    for handle in handles {
+        check(alloc, watches, ports, *handle, now, &mut room, groups)?;
+    }
+    Ok(())
+}
+
+// Checks one notification that is due.
+fn check(
+    alloc: Global,
+    watches: &mut Watches,
+    ports: &Ports,
+    handle: u32,
+    now: u64,
+    room: &mut [u8; MOST_BYTES],
+    groups: &mut NoteGroups,
+) -> Result<(), NoMemory>
+    requires due { IsSomeAnd (watch_of_handle handle watches.old)
+        (λ v. IsTrue (is_due now v) × IsReadable ports.now v.port v.watched) }
+    requires few { groups.old.added < 512 }
+    ensures check { OnOk result ((w : World) → HoldsPorts w ports.now
+        → IsCheck w now handle watches.old groups.old.groups watches.new groups.new.groups) }
+    ensures added { groups.new.added ≤ groups.old.added + 1 }
+{
+    match watches.spec(handle) {
+        Some(spec) => {
+            let len = len_of(spec.reach);
+            check_spec(
+                alloc,
+                watches,
+                ports,
+                handle,
+                now,
+                &spec,
+                &mut room[..len],
+                groups,
+            )
+        }
+        None => unreachable!(),
+    }
+}
+
+// Checks the notification with this handle, which was added as this.
+fn check_spec(
+    alloc: Global,
+    watches: &mut Watches,
+    ports: &Ports,
+    handle: u32,
+    now: u64,
+    spec: &Spec,
+    out: &mut [u8],
+    groups: &mut NoteGroups,
+) -> Result<(), NoMemory>
+    requires spec { IsSomeAnd (watch_of_handle handle watches.old) (λ v. new_watch handle spec.now ≡ before_checks v) }
+    requires due { IsSomeAnd (watch_of_handle handle watches.old)
+        (λ v. IsTrue (is_due now v) × IsReadable ports.now v.port v.watched) }
+    requires room { length out.old ≡ watched_len (range_meant spec.now.reach) }
+    requires short { length out.old ≤ 2048 }
+    requires few { groups.old.added < 512 }
+    ensures check { OnOk result ((w : World) → HoldsPorts w ports.now
+        → IsCheck w now handle watches.old groups.old.groups watches.new groups.new.groups) }
+    ensures added { groups.new.added ≤ groups.old.added + 1 }
+{
+    peek(ports, spec.port, spec.reach, out);
+    if watches.checked(handle, now, out) {
+        groups.add(alloc, spec.port, spec.to, handle, out)?;
+    }
+    Ok(())
+}
+
+// How many bytes a check takes.
+fn len_of(reach: Reach) -> usize
+    ensures { result ≡ watched_len (range_meant reach) }
+{
+    match reach {
+        Reach::Bytes { len, .. } => len as usize,
+        Reach::Bit { .. } => 1,
+        Reach::Size { .. } => 0,
+    }
+}
+
+fn due(alloc: Global, watches: &Watches, now: u64) -> Result<Handles32, NoMemory>
+    ensures due { IfOk result (λ handles. handles ≡ due_handles now watches.now) }
+    ensures rising { IfOk result IsStrictlyIncreasing }
+    ensures table { IsTable watches.now }
+{
+    due_counted::<Brand>(alloc, watches, now, Blank::new(1))
+}
+
+// The steps are counted in a ledger that holds nothing.
+fn due_counted<L: Ledger>(
+    alloc: Global,
+    watches: &Watches,
+    now: u64,
+    blank: Blank,
+) -> Result<Handles32, NoMemory>
+    requires name { blank.name ≡ L.name }
+    requires parts { blank.parts ≡ L.parts }
+    requires some { 0 < blank.parts }
+    ensures due { IfOk result (λ handles. handles ≡ due_handles now watches.now) }
+    ensures rising { IfOk result IsStrictlyIncreasing }
+    ensures table { IsTable watches.now }
+{
+    let mut steps = Steps::<L>::open(blank);
+    watches.due(alloc, now, &mut steps)
+}
