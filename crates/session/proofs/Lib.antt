@@ -10,3 +10,5 @@ pub mod NotesHead
 pub mod NotesGrouped
 pub mod TickBytes
 pub mod TickChecks
+pub mod WatchedSame
+pub mod TickAgreed

@@ -1,6 +1,6 @@
 -- Handles that agree have agreeing statuses, and what is looked up of them; a live handle's place is one of its port's table.
 use Rattle.std.proofs.Common.{◌≡◌, ℕ, ◌+◌, ◌-◌, ◌≤◌, List, [], ◌∷◌, map, true, false, cond, refl, inl, inr, sym, ◌∙◌, ap, subst, arith}
-use Rattle.std.specs.Prelude.{Bool, ◌==◌, ◌&&◌, nat_le, bytes_eq, Option, Some, None, option_map, Result, Ok, Err, IfOk, slice_get}
+use Rattle.std.specs.Prelude.{◌==◌, ◌&&◌, nat_le, bytes_eq, Option, Some, None, option_map, Result, Ok, Err, IfOk, slice_get}
 use Rattle.std.specs.Option.{option_map_or}
 use Rattle.std.proofs.lemmas.Bool.{cases_Bool, and_parts, eqb-true, leb-true, false≢true}
 use Rattle.std.proofs.lemmas.Option.{slice_get-map}
@@ -8,13 +8,12 @@ use Rattle.return_codes.specs.declared.code.Code.{Code}
 use Rattle.ads_plant.specs.Description.{Symbol}
 use Rattle.ads_plant.specs.Listed.{NamedType}
 use Rattle.ads_plant.specs.World.{PlantPort, PlantSymbol, plant_symbol, plant_port, symbol_size, lower_name, is_same_area}
-use Rattle.ads_plant.specs.Named.{port_numbered}
 use Rattle.ads_plant.proofs.BlockLemmas.{same_area-true}
 use Rattle.ads_machine.specs.World.{World}
 use Rattle.ads_machine.specs.Client as client
 use Rattle.ads_machine.specs.Handles.{Handle, HandleStatus, Never, Released, Outdated, Live, handle_in, status_of_handle, kept_status, status_of}
 use Rattle.ads_machine.specs.HandleLaws.{Test, AgreeingStatus, AgreeingHandles, handles_of}
-use Rattle.ads_machine.specs.NumberedPlaces.{NumberedPlace, is_place_in, is_place_at}
+use Rattle.ads_machine.specs.NumberedPlaces.{is_place_in, is_place_at}
 use Rattle.ads_machine.proofs.HandleStatuses.{status_is_history}
 use Rattle.symbol_table.specs.declared.place.Place.{Place}
 use Rattle.symbol_table.specs.Tables.{TableSymbol, table_symbol}

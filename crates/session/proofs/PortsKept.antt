@@ -1,6 +1,6 @@
 -- What stays of the descriptions of ports where one of them has other bytes.
-use Rattle.std.proofs.Common.{◌≡◌, ℕ, List, [], ◌∷◌, cond, refl, sym, ◌∙◌, ap, subst, true, false}
-use Rattle.std.specs.Prelude.{Bool, ◌==◌, Option, Some, None}
+use Rattle.std.proofs.Common.{◌≡◌, ℕ, List, [], ◌∷◌, cond, refl, sym, subst, true, false}
+use Rattle.std.specs.Prelude.{Bool, ◌==◌, Some}
 use Rattle.port_device.specs.PortMemory.{PortMemory, PortsMemory, memory_numbered, with_numbered, with_port}
 use Rattle.port_device.specs.Endings.{KeepsDescription}
 use Rattle.session.specs.Served.{KeepEach, KeepDescriptions}

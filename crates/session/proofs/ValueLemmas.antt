@@ -5,7 +5,6 @@ use Rattle.ads_base.specs.declared.no_memory.NoMemory.{NoMemory}
 use Rattle.return_codes.specs.declared.code.Code.{Code}
 use Rattle.return_codes.specs.Code.{number_of}
 use Rattle.ads_plant.specs.World.{PlantPort}
-use Rattle.ads_formats.specs.Codes.{symbol_not_found, symbol_version_invalid}
 use Rattle.ads_machine.specs.World.{World}
 use Rattle.ads_machine.specs.Client as client
 use Rattle.ads_machine.specs.Handles.{Handle, HandleStatus, Never, Released, Outdated, Live, kept_status}

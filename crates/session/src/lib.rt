@@ -14,6 +14,7 @@ mod single;
 mod take;
 mod taken;
 mod writing;
+mod tick;
 mod tick_bytes;
 mod tick_checks;
 

@@ -1,4 +1,4 @@
-use Rattle.session.proofs.PortsKept.{keep-same, keep-with}
+use Rattle.session.proofs.PortsKept.{keep-same}
 use Rattle.session.proofs.session.Session.take.Goals as goal
 
 pub returns-clause-keeps : goal.returns-clause-keeps
