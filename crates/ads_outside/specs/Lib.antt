@@ -8,3 +8,7 @@ pub mod MemFiles
 pub mod MemSink
 pub mod FilesState
 pub mod SinkState
+pub mod Opened
+pub mod WireState
+pub mod WireAnswers
+pub mod MemWire

@@ -1,5 +1,5 @@
 -- How long a file may be. This project's own choice.
-use Rattle.std.specs.Prelude.{ℕ, List, length, ◌≤◌}
+use Rattle.std.specs.Prelude.{ℕ, length, ◌≤◌}
 use Rattle.ads_outside.specs.declared.got.Got.{Got}
 use Rattle.ads_outside.specs.declared.got.Got.TheVariants as got
 

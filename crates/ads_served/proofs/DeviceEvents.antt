@@ -10,11 +10,10 @@ use Rattle.ads_machine.specs.Device.{Device, Reloading, Accepted, Refused}
 use Rattle.ads_machine.specs.Events.{state_after_event, after_reload, connection_after_tick, connection_after_reload, moment_of_tick}
 use Rattle.ads_machine.specs.MachineState.{MachineState, Exchange, exchange_of, after_exchange}
 use Rattle.ads_machine.specs.Moves.{with_gone}
-use Rattle.ads_machine.specs.Offers.{is_among}
 use Rattle.ads_machine.specs.Piece.{after_piece}
 use Rattle.ads_machine.proofs.Find.{test_same, test_other, or_else, connection_of-append, connection_of-map}
 use Rattle.ads_machine.proofs.Growth.{connection_after_tick-grows, connection_after_reload-grows}
-use Rattle.ads_served.specs.Opened.{OpensAlone, opened_by}
+use Rattle.ads_served.specs.Opened.{OpensAlone, opened_by, is_opened}
 
 same_found : {C : Type 0} (n : ℕ) (k : Connection C) (ks : List (Connection C)) → k.number ≡ n → connection_of n (k ∷ ks) ≡ Some k
 unfolding connection_of
@@ -75,7 +74,7 @@ events_open_alone device s (event.Opened c) n other none =
     connection_of-append n s.connections (k ∷ []) ∙ (ap (λ o. or_else o (connection_of n (k ∷ []))) none
     ∙ (other_found n k [] (λ same. among_same n c other same) ∙ none_of_nil n))
   where
-    among_same : (n c : ℕ) → is_among n (c ∷ []) ≡ false → c ≡ n → ⊥
+    among_same : (n c : ℕ) → is_opened n (c ∷ []) ≡ false → c ≡ n → ⊥
     among_same n c e same = grind (arith, nat_tests)
 events_open_alone device s (event.Piece c bytes) n other none = exchange-none n (connection_of c s.connections) (after_piece device bytes) s none
 events_open_alone device s (event.Closed c) n other none = exchange-none n (connection_of c s.connections) with_gone s none

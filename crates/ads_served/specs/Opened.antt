@@ -1,31 +1,21 @@
 -- The numbers of connections: which an event opens, and that no two are the same.
 use Rattle.std.specs.Prelude.{◌≡◌, ℕ, List, [], ◌∷◌, false, None}
 use Rattle.ads_outside.specs.declared.event.Event.{Event}
-use Rattle.ads_outside.specs.declared.event.Event.TheVariants as event
+pub use Rattle.ads_outside.specs.Opened.{opened_by, is_opened}
 use Rattle.ads_machine.specs.Connection.{Connection, connection_of}
 use Rattle.ads_machine.specs.MachineState.{MachineState}
 use Rattle.ads_machine.specs.Moves.{EventStep}
-use Rattle.ads_machine.specs.Offers.{is_among}
 
 -- no two connections have one number
 abbrev pub AreApart : {C : Type 0} → List (Connection C) → Type 0
 AreApart [] = Unit {0}
 AreApart (k ∷ ks) = (connection_of k.number ks ≡ None) × AreApart ks
 
--- the number that an event opens
-abbrev pub opened_by : Event → List ℕ
-opened_by (event.Opened c) = c ∷ []
-opened_by (event.Piece c bytes) = []
-opened_by (event.Closed c) = []
-opened_by (event.Tick t) = []
-opened_by (event.Reload bytes) = []
-opened_by (event.Writable c) = []
-
 -- each connection of a state has one of these numbers
 abbrev pub HasNumbersIn : {W C : Type 0} → List ℕ → MachineState W C → Type 0
-HasNumbersIn opened s = (n : ℕ) → is_among n opened ≡ false → connection_of n s.connections ≡ None
+HasNumbersIn opened s = (n : ℕ) → is_opened n opened ≡ false → connection_of n s.connections ≡ None
 
 -- an event brings no connection but the one that it opens
 abbrev pub OpensAlone : {W C : Type 0} → EventStep W C → Type 0
-OpensAlone {W} {C} step = (s : MachineState W C) (e : Event) (n : ℕ) → is_among n (opened_by e) ≡ false
+OpensAlone {W} {C} step = (s : MachineState W C) (e : Event) (n : ℕ) → is_opened n (opened_by e) ≡ false
     → connection_of n s.connections ≡ None → connection_of n (step s e).connections ≡ None

@@ -1,0 +1,48 @@
+-- What each answer of a wire says of its state.
+use Rattle.std.specs.Prelude.{◌≡◌, ℕ, ◌≤◌, List, length, take, IsTrue}
+use Rattle.ads_outside.specs.declared.listening.Listening.{Listening}
+use Rattle.ads_outside.specs.declared.moves.Move.TheVariants as move
+use Rattle.ads_outside.specs.declared.next.Next.{Next}
+use Rattle.ads_outside.specs.declared.next.Next.TheVariants as next
+use Rattle.ads_outside.specs.declared.offer.Offer.{Offer}
+use Rattle.ads_outside.specs.declared.offer.Offer.TheVariants as offer
+use Rattle.ads_outside.specs.declared.shut.Shut.{Shut}
+use Rattle.ads_outside.specs.declared.shut.Shut.TheVariants as shut
+use Rattle.ads_outside.specs.declared.started.Started.{Started}
+use Rattle.ads_outside.specs.declared.started.Started.TheVariants as started
+use Rattle.ads_outside.specs.Opened.{is_new}
+use Rattle.ads_outside.specs.Rose.{Rose}
+use Rattle.ads_outside.specs.WireState.{WireState, WireHistory, logged, event_given, end_answered, listened}
+
+-- a start or a next event failed: both counts rose, and all else is as this history
+pub record Stops (old new : WireState) (rest : WireHistory) : Type 0 where
+  pub same : new.history ≡ record rest { stops = new.history.stops }
+  pub stopped : Rose old.history.stops new.history.stops
+  pub faulted : Rose old.faults new.faults
+
+-- what it was started with is noted, also where it failed; want of memory leaves all as it was
+abbrev pub Starts : Started → WireState → WireState → Listening → Type 0
+Starts started.Ready old new a = new.history ≡ listened a old.history
+Starts started.Failed old new a = Stops old new (listened a old.history)
+Starts started.Memory old new a = new.history ≡ old.history
+
+-- an event is new, and is given; want of memory leaves all as it was
+abbrev pub Gives : Next → WireState → WireState → Type 0
+Gives (next.Event e) old new =
+    IsTrue (is_new e old.history.opened) × (new.history ≡ event_given e old.history)
+Gives next.End old new = new.history ≡ end_answered old.history
+Gives next.Failed old new = Stops old new old.history
+Gives next.Memory old new = new.history ≡ old.history
+
+-- of what was offered a first part is taken, or the connection is lost
+abbrev pub Takes : Offer → WireState → WireState → ℕ → List ℕ → Type 0
+Takes (offer.Took n) old new c bytes = (n ≤ length bytes)
+    × (new.history ≡ logged (move.Took c (length bytes) (take n bytes)) old.history)
+Takes offer.Failed old new c bytes =
+    (new.history ≡ logged (move.Lost c) old.history) × Rose old.faults new.faults
+Takes offer.Memory old new c bytes = new.history ≡ old.history
+
+-- a connection is shut, or nothing changed
+abbrev pub Shuts : Shut → WireState → WireState → ℕ → Type 0
+Shuts shut.Done old new c = new.history ≡ logged (move.Shut c) old.history
+Shuts shut.Memory old new c = new.history ≡ old.history

@@ -1,0 +1,45 @@
+//! What a server is served over.
+
+ghost use Rattle.std.specs.Prelude.{◌≡◌, ◌≤◌, ◌<◌, ◌^◌, length};
+
+use crate::{Next, Offer, Shut, Started};
+
+/// Connections and a clock: events come from it, and connections take bytes. It may tell its log and what it was
+/// started with; real sockets do not.
+pub trait Wire {
+    ghost use Rattle.ads_outside.specs.WireAnswers.{Starts, Gives, Takes, Shuts};
+    ghost use Rattle.ads_outside.specs.WireState.{WireState};
+
+    /// What its calls led to, where that is told, and how many of them failed.
+    ghost state: { Self → WireState };
+
+    /// How many calls failed; the count stands still at its type's end.
+    fn faults(&self) -> u64
+        ensures { result ≡ (state self.now).faults };
+
+    /// How many calls of `start` and `next` failed; the count stands still at its type's end.
+    fn stops(&self) -> u64
+        ensures { result ≡ (state self.now).history.stops };
+
+    /// Begins to listen there. The named description, which has these bytes, is watched from here on.
+    fn start(&mut self, listen: &str, name: &str, first: &[u8]) -> Started
+        ensures starts { Starts result (state self.old) (state self.new)
+            (record { listen = listen.now; name = name.now; first = first.now }) }
+        ensures later { (state self.old).faults ≤ (state self.new).faults };
+
+    /// The next event.
+    fn next(&mut self) -> Next
+        ensures gives { Gives result (state self.old) (state self.new) }
+        ensures later { (state self.old).faults ≤ (state self.new).faults };
+
+    /// Offers bytes to a connection.
+    fn offer(&mut self, conn: u32, bytes: &[u8]) -> Offer
+        requires { length bytes.now < 2 ^ 32 }
+        ensures takes { Takes result (state self.old) (state self.new) conn bytes.now }
+        ensures later { (state self.old).faults ≤ (state self.new).faults };
+
+    /// Shuts a connection.
+    fn shut(&mut self, conn: u32) -> Shut
+        ensures shuts { Shuts result (state self.old) (state self.new) conn }
+        ensures later { (state self.old).faults ≤ (state self.new).faults };
+}
