@@ -1,13 +1,13 @@
 //! The least broken rule of a document, for the rules that are decided here.
 ghost use Rattle.std.specs.Prelude.{◌≡◌, ◌≤◌, ◌∷◌, [], length, map, option_map, IfOk, IsNone};
-ghost use Rattle.ads_rules.specs.RouteRules as routes;
-ghost use Rattle.ads_rules.specs.TypeRules as types;
-ghost use Rattle.ads_rules.specs.PortRules as ports;
-ghost use Rattle.ads_rules.specs.SymbolRules as symbols;
+ghost use Rattle.ads_rules.specs.RouteRules as route_rules;
+ghost use Rattle.ads_rules.specs.TypeRules as type_rules;
+ghost use Rattle.ads_rules.specs.PortRules as port_rules;
+ghost use Rattle.ads_rules.specs.SymbolRules as symbol_rules;
 ghost use Rattle.type_layout.specs.NamedTypes.{types_of};
 ghost use Rattle.description_rules.specs.KnownTypes.{IsKnown};
 ghost use Rattle.ads_rules.specs.Verdict.{first_broken, broken_at};
-ghost use Rattle.description_table.specs.Views.{document_view};
+ghost use Rattle.description_table.specs.Views.{document_view, port_view, type_view};
 ghost use Rattle.description_rules.specs.Faults.{fault_view};
 
 use crate::known_types::KnownTypes;
@@ -21,7 +21,7 @@ use crate::symbol_types::wrong_type;
 use crate::type_rules::{wrong_part, wrong_type_name};
 use crate::uploads::wrong_upload;
 use ads_base::NoMemory;
-use description_table::Document;
+use description_table::{Document, WrittenPort, WrittenType};
 use std::alloc::Global;
 
 /// A broken rule, and the least item at which it is broken.
@@ -34,28 +34,59 @@ pub struct BrokenRule {
 /// The least broken rule of rules 3 to 7, and in it the least item.
 pub fn fault_in_types(alloc: Global, d: &Document<'_>) -> Result<Option<BrokenRule>, NoMemory>
     ensures fault { IfOk result (λ fault. option_map fault_view fault ≡ first_broken (
-        (3, routes.wrong_schema (document_view d.now).schema)
-        ∷ (4, routes.wrong_net (document_view d.now).net (document_view d.now).routes)
-        ∷ (5, routes.wrong_rights (document_view d.now).routes)
-        ∷ (6, types.wrong_type_name (document_view d.now).types)
-        ∷ (7, types.wrong_part (document_view d.now).types) ∷ [])) }
+        (3, route_rules.wrong_schema (document_view d.now).schema)
+        ∷ (4, route_rules.wrong_net (document_view d.now).net (document_view d.now).routes)
+        ∷ (5, route_rules.wrong_rights (document_view d.now).routes)
+        ∷ (6, type_rules.wrong_type_name (document_view d.now).types)
+        ∷ (7, type_rules.wrong_part (document_view d.now).types) ∷ [])) }
     ensures few { IfOk result (λ fault. IsNone fault → length d.now.types.items ≤ 1000) }
+{
+    match fault_in_routes(alloc, d) {
+        Err(e) => Err(e),
+        Ok(None) => fault_in_named_types(alloc, d.types.as_slice()),
+        Ok(Some(fault)) => Ok(Some(fault)),
+    }
+}
+
+// The least broken rule of rules 3 to 5.
+fn fault_in_routes(alloc: Global, d: &Document<'_>) -> Result<Option<BrokenRule>, NoMemory>
+    ensures { IfOk result (λ fault. option_map fault_view fault ≡ first_broken (
+        (3, route_rules.wrong_schema (document_view d.now).schema)
+        ∷ (4, route_rules.wrong_net (document_view d.now).net (document_view d.now).routes)
+        ∷ (5, route_rules.wrong_rights (document_view d.now).routes) ∷ [])) }
 {
     if let Some(place) = wrong_schema(d.schema) {
         return Ok(Some(broken_at(3, place as u128)));
     }
-    if let Some(place) = wrong_net(alloc, d.net, d.routes.as_slice())? {
-        return Ok(Some(broken_at(4, place as u128)));
+    let routes = d.routes.as_slice();
+    match wrong_net(alloc, d.net, routes) {
+        Err(e) => Err(e),
+        Ok(Some(place)) => Ok(Some(broken_at(4, place as u128))),
+        Ok(None) => match wrong_rights(routes) {
+            None => Ok(None),
+            Some(place) => Ok(Some(broken_at(5, place as u128))),
+        },
     }
-    if let Some(place) = wrong_rights(d.routes.as_slice()) {
-        return Ok(Some(broken_at(5, place as u128)));
-    }
-    if let Some(place) = wrong_type_name(alloc, d.types.as_slice())? {
-        return Ok(Some(broken_at(6, place as u128)));
-    }
-    match wrong_part(alloc, d.types.as_slice())? {
-        None => Ok(None),
-        Some(place) => Ok(Some(broken_at(7, place))),
+}
+
+// The least broken rule of rules 6 and 7.
+fn fault_in_named_types(
+    alloc: Global,
+    types: &[WrittenType<'_>],
+) -> Result<Option<BrokenRule>, NoMemory>
+    ensures fault { IfOk result (λ fault. option_map fault_view fault ≡ first_broken (
+        (6, type_rules.wrong_type_name (map type_view types.now))
+        ∷ (7, type_rules.wrong_part (map type_view types.now)) ∷ [])) }
+    ensures few { IfOk result (λ fault. IsNone fault → length types.now ≤ 1000) }
+{
+    match wrong_type_name(alloc, types) {
+        Err(e) => Err(e),
+        Ok(Some(place)) => Ok(Some(broken_at(6, place as u128))),
+        Ok(None) => match wrong_part(alloc, types) {
+            Err(e) => Err(e),
+            Ok(None) => Ok(None),
+            Ok(Some(place)) => Ok(Some(broken_at(7, place))),
+        },
     }
 }
 
@@ -78,32 +109,73 @@ pub fn fault_in_ports(
 ) -> Result<Option<BrokenRule>, NoMemory>
     requires known { IsKnown known.now }
     ensures { IfOk result (λ fault. option_map fault_view fault ≡ first_broken (
-        (9, ports.wrong_port (document_view d.now).schema (document_view d.now).ports)
-        ∷ (10, symbols.wrong_name (document_view d.now).ports)
-        ∷ (11, symbols.wrong_type (types_of known.now.types) (document_view d.now).ports)
-        ∷ (12, symbols.wrong_place (types_of known.now.types) (document_view d.now).ports)
-        ∷ (13, symbols.wrong_content (types_of known.now.types) (document_view d.now).ports)
-        ∷ (14, symbols.wrong_signal (types_of known.now.types) signals (document_view d.now).ports) ∷ [])) }
+        (9, port_rules.wrong_port (document_view d.now).schema (document_view d.now).ports)
+        ∷ (10, symbol_rules.wrong_name (document_view d.now).ports)
+        ∷ (11, symbol_rules.wrong_type (types_of known.now.types) (document_view d.now).ports)
+        ∷ (12, symbol_rules.wrong_place (types_of known.now.types) (document_view d.now).ports)
+        ∷ (13, symbol_rules.wrong_content (types_of known.now.types) (document_view d.now).ports)
+        ∷ (14, symbol_rules.wrong_signal (types_of known.now.types) signals (document_view d.now).ports) ∷ [])) }
 {
     let ports = d.ports.as_slice();
-    if let Some(place) = wrong_port(alloc, d.schema, ports)? {
-        return Ok(Some(broken_at(9, place as u128)));
+    match fault_in_names(alloc, known, d.schema, ports) {
+        Err(e) => Err(e),
+        Ok(None) => fault_in_symbols(alloc, known, signals, ports),
+        Ok(Some(fault)) => Ok(Some(fault)),
     }
-    if let Some(place) = wrong_name(alloc, ports)? {
-        return Ok(Some(broken_at(10, place)));
+}
+
+// The least broken rule of rules 9 to 11.
+fn fault_in_names(
+    alloc: Global,
+    known: &KnownTypes,
+    schema: i64,
+    ports: &[WrittenPort<'_>],
+) -> Result<Option<BrokenRule>, NoMemory>
+    requires known { IsKnown known.now }
+    ensures { IfOk result (λ fault. option_map fault_view fault ≡ first_broken (
+        (9, port_rules.wrong_port schema (map port_view ports.now))
+        ∷ (10, symbol_rules.wrong_name (map port_view ports.now))
+        ∷ (11, symbol_rules.wrong_type (types_of known.now.types) (map port_view ports.now)) ∷ [])) }
+{
+    match wrong_port(alloc, schema, ports) {
+        Err(e) => Err(e),
+        Ok(Some(place)) => Ok(Some(broken_at(9, place as u128))),
+        Ok(None) => match wrong_name(alloc, ports) {
+            Err(e) => Err(e),
+            Ok(Some(place)) => Ok(Some(broken_at(10, place))),
+            Ok(None) => match wrong_type(known, ports) {
+                None => Ok(None),
+                Some(place) => Ok(Some(broken_at(11, place))),
+            },
+        },
     }
-    if let Some(place) = wrong_type(known, ports) {
-        return Ok(Some(broken_at(11, place)));
-    }
-    if let Some(place) = wrong_place(alloc, known, ports)? {
-        return Ok(Some(broken_at(12, place)));
-    }
-    if let Some(place) = wrong_content(alloc, known, ports)? {
-        return Ok(Some(broken_at(13, place)));
-    }
-    match wrong_signal(alloc, known, signals, ports)? {
-        None => Ok(None),
-        Some(place) => Ok(Some(broken_at(14, place as u128))),
+}
+
+// The least broken rule of rules 12 to 14.
+fn fault_in_symbols(
+    alloc: Global,
+    known: &KnownTypes,
+    signals: u32,
+    ports: &[WrittenPort<'_>],
+) -> Result<Option<BrokenRule>, NoMemory>
+    requires known { IsKnown known.now }
+    ensures { IfOk result (λ fault. option_map fault_view fault ≡ first_broken (
+        (12, symbol_rules.wrong_place (types_of known.now.types) (map port_view ports.now))
+        ∷ (13, symbol_rules.wrong_content (types_of known.now.types) (map port_view ports.now))
+        ∷ (14, symbol_rules.wrong_signal (types_of known.now.types) signals (map port_view ports.now)) ∷ [])) }
+{
+    match wrong_place(alloc, known, ports) {
+        Err(e) => Err(e),
+        Ok(Some(place)) => Ok(Some(broken_at(12, place))),
+        Ok(None) => match wrong_content(alloc, known, ports) {
+            Err(e) => Err(e),
+            Ok(Some(place)) => Ok(Some(broken_at(13, place))),
+            Ok(None) => match wrong_signal(alloc, known, signals, ports) {
+                Err(e) => Err(e),
+                Ok(None) => Ok(None),
+                Ok(Some(place)) => Ok(Some(broken_at(14, place as u128))),
+            },
+        },
     }
 }
 
@@ -111,7 +183,7 @@ pub fn fault_in_ports(
 pub fn fault_in_uploads(known: &KnownTypes, d: &Document<'_>) -> Option<BrokenRule>
     requires known { IsKnown known.now }
     ensures { option_map fault_view result ≡ first_broken (
-        (15, ports.wrong_upload (types_of known.now.types) (document_view d.now).ports) ∷ []) }
+        (15, port_rules.wrong_upload (types_of known.now.types) (document_view d.now).ports) ∷ []) }
 {
     match wrong_upload(known, d.ports.as_slice()) {
         None => None,
