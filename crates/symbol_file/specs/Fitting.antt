@@ -1,14 +1,16 @@
 -- For private contracts, and cited by no public clause: what the rules say of a document's numbers and texts, so that
 -- the values of a description can hold them.
-use Rattle.std.specs.Prelude.{◌≡◌, ℕ, ◌^◌, ◌<◌, ◌≤◌, List, length, map, true, is_some, IfSome}
+use Rattle.std.specs.Prelude.{◌≡◌, ℕ, ◌^◌, ◌<◌, ◌≤◌, List, length, map, true, Some, is_some, IfSome}
 use Rattle.std.specs.List.{All}
+use Rattle.toml.specs.Data.{Members}
 use Rattle.ads_plant.specs.Listed.{NamedType}
 use Rattle.ads_plant.specs.Trees.{tree_of}
 use Rattle.ads_plant.specs.Sizes.{type_size}
 use Rattle.ads_plant.specs.AcceptedTypes.{is_small_shape}
 use Rattle.ads_rules.specs.Nets.{net_of}
 use Rattle.ads_rules.specs.Described.{natural_of, shape_described, types_described}
-use Rattle.description_table.specs.Views.{type_view}
+use Rattle.ads_rules.specs.Tables.{document_in}
+use Rattle.description_table.specs.Views.{type_view, document_view}
 use Rattle.description_table.specs.declared.written.WrittenSymbol.{WrittenSymbol}
 use Rattle.description_table.specs.declared.written.WrittenPort.{WrittenPort}
 use Rattle.description_table.specs.declared.written.Document.{Document}
@@ -47,3 +49,8 @@ pub record DocumentFits (d : Document) : Type 0 where
   pub net : IsNetText d.net.now
   pub routes : All (λ r. IsNetText r.net.now) d.routes.items
   pub ports : All (PortFits (types_described (map type_view d.types.items))) d.ports.items
+
+-- a table says so
+pub record IsWritten (d : Document) : Type 0 where
+  pub table : Members
+  pub is : document_in table ≡ Some (document_view d)

@@ -2,16 +2,18 @@
 ghost use Rattle.std.specs.Prelude.{◌≡◌, option_map, IfOk};
 ghost use Rattle.toml.specs.View.{table_view};
 ghost use Rattle.ads_plant.specs.Accepted.{IsAccepted};
-ghost use Rattle.ads_rules.specs.Verdict.{table_verdict};
+ghost use Rattle.ads_rules.specs.Verdict.{table_verdict, document_verdict};
 ghost use Rattle.type_layout.specs.Descriptions.{description_of};
 ghost use Rattle.ads_rules.specs.TextVerdict.{document_of, verdict_of_rules};
+ghost use Rattle.description_table.specs.Views.{document_view};
+ghost use Rattle.symbol_file.specs.Fitting.{IsWritten};
 ghost use Rattle.symbol_file.specs.Reading.{IsVerdict, answer_of};
 
 use crate::DescFault;
 use crate::building::build;
 use crate::judging::judge;
 use ads_base::NoMemory;
-use description_table::document_in;
+use description_table::{Document, document_in};
 use std::alloc::Global;
 use toml::Table;
 use type_layout::Description;
@@ -63,14 +65,31 @@ fn read_table(
 ) -> Result<Result<Description, DescFault>, NoMemory>
     ensures { IfOk result (λ answer. answer_of answer ≡ verdict_of_rules (table_verdict signals (table_view table.now))) }
 {
-    let Some(document) = document_in(alloc, table)? else {
-        return Ok(Err(DescFault::Rule { number: 2, item: 0 }));
-    };
-    match judge(alloc, signals, &document)? {
-        Err(fault) => Ok(Err(DescFault::Rule {
+    match document_in(alloc, table) {
+        Err(e) => Err(e),
+        Ok(None) => Ok(Err(DescFault::Rule { number: 2, item: 0 })),
+        Ok(Some(document)) => read_document(alloc, &document, signals),
+    }
+}
+
+// The description that a document writes, or its fault.
+fn read_document(
+    alloc: Global,
+    d: &Document<'_>,
+    signals: u32,
+) -> Result<Result<Description, DescFault>, NoMemory>
+    requires { IsWritten d.now }
+    ensures { IfOk result (λ answer. answer_of answer ≡ verdict_of_rules (document_verdict signals (document_view d.now))) }
+{
+    match judge(alloc, signals, d) {
+        Err(e) => Err(e),
+        Ok(Err(fault)) => Ok(Err(DescFault::Rule {
             number: fault.number,
             item: fault.item,
         })),
-        Ok(known) => Ok(Ok(build(alloc, known, &document)?)),
+        Ok(Ok(known)) => match build(alloc, known, d) {
+            Err(e) => Err(e),
+            Ok(built) => Ok(Ok(built)),
+        },
     }
 }
