@@ -5,7 +5,6 @@ mod EntryRows
 pub mod FilledLemmas
 mod FoundEntries
 pub mod BuiltLemmas
-pub mod FilledLemmas
 pub mod FirstPortLemmas
 mod GroupLemmas
 mod ImageLemmas
