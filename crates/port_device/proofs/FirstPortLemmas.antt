@@ -4,6 +4,7 @@ use Rattle.std.specs.Prelude.{Some, slice_get, slice_index_or, option_map, All, 
 use Rattle.std.specs.List.{list_all}
 use Rattle.std.proofs.lemmas.Bool.{and_parts, leb-true}
 use Rattle.std.proofs.lemmas.Option.{slice_get-map}
+use Rattle.std.proofs.lemmas.List.{length-map}
 use Rattle.signals.specs.Wave.{Wave}
 use Rattle.ads_plant.specs.Listed.{NamedType}
 use Rattle.ads_plant.specs.Description.{Sizes, Symbol, Port, Description, size_in}
@@ -144,3 +145,13 @@ of_accepted-first types port table rows image a t e i =
     let symbols = e ∙ ap (λ (x : SymbolTable). x.symbols) t.same in
     let filled_ : List TableSymbol → List ℕ = λ ss. with_all_bytes port.sizes (replicate (image_size port.sizes) 0) (map (placed_symbol first_bytes) ss) in
     subst (IsFirstImage (plant_port types port)) (sym (i ∙ ap filled_ symbols)) (of_accepted-image types port a)
+
+-- there are few symbols
+pub few_rows : (types : List NamedType) (port : Port) (table : SymbolTable) (rows : List SymbolRow) → IsTableOf types port table → symbols_of_rows rows ≡ table.symbols
+    → length rows ≤ 10000
+few_rows types port table rows t e =
+    let one = length-map rows symbol_of_row in
+    let all = length-map port.symbols (table_symbol types) in
+    let same : length (symbols_of_rows rows) ≡ length (map (table_symbol types) port.symbols) = ap length (e ∙ ap (λ (x : SymbolTable). x.symbols) t.same) in
+    let count = t.placed.count in
+    omega (arith, one, all, same, count)

@@ -2,9 +2,10 @@ pub mod AcceptedPorts
 mod AskLemmas
 mod BitLemmas
 mod EntryRows
+mod BoundLemmas
+pub mod BuiltLemmas
 pub mod FilledLemmas
 mod FoundEntries
-pub mod BuiltLemmas
 pub mod FirstPortLemmas
 mod GroupLemmas
 mod ImageLemmas
@@ -16,6 +17,7 @@ mod PortLemmas
 pub mod PortsLemmas
 pub mod PutLemmas
 mod ReadLemmas
+mod StepLemmas
 pub mod UploadLengths
 mod UploadReads
 pub mod ReloadLemmas

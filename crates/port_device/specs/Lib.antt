@@ -6,6 +6,8 @@ pub mod Changed
 pub mod Groups
 pub mod Rows
 pub mod Uploads
+pub mod Signals
+pub mod BoundTables
 pub mod Ports
 pub mod Lends
 pub mod InsidePorts

@@ -9,6 +9,7 @@ ghost use Rattle.port_device.specs.Uploads.{types_upload};
 ghost use Rattle.port_device.specs.FirstPorts.{IsOfAccepted, IsFirstPort, AreFirstPorts};
 
 use crate::Port;
+use crate::bound::bound_symbols;
 use crate::counting::symbols_size;
 use crate::first_image::first_image;
 use crate::upload::UploadSizes;
@@ -53,7 +54,9 @@ pub(crate) fn first_port(
 {
     let table = Table::build(alloc, d, types)?;
     let symbols = symbols_size(alloc, types, &table)?;
-    let image = first_image(alloc, &d.sizes, table.symbols())?;
+    let rows = table.symbols();
+    let image = first_image(alloc, &d.sizes, rows)?;
+    let bound = bound_symbols(alloc, rows)?;
     let shared = Arc::try_clone(types)?;
     Ok(Port {
         types: shared,
@@ -69,5 +72,6 @@ pub(crate) fn first_port(
             symbols,
             types: types_len,
         },
+        bound,
     })
 }

@@ -4,6 +4,7 @@
 mod areas;
 mod asking;
 mod bits;
+mod bound;
 mod building;
 mod copying;
 mod counting;
@@ -19,6 +20,7 @@ mod ports;
 mod reading;
 mod reloading;
 mod type_ids;
+mod signals_step;
 mod upload;
 mod uploads;
 mod writable;

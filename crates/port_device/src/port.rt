@@ -26,6 +26,8 @@ pub struct Port {
     pub(crate) device: u16,
     pub(crate) image: Image,
     pub(crate) uploads: UploadSizes,
+    // At each signal's number the number of the symbol that it writes.
+    pub(crate) bound: Vec<Option<u32>>,
 }
 
 impl Model for Port {
@@ -37,7 +39,7 @@ impl Model for Port {
 
     ghost view = { memory_in };
 
-    ghost invariant = { λ p. IsPortMemory p.sizes p.uploads (memory_in p) };
+    ghost invariant = { λ p. IsPortMemory p.sizes p.uploads p.bound.items (memory_in p) };
 }
 
 impl Port {

@@ -35,7 +35,6 @@ impl Model for Ports {
     ghost Value = { PortsMemory };
 
     ghost use Rattle.port_device.specs.InsidePorts.{ports_in};
-
     ghost use Rattle.std.specs.Arc.{arc_value};
     ghost use Rattle.ads_plant.specs.AcceptedTypes.{AreTypes};
     ghost use Rattle.type_layout.specs.NamedTypes.{types_of};

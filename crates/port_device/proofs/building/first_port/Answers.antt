@@ -10,7 +10,8 @@ use Rattle.symbol_table.specs.Tables.{SymbolTable, IsPlaced, IsTableOf, IsTableW
 use Rattle.ads_plant.specs.Entries.{upload_size}
 use Rattle.port_device.specs.Uploads.{types_upload, symbols_upload, described}
 use Rattle.port_device.proofs.FirstPortLemmas.{of_accepted-placed, of_accepted-table, of_accepted-few, of_accepted-fits, of_accepted-upload, of_accepted-texts}
-use Rattle.port_device.proofs.FirstPortLemmas.{of_accepted-sizes, of_accepted-first}
+use Rattle.port_device.specs.Signals.{AreBound}
+use Rattle.port_device.proofs.FirstPortLemmas.{of_accepted-sizes, of_accepted-first, few_rows}
 use Rattle.port_device.proofs.building.first_port.Goals as goal
 
 pub build-requires : goal.build-requires
@@ -46,7 +47,15 @@ first_image-requires-clause-fit c =
     let port = port_of c.args.d.now in
     let table = c.in_ok-table.table in
     let is_table = of_accepted-table types _ port table c.requires.accepted (ap types_of c.deref.ensures) c.in_ok-table.ensures in
-    of_accepted-fits types port table c.symbols.result.now c.requires.accepted is_table c.symbols.ensures.rows
+    of_accepted-fits types port table c.symbols-rows.result.now c.requires.accepted is_table c.symbols-rows.ensures.rows
+
+pub bound_symbols-requires : goal.bound_symbols-requires
+bound_symbols-requires c =
+    let types = types_of (arc_value c.args.types.now) in
+    let port = port_of c.args.d.now in
+    let table = c.in_ok-table.table in
+    let is_table = of_accepted-table types _ port table c.requires.accepted (ap types_of c.deref.ensures) c.in_ok-table.ensures in
+    record { few = few_rows types port table c.symbols-rows.result.now is_table c.symbols-rows.ensures.rows }
 
 pub invariant_of-result : goal.invariant_of-result
 invariant_of-result c =
@@ -57,7 +66,7 @@ invariant_of-result c =
     let same : types ≡ shared = sym (ap types_of c.in_ok-shared.ensures) in
     let is_table = of_accepted-table types _ port table c.requires.accepted (ap types_of c.deref.ensures) c.in_ok-table.ensures in
     let sizes = of_accepted-sizes types port table is_table in
-    let image = of_accepted-first types port table c.symbols.result.now c.in_ok-image.image c.requires.accepted is_table c.symbols.ensures.rows c.in_ok-image.ensures in
+    let image = of_accepted-first types port table c.symbols-rows.result.now c.in_ok-image.image c.requires.accepted is_table c.symbols-rows.ensures.rows c.in_ok-image.ensures in
     record {
       port = port;
       table = subst (λ ts. IsTableOf ts port table) same is_table;
@@ -70,6 +79,7 @@ invariant_of-result c =
             ∙ ap (λ ts. length (symbols_upload ts table)) same;
         of_types = c.requires.types_len ∙ ap (λ ts. length (types_upload ts)) same;
       };
+      bound_are = subst (AreBound c.in_ok-bound.bound.items) c.symbols-rows.ensures.rows c.in_ok-bound.ensures;
     }
 
 pub returns : goal.returns
@@ -86,5 +96,5 @@ returns c =
       table = is_table;
       ads = refl;
       device = refl;
-      image = of_accepted-first types port table c.symbols.result.now c.in_ok-image.image c.requires.accepted is_table c.symbols.ensures.rows c.in_ok-image.ensures;
+      image = of_accepted-first types port table c.symbols-rows.result.now c.in_ok-image.image c.requires.accepted is_table c.symbols-rows.ensures.rows c.in_ok-image.ensures;
     }

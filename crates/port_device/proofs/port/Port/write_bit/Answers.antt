@@ -25,6 +25,7 @@ invariant_of-self c = record {
   bytes = ap length c.put_bit.ensures ∙ nth-length _ _ _ ∙ c.self.invariant.bytes;
   texts = c.self.invariant.texts;
   uploads_are = c.self.invariant.uploads_are;
+  bound_are = c.self.invariant.bound_are;
 }
 
 pub returns-clause-answer : goal.returns-clause-answer
