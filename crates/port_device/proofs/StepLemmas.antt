@@ -8,10 +8,9 @@ use Rattle.ads_plant.specs.Listed.{NamedType}
 use Rattle.ads_plant.specs.Description.{Sizes, Symbol, Port}
 use Rattle.ads_plant.specs.World.{PlantPort, plant_symbol, plant_port}
 use Rattle.ads_plant.specs.Named.{AreNumberedApart}
-use Rattle.ads_plant.specs.Sound.{IsSoundPlant}
 use Rattle.ads_machine.specs.World.{World}
 use Rattle.ads_machine.specs.Ticks.{world_after_tick}
-use Rattle.ads_machine.specs.PortBytes.{PortBytes, Holds, with_image_bytes, image_after_signal, image_after_signals}
+use Rattle.ads_machine.specs.PortBytes.{image_after_signal, image_after_signals}
 use Rattle.ads_machine.proofs.SignalsStepped.{steps_signals}
 use Rattle.symbol_table.specs.Tables.{TableSymbol, SymbolTable, table_symbol, IsTableOf}
 use Rattle.symbol_table.specs.Rows.{symbol_of_row, symbols_of_rows}

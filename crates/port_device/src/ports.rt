@@ -62,6 +62,13 @@ impl Ports {
         })
     }
 
+    /// The symbol version, one for all ports.
+    pub fn version(&self) -> u8
+        ensures { result ≡ self.now.version }
+    {
+        self.version
+    }
+
     /// The port with a number.
     pub fn find(&self, port: u16) -> Option<&Port>
         ensures { option_copied result ≡ memory_numbered port self.now.ports }

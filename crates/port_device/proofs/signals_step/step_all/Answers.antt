@@ -1,4 +1,4 @@
-use Rattle.std.proofs.Common.{◌≤◌, refl, length, arith}
+use Rattle.std.proofs.Common.{refl, arith}
 use Rattle.port_device.proofs.StepLemmas.{turn-within, turn-bank, turn-ports, end-bank, end-ports}
 use Rattle.port_device.proofs.signals_step.step_all.Goals as goal
 

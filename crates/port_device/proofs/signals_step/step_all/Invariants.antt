@@ -1,5 +1,4 @@
-use Rattle.std.proofs.Common.{◌≡◌, List, map, drop}
-use Rattle.signals.specs.Wave.{Wave}
+use Rattle.std.proofs.Common.{◌≡◌, map, drop}
 use Rattle.port_device.specs.Signals.{ports_after_steps}
 use Rattle.port_device.proofs.StepLemmas.{stepped_to}
 use Rattle.port_device.proofs.signals_step.step_all.Given as goal

@@ -1,11 +1,10 @@
-use Rattle.std.proofs.Common.{◌≡◌, ◌+◌, ◌<◌, ◌≤◌, List, ℕ, length, sym, ◌∙◌, ap, subst, arith}
-use Rattle.std.specs.Prelude.{Some, Option}
+use Rattle.std.proofs.Common.{◌≡◌, ◌+◌, ◌≤◌, sym, ◌∙◌, ap, subst, arith}
 use Rattle.ads_plant.specs.Description as plant
 use Rattle.ads_plant.specs.Description.{size_in}
 use Rattle.ads_plant.specs.Accepted.{image_size}
 use Rattle.type_layout.specs.Descriptions.{sizes_of, area_of}
 use Rattle.port_device.specs.PortMemory.{PortMemory}
-use Rattle.port_device.specs.Signals.{symbol_bound_to, bound_at, port_after_step}
+use Rattle.port_device.specs.Signals.{bound_at, port_after_step}
 use Rattle.port_device.specs.Ports.{memory_in}
 use Rattle.symbol_table.specs.Tables.{IsTableWith}
 use Rattle.symbol_table.specs.Rows.{symbol_of_row}
