@@ -18,6 +18,7 @@ pub mod PortsLemmas
 pub mod PutLemmas
 mod ReadLemmas
 mod StepLemmas
+mod TypeLengths
 pub mod UploadLengths
 mod UploadReads
 pub mod ReloadLemmas

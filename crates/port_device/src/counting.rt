@@ -54,16 +54,12 @@ fn entry_len(
     Ok(33 + texts as u32)
 }
 
-/// The bytes of the upload of the types.
+/// The bytes of the upload of the types, of which accepted ones have at most 1,001,000 each.
 pub(crate) fn types_size(alloc: Global, types: &Types) -> Result<u32, NoMemory>
     requires { AreTypes (types_of types.now) }
     ensures { IfOk result (λ size. size ≡ length (types_upload (types_of types.now))) }
 {
     let mut upload = Octets::new(alloc);
     put_types(alloc, types, &mut upload)?;
-    // Accepted types have fewer bytes than a number of 32 bits counts.
-    if upload.len() > 4294967295 {
-        return Err(NoMemory);
-    }
     Ok(upload.len() as u32)
 }
