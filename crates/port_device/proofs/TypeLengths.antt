@@ -1,6 +1,6 @@
 -- How many bytes the upload of accepted types has at most: 1,001,000 a type.
 use Rattle.std.proofs.Common.{◌≡◌, ℕ, ◌+◌, ◌*◌, ◌<◌, ◌≤◌, List, [], ◌∷◌, ◌++◌, length, true, ap, arith}
-use Rattle.std.specs.Prelude.{flat_map, ◌&&◌, ◌^◌}
+use Rattle.std.specs.Prelude.{flat_map, ◌^◌}
 use Rattle.std.specs.Int.{w32, to_le_bytes}
 use Rattle.std.proofs.lemmas.Bool.{and_parts}
 use Rattle.std.proofs.lemmas.List.{length-append, length-map}
@@ -11,8 +11,8 @@ use Rattle.ads_plant.specs.Sizes.{type_size, member_start}
 use Rattle.ads_plant.specs.Sound.{Each}
 use Rattle.ads_plant.specs.AcceptedTypes.{AreTypes, are_types_behind, is_next_type, has_parts}
 use Rattle.ads_plant.proofs.TextLengths.{three_bounds, kind-short}
-use Rattle.ads_formats.specs.TypeEntry.{TypeFields, TypeEntry, written_stamps, fields_len, fields_bytes, sub_bytes, type_bytes, type_upload_bytes}
-use Rattle.ads_formats.specs.TypeUpload.{dimension_of, dimensions_of, member_fields, members_fields, named_fields, entries_of_types}
+use Rattle.ads_formats.specs.TypeEntry.{TypeEntry, written_stamps, fields_len, fields_bytes, sub_bytes, type_bytes}
+use Rattle.ads_formats.specs.TypeUpload.{dimension_of, dimensions_of, member_fields, members_fields, named_fields}
 use Rattle.ads_laws.proofs.Footprints.{each_both}
 use Rattle.ads_laws.proofs.TameTypes.{IsTame, AreTame, text-short}
 use Rattle.ads_laws.proofs.TameTrees.{IsTameTree, trees-tame}
