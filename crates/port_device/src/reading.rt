@@ -30,7 +30,7 @@ impl Port {
     /// |---|---|
     /// | 0x702 | the group names none of these |
     /// | 0x703 | the range begins outside the area |
-    /// | 0x705 | it ends outside; or the size, the version or the upload has more bytes than were asked for |
+    /// | 0x705 | it ends outside; or the size, the version or the upload has more bytes than were asked for, or a type upload more than 2,000,000 |
     ///
     /// Beckhoff Information System, "ADS Read".
     pub fn read(
