@@ -1,9 +1,8 @@
 -- An event of a device's machine brings no connection but the one that it opens.
-use Rattle.std.proofs.Common.{◌≡◌, ◌≢◌, ℕ, List, [], ◌∷◌, ◌++◌, false, refl, sym, ap, ◌∙◌, subst, inl, inr, arith}
+use Rattle.std.proofs.Common.{◌≡◌, ◌≢◌, ℕ, List, [], ◌∷◌, false, refl, sym, ap, ◌∙◌, subst, inl, inr, arith}
 use Rattle.std.specs.Prelude.{◌==◌, Option, Some, None, option_map}
 use Rattle.std.proofs.lemmas.Bool.{cases_eq, cond-true, cond-false}
 use Rattle.std.proofs.lemmas.Bool.Decides.{nat_tests}
-use Rattle.ads_outside.specs.declared.event.Event.{Event}
 use Rattle.ads_outside.specs.declared.event.Event.TheVariants as event
 use Rattle.ads_machine.specs.Connection.{Connection, connection_of, put_back, fresh_connection}
 use Rattle.ads_machine.specs.Device.{Device, Reloading, Accepted, Refused}
@@ -13,7 +12,7 @@ use Rattle.ads_machine.specs.Moves.{with_gone}
 use Rattle.ads_machine.specs.Piece.{after_piece}
 use Rattle.ads_machine.proofs.Find.{test_same, test_other, or_else, connection_of-append, connection_of-map}
 use Rattle.ads_machine.proofs.Growth.{connection_after_tick-grows, connection_after_reload-grows}
-use Rattle.ads_served.specs.Opened.{OpensAlone, opened_by, is_opened}
+use Rattle.ads_served.specs.Opened.{OpensAlone, is_opened}
 
 same_found : {C : Type 0} (n : ℕ) (k : Connection C) (ks : List (Connection C)) → k.number ≡ n → connection_of n (k ∷ ks) ≡ Some k
 unfolding connection_of

@@ -1,0 +1,32 @@
+-- One turn behind others.
+use Rattle.std.proofs.Common.{inl, inr}
+use Rattle.std.proofs.Math.Nat.{le_refl, le_trans}
+use Rattle.serve_loop.proofs.TurnLemmas.{no_turn, one_more, ends_before, breaks_turns, stops_kept, stops_later}
+use Rattle.serve_loop.proofs.looping.take_turns.Goals as goal
+
+pub loop-taken-init : goal.loop-taken-init
+loop-taken-init g c = record { turns = no_turn _ _ _ _; later = le_refl _ }
+
+pub returns-in-End-clause-serve : goal.returns-in-End-clause-serve
+returns-in-End-clause-serve g c =
+    ends_before _ _ _ _ _ _ _ _ _ _ c.loop-taken.invariant.turns c.loop-taken-test.true c.in-End.ensures.turn.1 c.in-End.ensures.turn.0
+
+pub returns-in-LinkFault-clause-serve : goal.returns-in-LinkFault-clause-serve
+returns-in-LinkFault-clause-serve g c =
+    let turns = c.loop-taken.invariant.turns in
+    let kept = stops_kept _ _ _ _ _ _ _ turns in
+    ends_before _ _ _ _ _ _ _ _ _ _ turns c.loop-taken-test.true c.in-LinkFault.ensures.turn.1
+    (stops_later (g.W.Wire.state c.args.wire.now) (g.W.Wire.state c.loop-taken.wire) (g.W.Wire.state c.turn.new.wire) kept c.loop-taken.invariant.later c.in-LinkFault.ensures.turn.0)
+
+pub returns-in-Memory-clause-serve : goal.returns-in-Memory-clause-serve
+returns-in-Memory-clause-serve g c =
+    breaks_turns _ _ _ _ _ _ _ _ _ c.loop-taken.invariant.turns c.loop-taken-test.true c.in-Memory.ensures.turn
+
+pub loop-taken-preserved : goal.loop-taken-preserved
+loop-taken-preserved g c = record {
+  turns = elim c.in-Tick.is [
+    | inl e ↦ one_more _ _ _ _ _ _ _ _ _ _ c.loop-taken.invariant.turns (rw e at c.turn.ensures.turn)
+    | inr e ↦ one_more _ _ _ _ _ _ _ _ _ _ c.loop-taken.invariant.turns (rw e at c.turn.ensures.turn)
+  ];
+  later = le_trans c.loop-taken.invariant.later c.turn.ensures.later;
+}

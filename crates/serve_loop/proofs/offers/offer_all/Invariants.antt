@@ -1,0 +1,15 @@
+-- Some offers were taken, and fewer are left.
+use Rattle.std.proofs.Common.{◌≤◌}
+use Rattle.serve_loop.specs.Leads.{Leads}
+use Rattle.serve_loop.specs.Serving.{Begins}
+use Rattle.serve_loop.proofs.offers.offer_all.Given as goal
+
+abbrev pub invariant-loop : goal.invariant-loop
+invariant-loop g l = record {
+  led : Leads g.M.Served.steps g.M.Served.noted (g.M.Served.serves l.initial.served) (g.M.Served.serves l.served)
+      (g.W.Wire.state l.initial.wire).history (g.W.Wire.state l.wire).history 0 (Begins g.M.Served.steps l.conn);
+  later : (g.W.Wire.state l.initial.wire).faults ≤ (g.W.Wire.state l.wire).faults;
+}
+
+abbrev pub decreases-loop : goal.decreases-loop
+decreases-loop g l = g.M.Served.offers_left l.served l.conn

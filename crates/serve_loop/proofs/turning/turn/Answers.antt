@@ -1,0 +1,17 @@
+-- An event that the wire gave, and what follows it.
+use Rattle.serve_loop.proofs.TurnLemmas.{takes_event, breaks_event, breaks_none, told_turn}
+use Rattle.serve_loop.proofs.turning.turn.Goals as goal
+
+pub returns-in-Memory-clause-turn : goal.returns-in-Memory-clause-turn
+returns-in-Memory-clause-turn g c = breaks_none _ _ _ _ _ c.in-Memory.ensures.gives
+
+pub returns-in-Ok-clause-turn : goal.returns-in-Ok-clause-turn
+returns-in-Ok-clause-turn g c =
+    let gives = c.in-Event.ensures.gives in
+    let takes = takes_event _ _ g.met.M.Served.opens_alone _ _ _ _ _ c.in-Event.event gives.0 gives.1 c.in-Ok.ensures.ok in
+    rw c.told_of.ensures (told_turn _ _ _ _ _ _ c.in-Event.event takes)
+
+pub returns-clause-turn : goal.returns-clause-turn
+returns-clause-turn g c =
+    let gives = c.in-Event.ensures.gives in
+    breaks_event _ _ _ _ _ _ c.in-Event.event gives.0 gives.1 c.in-Err.ensures.no_memory

@@ -1,0 +1,12 @@
+//! The loop of a server: events of a wire are given to what is served, and each connection is offered what waits for it.
+#![tactic(auto)]
+
+mod looping;
+mod offers;
+mod rounds;
+mod turn_end;
+mod turning;
+
+pub use looping::serve;
+pub use turn_end::TurnEnd;
+pub use turning::turn;

@@ -1,0 +1,62 @@
+//! The loop: turns, until the wire ends or so many events were taken.
+
+ghost use Rattle.std.specs.Prelude.{◌≡◌, ◌≢◌, ◌≤◌};
+ghost use Rattle.ads_outside.specs.Rose.{Rose, raised};
+ghost use Rattle.ads_served.specs.Standing.{Standing};
+ghost use Rattle.serve_loop.specs.ToldLog.{WhereTold, LogsOffers, LogsTurns};
+ghost use Rattle.serve_loop.specs.TurnTaken.{StandsOver, AfterServe, GaveEvents};
+
+use crate::{TurnEnd, turn};
+use ads_outside::{End, Wire};
+use ads_served::Served;
+use std::alloc::Global;
+use std::thread::Threads;
+
+/// Serves a wire: takes its events one after another, each with what follows from it, at most so many.
+pub fn serve<T: Threads + Sync, W: Wire, M: Served>(
+    rt: &T,
+    alloc: Global,
+    served: &mut M,
+    wire: &mut W,
+    limit: u64,
+) -> End
+    // What it led to, whether the log is told or not.
+    ensures serve { AfterServe result M.steps M.noted (M.serves served.old) (M.serves served.new) (W.state wire.old) (W.state wire.new) limit }
+    // Where the log is told: each event is followed by the offers to each connection, and what is served follows.
+    ensures turns { result ≢ End.Memory → (x : Standing M.World M.Client) → StandsOver (M.serves served.old) (W.state wire.old).history.opened x
+        → WhereTold (W.state wire.old).history.log (λ log. LogsTurns M.steps M.noted (M.serves served.new) x log (W.state wire.new).history.log) }
+    ensures offers { (x : Standing M.World M.Client) → StandsOver (M.serves served.old) (W.state wire.old).history.opened x
+        → WhereTold (W.state wire.old).history.log (λ log. LogsOffers M.steps x.running.state log (W.state wire.new).history.log) }
+    // Why it ended.
+    ensures events { GaveEvents result (W.state wire.old).history (W.state wire.new).history limit }
+    ensures done { result ≡ End.Done → (W.state wire.new).history.ends ≡ raised (W.state wire.old).history.ends }
+    ensures not_done { result ≢ End.Done → (W.state wire.new).history.ends ≡ (W.state wire.old).history.ends }
+    ensures link_fault { result ≡ End.LinkFault → Rose (W.state wire.old).history.stops (W.state wire.new).history.stops }
+    ensures no_link_fault { result ≢ End.LinkFault → (W.state wire.new).history.stops ≡ (W.state wire.old).history.stops }
+    ensures later { (W.state wire.old).faults ≤ (W.state wire.new).faults }
+{
+    let ended = take_turns(rt, alloc, served, wire, limit);
+    ended
+}
+
+// One turn after another.
+fn take_turns<T: Threads + Sync, W: Wire, M: Served>(
+    rt: &T,
+    alloc: Global,
+    served: &mut M,
+    wire: &mut W,
+    limit: u64,
+) -> End
+    ensures serve { AfterServe result M.steps M.noted (M.serves served.old) (M.serves served.new) (W.state wire.old) (W.state wire.new) limit }
+    ensures later { (W.state wire.old).faults ≤ (W.state wire.new).faults }
+{
+    for _taken in 0..limit {
+        match turn(rt, alloc, served, wire) {
+            TurnEnd::Tick | TurnEnd::Other => {}
+            TurnEnd::End => return End::Done,
+            TurnEnd::LinkFault => return End::LinkFault,
+            TurnEnd::Memory => return End::Memory,
+        }
+    }
+    End::Budget
+}

@@ -1,0 +1,71 @@
+//! The offers to one connection.
+
+ghost use Rattle.std.specs.Prelude.{◌≡◌, ◌≤◌, ◌<◌, IfOk, OnErr};
+ghost use Rattle.serve_loop.specs.Leads.{Breaks};
+ghost use Rattle.serve_loop.specs.Serving.{AfterOffer, AfterOffers};
+
+use ads_base::NoMemory;
+use ads_outside::{Offer, Wire};
+use ads_served::Served;
+
+/// What became of one offer.
+#[derive(Clone, Copy, Debug, PartialEq, Eq)]
+pub(crate) enum Offered {
+    /// Some of it was taken.
+    Taken,
+    /// It failed, and the connection is removed.
+    Lost,
+    /// Nothing was to be offered.
+    Nothing,
+}
+
+/// All that waits for a connection is offered, until it is taken or the connection is blocked; true where an offer
+/// failed, and the connection is removed.
+pub(crate) fn offer_all<W: Wire, M: Served>(
+    served: &mut M,
+    wire: &mut W,
+    conn: u32,
+) -> Result<bool, NoMemory>
+    ensures ok { IfOk result (λ lost. AfterOffers lost M.steps M.noted (M.serves served.old) (M.serves served.new)
+        (W.state wire.old).history (W.state wire.new).history conn) }
+    ensures no_memory { OnErr result (Breaks M.steps M.noted (M.serves served.old)
+        (W.state wire.old).history (W.state wire.new).history 0) }
+    ensures later { (W.state wire.old).faults ≤ (W.state wire.new).faults }
+{
+    loop {
+        match offer_one(served, wire, conn)? {
+            Offered::Taken => {}
+            Offered::Lost => return Ok(true),
+            Offered::Nothing => return Ok(false),
+        }
+    }
+}
+
+// What is left of the first frame that waits is offered.
+fn offer_one<W: Wire, M: Served>(
+    served: &mut M,
+    wire: &mut W,
+    conn: u32,
+) -> Result<Offered, NoMemory>
+    ensures ok { IfOk result (λ offered. AfterOffer offered M.steps M.noted (M.serves served.old) (M.serves served.new)
+        (W.state wire.old).history (W.state wire.new).history conn) }
+    ensures fewer { IfOk result (λ offered. offered ≡ Offered.Taken
+        → M.offers_left served.new conn < M.offers_left served.old conn) }
+    ensures no_memory { OnErr result ((W.state wire.new).history ≡ (W.state wire.old).history) }
+    ensures later { (W.state wire.old).faults ≤ (W.state wire.new).faults }
+{
+    let Some(left) = served.offer_of(conn) else {
+        return Ok(Offered::Nothing);
+    };
+    match wire.offer(conn, left) {
+        Offer::Took(n) => {
+            served.took(conn, n);
+            Ok(Offered::Taken)
+        }
+        Offer::Failed => {
+            served.remove(conn);
+            Ok(Offered::Lost)
+        }
+        Offer::Memory => Err(NoMemory),
+    }
+}

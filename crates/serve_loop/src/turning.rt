@@ -1,0 +1,72 @@
+//! One turn: an event is taken, and then each connection is offered what waits for it.
+
+ghost use Rattle.std.specs.Prelude.{◌≡◌, ◌≤◌, OnOk, OnErr};
+ghost use Rattle.ads_outside.specs.WireState.{WireHistory};
+ghost use Rattle.serve_loop.specs.Leads.{Leads, Breaks};
+ghost use Rattle.serve_loop.specs.Serving.{ServesAll};
+ghost use Rattle.serve_loop.specs.TurnTaken.{ComesBy, AfterTurn, turn_of_event};
+
+use crate::TurnEnd;
+use crate::rounds::serve_each;
+use ads_base::NoMemory;
+use ads_outside::{Event, Next, Wire};
+use ads_served::Served;
+use std::alloc::Global;
+use std::thread::Threads;
+
+/// Takes one event of the wire, and offers each connection, in the order of opening, what waits for it, until it is
+/// taken or the connection is blocked. A failed offer loses that connection alone; one that is closing is then shut.
+pub fn turn<T: Threads + Sync, W: Wire, M: Served>(
+    rt: &T,
+    alloc: Global,
+    served: &mut M,
+    wire: &mut W,
+) -> TurnEnd
+    ensures turn { AfterTurn result M.steps M.noted (M.serves served.old) (M.serves served.new) (W.state wire.old) (W.state wire.new) }
+    ensures later { (W.state wire.old).faults ≤ (W.state wire.new).faults }
+{
+    let event = match wire.next() {
+        Next::Event(event) => event,
+        Next::End => return TurnEnd::End,
+        Next::Failed => return TurnEnd::LinkFault,
+        Next::Memory => return TurnEnd::Memory,
+    };
+    match take_event(rt, alloc, served, wire, &event) {
+        Ok(()) => told_of(&event),
+        Err(NoMemory) => TurnEnd::Memory,
+    }
+}
+
+// What is told of a turn with this event.
+fn told_of(event: &Event) -> TurnEnd
+    ensures { result ≡ turn_of_event event.now }
+{
+    match event {
+        Event::Tick(_) => TurnEnd::Tick,
+        Event::Opened(_)
+        | Event::Piece(_, _)
+        | Event::Closed(_)
+        | Event::Reload(_)
+        | Event::Writable(_) => TurnEnd::Other,
+    }
+}
+
+// An event that the wire gave is taken, and all connections are served.
+fn take_event<T: Threads + Sync, W: Wire, M: Served>(
+    rt: &T,
+    alloc: Global,
+    served: &mut M,
+    wire: &mut W,
+    event: &Event,
+) -> Result<(), NoMemory>
+    ensures ok { OnOk result (Leads M.steps M.noted (ComesBy M.steps M.noted (M.serves served.old) event.now)
+        (M.serves served.new) (W.state wire.old).history (W.state wire.new).history 0 (ServesAll M.steps)) }
+    ensures no_memory { OnErr result (Breaks M.steps M.noted (ComesBy M.steps M.noted (M.serves served.old) event.now)
+        (W.state wire.old).history (W.state wire.new).history 0) }
+    ensures later { (W.state wire.old).faults ≤ (W.state wire.new).faults }
+{
+    served.step(rt, alloc, event)?;
+    let numbers = served.due(alloc)?;
+    serve_each(served, wire, numbers.as_slice())?;
+    Ok(())
+}
