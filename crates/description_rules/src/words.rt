@@ -1,5 +1,5 @@
 //! Words of a document: rights and areas.
-ghost use Rattle.std.specs.Prelude.{◌≡◌, option_map};
+ghost use Rattle.std.specs.Prelude.{◌≡◌, option_map, bytes_eq};
 ghost use Rattle.ads_rules.specs.Described as described;
 ghost use Rattle.ads_plant.specs.Plain.{is_base};
 ghost use Rattle.type_layout.specs.Shapes.{kind_of};
@@ -11,13 +11,13 @@ use type_layout::{Area, Kind, Rights};
 pub fn read_rights(text: &[u8]) -> Option<Rights>
     ensures { option_map rights_of result ≡ described.rights_of text.now }
 {
-    if b"read".as_slice() == text {
+    if is_word(text, "read") {
         return Some(Rights::Read);
     }
-    if b"write".as_slice() == text {
+    if is_word(text, "write") {
         return Some(Rights::Write);
     }
-    if b"control".as_slice() == text {
+    if is_word(text, "control") {
         return Some(Rights::Control);
     }
     None
@@ -28,19 +28,25 @@ pub fn read_rights(text: &[u8]) -> Option<Rights>
 pub fn read_area(text: &[u8]) -> Option<Area>
     ensures { option_map area_of result ≡ described.area_of text.now }
 {
-    if b"inputs".as_slice() == text {
+    if is_word(text, "inputs") {
         return Some(Area::Inputs);
     }
-    if b"outputs".as_slice() == text {
+    if is_word(text, "outputs") {
         return Some(Area::Outputs);
     }
-    if b"memory".as_slice() == text {
+    if is_word(text, "memory") {
         return Some(Area::Memory);
     }
-    if b"data".as_slice() == text {
+    if is_word(text, "data") {
         return Some(Area::Process);
     }
     None
+}
+
+fn is_word(text: &[u8], word: &str) -> bool
+    ensures { result ≡ bytes_eq word.now text.now }
+{
+    word.as_bytes() == text
 }
 
 /// The base that a word names, in any case of letters. None exactly where no enumeration has it.
