@@ -1,5 +1,6 @@
 -- The command of a list of words: the grammar of the command line. This project's own choice.
 use Rattle.std.specs.Prelude.{ℕ, Bool, List, [], ◌∷◌, length, Option, Some, None, codes, ◌==◌, if◌then◌else◌}
+use Rattle.ads_base.specs.declared.net_id.NetId.{NetId}
 use Rattle.cli_words.specs.declared.command.Command.{Command}
 use Rattle.cli_words.specs.declared.command.Command.TheVariants as command
 use Rattle.cli_words.specs.declared.client_words.ClientWords.{ClientWords}
@@ -14,26 +15,37 @@ use Rattle.cli_words.specs.Words.{division_of, value_of}
 use Rattle.cli_words.specs.Values.{number_of, net_id_of, address_of, file_of, text_of, on_change_of, names_of}
 use Rattle.cli_words.specs.Forms.{form_of, options_of, are_among}
 
--- the only positional word, the only two, or the only three
-unfoldable pub only_one : List (List ℕ) → Option (List ℕ)
-only_one (word ∷ []) = Some word
-only_one words = None
+-- what the value of an option means: a number in a range, a NetId, an address, a file name, when samples are sent
+unfoldable pub number_at : ℕ → ℕ → List ℕ → List OptionWord → Option ℕ
+number_at least most name options = do
+  word ← value_of name options
+  number_of least most word
 
-unfoldable pub only_two : List (List ℕ) → Option (List ℕ × List ℕ)
-only_two (first ∷ second ∷ []) = Some (first, second)
-only_two words = None
+unfoldable pub net_at : List ℕ → List OptionWord → Option NetId
+net_at name options = do
+  word ← value_of name options
+  net_id_of word
 
-unfoldable pub only_three : List (List ℕ) → Option (List ℕ × List ℕ × List ℕ)
-only_three (first ∷ second ∷ third ∷ []) = Some (first, second, third)
-only_three words = None
+unfoldable pub address_at : List ℕ → List OptionWord → Option (List ℕ)
+address_at name options = do
+  word ← value_of name options
+  address_of word
+
+unfoldable pub file_at : List ℕ → List OptionWord → Option (List ℕ)
+file_at name options = do
+  word ← value_of name options
+  file_of word
+
+unfoldable pub on_change_at : List ℕ → List OptionWord → Option Bool
+on_change_at name options = do
+  word ← value_of name options
+  on_change_of word
 
 -- where a server listens, and after how many events it ends
 unfoldable pub server_of : List OptionWord → Option (List ℕ × ℕ)
 server_of options = do
-  listen_word ← value_of (codes "--listen") options
-  listen ← address_of listen_word
-  events_word ← value_of (codes "--events") options
-  events ← number_of 0 18446744073709551615 events_word
+  events ← number_at 0 18446744073709551615 (codes "--events") options
+  listen ← address_at (codes "--listen") options
   Some (listen, events)
 
 -- the AMS port, 851 where the option is absent
@@ -44,8 +56,8 @@ port_of (Some word) = number_of 1 65535 word
 -- whom a client asks: `--to` with `--netid`, or `--local`, and no mixture
 unfoldable pub peer_of : Option (List ℕ) → Option (List ℕ) → Option (List ℕ) → Option PeerWords
 peer_of (Some to_word) (Some net_word) None = do
-  to ← address_of to_word
   net ← net_id_of net_word
+  to ← address_of to_word
   Some (peer.To to net)
 peer_of None None (Some local_word) = do
   description ← file_of local_word
@@ -55,8 +67,7 @@ peer_of to_word net_word local_word = None
 -- the options of every client command
 unfoldable pub client_of : List OptionWord → Option ClientWords
 client_of options = do
-  me_word ← value_of (codes "--me") options
-  me ← net_id_of me_word
+  me ← net_at (codes "--me") options
   port ← port_of (value_of (codes "--port") options)
   peer ← peer_of (value_of (codes "--to") options) (value_of (codes "--netid") options) (value_of (codes "--local") options)
   Some (record { me = me; port = port; peer = peer })
@@ -64,40 +75,66 @@ client_of options = do
 -- when samples are sent: on change or not, the cycle, how many
 unfoldable pub samples_of : List OptionWord → Option (Bool × ℕ × ℕ)
 samples_of options = do
-  mode_word ← value_of (codes "--mode") options
-  change ← on_change_of mode_word
-  cycle_word ← value_of (codes "--cycle") options
-  cycle ← number_of 0 4294967295 cycle_word
-  count_word ← value_of (codes "--count") options
-  count ← number_of 1 1000000 count_word
+  change ← on_change_at (codes "--mode") options
+  cycle ← number_at 0 4294967295 (codes "--cycle") options
+  count ← number_at 1 1000000 (codes "--count") options
   Some (change, cycle, count)
 
--- one file name, two, and three
+-- the only positional word as a file name, as a name, as a number
 unfoldable pub file_in : List (List ℕ) → Option (List ℕ)
-file_in positional = do
-  word ← only_one positional
-  file_of word
+file_in (word ∷ []) = file_of word
+file_in words = None
 
-unfoldable pub files_in : List (List ℕ) → Option (List ℕ × List ℕ)
-files_in positional = do
-  words ← only_two positional
-  first ← file_of words.0
-  second ← file_of words.1
+unfoldable pub name_in : List (List ℕ) → Option (List ℕ)
+name_in (word ∷ []) = text_of word
+name_in words = None
+
+unfoldable pub number_in : ℕ → ℕ → List (List ℕ) → Option ℕ
+number_in least most (word ∷ []) = number_of least most word
+number_in least most words = None
+
+-- the only two as file names, as texts, as numbers of 16 bits
+unfoldable pub two_files : List ℕ → List ℕ → Option (List ℕ × List ℕ)
+two_files word other = do
+  first ← file_of word
+  second ← file_of other
   Some (first, second)
 
-unfoldable pub three_files_in : List (List ℕ) → Option (List ℕ × List ℕ × List ℕ)
-three_files_in positional = do
-  words ← only_three positional
-  first ← file_of words.0
-  second ← file_of words.1
-  third ← file_of words.2
+unfoldable pub files_in : List (List ℕ) → Option (List ℕ × List ℕ)
+files_in (word ∷ other ∷ []) = two_files word other
+files_in words = None
+
+unfoldable pub two_texts : List ℕ → List ℕ → Option (List ℕ × List ℕ)
+two_texts word other = do
+  first ← text_of word
+  second ← text_of other
+  Some (first, second)
+
+unfoldable pub texts_in : List (List ℕ) → Option (List ℕ × List ℕ)
+texts_in (word ∷ other ∷ []) = two_texts word other
+texts_in words = None
+
+unfoldable pub two_numbers : List ℕ → List ℕ → Option (ℕ × ℕ)
+two_numbers word other = do
+  first ← number_of 0 65535 word
+  second ← number_of 0 65535 other
+  Some (first, second)
+
+unfoldable pub numbers_in : List (List ℕ) → Option (ℕ × ℕ)
+numbers_in (word ∷ other ∷ []) = two_numbers word other
+numbers_in words = None
+
+-- the only three as file names
+unfoldable pub three_files : List ℕ → List ℕ → List ℕ → Option (List ℕ × List ℕ × List ℕ)
+three_files word other last = do
+  first ← file_of word
+  second ← file_of other
+  third ← file_of last
   Some (first, second, third)
 
--- one name
-unfoldable pub name_in : List (List ℕ) → Option (List ℕ)
-name_in positional = do
-  word ← only_one positional
-  text_of word
+unfoldable pub three_files_in : List (List ℕ) → Option (List ℕ × List ℕ × List ℕ)
+three_files_in (word ∷ other ∷ last ∷ []) = three_files word other last
+three_files_in words = None
 
 -- the client's options of a command without positional words
 unfoldable pub client_alone : Division → Option ClientWords
@@ -141,8 +178,7 @@ command_in form.Keep words = do
   files ← three_files_in words.positional
   Some (command.Keep files.0 files.1 files.2)
 command_in form.Load words = do
-  word ← only_one words.positional
-  n ← number_of 0 100000 word
+  n ← number_in 0 100000 words.positional
   Some (command.Load n)
 command_in form.Info words = do
   client ← client_alone words
@@ -154,11 +190,9 @@ command_in form.List words = do
   client ← client_alone words
   Some (command.List client)
 command_in form.Control words = do
-  numbers ← only_two words.positional
-  ads ← number_of 0 65535 numbers.0
-  device ← number_of 0 65535 numbers.1
+  numbers ← numbers_in words.positional
   client ← client_of words.options
-  Some (command.Control ads device client)
+  Some (command.Control numbers.0 numbers.1 client)
 command_in form.Get words = do
   name ← name_in words.positional
   client ← client_of words.options
@@ -168,11 +202,9 @@ command_in form.Show words = do
   client ← client_of words.options
   Some (command.Show name client)
 command_in form.Set words = do
-  texts ← only_two words.positional
-  name ← text_of texts.0
-  value ← text_of texts.1
+  texts ← texts_in words.positional
   client ← client_of words.options
-  Some (command.Set name value client)
+  Some (command.Set texts.0 texts.1 client)
 command_in form.Watch words = do
   name ← name_in words.positional
   samples ← samples_of words.options
@@ -181,8 +213,7 @@ command_in form.Watch words = do
 command_in form.Record words = do
   names ← names_of words.positional
   samples ← samples_of words.options
-  store_word ← value_of (codes "--store") words.options
-  store ← file_of store_word
+  store ← file_at (codes "--store") words.options
   client ← client_of words.options
   Some (command.Record names samples.0 samples.1 samples.2 store client)
 

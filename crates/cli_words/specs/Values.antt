@@ -13,6 +13,13 @@ number_of least most text =
     let n = digits_value 10 text in
     if bytes_eq text (decimal n) && nat_le least n && nat_le n most then Some n else None
 
+-- what stands behind a decimal number of 0 to 255 and a full stop
+unfoldable pub behind_byte : List ℕ → Option (List ℕ)
+behind_byte text = do
+  parts ← parted 46 text
+  byte ← number_of 0 255 parts.0
+  Some parts.1
+
 -- so many decimal numbers of 0 to 255, joined by full stops
 unfoldable pub stopped_bytes : ℕ → List ℕ → Option (List ℕ)
 stopped_bytes zero text = None

@@ -1,10 +1,10 @@
 //! Each command by its positional words and its options.
 
 ghost use Rattle.cli_words.specs.Reading.{Reads};
-ghost use Rattle.cli_words.specs.Commands.{only_one, only_two, only_three, file_in, files_in, three_files_in, name_in};
+ghost use Rattle.cli_words.specs.Commands.{file_in, name_in, number_in, two_files, files_in, two_texts, texts_in, two_numbers, numbers_in, three_files, three_files_in};
 ghost use Rattle.cli_words.specs.Commands.{client_alone, relay_over_script, relay_over_wire, relay_in, command_in};
 
-use crate::client::{client, required, samples, server};
+use crate::client::{client, file_at, samples, server};
 use crate::division::Division;
 use crate::form::Form;
 use crate::refusal::Refusal;
@@ -21,7 +21,7 @@ pub(crate) fn command(alloc: Global, form: Form, words: Division) -> Result<Comm
         Form::Check => check(alloc, &words),
         Form::Replay => replay(alloc, &words),
         Form::Serve => serve(alloc, &words),
-        Form::Load => load(alloc, &words),
+        Form::Load => load(&words),
         Form::Info => info(alloc, &words),
         Form::State => state(alloc, &words),
         Form::List => list(alloc, &words),
@@ -133,11 +133,10 @@ fn keep(alloc: Global, words: &Division) -> Result<Command, Refusal>
 }
 
 #[tactic(auto, unfolding(crate::specs::Commands::command_in))]
-fn load(alloc: Global, words: &Division) -> Result<Command, Refusal>
+fn load(words: &Division) -> Result<Command, Refusal>
     ensures { Reads result (command_in Form.Load words.now) }
 {
-    let word = one_word(alloc, words)?;
-    let n = number(&word, 0, 100_000)?;
+    let n = one_number(words, 0, 100_000)?;
     Ok(Command::Load { n })
 }
 
@@ -169,9 +168,7 @@ fn list(alloc: Global, words: &Division) -> Result<Command, Refusal>
 fn control(alloc: Global, words: &Division) -> Result<Command, Refusal>
     ensures { Reads result (command_in Form.Control words.now) }
 {
-    let (ads_word, device_word) = two_words(alloc, words)?;
-    let ads = number(&ads_word, 0, 65_535)?;
-    let device = number(&device_word, 0, 65_535)?;
+    let (ads, device) = two_numbers(words)?;
     let client = client(alloc, words.options.as_slice())?;
     Ok(Command::Control {
         ads,
@@ -202,9 +199,7 @@ fn show(alloc: Global, words: &Division) -> Result<Command, Refusal>
 fn set(alloc: Global, words: &Division) -> Result<Command, Refusal>
     ensures { Reads result (command_in Form.Set words.now) }
 {
-    let (name_word, value_word) = two_words(alloc, words)?;
-    let name = text(name_word)?;
-    let value = text(value_word)?;
+    let (name, value) = two_texts(alloc, words)?;
     let client = client(alloc, words.options.as_slice())?;
     Ok(Command::Set {
         name,
@@ -218,7 +213,7 @@ fn watch(alloc: Global, words: &Division) -> Result<Command, Refusal>
     ensures { Reads result (command_in Form.Watch words.now) }
 {
     let name = one_name(alloc, words)?;
-    let (change, cycle, count) = samples(alloc, words.options.as_slice())?;
+    let (change, cycle, count) = samples(words.options.as_slice())?;
     let client = client(alloc, words.options.as_slice())?;
     Ok(Command::Watch {
         name,
@@ -238,9 +233,8 @@ fn make_record(alloc: Global, words: Division) -> Result<Command, Refusal>
         options,
     } = words;
     let names = names(positional)?;
-    let (change, cycle, count) = samples(alloc, options.as_slice())?;
-    let store_word = required(alloc, options.as_slice(), "--store")?;
-    let store = file(store_word)?;
+    let (change, cycle, count) = samples(options.as_slice())?;
+    let store = file_at(alloc, options.as_slice(), "--store")?;
     let client = client(alloc, options.as_slice())?;
     Ok(Command::Record {
         names,
@@ -252,61 +246,90 @@ fn make_record(alloc: Global, words: Division) -> Result<Command, Refusal>
     })
 }
 
-#[tactic(auto, unfolding(crate::specs::Commands::only_one))]
-fn one_word(alloc: Global, words: &Division) -> Result<Text, Refusal>
-    ensures { Reads result (only_one words.now.positional) }
-{
-    match words.positional.as_slice() {
-        [word] => Ok(Text::copy_of(alloc, word.as_str())?),
-        _ => Err(Refusal::OffGrammar),
-    }
-}
-
-#[tactic(auto, unfolding(crate::specs::Commands::only_two))]
-fn two_words(alloc: Global, words: &Division) -> Result<(Text, Text), Refusal>
-    ensures { Reads result (only_two words.now.positional) }
-{
-    match words.positional.as_slice() {
-        [first, second] => {
-            let first = Text::copy_of(alloc, first.as_str())?;
-            let second = Text::copy_of(alloc, second.as_str())?;
-            Ok((first, second))
-        }
-        _ => Err(Refusal::OffGrammar),
-    }
-}
-
-#[tactic(auto, unfolding(crate::specs::Commands::only_three))]
-fn three_words(alloc: Global, words: &Division) -> Result<(Text, Text, Text), Refusal>
-    ensures { Reads result (only_three words.now.positional) }
-{
-    match words.positional.as_slice() {
-        [first, second, third] => {
-            let first = Text::copy_of(alloc, first.as_str())?;
-            let second = Text::copy_of(alloc, second.as_str())?;
-            let third = Text::copy_of(alloc, third.as_str())?;
-            Ok((first, second, third))
-        }
-        _ => Err(Refusal::OffGrammar),
-    }
-}
-
 #[tactic(auto, unfolding(crate::specs::Commands::file_in))]
 fn one_file(alloc: Global, words: &Division) -> Result<Text, Refusal>
     ensures { Reads result (file_in words.now.positional) }
 {
-    let word = one_word(alloc, words)?;
-    let name = file(word)?;
-    Ok(name)
+    match words.positional.as_slice() {
+        [word] => file(alloc, word),
+        _ => Err(Refusal::OffGrammar),
+    }
+}
+
+#[tactic(auto, unfolding(crate::specs::Commands::name_in))]
+fn one_name(alloc: Global, words: &Division) -> Result<Text, Refusal>
+    ensures { Reads result (name_in words.now.positional) }
+{
+    match words.positional.as_slice() {
+        [word] => text(alloc, word),
+        _ => Err(Refusal::OffGrammar),
+    }
+}
+
+#[tactic(auto, unfolding(crate::specs::Commands::number_in))]
+fn one_number(words: &Division, least: u64, most: u64) -> Result<u64, Refusal>
+    ensures { Reads result (number_in least most words.now.positional) }
+{
+    match words.positional.as_slice() {
+        [word] => number(word, least, most),
+        _ => Err(Refusal::OffGrammar),
+    }
 }
 
 #[tactic(auto, unfolding(crate::specs::Commands::files_in))]
 fn two_files(alloc: Global, words: &Division) -> Result<(Text, Text), Refusal>
     ensures { Reads result (files_in words.now.positional) }
 {
-    let (first_word, second_word) = two_words(alloc, words)?;
-    let first = file(first_word)?;
-    let second = file(second_word)?;
+    match words.positional.as_slice() {
+        [word, other] => files_of(alloc, word, other),
+        _ => Err(Refusal::OffGrammar),
+    }
+}
+
+#[tactic(auto, unfolding(crate::specs::Commands::two_files))]
+fn files_of(alloc: Global, word: &Text, other: &Text) -> Result<(Text, Text), Refusal>
+    ensures { Reads result (two_files word.now other.now) }
+{
+    let first = file(alloc, word)?;
+    let second = file(alloc, other)?;
+    Ok((first, second))
+}
+
+#[tactic(auto, unfolding(crate::specs::Commands::texts_in))]
+fn two_texts(alloc: Global, words: &Division) -> Result<(Text, Text), Refusal>
+    ensures { Reads result (texts_in words.now.positional) }
+{
+    match words.positional.as_slice() {
+        [word, other] => texts_of(alloc, word, other),
+        _ => Err(Refusal::OffGrammar),
+    }
+}
+
+#[tactic(auto, unfolding(crate::specs::Commands::two_texts))]
+fn texts_of(alloc: Global, word: &Text, other: &Text) -> Result<(Text, Text), Refusal>
+    ensures { Reads result (two_texts word.now other.now) }
+{
+    let first = text(alloc, word)?;
+    let second = text(alloc, other)?;
+    Ok((first, second))
+}
+
+#[tactic(auto, unfolding(crate::specs::Commands::numbers_in))]
+fn two_numbers(words: &Division) -> Result<(u64, u64), Refusal>
+    ensures { Reads result (numbers_in words.now.positional) }
+{
+    match words.positional.as_slice() {
+        [word, other] => numbers_of(word, other),
+        _ => Err(Refusal::OffGrammar),
+    }
+}
+
+#[tactic(auto, unfolding(crate::specs::Commands::two_numbers))]
+fn numbers_of(word: &Text, other: &Text) -> Result<(u64, u64), Refusal>
+    ensures { Reads result (two_numbers word.now other.now) }
+{
+    let first = number(word, 0, 65_535)?;
+    let second = number(other, 0, 65_535)?;
     Ok((first, second))
 }
 
@@ -314,20 +337,25 @@ fn two_files(alloc: Global, words: &Division) -> Result<(Text, Text), Refusal>
 fn three_files(alloc: Global, words: &Division) -> Result<(Text, Text, Text), Refusal>
     ensures { Reads result (three_files_in words.now.positional) }
 {
-    let (first_word, second_word, third_word) = three_words(alloc, words)?;
-    let first = file(first_word)?;
-    let second = file(second_word)?;
-    let third = file(third_word)?;
-    Ok((first, second, third))
+    match words.positional.as_slice() {
+        [word, other, last] => three_files_of(alloc, word, other, last),
+        _ => Err(Refusal::OffGrammar),
+    }
 }
 
-#[tactic(auto, unfolding(crate::specs::Commands::name_in))]
-fn one_name(alloc: Global, words: &Division) -> Result<Text, Refusal>
-    ensures { Reads result (name_in words.now.positional) }
+#[tactic(auto, unfolding(crate::specs::Commands::three_files))]
+fn three_files_of(
+    alloc: Global,
+    word: &Text,
+    other: &Text,
+    last: &Text,
+) -> Result<(Text, Text, Text), Refusal>
+    ensures { Reads result (three_files word.now other.now last.now) }
 {
-    let word = one_word(alloc, words)?;
-    let name = text(word)?;
-    Ok(name)
+    let first = file(alloc, word)?;
+    let second = file(alloc, other)?;
+    let third = file(alloc, last)?;
+    Ok((first, second, third))
 }
 
 #[tactic(auto, unfolding(crate::specs::Commands::client_alone))]

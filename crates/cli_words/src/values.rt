@@ -1,13 +1,14 @@
 //! What the texts of words mean: numbers, addresses, NetIds, file names, names.
 
-ghost use Rattle.std.specs.Prelude.{◌≡◌, ◌&&◌, nat_lt, nat_le, length, is_some};
+ghost use Rattle.std.specs.Prelude.{◌≡◌, ◌&&◌, nat_lt, nat_le, length, is_some, option_map, Some};
 ghost use Rattle.cli_words.specs.Reading.{Reads};
-ghost use Rattle.cli_words.specs.Values.{number_of, stopped_bytes, net_id_of, is_host, address_port, address_of, file_of, text_of, on_change_of, stands_in, are_distinct, are_texts, names_of};
+ghost use Rattle.cli_words.specs.Values.{number_of, behind_byte, stopped_bytes, net_id_of, is_host, address_port, address_of, file_of, text_of, on_change_of, stands_in, are_distinct, are_texts, names_of};
 
 use crate::division::part;
 use crate::refusal::Refusal;
 use crate::{Text, TextList};
-use ads_base::{NetId, read_decimal};
+use ads_base::{NetId, NoMemory, read_decimal};
+use std::alloc::Global;
 
 /// The greatest length of a name or a value, in bytes.
 const MAX_TEXT: usize = 65_536;
@@ -45,12 +46,21 @@ pub(crate) fn net_id(word: &Text) -> Result<NetId, Refusal>
 
 /// A text that is an address.
 #[tactic(auto, unfolding(crate::specs::Values::address_of))]
-pub(crate) fn address(word: Text) -> Result<Text, Refusal>
-    ensures { Reads result (address_of word) }
+pub(crate) fn address(alloc: Global, word: &Text) -> Result<Text, Refusal>
+    ensures { Reads result (address_of word.now) }
 {
     match port_of_address(word.as_str()) {
-        Some(_) => Ok(word),
+        Some(_) => copied(alloc, word),
         None => Err(Refusal::OffGrammar),
+    }
+}
+
+fn copied(alloc: Global, word: &Text) -> Result<Text, Refusal>
+    ensures { Reads result (Some word.now) }
+{
+    match Text::copy_of(alloc, word.as_str()) {
+        Ok(copy) => Ok(copy),
+        Err(NoMemory) => Err(Refusal::Memory),
     }
 }
 
@@ -72,40 +82,47 @@ fn is_host(text: &str) -> bool
     text == "localhost" || four_bytes(text).is_some()
 }
 
-#[tactic(auto, unfolding(crate::specs::Values::stopped_bytes))]
+#[tactic(auto, unfolding(crate::specs::Values::stopped_bytes, crate::specs::Values::behind_byte))]
 fn four_bytes(text: &str) -> Option<()>
     ensures { is_some result ≡ is_some (stopped_bytes 4 text.now) }
 {
-    let (first, rest) = part(text, '.')?;
-    number_in(first, 0, 255)?;
-    let (second, rest) = part(rest, '.')?;
-    number_in(second, 0, 255)?;
-    let (third, fourth) = part(rest, '.')?;
-    number_in(third, 0, 255)?;
-    number_in(fourth, 0, 255)?;
+    let rest = behind_byte(text)?;
+    let rest = behind_byte(rest)?;
+    let last = behind_byte(rest)?;
+    number_in(last, 0, 255)?;
     Some(())
+}
+
+// What stands behind a number of 0 to 255 and a full stop.
+#[tactic(auto, unfolding(crate::specs::Values::behind_byte))]
+fn behind_byte(text: &str) -> Option<&str>
+    ensures { option_map (λ rest. rest.now) result ≡ behind_byte text.now }
+{
+    let (byte, rest) = part(text, '.')?;
+    number_in(byte, 0, 255)?;
+    Some(rest)
 }
 
 /// A text that is a file name.
 #[tactic(auto, unfolding(crate::specs::Values::file_of))]
-pub(crate) fn file(word: Text) -> Result<Text, Refusal>
-    ensures { Reads result (file_of word) }
+pub(crate) fn file(alloc: Global, word: &Text) -> Result<Text, Refusal>
+    ensures { Reads result (file_of word.now) }
 {
     if word.as_str().is_empty() {
         return Err(Refusal::OffGrammar);
     }
-    Ok(word)
+    copied(alloc, word)
 }
 
 /// A text that is a name or a value.
 #[tactic(auto, unfolding(crate::specs::Values::text_of))]
-pub(crate) fn text(word: Text) -> Result<Text, Refusal>
-    ensures { Reads result (text_of word) }
+pub(crate) fn text(alloc: Global, word: &Text) -> Result<Text, Refusal>
+    ensures { Reads result (text_of word.now) }
 {
     if word.as_str().len() > MAX_TEXT {
         return Err(Refusal::OffGrammar);
     }
-    Ok(word)
+    copied(alloc, word)
 }
 
 /// Whether samples are sent on a change alone.
