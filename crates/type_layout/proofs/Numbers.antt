@@ -47,6 +47,14 @@ space_fits (x ∷ (y ∷ (z ∷ []))) d a b c l h e f g =
     record { row = omega (arith, within_plane, some, h); space = omega (arith, space, h) }
 space_fits (x ∷ (y ∷ (z ∷ (w ∷ more)))) d a b c l h e f g = absurd (omega (arith, l))
 
+pub plane_number : (bounds : List Bound) (d : Bound) (i j : ℤ) (a b : ℕ) → length bounds ≡ 2
+    → Some a ≡ within (bound_of (get_or bounds 0 d)) i → Some b ≡ within (bound_of (get_or bounds 1 d)) j
+    → Some (a * (get_or bounds 1 d).count + b) ≡ element_from 0 (bounds_of bounds) (i ∷ j ∷ [])
+plane_number [] d i j a b l e f = absurd (omega (arith, l))
+plane_number (x ∷ []) d i j a b l e f = absurd (omega (arith, l))
+plane_number (x ∷ (y ∷ [])) d i j a b l e f = rw (← e) (rw (← f) (ap Some (omega arith)))
+plane_number (x ∷ (y ∷ (z ∷ more))) d i j a b l e f = absurd (omega (arith, l))
+
 pub space_number : (bounds : List Bound) (d : Bound) (i j k : ℤ) (a b c : ℕ) → length bounds ≡ 3
     → Some a ≡ within (bound_of (get_or bounds 0 d)) i → Some b ≡ within (bound_of (get_or bounds 1 d)) j → Some c ≡ within (bound_of (get_or bounds 2 d)) k
     → Some ((a * (get_or bounds 1 d).count + b) * (get_or bounds 2 d).count + c) ≡ element_from 0 (bounds_of bounds) (i ∷ j ∷ k ∷ [])

@@ -1,7 +1,7 @@
 //! Canonical texts of types.
 
 ghost use Rattle.std.specs.Prelude.{◌≡◌, ◌<◌, ◌++◌, ◌∷◌, map, flat_map, length, OnOk, OnErr, codes, decimal};
-ghost use Rattle.ads_plant.specs.Spelling.{type_text, bound_text, joined_by_comma};
+ghost use Rattle.ads_plant.specs.Spelling.{type_text, bound_text, high_of, joined_by_comma};
 ghost use Rattle.ads_plant.specs.Trees.{tree_of, trees_of, elem_tree, tree_at};
 ghost use Rattle.type_layout.specs.Shapes.{elem_of, bound_of, bounds_of, shape_of_ref};
 ghost use Rattle.type_layout.specs.NamedTypes.{types_of};
@@ -131,7 +131,13 @@ fn put_bound(alloc: Global, bound: Bound, out: &mut Octets) -> Result<(), NoMemo
     ensures no_memory { OnErr result (out.new ≡ out.old) }
 {
     let low = bound.low;
-    let high = i64::from(low) + i64::from(bound.count) - 1;
+    let high = greatest_index(bound);
     let text = format!(in alloc; "{low}..{high}")?;
     out.put(alloc, text.as_bytes())
+}
+
+fn greatest_index(bound: Bound) -> i64
+    ensures { result ≡ high_of (bound_of bound) }
+{
+    i64::from(bound.low) + i64::from(bound.count) - 1
 }

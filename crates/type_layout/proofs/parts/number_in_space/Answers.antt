@@ -1,8 +1,7 @@
 -- Three indexes need three dimensions, and their number is below the number of elements.
-use Rattle.std.proofs.Common.{rules, get_or, ◌≡◌, ◌∷◌, [], length, arith}
-use Rattle.std.specs.Prelude.{pos, Some}
-use Rattle.ads_plant.specs.Parts.{within}
-use Rattle.type_layout.specs.Shapes.{bound_of}
+use Rattle.std.proofs.Common.{◌≡◌, ◌∷◌, [], length, arith}
+use Rattle.std.specs.Prelude.{pos}
+use Rattle.std.proofs.lemmas.Int.{to_z-of_z}
 use Rattle.type_layout.proofs.Numbers.{no_number, space_fits, space_number}
 use Rattle.type_layout.proofs.parts.number_in_space.Goals as goal
 
@@ -43,8 +42,16 @@ overflow_add-result-2 c =
 pub returns : goal.returns
 returns c =
     let three : length c.args.bounds.now ≡ 3 = omega (arith, c.in-len3.len_at_least, c.in-len3.len_below) in
-    let layer : Some c.in_ok-layer.layer ≡ within (bound_of (get_or c.args.bounds.now 0 (record { low = pos 0; count = 0 }))) c.args.i = search rules in
-    let row : Some c.in_ok-row.row ≡ within (bound_of (get_or c.args.bounds.now 1 (record { low = pos 0; count = 0 }))) c.args.j = search rules in
-    let column : Some c.in_ok-column.column ≡ within (bound_of (get_or c.args.bounds.now 2 (record { low = pos 0; count = 0 }))) c.args.k = search rules in
+    let i = c.ranges.i in
+    let j = c.ranges.j in
+    let k = c.ranges.k in
     space_number c.args.bounds.now (record { low = pos 0; count = 0 }) c.args.i c.args.j c.args.k c.in_ok-layer.layer c.in_ok-row.row c.in_ok-column.column
-    three layer row column
+    three (simp to_z-of_z at c.in_ok-layer.ensures.number) (simp to_z-of_z at c.in_ok-row.ensures.number) (simp to_z-of_z at c.in_ok-column.ensures.number)
+
+pub overflow_mul-result : goal.overflow_mul-result
+overflow_mul-result c =
+    let three : length c.args.bounds.now ≡ 3 = omega (arith, c.in-len3.len_at_least, c.in-len3.len_below) in
+    let fits = space_fits c.args.bounds.now (record { low = pos 0; count = 0 }) c.in_ok-layer.layer c.in_ok-row.row c.in_ok-column.column three c.requires
+    c.in_ok-layer.ensures.below c.in_ok-row.ensures.below c.in_ok-column.ensures.below in
+    let row = fits.row in
+    omega (arith, row)
