@@ -47,7 +47,8 @@ first-bytes d types version port m sound e p first =
     subst (Holds (first_memory (plant_of d)) (plant_port types port)) same held
 
 -- each holds its port
-first_each : (d : Description) (waves : List Wave) (types : List NamedType) (ps : List Port) (ms : List PortMemory) → IsSoundPlant (plant_of d) → d.types ≡ types
+first_each : (d : Description) (waves : List Wave) (types : List NamedType) (ps : List Port) (ms : List PortMemory) → IsSoundPlant (plant_of d)
+    → d.types ≡ types
     → Each (IsSoundPort (plant_of d).ports) (map (plant_port types) ps) → AreFirstPorts types 1 ps ms
     → HoldEach (world_of d waves) (map (plant_port types) ps) ms
 first_each d waves types [] [] sound e ports first = tt

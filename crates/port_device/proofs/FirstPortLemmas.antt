@@ -48,20 +48,27 @@ pub of_accepted-placed : (types : List NamedType) (port : Port) → IsOfAccepted
 of_accepted-placed types port a =
     subst (λ ts. IsPlaced ts port) a.types_are (accepted_is_placed a.description a.signals a.place port a.accepted a.there)
 
-pub of_accepted-sound : (types : List NamedType) (port : Port) (a : IsOfAccepted types port) → IsSoundPort (plant_of a.description).ports (plant_port types port)
+pub of_accepted-sound : (types : List NamedType) (port : Port) (a : IsOfAccepted types port)
+    → IsSoundPort (plant_of a.description).ports (plant_port types port)
 of_accepted-sound types port a =
     let d = a.description in
     let P : List NamedType → Type 0 = λ ts. IsSoundPort (plant_of d).ports (plant_port ts port) in
     let there = slice_get-map (plant_port d.types) d.ports a.place ∙ ap (option_map (plant_port d.types)) a.there in
-    subst P a.types_are (each-get (IsSoundPort (plant_of d).ports) (plant_of d).ports a.place (plant_port d.types port) (accepted_are_sound d a.signals a.accepted) there)
+    let ports = (plant_of d).ports in
+    subst P a.types_are (each-get (IsSoundPort ports) ports a.place (plant_port d.types port) (accepted_are_sound d a.signals a.accepted) there)
 
 -- the image is not too long
-size_part : (a b c x y z w : Bool) → (((((a && b) && c) && x) && y) && z) ≡ true → c ≡ true
-size_part a b c x y z w q = (and_parts (a && b) c ((and_parts ((a && b) && c) x ((and_parts (((a && b) && c) && x) y ((and_parts ((((a && b) && c) && x) && y) z q).0)).0)).0)).1
+size_part : (a b c x y z : Bool) → (((((a && b) && c) && x) && y) && z) ≡ true → c ≡ true
+size_part a b c x y z q =
+    let q1 = and_parts ((((a && b) && c) && x) && y) z q in
+    let q2 = and_parts (((a && b) && c) && x) y (q1.0) in
+    let q3 = and_parts ((a && b) && c) x (q2.0) in
+    (and_parts (a && b) c (q3.0)).1
 
 pub of_accepted-few : (types : List NamedType) (port : Port) → IsOfAccepted types port → image_size port.sizes ≤ IMAGE_LIMIT
 of_accepted-few types port a =
-    leb-true (image_size port.sizes) IMAGE_LIMIT (size_part _ (are_facts port.facts) (nat_le (image_size port.sizes) IMAGE_LIMIT) _ _ _ true (of_accepted-port types port a))
+    let few = nat_le (image_size port.sizes) IMAGE_LIMIT in
+    leb-true (image_size port.sizes) IMAGE_LIMIT (size_part _ (are_facts port.facts) few _ _ _ (of_accepted-port types port a))
 
 -- initial bytes lie in their areas
 
@@ -82,7 +89,8 @@ symbols-fit p types (r ∷ rows) (s ∷ ss) e sound =
     let fits : FitsSymbol p.sizes (table_symbol types s) = omega (arith, within, long) in
     (subst (FitsSymbol p.sizes) (sym same) fits, symbols-fit p types rows ss rest (sound.1))
 
-pub of_accepted-fit : (types : List NamedType) (port : Port) (rows : List SymbolRow) → IsOfAccepted types port → symbols_of_rows rows ≡ (table_of types port).symbols
+pub of_accepted-fit : (types : List NamedType) (port : Port) (rows : List SymbolRow) → IsOfAccepted types port
+    → symbols_of_rows rows ≡ (table_of types port).symbols
     → All (FitsRow port.sizes) rows
 of_accepted-fit types port rows a e =
     each_all (FitsRow port.sizes) rows (symbols-fit (plant_port types port) types rows port.symbols e (of_accepted-sound types port a).symbols)
@@ -94,7 +102,8 @@ each-fills p [] e = tt
 each-fills p (s ∷ ss) e = ((e.0).initial, each-fills p ss (e.1))
 
 pub of_accepted-image : (types : List NamedType) (port : Port) → IsOfAccepted types port
-    → IsFirstImage (plant_port types port) (with_all_bytes port.sizes (replicate (image_size port.sizes) 0) (map (placed_symbol first_bytes) (table_of types port).symbols))
+    → IsFirstImage (plant_port types port)
+    (with_all_bytes port.sizes (replicate (image_size port.sizes) 0) (map (placed_symbol first_bytes) (table_of types port).symbols))
 of_accepted-image types port a =
     let p = plant_port types port in
     let sound = of_accepted-sound types port a in
@@ -105,7 +114,8 @@ of_accepted-image types port a =
     subst (λ bs. IsFirstImage p (with_all_bytes port.sizes (replicate (image_size port.sizes) 0) bs)) (sym same) image
 
 -- one more port
-pub first_ports-more : (types : List NamedType) (version : ℕ) (ps : List Port) (ms : List PortMemory) (p : Port) (m : PortMemory) → AreFirstPorts types version ps ms
+pub first_ports-more : (types : List NamedType) (version : ℕ) (ps : List Port) (ms : List PortMemory) (p : Port) (m : PortMemory)
+    → AreFirstPorts types version ps ms
     → IsFirstPort types p version m → AreFirstPorts types version (ps ++ p ∷ []) (ms ++ m ∷ [])
 first_ports-more types version [] [] p m h first = (first, tt)
 first_ports-more types version [] (n ∷ ms) p m h first = absurd h
@@ -113,12 +123,14 @@ first_ports-more types version (q ∷ ps) [] p m h first = absurd h
 first_ports-more types version (q ∷ ps) (n ∷ ms) p m h first = (h.0, first_ports-more types version ps ms p m (h.1) first)
 
 -- the table that was built of a port
-pub of_accepted-table : (types given : List NamedType) (port : Port) (table : SymbolTable) → IsOfAccepted types port → given ≡ types → table ≡ table_of given port
+pub of_accepted-table : (types given : List NamedType) (port : Port) (table : SymbolTable) → IsOfAccepted types port → given ≡ types
+    → table ≡ table_of given port
     → IsTableOf types port table
 of_accepted-table types given port table a same e =
     record { placed = of_accepted-placed types port a; same = e ∙ ap (λ ts. table_of ts port) same }
 
-pub of_accepted-fits : (types : List NamedType) (port : Port) (table : SymbolTable) (rows : List SymbolRow) → IsOfAccepted types port → IsTableOf types port table
+pub of_accepted-fits : (types : List NamedType) (port : Port) (table : SymbolTable) (rows : List SymbolRow) → IsOfAccepted types port
+    → IsTableOf types port table
     → symbols_of_rows rows ≡ table.symbols → All (FitsRow port.sizes) rows
 of_accepted-fits types port table rows a t e = of_accepted-fit types port rows a (e ∙ ap (λ (x : SymbolTable). x.symbols) t.same)
 
@@ -147,7 +159,8 @@ of_accepted-first types port table rows image a t e i =
     subst (IsFirstImage (plant_port types port)) (sym (i ∙ ap filled_ symbols)) (of_accepted-image types port a)
 
 -- there are few symbols
-pub few_rows : (types : List NamedType) (port : Port) (table : SymbolTable) (rows : List SymbolRow) → IsTableOf types port table → symbols_of_rows rows ≡ table.symbols
+pub few_rows : (types : List NamedType) (port : Port) (table : SymbolTable) (rows : List SymbolRow) → IsTableOf types port table
+    → symbols_of_rows rows ≡ table.symbols
     → length rows ≤ 10000
 few_rows types port table rows t e =
     let one = length-map rows symbol_of_row in

@@ -1,5 +1,6 @@
 -- A step of a signal in the image of a port: which symbol it writes, and that this is what a tick writes.
-use Rattle.std.proofs.Common.{◌≡◌, ℕ, zero, suc, ◌+◌, ◌≤◌, List, [], ◌∷◌, ◌++◌, map, take, drop, length, get_or, cond, Bool, true, false, refl, sym, ◌∙◌, ap, subst, ◌<◌, arith}
+use Rattle.std.proofs.Common.{◌≡◌, ℕ, zero, suc, ◌+◌, ◌<◌, ◌≤◌, List, [], ◌∷◌, ◌++◌, map, take, drop, length, get_or, Bool, true, false, cond}
+use Rattle.std.proofs.Common.{refl, sym, ◌∙◌, ap, subst, arith}
 use Rattle.std.specs.Prelude.{Option, Some, None, option_map, slice_get, slice_set, slice_index_or}
 use Rattle.std.proofs.lemmas.List.{length-map}
 use Rattle.std.proofs.lemmas.Option.{slice_get-map, slice_get_read}
@@ -17,11 +18,8 @@ use Rattle.symbol_table.specs.Rows.{symbol_of_row, symbols_of_rows}
 use Rattle.symbol_table.specs.declared.row.SymbolRow.{SymbolRow}
 use Rattle.port_device.specs.PortMemory.{PortMemory, PortsMemory}
 use Rattle.port_device.specs.Holds.{HoldsPort, HoldEach, HoldsPorts}
+use Rattle.port_device.specs.Changed.{with_image}
 use Rattle.port_device.specs.Signals.{is_bound_to, symbol_bound_to, with_value_at, image_after_step, port_after_step, ports_after_steps}
-
--- a port with another image
-abbrev pub with_bytes_of : PortMemory → List ℕ → PortMemory
-with_bytes_of m image = let b = m.bytes in record m { bytes = record b { image = image } }
 
 -- no symbol is written where none is bound
 pub image_after_step-none : (sizes : Sizes) (n value : ℕ) (ss : List TableSymbol) (image : List ℕ) → symbol_bound_to n ss ≡ None
@@ -60,13 +58,15 @@ image_after_step-some sizes n value k (t ∷ ss) s image e g =
 
 -- a port that no symbol of follows the signal
 pub step-none : (n value : ℕ) (m : PortMemory) → symbol_bound_to n m.table.symbols ≡ None → m ≡ port_after_step n value m
-step-none n value m e = ap (with_bytes_of m) (sym (image_after_step-none m.table.sizes n value m.table.symbols m.bytes.image e))
+step-none n value m e = ap (with_image m) (sym (image_after_step-none m.table.sizes n value m.table.symbols m.bytes.image e))
 
 -- a port of which one does
 pub step-some : (n value k : ℕ) (m : PortMemory) (s : TableSymbol) (sizes : Sizes) (image : List ℕ) → symbol_bound_to n m.table.symbols ≡ Some k
-    → slice_get m.table.symbols k ≡ Some s → m.table.sizes ≡ sizes → image ≡ with_value_at sizes value s m.bytes.image → with_bytes_of m image ≡ port_after_step n value m
+    → slice_get m.table.symbols k ≡ Some s → m.table.sizes ≡ sizes → image ≡ with_value_at sizes value s m.bytes.image
+    → with_image m image ≡ port_after_step n value m
 step-some n value k m s sizes image e g z i =
-    ap (with_bytes_of m) (i ∙ ap (λ x. with_value_at x value s m.bytes.image) (sym z) ∙ sym (image_after_step-some m.table.sizes n value k m.table.symbols s m.bytes.image e g))
+    ap (with_image m) (i ∙ ap (λ x. with_value_at x value s m.bytes.image) (sym z)
+    ∙ sym (image_after_step-some m.table.sizes n value k m.table.symbols s m.bytes.image e g))
 
 -- the symbol of a row
 pub row_there : (rows : List SymbolRow) (k : ℕ) (row : SymbolRow) (symbols : List TableSymbol) → symbols_of_rows rows ≡ symbols → k < length rows
@@ -179,14 +179,16 @@ none_alone n [] = refl
 none_alone n (wave ∷ waves) = none_alone (n + 1) waves
 
 steps_are_signals : (types : List NamedType) (port : Port) (n : ℕ) (waves : List Wave) (m : PortMemory) → IsTableOf types port m.table
-    → port_after_steps n waves m ≡ with_bytes_of m (image_after_signals (plant_port types port) n waves m.bytes.image)
+    → port_after_steps n waves m ≡ with_image m (image_after_signals (plant_port types port) n waves m.bytes.image)
 steps_are_signals types port n [] m t = refl
 steps_are_signals types port n (wave ∷ waves) m t =
     let p = plant_port types port in
-    let one : image_after_step m.table.sizes n (value_of wave) m.table.symbols m.bytes.image ≡ image_after_signal p.sizes n (value_of wave) p.symbols m.bytes.image
-    = ap (λ (x : SymbolTable). image_after_step x.sizes n (value_of wave) x.symbols m.bytes.image) t.same ∙ same_step types port.sizes n (value_of wave) port.symbols m.bytes.image in
+    let value = value_of wave in
+    let one : image_after_step m.table.sizes n value m.table.symbols m.bytes.image ≡ image_after_signal p.sizes n value p.symbols m.bytes.image
+    = ap (λ (x : SymbolTable). image_after_step x.sizes n value x.symbols m.bytes.image) t.same
+    ∙ same_step types port.sizes n value port.symbols m.bytes.image in
     steps_are_signals types port (n + 1) waves (port_after_step n (value_of wave) m) t
-    ∙ ap (λ image. with_bytes_of m (image_after_signals p (n + 1) waves image)) one
+    ∙ ap (λ image. with_image m (image_after_signals p (n + 1) waves image)) one
 
 -- a port holds the world after a tick
 port_after_tick : (w : World) (i : ℕ) (p : PlantPort) (m : PortMemory) → AreNumberedApart w.plant.ports → slice_get w.plant.ports i ≡ Some p → HoldsPort w p m
@@ -197,7 +199,7 @@ port_after_tick w i p m apart there h =
     let stepped = steps_signals w i p m.bytes h.plant_sound apart there h.holds in
     let same : p ≡ plant_port types h.port = h.plant in
     let image = image_after_signals p 0 w.signals m.bytes.image in
-    let held : HoldsPort (world_after_tick w) p (with_bytes_of m image) = record {
+    let held : HoldsPort (world_after_tick w) p (with_image m image) = record {
       port = h.port;
       plant = h.plant;
       table = h.table;
@@ -209,8 +211,8 @@ port_after_tick w i p m apart there h =
       sound = h.sound;
       holds = stepped;
     } in
-    let steps : port_after_steps 0 w.signals m ≡ with_bytes_of m image
-    = steps_are_signals types h.port 0 w.signals m h.table ∙ ap (λ q. with_bytes_of m (image_after_signals q 0 w.signals m.bytes.image)) (sym same) in
+    let steps : port_after_steps 0 w.signals m ≡ with_image m image
+    = steps_are_signals types h.port 0 w.signals m h.table ∙ ap (λ q. with_image m (image_after_signals q 0 w.signals m.bytes.image)) (sym same) in
     subst (HoldsPort (world_after_tick w) p) (sym steps) held
 
 each_after_tick : (w : World) → AreNumberedApart w.plant.ports → (before : ℕ) (ps : List PlantPort) (ms : List PortMemory)
@@ -220,7 +222,9 @@ each_after_tick w apart before [] [] there h = subst (HoldEach (world_after_tick
 each_after_tick w apart before [] (m ∷ ms) there h = absurd h
 each_after_tick w apart before (p ∷ ps) [] there h = absurd h
 each_after_tick w apart before (p ∷ ps) (m ∷ ms) there h =
-    let rest = each_after_tick w apart (before + 1) ps ms (λ i q g. let e : before + 1 + i ≡ before + suc i = omega arith in ap (slice_get w.plant.ports) e ∙ there (suc i) q g) (h.1) in
+    let behind : (i : ℕ) (q : PlantPort) → slice_get ps i ≡ Some q → slice_get w.plant.ports (before + 1 + i) ≡ Some q
+    = λ i q g. let e : before + 1 + i ≡ before + suc i = omega arith in ap (slice_get w.plant.ports) e ∙ there (suc i) q g in
+    let rest = each_after_tick w apart (before + 1) ps ms behind (h.1) in
     subst (HoldEach (world_after_tick w) (p ∷ ps)) (sym (each_alone 0 w.signals m ms)) (port_after_tick w (before + 0) p m apart (there 0 p refl) (h.0), rest)
 
 -- all ports hold the world after a tick

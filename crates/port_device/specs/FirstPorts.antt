@@ -1,4 +1,4 @@
--- The ports of an accepted description as they begin.
+-- For private contracts, and cited by no public clause: the ports of an accepted description as they begin.
 use Rattle.std.specs.Prelude.{◌≡◌, ℕ, ◌+◌, ◌≤◌, List, [], ◌∷◌, length, slice_get, Some}
 use Rattle.ads_plant.specs.Listed.{NamedType}
 use Rattle.ads_plant.specs.Description.{Sizes, size_in, Port, Description}

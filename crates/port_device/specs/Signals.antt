@@ -1,5 +1,6 @@
--- What the signals write into the images of ports at a tick.
-use Rattle.std.specs.Prelude.{◌≡◌, ℕ, suc, ◌+◌, List, [], ◌∷◌, map, take, Bool, false, ◌==◌, if◌then◌else◌, Option, Some, None, option_map, unwrap_or, slice_get}
+-- For private contracts, and cited by no public clause: what the signals write into the images of ports at a tick.
+use Rattle.std.specs.Prelude.{◌≡◌, ℕ, suc, ◌+◌, List, [], ◌∷◌, map, take, slice_get, Bool, false, ◌==◌, if◌then◌else◌}
+use Rattle.std.specs.Prelude.{Option, Some, None, option_map, unwrap_or}
 use Rattle.std.specs.Option.{option_map_or}
 use Rattle.std.specs.Int.{w64, to_le_bytes}
 use Rattle.signals.specs.Wave.{Wave, value_of}
@@ -7,6 +8,7 @@ use Rattle.ads_plant.specs.Description.{Sizes}
 use Rattle.ads_machine.specs.PortBytes.{with_image_bytes}
 use Rattle.symbol_table.specs.Tables.{TableSymbol}
 use Rattle.port_device.specs.PortMemory.{PortMemory}
+use Rattle.port_device.specs.Changed.{with_image}
 
 -- a signal writes the symbol
 abbrev pub is_bound_to : ℕ → TableSymbol → Bool
@@ -29,19 +31,17 @@ image_after_step sizes n value (s ∷ ss) image =
 
 -- a port after a step of a signal
 abbrev pub port_after_step : ℕ → ℕ → PortMemory → PortMemory
-port_after_step n value m =
-    let b = m.bytes in record m { bytes = record b { image = image_after_step m.table.sizes n value m.table.symbols b.image } }
+port_after_step n value m = with_image m (image_after_step m.table.sizes n value m.table.symbols m.bytes.image)
 
 -- the ports after the signals from the n-th on have stepped once each
 abbrev pub ports_after_steps : ℕ → List Wave → List PortMemory → List PortMemory
 ports_after_steps n [] ms = ms
 ports_after_steps n (wave ∷ waves) ms = ports_after_steps (n + 1) waves (map (port_after_step n (value_of wave)) ms)
 
--- For private contracts: a table that has at each signal's number the number of the symbol that it writes.
-
--- what a table has at a number; nothing past its end
+-- what a table of bound symbols has at a signal's number; nothing past its end
 abbrev pub bound_at : List (Option ℕ) → ℕ → Option ℕ
 bound_at bound n = unwrap_or (slice_get bound n) None
 
+-- the table has the first symbol that each signal writes
 abbrev pub AreBound : List (Option ℕ) → List TableSymbol → Type 0
 AreBound bound symbols = (n : ℕ) → bound_at bound n ≡ symbol_bound_to n symbols

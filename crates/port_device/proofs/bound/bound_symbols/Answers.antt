@@ -14,8 +14,10 @@ loop-number-preserved c = λ n.
     let rows = c.args.rows.now in
     let row : SymbolRow = c.index-rows-number.result in
     let before : List SymbolRow = take i rows in
-    let taken : take (i + 1) rows ≡ before ++ row ∷ [] = take_more rows i row c.loop-number-test.true ∙ ap (λ y. before ++ y ∷ []) (sym c.index-rows-number.is) in
-    let symbols : symbols_of_rows (take (i + 1) rows) ≡ symbols_of_rows before ++ symbol_of_row row ∷ [] = ap symbols_of_rows taken ∙ map-append symbol_of_row before (row ∷ []) in
+    let taken : take (i + 1) rows ≡ before ++ row ∷ [] = take_more rows i row c.loop-number-test.true
+    ∙ ap (λ y. before ++ y ∷ []) (sym c.index-rows-number.is) in
+    let symbols : symbols_of_rows (take (i + 1) rows) ≡ symbols_of_rows before ++ symbol_of_row row ∷ [] = ap symbols_of_rows taken
+    ∙ map-append symbol_of_row before (row ∷ []) in
     let within = c.loop-number-test.true in
     let long : length (symbols_of_rows before) ≡ i = length-map before symbol_of_row ∙ length-take-le i rows (omega (arith, within)) in
     c.in_ok-bind_row.ensures n

@@ -66,7 +66,8 @@ invariant_of-result c =
     let same : types ≡ shared = sym (ap types_of c.in_ok-shared.ensures) in
     let is_table = of_accepted-table types _ port table c.requires.accepted (ap types_of c.deref.ensures) c.in_ok-table.ensures in
     let sizes = of_accepted-sizes types port table is_table in
-    let image = of_accepted-first types port table c.symbols-rows.result.now c.in_ok-image.image c.requires.accepted is_table c.symbols-rows.ensures.rows c.in_ok-image.ensures in
+    let rows = c.symbols-rows.result.now in
+    let image = of_accepted-first types port table rows c.in_ok-image.image c.requires.accepted is_table c.symbols-rows.ensures.rows c.in_ok-image.ensures in
     record {
       port = port;
       table = subst (λ ts. IsTableOf ts port table) same is_table;
@@ -88,6 +89,7 @@ returns c =
     let port = port_of c.args.d.now in
     let table = c.in_ok-table.table in
     let is_table = of_accepted-table types _ port table c.requires.accepted (ap types_of c.deref.ensures) c.in_ok-table.ensures in
+    let rows = c.symbols-rows.result.now in
     record {
       types_are = ap types_of c.in_ok-shared.ensures;
       number = refl;
@@ -96,5 +98,5 @@ returns c =
       table = is_table;
       ads = refl;
       device = refl;
-      image = of_accepted-first types port table c.symbols-rows.result.now c.in_ok-image.image c.requires.accepted is_table c.symbols-rows.ensures.rows c.in_ok-image.ensures;
+      image = of_accepted-first types port table rows c.in_ok-image.image c.requires.accepted is_table c.symbols-rows.ensures.rows c.in_ok-image.ensures;
     }

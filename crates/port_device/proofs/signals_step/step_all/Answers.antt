@@ -6,11 +6,13 @@ pub loop-signal-init : goal.loop-signal-init
 loop-signal-init g c = (refl, refl)
 
 pub step-value-requires : goal.step-value-requires
-step-value-requires g c = turn-within c.loop-signal.signal c.count-signal-end.result _ _ (c.loop-signal.invariant.0) c.count-signal-end.ensures c.loop-signal-test.true
+step-value-requires g c =
+    turn-within c.loop-signal.signal c.count-signal-end.result _ _ (c.loop-signal.invariant.0) c.count-signal-end.ensures c.loop-signal-test.true
 
 pub loop-signal-preserved : goal.loop-signal-preserved
 loop-signal-preserved g c = (
-  turn-bank c.loop-signal.signal c.count-signal-end.result _ _ _ (c.loop-signal.invariant.0) c.count-signal-end.ensures c.loop-signal-test.true c.step-value.ensures.moved,
+  turn-bank c.loop-signal.signal c.count-signal-end.result _ _ _ (c.loop-signal.invariant.0) c.count-signal-end.ensures c.loop-signal-test.true
+      c.step-value.ensures.moved,
   turn-ports c.loop-signal.signal c.step-value.result _ _ c.loop-signal.ports c.put_value.new.ports _ (c.loop-signal.invariant.0) c.step-value.ensures.value
       c.put_value.ensures (c.loop-signal.invariant.1),
 )

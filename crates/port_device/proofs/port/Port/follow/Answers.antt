@@ -27,8 +27,10 @@ put_low_bytes-requires-clause-within c =
     let row = c.index-symbols-number.result in
     let is_bound = c.in-Some.ensures ∙ ap (λ xs. bound_at xs c.args.signal) c.as_slice.ensures.value ∙ c.self.invariant.bound_are c.args.signal in
     let within = symbol_bound_to-within c.args.signal c.in-Some.number m.table.symbols (sym is_bound) in
-    let count = rows_count c.symbols.result.now m.table.symbols c.symbols.ensures.rows in
-    let there = row_there c.symbols.result.now c.in-Some.number row m.table.symbols c.symbols.ensures.rows (omega (arith, within, count)) c.index-symbols-number.is in
+    let rows = c.symbols.result.now in
+    let same = c.symbols.ensures.rows in
+    let count = rows_count rows m.table.symbols same in
+    let there = row_there rows c.in-Some.number row m.table.symbols same (omega (arith, within, count)) c.index-symbols-number.is in
     let table : IsTableWith m.types m.table = record { port = c.self.invariant.port; is_of = c.self.invariant.table } in
     let sound = sound_symbol m.types m.table c.in-Some.number (symbol_of_row row) table there in
     let P : plant.Sizes → Type 0 = λ s. row.«at» + row.len ≤ size_in s (area_of row.area) in
@@ -47,8 +49,10 @@ returns-in-Some c =
     let row = c.index-symbols-number.result in
     let is_bound = c.in-Some.ensures ∙ ap (λ xs. bound_at xs c.args.signal) c.as_slice.ensures.value ∙ c.self.invariant.bound_are c.args.signal in
     let within = symbol_bound_to-within c.args.signal c.in-Some.number m.table.symbols (sym is_bound) in
-    let count = rows_count c.symbols.result.now m.table.symbols c.symbols.ensures.rows in
-    let there = row_there c.symbols.result.now c.in-Some.number row m.table.symbols c.symbols.ensures.rows (omega (arith, within, count)) c.index-symbols-number.is in
+    let rows = c.symbols.result.now in
+    let same = c.symbols.ensures.rows in
+    let count = rows_count rows m.table.symbols same in
+    let there = row_there rows c.in-Some.number row m.table.symbols same (omega (arith, within, count)) c.index-symbols-number.is in
     step-some c.args.signal c.args.value c.in-Some.number m (symbol_of_row row) (sizes_of c.self.inside.sizes) c.put_low_bytes.new.image (sym is_bound) there
     c.self.invariant.sizes_are c.put_low_bytes.ensures.bytes
     ∙ ap (port_after_step c.args.signal c.args.value) c.self.view_is

@@ -15,7 +15,10 @@ returns c =
     let number = c.args.port in
     let place = c.place_of-place.result in
     let is_place : place ≡ place_numbered number m.ports = c.place_of-place.ensures ∙ ap (place_numbered number) c.as_slice.ensures.value in
-    let found = lent_at (λ (x : MutBor PortMemory). x.now) m.ports c.self.inside.ports.len place c.get_mut.result (c.self.inside.ports.ok.0) (c.get_mut.ensures.variant.1) (c.get_mut.ensures.variant.0) c.get_mut.ensures.value in
+    let ports = c.self.inside.ports in
+    let lent = c.get_mut.ensures in
+    let now : MutBor PortMemory → PortMemory = λ x. x.now in
+    let found = lent_at now m.ports ports.len place c.get_mut.result (ports.ok.0) (lent.variant.1) (lent.variant.0) lent.value in
     rw (← c.self.view_is) (
       λ t. read_of (ghost_name_of c.get_mut.result) (λ (w : PortMemory). with_place m number place w is_place t) m,
       record { lends = tt; value = found ∙ ap (slice_get m.ports) is_place ∙ get-place_numbered number m.ports },
