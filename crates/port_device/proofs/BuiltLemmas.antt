@@ -4,18 +4,18 @@ use Rattle.std.specs.Prelude.{Some, slice_get, slice_index_or, All}
 use Rattle.signals.specs.Wave.{Wave}
 use Rattle.ads_plant.specs.Listed.{NamedType}
 use Rattle.ads_plant.specs.Description.{Port, Description}
-use Rattle.ads_plant.specs.World.{PlantPort, Block, plant_port, plant_of}
+use Rattle.ads_plant.specs.World.{plant_port, plant_of}
 use Rattle.ads_plant.specs.Sound.{Each, IsSoundPort, IsSoundPlant}
 use Rattle.ads_plant.proofs.SoundLemmas.{accepted_are_sound, accepted_are_numbered_apart}
-use Rattle.ads_machine.specs.World.{World, RUN, first_memory, world_of}
+use Rattle.ads_machine.specs.World.{RUN, first_memory, world_of}
 use Rattle.ads_machine.specs.PortBytes.{PortBytes, Holds}
 use Rattle.ads_machine.proofs.Reloaded.{begins_with_first_image}
 use Rattle.symbol_table.specs.Tables.{IsTableOf}
 use Rattle.type_layout.specs.Descriptions.{port_of, ports_of, description_of}
 use Rattle.type_layout.specs.declared.port.PortDesc.{PortDesc}
 use Rattle.type_layout.specs.declared.description.Description as layout
-use Rattle.port_device.specs.PortMemory.{PortMemory, PortsMemory}
-use Rattle.port_device.specs.Holds.{HoldsPort, HoldEach, HoldsPorts, WasAccepted}
+use Rattle.port_device.specs.PortMemory.{PortMemory}
+use Rattle.port_device.specs.Holds.{HoldEach, HoldsPorts, WasAccepted}
 use Rattle.port_device.specs.FirstPorts.{IsOfAccepted, IsFirstPort, AreFirstPorts}
 
 -- each port of a description that was accepted

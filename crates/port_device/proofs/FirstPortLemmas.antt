@@ -1,20 +1,18 @@
 -- What an accepted description says of its ports, and that the ports that were built hold its world.
-use Rattle.std.proofs.Common.{◌≡◌, ℕ, zero, suc, ◌+◌, ◌<◌, ◌≤◌, List, [], ◌∷◌, ◌++◌, length, map, take, replicate, Bool, true, refl, sym, ◌∙◌, ap, subst, arith}
-use Rattle.std.specs.Prelude.{Some, slice_get, slice_index_or, option_map, All, nat_le, ◌&&◌}
+use Rattle.std.proofs.Common.{◌≡◌, ℕ, zero, suc, ◌≤◌, List, [], ◌∷◌, ◌++◌, length, map, replicate, Bool, true, refl, sym, ◌∙◌, ap, subst, arith}
+use Rattle.std.specs.Prelude.{option_map, All, nat_le, ◌&&◌}
 use Rattle.std.specs.List.{list_all}
 use Rattle.std.proofs.lemmas.Bool.{and_parts, leb-true}
 use Rattle.std.proofs.lemmas.Option.{slice_get-map}
 use Rattle.std.proofs.lemmas.List.{length-map}
-use Rattle.signals.specs.Wave.{Wave}
 use Rattle.ads_plant.specs.Listed.{NamedType}
-use Rattle.ads_plant.specs.Description.{Sizes, Symbol, Port, Description, size_in}
-use Rattle.ads_plant.specs.World.{PlantPort, PlantSymbol, plant_symbol, plant_port, plant_of, symbol_size}
-use Rattle.ads_plant.specs.Accepted.{IsAccepted, is_port, is_symbol, are_facts, image_size, IMAGE_LIMIT, are_two_names, are_apart, size_of_symbol}
-use Rattle.ads_plant.specs.AcceptedTypes.{AreTypes, all_pairs}
-use Rattle.ads_plant.specs.Sound.{Each, IsSoundSymbol, IsSoundPort, IsSoundPlant}
+use Rattle.ads_plant.specs.Description.{Symbol, Port}
+use Rattle.ads_plant.specs.World.{PlantPort, PlantSymbol, plant_symbol, plant_port, plant_of}
+use Rattle.ads_plant.specs.Accepted.{is_port, are_facts, image_size, IMAGE_LIMIT}
+use Rattle.ads_plant.specs.AcceptedTypes.{AreTypes}
+use Rattle.ads_plant.specs.Sound.{Each, IsSoundSymbol, IsSoundPort}
 use Rattle.ads_plant.proofs.SoundLemmas.{each-get, accepted_are_sound}
 use Rattle.ads_plant.proofs.TypeLemmas.{list_all-get}
-use Rattle.ads_machine.specs.PortBytes.{PortBytes}
 use Rattle.ads_machine.specs.PortLaws.{IsFirstImage}
 use Rattle.symbol_table.specs.Rows.{symbol_of_row, symbols_of_rows}
 use Rattle.symbol_table.specs.Tables.{TableSymbol, SymbolTable, table_symbol, table_of, IsPlaced, IsTableOf}
@@ -27,7 +25,7 @@ use Rattle.port_device.specs.PlacedBytes.{with_all_bytes, placed_symbol}
 use Rattle.port_device.specs.FirstPorts.{IsOfAccepted, FitsSymbol, FitsRow, IsFirstPort, AreFirstPorts}
 use Rattle.port_device.proofs.AcceptedPorts.{port_texts, port_upload}
 use Rattle.port_device.proofs.UploadLengths.{described_symbols}
-use Rattle.port_device.proofs.FilledLemmas.{IsFilled, filled, Fills, placed, placed-table}
+use Rattle.port_device.proofs.FilledLemmas.{filled, Fills, placed, placed-table}
 
 -- the bytes that a symbol begins with
 abbrev pub first_bytes : TableSymbol → List ℕ

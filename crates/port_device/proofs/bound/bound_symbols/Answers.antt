@@ -1,9 +1,8 @@
-use Rattle.std.proofs.Common.{◌≡◌, ℕ, ◌+◌, ◌<◌, ◌≤◌, List, [], ◌∷◌, ◌++◌, length, take, sym, ◌∙◌, ap, arith}
+use Rattle.std.proofs.Common.{◌≡◌, ◌+◌, List, [], ◌∷◌, ◌++◌, length, take, sym, ◌∙◌, ap, arith}
 use Rattle.std.proofs.lemmas.List.{take_more, map-append, length-map, length-take-le}
 use Rattle.symbol_table.specs.Rows.{symbol_of_row, symbols_of_rows}
-use Rattle.symbol_table.specs.Tables.{TableSymbol}
 use Rattle.symbol_table.specs.declared.row.SymbolRow.{SymbolRow}
-use Rattle.port_device.specs.Signals.{symbol_bound_to, bound_at}
+use Rattle.port_device.specs.Signals.{symbol_bound_to}
 use Rattle.port_device.specs.BoundTables.{bound_with}
 use Rattle.port_device.proofs.BoundLemmas.{symbol_bound_to-more}
 use Rattle.port_device.proofs.bound.bound_symbols.Goals as goal

@@ -5,7 +5,6 @@ use Rattle.ads_plant.specs.Description.{Port}
 use Rattle.type_layout.specs.Descriptions.{port_of, ports_of}
 use Rattle.type_layout.specs.NamedTypes.{types_of}
 use Rattle.type_layout.specs.declared.port.PortDesc.{PortDesc}
-use Rattle.port_device.specs.PortMemory.{PortMemory}
 use Rattle.port_device.specs.FirstPorts.{IsOfAccepted, AreFirstPorts}
 use Rattle.port_device.proofs.FirstPortLemmas.{first_ports-more}
 use Rattle.port_device.proofs.building.first_ports.Goals as goal
