@@ -4,11 +4,16 @@ mod BitLemmas
 mod EntryRows
 mod BoundLemmas
 pub mod BuiltLemmas
+mod EntryLemmas
 pub mod FilledLemmas
 mod FoundEntries
 pub mod FirstPortLemmas
 mod GroupLemmas
 mod ImageLemmas
+pub mod KeptEntries
+pub mod KeptLemmas
+pub mod MovedEntries
+pub mod MovesAlike
 mod NameLemmas
 mod PartTexts
 mod PlaceLemmas
@@ -23,5 +28,6 @@ pub mod UploadLengths
 mod UploadReads
 pub mod ReloadLemmas
 pub mod ReloadedImage
+pub mod ReloadedPorts
 mod WritableLemmas
 mod WriteLemmas

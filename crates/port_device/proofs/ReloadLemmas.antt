@@ -1,12 +1,12 @@
 -- Rows of tables, what their symbols begin with after a reload, and that this makes the reloaded image.
-use Rattle.std.proofs.Common.{◌≡◌, ◌≢◌, ℕ, ◌+◌, ◌≤◌, List, map, length, drop, get_or, true, false, refl, sym, ◌∙◌, ap, subst, inl, inr, arith, length-drop}
+use Rattle.std.proofs.Common.{◌≡◌, ◌≢◌, ℕ, ◌+◌, ◌≤◌, List, [], ◌∷◌, map, length, drop, get_or, true, false, refl, sym, ◌∙◌, ap, subst, inl, inr, arith, length-drop}
 use Rattle.std.specs.Prelude.{Bool, Some, None, slice_get, option_map, find, if◌then◌else◌, ◌&&◌, nat_le, nat_lt}
 use Rattle.std.specs.List.{All, position, position_or_len}
 use Rattle.std.proofs.lemmas.Bool.{cases_Bool, and_parts, ltb-false}
 use Rattle.std.proofs.lemmas.List.Quantifiers.{position-Some}
 use Rattle.std.proofs.lemmas.List.{length-take-le, length-map}
 use Rattle.std.proofs.lemmas.List.Folds.{find_at}
-use Rattle.std.proofs.lemmas.Option.{slice_get-map, slice_get-get_or, slice_get_past}
+use Rattle.std.proofs.lemmas.Option.{slice_get-map, slice_get-get_or, slice_get_past, slice_get_within, get_or_from_slice_get}
 use Rattle.ads_plant.specs.Listed.{NamedType}
 use Rattle.ads_plant.specs.Description.{Area, Sizes, Symbol, Port, size_in}
 use Rattle.ads_plant.specs.Trees.{tree_of}
@@ -23,7 +23,9 @@ use Rattle.symbol_table.specs.declared.row.SymbolRow.{SymbolRow}
 use Rattle.symbol_table.proofs.PlacesInOrder.{mapped_at}
 use Rattle.symbol_table.proofs.PlacedSymbols.{sound_symbol}
 use Rattle.port_device.specs.PortMemory.{PortMemory}
-use Rattle.port_device.specs.Reloaded.{symbol_called, are_of_one_type, present_bytes, bytes_behind, reloaded_bytes, IsTypedRow}
+use Rattle.port_device.specs.Reloaded.{symbol_called, are_of_one_type, present_bytes, bytes_behind, reloaded_bytes, reloaded_row, IsTypedRow, IsPlacedRow}
+use Rattle.port_device.specs.ReloadedPorts.{BeginsWhole}
+use Rattle.port_device.specs.PlacedBytes.{placed_symbol}
 
 -- symbols of a table
 
@@ -128,3 +130,22 @@ two_sizes before types r s a b e =
       | inr f ↦ f
       | inl t ↦ absurd (e (one_type-size before types r s a b t))
     ]
+
+-- rows that begin with as many bytes as they have lie in their areas
+pub placed_rows : (types : List NamedType) (table : SymbolTable) (rows : List SymbolRow) → IsTableWith types table → All BeginsWhole table.symbols
+    → symbols_of_rows rows ≡ table.symbols → All (IsPlacedRow table.sizes) rows
+placed_rows types table rows with_ whole same k d below =
+    let r = get_or rows k d in
+    let there = slice_get-get_or rows k d below in
+    let symbol = row-symbol rows table.symbols k r same there in
+    let begins = whole k (symbol_of_row r) (slice_get_within table.symbols k (symbol_of_row r) symbol) in
+    record {
+      initial = subst BeginsWhole (get_or_from_slice_get table.symbols k (symbol_of_row r) (symbol_of_row r) symbol) begins;
+      within = row_within types table rows k r with_ same there;
+    }
+
+-- what is put of rows is put of their symbols
+pub reloaded-rows : (types : List NamedType) (was : PortMemory) (rows : List SymbolRow)
+    → map (reloaded_row types was) rows ≡ map (placed_symbol (reloaded_bytes types was)) (symbols_of_rows rows)
+reloaded-rows types was [] = refl
+reloaded-rows types was (r ∷ rows) = ap (λ bs. reloaded_row types was r ∷ bs) (reloaded-rows types was rows)

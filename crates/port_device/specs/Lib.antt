@@ -16,3 +16,5 @@ pub mod KeptSymbols
 pub mod PlacedBytes
 pub mod FirstPorts
 pub mod Reloaded
+pub mod Moved
+pub mod ReloadedPorts

@@ -17,7 +17,7 @@ use symbol_table::SymbolRow;
 use type_layout::{SameTypes, Sizes};
 
 // Puts into an image what each symbol begins with after a reload of a port.
-fn put_reloaded(
+pub(crate) fn put_reloaded(
     alloc: Global,
     was: &Port,
     same: &SameTypes,
