@@ -12,3 +12,4 @@ pub mod TickBytes
 pub mod TickChecks
 pub mod WatchedSame
 pub mod TickAgreed
+pub mod SingleLemmas
