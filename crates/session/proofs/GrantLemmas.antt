@@ -220,7 +220,7 @@ found-handle a len name place long finds = something-found a len name place (fou
 pub handle-answers : (m : PortMemory) (kept : Kept) (len : ℕ) (name : List ℕ) (place : Place) (r : Result (Result (Unit {0}) Code) NoMemory) (old new : List ℕ)
     → ((a : Asking) → Asks a m kept → FindsNamed a len name place)
     → IfOk r (λ answer. (a : Asking) (named : client.Place) → Asks a m kept → IsPlaceNamed a place named
-        → AnswersAct a.world (grant_act a.client a.asker.port named) answer old new)
+    → AnswersAct a.world (grant_act a.client a.asker.port named) answer old new)
     → IfOk r (λ answer. (a : Asking) → Asks a m kept → AnswersAct a.world (handle_act a len name) answer old new)
 handle-answers m kept len name place (Err no_memory) old new finds said = tt
 handle-answers m kept len name place (Ok answer) old new finds said = λ a asks.
@@ -231,7 +231,7 @@ handle-answers m kept len name place (Ok answer) old new finds said = λ a asks.
 pub handle-leaves : (m : PortMemory) (kept kept' : Kept) (len : ℕ) (name : List ℕ) (place : Place) (r : Result (Result (Unit {0}) Code) NoMemory)
     → ((a : Asking) → Asks a m kept → FindsNamed a len name place)
     → OnOk r ((a : Asking) (named : client.Place) → Asks a m kept → IsPlaceNamed a place named
-        → Asks (after_act a (grant_act a.client a.asker.port named)) m kept')
+    → Asks (after_act a (grant_act a.client a.asker.port named)) m kept')
     → OnOk r ((a : Asking) → Asks a m kept → Asks (after_act a (handle_act a len name)) m kept')
 handle-leaves m kept kept' len name place (Err no_memory) finds said = tt
 handle-leaves m kept kept' len name place (Ok answer) finds said = λ a asks.

@@ -13,3 +13,5 @@ pub mod TickChecks
 pub mod WatchedSame
 pub mod TickAgreed
 pub mod SingleLemmas
+pub mod WatchedReach
+pub mod WatchingLemmas

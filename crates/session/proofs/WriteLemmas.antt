@@ -154,7 +154,7 @@ live-write : (a : Asking) (m m' : PortMemory) (kept : Kept) (place : Place) (byt
     → Asks a m kept → LooksUp a.world.plant.ports a.asker.port.number s (Ok place)
     → ((named : client.Place) → IsNamed a.world a.asker.port place named → EndsAs a.world a.asker.port (place_write_act a.asker named bytes) answer m')
     → EndsAct a (if not (may_write a.asker.rights) then Refusal not_permitted
-        else write_act a.asker bytes (addressed_by_status a.asker.port.number s (length bytes))) answer m' kept
+    else write_act a.asker bytes (addressed_by_status a.asker.port.number s (length bytes))) answer m' kept
 live-write a m m' kept place bytes (Live named) answer asks looks said =
     let r = addressed_in_place a.asker.port.number named (length bytes) in
     quiet-ends a (place_write_act a.asker named bytes) answer m m' kept asks (permitted-quiet a.asker (may_write a.asker.rights) bytes r) (said named looks)

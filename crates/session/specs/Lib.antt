@@ -11,3 +11,4 @@ pub mod Single
 pub mod NoteFrames
 pub mod NoteGroups
 pub mod Checks
+pub mod Watching

@@ -4,19 +4,20 @@
 mod granting;
 mod groups;
 mod looking;
-mod reading;
 mod notes;
 mod notes_group;
 mod notes_groups;
 mod notes_head;
+mod reading;
 mod session;
 mod single;
 mod take;
 mod taken;
-mod writing;
 mod tick;
 mod tick_bytes;
 mod tick_checks;
+mod watching;
+mod writing;
 
 pub use notes::{FrameList, NoteFrame};
 pub use session::Session;

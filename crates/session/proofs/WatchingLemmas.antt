@@ -1,0 +1,274 @@
+-- A notification is added or deleted, in the session and in the machine.
+use Rattle.std.proofs.Common.{◌≡◌, ℕ, ◌+◌, ◌<◌, ◌≤◌, Bool, true, false, not, cond, List, [], ◌∷◌, ◌++◌, length, inl, inr, refl, sym, ap, subst, ◌∙◌, arith}
+use Rattle.std.specs.Prelude.{Some, None, Result, Ok, Err, IsTrue, IsErr, IsOk, IfOk, IfErr, OnOk, OnErr, ◌↔◌, ◌||◌, ◌&&◌, ◌==◌, nat_le, filter}
+use Rattle.std.specs.List.{list_any}
+use Rattle.std.specs.Int.{w32, to_le_bytes}
+use Rattle.std.proofs.lemmas.Bool.{cases_Bool, lt-ltb, le-ltb, eq-eqb, ne_eqb, false≢true}
+use Rattle.std.proofs.lemmas.List.{append-nil}
+use Rattle.return_codes.specs.declared.code.Code.{Code}
+use Rattle.return_codes.specs.declared.code.Code.TheVariants.{C705, C713, C714, C716, C717}
+use Rattle.return_codes.specs.Code.{number_of}
+use Rattle.ads_formats.specs.Request.{AddDeviceNotification, DeleteDeviceNotification}
+use Rattle.ads_machine.specs.Access.{Addressed, memory_after_puts}
+use Rattle.ads_machine.specs.Acts.{Act, Outcome, Refusal, changing}
+use Rattle.ads_machine.specs.Answers.{all_answered, answered_group, ADD_DEVICE_NOTIFICATION}
+use Rattle.ads_machine.specs.Client.{client_after, Adds, Deletes}
+use Rattle.ads_machine.specs.HandleLaws.{Test, AgreeingWatch, AgreeingWatches}
+use Rattle.ads_machine.specs.Reach.{reach_of}
+use Rattle.ads_machine.specs.Requests.{act_of, mode_of, add_act, add_reached, next_watch, delete_act, is_watch_of}
+use Rattle.ads_machine.specs.Watches as machine
+use Rattle.ads_machine.specs.Watches.{Watch}
+use Rattle.ads_machine.specs.WatchedRanges.{is_same_range}
+use Rattle.index_groups.specs.declared.access.Reach.{Reach}
+use Rattle.notify_table.specs.declared.spec.Spec.{Spec}
+use Rattle.notify_table.specs.declared.spec.WatchFull.{WatchFull}
+use Rattle.notify_table.specs.Specs.{address_of, mode_meant, new_watch}
+use Rattle.notify_table.specs.Table.{WatchTable, is_full, is_live, table_after, Added, Deleted}
+use Rattle.session.specs.Asking.{Asking, act_asked}
+use Rattle.session.specs.SessionState.{SessionState}
+use Rattle.session.specs.StandsFor.{StandsFor}
+use Rattle.session.specs.Watching.{IsWatched, AsksFor, IsSpecAsked, AddsAs, DeletesAs, ChangesClient}
+
+-- ---- what is asked for
+
+module _ (a : Asking) (group offset len mode delay cycle : ℕ) where
+  abbrev asked : Act
+  asked = act_asked a (AddDeviceNotification group offset len mode delay cycle)
+
+  abbrev reached : Result (List Addressed) ℕ
+  reached = reach_of a.client a.asker.port (answered_group all_answered ADD_DEVICE_NOTIFICATION group) offset len
+
+  asked-is : asked ≡ add_act a.client a.asker (answered_group all_answered ADD_DEVICE_NOTIFICATION group) offset len cycle (mode_of mode)
+  unfolding act_of
+  asked-is = refl
+
+  -- no mode
+  pub asked_no_mode : mode_of mode ≡ None → IsSpecAsked a asked (Err C713)
+  asked_no_mode none =
+      asked-is ∙ ap (add_act a.client a.asker (answered_group all_answered ADD_DEVICE_NOTIFICATION group) offset len cycle) none
+
+  -- too much
+  pub asked_too_much : (m : machine.Mode) → Some m ≡ mode_of mode → 2048 < len → IsSpecAsked a asked (Err C717)
+  asked_too_much m is big =
+      asked-is ∙ (ap (add_act a.client a.asker (answered_group all_answered ADD_DEVICE_NOTIFICATION group) offset len cycle) (sym is)
+      ∙ rw (lt-ltb 2048 len big) refl)
+
+  reached-is : (m : machine.Mode) → Some m ≡ mode_of mode → len ≤ 2048 → asked ≡ add_reached a.client a.asker m len cycle reached
+  reached-is m is few =
+      asked-is ∙ (ap (add_act a.client a.asker (answered_group all_answered ADD_DEVICE_NOTIFICATION group) offset len cycle) (sym is)
+      ∙ rw (le-ltb 2048 len few) refl)
+
+  -- nothing that can be watched
+  pub asked_off : (m : machine.Mode) (code : Code) → Some m ≡ mode_of mode → len ≤ 2048
+      → IsWatched a.world.plant.ports a.asker.port.number len reached (Err code) → IsSpecAsked a asked (Err code)
+  asked_off m code is few off = reached-is m is few ∙ by_reach reached off
+    where
+      by_reach : (r : Result (List Addressed) ℕ) → IsWatched a.world.plant.ports a.asker.port.number len r (Err code)
+          → add_reached a.client a.asker m len cycle r ≡ Refusal (number_of code)
+      by_reach (Err n) same = ap Refusal same
+      by_reach (Ok watched) same = absurd same
+
+  -- no byte
+  pub asked_nothing : (m : machine.Mode) (reach : Reach) → Some m ≡ mode_of mode → len ≡ 0
+      → IsWatched a.world.plant.ports a.asker.port.number len reached (Ok reach) → IsSpecAsked a asked (Err C705)
+  asked_nothing m reach is none named = reached-is m is (omega arith) ∙ by_reach reached named
+    where
+      by_reach : (r : Result (List Addressed) ℕ) → IsWatched a.world.plant.ports a.asker.port.number len r (Ok reach)
+          → add_reached a.client a.asker m len cycle r ≡ Refusal (number_of C705)
+      by_reach (Err n) same = absurd same
+      by_reach (Ok watched) same = rw (eq-eqb len 0 none) refl
+
+  -- a notification
+  pub asked_for : (spec : Spec) → Some (mode_meant spec.mode) ≡ mode_of mode → len ≤ 2048 → 0 < len
+      → IsWatched a.world.plant.ports a.asker.port.number len reached (Ok spec.reach)
+      → spec.port ≡ a.asker.port.number → a.asker.address ≡ address_of spec.to → spec.cycle ≡ cycle → AsksFor a asked spec
+  asked_for spec is few some named port address cycle_is = by_reach reached refl named
+    where
+      by_reach : (r : Result (List Addressed) ℕ) → reached ≡ r → IsWatched a.world.plant.ports a.asker.port.number len r (Ok spec.reach)
+          → AsksFor a asked spec
+      by_reach (Err n) at_ same = absurd same
+      by_reach (Ok watched) at_ same = record {
+        watch = next_watch a.client a.asker (mode_meant spec.mode) cycle watched;
+        act_is =
+            reached-is (mode_meant spec.mode) is few ∙ (ap (add_reached a.client a.asker (mode_meant spec.mode) len cycle) at_
+            ∙ rw (ne_eqb len 0 (λ e. omega (arith, e, some))) refl);
+        agrees = record {
+          handle = refl;
+          port = port;
+          address = sym address;
+          mode = refl;
+          cycle = cycle_is;
+          last = refl;
+          sent = refl;
+          watched = same some;
+        };
+      }
+
+-- ---- an addition
+
+agreeing-length : {P Q : Type 0} (test : Test P Q) (us : List (Watch P)) (vs : List (Watch Q)) → AgreeingWatches test us vs → length vs ≡ length us
+agreeing-length test [] [] h = refl
+agreeing-length test (u ∷ us) (v ∷ vs) h = (let rest = agreeing-length test us vs h.1 in omega (arith, rest))
+agreeing-length test [] (v ∷ vs) h = absurd h
+agreeing-length test (u ∷ us) [] h = absurd h
+
+agreeing-more : {P Q : Type 0} (test : Test P Q) (us : List (Watch P)) (vs : List (Watch Q)) (u : Watch P) (v : Watch Q) → AgreeingWatches test us vs
+    → AgreeingWatch test u v → AgreeingWatches test (us ++ u ∷ []) (vs ++ v ∷ [])
+agreeing-more test [] [] u v h one = (one, tt)
+agreeing-more test (x ∷ xs) (y ∷ ys) u v h one = (h.0, agreeing-more test xs ys u v h.1 one)
+agreeing-more test [] (y ∷ ys) u v h one = absurd h
+agreeing-more test (x ∷ xs) [] u v h one = absurd h
+
+refused : (a : Asking) (s : SessionState) (act : Act) (code : ℕ) → StandsFor a.world.plant a.client s → act ≡ Refusal code → ChangesClient a act s
+unfolding client_after
+refused a s act code stands is = rw is (record { stands = stands; memory = refl })
+
+full-same : (a : Asking) (s : SessionState) → StandsFor a.world.plant a.client s
+    → is_full s.watches ≡ (nat_le 512 (length a.client.watches) || nat_le 4294967295 a.client.additions)
+full-same a s stands =
+    ap (λ n. nat_le 512 n || nat_le 4294967295 s.watches.additions)
+    (agreeing-length (is_same_range a.world.plant.ports) a.client.watches s.watches.watches stands.watches)
+    ∙ ap (λ n. nat_le 512 (length a.client.watches) || nat_le 4294967295 n) stands.additions
+
+-- no further one
+pub add_full : (a : Asking) (act : Act) (s : SessionState) (spec : Spec) → StandsFor a.world.plant a.client s → AsksFor a act spec
+    → IsTrue (is_full s.watches) → AddsAs a act (Err C716) s
+add_full a act s spec stands asks full =
+    let test = sym (full-same a s stands) ∙ full in
+    let is : act ≡ Refusal (number_of C716) = asks.act_is ∙ rw test refl in
+    record { ends = rw is refl; changes = refused a s act (number_of C716) stands is }
+
+-- one more
+pub add_done : (a : Asking) (act : Act) (s : SessionState) (spec : Spec) (handle : ℕ) (watches : WatchTable)
+    → StandsFor a.world.plant a.client s → AsksFor a act spec → is_full s.watches ≡ false → handle ≡ s.watches.additions + 1
+    → watches ≡ table_after s.watches (Added (new_watch handle spec)) → AddsAs a act (Ok handle) (record s { watches = watches })
+unfolding client_after memory_after_puts
+add_done a act s spec handle watches stands asks room handle_is left =
+    let test = sym (full-same a s stands) ∙ room in
+    let is : act ≡ changing (to_le_bytes w32 asks.watch.handle) (Adds asks.watch) = asks.act_is ∙ rw test refl in
+    let number : handle ≡ a.client.additions + 1 = handle_is ∙ ap (λ n. n + 1) stands.additions in
+    let same : asks.watch.handle ≡ handle = sym asks.agrees.handle ∙ sym number in
+    let agrees : AgreeingWatch (is_same_range a.world.plant.ports) asks.watch (new_watch handle spec) =
+    subst (λ n. AgreeingWatch (is_same_range a.world.plant.ports) asks.watch (new_watch n spec)) (sym number) asks.agrees in
+    rw (is, left) (record {
+      ends = ap (λ b. let o : Outcome = record { code = 0; bytes = b } in o) (append-nil (to_le_bytes w32 asks.watch.handle)
+          ∙ ap (to_le_bytes w32) same);
+      changes = record {
+        stands = record {
+          handles = stands.handles;
+          additions = ap (λ n. n + 1) stands.additions;
+          watches = agreeing-more (is_same_range a.world.plant.ports) a.client.watches s.watches.watches asks.watch (new_watch handle spec)
+              stands.watches agrees;
+        };
+        memory = refl;
+      };
+    })
+
+-- what the table told
+pub add_ok : (a : Asking) (act : Act) (s : SessionState) (spec : Spec) (handle : ℕ) (watches : WatchTable) (r : Result ℕ WatchFull) → r ≡ Ok handle
+    → StandsFor a.world.plant a.client s → AsksFor a act spec → (IsErr r ↔ IsTrue (is_full s.watches))
+    → IfOk r (λ h. h ≡ s.watches.additions + 1) → IfOk r (λ h. watches ≡ table_after s.watches (Added (new_watch h spec)))
+    → AddsAs a act (Ok handle) (record s { watches = watches })
+add_ok a act s spec handle watches (Ok h) is stands asks full number left =
+    let same : h ≡ handle = cc in
+    let room : is_full s.watches ≡ false = elim (cases_Bool (is_full s.watches)) [
+      | inl some ↦ absurd (false≢true (full.1 some))
+      | inr none ↦ none
+    ] in
+    subst (λ n. AddsAs a act (Ok n) (record s { watches = watches })) same
+    (add_done a act s spec h watches stands asks room number left)
+add_ok a act s spec handle watches (Err e) is stands asks full number left = absurd cc
+
+pub add_err : (a : Asking) (act : Act) (s : SessionState) (spec : Spec) (watches : WatchTable) (r : Result ℕ WatchFull) → IsErr r
+    → StandsFor a.world.plant a.client s → AsksFor a act spec → (IsErr r ↔ IsTrue (is_full s.watches))
+    → OnErr r (watches ≡ s.watches) → AddsAs a act (Err C716) (record s { watches = watches })
+add_err a act s spec watches (Ok h) is stands asks full left = absurd (false≢true is)
+add_err a act s spec watches (Err e) is stands asks full left =
+    rw left (add_full a act s spec stands asks (full.0 is))
+
+-- one that is refused before
+pub add_refused : (a : Asking) (s : SessionState) (act : Act) (code : Code) → StandsFor a.world.plant a.client s → IsSpecAsked a act (Err code)
+    → AddsAs a act (Err code) s
+add_refused a s act code stands is = record { ends = rw is refl; changes = refused a s act (number_of code) stands is }
+
+-- ---- a deletion
+
+live-same : {P : Type 0} (test : Test (List Addressed) P) (port handle : ℕ) (us : List (Watch (List Addressed))) (vs : List (Watch P))
+    → AgreeingWatches test us vs
+    → list_any (λ (v : Watch P). (v.handle == handle) && (v.port == port)) vs ≡ list_any (is_watch_of port handle) us
+live-same test port handle [] [] h = refl
+live-same test port handle (u ∷ us) (v ∷ vs) h = rw (h.0.handle, h.0.port, live-same test port handle us vs h.1) refl
+live-same test port handle [] (v ∷ vs) h = absurd h
+live-same test port handle (u ∷ us) [] h = absurd h
+
+left-same : {P : Type 0} (test : Test (List Addressed) P) (handle : ℕ) (us : List (Watch (List Addressed))) (vs : List (Watch P))
+    → AgreeingWatches test us vs
+    → AgreeingWatches test (filter (λ (u : Watch (List Addressed)). not (u.handle == handle)) us) (filter (λ (v : Watch P). not (v.handle == handle)) vs)
+left-same test handle [] [] h = tt
+left-same {P} test handle (u ∷ us) (v ∷ vs) h =
+    go (u.handle == handle) (v.handle == handle) (ap (λ n. n == handle) h.0.handle) (left-same test handle us vs h.1)
+  where
+    us_ : List (Watch (List Addressed))
+    us_ = filter (λ (x : Watch (List Addressed)). not (x.handle == handle)) us
+
+    vs_ : List (Watch P)
+    vs_ = filter (λ (x : Watch P). not (x.handle == handle)) vs
+
+    go : (b d : Bool) → d ≡ b → AgreeingWatches test us_ vs_ → AgreeingWatches test (cond (not b) (u ∷ us_) us_) (cond (not d) (v ∷ vs_) vs_)
+    go true true e rest = rest
+    go false false e rest = (h.0, rest)
+    go true false e rest = absurd cc
+    go false true e rest = absurd cc
+left-same test handle [] (v ∷ vs) h = absurd h
+left-same test handle (u ∷ us) [] h = absurd h
+
+deleted-is : (a : Asking) (handle : ℕ) → act_asked a (DeleteDeviceNotification handle) ≡ delete_act a.client a.asker handle
+unfolding act_of
+deleted-is a handle = refl
+
+-- no live one of this port
+pub delete_none : (a : Asking) (s : SessionState) (number handle : ℕ) → StandsFor a.world.plant a.client s → number ≡ a.asker.port.number
+    → is_live number handle s.watches ≡ false → DeletesAs a (act_asked a (DeleteDeviceNotification handle)) (Err C714) s
+delete_none a s number handle stands port none =
+    let same = live-same (is_same_range a.world.plant.ports) number handle a.client.watches s.watches.watches stands.watches in
+    let test : list_any (is_watch_of a.asker.port.number handle) a.client.watches ≡ false =
+    subst (λ n. list_any (is_watch_of n handle) a.client.watches ≡ false) port (sym same ∙ none) in
+    let is : act_asked a (DeleteDeviceNotification handle) ≡ Refusal (number_of C714) = deleted-is a handle ∙ rw test refl in
+    record { ends = rw is refl; changes = refused a s (act_asked a (DeleteDeviceNotification handle)) (number_of C714) stands is }
+
+-- the one with the handle
+pub delete_done : (a : Asking) (s : SessionState) (number handle : ℕ) (watches : WatchTable) → StandsFor a.world.plant a.client s
+    → number ≡ a.asker.port.number → is_live number handle s.watches ≡ true → watches ≡ table_after s.watches (Deleted handle)
+    → DeletesAs a (act_asked a (DeleteDeviceNotification handle)) (Ok tt) (record s { watches = watches })
+unfolding client_after memory_after_puts
+delete_done a s number handle watches stands port live left =
+    let same = live-same (is_same_range a.world.plant.ports) number handle a.client.watches s.watches.watches stands.watches in
+    let test : list_any (is_watch_of a.asker.port.number handle) a.client.watches ≡ true =
+    subst (λ n. list_any (is_watch_of n handle) a.client.watches ≡ true) port (sym same ∙ live) in
+    let is : act_asked a (DeleteDeviceNotification handle) ≡ changing [] (Deletes handle) = deleted-is a handle ∙ rw test refl in
+    rw (is, left) (record {
+      ends = refl;
+      changes = record {
+        stands = record {
+          handles = stands.handles;
+          additions = stands.additions;
+          watches = left-same (is_same_range a.world.plant.ports) handle a.client.watches s.watches.watches stands.watches;
+        };
+        memory = refl;
+      };
+    })
+
+-- what the table told
+pub delete_told : (a : Asking) (s : SessionState) (number handle : ℕ) (watches : WatchTable) (r : Result (Unit {0}) Code)
+    → StandsFor a.world.plant a.client s → number ≡ a.asker.port.number
+    → (IsOk r ↔ IsTrue (is_live number handle s.watches)) → OnOk r (watches ≡ table_after s.watches (Deleted handle))
+    → IfErr r (λ code. code ≡ C714) → OnErr r (watches ≡ s.watches)
+    → DeletesAs a (act_asked a (DeleteDeviceNotification handle)) r (record s { watches = watches })
+delete_told a s number handle watches (Ok done) stands port live left code kept =
+    delete_done a s number handle watches stands port (live.0 refl) left
+delete_told a s number handle watches (Err e) stands port live left code kept =
+    let none : is_live number handle s.watches ≡ false = elim (cases_Bool (is_live number handle s.watches)) [
+      | inl some ↦ absurd (false≢true (live.1 some))
+      | inr gone ↦ gone
+    ] in
+    rw (code, kept) (delete_none a s number handle stands port none)

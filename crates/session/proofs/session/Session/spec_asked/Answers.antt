@@ -1,0 +1,10 @@
+use Rattle.std.proofs.Common.{sym, ◌∙◌, ap}
+use Rattle.std.specs.Prelude.{option_map}
+use Rattle.notify_table.specs.Specs.{mode_meant}
+use Rattle.session.proofs.WatchingLemmas.{asked_no_mode}
+use Rattle.session.proofs.session.Session.spec_asked.Goals as goal
+
+pub returns-in-None-clause-asked : goal.returns-in-None-clause-asked
+returns-in-None-clause-asked c = λ a delay asks address.
+    asked_no_mode a c.args.asked.now.group c.args.asked.now.offset c.args.asked.now.len c.args.asked.now.mode delay c.args.asked.now.cycle
+    (sym c.mode_named.ensures ∙ ap (option_map mode_meant) c.in-None.is)

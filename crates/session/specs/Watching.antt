@@ -1,0 +1,69 @@
+-- What a notification is to watch, and how its addition and its deletion end.
+use Rattle.std.specs.Prelude.{◌≡◌, true, false, ℕ, ◌+◌, ◌<◌, List, [], Bool, Option, Some, Result, Ok, Err}
+use Rattle.std.specs.Int.{w32, to_le_bytes}
+use Rattle.return_codes.specs.declared.code.Code.{Code}
+use Rattle.return_codes.specs.Code.{number_of}
+use Rattle.ads_plant.specs.World.{PlantPort}
+use Rattle.ads_formats.specs.Codes.{no_error}
+use Rattle.ads_formats.specs.Groups.{Group, AreaBytes, AreaBit}
+use Rattle.ads_machine.specs.Access.{Addressed}
+use Rattle.ads_machine.specs.Acts.{Act, Refusal, Outcome, outcome_of, memory_after, effect_of}
+use Rattle.ads_machine.specs.Client.{client_after}
+use Rattle.ads_machine.specs.HandleLaws.{AgreeingWatch}
+use Rattle.ads_machine.specs.Requests.{add_watch}
+use Rattle.ads_machine.specs.Watches.{Watch}
+use Rattle.ads_machine.specs.WatchedRanges.{is_same_range}
+use Rattle.index_groups.specs.declared.access.Reach.{Reach}
+use Rattle.index_groups.specs.Access.{range_meant}
+use Rattle.notify_table.specs.declared.spec.Spec.{Spec}
+use Rattle.notify_table.specs.Specs.{new_watch}
+use Rattle.session.specs.Asking.{Asking}
+use Rattle.session.specs.SessionState.{SessionState}
+use Rattle.session.specs.StandsFor.{StandsFor}
+
+-- the groups of bytes and bits of an area
+abbrev pub is_byte_or_bit : Option Group → Bool
+is_byte_or_bit (Some (AreaBytes area)) = true
+is_byte_or_bit (Some (AreaBit area)) = true
+is_byte_or_bit group = false
+
+-- a range of a port is what an access addresses, or the code refuses both
+abbrev pub IsWatched : List PlantPort → ℕ → ℕ → Result (List Addressed) ℕ → Result Reach Code → Type 0
+IsWatched ports port len (Ok watched) (Ok reach) = 0 < len → is_same_range ports port watched (range_meant reach) ≡ true
+IsWatched ports port len (Err number) (Err code) = number ≡ number_of code
+IsWatched ports port len (Ok watched) (Err code) = ⊥
+IsWatched ports port len (Err number) (Ok reach) = ⊥
+
+-- a number of 32 bits is answered, or a code
+abbrev pub AnswersNumber : Outcome → Result ℕ Code → Type 0
+AnswersNumber o (Ok number) = o ≡ record { code = no_error; bytes = to_le_bytes w32 number }
+AnswersNumber o (Err code) = o ≡ record { code = number_of code; bytes = [] }
+
+-- nothing is answered, or a code
+abbrev pub AnswersNothing : Outcome → Result (Unit {0}) Code → Type 0
+AnswersNothing o (Ok done) = o ≡ record { code = no_error; bytes = [] }
+AnswersNothing o (Err code) = o ≡ record { code = number_of code; bytes = [] }
+
+-- the session stands for the client after an act that leaves all bytes as they are
+pub record ChangesClient (a : Asking) (act : Act) (new : SessionState) : Type 0 where
+  pub stands : StandsFor a.world.plant (client_after a.client (effect_of act)) new
+  pub memory : memory_after a.world.memory act ≡ a.world.memory
+
+pub record AddsAs (a : Asking) (act : Act) (answer : Result ℕ Code) (new : SessionState) : Type 0 where
+  pub ends : AnswersNumber (outcome_of a.world.memory act) answer
+  pub changes : ChangesClient a act new
+
+pub record DeletesAs (a : Asking) (act : Act) (answer : Result (Unit {0}) Code) (new : SessionState) : Type 0 where
+  pub ends : AnswersNothing (outcome_of a.world.memory act) answer
+  pub changes : ChangesClient a act new
+
+-- a notification that is asked for: the machine adds one that watches the same
+pub record AsksFor (a : Asking) (act : Act) (spec : Spec) : Type 0 where
+  pub watch : Watch (List Addressed)
+  pub act_is : act ≡ add_watch a.client watch
+  pub agrees : AgreeingWatch (is_same_range a.world.plant.ports) watch (new_watch (a.client.additions + 1) spec)
+
+-- the notification that is asked for, or the code that refuses it before the limits are looked at
+abbrev pub IsSpecAsked : Asking → Act → Result Spec Code → Type 0
+IsSpecAsked a act (Ok spec) = AsksFor a act spec
+IsSpecAsked a act (Err code) = act ≡ Refusal (number_of code)

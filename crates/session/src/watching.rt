@@ -1,0 +1,239 @@
+//! Notifications are added and deleted. Beckhoff Information System, "ADS Add Device Notification", "ADS Delete Device
+//! Notification".
+
+ghost use Rattle.std.specs.Prelude.{◌≡◌, ◌≤◌, ℕ, Some, option_map, IfOk, OnErr};
+ghost use Rattle.ads_formats.specs.Groups.{group_of};
+ghost use Rattle.ads_formats.specs.Request.{AddDeviceNotification, DeleteDeviceNotification};
+ghost use Rattle.ads_machine.specs.Answers.{all_answered, answered_group, ADD_DEVICE_NOTIFICATION};
+ghost use Rattle.ads_machine.specs.Acts.{Act};
+ghost use Rattle.ads_machine.specs.Handles.{kept_status};
+ghost use Rattle.ads_machine.specs.Reach.{reach_of, addressed_by_status};
+ghost use Rattle.ads_machine.specs.Requests.{mode_of};
+ghost use Rattle.notify_table.specs.Specs.{address_of, mode_meant};
+ghost use Rattle.notify_table.specs.Table.{watched_len, CanBeWatched};
+ghost use Rattle.index_groups.specs.Access.{range_meant};
+ghost use Rattle.port_device.specs.Holds.{HoldsPort};
+ghost use Rattle.session.specs.Asking.{Asking, act_asked};
+ghost use Rattle.session.specs.Asks.{Asks, SomeAsks};
+ghost use Rattle.session.specs.StandsFor.{StandsFor};
+ghost use Rattle.session.specs.Watching.{is_byte_or_bit, IsWatched, IsSpecAsked, AsksFor, AddsAs, DeletesAs};
+
+use crate::Session;
+use crate::groups::is_value_by_handle;
+use crate::looking::look;
+use ads_base::{AmsAddr, NoMemory};
+use index_groups::{Reach, reach};
+use notify_table::{Mode, Spec, WatchFull};
+use port_device::{Group, Port, group_named};
+use return_codes::Code;
+use std::alloc::Global;
+use sym_handles::Handles;
+
+// The most bytes that a notification watches.
+const MOST_BYTES: u32 = 2048;
+
+/// What AddDeviceNotification asks for.
+#[derive(Clone, Copy)]
+pub(crate) struct NoteRequest {
+    pub group: u32,
+    pub offset: u32,
+    pub len: u32,
+    pub mode: u32,
+    pub cycle: u32,
+}
+
+impl Session {
+    /// Adds a notification of a port for an address, and gives its handle.
+    ///
+    /// | refused by | where |
+    /// |---|---|
+    /// | 0x713 | the mode is neither 3 nor 4 |
+    /// | 0x717 | more than 2,048 bytes are to be watched |
+    /// | 0x702 | the group names neither bytes, a bit nor a value by handle |
+    /// | 0x703, or the code of the handle | the offset lies outside, or the handle is not live |
+    /// | 0x705 | the length is 0, or what is to be watched ends outside |
+    /// | 0x716 | no further notification can be added |
+    pub(crate) fn add_note(
+        &mut self,
+        alloc: Global,
+        port: &Port,
+        number: u16,
+        to: AmsAddr,
+        asked: &NoteRequest,
+    ) -> Result<Result<u32, Code>, NoMemory>
+        requires some { SomeAsks port.now self.old.handles }
+        requires number { number ≡ port.now.number }
+        ensures adds { IfOk result (λ answer. (a : Asking) (delay : ℕ) → HoldsPort a.world a.asker.port port.now
+            → StandsFor a.world.plant a.client self.old → a.asker.address ≡ address_of to
+            → AddsAs a (act_asked a (AddDeviceNotification asked.now.group asked.now.offset asked.now.len asked.now.mode delay asked.now.cycle))
+            answer self.new) }
+        ensures keeps { self.new ≡ record self.old { watches = self.new.watches } }
+        ensures no_memory { OnErr result (self.new ≡ self.old) }
+    {
+        match self.spec_asked(port, number, to, asked) {
+            Ok(spec) => self.add_spec(alloc, spec),
+            Err(code) => Ok(Err(code)),
+        }
+    }
+
+    /// Deletes a notification of a port. 0x714 where no live one of this port has the handle.
+    pub(crate) fn delete_note(&mut self, number: u16, handle: u32) -> Result<(), Code>
+        ensures deletes { (a : Asking) → StandsFor a.world.plant a.client self.old → number ≡ a.asker.port.number
+            → DeletesAs a (act_asked a (DeleteDeviceNotification handle)) result self.new }
+        ensures keeps { self.new ≡ record self.old { watches = self.new.watches } }
+    {
+        self.watches.delete(handle, number)
+    }
+
+    // The notification that is asked for, or the code that refuses it before the limits are looked at.
+    fn spec_asked(
+        &self,
+        port: &Port,
+        number: u16,
+        to: AmsAddr,
+        asked: &NoteRequest,
+    ) -> Result<Spec, Code>
+        requires some { SomeAsks port.now self.now.handles }
+        requires number { number ≡ port.now.number }
+        ensures asked { (a : Asking) (delay : ℕ) → Asks a port.now self.now.handles → a.asker.address ≡ address_of to
+            → IsSpecAsked a (act_asked a (AddDeviceNotification asked.now.group asked.now.offset asked.now.len asked.now.mode delay asked.now.cycle))
+            result }
+        ensures watchable { IfOk result (λ spec. CanBeWatched (range_meant spec.reach)) }
+    {
+        match mode_named(asked.mode) {
+            Some(mode) => self.spec_with_mode(port, number, to, asked, mode),
+            None => Err(Code::C713),
+        }
+    }
+
+    fn spec_with_mode(
+        &self,
+        port: &Port,
+        number: u16,
+        to: AmsAddr,
+        asked: &NoteRequest,
+        mode: Mode,
+    ) -> Result<Spec, Code>
+        requires some { SomeAsks port.now self.now.handles }
+        requires number { number ≡ port.now.number }
+        requires mode { Some (mode_meant mode) ≡ mode_of asked.now.mode }
+        ensures asked { (a : Asking) (delay : ℕ) → Asks a port.now self.now.handles → a.asker.address ≡ address_of to
+            → IsSpecAsked a (act_asked a (AddDeviceNotification asked.now.group asked.now.offset asked.now.len asked.now.mode delay asked.now.cycle))
+            result }
+        ensures watchable { IfOk result (λ spec. CanBeWatched (range_meant spec.reach)) }
+    {
+        if asked.len > MOST_BYTES {
+            return Err(Code::C717);
+        }
+        match watched(
+            &self.handles,
+            port,
+            number,
+            asked.group,
+            asked.offset,
+            asked.len,
+        ) {
+            Ok(reach) => {
+                if asked.len == 0 {
+                    return Err(Code::C705);
+                }
+                Ok(Spec {
+                    port: number,
+                    to,
+                    reach,
+                    mode,
+                    cycle: asked.cycle,
+                })
+            }
+            Err(code) => Err(code),
+        }
+    }
+
+    // Adds it; 0x716 where no further one can be added.
+    fn add_spec(&mut self, alloc: Global, spec: Spec) -> Result<Result<u32, Code>, NoMemory>
+        requires { CanBeWatched (range_meant spec.reach) }
+        ensures adds { IfOk result (λ answer. (a : Asking) (act : Act) → StandsFor a.world.plant a.client self.old → AsksFor a act spec
+            → AddsAs a act answer self.new) }
+        ensures keeps { self.new ≡ record self.old { watches = self.new.watches } }
+        ensures no_memory { OnErr result (self.new ≡ self.old) }
+    {
+        match self.watches.add(alloc, spec)? {
+            Ok(handle) => Ok(Ok(handle)),
+            Err(WatchFull) => Ok(Err(Code::C716)),
+        }
+    }
+}
+
+fn mode_named(number: u32) -> Option<Mode>
+    ensures { option_map mode_meant result ≡ mode_of number }
+{
+    match number {
+        3 => Some(Mode::Cycle),
+        4 => Some(Mode::Change),
+        _ => None,
+    }
+}
+
+// What a notification is to watch, or the code that refuses it.
+fn watched(
+    handles: &Handles,
+    port: &Port,
+    number: u16,
+    group: u32,
+    offset: u32,
+    len: u32,
+) -> Result<Reach, Code>
+    requires some { SomeAsks port.now handles.now }
+    requires number { number ≡ port.now.number }
+    ensures watched { (a : Asking) → Asks a port.now handles.now
+        → IsWatched a.world.plant.ports a.asker.port.number len
+        (reach_of a.client a.asker.port (answered_group all_answered ADD_DEVICE_NOTIFICATION group) offset len) result }
+    ensures len { IfOk result (λ reach. watched_len (range_meant reach) ≡ len) }
+{
+    if is_value_by_handle(group) {
+        return watched_by_handle(handles, port, number, offset, len);
+    }
+    if !is_bytes_or_bit(group) {
+        return Err(Code::C702);
+    }
+    reach(port.sizes(), group, offset, len)
+}
+
+// The first bytes of a value by its handle.
+fn watched_by_handle(
+    handles: &Handles,
+    port: &Port,
+    number: u16,
+    handle: u32,
+    len: u32,
+) -> Result<Reach, Code>
+    requires some { SomeAsks port.now handles.now }
+    requires number { number ≡ port.now.number }
+    ensures watched { (a : Asking) → Asks a port.now handles.now
+        → IsWatched a.world.plant.ports a.asker.port.number len
+        (addressed_by_status a.asker.port.number (kept_status a.client.handles handle a.asker.port.number) len) result }
+    ensures len { IfOk result (λ reach. watched_len (range_meant reach) ≡ len) }
+{
+    match look(handles, port, number, handle) {
+        Ok(place) => {
+            if len > place.len {
+                return Err(Code::C705);
+            }
+            Ok(Reach::Bytes {
+                area: place.area,
+                at: place.at,
+                len,
+            })
+        }
+        Err(code) => Err(code),
+    }
+}
+
+fn is_bytes_or_bit(group: u32) -> bool
+    ensures { result ≡ is_byte_or_bit (group_of group) }
+{
+    match group_named(group) {
+        Some(Group::Bytes(_)) | Some(Group::Bit(_)) => true,
+        _ => false,
+    }
+}
