@@ -155,67 +155,116 @@ relay_over_wire words = do
 unfoldable pub relay_in : Division → Option Command
 relay_in words = if length words.options == 0 then relay_over_script words else relay_over_wire words
 
--- each command by its positional words and its options
-unfoldable pub command_in : Form → Division → Option Command
-command_in form.Selftest words = do
+-- each command by the words behind its name
+unfoldable pub selftest_in : Division → Option Command
+selftest_in words = do
   script ← file_in words.positional
   Some (command.Selftest script)
-command_in form.Check words = do
+
+unfoldable pub check_in : Division → Option Command
+check_in words = do
   description ← file_in words.positional
   Some (command.Check description)
-command_in form.Migrate words = do
+
+unfoldable pub migrate_in : Division → Option Command
+migrate_in words = do
   description ← file_in words.positional
   Some (command.Migrate description)
-command_in form.Replay words = do
+
+unfoldable pub replay_in : Division → Option Command
+replay_in words = do
   files ← files_in words.positional
   Some (command.Replay files.0 files.1)
-command_in form.Serve words = do
+
+unfoldable pub serve_in : Division → Option Command
+serve_in words = do
   description ← file_in words.positional
   server ← server_of words.options
   Some (command.Serve description server.0 server.1)
-command_in form.Relay words = relay_in words
-command_in form.Keep words = do
+
+unfoldable pub keep_in : Division → Option Command
+keep_in words = do
   files ← three_files_in words.positional
   Some (command.Keep files.0 files.1 files.2)
-command_in form.Load words = do
+
+unfoldable pub load_in : Division → Option Command
+load_in words = do
   n ← number_in 0 100000 words.positional
   Some (command.Load n)
-command_in form.Info words = do
+
+unfoldable pub info_in : Division → Option Command
+info_in words = do
   client ← client_alone words
   Some (command.Info client)
-command_in form.State words = do
+
+unfoldable pub state_in : Division → Option Command
+state_in words = do
   client ← client_alone words
   Some (command.State client)
-command_in form.List words = do
+
+unfoldable pub list_in : Division → Option Command
+list_in words = do
   client ← client_alone words
   Some (command.List client)
-command_in form.Control words = do
+
+unfoldable pub control_in : Division → Option Command
+control_in words = do
   numbers ← numbers_in words.positional
   client ← client_of words.options
   Some (command.Control numbers.0 numbers.1 client)
-command_in form.Get words = do
+
+unfoldable pub get_in : Division → Option Command
+get_in words = do
   name ← name_in words.positional
   client ← client_of words.options
   Some (command.Get name client)
-command_in form.Show words = do
+
+unfoldable pub show_in : Division → Option Command
+show_in words = do
   name ← name_in words.positional
   client ← client_of words.options
   Some (command.Show name client)
-command_in form.Set words = do
+
+unfoldable pub set_in : Division → Option Command
+set_in words = do
   texts ← texts_in words.positional
   client ← client_of words.options
   Some (command.Set texts.0 texts.1 client)
-command_in form.Watch words = do
+
+unfoldable pub watch_in : Division → Option Command
+watch_in words = do
   name ← name_in words.positional
   samples ← samples_of words.options
   client ← client_of words.options
   Some (command.Watch name samples.0 samples.1 samples.2 client)
-command_in form.Record words = do
+
+unfoldable pub record_in : Division → Option Command
+record_in words = do
   names ← names_of words.positional
   samples ← samples_of words.options
   store ← file_at (codes "--store") words.options
   client ← client_of words.options
   Some (command.Record names samples.0 samples.1 samples.2 store client)
+
+-- each command by its positional words and its options
+unfoldable pub command_in : Form → Division → Option Command
+command_in form.Selftest words = selftest_in words
+command_in form.Check words = check_in words
+command_in form.Migrate words = migrate_in words
+command_in form.Replay words = replay_in words
+command_in form.Serve words = serve_in words
+command_in form.Relay words = relay_in words
+command_in form.Keep words = keep_in words
+command_in form.Load words = load_in words
+command_in form.Info words = info_in words
+command_in form.State words = state_in words
+command_in form.List words = list_in words
+command_in form.Control words = control_in words
+command_in form.Get words = get_in words
+command_in form.Show words = show_in words
+command_in form.Set words = set_in words
+command_in form.Watch words = watch_in words
+command_in form.Record words = record_in words
 
 -- the command of all words: the first names it, and the others are its positional words and options
 unfoldable pub command_of : List (List ℕ) → Option Command

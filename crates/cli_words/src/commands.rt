@@ -3,6 +3,7 @@
 ghost use Rattle.cli_words.specs.Reading.{Reads};
 ghost use Rattle.cli_words.specs.Commands.{file_in, name_in, number_in, two_files, files_in, two_texts, texts_in, two_numbers, numbers_in, three_files, three_files_in};
 ghost use Rattle.cli_words.specs.Commands.{client_alone, relay_over_script, relay_over_wire, relay_in, command_in};
+ghost use Rattle.cli_words.specs.Commands.{selftest_in, check_in, migrate_in, replay_in, serve_in, keep_in, load_in, info_in, state_in, list_in, control_in, get_in, show_in, set_in, watch_in, record_in};
 
 use crate::client::{client, file_at, samples, server};
 use crate::division::Division;
@@ -13,6 +14,7 @@ use crate::{ClientWords, Command, Text};
 use std::alloc::Global;
 
 /// The command of a name, by the words behind it.
+#[tactic(auto, unfolding(crate::specs::Commands::command_in))]
 pub(crate) fn command(alloc: Global, form: Form, words: Division) -> Result<Command, Refusal>
     ensures { Reads result (command_in form words) }
 {
@@ -37,33 +39,33 @@ pub(crate) fn command(alloc: Global, form: Form, words: Division) -> Result<Comm
     }
 }
 
-#[tactic(auto, unfolding(crate::specs::Commands::command_in))]
+#[tactic(auto, unfolding(crate::specs::Commands::selftest_in))]
 fn selftest(alloc: Global, words: &Division) -> Result<Command, Refusal>
-    ensures { Reads result (command_in Form.Selftest words.now) }
+    ensures { Reads result (selftest_in words.now) }
 {
     let script = one_file(alloc, words)?;
     Ok(Command::Selftest { script })
 }
 
-#[tactic(auto, unfolding(crate::specs::Commands::command_in))]
+#[tactic(auto, unfolding(crate::specs::Commands::check_in))]
 fn check(alloc: Global, words: &Division) -> Result<Command, Refusal>
-    ensures { Reads result (command_in Form.Check words.now) }
+    ensures { Reads result (check_in words.now) }
 {
     let description = one_file(alloc, words)?;
     Ok(Command::Check { description })
 }
 
-#[tactic(auto, unfolding(crate::specs::Commands::command_in))]
+#[tactic(auto, unfolding(crate::specs::Commands::migrate_in))]
 fn migrate(alloc: Global, words: &Division) -> Result<Command, Refusal>
-    ensures { Reads result (command_in Form.Migrate words.now) }
+    ensures { Reads result (migrate_in words.now) }
 {
     let description = one_file(alloc, words)?;
     Ok(Command::Migrate { description })
 }
 
-#[tactic(auto, unfolding(crate::specs::Commands::command_in))]
+#[tactic(auto, unfolding(crate::specs::Commands::replay_in))]
 fn replay(alloc: Global, words: &Division) -> Result<Command, Refusal>
-    ensures { Reads result (command_in Form.Replay words.now) }
+    ensures { Reads result (replay_in words.now) }
 {
     let (description, script) = two_files(alloc, words)?;
     Ok(Command::Replay {
@@ -72,9 +74,9 @@ fn replay(alloc: Global, words: &Division) -> Result<Command, Refusal>
     })
 }
 
-#[tactic(auto, unfolding(crate::specs::Commands::command_in))]
+#[tactic(auto, unfolding(crate::specs::Commands::serve_in))]
 fn serve(alloc: Global, words: &Division) -> Result<Command, Refusal>
-    ensures { Reads result (command_in Form.Serve words.now) }
+    ensures { Reads result (serve_in words.now) }
 {
     let description = one_file(alloc, words)?;
     let (listen, events) = server(alloc, words.options.as_slice())?;
@@ -85,9 +87,9 @@ fn serve(alloc: Global, words: &Division) -> Result<Command, Refusal>
     })
 }
 
-#[tactic(auto, unfolding(crate::specs::Commands::command_in, crate::specs::Commands::relay_in))]
+#[tactic(auto, unfolding(crate::specs::Commands::relay_in))]
 fn relay(alloc: Global, words: &Division) -> Result<Command, Refusal>
-    ensures { Reads result (command_in Form.Relay words.now) }
+    ensures { Reads result (relay_in words.now) }
 {
     if words.options.len() == 0 {
         relay_over_script(alloc, words)
@@ -120,9 +122,9 @@ fn relay_over_wire(alloc: Global, words: &Division) -> Result<Command, Refusal>
     })
 }
 
-#[tactic(auto, unfolding(crate::specs::Commands::command_in))]
+#[tactic(auto, unfolding(crate::specs::Commands::keep_in))]
 fn keep(alloc: Global, words: &Division) -> Result<Command, Refusal>
-    ensures { Reads result (command_in Form.Keep words.now) }
+    ensures { Reads result (keep_in words.now) }
 {
     let (description, script, store) = three_files(alloc, words)?;
     Ok(Command::Keep {
@@ -132,41 +134,41 @@ fn keep(alloc: Global, words: &Division) -> Result<Command, Refusal>
     })
 }
 
-#[tactic(auto, unfolding(crate::specs::Commands::command_in))]
+#[tactic(auto, unfolding(crate::specs::Commands::load_in))]
 fn load(words: &Division) -> Result<Command, Refusal>
-    ensures { Reads result (command_in Form.Load words.now) }
+    ensures { Reads result (load_in words.now) }
 {
     let n = one_number(words, 0, 100_000)?;
     Ok(Command::Load { n })
 }
 
-#[tactic(auto, unfolding(crate::specs::Commands::command_in))]
+#[tactic(auto, unfolding(crate::specs::Commands::info_in))]
 fn info(alloc: Global, words: &Division) -> Result<Command, Refusal>
-    ensures { Reads result (command_in Form.Info words.now) }
+    ensures { Reads result (info_in words.now) }
 {
     let client = client_alone(alloc, words)?;
     Ok(Command::Info(client))
 }
 
-#[tactic(auto, unfolding(crate::specs::Commands::command_in))]
+#[tactic(auto, unfolding(crate::specs::Commands::state_in))]
 fn state(alloc: Global, words: &Division) -> Result<Command, Refusal>
-    ensures { Reads result (command_in Form.State words.now) }
+    ensures { Reads result (state_in words.now) }
 {
     let client = client_alone(alloc, words)?;
     Ok(Command::State(client))
 }
 
-#[tactic(auto, unfolding(crate::specs::Commands::command_in))]
+#[tactic(auto, unfolding(crate::specs::Commands::list_in))]
 fn list(alloc: Global, words: &Division) -> Result<Command, Refusal>
-    ensures { Reads result (command_in Form.List words.now) }
+    ensures { Reads result (list_in words.now) }
 {
     let client = client_alone(alloc, words)?;
     Ok(Command::List(client))
 }
 
-#[tactic(auto, unfolding(crate::specs::Commands::command_in))]
+#[tactic(auto, unfolding(crate::specs::Commands::control_in))]
 fn control(alloc: Global, words: &Division) -> Result<Command, Refusal>
-    ensures { Reads result (command_in Form.Control words.now) }
+    ensures { Reads result (control_in words.now) }
 {
     let (ads, device) = two_numbers(words)?;
     let client = client(alloc, words.options.as_slice())?;
@@ -177,27 +179,27 @@ fn control(alloc: Global, words: &Division) -> Result<Command, Refusal>
     })
 }
 
-#[tactic(auto, unfolding(crate::specs::Commands::command_in))]
+#[tactic(auto, unfolding(crate::specs::Commands::get_in))]
 fn get(alloc: Global, words: &Division) -> Result<Command, Refusal>
-    ensures { Reads result (command_in Form.Get words.now) }
+    ensures { Reads result (get_in words.now) }
 {
     let name = one_name(alloc, words)?;
     let client = client(alloc, words.options.as_slice())?;
     Ok(Command::Get { name, client })
 }
 
-#[tactic(auto, unfolding(crate::specs::Commands::command_in))]
+#[tactic(auto, unfolding(crate::specs::Commands::show_in))]
 fn show(alloc: Global, words: &Division) -> Result<Command, Refusal>
-    ensures { Reads result (command_in Form.Show words.now) }
+    ensures { Reads result (show_in words.now) }
 {
     let name = one_name(alloc, words)?;
     let client = client(alloc, words.options.as_slice())?;
     Ok(Command::Show { name, client })
 }
 
-#[tactic(auto, unfolding(crate::specs::Commands::command_in))]
+#[tactic(auto, unfolding(crate::specs::Commands::set_in))]
 fn set(alloc: Global, words: &Division) -> Result<Command, Refusal>
-    ensures { Reads result (command_in Form.Set words.now) }
+    ensures { Reads result (set_in words.now) }
 {
     let (name, value) = two_texts(alloc, words)?;
     let client = client(alloc, words.options.as_slice())?;
@@ -208,9 +210,9 @@ fn set(alloc: Global, words: &Division) -> Result<Command, Refusal>
     })
 }
 
-#[tactic(auto, unfolding(crate::specs::Commands::command_in))]
+#[tactic(auto, unfolding(crate::specs::Commands::watch_in))]
 fn watch(alloc: Global, words: &Division) -> Result<Command, Refusal>
-    ensures { Reads result (command_in Form.Watch words.now) }
+    ensures { Reads result (watch_in words.now) }
 {
     let name = one_name(alloc, words)?;
     let (change, cycle, count) = samples(words.options.as_slice())?;
@@ -224,9 +226,9 @@ fn watch(alloc: Global, words: &Division) -> Result<Command, Refusal>
     })
 }
 
-#[tactic(auto, unfolding(crate::specs::Commands::command_in))]
+#[tactic(auto, unfolding(crate::specs::Commands::record_in))]
 fn make_record(alloc: Global, words: Division) -> Result<Command, Refusal>
-    ensures { Reads result (command_in Form.Record words) }
+    ensures { Reads result (record_in words) }
 {
     let Division {
         positional,
