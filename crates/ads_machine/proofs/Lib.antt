@@ -1,4 +1,5 @@
-mod SelftestExamples
+mod StateDevice
+mod StateExamples
 pub mod Find
 mod ScriptExamples
 pub mod Growth

@@ -1,11 +1,11 @@
 -- Worked scripts, lines and texts.
-use Rattle.std.proofs.Common.{◌≡◌, ℕ, ◌++◌, List, [], ◌∷◌, Ok, Err, codes, true, refl}
+use Rattle.std.proofs.Common.{◌≡◌, ℕ, ◌++◌, List, [], ◌∷◌, Ok, Err, codes, Bool, true, false, refl}
 use Rattle.std.specs.Prelude.{Result}
 use Rattle.hex.proofs.OnLiterals.{hex_on_literals}
 use Rattle.ads_outside.specs.declared.event.Event.TheVariants as event
 use Rattle.ads_outside.specs.declared.moves.Move.TheVariants as move
 use Rattle.ads_outside.specs.declared.reload_note.ReloadNote.TheVariants as note
-use Rattle.ads_machine.specs.BuiltLines.{BuiltLines, LineKind, built_lines}
+use Rattle.ads_machine.specs.BuiltLines.{BuiltLines, LineKind, Blank, Open, Bytes, Close, Tick, Reload, Room, Fail}
 use Rattle.ads_machine.specs.LogText.{log_text_of}
 use Rattle.ads_machine.specs.Script.{kind_of, script_after, script_of}
 use Rattle.ads_machine.specs.ScriptLine.{ScriptLine, Happens, TakesAtMost, FailsNext}
@@ -21,8 +21,17 @@ lf text = text ++ 10 ∷ []
 crlf : List ℕ → List ℕ
 crlf text = text ++ 13 ∷ 10 ∷ []
 
+-- one connection, and its bytes
+is_first_line : LineKind → Bool
+is_first_line Open = true
+is_first_line Bytes = true
+is_first_line kind = false
+
+first_lines : BuiltLines
+first_lines = record { is_built = is_first_line; most_opened = 1 }
+
 read : List ℕ → Result (List ScriptLine) ℕ
-read bytes = script_of built_lines bytes
+read bytes = script_of first_lines bytes
 
 -- every line is built
 whole : BuiltLines
@@ -32,61 +41,61 @@ read_whole : List ℕ → Result (List ScriptLine) ℕ
 read_whole bytes = script_of whole bytes
 
 empty_script : read [] ≡ Ok []
-unfolding read lines_of script_after
+unfolding read first_lines is_first_line lines_of script_after
 empty_script = refl
 
 -- hex digits in either case, one word or more
 two_lines : read (lf (codes "open 4294967295") ++ codes "bytes 4294967295 00fF A0b1C2 9e") ≡ Ok (Happens (event.Opened 4294967295) ∷ Happens (event.Piece 4294967295 (0 ∷ 255 ∷ 160 ∷ 177 ∷ 194 ∷ 158 ∷ [])) ∷ [])
-unfolding read lf lines_of script_after kind_of bytes_of_words hex_on_literals
+unfolding read first_lines is_first_line lf lines_of script_after kind_of bytes_of_words hex_on_literals
 two_lines = refl
 
 -- a CR before an LF is dropped, and one at the end of the text is not
 carriage_returns : read (crlf (codes "open 1") ++ crlf (codes "bytes 1 00")) ≡ Ok (Happens (event.Opened 1) ∷ Happens (event.Piece 1 (0 ∷ [])) ∷ [])
-unfolding read crlf lines_of script_after kind_of bytes_of_words hex_on_literals
+unfolding read first_lines is_first_line crlf lines_of script_after kind_of bytes_of_words hex_on_literals
 carriage_returns = refl
 
 carriage_return_at_the_end : read (codes "open 1" ++ 13 ∷ []) ≡ Err 1
-unfolding read lines_of script_after kind_of bytes_of_words hex_on_literals
+unfolding read first_lines is_first_line lines_of script_after kind_of bytes_of_words hex_on_literals
 carriage_return_at_the_end = refl
 
 opened_twice : read (lf (codes "open 1") ++ lf (codes "open 1")) ≡ Err 2
-unfolding read lf lines_of script_after kind_of bytes_of_words hex_on_literals
+unfolding read first_lines is_first_line lf lines_of script_after kind_of bytes_of_words hex_on_literals
 opened_twice = refl
 
 never_opened : read (lf (codes "open 1") ++ lf (codes "bytes 2 00")) ≡ Err 2
-unfolding read lf lines_of script_after kind_of bytes_of_words hex_on_literals
+unfolding read first_lines is_first_line lf lines_of script_after kind_of bytes_of_words hex_on_literals
 never_opened = refl
 
 no_zero : read (codes "open 0") ≡ Err 1
-unfolding read lines_of script_after kind_of bytes_of_words hex_on_literals
+unfolding read first_lines is_first_line lines_of script_after kind_of bytes_of_words hex_on_literals
 no_zero = refl
 
 no_leading_zero : read (codes "open 01") ≡ Err 1
-unfolding read lines_of script_after kind_of bytes_of_words hex_on_literals
+unfolding read first_lines is_first_line lines_of script_after kind_of bytes_of_words hex_on_literals
 no_leading_zero = refl
 
 no_greater_number : read (codes "open 4294967296") ≡ Err 1
-unfolding read lines_of script_after kind_of bytes_of_words hex_on_literals
+unfolding read first_lines is_first_line lines_of script_after kind_of bytes_of_words hex_on_literals
 no_greater_number = refl
 
 two_spaces : read (lf (codes "open 1") ++ codes "bytes  1 00") ≡ Err 2
-unfolding read lf lines_of script_after kind_of bytes_of_words hex_on_literals
+unfolding read first_lines is_first_line lf lines_of script_after kind_of bytes_of_words hex_on_literals
 two_spaces = refl
 
 odd_digits : read (lf (codes "open 1") ++ codes "bytes 1 00 000") ≡ Err 2
-unfolding read lf lines_of script_after kind_of bytes_of_words hex_on_literals
+unfolding read first_lines is_first_line lf lines_of script_after kind_of bytes_of_words hex_on_literals
 odd_digits = refl
 
 no_bytes : read (lf (codes "open 1") ++ lf (codes "bytes 1 ")) ≡ Err 2
-unfolding read lf lines_of script_after kind_of bytes_of_words hex_on_literals
+unfolding read first_lines is_first_line lf lines_of script_after kind_of bytes_of_words hex_on_literals
 no_bytes = refl
 
 not_built : read (lf (codes "open 1") ++ lf (codes "close 1")) ≡ Err 2
-unfolding read lf lines_of script_after kind_of bytes_of_words hex_on_literals
+unfolding read first_lines is_first_line lf lines_of script_after kind_of bytes_of_words hex_on_literals
 not_built = refl
 
 empty_line : read (10 ∷ []) ≡ Err 1
-unfolding read lines_of script_after kind_of bytes_of_words hex_on_literals
+unfolding read first_lines is_first_line lines_of script_after kind_of bytes_of_words hex_on_literals
 empty_line = refl
 
 -- all lines of the grammar, with a reload of two lines of text

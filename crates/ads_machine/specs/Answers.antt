@@ -30,13 +30,6 @@ all_answered = record {
   answers_group = groups_of_command;
 }
 
--- what the program answers so far
-abbrev pub built_answers : AnswerTable
-built_answers = record {
-  is_answered = λ command. command == READ_STATE;
-  answers_group = λ command group. false;
-}
-
 abbrev pub if_answered : AnswerTable → ℕ → Group → Option Group
 if_answered table command group =
     if table.answers_group command group then Some group else None

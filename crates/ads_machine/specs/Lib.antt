@@ -20,7 +20,6 @@ pub mod SummaryText
 pub mod Delivery
 pub mod Output
 pub mod Running
-pub mod Selftest
 pub mod World
 pub mod Access
 pub mod Handles

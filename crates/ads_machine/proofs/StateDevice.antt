@@ -1,6 +1,5 @@
--- The built-in device of `selftest`. This project's own choice: it knows one request, ReadState,
--- from one NetId, and answers any other frame as an unknown command.
--- Beckhoff Information System, "AMS Header", "ADS Read State".
+-- A small device for worked examples: it knows one request, ReadState, from one NetId, and answers any other frame as
+-- an unknown command.
 use Rattle.std.specs.Prelude.{ℕ, List, [], ◌∷◌, ◌++◌, length, take, drop, Bool, ◌&&◌, bytes_eq}
 use Rattle.std.specs.Prelude.{◌==◌, if◌then◌else◌}
 use Rattle.std.specs.Int.{w16, w32, to_le_bytes}
@@ -45,22 +44,22 @@ reply_to packet error payload =
 abbrev pub state_payload : List ℕ
 state_payload = to_le_bytes w32 0 ++ to_le_bytes w16 RUN ++ to_le_bytes w16 0
 
-abbrev pub selftest_reply : List ℕ → List ℕ
-selftest_reply packet =
+abbrev pub state_reply : List ℕ → List ℕ
+state_reply packet =
     if is_read_state packet then reply_to packet 0 state_payload
     else reply_to packet UNKNOWN_COMMAND []
 
 -- no world, nothing kept for a client; ticks do nothing, and no description is read
-abbrev pub selftest_device : Device (Unit {0}) (Unit {0})
-selftest_device = record {
+abbrev pub state_device : Device (Unit {0}) (Unit {0})
+state_device = record {
   new_client = tt;
   take = λ world client packet.
-      record { answer = Answered (selftest_reply packet); world = tt; client = tt };
+      record { answer = Answered (state_reply packet); world = tt; client = tt };
   world_after_tick = λ world. tt;
   client_after_tick = λ moment world client. record { client = tt; frames = [] };
   reload = λ bytes world. Refused NoDocument;
   client_after_reload = λ moment old new client. record { client = tt; frames = [] };
 }
 
-abbrev pub selftest_step : EventStep (Unit {0}) (Unit {0})
-selftest_step = state_after_event selftest_device
+abbrev pub state_step : EventStep (Unit {0}) (Unit {0})
+state_step = state_after_event state_device

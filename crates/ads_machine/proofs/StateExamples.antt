@@ -1,4 +1,4 @@
--- The machine over the built-in device of `selftest`, by computation.
+-- The machine over a small device, by computation.
 use Rattle.std.specs.Prelude.{◌≡◌, refl, ℕ, List, [], ◌∷◌, ◌++◌, map, filter, Bool, true, false, not, codes}
 use Rattle.ads_frames.specs.Division.{ams_length_of, is_header, front_of, packet_of, behind_frame, frames_from, frames_of, left_behind, rest_of}
 use Rattle.ads_outside.specs.declared.event.Event.{Event}
@@ -14,7 +14,7 @@ use Rattle.ads_machine.specs.Offers.{left_after}
 use Rattle.ads_machine.specs.Peers.{offers_to, peers_after}
 use Rattle.ads_machine.specs.Play.{moves_of_each, turns_of, play_of_events}
 use Rattle.ads_machine.specs.Summary.{Summary, summary_of}
-use Rattle.ads_machine.specs.Selftest.{selftest_step}
+use Rattle.ads_machine.proofs.StateDevice.{state_step}
 use Rattle.ads_frames.proofs.Hex.{hex}
 
 abbrev is_event : Move → Bool
@@ -24,7 +24,7 @@ is_event m = false
 -- what the machine's log of these events has beside them
 abbrev answers_to : List Event → List Move
 answers_to events =
-    filter (λ m. not (is_event m)) (play_of_events selftest_step (start_of tt) events)
+    filter (λ m. not (is_event m)) (play_of_events state_step (start_of tt) events)
 
 -- connection 1 is opened, and these pieces come
 abbrev pieces : List (List ℕ) → List Event
@@ -36,7 +36,7 @@ one_by_one bytes = map (λ b. b ∷ []) bytes
 -- the summary after the log of these events
 abbrev summary_after : List Event → Summary
 summary_after events =
-    summary_of (state_after selftest_step (start_of tt) (play_of_events selftest_step (start_of tt) events))
+    summary_of (state_after state_step (start_of tt) (play_of_events state_step (start_of tt) events))
 
 abbrev counts : ℕ → ℕ → ℕ → Summary
 counts connections requests replies = record { connections = connections; requests = requests; replies = replies; samples = 0; accepted = 0; refused = 0 }
