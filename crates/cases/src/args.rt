@@ -58,7 +58,7 @@ impl<'a> Args<'a> {
     /// Whether a further word stands before `=>`.
     pub fn has_more(&self) -> bool {
         let (word, _) = next_word(self.rest);
-        !word.is_empty() && word != b"=>".as_slice()
+        !word.is_empty() && !is_word(word, "=>")
     }
 
     /// The next word, as it is written. Empty at the end.
@@ -66,6 +66,14 @@ impl<'a> Args<'a> {
         let (word, behind) = next_word(self.rest);
         self.rest = behind;
         word
+    }
+
+    /// The next word as a text. Empty at the end.
+    pub fn name(&mut self) -> &'a str {
+        match std::str::from_utf8(self.word()) {
+            Ok(name) => name,
+            Err(_) => "",
+        }
     }
 
     /// The next word as a number, in decimal or behind `0x`.
@@ -125,7 +133,7 @@ impl<'a> Args<'a> {
     /// Whether a word of an answer is the one that must come: as it is written, as the number that is wanted behind
     /// `0x`, or as the bytes that are wanted.
     pub fn are_same(&self, wanted: &[u8], word: &[u8]) -> Result<bool, NoMemory> {
-        if wanted == word {
+        if is_same(wanted, word) {
             return Ok(true);
         }
         if wanted.is_empty() || word.is_empty() {
@@ -148,6 +156,16 @@ impl<'a> Args<'a> {
             Err(_) => Ok(None),
         }
     }
+}
+
+/// Whether a word is this one.
+pub fn is_word(word: &[u8], text: &str) -> bool {
+    is_same(word, text.as_bytes())
+}
+
+/// Whether bytes are the same.
+pub fn is_same(a: &[u8], b: &[u8]) -> bool {
+    a == b
 }
 
 /// The first word of a text, and what stands behind it. The word is empty where the text has none.

@@ -34,7 +34,6 @@ use crate::answer::Answer;
 use crate::args::Args;
 use crate::fault::Fault;
 use crate::objects::Objects;
-use crate::pieces::cut_at;
 use std::alloc::Global;
 
 /// Makes the call that the first word names with the arguments behind it, and writes its answer.
@@ -56,35 +55,34 @@ fn of_library(
     args: &mut Args<'_>,
     answer: &mut Answer,
 ) -> Result<(), Fault> {
-    let (library, call) = cut_at(args.word(), b'.');
-    let Some(call) = call else {
+    let Some((library, call)) = args.name().split_once('.') else {
         return Err(Fault::NoCall);
     };
     match library {
-        b"ads_base" => base::make(alloc, call, args, answer),
-        b"ads_commands" => payloads::make(alloc, call, args, answer),
-        b"ams_header" => header::make(call, args, answer),
-        b"ams_tcp" => frames::make(alloc, &mut objects.splitter, call, args, answer),
-        b"cli_words" => words::make(alloc, call, args, answer),
-        b"index_groups" => groups::make(call, args, answer),
-        b"name_index" => names::make(alloc, call, args, answer),
-        b"name_paths" => paths::make(call, args, answer),
-        b"net_routes" => routes::make(alloc, call, args, answer),
-        b"notify_frames" => notes::make(alloc, call, args, answer),
-        b"notify_table" => notifications::make(alloc, &mut objects.watches, call, args, answer),
-        b"out_queue" => queues::make(alloc, &mut objects.queue, call, args, answer),
-        b"replay_script" => scripts::make(alloc, call, args, answer),
-        b"return_codes" => codes::make(alloc, call, args, answer),
-        b"server_core" => cores::make(alloc, &mut objects.core, call, args, answer),
-        b"signals" => waves::make(alloc, call, args, answer),
-        b"sum_commands" => sums::make(alloc, call, args, answer),
-        b"sym_handles" => handles::make(alloc, &mut objects.handles, call, args, answer),
-        b"symbol_file" => descriptions::make(alloc, call, args, answer),
-        b"symbol_info" => symbols::make(alloc, call, args, answer),
-        b"symbol_table" => tables::make(alloc, call, args, answer),
-        b"type_layout" => layout::make(alloc, call, args, answer),
-        b"type_upload" => type_entries::make(alloc, call, args, answer),
-        b"value_text" => values::make(alloc, call, args, answer),
+        "ads_base" => base::make(alloc, call, args, answer),
+        "ads_commands" => payloads::make(alloc, call, args, answer),
+        "ams_header" => header::make(call, args, answer),
+        "ams_tcp" => frames::make(alloc, &mut objects.splitter, call, args, answer),
+        "cli_words" => words::make(alloc, call, args, answer),
+        "index_groups" => groups::make(call, args, answer),
+        "name_index" => names::make(alloc, call, args, answer),
+        "name_paths" => paths::make(call, args, answer),
+        "net_routes" => routes::make(alloc, call, args, answer),
+        "notify_frames" => notes::make(alloc, call, args, answer),
+        "notify_table" => notifications::make(alloc, &mut objects.watches, call, args, answer),
+        "out_queue" => queues::make(alloc, &mut objects.queue, call, args, answer),
+        "replay_script" => scripts::make(alloc, call, args, answer),
+        "return_codes" => codes::make(alloc, call, args, answer),
+        "server_core" => cores::make(alloc, &mut objects.core, call, args, answer),
+        "signals" => waves::make(alloc, call, args, answer),
+        "sum_commands" => sums::make(alloc, call, args, answer),
+        "sym_handles" => handles::make(alloc, &mut objects.handles, call, args, answer),
+        "symbol_file" => descriptions::make(alloc, call, args, answer),
+        "symbol_info" => symbols::make(alloc, call, args, answer),
+        "symbol_table" => tables::make(alloc, call, args, answer),
+        "type_layout" => layout::make(alloc, call, args, answer),
+        "type_upload" => type_entries::make(alloc, call, args, answer),
+        "value_text" => values::make(alloc, call, args, answer),
         _ => Err(Fault::NoCall),
     }
 }

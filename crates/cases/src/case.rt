@@ -1,7 +1,7 @@
 //! One case: a call, its arguments, `=>`, and the answer that must come.
 
 use crate::answer::Answer;
-use crate::args::{Args, next_word};
+use crate::args::{Args, is_word, next_word};
 use crate::calls;
 use crate::fault::Fault;
 use crate::folder::Sheet;
@@ -28,7 +28,7 @@ pub fn tried(
     case: &[u8],
 ) -> Result<Verdict, NoMemory> {
     let (first, behind) = next_word(case);
-    if first == b"cuts".as_slice() {
+    if is_word(first, "cuts") {
         return tried_cut(alloc, sheets, objects, behind);
     }
     let mut args = Args::new(alloc, sheets, case, None);
@@ -73,7 +73,7 @@ fn tried_once(
 }
 
 fn compared(alloc: Global, args: &mut Args<'_>, answer: &[u8]) -> Result<Verdict, NoMemory> {
-    if args.word() != b"=>".as_slice() {
+    if !is_word(args.word(), "=>") {
         return Ok(Verdict::Unreadable("`=>` does not follow the arguments"));
     }
     let mut wanted = args.rest();

@@ -11,19 +11,19 @@ use std::alloc::Global;
 
 pub fn make(
     alloc: Global,
-    call: &[u8],
+    call: &str,
     args: &mut Args<'_>,
     answer: &mut Answer,
 ) -> Result<(), Fault> {
     match call {
-        b"read_decimal" => decimal(args, answer),
-        b"split_decimal" => decimal_before_colon(args, answer),
-        b"net_id.read" => net_read(args, answer),
-        b"net_id.write" => net_written(alloc, args, answer)?,
-        b"put" => numbers_put(alloc, args, answer)?,
-        b"get" => number_got(args, answer),
-        b"octets" => octets(alloc, args, answer)?,
-        b"calls" => calls(alloc, args, answer)?,
+        "read_decimal" => decimal(args, answer),
+        "split_decimal" => decimal_before_colon(args, answer),
+        "net_id.read" => net_read(args, answer),
+        "net_id.write" => net_written(alloc, args, answer)?,
+        "put" => numbers_put(alloc, args, answer)?,
+        "get" => number_got(args, answer),
+        "octets" => octets(alloc, args, answer)?,
+        "calls" => calls(alloc, args, answer)?,
         _ => return Err(Fault::NoCall),
     }
     Ok(())
@@ -79,27 +79,34 @@ fn numbers_put(alloc: Global, args: &mut Args<'_>, answer: &mut Answer) -> Resul
         if !args.has_more() {
             break;
         }
-        match args.word() {
-            b"16" => put16(alloc, &mut out, args.u16())?,
-            b"32" => put32(alloc, &mut out, args.u32())?,
-            b"64" => put64(alloc, &mut out, args.u64())?,
-            _ => args.refuse(),
-        }
+        number_put(alloc, args, &mut out)?;
     }
     answer.hex(out.as_slice());
     Ok(())
 }
 
+fn number_put(alloc: Global, args: &mut Args<'_>, out: &mut Octets) -> Result<(), NoMemory> {
+    match args.name() {
+        "16" => put16(alloc, out, args.u16()),
+        "32" => put32(alloc, out, args.u32()),
+        "64" => put64(alloc, out, args.u64()),
+        _ => {
+            args.refuse();
+            Ok(())
+        }
+    }
+}
+
 // The width in bits, the place, and the bytes.
 fn number_got(args: &mut Args<'_>, answer: &mut Answer) {
-    let width = args.word();
+    let width = args.name();
     let at = args.u32() as usize;
     let octets = args.octets();
     let bytes = octets.as_slice();
     match width {
-        b"16" if at + 2 <= bytes.len() => answer.tell(u64::from(get16(bytes, at))),
-        b"32" if at + 4 <= bytes.len() => answer.tell(u64::from(get32(bytes, at))),
-        b"64" if at + 8 <= bytes.len() => answer.tell(get64(bytes, at)),
+        "16" if at + 2 <= bytes.len() => answer.tell(u64::from(get16(bytes, at))),
+        "32" if at + 4 <= bytes.len() => answer.tell(u64::from(get32(bytes, at))),
+        "64" if at + 8 <= bytes.len() => answer.tell(get64(bytes, at)),
         _ => args.refuse(),
     }
 }
@@ -112,21 +119,33 @@ fn octets(alloc: Global, args: &mut Args<'_>, answer: &mut Answer) -> Result<(),
         if !args.has_more() {
             break;
         }
-        match args.word() {
-            b"put" => {
-                let more = args.octets();
-                bytes.put(alloc, more.as_slice())?;
-            }
-            b"push" => bytes.push(alloc, args.u8())?,
-            b"reserve" => bytes.reserve(alloc, args.u32() as usize)?,
-            b"cut" => bytes.cut((args.u32() as usize).min(bytes.len())),
-            b"reverse" => bytes.as_mut_slice().reverse(),
-            b"from_vec" => bytes = Octets::from_vec(bytes.into_vec()),
-            _ => args.refuse(),
+        match args.name() {
+            "from_vec" => bytes = Octets::from_vec(bytes.into_vec()),
+            change => octets_changed(alloc, change, args, &mut bytes)?,
         }
     }
     answer.tell(bytes.len() as u64);
     answer.quote(bytes.as_slice());
+    Ok(())
+}
+
+fn octets_changed(
+    alloc: Global,
+    change: &str,
+    args: &mut Args<'_>,
+    bytes: &mut Octets,
+) -> Result<(), NoMemory> {
+    match change {
+        "put" => {
+            let more = args.octets();
+            return bytes.put(alloc, more.as_slice());
+        }
+        "push" => return bytes.push(alloc, args.u8()),
+        "reserve" => return bytes.reserve(alloc, args.u32() as usize),
+        "cut" => bytes.cut((args.u32() as usize).min(bytes.len())),
+        "reverse" => bytes.as_mut_slice().reverse(),
+        _ => args.refuse(),
+    }
     Ok(())
 }
 
@@ -137,16 +156,20 @@ fn calls(alloc: Global, args: &mut Args<'_>, answer: &mut Answer) -> Result<(), 
         if !args.has_more() {
             break;
         }
-        match args.word() {
-            b"push" => list.push(alloc, args.u64())?,
-            b"reverse" => list.as_mut_slice().reverse(),
-            b"from_vec" => list = Calls::from_vec(list.into_vec()),
+        match args.name() {
+            "push" => list.push(alloc, args.u64())?,
+            "reverse" => list.as_mut_slice().reverse(),
+            "from_vec" => list = Calls::from_vec(list.into_vec()),
             _ => args.refuse(),
         }
     }
-    answer.tell(list.len() as u64);
-    for n in list.as_slice() {
+    say_calls(list.as_slice(), answer);
+    Ok(())
+}
+
+fn say_calls(calls: &[u64], answer: &mut Answer) {
+    answer.tell(calls.len() as u64);
+    for n in calls {
         answer.tell(*n);
     }
-    Ok(())
 }

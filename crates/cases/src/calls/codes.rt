@@ -8,12 +8,12 @@ use std::alloc::Global;
 
 pub fn make(
     alloc: Global,
-    call: &[u8],
+    call: &str,
     args: &mut Args<'_>,
     answer: &mut Answer,
 ) -> Result<(), Fault> {
     match call {
-        b"code_of" => match Code::of(args.u32()) {
+        "code_of" => match Code::of(args.u32()) {
             Some(code) => show(alloc, code, answer)?,
             None => answer.say("none"),
         },

@@ -12,41 +12,41 @@ use std::alloc::Global;
 pub fn make(
     alloc: Global,
     core: &mut Core,
-    call: &[u8],
+    call: &str,
     args: &mut Args<'_>,
     answer: &mut Answer,
 ) -> Result<(), Fault> {
     match call {
-        b"build" => {
+        "build" => {
             *core = Core::build(alloc)?;
             answer.say("ok");
         }
-        b"step" => {
-            let event = event_of(args.word(), args);
+        "step" => {
+            let event = event_of(args.name(), args);
             answer.say(match core.step(alloc, &event)? {
                 Outcome::Done => "done",
             });
         }
-        b"connection" => match core.connection(args.u32() as usize) {
+        "connection" => match core.connection(args.u32() as usize) {
             Some(conn) => answer.tell(u64::from(conn)),
             None => answer.say("none"),
         },
-        b"offer" => match core.offer_of(args.u32()) {
+        "offer" => match core.offer_of(args.u32()) {
             Some(left) => answer.hex(left),
             None => answer.say("none"),
         },
-        b"take" => take(core, args.u32(), args.u32(), answer),
-        b"closing" => answer.say(if core.closing(args.u32()) {
+        "take" => take(core, args.u32(), args.u32(), answer),
+        "closing" => answer.say(if core.closing(args.u32()) {
             "yes"
         } else {
             "no"
         }),
-        b"remove" => {
+        "remove" => {
             core.remove(args.u32());
             answer.say("ok");
         }
-        b"summary" => say_summary(&core.summary(), answer),
-        b"bytes" => byte_by_byte(alloc, core, args, answer)?,
+        "summary" => say_summary(&core.summary(), answer),
+        "bytes" => byte_by_byte(alloc, core, args, answer)?,
         _ => return Err(Fault::NoCall),
     }
     Ok(())

@@ -6,27 +6,42 @@ use crate::calls::description::description_of;
 use crate::calls::places::say_area;
 use crate::calls::templates::{filled, raw};
 use crate::fault::Fault;
-use ads_base::NoMemory;
 use std::alloc::Global;
 use symbol_file::{DescFault, read};
 use type_layout::{Description, Elem, NamedType, PortDesc, Rights, RouteDesc, Shape, SymbolDesc};
 
 pub fn make(
     alloc: Global,
-    call: &[u8],
+    call: &str,
     args: &mut Args<'_>,
     answer: &mut Answer,
 ) -> Result<(), Fault> {
     match call {
-        b"read" => judge(alloc, args.u32(), args.octets().as_slice(), answer)?,
-        b"fill" => fill(alloc, args, answer)?,
-        _ => show(&description_of(alloc, args)?, call, args, answer)?,
+        "read" => read_one(alloc, args, answer),
+        "fill" => fill(alloc, args, answer),
+        _ => show_one(alloc, call, args, answer),
     }
-    Ok(())
+}
+
+// SIGNALS TEXT
+fn read_one(alloc: Global, args: &mut Args<'_>, answer: &mut Answer) -> Result<(), Fault> {
+    let signals = args.u32();
+    let text = args.octets();
+    judge(alloc, signals, text.as_slice(), answer)
+}
+
+fn show_one(
+    alloc: Global,
+    call: &str,
+    args: &mut Args<'_>,
+    answer: &mut Answer,
+) -> Result<(), Fault> {
+    let description = description_of(alloc, args)?;
+    show(&description, call, args, answer)
 }
 
 // SIGNALS FRAME PART
-fn fill(alloc: Global, args: &mut Args<'_>, answer: &mut Answer) -> Result<(), NoMemory> {
+fn fill(alloc: Global, args: &mut Args<'_>, answer: &mut Answer) -> Result<(), Fault> {
     let signals = args.u32();
     let frame = args.octets();
     let part = raw(args);
@@ -34,7 +49,7 @@ fn fill(alloc: Global, args: &mut Args<'_>, answer: &mut Answer) -> Result<(), N
     judge(alloc, signals, text.as_bytes(), answer)
 }
 
-fn judge(alloc: Global, signals: u32, text: &[u8], answer: &mut Answer) -> Result<(), NoMemory> {
+fn judge(alloc: Global, signals: u32, text: &[u8], answer: &mut Answer) -> Result<(), Fault> {
     match read(alloc, text, signals)? {
         Ok(_) => answer.say("accepted"),
         Err(DescFault::Syntax) => answer.say("syntax"),
@@ -49,36 +64,44 @@ fn judge(alloc: Global, signals: u32, text: &[u8], answer: &mut Answer) -> Resul
 // What a description says: of the machine, or of a route, a type, a part of a type, a port or a symbol, by their places.
 fn show(
     d: &Description,
-    call: &[u8],
+    call: &str,
     args: &mut Args<'_>,
     answer: &mut Answer,
 ) -> Result<(), Fault> {
     let place = if args.has_more() { args.u32() } else { 0 } as usize;
     match call {
-        b"net" => say_machine(d, answer),
-        b"route" => match d.routes.as_slice().get(place) {
+        "net" => say_machine(d, answer),
+        "route" => match d.routes.as_slice().get(place) {
             Some(route) => say_route(route, answer),
             None => args.refuse(),
         },
-        b"type" => match d.types.as_slice().get(place) {
-            Some(kind) => say_type(kind, answer),
+        "type" | "part" => match d.types.as_slice().get(place) {
+            Some(kind) => say_type_or_part(call, kind, args, answer),
             None => args.refuse(),
         },
-        b"part" => match d.types.as_slice().get(place) {
-            Some(kind) => say_part(kind, args, answer),
-            None => args.refuse(),
-        },
-        b"port" => match d.ports.as_slice().get(place) {
-            Some(port) => say_port(port, answer),
-            None => args.refuse(),
-        },
-        b"symbol" => match d.ports.as_slice().get(place) {
-            Some(port) => say_symbol_of(port, args, answer),
+        "port" | "symbol" => match d.ports.as_slice().get(place) {
+            Some(port) => say_port_or_symbol(call, port, args, answer),
             None => args.refuse(),
         },
         _ => return Err(Fault::NoCall),
     }
     Ok(())
+}
+
+fn say_type_or_part(call: &str, kind: &NamedType, args: &mut Args<'_>, answer: &mut Answer) {
+    if call == "type" {
+        say_type(kind, answer);
+    } else {
+        say_part(kind, args, answer);
+    }
+}
+
+fn say_port_or_symbol(call: &str, port: &PortDesc, args: &mut Args<'_>, answer: &mut Answer) {
+    if call == "port" {
+        say_port(port, answer);
+    } else {
+        say_symbol_of(port, args, answer);
+    }
 }
 
 fn say_machine(d: &Description, answer: &mut Answer) {

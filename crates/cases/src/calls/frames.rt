@@ -1,7 +1,7 @@
 //! Calls of ams_tcp.
 
 use crate::answer::Answer;
-use crate::args::Args;
+use crate::args::{Args, is_same};
 use crate::fault::Fault;
 use ads_base::{NoMemory, Octets};
 use ams_tcp::{Cut, Splitter, put_frame};
@@ -10,26 +10,26 @@ use std::alloc::Global;
 pub fn make(
     alloc: Global,
     splitter: &mut Splitter,
-    call: &[u8],
+    call: &str,
     args: &mut Args<'_>,
     answer: &mut Answer,
 ) -> Result<(), Fault> {
     match call {
-        b"new" => {
+        "new" => {
             *splitter = Splitter::new(alloc)?;
             answer.say("ok");
         }
-        b"feed" => {
+        "feed" => {
             splitter.feed(alloc, args.octets().as_slice())?;
             answer.say("ok");
         }
-        b"next" => say_cut(&splitter.next(alloc)?, answer),
-        b"broken" => match splitter.broken() {
+        "next" => say_cut(&splitter.next(alloc)?, answer),
+        "broken" => match splitter.broken() {
             Some(header) => answer.hex(&header),
             None => answer.say("none"),
         },
-        b"stream" => stream(alloc, args.octets().as_slice(), answer)?,
-        b"put_frame" => framed(alloc, args.octets().as_slice(), args, answer)?,
+        "stream" => stream(alloc, args.octets().as_slice(), answer)?,
+        "put_frame" => framed(alloc, args.octets().as_slice(), args, answer)?,
         _ => return Err(Fault::NoCall),
     }
     Ok(())
@@ -66,18 +66,30 @@ fn framed(
 // wherever it is cut.
 fn stream(alloc: Global, bytes: &[u8], answer: &mut Answer) -> Result<(), NoMemory> {
     let whole = in_pieces(alloc, bytes, bytes.len())?;
-    let bytewise = in_pieces(alloc, bytes, 1)?;
-    if bytewise.as_slice() != whole.as_slice() {
+    if !is_same_bytewise(alloc, bytes, whole.as_slice())? {
         answer.say("otherwise byte by byte");
     }
     for at in 0..bytes.len() {
-        let cut = in_two(alloc, bytes, at)?;
-        if cut.as_slice() != whole.as_slice() {
+        if !is_same_in_two(alloc, bytes, at, whole.as_slice())? {
             answer.name("otherwise where it is cut at", at as u64);
         }
     }
     answer.say_all(&whole);
     Ok(())
+}
+
+fn is_same_bytewise(alloc: Global, bytes: &[u8], whole: &[u8]) -> Result<bool, NoMemory> {
+    match in_pieces(alloc, bytes, 1) {
+        Ok(told) => Ok(is_same(told.as_slice(), whole)),
+        Err(e) => Err(e),
+    }
+}
+
+fn is_same_in_two(alloc: Global, bytes: &[u8], at: usize, whole: &[u8]) -> Result<bool, NoMemory> {
+    match in_two(alloc, bytes, at) {
+        Ok(told) => Ok(is_same(told.as_slice(), whole)),
+        Err(e) => Err(e),
+    }
 }
 
 fn in_two(alloc: Global, bytes: &[u8], at: usize) -> Result<Answer, NoMemory> {

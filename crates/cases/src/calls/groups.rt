@@ -6,11 +6,11 @@ use crate::fault::Fault;
 use index_groups::{AreaGroup, Reach, area_group, byte_group, reach};
 use type_layout::{Area, Sizes};
 
-pub fn make(call: &[u8], args: &mut Args<'_>, answer: &mut Answer) -> Result<(), Fault> {
+pub fn make(call: &str, args: &mut Args<'_>, answer: &mut Answer) -> Result<(), Fault> {
     match call {
-        b"reach" => reached(args, answer),
-        b"area_group" => group_known(args, answer),
-        b"byte_group" => bytes_named(args, answer),
+        "reach" => reached(args, answer),
+        "area_group" => group_known(args, answer),
+        "byte_group" => bytes_named(args, answer),
         _ => return Err(Fault::NoCall),
     }
     Ok(())
@@ -50,11 +50,11 @@ fn show_group(area: Area, kind: &str, answer: &mut Answer) {
 
 // An area: the group of its bytes.
 fn bytes_named(args: &mut Args<'_>, answer: &mut Answer) {
-    match args.word() {
-        b"inputs" => answer.tell_code(byte_group(Area::Inputs)),
-        b"outputs" => answer.tell_code(byte_group(Area::Outputs)),
-        b"memory" => answer.tell_code(byte_group(Area::Memory)),
-        b"data" => answer.tell_code(byte_group(Area::Process)),
+    match args.name() {
+        "inputs" => answer.tell_code(byte_group(Area::Inputs)),
+        "outputs" => answer.tell_code(byte_group(Area::Outputs)),
+        "memory" => answer.tell_code(byte_group(Area::Memory)),
+        "data" => answer.tell_code(byte_group(Area::Process)),
         _ => args.refuse(),
     }
 }

@@ -13,25 +13,25 @@ use type_layout::Area;
 pub fn make(
     alloc: Global,
     handles: &mut Handles,
-    call: &[u8],
+    call: &str,
     args: &mut Args<'_>,
     answer: &mut Answer,
 ) -> Result<(), Fault> {
     match call {
-        b"new" => {
+        "new" => {
             *handles = Handles::new(alloc)?;
             answer.say("ok");
         }
-        b"grant" => say_granted(handles.grant(alloc, args.u16(), place(args))?, answer),
-        b"fill" => fill(alloc, handles, args.u32(), answer)?,
-        b"look" => look(handles, args.u32(), args.u16(), answer),
-        b"looks" => looks(handles, args.u16(), answer),
-        b"release" => match handles.release(args.u32(), args.u16()) {
+        "grant" => say_granted(handles.grant(alloc, args.u16(), place(args))?, answer),
+        "fill" => fill(alloc, handles, args.u32(), answer)?,
+        "look" => look(handles, args.u32(), args.u16(), answer),
+        "looks" => looks(handles, args.u16(), answer),
+        "release" => match handles.release(args.u32(), args.u16()) {
             Ok(()) => answer.say("ok"),
             Err(code) => answer.tell_code(code.number()),
         },
-        b"moved" => moved(alloc, handles, args, answer)?,
-        b"moved_away" => {
+        "moved" => moved(alloc, handles, args, answer)?,
+        "moved_away" => {
             handles.moved(&Moves::build(alloc, &KeptList::new(alloc))?);
             answer.say("ok");
         }

@@ -6,11 +6,11 @@ use crate::fault::Fault;
 use ads_base::{AmsAddr, NetId};
 use ams_header::{Header, answer_of, put, read};
 
-pub fn make(call: &[u8], args: &mut Args<'_>, answer: &mut Answer) -> Result<(), Fault> {
+pub fn make(call: &str, args: &mut Args<'_>, answer: &mut Answer) -> Result<(), Fault> {
     match call {
-        b"read" => header_read(args, answer),
-        b"put" => header_put(args, answer),
-        b"answer_of" => answered(args, answer),
+        "read" => header_read(args, answer),
+        "put" => header_put(args, answer),
+        "answer_of" => answered(args, answer),
         _ => return Err(Fault::NoCall),
     }
     Ok(())

@@ -1,8 +1,11 @@
 //! Calls of type_layout.
 
+ghost use Rattle.ads_plant.specs.AcceptedTypes.{AreTypes};
+ghost use Rattle.type_layout.specs.NamedTypes.{types_of};
+
 use crate::answer::Answer;
 use crate::args::Args;
-use crate::calls::description::description_of;
+use crate::calls::description::types_of;
 use crate::fault::Fault;
 use ads_base::{NoMemory, Octets};
 use std::alloc::Global;
@@ -13,14 +16,14 @@ use type_layout::{
 
 pub fn make(
     alloc: Global,
-    call: &[u8],
+    call: &str,
     args: &mut Args<'_>,
     answer: &mut Answer,
 ) -> Result<(), Fault> {
     match call {
-        b"read_type_text" => type_read(args, answer),
-        b"type_text" => type_written(alloc, args, answer)?,
-        b"same_types" => types_compared(alloc, args, answer)?,
+        "read_type_text" => type_read(args, answer),
+        "type_text" => type_written(alloc, args, answer)?,
+        "same_types" => types_compared(alloc, args, answer)?,
         _ => return Err(Fault::NoCall),
     }
     Ok(())
@@ -36,22 +39,92 @@ fn type_read(args: &mut Args<'_>, answer: &mut Answer) {
 
 // A description, and a type text that names types of it: the canonical text.
 fn type_written(alloc: Global, args: &mut Args<'_>, answer: &mut Answer) -> Result<(), Fault> {
-    let description = description_of(alloc, args)?;
-    let shape = shape_of(alloc, &description.types, args)?;
+    let types = types_of(alloc, args)?;
+    shape_written(alloc, &types, args, answer)
+}
+
+fn shape_written(
+    alloc: Global,
+    types: &Types,
+    args: &mut Args<'_>,
+    answer: &mut Answer,
+) -> Result<(), Fault> {
+    let shape = shape_of(alloc, types, args)?;
+    say_type(alloc, types, shape.as_ref(), answer)
+}
+
+fn say_type(
+    alloc: Global,
+    types: &Types,
+    t: TypeRef<'_>,
+    answer: &mut Answer,
+) -> Result<(), Fault> {
     let mut out = Octets::new(alloc);
-    put_text(alloc, &description.types, shape.as_ref(), &mut out)?;
+    let put = put_text(alloc, types, t, &mut out);
     answer.quote(out.as_slice());
-    Ok(())
+    put
 }
 
 // Two descriptions, and a type text of each: whether the types are the same.
 fn types_compared(alloc: Global, args: &mut Args<'_>, answer: &mut Answer) -> Result<(), Fault> {
-    let old = description_of(alloc, args)?;
-    let new = description_of(alloc, args)?;
-    let same = SameTypes::build(alloc, &old.types, &new.types)?;
-    let a = shape_of(alloc, &old.types, args)?;
-    let b = shape_of(alloc, &new.types, args)?;
-    answer.tell_truth(same.is_same(a.as_ref(), b.as_ref()));
+    let old = types_of(alloc, args)?;
+    compared_with(alloc, &old, args, answer)
+}
+
+fn compared_with(
+    alloc: Global,
+    old: &Types,
+    args: &mut Args<'_>,
+    answer: &mut Answer,
+) -> Result<(), Fault>
+    requires old { AreTypes (types_of old.now) }
+{
+    let new = types_of(alloc, args)?;
+    shapes_compared(alloc, old, &new, args, answer)
+}
+
+fn shapes_compared(
+    alloc: Global,
+    old: &Types,
+    new: &Types,
+    args: &mut Args<'_>,
+    answer: &mut Answer,
+) -> Result<(), Fault>
+    requires old { AreTypes (types_of old.now) }
+    requires new { AreTypes (types_of new.now) }
+{
+    let shape = shape_of(alloc, old, args)?;
+    compared_to(alloc, old, new, &shape, args, answer)
+}
+
+fn compared_to(
+    alloc: Global,
+    old: &Types,
+    new: &Types,
+    shape: &Shape,
+    args: &mut Args<'_>,
+    answer: &mut Answer,
+) -> Result<(), Fault>
+    requires old { AreTypes (types_of old.now) }
+    requires new { AreTypes (types_of new.now) }
+{
+    let other = shape_of(alloc, new, args)?;
+    say_same(alloc, old, new, shape.as_ref(), other.as_ref(), answer)
+}
+
+fn say_same(
+    alloc: Global,
+    old: &Types,
+    new: &Types,
+    a: TypeRef<'_>,
+    b: TypeRef<'_>,
+    answer: &mut Answer,
+) -> Result<(), Fault>
+    requires old { AreTypes (types_of old.now) }
+    requires new { AreTypes (types_of new.now) }
+{
+    let same = SameTypes::build(alloc, old, new)?;
+    answer.tell_truth(same.is_same(a, b));
     Ok(())
 }
 

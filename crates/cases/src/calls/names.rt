@@ -9,17 +9,17 @@ use std::alloc::Global;
 
 pub fn make(
     alloc: Global,
-    call: &[u8],
+    call: &str,
     args: &mut Args<'_>,
     answer: &mut Answer,
 ) -> Result<(), Fault> {
     match call {
-        b"lower_copy" => {
+        "lower_copy" => {
             let text = args.octets();
             let lower = lower_copy(alloc, text.as_slice())?;
             answer.quote(lower.as_slice());
         }
-        b"names" => names(alloc, args, answer)?,
+        "names" => names(alloc, args, answer)?,
         _ => return Err(Fault::NoCall),
     }
     Ok(())
@@ -32,9 +32,9 @@ fn names(alloc: Global, args: &mut Args<'_>, answer: &mut Answer) -> Result<(), 
         if !args.has_more() {
             break;
         }
-        match args.word() {
-            b"add" => add(alloc, args, &mut index)?,
-            b"find" => find(&index, args, answer),
+        match args.name() {
+            "add" => add(alloc, args, &mut index)?,
+            "find" => find(&index, args, answer),
             _ => args.refuse(),
         }
     }

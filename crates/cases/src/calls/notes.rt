@@ -9,14 +9,14 @@ use std::alloc::Global;
 
 pub fn make(
     alloc: Global,
-    call: &[u8],
+    call: &str,
     args: &mut Args<'_>,
     answer: &mut Answer,
 ) -> Result<(), Fault> {
     match call {
-        b"read_note" => note_read(args, answer),
-        b"count_samples" => samples_counted(args, answer),
-        b"put_note" => note_put(alloc, args, answer)?,
+        "read_note" => note_read(args, answer),
+        "count_samples" => samples_counted(args, answer),
+        "put_note" => note_put(alloc, args, answer)?,
         _ => return Err(Fault::NoCall),
     }
     Ok(())

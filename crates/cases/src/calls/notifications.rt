@@ -32,29 +32,29 @@ const MOST_BYTES: u32 = 2048;
 pub fn make(
     alloc: Global,
     watches: &mut Watches,
-    call: &[u8],
+    call: &str,
     args: &mut Args<'_>,
     answer: &mut Answer,
 ) -> Result<(), Fault> {
     match call {
-        b"new" => {
+        "new" => {
             *watches = Watches::new(alloc)?;
             answer.say("ok");
         }
-        b"add" => add_one(alloc, watches, args, answer)?,
-        b"spec" => match watches.spec(args.u32()) {
+        "add" => add_one(alloc, watches, args, answer)?,
+        "spec" => match watches.spec(args.u32()) {
             Some(spec) => say_spec(&spec, answer),
             None => answer.say("none"),
         },
-        b"delete" => match watches.delete(args.u32(), args.u16()) {
+        "delete" => match watches.delete(args.u32(), args.u16()) {
             Ok(()) => answer.say("ok"),
             Err(code) => answer.tell_code(code.number()),
         },
-        b"due" => say_handles(&due(alloc, watches, args.u64())?, answer),
-        b"check" => check_one(alloc, watches, args, answer)?,
-        b"tick" => tick(alloc, watches, args.u64(), args.u64(), answer)?,
-        b"fill" => fill(alloc, watches, args, answer)?,
-        b"moved" => {
+        "due" => say_handles(&due(alloc, watches, args.u64())?, answer),
+        "check" => check_one(alloc, watches, args, answer)?,
+        "tick" => tick(alloc, watches, args.u64(), args.u64(), answer)?,
+        "fill" => fill(alloc, watches, args, answer)?,
+        "moved" => {
             let moves = moves(alloc)?;
             say_ended(watches.moved(alloc, &moves)?.as_slice(), answer);
         }
@@ -66,21 +66,21 @@ pub fn make(
 // PORT MODE CYCLE, and `bytes AREA AT LEN`, `bit AREA AT BIT` or `size AREA`.
 fn spec(args: &mut Args<'_>) -> Spec {
     let port = args.u16();
-    let mode = if args.word() == b"cycle".as_slice() {
+    let mode = if args.name() == "cycle" {
         Mode::Cycle
     } else {
         Mode::Change
     };
     let cycle = args.u32();
-    let kind = args.word();
+    let kind = args.name();
     let area = area(args);
     let reach = match kind {
-        b"bytes" => Reach::Bytes {
+        "bytes" => Reach::Bytes {
             area,
             at: args.u32(),
             len: args.u32(),
         },
-        b"bit" => Reach::Bit {
+        "bit" => Reach::Bit {
             area,
             at: args.u32(),
             bit: args.u8(),

@@ -5,13 +5,13 @@ use crate::args::Args;
 use crate::fault::Fault;
 use name_paths::{Indexes, Path, Step, is_identifier, is_symbol_name, read_number};
 
-pub fn make(call: &[u8], args: &mut Args<'_>, answer: &mut Answer) -> Result<(), Fault> {
+pub fn make(call: &str, args: &mut Args<'_>, answer: &mut Answer) -> Result<(), Fault> {
     match call {
-        b"is_identifier" => answer.tell_truth(is_identifier(args.octets().as_slice())),
-        b"is_symbol_name" => answer.tell_truth(is_symbol_name(args.octets().as_slice())),
-        b"read_number" => number_read(args, answer),
-        b"path" => path_read(args, answer),
-        b"path.step" => step_read(args, answer),
+        "is_identifier" => answer.tell_truth(is_identifier(args.octets().as_slice())),
+        "is_symbol_name" => answer.tell_truth(is_symbol_name(args.octets().as_slice())),
+        "read_number" => number_read(args, answer),
+        "path" => path_read(args, answer),
+        "path.step" => step_read(args, answer),
         _ => return Err(Fault::NoCall),
     }
     Ok(())

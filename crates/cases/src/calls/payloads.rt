@@ -14,15 +14,15 @@ const GREATEST_DATA: usize = 2_000_000;
 
 pub fn make(
     alloc: Global,
-    call: &[u8],
+    call: &str,
     args: &mut Args<'_>,
     answer: &mut Answer,
 ) -> Result<(), Fault> {
     match call {
-        b"read_request" => requests::request_read(args, answer),
-        b"put_request" => requests::request_put(alloc, args, answer)?,
-        b"read_reply" => replies::reply_read(args, answer),
-        b"put_reply" => replies::reply_put(alloc, args, answer)?,
+        "read_request" => requests::request_read(args, answer),
+        "put_request" => requests::request_put(alloc, args, answer)?,
+        "read_reply" => replies::reply_read(args, answer),
+        "put_reply" => replies::reply_put(alloc, args, answer)?,
         _ => return Err(Fault::NoCall),
     }
     Ok(())

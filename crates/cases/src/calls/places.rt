@@ -14,11 +14,11 @@ use type_layout::Area;
 
 /// The next word as an area.
 pub fn area(args: &mut Args<'_>) -> Area {
-    match args.word() {
-        b"inputs" => Area::Inputs,
-        b"outputs" => Area::Outputs,
-        b"memory" => Area::Memory,
-        b"data" => Area::Process,
+    match args.name() {
+        "inputs" => Area::Inputs,
+        "outputs" => Area::Outputs,
+        "memory" => Area::Memory,
+        "data" => Area::Process,
         _ => {
             args.refuse();
             Area::Process

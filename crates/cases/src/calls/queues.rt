@@ -10,28 +10,28 @@ use std::alloc::Global;
 pub fn make(
     alloc: Global,
     queue: &mut OutQueue,
-    call: &[u8],
+    call: &str,
     args: &mut Args<'_>,
     answer: &mut Answer,
 ) -> Result<(), Fault> {
     match call {
-        b"new" => {
+        "new" => {
             *queue = OutQueue::new(alloc)?;
             answer.say("ok");
         }
-        b"push" => answer.say(match queue.push(alloc, args.octets().as_slice())? {
+        "push" => answer.say(match queue.push(alloc, args.octets().as_slice())? {
             Pushed::Done => "done",
             Pushed::Over => "over",
         }),
-        b"front" => match queue.front() {
+        "front" => match queue.front() {
             Some(left) => answer.hex(left),
             None => answer.say("none"),
         },
-        b"took" => match took(queue, args.u32()) {
+        "took" => match took(queue, args.u32()) {
             Some(n) => answer.tell(u64::from(n)),
             None => answer.say("none"),
         },
-        b"pass" => match first_lost(alloc, queue, args.u32())? {
+        "pass" => match first_lost(alloc, queue, args.u32())? {
             Some(number) => answer.name("lost", u64::from(number)),
             None => answer.say("all"),
         },

@@ -19,26 +19,26 @@ pub fn reply_read(args: &mut Args<'_>, answer: &mut Answer) {
 
 // The reply's name, its result, its numbers and its data.
 pub fn reply_put(alloc: Global, args: &mut Args<'_>, answer: &mut Answer) -> Result<(), NoMemory> {
-    let name = args.word();
+    let name = args.name();
     let code = args.u32();
     let mut out = Octets::new(alloc);
     match name {
-        b"info" => put_info(alloc, code, args, &mut out)?,
-        b"read" => put_reply(
+        "info" => put_info(alloc, code, args, &mut out)?,
+        "read" => put_reply(
             alloc,
             &Reply::Read(code, data_of(alloc, args).as_slice()),
             &mut out,
         )?,
-        b"read_write" => put_reply(
+        "read_write" => put_reply(
             alloc,
             &Reply::ReadWrite(code, data_of(alloc, args).as_slice()),
             &mut out,
         )?,
-        b"write" => put_reply(alloc, &Reply::Write(code), &mut out)?,
-        b"control" => put_reply(alloc, &Reply::Control(code), &mut out)?,
-        b"delete" => put_reply(alloc, &Reply::Delete(code), &mut out)?,
-        b"state" => put_reply(alloc, &Reply::State(code, args.u16(), args.u16()), &mut out)?,
-        b"add" => put_reply(alloc, &Reply::Add(code, args.u32()), &mut out)?,
+        "write" => put_reply(alloc, &Reply::Write(code), &mut out)?,
+        "control" => put_reply(alloc, &Reply::Control(code), &mut out)?,
+        "delete" => put_reply(alloc, &Reply::Delete(code), &mut out)?,
+        "state" => put_reply(alloc, &Reply::State(code, args.u16(), args.u16()), &mut out)?,
+        "add" => put_reply(alloc, &Reply::Add(code, args.u32()), &mut out)?,
         _ => args.refuse(),
     }
     answer.hex(out.as_slice());

@@ -25,16 +25,16 @@ pub fn request_put(
     answer: &mut Answer,
 ) -> Result<(), NoMemory> {
     let mut out = Octets::new(alloc);
-    match args.word() {
-        b"device_info" => put_request(alloc, &Request::DeviceInfo, &mut out)?,
-        b"state" => put_request(alloc, &Request::State, &mut out)?,
-        b"read" => put_read(alloc, args, &mut out)?,
-        b"write" => put_write(alloc, args, &mut out)?,
-        b"control" => put_control(alloc, args, &mut out)?,
-        b"add" => put_add(alloc, args, &mut out)?,
-        b"delete" => put_delete(alloc, args, &mut out)?,
-        b"note" => put_note(alloc, args, &mut out)?,
-        b"read_write" => put_read_write(alloc, args, &mut out)?,
+    match args.name() {
+        "device_info" => put_request(alloc, &Request::DeviceInfo, &mut out)?,
+        "state" => put_request(alloc, &Request::State, &mut out)?,
+        "read" => put_read(alloc, args, &mut out)?,
+        "write" => put_write(alloc, args, &mut out)?,
+        "control" => put_control(alloc, args, &mut out)?,
+        "add" => put_add(alloc, args, &mut out)?,
+        "delete" => put_delete(alloc, args, &mut out)?,
+        "note" => put_note(alloc, args, &mut out)?,
+        "read_write" => put_read_write(alloc, args, &mut out)?,
         _ => args.refuse(),
     }
     answer.hex(out.as_slice());

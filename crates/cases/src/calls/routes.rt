@@ -11,12 +11,12 @@ use type_layout::{Rights, RouteDesc, Routes4};
 
 pub fn make(
     alloc: Global,
-    call: &[u8],
+    call: &str,
     args: &mut Args<'_>,
     answer: &mut Answer,
 ) -> Result<(), Fault> {
     match call {
-        b"routes" => routes(alloc, args, answer)?,
+        "routes" => routes(alloc, args, answer)?,
         _ => return Err(Fault::NoCall),
     }
     Ok(())
@@ -54,10 +54,10 @@ fn routes_of(alloc: Global, args: &mut Args<'_>) -> Result<Routes4, NoMemory> {
 }
 
 fn rights_of(args: &mut Args<'_>) -> Rights {
-    match args.word() {
-        b"read" => Rights::Read,
-        b"write" => Rights::Write,
-        b"control" => Rights::Control,
+    match args.name() {
+        "read" => Rights::Read,
+        "write" => Rights::Write,
+        "control" => Rights::Control,
         _ => {
             args.refuse();
             Rights::Read

@@ -13,15 +13,15 @@ const LIMIT: usize = 16_777_216;
 
 pub fn make(
     alloc: Global,
-    call: &[u8],
+    call: &str,
     args: &mut Args<'_>,
     answer: &mut Answer,
 ) -> Result<(), Fault> {
     match call {
-        b"read_script" => read(alloc, args, answer)?,
-        b"log_text" => log(alloc, args, answer)?,
-        b"summary_text" => summary(alloc, args, answer)?,
-        b"put_counted" => counted(alloc, args, answer)?,
+        "read_script" => read(alloc, args, answer)?,
+        "log_text" => log(alloc, args, answer)?,
+        "summary_text" => summary(alloc, args, answer)?,
+        "put_counted" => counted(alloc, args, answer)?,
         _ => return Err(Fault::NoCall),
     }
     Ok(())
@@ -65,14 +65,14 @@ fn say_event(event: &Event, answer: &mut Answer) {
 }
 
 /// An event: its word, and what belongs to it.
-pub fn event_of(word: &[u8], args: &mut Args<'_>) -> Event {
+pub fn event_of(word: &str, args: &mut Args<'_>) -> Event {
     match word {
-        b"opened" => Event::Opened(args.u32()),
-        b"piece" => Event::Piece(args.u32(), args.octets()),
-        b"closed" => Event::Closed(args.u32()),
-        b"tick" => Event::Tick(args.u64()),
-        b"reload" => Event::Reload(args.octets()),
-        b"writable" => Event::Writable(args.u32()),
+        "opened" => Event::Opened(args.u32()),
+        "piece" => Event::Piece(args.u32(), args.octets()),
+        "closed" => Event::Closed(args.u32()),
+        "tick" => Event::Tick(args.u64()),
+        "reload" => Event::Reload(args.octets()),
+        "writable" => Event::Writable(args.u32()),
         _ => {
             args.refuse();
             Event::Tick(0)
@@ -89,9 +89,9 @@ fn log(alloc: Global, args: &mut Args<'_>, answer: &mut Answer) -> Result<(), No
         if !args.has_more() {
             break;
         }
-        match args.word() {
-            b"ok" => notes.push(alloc, ReloadNote::Ok(args.u8()))?,
-            b"refused" => notes.push(alloc, ReloadNote::Refused(args.u8()))?,
+        match args.name() {
+            "ok" => notes.push(alloc, ReloadNote::Ok(args.u8()))?,
+            "refused" => notes.push(alloc, ReloadNote::Refused(args.u8()))?,
             word => log.push(alloc, move_of(word, args))?,
         }
     }
@@ -101,11 +101,11 @@ fn log(alloc: Global, args: &mut Args<'_>, answer: &mut Answer) -> Result<(), No
     Ok(())
 }
 
-fn move_of(word: &[u8], args: &mut Args<'_>) -> Move {
+fn move_of(word: &str, args: &mut Args<'_>) -> Move {
     match word {
-        b"took" => Move::Took(args.u32(), args.u32(), args.octets()),
-        b"lost" => Move::Lost(args.u32()),
-        b"shut" => Move::Shut(args.u32()),
+        "took" => Move::Took(args.u32(), args.u32(), args.octets()),
+        "lost" => Move::Lost(args.u32()),
+        "shut" => Move::Shut(args.u32()),
         _ => Move::Event(event_of(word, args)),
     }
 }

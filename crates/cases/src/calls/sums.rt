@@ -12,13 +12,13 @@ use sum_commands::{PartService, run_sum};
 
 pub fn make(
     alloc: Global,
-    call: &[u8],
+    call: &str,
     args: &mut Args<'_>,
     answer: &mut Answer,
 ) -> Result<(), Fault> {
     match call {
-        b"run_sum" => run(alloc, args, answer)?,
-        b"zeros" => zeros(alloc, args, answer)?,
+        "run_sum" => run(alloc, args, answer)?,
+        "zeros" => zeros(alloc, args, answer)?,
         _ => return Err(Fault::NoCall),
     }
     Ok(())

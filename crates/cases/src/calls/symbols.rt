@@ -9,14 +9,14 @@ use symbol_info::{Entry, put_entry, read_entry};
 
 pub fn make(
     alloc: Global,
-    call: &[u8],
+    call: &str,
     args: &mut Args<'_>,
     answer: &mut Answer,
 ) -> Result<(), Fault> {
     match call {
-        b"read_entry" => entry_read(args, answer),
-        b"read_entries" => entries_read(args, answer),
-        b"put_entry" => entry_put(alloc, args, answer)?,
+        "read_entry" => entry_read(args, answer),
+        "read_entries" => entries_read(args, answer),
+        "put_entry" => entry_put(alloc, args, answer)?,
         _ => return Err(Fault::NoCall),
     }
     Ok(())

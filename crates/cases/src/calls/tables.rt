@@ -21,13 +21,13 @@ use type_layout::{Area, PortDesc, Sizes, Types};
 
 pub fn make(
     alloc: Global,
-    call: &[u8],
+    call: &str,
     args: &mut Args<'_>,
     answer: &mut Answer,
 ) -> Result<(), Fault> {
     match call {
-        b"moves.place" => moved_place(alloc, args, answer)?,
-        b"moves.span" => moved_span(alloc, args, answer)?,
+        "moves.place" => moved_place(alloc, args, answer)?,
+        "moves.span" => moved_span(alloc, args, answer)?,
         _ => of_port(alloc, call, args, answer)?,
     }
     Ok(())
@@ -36,7 +36,7 @@ pub fn make(
 // DESCRIPTION PORT, and what is asked of the port's table.
 fn of_port(
     alloc: Global,
-    call: &[u8],
+    call: &str,
     args: &mut Args<'_>,
     answer: &mut Answer,
 ) -> Result<(), Fault> {
@@ -58,7 +58,7 @@ fn of_table(
     alloc: Global,
     port: &PortDesc,
     types: &Types,
-    call: &[u8],
+    call: &str,
     args: &mut Args<'_>,
     answer: &mut Answer,
 ) -> Result<(), Fault>
@@ -66,15 +66,15 @@ fn of_table(
 {
     let table = Table::build(alloc, port, types)?;
     match call {
-        b"find" => find(&table, types, args, answer),
-        b"find_all" => find_all(&table, types, args, answer),
-        b"named" => match table.named(alloc, args.octets().as_slice())? {
+        "find" => find(&table, types, args, answer),
+        "find_all" => find_all(&table, types, args, answer),
+        "named" => match table.named(alloc, args.octets().as_slice())? {
             Some(number) => answer.tell(u64::from(number)),
             None => answer.say("none"),
         },
-        b"tile" => tile(&table, port.sizes, args, answer),
-        b"symbols_in" => symbols_in(&table, port.sizes, args, answer),
-        b"by_place" => say_numbers(table.by_place(), answer),
+        "tile" => tile(&table, port.sizes, args, answer),
+        "symbols_in" => symbols_in(&table, port.sizes, args, answer),
+        "by_place" => say_numbers(table.by_place(), answer),
         _ => return Err(Fault::NoCall),
     }
     Ok(())

@@ -10,14 +10,14 @@ use type_upload::{TypeEntry, put_types, read_type};
 
 pub fn make(
     alloc: Global,
-    call: &[u8],
+    call: &str,
     args: &mut Args<'_>,
     answer: &mut Answer,
 ) -> Result<(), Fault> {
     match call {
-        b"read_type" => type_read(args, answer),
-        b"read_types" => types_read(args, answer),
-        b"put_types" => types_put(alloc, args, answer)?,
+        "read_type" => type_read(args, answer),
+        "read_types" => types_read(args, answer),
+        "put_types" => types_put(alloc, args, answer)?,
         _ => return Err(Fault::NoCall),
     }
     Ok(())

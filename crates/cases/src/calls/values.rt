@@ -1,7 +1,9 @@
 //! Calls of value_text.
 
+ghost use Rattle.std.specs.Prelude.{◌≤◌, length};
+
 use crate::answer::Answer;
-use crate::args::Args;
+use crate::args::{Args, is_same};
 use crate::fault::Fault;
 use ads_base::{NoMemory, Octets};
 use std::alloc::Global;
@@ -12,14 +14,14 @@ const GREATEST_VALUE: u32 = 1_048_576;
 
 pub fn make(
     alloc: Global,
-    call: &[u8],
+    call: &str,
     args: &mut Args<'_>,
     answer: &mut Answer,
 ) -> Result<(), Fault> {
     match call {
-        b"to_text" => value_written(alloc, args, answer)?,
-        b"from_text" => text_read(alloc, args, answer)?,
-        b"there_and_back" => back_again(alloc, args, answer)?,
+        "to_text" => value_written(alloc, args, answer)?,
+        "from_text" => text_read(alloc, args, answer)?,
+        "there_and_back" => back_again(alloc, args, answer)?,
         _ => return Err(Fault::NoCall),
     }
     Ok(())
@@ -59,13 +61,32 @@ fn back_again(alloc: Global, args: &mut Args<'_>, answer: &mut Answer) -> Result
         args.refuse();
         return Ok(());
     }
+    written_and_read(alloc, id, value.as_slice(), answer)
+}
+
+fn written_and_read(
+    alloc: Global,
+    id: u32,
+    value: &[u8],
+    answer: &mut Answer,
+) -> Result<(), NoMemory>
+    requires { length value.now ≤ 1048576 }
+{
     let mut text = Octets::new(alloc);
-    to_text(alloc, id, value.as_slice(), &mut text)?;
+    to_text(alloc, id, value, &mut text)?;
     answer.name("text", text.len() as u64);
-    match from_text(alloc, id, value.len() as u32, text.as_slice())? {
-        Some(again) if again.as_slice() == value.as_slice() => answer.say("same"),
+    say_again(
+        from_text(alloc, id, value.len() as u32, text.as_slice())?,
+        value,
+        answer,
+    );
+    Ok(())
+}
+
+fn say_again(again: Option<Octets>, value: &[u8], answer: &mut Answer) {
+    match again {
+        Some(again) if is_same(again.as_slice(), value) => answer.say("same"),
         Some(again) => answer.hex(again.as_slice()),
         None => answer.say("none"),
     }
-    Ok(())
 }

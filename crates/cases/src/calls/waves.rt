@@ -20,12 +20,12 @@ enum Wanted {
 
 pub fn make(
     alloc: Global,
-    call: &[u8],
+    call: &str,
     args: &mut Args<'_>,
     answer: &mut Answer,
 ) -> Result<(), Fault> {
     match call {
-        b"bank" => bank(alloc, args, answer),
+        "bank" => bank(alloc, args, answer),
         _ => Err(Fault::NoCall),
     }
 }
@@ -57,14 +57,14 @@ fn bank(alloc: Global, args: &mut Args<'_>, answer: &mut Answer) -> Result<(), F
 fn wanted_signals(alloc: Global, args: &mut Args<'_>) -> Result<Vec<Wanted>, Fault> {
     let mut wanted = Vec::new(alloc);
     for _ in 0..usize::MAX {
-        match args.word() {
-            b"ramp" => wanted.push(Wanted::Ramp(args.u32()))?,
-            b"square" => wanted.push(Wanted::Square(args.u64(), args.u64(), args.u32()))?,
-            b"table" => {
+        match args.name() {
+            "ramp" => wanted.push(Wanted::Ramp(args.u32()))?,
+            "square" => wanted.push(Wanted::Square(args.u64(), args.u64(), args.u32()))?,
+            "table" => {
                 let values = values_of(alloc, args)?;
                 wanted.push(Wanted::Table(values))?;
             }
-            b"step" => break,
+            "step" => break,
             _ => return Err(Fault::BadArgument),
         }
     }

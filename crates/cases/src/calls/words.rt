@@ -9,12 +9,12 @@ use std::alloc::Global;
 
 pub fn make(
     alloc: Global,
-    call: &[u8],
+    call: &str,
     args: &mut Args<'_>,
     answer: &mut Answer,
 ) -> Result<(), Fault> {
     match call {
-        b"read_words" => read(alloc, args, answer)?,
+        "read_words" => read(alloc, args, answer)?,
         _ => return Err(Fault::NoCall),
     }
     Ok(())
