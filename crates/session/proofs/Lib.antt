@@ -15,3 +15,6 @@ pub mod TickAgreed
 pub mod SingleLemmas
 pub mod WatchedReach
 pub mod WatchingLemmas
+pub mod FrameLemmas
+pub mod CheckLemmas
+pub mod ReplyLemmas

@@ -12,3 +12,5 @@ pub mod NoteFrames
 pub mod NoteGroups
 pub mod Checks
 pub mod Watching
+pub mod PacketChecks
+pub mod Runs

@@ -1,6 +1,9 @@
 //! The session of one client: what it sends is cut into frames, and each is answered from the ports.
 #![tactic(auto)]
 
+mod checks;
+mod examined;
+mod framing;
 mod granting;
 mod groups;
 mod looking;
@@ -9,6 +12,8 @@ mod notes_group;
 mod notes_groups;
 mod notes_head;
 mod reading;
+mod replies;
+mod room;
 mod session;
 mod single;
 mod take;

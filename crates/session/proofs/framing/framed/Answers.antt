@@ -1,0 +1,15 @@
+use Rattle.std.proofs.Common.{◌≡◌, refl, rules, [], ◌∷◌, ap, ◌∙◌, length, ◌-◌}
+use Rattle.std.specs.Int.{w32, to_le_bytes}
+use Rattle.ams_header.specs.Header.{ams_header_of}
+use Rattle.ads_formats.specs.Header.{header_bytes, response_header}
+use Rattle.session.proofs.FrameLemmas.{framed-is}
+use Rattle.session.proofs.framing.framed.Goals as goal
+
+pub returns-clause-frame : goal.returns-clause-frame
+returns-clause-frame c =
+    let le : c.to_le_bytes.result ≡ to_le_bytes w32 (length c.args.out - 6) = c.to_le_bytes.ensures ∙ ap (λ n. to_le_bytes w32 (n - 6)) c.len-total.ensures in
+    let header : c.put.new.out ≡ header_bytes (response_header (ams_header_of c.args.h.now) c.args.error (length c.args.out - 38)) =
+    c.put.ensures ∙ ap header_bytes (c.answer_of.ensures ∙ ap (λ n. response_header (ams_header_of c.args.h.now) c.args.error (n - 38)) c.len-total.ensures) in
+    let long : length c.put.new.out ≡ 32 = search rules in
+    framed-is (ams_header_of c.args.h.now) c.args.error c.args.out c.write_at.new.out c.write_at-2.new.out c.write_at-3.new.out (0 ∷ 0 ∷ []) c.to_le_bytes.result
+    c.put.new.out c.requires refl le header long c.write_at.ensures c.write_at-2.ensures c.write_at-3.ensures

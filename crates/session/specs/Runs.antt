@@ -1,0 +1,58 @@
+-- What a request comes to once its packet has passed the checks. No public clause cites this file.
+use Rattle.std.specs.Prelude.{◌≡◌, ℕ, List, [], ◌++◌}
+use Rattle.ads_plant.specs.World.{Block}
+use Rattle.ads_formats.specs.Request.{Request, command_of}
+use Rattle.ads_machine.specs.World.{setup_of}
+use Rattle.ads_machine.specs.Acts.{Act, Outcome, outcomes_of, memory_after_acts, client_after_acts}
+use Rattle.ads_machine.specs.Answers.{all_answered}
+use Rattle.ads_machine.specs.Decisions.{Decision, NoAnswer, EndConnection, AmsError, Perform, acts_in}
+use Rattle.ads_machine.specs.Replies.{outcome_in_all, reply_payload}
+use Rattle.ads_machine.specs.SumPackets.{decide_request}
+use Rattle.ads_base.specs.declared.ams_addr.AmsAddr.{AmsAddr}
+use Rattle.ams_header.specs.Header.{address_of}
+use Rattle.type_layout.specs.declared.description.Rights.{Rights}
+use Rattle.type_layout.specs.Descriptions.{rights_of}
+use Rattle.port_device.specs.PortMemory.{PortMemory}
+use Rattle.port_device.specs.Holds.{HoldsPort}
+use Rattle.session.specs.Asking.{Asking, outcome_asked, asking_after}
+use Rattle.session.specs.SessionState.{SessionState}
+use Rattle.session.specs.StandsFor.{StandsFor}
+
+-- a port and a session stand for a client who asks
+pub record AsksSession (a : Asking) (port : PortMemory) (s : SessionState) : Type 0 where
+  pub held : HoldsPort a.world a.asker.port port
+  pub stands : StandsFor a.world.plant a.client s
+
+-- the address and the rights of one who asks
+pub record IsFrom (a : Asking) (source : AmsAddr) (rights : Rights) : Type 0 where
+  pub address : a.asker.address ≡ address_of source
+  pub rights_are : a.asker.rights ≡ rights_of rights
+
+-- a single request is run: its reply's payload, and what it leaves
+pub record RunsSingle (a : Asking) (r : Request) (old new : List ℕ) (port : PortMemory) (s : SessionState) : Type 0 where
+  pub reply : new ≡ old ++ reply_payload (command_of r) (outcome_asked a r)
+  pub after : AsksSession (asking_after a r) port s
+
+-- what the request of a packet leads to
+abbrev pub decision_of : Asking → Request → Decision
+decision_of a r = decide_request all_answered (setup_of a.world) a.client a.asker r
+
+-- how a decision ends over these bytes
+abbrev pub ending_of : Decision → List Block → Outcome
+ending_of (Perform acts form) memory = outcome_in_all form (outcomes_of memory acts)
+ending_of NoAnswer memory = record { code = 0; bytes = [] }
+ending_of EndConnection memory = record { code = 0; bytes = [] }
+ending_of (AmsError code) memory = record { code = code; bytes = [] }
+
+-- the asking after acts
+abbrev pub after_acts : Asking → List Act → Asking
+after_acts a acts = let w = a.world in record {
+  world = record w { memory = memory_after_acts w.memory acts };
+  client = client_after_acts a.client acts;
+  asker = a.asker;
+}
+
+-- the request of a packet is run: its reply's payload, and what it leaves
+pub record Runs (a : Asking) (r : Request) (old new : List ℕ) (port : PortMemory) (s : SessionState) : Type 0 where
+  pub reply : new ≡ old ++ reply_payload (command_of r) (ending_of (decision_of a r) a.world.memory)
+  pub after : AsksSession (after_acts a (acts_in (decision_of a r))) port s

@@ -1,0 +1,32 @@
+//! What the checks of a packet say.
+
+use ads_commands::Request;
+use ams_header::Header;
+use return_codes::Code;
+use type_layout::Rights;
+
+/// Whether a check stops a packet, and what the packet then comes to.
+#[derive(Clone, Copy)]
+pub(crate) enum Stop {
+    /// None does.
+    Passed,
+    /// It gets no answer.
+    Silent,
+    /// It ends the connection.
+    Close,
+    /// It gets an AMS error.
+    Error(Code),
+    /// Its request is refused for its size, 0x705.
+    Refused,
+}
+
+/// What a packet comes to before its request is run.
+#[derive(Clone, Copy)]
+pub(crate) enum Examined<'a> {
+    Silent,
+    Close,
+    Error(Header, Code),
+    Refused(Header),
+    /// A request from a source with these rights, to a port that is there.
+    Asked(Header, Rights, Request<'a>),
+}

@@ -1,0 +1,29 @@
+//! The frame of an answer.
+
+ghost use Rattle.std.specs.Prelude.{◌≡◌, ◌≤◌, ◌<◌, ◌^◌, length, drop, IfOk};
+ghost use Rattle.ads_frames.specs.Frame.{frame_bytes};
+ghost use Rattle.ads_machine.specs.Replies.{response_packet};
+ghost use Rattle.ams_header.specs.Header.{ams_header_of};
+
+use crate::room::write_at;
+use ads_base::{NoMemory, Octets};
+use ams_header::{Header, answer_of, put};
+
+/// Fills in the headers in front of an answer's payload. A frame whose length does not fit 32 bits finds no memory.
+pub(crate) fn framed(h: &Header, error: u32, out: Octets) -> Result<Octets, NoMemory>
+    requires { 38 ≤ length out }
+    ensures frame { IfOk result (λ frame. frame ≡ frame_bytes (response_packet (ams_header_of h.now) error (drop 38 out))) }
+    ensures fits { IfOk result (λ frame. (38 ≤ length frame) × (length frame < 2 ^ 32)) }
+{
+    let total = out.len();
+    if total > u32::MAX as usize {
+        return Err(NoMemory);
+    }
+    let mut frame = out;
+    write_at(&mut frame, 0, &[0, 0]);
+    write_at(&mut frame, 2, &((total - 6) as u32).to_le_bytes());
+    let mut header = [0; 32];
+    put(&answer_of(h, error, (total - 38) as u32), &mut header);
+    write_at(&mut frame, 6, &header);
+    Ok(frame)
+}

@@ -1,0 +1,89 @@
+//! The payloads of replies that have data: Read and ReadWrite.
+
+ghost use Rattle.std.specs.Prelude.{◌≡◌, ◌≤◌, ◌+◌, ◌-◌, ◌++◌, length, take, drop, OnOk};
+ghost use Rattle.std.specs.Int.{w32, to_le_bytes};
+ghost use Rattle.ads_formats.specs.Request.{Read, ReadWrite};
+ghost use Rattle.ads_machine.specs.Answers.{READ, READ_WRITE};
+ghost use Rattle.ads_machine.specs.Replies.{reply_payload};
+ghost use Rattle.sum_commands.specs.Parts.{code_in};
+ghost use Rattle.session.specs.Asking.{Asking, outcome_asked, asking_after};
+ghost use Rattle.session.specs.Asks.{Asks, SomeAsks};
+
+use crate::room::{put_room, write_at};
+use crate::{granting, reading};
+use ads_base::{NoMemory, Octets};
+use port_device::Port;
+use return_codes::Code;
+use std::alloc::Global;
+use sym_handles::Handles;
+
+/// 0, or the number of the code that refuses.
+pub(crate) fn number_in(answer: Result<(), Code>) -> u32
+    ensures { result ≡ code_in answer }
+{
+    match answer {
+        Ok(()) => 0,
+        Err(code) => code.number(),
+    }
+}
+
+/// Fills in the result and the length in front of the data that stands behind them.
+pub(crate) fn fill_front(out: &mut Octets, start: usize, number: u32)
+    requires there { start + 8 ≤ length out.old }
+    requires short { length out.old ≤ start + 8 + 4294967295 }
+    ensures { out.new ≡ take start out.old ++ (to_le_bytes w32 number
+        ++ (to_le_bytes w32 (length out.old - (start + 8)) ++ drop (start + 8) out.old)) }
+{
+    let len = (out.len() - (start + 8)) as u32;
+    write_at(out, start, &number.to_le_bytes());
+    write_at(out, start + 4, &len.to_le_bytes());
+}
+
+/// Appends the payload of the reply to a Read: result 4, length 4, data.
+pub(crate) fn read_reply(
+    alloc: Global,
+    handles: &Handles,
+    port: &Port,
+    number: u16,
+    group: u32,
+    offset: u32,
+    len: u32,
+    out: &mut Octets,
+) -> Result<(), NoMemory>
+    requires some { SomeAsks port.now handles.now }
+    requires number { number ≡ port.now.number }
+    ensures { OnOk result ((a : Asking) → Asks a port.now handles.now
+        → out.new ≡ out.old ++ reply_payload READ (outcome_asked a (Read group offset len))) }
+{
+    let start = out.len();
+    put_room(alloc, out, 8)?;
+    let answer = reading::read(alloc, handles, port, number, group, offset, len, out)?;
+    fill_front(out, start, number_in(answer));
+    Ok(())
+}
+
+/// Appends the payload of the reply to a ReadWrite: result 4, length 4, data.
+pub(crate) fn read_write_reply(
+    alloc: Global,
+    handles: &mut Handles,
+    port: &Port,
+    number: u16,
+    group: u32,
+    offset: u32,
+    len: u32,
+    bytes: &[u8],
+    out: &mut Octets,
+) -> Result<(), NoMemory>
+    requires some { SomeAsks port.now handles.old }
+    requires number { number ≡ port.now.number }
+    ensures reply { OnOk result ((a : Asking) → Asks a port.now handles.old
+        → out.new ≡ out.old ++ reply_payload READ_WRITE (outcome_asked a (ReadWrite group offset len bytes.now))) }
+    ensures leaves { OnOk result ((a : Asking) → Asks a port.now handles.old
+        → Asks (asking_after a (ReadWrite group offset len bytes.now)) port.now handles.new) }
+{
+    let start = out.len();
+    put_room(alloc, out, 8)?;
+    let answer = granting::read_write(alloc, handles, port, number, group, offset, len, bytes, out)?;
+    fill_front(out, start, number_in(answer));
+    Ok(())
+}
