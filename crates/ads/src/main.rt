@@ -4,5 +4,5 @@
 use std::process::ExitCode;
 
 fn main(rt: HostRuntime) -> ExitCode {
-    ExitCode::from(ads_run::status_of(&rt).number())
+    ExitCode::from(ads_run::status_of(&rt, &rt).number())
 }

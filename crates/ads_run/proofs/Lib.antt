@@ -1,11 +1,4 @@
+pub mod ReadingLemmas
 pub mod EndLemmas
-pub mod DecidedLemmas
-pub mod FramesLemmas
-pub mod WholePlayLemmas
-pub mod FreshLemmas
-pub mod PlayLemmas
-pub mod ServeLemmas
-pub mod TextLemmas
-pub mod TurnLemmas
-pub mod UnderWayLemmas
+pub mod PromiseLemmas
 pub mod ToldLemmas

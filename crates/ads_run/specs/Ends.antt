@@ -1,9 +1,7 @@
 -- How a run may end, and what it has then printed.
-use Rattle.std.specs.Prelude.{◌≡◌, ◌⊎◌, ℕ, List, ◌++◌, Option, Some, None}
-use Rattle.ads_outside.specs.declared.named_file.NamedFile.{NamedFile}
+use Rattle.std.specs.Prelude.{◌≡◌, ◌⊎◌, ℕ, List}
 use Rattle.ads_outside.specs.declared.put.Put.{Put}
 use Rattle.ads_outside.specs.declared.put.Put.TheVariants as put
-use Rattle.ads_outside.specs.FilesState.{ReadsSome, ReadsAll}
 use Rattle.ads_outside.specs.Puts.{Puts}
 use Rattle.ads_outside.specs.SinkState.{SinkState, NeverFalls}
 use Rattle.ads_run.specs.declared.status.Status.{Status}
@@ -32,12 +30,3 @@ PrintsVerdict verdict s old new =
 abbrev pub EndsBy : Verdict → Type 0 → Status → SinkState → SinkState → Type 0
 EndsBy verdict reading_failed s old new =
     PrintsVerdict verdict s old new ⊎ (reading_failed × PrintsVerdict (ended status.ReadFault) s old new)
-
--- which files a run has read: all of these, and where memory was wanting the first of them
-abbrev pub ReadsFiles : Status → Option (List (List ℕ)) → Option (List (List ℕ)) → List (List ℕ) → Type 0
-ReadsFiles s old new names = ReadsAll old new names ⊎ ((s ≡ status.Memory) × ReadsSome old new names)
-
--- a fact about the files; where they are not told, about some files
-abbrev pub OverFiles : Option (List NamedFile) → (List NamedFile → Type 0) → Type 0
-OverFiles None fact = (files : List NamedFile) × fact files
-OverFiles (Some files) fact = fact files

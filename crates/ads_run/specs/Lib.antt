@@ -1,13 +1,11 @@
 pub mod StatusTable
-pub mod Selftest
+pub mod BuiltIn
 pub mod Tasks
 pub mod ProgramWaves
 pub mod Report
 pub mod Told
 pub mod Verdict
+pub mod Readings
 pub mod Ends
-pub mod FramesInOrder
+pub mod Promises
 pub mod Outcomes
-pub mod WholePlay
-pub mod Fresh
-pub mod Playing

@@ -3,18 +3,18 @@ use Rattle.std.specs.Prelude.{ℕ, List, Option, Some, None, Result, Ok, Err, le
 use Rattle.ads_outside.specs.declared.named_file.NamedFile.{NamedFile}
 use Rattle.ads_outside.specs.Limit.{file_limit}
 use Rattle.ads_outside.specs.Named.{bytes_of}
+use Rattle.signals.specs.Wave.{Wave}
+use Rattle.ads_plant.specs.Description.{Description}
 use Rattle.ads_machine.specs.ScriptLine.{ScriptLine}
-use Rattle.ads_machine.specs.BuiltLines.{built_lines}
-use Rattle.ads_machine.specs.Script.{script_of}
 use Rattle.ads_rules.specs.TextVerdict.{TextVerdict, Described, Breaks, NoDocument, text_verdict}
+use Rattle.ads_product.specs.Server.{server_script, server_text}
 use Rattle.ads_run.specs.declared.status.Status.{Status}
 use Rattle.ads_run.specs.declared.status.Status.TheVariants as status
-use Rattle.ads_run.specs.declared.task.Job.{Job}
-use Rattle.ads_run.specs.declared.task.Job.TheVariants as job
 use Rattle.ads_run.specs.declared.task.Task.{Task}
+use Rattle.ads_run.specs.declared.task.Task.TheVariants as task
+use Rattle.ads_run.specs.BuiltIn.{built_in}
 use Rattle.ads_run.specs.StatusTable.{last_line_of}
 use Rattle.ads_run.specs.Report.{report_of}
-use Rattle.ads_run.specs.Selftest.{selftest_text}
 use Rattle.ads_run.specs.Tasks.{asked_task}
 
 pub record Verdict : Type 0 where
@@ -25,10 +25,13 @@ pub record Verdict : Type 0 where
 abbrev pub ended : Status → Verdict
 ended s = record { status = s; text = last_line_of s }
 
--- the script's first line off the grammar, or its play
-abbrev pub verdict_of_script : Result (List ScriptLine) ℕ → Verdict
-verdict_of_script (Ok lines) = record { status = status.Done; text = selftest_text lines }
-verdict_of_script (Err number) = ended (status.BadScript number)
+-- the play of a script over a description, with signals that begin so; or the script's first line off the grammar
+abbrev pub verdict_of_lines : Description → List Wave → Result (List ScriptLine) ℕ → Verdict
+verdict_of_lines d waves (Ok lines) = record { status = status.Done; text = server_text d waves lines }
+verdict_of_lines d waves (Err number) = ended (status.BadScript number)
+
+abbrev pub verdict_of_script : Description → List Wave → List ℕ → Verdict
+verdict_of_script d waves bytes = verdict_of_lines d waves (server_script bytes)
 
 -- the description's report, or what is wrong with it; 0 stands for no TOML document
 abbrev pub verdict_of_description : TextVerdict → Verdict
@@ -36,21 +39,32 @@ verdict_of_description (Described d) = record { status = status.Done; text = rep
 verdict_of_description (Breaks number item) = ended (status.BadDescription number item)
 verdict_of_description NoDocument = ended (status.BadDescription 0 0)
 
--- the job, done with the bytes of its file, for this number of signals
-abbrev pub verdict_of_bytes : ℕ → Job → List ℕ → Verdict
-verdict_of_bytes signals job.Selftest bytes = verdict_of_script (script_of built_lines bytes)
-verdict_of_bytes signals job.Check bytes = verdict_of_description (text_verdict signals bytes)
-
 -- a file that is not there cannot be read; one above the limit is too long
-abbrev pub verdict_of_file : ℕ → Job → Option (List ℕ) → Verdict
-verdict_of_file signals j None = ended status.ReadFault
-verdict_of_file signals j (Some bytes) =
-    if nat_lt file_limit (length bytes) then ended status.TooLong else verdict_of_bytes signals j bytes
+abbrev pub verdict_of_file : (List ℕ → Verdict) → Option (List ℕ) → Verdict
+verdict_of_file verdict None = ended status.ReadFault
+verdict_of_file verdict (Some bytes) =
+    if nat_lt file_limit (length bytes) then ended status.TooLong else verdict bytes
 
--- words that are no command are told so
-abbrev pub verdict_of_task : ℕ → Option Task → List NamedFile → Verdict
-verdict_of_task signals None files = ended status.Usage
-verdict_of_task signals (Some task) files = verdict_of_file signals task.job (bytes_of files task.file)
+-- what is wrong with the description; where nothing is, the play of the script's file over it
+abbrev pub verdict_of_replay : List Wave → Option (List ℕ) → TextVerdict → Verdict
+verdict_of_replay waves script (Described d) = verdict_of_file (verdict_of_script d waves) script
+verdict_of_replay waves script (Breaks number item) = ended (status.BadDescription number item)
+verdict_of_replay waves script NoDocument = ended (status.BadDescription 0 0)
 
-abbrev pub verdict_of : ℕ → List (List ℕ) → List NamedFile → Verdict
-verdict_of signals words files = verdict_of_task signals (asked_task words) files
+abbrev pub verdict_of_check : ℕ → List ℕ → Verdict
+verdict_of_check signals bytes = verdict_of_description (text_verdict signals bytes)
+
+-- words that are no command are told so. The files are those at the first reading and those at the second.
+abbrev pub verdict_of_task : List Wave → Option Task → List NamedFile → List NamedFile → Verdict
+verdict_of_task waves None first second = ended status.Usage
+verdict_of_task waves (Some (task.Selftest script)) first second =
+    verdict_of_file (verdict_of_script built_in waves) (bytes_of first script)
+verdict_of_task waves (Some (task.Check description)) first second =
+    verdict_of_file (verdict_of_check (length waves)) (bytes_of first description)
+verdict_of_task waves (Some (task.Replay description script)) first second =
+    verdict_of_file (λ bytes. verdict_of_replay waves (bytes_of second script) (text_verdict (length waves) bytes))
+    (bytes_of first description)
+
+-- the verdict on words, with signals that begin so
+abbrev pub verdict_of : List Wave → List (List ℕ) → List NamedFile → List NamedFile → Verdict
+verdict_of waves words first second = verdict_of_task waves (asked_task words) first second

@@ -2,8 +2,8 @@
 
 ghost use Rattle.std.specs.Prelude.{IfOk};
 ghost use Rattle.ads_rules.specs.TextVerdict.{text_verdict};
-ghost use Rattle.ads_run.specs.Verdict.{verdict_of_description};
-ghost use Rattle.ads_run.specs.Outcomes.{IsOutcome};
+ghost use Rattle.ads_run.specs.Verdict.{verdict_of_check, ended as verdict_ended};
+ghost use Rattle.ads_run.specs.Outcomes.{IsOutcome, IsOfBytes, status_of_fault};
 
 use crate::outcome::{Outcome, ended};
 use crate::report::report;
@@ -15,7 +15,8 @@ use symbol_file::{DescFault, read};
 /// The outcome of `check` over the bytes of a description, for this number of signals.
 #[tactic(auto, unfolding(ads_rules::specs::TextVerdict::text_verdict))]
 pub fn check(alloc: Global, bytes: &[u8], signals: u32) -> Result<Outcome, NoMemory>
-    ensures { IfOk result (IsOutcome (verdict_of_description (text_verdict signals bytes.now))) }
+    ensures is { IfOk result (IsOutcome (verdict_of_check signals bytes.now)) }
+    ensures status { IfOk result (λ o. IsOfBytes o.status) }
 {
     match read(alloc, bytes, signals)? {
         Ok(description) => {
@@ -25,9 +26,16 @@ pub fn check(alloc: Global, bytes: &[u8], signals: u32) -> Result<Outcome, NoMem
                 text,
             })
         }
-        Err(DescFault::Syntax) => ended(alloc, Status::BadDescription { number: 0, item: 0 }),
-        Err(DescFault::Rule { number, item }) => {
-            ended(alloc, Status::BadDescription { number, item })
-        }
+        Err(fault) => bad_description(alloc, fault),
+    }
+}
+
+/// The end on a description that is refused.
+pub fn bad_description(alloc: Global, fault: DescFault) -> Result<Outcome, NoMemory>
+    ensures { IfOk result (λ o. IsOutcome (verdict_ended (status_of_fault fault)) o) }
+{
+    match fault {
+        DescFault::Syntax => ended(alloc, Status::BadDescription { number: 0, item: 0 }),
+        DescFault::Rule { number, item } => ended(alloc, Status::BadDescription { number, item }),
     }
 }

@@ -1,14 +1,19 @@
 //! The server's commands as a library: `run` over any files and any sink, and the run over the real ones.
 #![tactic(auto)]
 
+mod built_in;
 mod check;
+mod commands;
 mod ending;
+mod file;
 mod last_line;
 mod outcome;
 mod play;
 mod program;
 mod program_signals;
+mod replay;
 mod report;
+mod script_run;
 mod selftest;
 mod status;
 mod task;

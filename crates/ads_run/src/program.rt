@@ -3,7 +3,9 @@
 ghost use Rattle.std.specs.Prelude.{◌≡◌, ◌≢◌, drop, map, string_bytes, IfOk, OnErr};
 ghost use Rattle.ads_outside.specs.Rose.{Rose};
 ghost use Rattle.ads_run.specs.Verdict.{verdict_of, ended};
-ghost use Rattle.ads_run.specs.Ends.{EndsBy, OverFiles, PrintsVerdict};
+ghost use Rattle.ads_run.specs.Ends.{EndsBy, PrintsVerdict};
+ghost use Rattle.ads_run.specs.ProgramWaves.{program_waves};
+ghost use Rattle.ads_run.specs.Readings.{OverFiles};
 
 use crate::ending::{end_without_memory, print_and_end};
 use crate::last_line::USAGE_LINE;
@@ -17,13 +19,14 @@ use signals::Signal;
 use std::alloc::Global;
 use std::env::{self, Args};
 use std::io::ErrorKind;
+use std::thread::Threads;
 
-/// The status of the run over the words of the process, the files of the disk and standard output. A word that is
-/// not UTF-8 is no word of a command.
-pub fn status_of(rt: &HostRuntime) -> Status {
+/// The status of the run over the words of the process, the files of the disk and standard output, with the threads that
+/// the program may start. A word that is not UTF-8 is no word of a command.
+pub fn status_of<T: Threads + Sync>(rt: &HostRuntime, threads: &T) -> Status {
     let mut out = RealSink::new(rt);
     match env::args(rt) {
-        Ok(args) => match status_of_args(rt, args, &mut out) {
+        Ok(args) => match status_of_args(rt, threads, args, &mut out) {
             Ok(status) => status,
             Err(NoMemory) => end_without_memory(&mut out),
         },
@@ -31,14 +34,15 @@ pub fn status_of(rt: &HostRuntime) -> Status {
     }
 }
 
-fn status_of_args(
+fn status_of_args<T: Threads + Sync>(
     rt: &HostRuntime,
+    threads: &T,
     args: Args,
     out: &mut RealSink<HostRuntime>,
 ) -> Result<Status, NoMemory> {
     let all: Vec<String> = args.collect(rt.alloc())?;
     let mut files = RealFiles::new(rt.alloc(), rt.clone()?)?;
-    run_program(rt.alloc(), words_of(all.as_slice()), &mut files, out)
+    run_program(threads, rt.alloc(), words_of(all.as_slice()), &mut files, out)
 }
 
 // The words behind the program's name.
@@ -61,14 +65,15 @@ fn end_without_words<S: Sink>(kind: ErrorKind, out: &mut S) -> Status
 }
 
 // The run with the signals that the program has.
-fn run_program<F: Files, S: Sink>(
+fn run_program<T: Threads + Sync, F: Files, S: Sink>(
+    threads: &T,
     alloc: Global,
     words: &[String],
     files: &mut F,
     out: &mut S,
 ) -> Result<Status, NoMemory>
-    ensures ok { IfOk result (λ status. OverFiles (F.state files.old).held (λ held.
-        EndsBy (verdict_of 3 (map string_bytes words.now) held)
+    ensures ok { IfOk result (λ status. OverFiles (F.state files.old).held (λ first second.
+        EndsBy (verdict_of program_waves (map string_bytes words.now) first second)
         (Rose (F.state files.old).faults (F.state files.new).faults) status (S.state out.old) (S.state out.new))) }
     ensures no_memory { OnErr result ((files.new ≡ files.old) × (out.new ≡ out.old)) }
 {
@@ -81,5 +86,5 @@ fn run_program<F: Files, S: Sink>(
     signals.push(Box::new(alloc, ramp)?)?;
     signals.push(Box::new(alloc, square)?)?;
     signals.push(Box::new(alloc, table)?)?;
-    Ok(run(alloc, words, files, out, signals))
+    Ok(run(threads, alloc, words, files, out, signals))
 }

@@ -1,31 +1,31 @@
-//! `selftest`: a script is played on the built-in device.
+//! `selftest`: a script is played on the built-in description.
 
 ghost use Rattle.std.specs.Prelude.{◌≤◌, IfOk, length};
-ghost use Rattle.ads_machine.specs.BuiltLines.{built_lines};
-ghost use Rattle.ads_machine.specs.Script.{script_of};
+ghost use Rattle.signals.specs.Bank.{waves_of};
+ghost use Rattle.ads_run.specs.BuiltIn.{built_in};
 ghost use Rattle.ads_run.specs.Verdict.{verdict_of_script};
-ghost use Rattle.ads_run.specs.Outcomes.{IsOutcome};
+ghost use Rattle.ads_run.specs.Outcomes.{IsOutcome, IsOfScript};
 
-use crate::outcome::{Outcome, ended};
-use crate::play::play;
-use crate::status::Status;
+use crate::built_in::built_in_description;
+use crate::outcome::Outcome;
+use crate::script_run::outcome_of_script;
 use ads_base::NoMemory;
-use replay_script::read_script;
+use signals::{Bank, Signal};
 use std::alloc::Global;
+use std::thread::Threads;
 
 /// The outcome of `selftest` over the bytes of a script.
-pub fn selftest(alloc: Global, bytes: &[u8]) -> Result<Outcome, NoMemory>
+pub fn selftest<T: Threads + Sync>(
+    rt: &T,
+    alloc: Global,
+    bank: Bank,
+    bytes: &[u8],
+) -> Result<Outcome, NoMemory>
     requires { length bytes.now ≤ 16777216 }
-    ensures { IfOk result (IsOutcome (verdict_of_script (script_of built_lines bytes.now))) }
+    ensures is { IfOk result (IsOutcome (verdict_of_script built_in (waves_of (λ b. (⟦<dyn Signal as Signal>⟧ b.vtable).wave b.value) bank) bytes.now)) }
+    ensures status { IfOk result (λ o. IsOfScript o.status) }
 {
-    match read_script(alloc, bytes)? {
-        Ok(script) => {
-            let text = play(alloc, &script)?;
-            Ok(Outcome {
-                status: Status::Done,
-                text,
-            })
-        }
-        Err(number) => ended(alloc, Status::BadScript(number)),
-    }
+    let description = built_in_description(alloc)?;
+    let outcome = outcome_of_script(rt, alloc, description, bank, bytes)?;
+    Ok(outcome)
 }

@@ -7,20 +7,15 @@ use ads_base::NoMemory;
 use cli_words::{Command, Text, read_words};
 use std::alloc::Global;
 
-/// What is done with the file of a task.
-#[derive(Clone, Copy, Debug, PartialEq, Eq)]
-pub enum Job {
-    /// Its script is played on the built-in device.
-    Selftest,
-    /// Its description is checked.
-    Check,
-}
-
-/// A command that is built.
+/// A command that is built, with the names of its files.
 #[derive(Debug, Drop)]
-pub struct Task {
-    pub job: Job,
-    pub file: Text,
+pub enum Task {
+    /// A script is played on the built-in description.
+    Selftest { script: Text },
+    /// A description is checked.
+    Check { description: Text },
+    /// A script is played on a description.
+    Replay { description: Text, script: Text },
 }
 
 /// The task that the words ask for; none where they are no command that is built.
@@ -36,13 +31,14 @@ fn task_of(command: Option<Command>) -> Option<Task>
     ensures { result ≡ task_of_command command }
 {
     match command {
-        Some(Command::Selftest { script }) => Some(Task {
-            job: Job::Selftest,
-            file: script,
-        }),
-        Some(Command::Check { description }) => Some(Task {
-            job: Job::Check,
-            file: description,
+        Some(Command::Selftest { script }) => Some(Task::Selftest { script }),
+        Some(Command::Check { description }) => Some(Task::Check { description }),
+        Some(Command::Replay {
+            description,
+            script,
+        }) => Some(Task::Replay {
+            description,
+            script,
         }),
         _ => None,
     }

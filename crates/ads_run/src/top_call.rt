@@ -1,23 +1,23 @@
 //! The top call: a command, from its words to its status.
 
-ghost use Rattle.std.specs.Prelude.{◌≡◌, ◌≤◌, length, List, ℕ, Ok, None, map, string_bytes};
+ghost use Rattle.std.specs.Prelude.{◌≡◌, ◌≤◌, length, List, ℕ, None, map, string_bytes};
 ghost use Rattle.ads_outside.specs.Rose.{Rose};
+ghost use Rattle.ads_plant.specs.Description as plant;
 ghost use Rattle.ads_machine.specs.ScriptLine.{ScriptLine};
-ghost use Rattle.ads_machine.specs.BuiltLines.{built_lines};
-ghost use Rattle.ads_machine.specs.Script.{script_of};
-ghost use Rattle.ads_run.specs.Selftest.{selftest_log};
-ghost use Rattle.ads_run.specs.Tasks.{asked_task, asked_files};
+ghost use Rattle.ads_run.specs.Tasks.{asked_task};
 ghost use Rattle.ads_run.specs.Verdict.{verdict_of, ended};
-ghost use Rattle.ads_run.specs.Ends.{EndsBy, PrintsVerdict, ReadsFiles, OverFiles};
-ghost use Rattle.ads_run.specs.FramesInOrder.{GivesFramesInOrder};
+ghost use Rattle.ads_run.specs.Ends.{EndsBy, PrintsVerdict};
+ghost use Rattle.ads_run.specs.Readings.{OverFiles, ReadsFiles};
+ghost use Rattle.ads_run.specs.Promises.{PlayKeepsPromises};
 
+use crate::commands::outcome_of;
 use crate::ending::{end_without_memory, print_and_end};
-use crate::outcome::outcome_of;
 use crate::status::Status;
 use ads_base::NoMemory;
 use ads_outside::{Files, Sink};
-use signals::Signal;
+use signals::{Bank, Signal};
 use std::alloc::Global;
+use std::thread::Threads;
 
 /// Runs the command of some words over files and a sink, and says how it ended. A description may name the
 /// signals, which are numbered from 0.
@@ -34,7 +34,8 @@ use std::alloc::Global;
 /// | TooLong | a file has more than 16,777,216 bytes |
 ///
 /// Each status but Done, WriteFault and Memory prints its last line and nothing else.
-pub fn run<F: Files, S: Sink>(
+pub fn run<T: Threads + Sync, F: Files, S: Sink>(
+    rt: &T,
     alloc: Global,
     words: &[String],
     files: &mut F,
@@ -42,9 +43,10 @@ pub fn run<F: Files, S: Sink>(
     signals: Vec<Box<dyn Signal>>,
 ) -> Status
     requires signals { length signals.items ≤ 4294967295 }
-    // The status and all that is printed, by the bytes that the files hold; where they are not told, by some bytes.
-    ensures ends { OverFiles (F.state files.old).held (λ held.
-        EndsBy (verdict_of (length signals.items) (map string_bytes words.now) held)
+    // The status and all that is printed, by the bytes that the files hold and the waves of the signals; where the files
+    // are not told, by some bytes at each reading.
+    ensures ends { OverFiles (F.state files.old).held (λ first second.
+        EndsBy (verdict_of (map (λ b. (⟦<dyn Signal as Signal>⟧ b.vtable).wave b.value) signals.items) (map string_bytes words.now) first second)
         (Rose (F.state files.old).faults (F.state files.new).faults) result (S.state out.old) (S.state out.new)) }
 
     // The words: usage exactly where they are no command, want of memory and a failed writing aside.
@@ -54,19 +56,18 @@ pub fn run<F: Files, S: Sink>(
     ensures unread { asked_task (map string_bytes words.now) ≡ None → files.new ≡ files.old }
 
     // The files that are read are those of the command, and stay as they are.
-    ensures reads { ReadsFiles result (F.state files.old).names (F.state files.new).names
-        (asked_files (map string_bytes words.now)) }
+    ensures reads { ReadsFiles (asked_task (map string_bytes words.now)) result
+        (F.state files.old).names (F.state files.new).names }
     ensures held { (F.state files.new).held ≡ (F.state files.old).held }
 
     // The causes of faults.
     ensures read_fault { result ≡ Status.ReadFault → Rose (F.state files.old).faults (F.state files.new).faults }
     ensures write_fault { result ≡ Status.WriteFault → Rose (S.state out.old).faults (S.state out.new).faults }
 
-    // What the log of a script promises, whose text is printed.
-    ensures frames { (script : List ℕ) (lines : List ScriptLine)
-        → script_of built_lines script ≡ Ok lines → GivesFramesInOrder (selftest_log lines) }
+    // What the log of a played script promises, whose text is printed: over any description, with these signals.
+    ensures promises { (d : plant.Description) (lines : List ScriptLine) → PlayKeepsPromises d (map (λ b. (⟦<dyn Signal as Signal>⟧ b.vtable).wave b.value) signals.items) lines }
 {
-    match outcome_of(alloc, words, signals.len() as u32, files) {
+    match outcome_of(rt, alloc, words, Bank::new(signals), files) {
         Ok(outcome) => print_and_end(out, outcome.text.as_slice(), outcome.status),
         Err(NoMemory) => end_without_memory(out),
     }

@@ -1,0 +1,68 @@
+-- The play of a script keeps the promises.
+use Rattle.std.proofs.Common.{◌≡◌, ℕ, List, [], ◌∷◌, ◌++◌, refl, sym, ap, ◌∙◌, false, append-nil, subst}
+use Rattle.signals.specs.Wave.{Wave}
+use Rattle.ads_outside.specs.declared.moves.Move.{Move}
+use Rattle.ads_plant.specs.Description.{Description}
+use Rattle.ads_plant.specs.World.{byte_at}
+use Rattle.ads_machine.specs.MachineState.{MachineState}
+use Rattle.ads_machine.specs.Moves.{state_after_move, state_after}
+use Rattle.ads_machine.specs.World.{World, world_of}
+use Rattle.ads_machine.specs.Client.{Client}
+use Rattle.ads_machine.specs.ScriptLine.{ScriptLine}
+use Rattle.ads_machine.specs.Turns.{KeepsTurns}
+use Rattle.ads_machine.specs.Delivery.{AreOffers}
+use Rattle.ads_machine.specs.Answers.{all_answered}
+use Rattle.ads_machine.proofs.Changes.{state_after-append}
+use Rattle.ads_machine.proofs.TurnsKept.{offers_whole}
+use Rattle.ads_machine.proofs.ServerDelivers.{server_takes_output, server_takes_all}
+use Rattle.ads_laws.proofs.Exact.{changes_only_by_writes}
+use Rattle.ads_product.specs.Server.{read_description, server_device, server, server_start, server_after, server_play}
+use Rattle.ads_product.specs.ServerLaws.{IsUntouchedHere}
+use Rattle.ads_product.proofs.ServerProofs.{server_plays_in_turns, server_is_isolated, server_takes_as_alone, server_refuses_dead_handles}
+use Rattle.ads_run.specs.Promises.{GivesFramesInOrder, ChangesByWrites, IsServedAsAlone, KeepsPromises, PlayKeepsPromises}
+
+frames_in_order : (d : Description) (waves : List Wave) (log : List Move) → KeepsTurns server (server_start d waves) log
+    → GivesFramesInOrder d waves log
+frames_in_order d waves log turns = record {
+  turns = turns;
+  begins = λ c. server_takes_output server_device (world_of d waves) c log turns;
+  all = λ c long open_. server_takes_all server_device (world_of d waves) c log turns long open_;
+}
+
+one_move : (s : MachineState World Client) (m : Move) → state_after server s (m ∷ []) ≡ state_after_move server s m
+unfolding state_after
+one_move s m = refl
+
+changes_by_writes : (d : Description) (waves : List Wave) (before : List Move) (m : Move) → ChangesByWrites d waves before m
+changes_by_writes d waves before m name not_reload not_written =
+    let s = server_after d waves before in
+    let next : server_after d waves (before ++ m ∷ []) ≡ state_after_move server s m =
+    state_after-append server before (m ∷ []) (server_start d waves) ∙ one_move s m in
+    ap (λ (t : MachineState World Client). byte_at t.world.memory name) next
+    ∙ changes_only_by_writes all_answered read_description s m name not_reload not_written
+
+are_offers : (d : Description) (waves : List Wave) (log : List Move) → KeepsTurns server (server_start d waves) log
+    → AreOffers server (server_start d waves) log
+are_offers d waves log turns =
+    offers_whole World Client server (server_start d waves) log []
+    (subst (λ (l : List Move). KeepsTurns server (server_start d waves) l) (sym (append-nil log)) turns)
+
+served_as_alone : (d : Description) (waves : List Wave) (log : List Move) → KeepsTurns server (server_start d waves) log
+    → (c : ℕ) → IsUntouchedHere d waves c log → IsServedAsAlone d waves c log
+served_as_alone d waves log turns c untouched =
+    let taken = server_takes_as_alone d waves c log untouched in
+    record {
+      given = server_is_isolated d waves c log untouched;
+      begins = taken.begins (are_offers d waves log turns);
+      all = taken.all turns;
+    }
+
+pub play_keeps_promises : (d : Description) (waves : List Wave) (lines : List ScriptLine) → PlayKeepsPromises d waves lines
+play_keeps_promises d waves lines =
+    let turns = server_plays_in_turns d waves lines in
+    record {
+      frames = frames_in_order d waves (server_play d waves lines) turns;
+      writes = λ before after m is. changes_by_writes d waves before m;
+      isolated = served_as_alone d waves (server_play d waves lines) turns;
+      dead_handles = server_refuses_dead_handles;
+    }

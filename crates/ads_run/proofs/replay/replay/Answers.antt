@@ -1,0 +1,15 @@
+-- A description that gives no bytes ends the run.
+use Rattle.ads_run.proofs.EndLemmas.{on_err, some_behind}
+use Rattle.ads_run.proofs.ReadingLemmas.{decided_first}
+use Rattle.ads_run.proofs.replay.replay.Goals as goal
+
+pub returns-in-Err-clause-decided : goal.returns-in-Err-clause-decided
+returns-in-Err-clause-decided g c =
+    decided_first (g.F.Files.state c.args.files.now).held _ c.args.description.now _ c.in-Err.told
+    (rw c.in-Err.is at c.in_ok-bytes.ensures.finds)
+
+pub returns-in_err-outcome-in-Ok-clause-reads_some : goal.returns-in_err-outcome-in-Ok-clause-reads_some
+returns-in_err-outcome-in-Ok-clause-reads_some g c =
+    on_err c.from_residual-in_err-outcome-in-Ok.result
+    (some_behind (g.F.Files.state c.args.files.now).names (g.F.Files.state c.bytes_of_file.new.files).names (g.F.Files.state c.replay_text.new.files).names
+    c.args.description.now c.args.script.now c.in_ok-bytes.ensures.named c.in_err-outcome-in-Ok.ensures.reads_some)

@@ -1,0 +1,56 @@
+-- What a played script promises: of the log of its play over a description, with signals that begin so.
+use Rattle.std.specs.Prelude.{◌≡◌, ℕ, List, [], ◌++◌, ◌∷◌, false}
+use Rattle.signals.specs.Wave.{Wave}
+use Rattle.ads_outside.specs.declared.moves.Move.{Move}
+use Rattle.ads_plant.specs.Description.{Description}
+use Rattle.ads_plant.specs.World.{ByteName, byte_at}
+use Rattle.ads_machine.specs.Moves.{state_after_move}
+use Rattle.ads_machine.specs.Offers.{taken_of}
+use Rattle.ads_machine.specs.Turns.{KeepsTurns}
+use Rattle.ads_machine.specs.Projection.{projection_of}
+use Rattle.ads_machine.specs.Answers.{all_answered}
+use Rattle.ads_machine.specs.ScriptLine.{ScriptLine}
+use Rattle.ads_machine.specs.Delivery.{IsPrefix, is_short, is_cut_off}
+use Rattle.ads_laws.specs.Isolation.{IsAmong}
+use Rattle.ads_laws.specs.ExactWrites.{writes_of_move, is_accepted_reload}
+use Rattle.ads_product.specs.Server.{read_description, server, server_start, server_after, server_output, server_play}
+use Rattle.ads_product.specs.ServerLaws.{IsUntouchedHere, ServerRefusesDeadHandles}
+
+-- each connection takes the machine's frames in their order
+pub record GivesFramesInOrder (d : Description) (waves : List Wave) (log : List Move) : Type 0 where
+  -- each event is followed by the offers to each connection
+  pub turns : KeepsTurns server (server_start d waves) log
+  -- what a connection took begins what it was given
+  pub begins : (c : ℕ) → IsPrefix (taken_of c log) (server_output d waves c log)
+  -- and is all of it, unless its last offer was short, or it was closed by its peer or lost
+  pub all : (c : ℕ) → is_short c log ≡ false → is_cut_off c log ≡ false
+      → taken_of c log ≡ server_output d waves c log
+
+-- a byte changes at a move only by an accepted write or control that addresses it, by its signal at a tick, or by an
+-- accepted reload
+abbrev pub ChangesByWrites : Description → List Wave → List Move → Move → Type 0
+ChangesByWrites d waves before m = (name : ByteName)
+    → is_accepted_reload read_description (server_after d waves before) m ≡ false
+    → (IsAmong name (writes_of_move all_answered read_description (server_after d waves before) m) → ⊥)
+    → byte_at (server_after d waves (before ++ m ∷ [])).world.memory name
+    ≡ byte_at (server_after d waves before).world.memory name
+
+-- a client none of whose read or notified bytes another writes is given, byte for byte, what it would be given alone;
+-- what it took begins that, and is all of it with the same exceptions
+pub record IsServedAsAlone (d : Description) (waves : List Wave) (c : ℕ) (log : List Move) : Type 0 where
+  pub given : server_output d waves c log ≡ server_output d waves c (projection_of c log)
+  pub begins : IsPrefix (taken_of c log) (server_output d waves c (projection_of c log))
+  pub all : is_short c log ≡ false → is_cut_off c log ≡ false
+      → taken_of c log ≡ server_output d waves c (projection_of c log)
+
+pub record KeepsPromises (d : Description) (waves : List Wave) (log : List Move) : Type 0 where
+  pub frames : GivesFramesInOrder d waves log
+  -- at each move of the log
+  pub writes : (before after : List Move) (m : Move) → log ≡ before ++ m ∷ after → ChangesByWrites d waves before m
+  pub isolated : (c : ℕ) → IsUntouchedHere d waves c log → IsServedAsAlone d waves c log
+  -- an access by a handle that is not live is refused and touches nothing
+  pub dead_handles : ServerRefusesDeadHandles
+
+-- the promises of a script's play
+abbrev pub PlayKeepsPromises : Description → List Wave → List ScriptLine → Type 0
+PlayKeepsPromises d waves lines = KeepsPromises d waves (server_play d waves lines)

@@ -1,0 +1,51 @@
+-- Which files a run has read, and what they held.
+use Rattle.std.specs.Prelude.{◌≡◌, ◌⊎◌, ℕ, List, [], ◌∷◌, Option, Some, None}
+use Rattle.ads_outside.specs.declared.named_file.NamedFile.{NamedFile}
+use Rattle.ads_outside.specs.FilesState.{ReadsSome, ReadsAll}
+use Rattle.ads_run.specs.declared.status.Status.{Status}
+use Rattle.ads_run.specs.declared.status.Status.TheVariants as status
+use Rattle.ads_run.specs.declared.task.Task.{Task}
+use Rattle.ads_run.specs.declared.task.Task.TheVariants as task
+
+abbrev pub Names : Type 0
+Names = Option (List (List ℕ))
+
+-- a fact about the files; where they are not told, about some files
+abbrev pub OverFile : Option (List NamedFile) → (List NamedFile → Type 0) → Type 0
+OverFile None fact = (files : List NamedFile) × fact files
+OverFile (Some files) fact = fact files
+
+-- a fact about the files at two readings: where they are told they are the same; where they are not, they may have
+-- changed between
+abbrev pub OverFiles : Option (List NamedFile) → (List NamedFile → List NamedFile → Type 0) → Type 0
+OverFiles None fact = (first : List NamedFile) × (second : List NamedFile) × fact first second
+OverFiles (Some files) fact = fact files files
+
+-- the file of a task with one: it was read, or memory was wanting
+abbrev pub ReadsOne : Status → Names → Names → List ℕ → Type 0
+ReadsOne status.Memory old new name = ReadsSome old new (name ∷ [])
+ReadsOne s old new name = ReadsAll old new (name ∷ [])
+
+abbrev pub ReadsOneOrBoth : Names → Names → List ℕ → List ℕ → Type 0
+ReadsOneOrBoth old new description script =
+    ReadsAll old new (description ∷ []) ⊎ ReadsAll old new (description ∷ script ∷ [])
+
+-- the description, and then the script: only where the description is accepted
+abbrev pub ReadsBoth : Status → Names → Names → List ℕ → List ℕ → Type 0
+ReadsBoth status.Done old new description script = ReadsAll old new (description ∷ script ∷ [])
+ReadsBoth (status.BadScript n) old new description script = ReadsAll old new (description ∷ script ∷ [])
+ReadsBoth (status.BadDescription n item) old new description script = ReadsAll old new (description ∷ [])
+ReadsBoth status.Memory old new description script = ReadsSome old new (description ∷ script ∷ [])
+ReadsBoth s old new description script = ReadsOneOrBoth old new description script
+
+-- the script, behind a description that was read
+abbrev pub ReadsScript : Status → Names → Names → List ℕ → Type 0
+ReadsScript (status.BadDescription n item) old new script = new ≡ old
+ReadsScript s old new script = ReadsAll old new (script ∷ [])
+
+-- the files that a run of a task has read, which ended so
+abbrev pub ReadsFiles : Option Task → Status → Names → Names → Type 0
+ReadsFiles None s old new = ReadsAll old new []
+ReadsFiles (Some (task.Selftest script)) s old new = ReadsOne s old new script
+ReadsFiles (Some (task.Check description)) s old new = ReadsOne s old new description
+ReadsFiles (Some (task.Replay description script)) s old new = ReadsBoth s old new description script

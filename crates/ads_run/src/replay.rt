@@ -1,0 +1,115 @@
+//! `replay`: a script is played on the description of a file.
+
+ghost use Rattle.std.specs.Prelude.{◌≡◌, ◌≤◌, ◌∷◌, [], IfOk, OnErr, length, Some};
+ghost use Rattle.signals.specs.Bank.{waves_of};
+ghost use Rattle.ads_outside.specs.FilesState.{ReadsAll, ReadsSome};
+ghost use Rattle.ads_outside.specs.Named.{bytes_of};
+ghost use Rattle.ads_outside.specs.Rose.{Rose};
+ghost use Rattle.ads_plant.specs.Accepted.{IsAccepted};
+ghost use Rattle.ads_rules.specs.TextVerdict.{text_verdict};
+ghost use Rattle.type_layout.specs.Descriptions.{description_of};
+ghost use Rattle.ads_run.specs.Verdict.{verdict_of_file, verdict_of_script, verdict_of_replay, verdict_of_task};
+ghost use Rattle.ads_run.specs.Outcomes.{Decides, IsOfScriptFile, IsOfReplay};
+ghost use Rattle.ads_run.specs.Readings.{OverFile, OverFiles, ReadsBoth, ReadsScript};
+ghost use Rattle.ads_run.specs.declared.task.Task.TheVariants as Task;
+
+use crate::check::bad_description;
+use crate::file::bytes_of_file;
+use crate::outcome::Outcome;
+use crate::script_run::outcome_of_script;
+use crate::status::Status;
+use ads_base::NoMemory;
+use ads_outside::Files;
+use cli_words::Text;
+use signals::{Bank, Signal};
+use std::alloc::Global;
+use std::thread::Threads;
+use symbol_file::read;
+use type_layout::Description;
+
+/// The outcome of `replay` over its two files. The script is read only where the description is accepted.
+pub fn replay<T: Threads + Sync, F: Files>(
+    rt: &T,
+    alloc: Global,
+    description: &Text,
+    script: &Text,
+    bank: Bank,
+    files: &mut F,
+) -> Result<Outcome, NoMemory>
+    ensures decided { IfOk result (λ o. OverFiles (F.state files.old).held (λ first second.
+        Decides (verdict_of_task (waves_of (λ b. (⟦<dyn Signal as Signal>⟧ b.vtable).wave b.value) bank) (Some (Task.Replay description.now script.now)) first second)
+        (Rose (F.state files.old).faults (F.state files.new).faults) o)) }
+    ensures status { IfOk result (λ o. IsOfReplay o.status) }
+    ensures reads { IfOk result (λ o. ReadsBoth o.status (F.state files.old).names (F.state files.new).names description.now script.now) }
+    ensures reads_some { OnErr result (ReadsSome (F.state files.old).names (F.state files.new).names (description.now ∷ script.now ∷ [])) }
+    ensures fault { IfOk result (λ o. o.status ≡ Status.ReadFault
+        → Rose (F.state files.old).faults (F.state files.new).faults) }
+    ensures held { (F.state files.new).held ≡ (F.state files.old).held }
+{
+    match bytes_of_file(alloc, files, description)? {
+        Ok(bytes) => {
+            let outcome = replay_text(rt, alloc, bytes.as_slice(), script, bank, files)?;
+            Ok(outcome)
+        }
+        Err(told) => Ok(told),
+    }
+}
+
+// The play over a description of these bytes.
+fn replay_text<T: Threads + Sync, F: Files>(
+    rt: &T,
+    alloc: Global,
+    bytes: &[u8],
+    script: &Text,
+    bank: Bank,
+    files: &mut F,
+) -> Result<Outcome, NoMemory>
+    ensures decided { IfOk result (λ o. OverFile (F.state files.old).held (λ second.
+        Decides (verdict_of_replay (waves_of (λ b. (⟦<dyn Signal as Signal>⟧ b.vtable).wave b.value) bank) (bytes_of second script.now) (text_verdict (length (waves_of (λ b. (⟦<dyn Signal as Signal>⟧ b.vtable).wave b.value) bank)) bytes.now))
+        (Rose (F.state files.old).faults (F.state files.new).faults) o)) }
+    ensures status { IfOk result (λ o. IsOfReplay o.status) }
+    ensures reads { IfOk result (λ o. ReadsScript o.status (F.state files.old).names (F.state files.new).names script.now) }
+    ensures reads_some { OnErr result (ReadsSome (F.state files.old).names (F.state files.new).names (script.now ∷ [])) }
+    ensures later { (F.state files.old).faults ≤ (F.state files.new).faults }
+    ensures fault { IfOk result (λ o. o.status ≡ Status.ReadFault
+        → Rose (F.state files.old).faults (F.state files.new).faults) }
+    ensures held { (F.state files.new).held ≡ (F.state files.old).held }
+{
+    match read(alloc, bytes, bank.count())? {
+        Ok(description) => replay_file(rt, alloc, description, script, bank, files),
+        Err(fault) => {
+            let told = bad_description(alloc, fault)?;
+            Ok(told)
+        }
+    }
+}
+
+// The play of a script's file over an accepted description.
+fn replay_file<T: Threads + Sync, F: Files>(
+    rt: &T,
+    alloc: Global,
+    description: Description,
+    script: &Text,
+    bank: Bank,
+    files: &mut F,
+) -> Result<Outcome, NoMemory>
+    requires { IsAccepted (description_of description) (length (waves_of (λ b. (⟦<dyn Signal as Signal>⟧ b.vtable).wave b.value) bank)) }
+    ensures decided { IfOk result (λ o. OverFile (F.state files.old).held (λ second.
+        Decides (verdict_of_file (verdict_of_script (description_of description) (waves_of (λ b. (⟦<dyn Signal as Signal>⟧ b.vtable).wave b.value) bank)) (bytes_of second script.now))
+        (Rose (F.state files.old).faults (F.state files.new).faults) o)) }
+    ensures status { IfOk result (λ o. IsOfScriptFile o.status) }
+    ensures reads { IfOk result (λ o. ReadsAll (F.state files.old).names (F.state files.new).names (script.now ∷ [])) }
+    ensures reads_some { OnErr result (ReadsSome (F.state files.old).names (F.state files.new).names (script.now ∷ [])) }
+    ensures later { (F.state files.old).faults ≤ (F.state files.new).faults }
+    ensures fault { IfOk result (λ o. o.status ≡ Status.ReadFault
+        → Rose (F.state files.old).faults (F.state files.new).faults) }
+    ensures held { (F.state files.new).held ≡ (F.state files.old).held }
+{
+    match bytes_of_file(alloc, files, script)? {
+        Ok(bytes) => {
+            let outcome = outcome_of_script(rt, alloc, description, bank, bytes.as_slice())?;
+            Ok(outcome)
+        }
+        Err(told) => Ok(told),
+    }
+}
