@@ -1,7 +1,6 @@
 -- Handles that agree do so after a grant and after a release, and as many of them are live.
-use Rattle.std.proofs.Common.{◌≡◌, ℕ, ◌+◌, ◌-◌, List, [], ◌∷◌, ◌++◌, length, cond, true, false, refl, inl, inr, sym, ◌∙◌, ap, subst, arith, length-append}
-use Rattle.std.specs.Prelude.{Bool, ◌==◌, filter}
-use Rattle.std.proofs.lemmas.Bool.{cases_Bool}
+use Rattle.std.proofs.Common.{◌≡◌, ℕ, ◌-◌, List, [], ◌∷◌, ◌++◌, length, cond, true, false, refl, sym, ◌∙◌, ap, subst, arith}
+use Rattle.std.specs.Prelude.{◌==◌, filter}
 use Rattle.ads_machine.specs.Handles.{Handle, HandleEvent, HandleStatus, Never, Released, Outdated, Live, Grant, Release, is_live, live_count, with_released, handles_after}
 use Rattle.ads_machine.specs.HandleLaws.{Test, AgreeingStatus, AgreeingHandles, handles_of, handles_after_all}
 

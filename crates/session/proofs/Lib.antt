@@ -18,3 +18,5 @@ pub mod WatchingLemmas
 pub mod FrameLemmas
 pub mod CheckLemmas
 pub mod ReplyLemmas
+pub mod TablesAgreed
+pub mod ReloadedAgreed

@@ -14,3 +14,5 @@ pub mod Checks
 pub mod Watching
 pub mod PacketChecks
 pub mod Runs
+pub mod Reloading
+pub mod NotesEnded

@@ -1,0 +1,24 @@
+-- What a session needs of a reload: the moves of the symbols that it keeps.
+use Rattle.std.specs.Prelude.{List}
+use Rattle.ads_plant.specs.Sound.{IsSoundPlant}
+use Rattle.ads_plant.specs.World.{Plant}
+use Rattle.ads_machine.specs.Client.{Client}
+use Rattle.ads_machine.specs.NumberedPlaces.{AreKeptSymbols}
+use Rattle.port_device.specs.KeptSymbols.{kept_symbols_of}
+use Rattle.symbol_table.specs.declared.kept.KeptPlace.{KeptPlace}
+use Rattle.session.specs.SessionState.{SessionState}
+use Rattle.session.specs.StandsFor.{StandsFor}
+
+-- exactly the symbols that are kept from one plant to another
+pub record AreMoves (old new : Plant) (moves : List KeptPlace) : Type 0 where
+  pub old_sound : IsSoundPlant old
+  pub new_sound : IsSoundPlant new
+  pub kept : AreKeptSymbols old new (kept_symbols_of moves)
+
+-- the session stands for some client over the plant before
+pub record IsReloadable (moves : List KeptPlace) (s : SessionState) : Type 0 where
+  pub old : Plant
+  pub new : Plant
+  pub client : Client
+  pub moved : AreMoves old new moves
+  pub stands : StandsFor old client s

@@ -1,0 +1,53 @@
+//! A reload: handles and notifications of one client go on where their symbols are kept.
+
+ghost use Rattle.std.specs.Prelude.{◌≡◌, map, All, IfOk, OnOk};
+ghost use Rattle.ads_machine.specs.World.{World};
+ghost use Rattle.ads_machine.specs.Client.{Client};
+ghost use Rattle.ads_machine.specs.Reloads.{client_reloaded};
+ghost use Rattle.notify_table.specs.Table.{IsTable};
+ghost use Rattle.session.specs.NoteFrames.{produced_of, IsNoteFrame};
+
+use crate::notes_ended::end_frames;
+use crate::{FrameList, Session};
+use ads_base::{NetId, NoMemory};
+use notify_table::Watches;
+use std::alloc::Global;
+use symbol_table::Moves;
+
+impl Session {
+    ghost use Rattle.session.specs.Reloading.{AreMoves, IsReloadable};
+    ghost use Rattle.session.specs.StandsFor.{StandsFor};
+
+    /// Moves handles and notifications to the new places of their symbols. A handle whose symbol is not kept is outdated; a
+    /// notification that does not watch bytes of one kept symbol ends, and is told so by a sample of no byte from the NetId
+    /// before the reload, at the last moment.
+    ///
+    /// After want of memory the session is not used again.
+    pub fn reloaded(
+        &mut self,
+        alloc: Global,
+        moves: &Moves,
+        net: NetId,
+        time: u64,
+    ) -> Result<FrameList, NoMemory>
+        requires { IsReloadable moves.now self.old }
+        ensures frames { IfOk result (λ frames. (w v : World) (c : Client) → AreMoves w.plant v.plant moves.now → StandsFor w.plant c self.old
+            → w.plant.net ≡ net.bytes → map produced_of frames ≡ (client_reloaded time w v c).frames) }
+        ensures stands { OnOk result ((w v : World) (c : Client) → AreMoves w.plant v.plant moves.now → StandsFor w.plant c self.old
+            → StandsFor v.plant (client_reloaded time w v c).client self.new) }
+        ensures fits { IfOk result (All IsNoteFrame) }
+        ensures stream { self.new.stream ≡ self.old.stream }
+    {
+        know_table(&self.watches);
+        let ended = self.watches.moved(alloc, moves)?;
+        self.handles.moved(moves);
+        end_frames(alloc, ended.as_slice(), net, time)
+    }
+}
+
+// A client has at most 512 notifications.
+fn know_table(watches: &Watches)
+    ensures { IsTable watches.now }
+{
+    let _spec = watches.spec(0);
+}
