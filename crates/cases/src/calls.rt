@@ -2,7 +2,6 @@
 
 mod base;
 mod codes;
-mod cores;
 mod description;
 mod descriptions;
 mod frames;
@@ -73,7 +72,6 @@ fn of_library(
         "out_queue" => queues::make(alloc, &mut objects.queue, call, args, answer),
         "replay_script" => scripts::make(alloc, call, args, answer),
         "return_codes" => codes::make(alloc, call, args, answer),
-        "server_core" => cores::make(alloc, &mut objects.core, call, args, answer),
         "signals" => waves::make(alloc, call, args, answer),
         "sum_commands" => sums::make(alloc, call, args, answer),
         "sym_handles" => handles::make(alloc, &mut objects.handles, call, args, answer),

@@ -4,7 +4,6 @@ use ads_base::NoMemory;
 use ams_tcp::Splitter;
 use notify_table::Watches;
 use out_queue::OutQueue;
-use server_core::Core;
 use std::alloc::Global;
 use sym_handles::Handles;
 
@@ -14,7 +13,6 @@ pub struct Objects {
     pub queue: OutQueue,
     pub handles: Handles,
     pub watches: Watches,
-    pub core: Core,
 }
 
 impl Objects {
@@ -24,7 +22,6 @@ impl Objects {
             queue: OutQueue::new(alloc)?,
             handles: Handles::new(alloc)?,
             watches: Watches::new(alloc)?,
-            core: Core::build(alloc)?,
         })
     }
 }

@@ -5,7 +5,7 @@ use crate::args::Args;
 use crate::fault::Fault;
 use ads_base::{NoMemory, Octets};
 use ads_outside::{Event, Log, Move, ReloadNote, ReloadNotes};
-use replay_script::{Counts, Script, log_text, put_counted, read_script, summary_text};
+use replay_script::{Counts, Script, ScriptLine, log_text, put_counted, read_script, summary_text};
 use std::alloc::Global;
 
 // The most bytes of a script.
@@ -42,8 +42,19 @@ fn read(alloc: Global, args: &mut Args<'_>, answer: &mut Answer) -> Result<(), N
 
 fn say_script(script: &Script, answer: &mut Answer) {
     answer.name("events", script.events());
-    for event in script.as_slice() {
-        say_event(event, answer);
+    for line in script.as_slice() {
+        say_line(line, answer);
+    }
+}
+
+fn say_line(line: &ScriptLine, answer: &mut Answer) {
+    match line {
+        ScriptLine::Happens(event) => say_event(event, answer),
+        ScriptLine::TakesAtMost(conn, room) => {
+            answer.name("room", u64::from(*conn));
+            answer.tell(*room);
+        }
+        ScriptLine::FailsNext(conn) => answer.name("fail", u64::from(*conn)),
     }
 }
 
@@ -64,8 +75,8 @@ fn say_event(event: &Event, answer: &mut Answer) {
     }
 }
 
-/// An event: its word, and what belongs to it.
-pub fn event_of(word: &str, args: &mut Args<'_>) -> Event {
+// An event: its word, and what belongs to it.
+fn event_of(word: &str, args: &mut Args<'_>) -> Event {
     match word {
         "opened" => Event::Opened(args.u32()),
         "piece" => Event::Piece(args.u32(), args.octets()),
