@@ -5,6 +5,7 @@ use ads_outside::{Files, MemFiles, MemSink, NamedFiles, Sink};
 use ads_run::{ProgramSignals, Status, run};
 use signals::Signal;
 use std::alloc::Global;
+use std::thread::Threads;
 
 /// What a run is given, and what must come of it.
 #[derive(Drop)]
@@ -30,14 +31,25 @@ pub struct Came {
 }
 
 /// Runs the words of a case over its files.
-pub fn run_case(alloc: Global, case: Case) -> Result<Came, NoMemory> {
+pub fn run_case<T: Threads + Sync>(
+    threads: &T,
+    alloc: Global,
+    case: Case,
+) -> Result<Came, NoMemory> {
     let mut files = MemFiles::new(alloc, case.files, case.failing_reads);
     let mut sink = MemSink::with_parts(alloc, case.failing_puts, case.parts);
     let words = case.words.as_slice();
     let status = if case.has_signals {
-        run_with_signals(alloc, words, &mut files, &mut sink)?
+        run_with_signals(threads, alloc, words, &mut files, &mut sink)?
     } else {
-        run(alloc, words, &mut files, &mut sink, Vec::new(alloc))
+        run(
+            threads,
+            alloc,
+            words,
+            &mut files,
+            &mut sink,
+            Vec::new(alloc),
+        )
     };
     let out = Octets::copy_of(alloc, sink.bytes())?;
     Ok(Came {
@@ -46,7 +58,8 @@ pub fn run_case(alloc: Global, case: Case) -> Result<Came, NoMemory> {
     })
 }
 
-fn run_with_signals<F: Files, S: Sink>(
+fn run_with_signals<T: Threads + Sync, F: Files, S: Sink>(
+    threads: &T,
     alloc: Global,
     words: &[String],
     files: &mut F,
@@ -61,5 +74,5 @@ fn run_with_signals<F: Files, S: Sink>(
     signals.push(Box::new(alloc, ramp)?)?;
     signals.push(Box::new(alloc, square)?)?;
     signals.push(Box::new(alloc, table)?)?;
-    Ok(run(alloc, words, files, sink, signals))
+    Ok(run(threads, alloc, words, files, sink, signals))
 }

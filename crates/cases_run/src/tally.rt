@@ -7,6 +7,7 @@ use crate::line::take_line;
 use crate::run_case::{Case, run_case};
 use crate::told::{tell_difference, tell_end, tell_fault};
 use ads_base::Octets;
+use std::thread::Threads;
 use std::{mem, str};
 
 /// The file that names the others.
@@ -24,7 +25,7 @@ pub struct Tally {
 }
 
 /// Tries each run that runs.txt names, and tells of each that differs or cannot be read.
-pub fn try_all(rt: &HostRuntime) -> Result<Tally, Fault> {
+pub fn try_all<T: Threads + Sync>(rt: &HostRuntime, threads: &T) -> Result<Tally, Fault> {
     let mut tally = Tally::default();
     let mut folder = Folder::new(rt)?;
     let list = folder.read(LIST)?;
@@ -33,21 +34,22 @@ pub fn try_all(rt: &HostRuntime) -> Result<Tally, Fault> {
     };
     for name in list.lines() {
         if !name.is_empty() {
-            try_file(rt, &mut folder, name, &mut tally)?;
+            try_file(rt, threads, &mut folder, name, &mut tally)?;
         }
     }
     Ok(tally)
 }
 
 // The runs of one file, by its name.
-fn try_file(
+fn try_file<T: Threads + Sync>(
     rt: &HostRuntime,
+    threads: &T,
     folder: &mut Folder,
     name: &str,
     tally: &mut Tally,
 ) -> Result<(), Fault> {
     let mut line = 0;
-    match try_runs(rt, folder, name, &mut line, tally) {
+    match try_runs(rt, threads, folder, name, &mut line, tally) {
         Err(Fault::Off(what)) => {
             tally.unreadable = tally.unreadable.saturating_add(1);
             tell_fault(rt, name, line, what)
@@ -57,8 +59,9 @@ fn try_file(
 }
 
 // The same; `line` is the number of the line that was read last.
-fn try_runs(
+fn try_runs<T: Threads + Sync>(
     rt: &HostRuntime,
+    threads: &T,
     folder: &mut Folder,
     name: &str,
     line: &mut u32,
@@ -73,17 +76,18 @@ fn try_runs(
         *line = line.saturating_add(1);
         if text == PARTING {
             let whole = mem::replace(&mut draft, Draft::new(rt.alloc()));
-            try_case(rt, name, *line, whole.finish(rt.alloc())?, tally)?;
+            try_case(rt, threads, name, *line, whole.finish(rt.alloc())?, tally)?;
         } else {
             take_line(rt.alloc(), folder, &mut draft, text)?;
         }
     }
-    try_case(rt, name, *line, draft.finish(rt.alloc())?, tally)
+    try_case(rt, threads, name, *line, draft.finish(rt.alloc())?, tally)
 }
 
 // A run, which ends before this line of its file.
-fn try_case(
+fn try_case<T: Threads + Sync>(
     rt: &HostRuntime,
+    threads: &T,
     name: &str,
     line: u32,
     case: Case,
@@ -91,7 +95,7 @@ fn try_case(
 ) -> Result<(), Fault> {
     let wanted_status = case.status;
     let wanted = Octets::copy_of(rt.alloc(), case.out.as_slice())?;
-    let came = run_case(rt.alloc(), case)?;
+    let came = run_case(threads, rt.alloc(), case)?;
     if came.status == wanted_status && came.out.as_slice() == wanted.as_slice() {
         tally.good = tally.good.saturating_add(1);
         return Ok(());
