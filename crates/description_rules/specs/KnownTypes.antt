@@ -1,5 +1,5 @@
 -- Types that are found right one after another, as the code keeps them: what callers hand on from `read_types`.
-use Rattle.std.specs.Prelude.{◌≡◌, ◌≤◌, length, map, ℕ, ◌++◌, ◌∷◌, [], Bool, true, List, Option, None, Some, Result, Ok, Err}
+use Rattle.std.specs.Prelude.{◌≡◌, ◌≤◌, length, map, ℕ, ◌++◌, ◌∷◌, [], Bool, true, List, None, Some, Result, Ok, Err}
 use Rattle.ads_plant.specs.Listed as listed
 use Rattle.ads_plant.specs.Listed.{type_name}
 use Rattle.name_index.specs.Numbered.{AreNumbered}
@@ -31,8 +31,3 @@ pub record AddsType (type : listed.NamedType) (old new : KnownTypes) (added : Bo
   pub answer : added ≡ is_right_size (types_of old.types) type
   pub types : added ≡ true → types_of new.types ≡ types_of old.types ++ type ∷ []
   pub known : added ≡ true → IsKnown new
-
--- all types of a document are known, or the first that is wrong is at this place
-abbrev pub AddsTypes : List WrittenType → KnownTypes → Option ℕ → Type 0
-AddsTypes types known None = AreAllKnown types known
-AddsTypes types known (Some place) = wrong_size (types_described types) ≡ Some place

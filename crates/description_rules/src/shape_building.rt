@@ -24,9 +24,11 @@ pub fn small_shape(
     ensures { IfOk result (IsShapeOrLarge (shape_described (types_of known.now.types) text.now)) }
 {
     let shape = described_shape(known, text);
-    if element_count(&shape) <= MAX_ELEMENTS {
-        Ok(Some(build_shape(alloc, &shape)?))
-    } else {
-        Ok(None)
+    if element_count(&shape) > MAX_ELEMENTS {
+        return Ok(None);
+    }
+    match build_shape(alloc, &shape) {
+        Err(e) => Err(e),
+        Ok(built) => Ok(Some(built)),
     }
 }

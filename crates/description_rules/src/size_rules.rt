@@ -1,13 +1,13 @@
 //! Description rule 8: the size of types.
-ghost use Rattle.std.specs.Prelude.{◌≡◌, ◌≤◌, ◌<◌, [], length, map, true, IfOk, List};
+ghost use Rattle.std.specs.Prelude.{◌≡◌, ◌≤◌, ◌<◌, length, map, true, IfOk, List};
 ghost use Rattle.ads_plant.specs.Trees.{TypeTree, trees_of, named_tree};
 ghost use Rattle.ads_rules.specs.Described.{type_described};
 ghost use Rattle.description_rules.specs.TypesLeft.{enumeration_described};
 ghost use Rattle.ads_rules.specs.SizeRules.{members_of};
-ghost use Rattle.type_layout.specs.NamedTypes.{types_of, named_type_of};
+ghost use Rattle.type_layout.specs.NamedTypes.{types_of};
 ghost use Rattle.description_rules.specs.Built.{are_small_members};
 ghost use Rattle.description_rules.specs.Extents.{extent_view, extent_of};
-ghost use Rattle.description_rules.specs.KnownTypes.{IsKnown, IsKnownOrWrong, AddsType, AddsTypes};
+ghost use Rattle.description_rules.specs.KnownTypes.{IsKnown, IsKnownOrWrong, AddsType};
 ghost use Rattle.description_table.specs.Views.{type_view, value_view};
 
 use crate::extents::{Extent, kind_size};
@@ -20,7 +20,7 @@ use ads_base::{ListOf, NoMemory};
 use description_table::{WrittenEnumeration, WrittenType};
 use name_index::NameIndex;
 use std::alloc::Global;
-use type_layout::{Kind, NamedType};
+use type_layout::Kind;
 
 /// The types of a document, and how they lie in memory; or the place of the first type that breaks
 /// rule 8.
@@ -36,29 +36,12 @@ pub fn read_types(
         extents: Vec::new(alloc),
         names: NameIndex::new(alloc),
     };
-    match add_types(alloc, &mut known, types)? {
-        None => Ok(Ok(known)),
-        Some(place) => Ok(Err(place)),
-    }
-}
-
-// The place of the first type that breaks the rule; where there is none, all of them are known.
-fn add_types(
-    alloc: Global,
-    known: &mut KnownTypes,
-    types: &[WrittenType<'_>],
-) -> Result<Option<usize>, NoMemory>
-    requires few { length types.now ≤ 1000 }
-    requires none { IsKnown known.old }
-    requires types { known.old.types ≡ [] }
-    ensures { IfOk result (AddsTypes (map type_view types.now) known.new) }
-{
     for (i, kind) in types.iter().enumerate() {
-        if !add_type(alloc, known, kind)? {
-            return Ok(Some(i));
+        if !add_type(alloc, &mut known, kind)? {
+            return Ok(Err(i));
         }
     }
-    Ok(None)
+    Ok(Ok(known))
 }
 
 fn add_type(alloc: Global, known: &mut KnownTypes, kind: &WrittenType<'_>) -> Result<bool, NoMemory>
@@ -66,29 +49,10 @@ fn add_type(alloc: Global, known: &mut KnownTypes, kind: &WrittenType<'_>) -> Re
     requires few { length known.old.types < 1000 }
     ensures { IfOk result (AddsType (type_described (types_of known.old.types) (type_view kind.now)) known.old known.new) }
 {
-    match build_type(alloc, known, kind)? {
-        None => Ok(false),
-        Some(named) => {
-            let extent = type_extent(known, kind);
-            add_built(alloc, known, named, extent)
-        }
-    }
-}
-
-// Adds a type that lies so in memory, where it is not too large.
-fn add_built(
-    alloc: Global,
-    known: &mut KnownTypes,
-    named: NamedType,
-    extent: Extent,
-) -> Result<bool, NoMemory>
-    requires known { IsKnown known.old }
-    requires few { length known.old.types < 1000 }
-    requires small { are_small_members (members_of (named_type_of named)) ≡ true }
-    requires extent { extent_view extent ≡ extent_of (named_tree (trees_of (types_of known.old.types)) (named_type_of named)) }
-    requires fair { (0 < extent.align) × (extent.align ≤ 8) }
-    ensures { IfOk result (AddsType (named_type_of named) known.old known.new) }
-{
+    let Some(named) = build_type(alloc, known, kind)? else {
+        return Ok(false);
+    };
+    let extent = type_extent(known, kind);
     if extent.size > 1_048_576 || extent.depth > 16 {
         return Ok(false);
     }

@@ -54,8 +54,10 @@ fn wrong_content_in(
         (map symbol_view symbols.now)) }
 {
     for (i, symbol) in symbols.iter().enumerate() {
-        if !is_right_content(alloc, known, symbol)? {
-            return Ok(Some(i));
+        match is_right_content(alloc, known, symbol) {
+            Err(e) => return Err(e),
+            Ok(false) => return Ok(Some(i)),
+            Ok(true) => {}
         }
     }
     Ok(None)
@@ -69,8 +71,10 @@ fn is_right_content(
     requires known { IsKnown known.now }
     ensures { IfOk result (λ right. right ≡ is_right_content (types_of known.now.types) (symbol_view symbol.now)) }
 {
-    let right = is_right_initial(alloc, known, symbol)?;
-    Ok(right && is_comment(symbol.comment) && are_right_writers(symbol))
+    match is_right_initial(alloc, known, symbol) {
+        Err(e) => Err(e),
+        Ok(right) => Ok(right && is_comment(symbol.comment) && are_right_writers(symbol)),
+    }
 }
 
 fn is_right_initial(
@@ -85,9 +89,10 @@ fn is_right_initial(
     let Some(text) = symbol.initial else {
         return Ok(true);
     };
-    match read_hex(alloc, text)? {
-        None => Ok(false),
-        Some(bytes) => Ok(are_right_bytes(known, symbol.kind, bytes.as_slice())),
+    match read_hex(alloc, text) {
+        Err(e) => Err(e),
+        Ok(None) => Ok(false),
+        Ok(Some(bytes)) => Ok(are_right_bytes(known, symbol.kind, bytes.as_slice())),
     }
 }
 

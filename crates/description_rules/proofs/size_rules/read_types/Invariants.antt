@@ -7,7 +7,7 @@ use Rattle.type_layout.specs.NamedTypes.{types_of}
 use Rattle.description_rules.specs.KnownTypes.{IsKnown}
 use Rattle.description_table.specs.Views.{type_view}
 use Rattle.description_rules.proofs.FirstLemmas.{place_from}
-use Rattle.description_rules.proofs.size_rules.add_types.Given as goal
+use Rattle.description_rules.proofs.size_rules.read_types.Given as goal
 
 -- the types before this one are known and right
 abbrev pub invariant-loop-i : goal.invariant-loop-i
