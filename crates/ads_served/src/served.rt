@@ -1,5 +1,6 @@
 //! A machine that is served.
 
+ghost use denote.Param.Send.{IsSync};
 ghost use Rattle.std.specs.Prelude.{◌≡◌, ◌≤◌, ◌<◌, ℕ, List, length, Option, Some, None, OnOk, OnErr, IfOk, IfSome, IsErr, slice_get};
 ghost use Rattle.std.specs.Prelude.{option_copied};
 ghost use Rattle.ads_outside.specs.declared.event.Event.{Event as EventOf};
@@ -51,6 +52,7 @@ pub trait Served {
         alloc: Global,
         event: &Event,
     ) -> Result<(), NoMemory>
+        requires { IsSync T.row }
         ensures follows { OnOk result ((x : Standing World Client) → serves self.old x → OpensNew x.running event.now
             → serves self.new (standing_after steps noted x (move.Event event.now))) }
         ensures no_memory { OnErr result (has_failed self.new) }
