@@ -28,8 +28,11 @@ then_counts s t u k l m first second = record {
   refused = second.refused ∙ first.refused;
 }
 
-pub one_more : (old before : ℕ) → Grows old (count_of (old + 1)) before (before + 1)
-one_more old before = λ others e. ap (λ n. count_of (n + 1)) e ∙ once (others + before) ∙ ap count_of (omega arith)
+pub more : (old before n : ℕ) → Grows old (count_of (old + n)) before (before + n)
+more old before n = λ others e. ap (λ m. count_of (m + n)) e ∙ some (others + before) n ∙ ap count_of (omega arith)
   where
-    once : (n : ℕ) → count_of (count_of n + 1) ≡ count_of (n + 1)
-    once n = omega arith
+    some : (m n : ℕ) → count_of (count_of m + n) ≡ count_of (m + n)
+    some m n = omega arith
+
+pub one_more : (old before : ℕ) → Grows old (count_of (old + 1)) before (before + 1)
+one_more old before = more old before 1

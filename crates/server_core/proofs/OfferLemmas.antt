@@ -1,21 +1,31 @@
 -- What is read of a core, in the code and in the machine.
-use Rattle.std.proofs.Common.{◌≡◌, ℕ, ◌≤◌, List, [], length, map, get_or, Bool, true, false, not, cond, Bor, refl, sym, ap, ◌∙◌, subst, inl, inr}
-use Rattle.std.specs.Prelude.{◌&&◌, Option, Some, None, IsNone, IsSomeAnd, IfSome, option_copied, slice_get}
+use Rattle.std.proofs.Common.{◌≡◌, ◌⊎◌, ℕ, ◌<◌, ◌≤◌, List, [], ◌∷◌, length, map, get_or, Bool, true, false, not, cond, Bor, refl, sym, ap, ◌∙◌, subst, inl, inr, arith}
+use Rattle.std.specs.Prelude.{◌&&◌, nat_lt, drop, ◌==◌, Option, Some, None, IsNone, IsSomeAnd, IfSome, option_copied, slice_get, unwrap_or}
 use Rattle.std.specs.Option.{option_map}
-use Rattle.std.proofs.lemmas.Bool.{cases_Bool, cond-true, cond-false}
-use Rattle.std.proofs.lemmas.Option.{slice_get-map}
+use Rattle.std.specs.Map.{keys_of, values_of}
+use Rattle.std.proofs.lemmas.Bool.{cases_Bool, cases_lt, lt-leb, ltb-true, lt-ltb, ltb-false, eqb-true, cond-true, cond-false}
+use Rattle.std.proofs.lemmas.Option.{slice_get-map, get_or_from_slice_get}
+use Rattle.signals.specs.Wave.{Wave}
 use Rattle.ads_machine.specs.Connection.{bytes_of}
 use Rattle.ads_machine.specs.MachineState.{present_numbers}
 use Rattle.ads_machine.specs.Offers.{is_among, waiting_of, waiting_at, left_after}
-use Rattle.out_queue.specs.Queue.{front_of}
-use Rattle.server_core.specs.declared.conn.Conn.{Conn}
+use Rattle.ads_plant.specs.World.{Plant}
+use Rattle.out_queue.specs.Queue.{front_of, frames_after}
+use Rattle.server_core.specs.declared.turned.Turned.{Turned}
+use Rattle.server_core.specs.declared.waiting.Waiting.{Waiting}
 use Rattle.server_core.specs.Served.{ServedConnection}
-use Rattle.server_core.specs.ConnStands.{Stands, FitsFirst}
+use Rattle.server_core.specs.Conns.{Conn, conn_of, conns_of}
+use Rattle.server_core.specs.ConnStands.{Stands, FitsFirst, first_left}
 use Rattle.server_core.specs.CoreState.{CoreState, offer_at, is_to_be_shut, is_to_be_shut_at}
-use Rattle.server_core.specs.Places.{IsPlace, IsAbsent, offer_of_conn, offer_among}
-use Rattle.server_core.specs.Serves.{present, ServesEach}
-use Rattle.server_core.proofs.PlaceLemmas.{IsNotThere, not_there, offer_at_place, numbers-same}
-use Rattle.server_core.proofs.ServeLemmas.{served_at, at_mark}
+use Rattle.server_core.specs.Entries.{IsEntry, IsNoEntry}
+use Rattle.server_core.specs.Places.{offer_of_waiting, offer_among, offers_of_waiting}
+use Rattle.server_core.specs.ServerView.{ServerView}
+use Rattle.server_core.specs.Serves.{present, ServesEach, conns_in}
+use Rattle.server_core.proofs.ConnLemmas.{conn_here, conns_numbers, conns_length, entry_is_place, first_conn, no_entry_is_absent, some_turned}
+use Rattle.server_core.proofs.EntryLemmas.{HasEntry, entry_or_not, read_at, read_absent}
+use Rattle.server_core.proofs.PlaceLemmas.{AtPlace, IsNotThere, not_there, numbers-same}
+use Rattle.server_core.proofs.ServeLemmas.{served_at}
+use Rattle.server_core.proofs.StandLemmas.{at_mark}
 
 -- the front of a queue, as a reference
 pub front_is : (r : Option (Bor (List ℕ))) (out : List (List ℕ)) → (IsNone r → out ≡ []) → IfSome r (λ left. front_of out ≡ Some left.now) → option_copied r ≡ front_of out
@@ -23,18 +33,23 @@ front_is None out empty first = sym (ap front_of (empty refl))
 front_is (Some left) out empty first = sym first
 
 -- what waits for a connection that is there
-waiting_there : (conn : Conn) (k : ServedConnection) → Stands conn k → k.gone ≡ false → waiting_of (Some k) ≡ conn.out
-waiting_there conn k s there = cond-false k.gone [] (left_after k.bytes_taken (map bytes_of k.produced)) there ∙ sym s.waiting
+waiting_there : (plant : Plant) (conn : Conn) (k : ServedConnection) → Stands plant conn k → k.gone ≡ false → waiting_of (Some k) ≡ conn.out
+waiting_there plant conn k s there = cond-false k.gone [] (left_after k.bytes_taken (map bytes_of k.produced)) there ∙ sym s.waiting
 
-pub offer_found : (conns : List Conn) (x : CoreState) (n i : ℕ) (conn : Conn) → ServesEach conns x → IsPlace conns n i → conn ≡ get_or conns i conn
-    → offer_of_conn conn ≡ offer_at n x
-offer_found conns x n i conn s place read =
-    let at = served_at conns x n i conn s place in
-    let mark : conn.blocked ≡ is_among n x.blocked =
-    ap (λ (c : Conn). c.blocked) read ∙ at_mark conns x.blocked i conn s.marked place.within ∙ ap (λ m. is_among m x.blocked) (place.number conn) in
-    let waits : waiting_at n x.state ≡ conn.out =
-    ap waiting_of at.found ∙ waiting_there (get_or conns i conn) at.k at.stands at.there ∙ ap (λ (c : Conn). c.out) (sym read) in
-    ap (λ b. cond b None (front_of conn.out)) mark ∙ ap (λ fs. cond (is_among n x.blocked) None (front_of fs)) (sym waits)
+offer_found : (v : ServerView) (waves : List Wave) (x : CoreState) (n : ℕ) → ServesEach v waves x → (e : HasEntry v.entries n) → offer_of_waiting e.waiting ≡ offer_at n x
+offer_found v waves x n s e =
+    let i = e.i in
+    let conns = conns_in v in
+    let t = some_turned v.sessions i (omega (arith, e.place.within, s.aligned)) in
+    let d = conn_of t (n, e.waiting) in
+    let here = conn_here v.sessions v.entries n i t e.waiting s.aligned e.place e.value in
+    let place = entry_is_place v.sessions v.entries n i s.aligned e.place in
+    let at = served_at v waves x n i d s e.place in
+    let mark : e.waiting.blocked ≡ is_among n x.blocked =
+    ap (λ (c : Conn). c.blocked) here ∙ at_mark conns x.blocked i d s.connections.marked place.within ∙ ap (λ m. is_among m x.blocked) (place.number d) in
+    let waits : waiting_at n x.state ≡ e.waiting.out =
+    ap waiting_of at.found ∙ waiting_there x.state.world.plant (get_or conns i d) at.k at.stands at.there ∙ ap (λ (c : Conn). c.out) (sym here) in
+    ap (λ b. cond b None (front_of e.waiting.out)) mark ∙ ap (λ fs. cond (is_among n x.blocked) None (front_of fs)) (sym waits)
 
 no_offer : (b : Bool) (frames : List (List ℕ)) → frames ≡ [] → cond b None (front_of frames) ≡ None
 no_offer true frames e = refl
@@ -44,36 +59,94 @@ nothing_waits : (n : ℕ) (x : CoreState) → IsNotThere n x.state.connections �
 nothing_waits n x (inl none) = ap waiting_of none
 nothing_waits n x (inr one) = ap waiting_of one.found ∙ cond-true one.k.gone [] (left_after one.k.bytes_taken (map bytes_of one.k.produced)) one.gone
 
-pub none_offered : (conns : List Conn) (x : CoreState) (n : ℕ) → ServesEach conns x → IsAbsent conns n → offer_at n x ≡ None
-none_offered conns x n s absent_ =
-    no_offer (is_among n x.blocked) (waiting_at n x.state) (nothing_waits n x (not_there n x.state.connections conns s.each absent_))
+absent_there : (v : ServerView) (waves : List Wave) (x : CoreState) (n : ℕ) → ServesEach v waves x → IsNoEntry v.entries n → IsNotThere n x.state.connections
+absent_there v waves x n s none =
+    not_there x.state.world.plant n x.state.connections (conns_in v) s.connections.each (no_entry_is_absent v.sessions v.entries n s.aligned none)
 
--- the offer of a list is that of the connection at the place
-pub offer_read : (conns : List Conn) (n i : ℕ) (conn : Conn) → IsPlace conns n i → conn ≡ get_or conns i conn → offer_among conns n ≡ offer_of_conn conn
-offer_read conns n i conn place read = offer_at_place conns n i conn place ∙ ap offer_of_conn (sym read)
-
-pub fits_first : (n : ℕ) (conn : Conn) → IsSomeAnd (offer_of_conn conn) (λ left. n ≤ length left) → FitsFirst n conn
-fits_first n conn h = elim (cases_Bool conn.blocked) [
-  | inl blocked ↦ absurd (subst (λ o. IsSomeAnd o (λ left. n ≤ length left)) (cond-true conn.blocked None (front_of conn.out) blocked) h)
-  | inr free ↦ subst (λ o. IsSomeAnd o (λ left. n ≤ length left)) (cond-false conn.blocked None (front_of conn.out) free) h
+-- what the code offers is what the machine offers
+pub offer_is : (v : ServerView) (waves : List Wave) (x : CoreState) (n : ℕ) → ServesEach v waves x → offer_among v.entries n ≡ offer_at n x
+offer_is v waves x n s = elim (entry_or_not v.entries n) [
+  | inl e ↦ read_at offer_of_waiting None v.entries n e.i e.waiting e.place e.value ∙ offer_found v waves x n s e
+  | inr none ↦ read_absent offer_of_waiting None v.entries n none ∙ sym (no_offer (is_among n x.blocked) (waiting_at n x.state) (nothing_waits n x (absent_there v waves x n s none)))
 ]
 
+-- what is offered: it is not blocked, and its first frame is there
+pub record IsOffer (w : Waiting) (left : List ℕ) : Type 0 where
+  pub free : w.blocked ≡ false
+  pub front : front_of w.out ≡ Some left
+
+pub is_offer : (w : Waiting) (left : List ℕ) → offer_of_waiting w ≡ Some left → IsOffer w left
+is_offer w left e = elim (cases_Bool w.blocked) [
+  | inl blocked ↦ absurd (let both = sym (cond-true w.blocked None (front_of w.out) blocked) ∙ e in cc)
+  | inr free ↦ record { free = free; front = sym (cond-false w.blocked None (front_of w.out) free) ∙ e }
+]
+
+pub fits_first : (n : ℕ) (w : Waiting) → IsSomeAnd (offer_of_waiting w) (λ left. n ≤ length left) → FitsFirst n w.out
+fits_first n w h = elim (cases_Bool w.blocked) [
+  | inl blocked ↦ absurd (subst (λ o. IsSomeAnd o (λ left. n ≤ length left)) (cond-true w.blocked None (front_of w.out) blocked) h)
+  | inr free ↦ subst (λ o. IsSomeAnd o (λ left. n ≤ length left)) (cond-false w.blocked None (front_of w.out) free) h
+]
+
+-- fewer offers are left once bytes of one were taken
+pub fewer_left : (n : ℕ) (w u : Waiting) → IsSomeAnd (offer_of_waiting w) (λ left. n ≤ length left) → u.out ≡ frames_after n w.out → u.blocked ≡ nat_lt n (length (first_left w.out))
+    → offers_of_waiting u < offers_of_waiting w
+fewer_left n w u h out blocked = elim (cases_Bool w.blocked) [
+  | inl b ↦ absurd (subst (λ o. IsSomeAnd o (λ left. n ≤ length left)) (cond-true w.blocked None (front_of w.out) b) h)
+  | inr free ↦
+      let fits = subst (λ o. IsSomeAnd o (λ left. n ≤ length left)) (cond-false w.blocked None (front_of w.out) free) h in
+      let before = cond-false w.blocked 0 (length w.out) free in
+      let after = ap (λ b. cond b 0 (length u.out)) blocked ∙ ap (λ (fs : List (List ℕ)). cond (nat_lt n (length (first_left w.out))) 0 (length fs)) out in
+      let less = by w.out fits in
+      omega (arith, before, after, less)
+]
+  where
+    by : (fs : List (List ℕ)) → IsSomeAnd (front_of fs) (λ left. n ≤ length left) → cond (nat_lt n (length (first_left fs))) 0 (length (frames_after n fs)) < length fs
+    by [] h = absurd h
+    by (f ∷ fs) h = elim (cases_Bool (nat_lt n (length f))) [
+      | inl t ↦ let e = cond-true (nat_lt n (length f)) 0 (length (frames_after n (f ∷ fs))) t in omega (arith, e)
+      | inr t ↦
+          let not_less = ltb-false n (length f) t in
+          let e = cond-false (nat_lt n (length f)) 0 (length (frames_after n (f ∷ fs))) t in
+          let whole : (length f == n) ≡ true = grind (arith, h, not_less) in
+          let gone = ap (λ (gs : List (List ℕ)). length gs) (cond-true (length f == n) fs (drop n f ∷ fs) whole) in
+          omega (arith, e, gone)
+    ]
+
 -- whether it is to be shut
-pub closing_found : (conns : List Conn) (x : CoreState) (n i : ℕ) (conn : Conn) → ServesEach conns x → IsPlace conns n i → conn ≡ get_or conns i conn
-    → conn.closing ≡ is_to_be_shut_at n x
-closing_found conns x n i conn s place read =
-    let at = served_at conns x n i conn s place in
-    ap (λ (c : Conn). c.closing) read ∙ at.stands.closing ∙ sym (ap is_to_be_shut at.found ∙ ap (λ b. not b && at.k.closing) at.there)
+pub closing_found : (v : ServerView) (waves : List Wave) (x : CoreState) (n i : ℕ) (t : Turned) → ServesEach v waves x → (e : HasEntry v.entries n) → e.i ≡ i → t ≡ get_or v.sessions i t
+    → t.skip ≡ is_to_be_shut_at n x
+closing_found v waves x n i t s e same read =
+    let d = conn_of t (n, e.waiting) in
+    let here = conn_here v.sessions v.entries n e.i t e.waiting s.aligned e.place e.value in
+    let at = served_at v waves x n e.i d s e.place in
+    ap (λ (u : Turned). u.skip) (read ∙ ap (λ j. get_or v.sessions j t) (sym same)) ∙ ap (λ (c : Conn). c.closing) here ∙ at.stands.closing
+    ∙ sym (ap is_to_be_shut at.found ∙ ap (λ b. not b && at.k.closing) at.there)
 
 shut_none : (n : ℕ) (x : CoreState) → IsNotThere n x.state.connections → false ≡ is_to_be_shut_at n x
 shut_none n x (inl none) = sym (ap is_to_be_shut none)
 shut_none n x (inr one) = sym (ap is_to_be_shut one.found ∙ ap (λ b. not b && one.k.closing) one.gone)
 
-pub closing_absent : (conns : List Conn) (x : CoreState) (n : ℕ) → ServesEach conns x → IsAbsent conns n → false ≡ is_to_be_shut_at n x
-closing_absent conns x n s absent_ = shut_none n x (not_there n x.state.connections conns s.each absent_)
+pub closing_absent : (v : ServerView) (waves : List Wave) (x : CoreState) (n : ℕ) → ServesEach v waves x → IsNoEntry v.entries n → false ≡ is_to_be_shut_at n x
+closing_absent v waves x n s none = shut_none n x (absent_there v waves x n s none)
 
 -- the numbers of the connections
-pub number_read : (conns : List Conn) (x : CoreState) (n : ℕ) (o : Option Conn) → ServesEach conns x → slice_get conns n ≡ o
-    → option_map (λ (c : Conn). c.number) o ≡ slice_get (present_numbers x.state) n
-number_read conns x n o s read =
-    sym (ap (λ ns. slice_get ns n) (sym (numbers-same conns (present x.state.connections) s.each)) ∙ slice_get-map (λ (c : Conn). c.number) conns n ∙ ap (option_map (λ (c : Conn). c.number)) read)
+keys_at : (es : List (ℕ × Waiting)) (n : ℕ) → option_map (λ (e : ℕ × Waiting). e.0) (slice_get es n) ≡ slice_get (keys_of es) n
+keys_at es n = sym (slice_get-map (λ (e : ℕ × Waiting). e.0) es n)
+
+pub number_read : (v : ServerView) (waves : List Wave) (x : CoreState) (n : ℕ) → ServesEach v waves x
+    → option_map (λ (e : ℕ × Waiting). e.0) (slice_get v.entries n) ≡ slice_get (present_numbers x.state) n
+number_read v waves x n s =
+    keys_at v.entries n ∙ ap (λ ns. slice_get ns n) (sym (conns_numbers v.sessions v.entries s.aligned) ∙ numbers-same x.state.world.plant (conns_in v) (present x.state.connections) s.connections.each)
+
+-- some connection, where an entry is there
+pub some_conn : (v : ServerView) (waves : List Wave) (x : CoreState) (n i : ℕ) → ServesEach v waves x → IsEntry v.entries n i → Conn
+some_conn v waves x n i s place = first_conn (conns_in v) i (omega (arith, place.within, conns_length v.sessions v.entries s.aligned))
+
+-- a session that was read at a place
+pub found_turned : (ts us : List Turned) (i : ℕ) (t : Turned) → us ≡ ts → slice_get us i ≡ Some t → t ≡ get_or ts i t
+found_turned ts us i t same read = sym (get_or_from_slice_get us i t t read) ∙ ap (λ (xs : List Turned). get_or xs i t) same
+
+-- all numbers
+pub numbers_are : (v : ServerView) (waves : List Wave) (x : CoreState) → ServesEach v waves x → keys_of v.entries ≡ present_numbers x.state
+numbers_are v waves x s =
+    sym (conns_numbers v.sessions v.entries s.aligned) ∙ numbers-same x.state.world.plant (conns_in v) (present x.state.connections) s.connections.each

@@ -1,120 +1,122 @@
--- What the code's connections stand for, after each kind of move.
-use Rattle.std.proofs.Common.{◌≡◌, ◌≢◌, ℕ, zero, suc, ◌+◌, ◌<◌, List, [], ◌∷◌, ◌++◌, length, set, get_or, map, Bool, true, false, not, cond, refl, sym, ap, ◌∙◌, subst, inl, inr, arith}
-use Rattle.std.specs.Prelude.{◌==◌, ◌||◌, nat_lt, filter, remove, Option, None}
-use Rattle.std.proofs.lemmas.Bool.{cases_eq, cond-true, cond-false, or_right, or_left}
-use Rattle.std.proofs.lemmas.List.Elements.{All-head, All-tail}
+-- What all that is kept stands for, after each kind of move of one connection.
+use Rattle.std.proofs.Common.{◌≡◌, ◌≢◌, ℕ, zero, suc, ◌+◌, ◌<◌, List, [], ◌∷◌, ◌++◌, length, set, get_or, Bool, false, refl, sym, ap, ◌∙◌, subst, inl, inr, arith}
+use Rattle.std.specs.Prelude.{nat_lt, remove, Option, Some, None}
+use Rattle.std.specs.Map.{keys_of}
+use Rattle.std.proofs.lemmas.List.{length-append}
+use Rattle.std.proofs.Math.ListN.{length-set}
+use Rattle.indexmap.specs.IndexMap.{set_value_at}
+use Rattle.indexmap.specs.Layout.{length-set_value_at}
+use Rattle.signals.specs.Wave.{Wave}
 use Rattle.ads_outside.specs.declared.event.Event.TheVariants as event
 use Rattle.ads_outside.specs.declared.moves.Move.TheVariants as move
-use Rattle.ads_machine.specs.Connection.{connection_of, put_back, fresh_connection, is_deaf, produce_all}
+use Rattle.ads_plant.specs.World.{Plant}
+use Rattle.ads_machine.specs.Connection.{connection_of, fresh_connection}
 use Rattle.ads_machine.specs.MachineState.{exchange_of, with_exchange, after_exchange}
 use Rattle.ads_machine.specs.Piece.{after_piece}
 use Rattle.ads_machine.specs.Moves.{with_gone, with_took, state_after_move}
-use Rattle.ads_machine.specs.Events.{state_after_event, connection_after_tick, moment_of_tick}
+use Rattle.ads_machine.specs.Events.{state_after_event}
 use Rattle.ads_machine.specs.Offers.{is_among}
 use Rattle.ads_machine.specs.Summary.{count_of, summary_of}
-use Rattle.ads_machine.proofs.Find.{test_same, test_other}
-use Rattle.server_core.specs.declared.conn.Conn.{Conn}
+use Rattle.server_core.specs.declared.device.Device.{Device}
 use Rattle.server_core.specs.declared.summary.Summary.{Summary}
-use Rattle.server_core.specs.Served.{served, ServedConnection, ServedExchange, ServedState}
-use Rattle.server_core.specs.ConnStands.{Stands, Goes, KeepsMarks}
+use Rattle.server_core.specs.declared.turned.Turned.{Turned}
+use Rattle.server_core.specs.declared.waiting.Waiting.{Waiting}
+use Rattle.server_core.specs.Served.{served, World, ServedConnection, ServedExchange, ServedState}
+use Rattle.server_core.specs.Conns.{Conn, conn_of, conns_of}
+use Rattle.server_core.specs.Counts.{Counts, counts_in}
+use Rattle.server_core.specs.Entries.{IsEntry, IsNoEntry, IsFreshSession, IsNothing}
+use Rattle.server_core.specs.ConnStands.{Stands, Goes}
+use Rattle.server_core.specs.HoldsWorld.{HoldsWorld, HoldsState}
+use Rattle.server_core.specs.Taking.{KeepsDevice}
 use Rattle.server_core.specs.CoreState.{CoreState, after_event, after_move}
-use Rattle.server_core.specs.Places.{IsPlace, IsAbsent}
-use Rattle.server_core.specs.Serves.{present, EachStands, AreApart, EachMarked, ServesEach, FollowsEach}
-use Rattle.server_core.proofs.StateLemmas.{AreApart-put_back, AreApart-append, was_none, was_none_append, put_back-itself, present-append, present-there}
-use Rattle.server_core.proofs.PlaceLemmas.{Concerns, AtPlace, at_place, IsNotThere, not_there, marked_removed, marked_append, stands_append}
-use Rattle.server_core.proofs.SumLemmas.{counted_one, counted_fresh, counted_refused}
+use Rattle.server_core.specs.ServerView.{ServerView}
+use Rattle.server_core.specs.Serves.{StandsEach, ServesEach, FollowsEach, AreAligned, conns_in}
+use Rattle.server_core.proofs.ConnLemmas.{conns_set, conns_set_waiting, conns_remove, conns_push, entry_is_place, no_entry_is_absent}
+use Rattle.server_core.proofs.PlaceLemmas.{AtPlace, not_there}
+use Rattle.server_core.proofs.StandLemmas.{stands_at, stands_changed, stands_ended, stands_opened, stands_writable, unchanged, gone_twice, gone_takes_nothing, at_mark, writable_list, writable-other, writable-same, blocked_list, took-other, took-same, took_exchange}
+use Rattle.server_core.proofs.StateLemmas.{put_back-itself}
+use Rattle.server_core.proofs.SumLemmas.{counted_one, counted_fresh}
 
--- the connection at a place
-pub served_at : (conns : List Conn) (x : CoreState) (n i : ℕ) (d : Conn) → ServesEach conns x → IsPlace conns n i → AtPlace conns x.state.connections n i (get_or conns i d)
-served_at conns x n i d s at = at_place x.state.connections n d s.apart conns i s.each at.within (at.number d)
+-- the connection of an entry
+pub served_at : (v : ServerView) (waves : List Wave) (x : CoreState) (n i : ℕ) (d : Conn) → ServesEach v waves x → IsEntry v.entries n i
+    → AtPlace x.state.world.plant (conns_in v) x.state.connections n i (get_or (conns_in v) i d)
+served_at v waves x n i d serves place =
+    stands_at x.state.world.plant (conns_in v) x n i d serves.connections (entry_is_place v.sessions v.entries n i serves.aligned place)
 
--- one connection changes in its place
-pub serves_changed : (conns : List Conn) (x : CoreState) (n i : ℕ) (conn new : Conn) (blocked : List ℕ) (e : ServedExchange) → ServesEach conns x
-    → AtPlace conns x.state.connections n i conn → Stands new e.connection → e.connection.number ≡ n → e.connection.gone ≡ false
-    → Concerns n x.blocked blocked → new.blocked ≡ is_among n blocked
-    → ServesEach (set conns i new) (record { state = with_exchange e x.state; blocked = blocked })
-serves_changed conns x n i conn new blocked e s at t number there concerns mark = record {
-  each = at.put new e.connection t number there;
-  apart = AreApart-put_back e.connection x.state.connections s.apart;
-  marked = at.marked x.blocked blocked new concerns (t.number ∙ number) mark s.marked;
-  known = known;
-}
-  where
-    known : (m : ℕ) → connection_of m (put_back e.connection x.state.connections) ≡ None → is_among m blocked ≡ false
-    known m none =
-        let was = was_none m e.connection x.state.connections none in
-        concerns m (λ same. let both = sym (ap (λ q. connection_of q x.state.connections) (sym same) ∙ was) ∙ at.found in cc) ∙ s.known m was
+-- the same connections, state and device
+pub stays : (v : ServerView) (waves : List Wave) (x : CoreState) (state : ServedState) → state ≡ x.state → ServesEach v waves x
+    → FollowsEach v v waves x (record { state = state; blocked = x.blocked })
+stays v waves x state e serves =
+    subst (λ (z : ServedState). FollowsEach v v waves x (record { state = z; blocked = x.blocked })) (sym e) (record { serves = serves; counted = λ c. c })
 
--- one connection goes
-pub serves_ended : (conns : List Conn) (x : CoreState) (n i : ℕ) (conn : Conn) → ServesEach conns x → AtPlace conns x.state.connections n i conn → conn.number ≡ n
-    → ServesEach (remove conns i) (record { state = after_exchange (connection_of n x.state.connections) with_gone x.state; blocked = x.blocked })
-serves_ended conns x n i conn s at number =
-    subst (λ (o : Option ServedConnection). ServesEach (remove conns i) (record { state = after_exchange o with_gone x.state; blocked = x.blocked })) (sym at.found) (record {
-      each = at.ended (record at.k { gone = true }) (sym at.stands.number ∙ number) refl;
-      apart = AreApart-put_back (record at.k { gone = true }) x.state.connections s.apart;
-      marked = marked_removed x.blocked conns i s.marked;
-      known = λ m none. s.known m (was_none m (record at.k { gone = true }) x.state.connections none);
+-- the same device holds a state of the same world and moment
+pub held_on : (old new : Device) (waves : List Wave) (s t : ServedState) → new ≡ old → t.world ≡ s.world → t.moment ≡ s.moment → HoldsState old waves s → HoldsState new waves t
+held_on old new waves s t device world moment held =
+    subst (λ (d : Device). HoldsState d waves t) (sym device) (record {
+      world = subst (λ (w : World). HoldsWorld old w) (sym world) held.world;
+      signals = ap (λ (w : World). w.signals) world ∙ held.signals;
+      count = held.count;
+      few = held.few;
+      moment = held.moment ∙ sym moment;
     })
-
--- a change of a connection that is gone, or that never was, is none
-pub unchanged : (n : ℕ) (f : ServedExchange → ServedExchange) (s : ServedState) → IsNotThere n s.connections
-    → ((k : ServedConnection) → k.gone ≡ true → f (exchange_of s k) ≡ exchange_of s k) → after_exchange (connection_of n s.connections) f s ≡ s
-unchanged n f s (inl none) keeps = ap (λ o. after_exchange o f s) none
-unchanged n f s (inr one) keeps =
-    ap (λ o. after_exchange o f s) one.found ∙ ap (λ e. with_exchange e s) (keeps one.k one.gone)
-    ∙ ap (λ (ks : List ServedConnection). record s { connections = ks }) (put_back-itself n one.k s.connections one.found)
-
-gone_twice : (s : ServedState) (k : ServedConnection) → k.gone ≡ true → with_gone (exchange_of s k) ≡ exchange_of s k
-gone_twice s k gone = ap (λ (b : Bool). exchange_of s (record k { gone = b })) (sym gone)
-
-gone_takes_nothing : (piece : List ℕ) (s : ServedState) (k : ServedConnection) → k.gone ≡ true → after_piece served piece (exchange_of s k) ≡ exchange_of s k
-unfolding after_piece
-gone_takes_nothing piece s k gone = cond-true (is_deaf k) (exchange_of s k) _ (or_right k.closing k.gone gone)
-
--- nothing changes
-pub stays : (conns : List Conn) (x : CoreState) (s : Summary) (state : ServedState) → state ≡ x.state → ServesEach conns x → FollowsEach conns s s x (record { state = state; blocked = x.blocked })
-stays conns x s state e serves =
-    subst (λ (z : ServedState). FollowsEach conns s s x (record { state = z; blocked = x.blocked })) (sym e) (record { serves = serves; counted = λ c. c })
-
--- the mark of a connection of the code
-pub at_mark : (conns : List Conn) (blocked : List ℕ) (i : ℕ) (d : Conn) → EachMarked blocked conns → i < length conns
-    → (get_or conns i d).blocked ≡ is_among (get_or conns i d).number blocked
-at_mark [] blocked i d marks below = absurd (omega arith)
-at_mark (c ∷ cs) blocked zero d marks below = marks.0
-at_mark (c ∷ cs) blocked (suc i) d marks below = at_mark cs blocked i d marks.1 (omega arith)
 
 -- A piece.
-pub piece_follows : (conns : List Conn) (x : CoreState) (n i : ℕ) (d new : Conn) (s t : Summary) (piece : List ℕ) → ServesEach conns x → IsPlace conns n i
-    → ((e : ServedExchange) → Stands (get_or conns i d) e.connection → e.connection.gone ≡ false → Goes new s t e.connection (after_piece served piece e).connection)
-    → KeepsMarks (get_or conns i d) new → FollowsEach (set conns i new) s t x (after_event x (event.Piece n piece))
+pub piece_follows : (v w : ServerView) (waves : List Wave) (x : CoreState) (n i : ℕ) (t u : Turned) (a b : Waiting) (piece : List ℕ) → ServesEach v waves x → IsEntry v.entries n i
+    → conn_of t (n, a) ≡ get_or (conns_in v) i (conn_of t (n, a))
+    → ((e : ServedExchange) → HoldsWorld v.device e.world → Stands e.world.plant (conn_of t (n, a)) e.connection → e.connection.gone ≡ false
+    → Goes (conn_of u (n, b)) w.device v.summary w.summary e (after_piece served piece e))
+    → b.blocked ≡ a.blocked → KeepsDevice v.device w.device → w.sessions ≡ set v.sessions i u → w.entries ≡ set_value_at v.entries i b
+    → FollowsEach v w waves x (after_event x (event.Piece n piece))
 unfolding state_after_move state_after_event
-piece_follows conns x n i d new s t piece serves place goes marks =
-    let at = served_at conns x n i d serves place in
+piece_follows v w waves x n i t u a b piece serves place here goes mark device sessions entries =
+    let conns = conns_in v in
+    let plant = x.state.world.plant in
+    let at_entry = entry_is_place v.sessions v.entries n i serves.aligned place in
+    let at = served_at v waves x n i (conn_of t (n, a)) serves place in
     let e = after_piece served piece (exchange_of x.state at.k) in
-    let go = goes (exchange_of x.state at.k) at.stands at.there in
-    let number = sym go.stands.number ∙ marks.number ∙ place.number d in
-    let mark = at_mark conns x.blocked i d serves.marked place.within in
-    let blocked = marks.blocked ∙ mark ∙ ap (λ m. is_among m x.blocked) (place.number d) in
-    subst (λ (o : Option ServedConnection). FollowsEach (set conns i new) s t x (record { state = after_exchange o (after_piece served piece) x.state; blocked = x.blocked })) (sym at.found) (record {
-      serves = serves_changed conns x n i (get_or conns i d) new x.blocked e serves at go.stands number (go.gone ∙ at.there) (λ m other. refl) blocked;
-      counted = counted_one s t n at.k e x.state at.found number go.counted;
+    let go = goes (exchange_of x.state at.k) serves.device.world (subst (λ c. Stands plant c at.k) (sym here) at.stands) at.there in
+    let number = sym go.stands.number in
+    let at_mark_here = at_mark conns x.blocked i (conn_of t (n, a)) serves.connections.marked at_entry.within in
+    let marked : b.blocked ≡ is_among n x.blocked = mark ∙ ap (λ (c : Conn). c.blocked) here ∙ at_mark_here ∙ ap (λ m. is_among m x.blocked) (at_entry.number (conn_of t (n, a))) in
+    let new_conns : conns_of w.sessions w.entries ≡ set conns i (conn_of u (n, b)) =
+    ap (λ ts. conns_of ts w.entries) sessions ∙ ap (λ es. conns_of (set v.sessions i u) es) entries ∙ conns_set v.sessions v.entries i u b n serves.aligned place.within (place.number 0) in
+    let changed = stands_changed plant conns x n i (get_or conns i (conn_of t (n, a))) (conn_of u (n, b)) x.blocked e serves.connections at go.stands number (go.gone ∙ at.there) (λ m other. refl) marked in
+    let y : CoreState = record { state = with_exchange e x.state; blocked = x.blocked } in
+    subst (λ (o : Option ServedConnection). FollowsEach v w waves x (record { state = after_exchange o (after_piece served piece) x.state; blocked = x.blocked })) (sym at.found) (record {
+      serves = record {
+        device = record {
+          world = go.holds;
+          signals = go.signals ∙ serves.device.signals;
+          count = device.signals ∙ serves.device.count;
+          few = serves.device.few;
+          moment = device.moment ∙ serves.device.moment;
+        };
+        aligned = ap (λ (ts : List Turned). length ts) sessions ∙ length-set v.sessions i u ∙ serves.aligned ∙ sym (length-set_value_at v.entries i b) ∙ sym (ap (λ (es : List (ℕ × Waiting)). length es) entries);
+        connections = subst (λ (p : Plant). StandsEach p (conns_in w) y) (sym go.plant) (subst (λ cs. StandsEach plant cs y) (sym new_conns) changed);
+      };
+      counted = counted_one v.summary w.summary n at.k e x.state at.found number go.counted;
     })
 
-pub piece_absent : (conns : List Conn) (x : CoreState) (n : ℕ) (s : Summary) (piece : List ℕ) → ServesEach conns x → IsAbsent conns n
-    → FollowsEach conns s s x (after_event x (event.Piece n piece))
+pub piece_absent : (v : ServerView) (waves : List Wave) (x : CoreState) (n : ℕ) (piece : List ℕ) → ServesEach v waves x → IsNoEntry v.entries n
+    → FollowsEach v v waves x (after_event x (event.Piece n piece))
 unfolding state_after_move state_after_event
-piece_absent conns x n s piece serves absent_ =
-    stays conns x s (after_exchange (connection_of n x.state.connections) (after_piece served piece) x.state)
-    (unchanged n (after_piece served piece) x.state (not_there n x.state.connections conns serves.each absent_) (gone_takes_nothing piece x.state)) serves
+piece_absent v waves x n piece serves none =
+    stays v waves x (after_exchange (connection_of n x.state.connections) (after_piece served piece) x.state)
+    (unchanged n (after_piece served piece) x.state
+    (not_there x.state.world.plant n x.state.connections (conns_in v) serves.connections.each (no_entry_is_absent v.sessions v.entries n serves.aligned none)) (gone_takes_nothing piece x.state)) serves
 
 -- An end.
-pub ended_follows : (conns : List Conn) (x : CoreState) (n i : ℕ) (d : Conn) (s : Summary) → ServesEach conns x → IsPlace conns n i
-    → FollowsEach (remove conns i) s s x (after_event x (event.Closed n))
+pub ended_follows : (v w : ServerView) (waves : List Wave) (x : CoreState) (n i : ℕ) (d : Conn) → ServesEach v waves x → IsEntry v.entries n i
+    → w.device ≡ v.device → w.summary ≡ v.summary → w.sessions ≡ remove v.sessions i → w.entries ≡ remove v.entries i
+    → FollowsEach v w waves x (after_event x (event.Closed n))
 unfolding state_after_move state_after_event
-ended_follows conns x n i d s serves place =
-    let at = served_at conns x n i d serves place in
+ended_follows v w waves x n i d serves place device summary sessions entries =
+    let conns = conns_in v in
+    let at = served_at v waves x n i d serves place in
+    let at_entry = entry_is_place v.sessions v.entries n i serves.aligned place in
     let e = with_gone (exchange_of x.state at.k) in
-    let counted = counted_one s s n at.k e x.state at.found (sym at.stands.number ∙ place.number d) (record {
+    let number = sym at.stands.number ∙ at_entry.number d in
+    let counted = counted_one v.summary v.summary n at.k e x.state at.found number (record {
       connections = refl;
       requests = λ others c. c;
       replies = λ others c. c;
@@ -122,16 +124,36 @@ ended_follows conns x n i d s serves place =
       accepted = refl;
       refused = refl;
     }) in
+    let new_conns : conns_of w.sessions w.entries ≡ remove conns i =
+    ap (λ ts. conns_of ts w.entries) sessions ∙ ap (λ es. conns_of (remove v.sessions i) es) entries ∙ conns_remove v.sessions v.entries i serves.aligned in
+    let state = after_exchange (connection_of n x.state.connections) with_gone x.state in
+    let y : CoreState = record { state = state; blocked = x.blocked } in
+    let same : state.world ≡ x.state.world = ap (λ (o : Option ServedConnection). (after_exchange o with_gone x.state).world) at.found in
+    let moment : state.moment ≡ x.state.moment = ap (λ (o : Option ServedConnection). (after_exchange o with_gone x.state).moment) at.found in
+    let ended = stands_ended x.state.world.plant conns x n i (get_or conns i d) serves.connections at (at_entry.number d) in
     record {
-      serves = serves_ended conns x n i (get_or conns i d) serves at (place.number d);
-      counted = λ c. counted c ∙ ap (λ (o : Option ServedConnection). summary_of (after_exchange o with_gone x.state)) (sym at.found);
+      serves = record {
+        device = held_on v.device w.device waves x.state state device same moment serves.device;
+        aligned = ap (λ (ts : List Turned). length ts) sessions ∙ length_removed v.sessions v.entries i serves.aligned ∙ sym (ap (λ (es : List (ℕ × Waiting)). length es) entries);
+        connections = subst (λ (p : Plant). StandsEach p (conns_in w) y) (ap (λ (z : World). z.plant) (sym same)) (subst (λ cs. StandsEach x.state.world.plant cs y) (sym new_conns) ended);
+      };
+      counted = λ c. ap counts_in summary ∙ counted c ∙ ap (λ (o : Option ServedConnection). summary_of (after_exchange o with_gone x.state)) (sym at.found);
     }
+  where
+    length_removed : (ts : List Turned) (es : List (ℕ × Waiting)) (i : ℕ) → length ts ≡ length es → length (remove ts i) ≡ length (remove es i)
+    length_removed [] [] zero e = refl
+    length_removed [] [] (suc i) e = refl
+    length_removed [] (g ∷ gs) i e = absurd (omega (arith, e))
+    length_removed (s ∷ ss) [] i e = absurd (omega (arith, e))
+    length_removed (s ∷ ss) (g ∷ gs) zero e = omega (arith, e)
+    length_removed (s ∷ ss) (g ∷ gs) (suc i) e = ap suc (length_removed ss gs i (omega (arith, e)))
 
-pub ended_absent : (conns : List Conn) (x : CoreState) (n : ℕ) (s : Summary) → ServesEach conns x → IsAbsent conns n → FollowsEach conns s s x (after_event x (event.Closed n))
+pub ended_absent : (v : ServerView) (waves : List Wave) (x : CoreState) (n : ℕ) → ServesEach v waves x → IsNoEntry v.entries n → FollowsEach v v waves x (after_event x (event.Closed n))
 unfolding state_after_move state_after_event
-ended_absent conns x n s serves absent_ =
-    stays conns x s (after_exchange (connection_of n x.state.connections) with_gone x.state)
-    (unchanged n with_gone x.state (not_there n x.state.connections conns serves.each absent_) (gone_twice x.state)) serves
+ended_absent v waves x n serves none =
+    stays v waves x (after_exchange (connection_of n x.state.connections) with_gone x.state)
+    (unchanged n with_gone x.state
+    (not_there x.state.world.plant n x.state.connections (conns_in v) serves.connections.each (no_entry_is_absent v.sessions v.entries n serves.aligned none)) (gone_twice x.state)) serves
 
 -- whatever is called lost or shut is gone as one that is closed
 pub shut_is_closed : (x : CoreState) (n : ℕ) → after_event x (event.Closed n) ≡ after_move x (move.Shut n)
@@ -143,183 +165,60 @@ unfolding state_after_move state_after_event
 lost_is_closed x n = refl
 
 -- A connection is opened.
-pub opened_follows : (conns : List Conn) (x : CoreState) (n : ℕ) (c : Conn) (s t : Summary) → ServesEach conns x → connection_of n x.state.connections ≡ None
-    → Stands c (fresh_connection served.new_client n) → c.blocked ≡ false → t ≡ record s { connections = count_of (s.connections + 1) }
-    → FollowsEach (conns ++ c ∷ []) s t x (after_event x (event.Opened n))
+pub opened_follows : (v w : ServerView) (waves : List Wave) (x : CoreState) (n : ℕ) (t : Turned) (a : Waiting) → ServesEach v waves x → connection_of n x.state.connections ≡ None
+    → Stands x.state.world.plant (conn_of t (n, a)) (fresh_connection served.new_client n) → a.blocked ≡ false → w.device ≡ v.device
+    → w.summary ≡ (let s = v.summary in record s { connections = count_of (s.connections + 1) }) → w.sessions ≡ v.sessions ++ t ∷ [] → w.entries ≡ v.entries ++ (n, a) ∷ []
+    → FollowsEach v w waves x (after_event x (event.Opened n))
 unfolding state_after_move state_after_event
-opened_follows conns x n c s t serves new stands mark counts =
+opened_follows v w waves x n t a serves new stands mark device counts sessions entries =
     let k = fresh_connection served.new_client n in
-    let ks = x.state.connections in
-    let here : present (ks ++ k ∷ []) ≡ present ks ++ k ∷ [] = present-append ks (k ∷ []) ∙ ap (λ ps. present ks ++ ps) (present-there k [] refl) in
+    let state : ServedState = (let s = x.state in record s { connections = s.connections ++ k ∷ [] }) in
+    let y : CoreState = record { state = state; blocked = x.blocked } in
+    let new_conns : conns_of w.sessions w.entries ≡ conns_in v ++ conn_of t (n, a) ∷ [] =
+    ap (λ ts. conns_of ts w.entries) sessions ∙ ap (λ es. conns_of (v.sessions ++ t ∷ []) es) entries ∙ conns_push v.sessions v.entries t (n, a) serves.aligned in
+    let opened = stands_opened x.state.world.plant (conns_in v) x n (conn_of t (n, a)) serves.connections new stands mark in
     record {
       serves = record {
-        each = subst (λ ps. EachStands (conns ++ c ∷ []) ps) (sym here) (stands_append conns (present ks) c k serves.each stands);
-        apart = AreApart-append k ks new serves.apart;
-        marked = marked_append x.blocked conns c serves.marked (mark ∙ sym (ap (λ m. is_among m x.blocked) stands.number ∙ serves.known n new));
-        known = λ m none. serves.known m (was_none_append m ks (k ∷ []) none);
+        device = held_on v.device w.device waves x.state state device refl refl serves.device;
+        aligned = ap (λ (ts : List Turned). length ts) sessions ∙ length-append v.sessions (t ∷ []) ∙ ap (λ m. m + 1) serves.aligned
+            ∙ sym (length-append v.entries ((n, a) ∷ [])) ∙ sym (ap (λ (es : List (ℕ × Waiting)). length es) entries);
+        connections = subst (λ cs. StandsEach x.state.world.plant cs y) (sym new_conns) opened;
       };
-      counted = counted_fresh s t n x.state (record x.state { connections = ks ++ k ∷ [] }) refl counts;
+      counted = counted_fresh v.summary w.summary n x.state state refl counts;
     }
 
--- A tick.
-tick-none : (moment : ℕ) (k : ServedConnection) → connection_after_tick served moment tt k ≡ k
-unfolding connection_after_tick produce_all
-tick-none moment k = at_deaf (is_deaf k)
-  where
-    at_deaf : (b : Bool) → cond b k k ≡ k
-    at_deaf true = refl
-    at_deaf false = refl
-
-ticks-none : (moment : ℕ) (ks : List ServedConnection) → map (connection_after_tick served moment tt) ks ≡ ks
-ticks-none moment [] = refl
-ticks-none moment (k ∷ ks) = ap (λ j. j ∷ map (connection_after_tick served moment tt) ks) (tick-none moment k) ∙ ap (λ js. k ∷ js) (ticks-none moment ks)
-
--- the same connections under other moments and reloads
-same_connections : (conns : List Conn) (x : CoreState) (state : ServedState) → state.connections ≡ x.state.connections → ServesEach conns x
-    → ServesEach conns (record { state = state; blocked = x.blocked })
-same_connections conns x state e serves = record {
-  each = subst (λ (ks : List ServedConnection). EachStands conns (present ks)) (sym e) serves.each;
-  apart = subst AreApart (sym e) serves.apart;
-  marked = serves.marked;
-  known = λ m none. serves.known m (ap (λ (ks : List ServedConnection). connection_of m ks) (sym e) ∙ none);
-}
-
-pub tick_follows : (conns : List Conn) (x : CoreState) (moment : ℕ) (s : Summary) → ServesEach conns x → FollowsEach conns s s x (after_event x (event.Tick moment))
-unfolding state_after_move state_after_event
-tick_follows conns x moment s serves =
-    let same = ticks-none (moment_of_tick moment x.state) x.state.connections in
+-- what waits of a connection changes, and the connection with it
+pub waiting_follows : (v w : ServerView) (waves : List Wave) (x : CoreState) (n i : ℕ) (a b : Waiting) (blocked : List ℕ) (f : ServedConnection → ServedConnection) → ServesEach v waves x
+    → (place : IsEntry v.entries n i) → (t : Turned) → conn_of (get_or v.sessions i t) (n, a) ≡ get_or (conns_in v) i (conn_of t (n, a))
+    → ((k : ServedConnection) → Stands x.state.world.plant (conn_of (get_or v.sessions i t) (n, a)) k → Stands x.state.world.plant (conn_of (get_or v.sessions i t) (n, b)) (f k))
+    → ((k : ServedConnection) → (f k).number ≡ k.number) → ((k : ServedConnection) → (f k).gone ≡ k.gone)
+    → ((k : ServedConnection) → Counts v.summary v.summary k (f k))
+    → ((m : ℕ) → m ≢ n → is_among m blocked ≡ is_among m x.blocked) → b.blocked ≡ is_among n blocked
+    → w.device ≡ v.device → w.summary ≡ v.summary → w.sessions ≡ v.sessions → w.entries ≡ set_value_at v.entries i b
+    → (k : ServedConnection) → connection_of n x.state.connections ≡ Some k
+    → FollowsEach v w waves x (record { state = with_exchange (exchange_of x.state (f k)) x.state; blocked = blocked })
+waiting_follows v w waves x n i a b blocked f serves place t here goes number gone counts concerns mark device summary sessions entries k found =
+    let conns = conns_in v in
+    let plant = x.state.world.plant in
+    let d = conn_of t (n, a) in
+    let at_entry = entry_is_place v.sessions v.entries n i serves.aligned place in
+    let at = served_at v waves x n i d serves place in
+    let same : at.k ≡ k = (let both = sym at.found ∙ found in cc) in
+    let there : k.gone ≡ false = sym (ap (λ (l : ServedConnection). l.gone) same) ∙ at.there in
+    let stands : Stands plant (get_or conns i d) k = subst (λ l. Stands plant (get_or conns i d) l) same at.stands in
+    let own : k.number ≡ n = sym stands.number ∙ at_entry.number d in
+    let e = exchange_of x.state (f k) in
+    let new = conn_of (get_or v.sessions i t) (n, b) in
+    let new_conns : conns_of w.sessions w.entries ≡ set conns i new =
+    ap (λ ts. conns_of ts w.entries) sessions ∙ ap (λ es. conns_of v.sessions es) entries ∙ conns_set_waiting v.sessions v.entries i b n t serves.aligned place.within (place.number 0) in
+    let changed = stands_changed plant conns x n i (get_or conns i d) new blocked e serves.connections at (goes k (subst (λ c. Stands plant c k) (sym here) stands))
+    (number k ∙ own) (gone k ∙ there) concerns mark in
+    let y : CoreState = record { state = with_exchange e x.state; blocked = blocked } in
     record {
-      serves = same_connections conns x _ same serves;
-      counted = λ c. c ∙ ap (λ (ks : List ServedConnection). summary_of (record x.state { connections = ks })) (sym same);
+      serves = record {
+        device = held_on v.device w.device waves x.state (with_exchange e x.state) device refl refl serves.device;
+        aligned = ap (λ (ts : List Turned). length ts) sessions ∙ serves.aligned ∙ sym (length-set_value_at v.entries i b) ∙ sym (ap (λ (es : List (ℕ × Waiting)). length es) entries);
+        connections = subst (λ cs. StandsEach plant cs y) (sym new_conns) changed;
+      };
+      counted = λ c. ap counts_in summary ∙ counted_one v.summary v.summary n k e x.state found (number k ∙ own) (counts k) c;
     }
-
--- A reload, which the device refuses.
-pub reload_follows : (conns : List Conn) (x : CoreState) (text : List ℕ) (s t : Summary) → ServesEach conns x → t ≡ record s { refused = count_of (s.refused + 1) }
-    → FollowsEach conns s t x (after_event x (event.Reload text))
-unfolding state_after_move state_after_event
-reload_follows conns x text s t serves counts = record {
-  serves = same_connections conns x (record x.state { refused = x.state.refused + 1 }) refl serves;
-  counted = counted_refused s t x.state (record x.state { refused = x.state.refused + 1 }) refl counts;
-}
-
--- A connection is writable.
-writable_list : ℕ → List ℕ → List ℕ
-writable_list n blocked = filter (λ b. not (b == n)) blocked
-
-writable-other : (n m : ℕ) (bs : List ℕ) → m ≢ n → is_among m (writable_list n bs) ≡ is_among m bs
-unfolding writable_list
-writable-other n m [] other = refl
-writable-other n m (b ∷ bs) other = elim (cases_eq b n) [
-  | inl same ↦ let t = test_same b n same in let u = test_other b m (λ e. other (sym e ∙ same)) in rw (t, u) (writable-other n m bs other)
-  | inr differs ↦ let t = test_other b n differs in rw t (ap (λ q. (b == m) || q) (writable-other n m bs other))
-]
-
-writable-same : (n : ℕ) (bs : List ℕ) → is_among n (writable_list n bs) ≡ false
-unfolding writable_list
-writable-same n [] = refl
-writable-same n (b ∷ bs) = elim (cases_eq b n) [
-  | inl same ↦ let t = test_same b n same in rw t (writable-same n bs)
-  | inr differs ↦ let t = test_other b n differs in rw (t, t) (writable-same n bs)
-]
-
-pub writable_follows : (conns : List Conn) (x : CoreState) (n i : ℕ) (d new : Conn) (s : Summary) → ServesEach conns x → IsPlace conns n i
-    → ((k : ServedConnection) → Stands (get_or conns i d) k → Stands new k) → new.blocked ≡ false
-    → FollowsEach (set conns i new) s s x (after_event x (event.Writable n))
-unfolding state_after_move state_after_event writable_list
-writable_follows conns x n i d new s serves place keeps mark =
-    let at = served_at conns x n i d serves place in
-    let itself = put_back-itself n at.k x.state.connections at.found in
-    let changed = serves_changed conns x n i (get_or conns i d) new (writable_list n x.blocked) (exchange_of x.state at.k) serves at (keeps at.k at.stands)
-    (sym at.stands.number ∙ place.number d) at.there (λ m other. writable-other n m x.blocked other) (mark ∙ sym (writable-same n x.blocked)) in
-    record {
-      serves = subst (λ (ks : List ServedConnection). ServesEach (set conns i new) (record { state = record x.state { connections = ks }; blocked = writable_list n x.blocked })) itself changed;
-      counted = λ c. c;
-    }
-
--- no connection of the code has the number
-marked_absent : (n : ℕ) (old new : List ℕ) → Concerns n old new → (conns : List Conn) → IsAbsent conns n → EachMarked old conns → EachMarked new conns
-marked_absent n old new concerns [] absent_ all = tt
-marked_absent n old new concerns (c ∷ cs) absent_ all =
-    let P : Conn → Type 0 = λ c. c.number ≢ n in
-    (all.0 ∙ sym (concerns c.number (All-head P c cs absent_)), marked_absent n old new concerns cs (All-tail P c cs absent_) all.1)
-
-pub writable_absent : (conns : List Conn) (x : CoreState) (n : ℕ) (s : Summary) → ServesEach conns x → IsAbsent conns n
-    → FollowsEach conns s s x (after_event x (event.Writable n))
-unfolding state_after_move state_after_event writable_list
-writable_absent conns x n s serves absent_ = record {
-  serves = record {
-    each = serves.each;
-    apart = serves.apart;
-    marked = marked_absent n x.blocked (writable_list n x.blocked) (λ m other. writable-other n m x.blocked other) conns absent_ serves.marked;
-    known = known;
-  };
-  counted = λ c. c;
-}
-  where
-    known : (m : ℕ) → connection_of m x.state.connections ≡ None → is_among m (writable_list n x.blocked) ≡ false
-    known m none = elim (cases_eq m n) [
-      | inl same ↦ ap (λ q. is_among q (writable_list n x.blocked)) same ∙ writable-same n x.blocked
-      | inr other ↦ writable-other n m x.blocked other ∙ serves.known m none
-    ]
-
--- Bytes of an offer are taken.
-blocked_list : Bool → ℕ → List ℕ → List ℕ
-blocked_list short n blocked = cond short (n ∷ blocked) blocked
-
-took-other : (short : Bool) (n m : ℕ) (bs : List ℕ) → m ≢ n → is_among m (blocked_list short n bs) ≡ is_among m bs
-unfolding blocked_list
-took-other false n m bs other = refl
-took-other true n m bs other = ap (λ q. q || is_among m bs) (test_other n m (λ e. other (sym e)))
-
-took-same : (short : Bool) (n : ℕ) (bs : List ℕ) → is_among n bs ≡ false → short ≡ is_among n (blocked_list short n bs)
-unfolding blocked_list
-took-same false n bs free = sym free
-took-same true n bs free = sym (or_left (n == n) (is_among n bs) (test_same n n refl))
-
-took_exchange : (n : ℕ) (s : ServedState) (k : ServedConnection) → k.gone ≡ false → with_took n (exchange_of s k) ≡ exchange_of s (record k { bytes_taken = k.bytes_taken + n })
-took_exchange n s k there = cond-false k.gone (exchange_of s k) (exchange_of s (record k { bytes_taken = k.bytes_taken + n })) there
-
-pub took_follows : (conns : List Conn) (x : CoreState) (c i : ℕ) (d new : Conn) (s : Summary) (left bytes : List ℕ) → ServesEach conns x → IsPlace conns c i
-    → ((k : ServedConnection) → Stands (get_or conns i d) k → Stands new (record k { bytes_taken = k.bytes_taken + length bytes }))
-    → (get_or conns i d).blocked ≡ false → new.blocked ≡ nat_lt (length bytes) (length left)
-    → FollowsEach (set conns i new) s s x (after_move x (move.Took c (length left) bytes))
-unfolding state_after_move blocked_list
-took_follows conns x c i d new s left bytes serves place goes free mark =
-    let at = served_at conns x c i d serves place in
-    let n = length bytes in
-    let l = record at.k { bytes_taken = at.k.bytes_taken + n } in
-    let short = nat_lt n (length left) in
-    let number = sym at.stands.number ∙ place.number d in
-    let own = ap (λ m. is_among m x.blocked) (sym (place.number d)) ∙ sym (at_mark conns x.blocked i d serves.marked place.within) ∙ free in
-    let moved : after_exchange (connection_of c x.state.connections) (with_took n) x.state ≡ with_exchange (exchange_of x.state l) x.state =
-    ap (λ o. after_exchange o (with_took n) x.state) at.found ∙ ap (λ e. with_exchange e x.state) (took_exchange n x.state at.k at.there) in
-    let changed = serves_changed conns x c i (get_or conns i d) new (blocked_list short c x.blocked) (exchange_of x.state l) serves at (goes at.k at.stands)
-    number at.there (λ m other. took-other short c m x.blocked other) (mark ∙ took-same short c x.blocked own) in
-    let counted = counted_one s s c at.k (exchange_of x.state l) x.state at.found number (record {
-      connections = refl;
-      requests = λ others e. e;
-      replies = λ others e. e;
-      samples = λ others e. e;
-      accepted = refl;
-      refused = refl;
-    }) in
-    subst (λ (z : ServedState). FollowsEach (set conns i new) s s x (record { state = z; blocked = blocked_list short c x.blocked })) (sym moved)
-    (record { serves = changed; counted = counted })
-
--- The same, for a connection that was read at its place.
-pub piece_at : (conns : List Conn) (x : CoreState) (n i : ℕ) (conn new : Conn) (s t : Summary) (piece : List ℕ) → ServesEach conns x → IsPlace conns n i → conn ≡ get_or conns i conn
-    → ((e : ServedExchange) → Stands conn e.connection → e.connection.gone ≡ false → Goes new s t e.connection (after_piece served piece e).connection)
-    → KeepsMarks conn new → FollowsEach (set conns i new) s t x (after_event x (event.Piece n piece))
-piece_at conns x n i conn new s t piece serves place read goes marks =
-    piece_follows conns x n i conn new s t piece serves place (λ e st there. goes e (subst (λ c. Stands c e.connection) (sym read) st) there) (subst (λ c. KeepsMarks c new) read marks)
-
-pub writable_at : (conns : List Conn) (x : CoreState) (n i : ℕ) (conn new : Conn) (s : Summary) → ServesEach conns x → IsPlace conns n i → conn ≡ get_or conns i conn
-    → ((k : ServedConnection) → Stands conn k → Stands new k) → new.blocked ≡ false → FollowsEach (set conns i new) s s x (after_event x (event.Writable n))
-writable_at conns x n i conn new s serves place read keeps mark =
-    writable_follows conns x n i conn new s serves place (λ k st. keeps k (subst (λ c. Stands c k) (sym read) st)) mark
-
-pub took_at : (conns : List Conn) (x : CoreState) (n i : ℕ) (conn new : Conn) (s : Summary) (left bytes : List ℕ) → ServesEach conns x → IsPlace conns n i → conn ≡ get_or conns i conn
-    → ((k : ServedConnection) → Stands conn k → Stands new (record k { bytes_taken = k.bytes_taken + length bytes })) → conn.blocked ≡ false → new.blocked ≡ nat_lt (length bytes) (length left)
-    → FollowsEach (set conns i new) s s x (after_move x (move.Took n (length left) bytes))
-took_at conns x n i conn new s left bytes serves place read goes free mark =
-    took_follows conns x n i conn new s left bytes serves place (λ k st. goes k (subst (λ c. Stands c k) (sym read) st)) (ap (λ (c : Conn). c.blocked) (sym read) ∙ free) mark

@@ -5,7 +5,8 @@ use Rattle.std.proofs.lemmas.Bool.{cases_Bool, cases_eq, cond-true, cond-false, 
 use Rattle.ads_machine.specs.Connection.{connection_of, put_back}
 use Rattle.ads_machine.proofs.Find.{test_same, test_other, or_else, connection_of-append, number_of_found}
 use Rattle.server_core.specs.Served.{Client, ServedConnection}
-use Rattle.server_core.specs.Serves.{present, AreApart}
+use Rattle.ads_served.specs.Opened.{AreApart}
+use Rattle.server_core.specs.Serves.{present}
 
 pub present-gone : (k : ServedConnection) (ks : List ServedConnection) → k.gone ≡ true → present (k ∷ ks) ≡ present ks
 present-gone k ks e = cond-false (not k.gone) (k ∷ present ks) (present ks) (not_from_true k.gone e)

@@ -131,3 +131,16 @@ counted_refused old new s t state counts e =
     (ap (λ (z : Summary). z.samples) counts ∙ ap (λ (z : CountsOfState). z.samples) e)
     (ap (λ (z : Summary). z.accepted) counts ∙ ap (λ (z : CountsOfState). z.accepted) e)
     (ap (λ (z : Summary). z.refused) counts ∙ ap (λ m. count_of (m + 1)) (ap (λ (z : CountsOfState). z.refused) e) ∙ once s.refused))
+
+-- an accepted one is counted
+pub counted_accepted : (old new : Summary) (s t : ServedState) → t ≡ record s { accepted = s.accepted + 1 } → new ≡ record old { accepted = count_of (old.accepted + 1) }
+    → counts_in old ≡ summary_of s → counts_in new ≡ summary_of t
+counted_accepted old new s t state counts e =
+    subst (λ (z : ServedState). counts_in new ≡ summary_of z) (sym state)
+    (same_counts_of (counts_in new) (summary_of (record s { accepted = s.accepted + 1 }))
+    (ap (λ (z : Summary). z.connections) counts ∙ ap (λ (z : CountsOfState). z.connections) e)
+    (ap (λ (z : Summary). z.requests) counts ∙ ap (λ (z : CountsOfState). z.requests) e)
+    (ap (λ (z : Summary). z.replies) counts ∙ ap (λ (z : CountsOfState). z.replies) e)
+    (ap (λ (z : Summary). z.samples) counts ∙ ap (λ (z : CountsOfState). z.samples) e)
+    (ap (λ (z : Summary). z.accepted) counts ∙ ap (λ m. count_of (m + 1)) (ap (λ (z : CountsOfState). z.accepted) e) ∙ once s.accepted)
+    (ap (λ (z : Summary). z.refused) counts ∙ ap (λ (z : CountsOfState). z.refused) e))

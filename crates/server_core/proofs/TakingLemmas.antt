@@ -1,42 +1,76 @@
 -- Taking frame after frame, down to a rest that is open or broken, or until the connection is closing.
-use Rattle.std.proofs.Common.{◌≡◌, ℕ, ◌+◌, List, [], ◌∷◌, drop, Bool, true, false, cond, not, refl, sym, ap, ◌∙◌, subst}
-use Rattle.std.proofs.lemmas.Bool.{cond-true, cond-false, or_left, or_from}
+use Rattle.std.proofs.Common.{◌≡◌, ℕ, ◌+◌, List, [], ◌∷◌, ◌++◌, length, take, arith, drop, Bool, true, false, cond, not, refl, sym, ap, ◌∙◌, subst}
+use Rattle.std.specs.Prelude.{Result, Ok, Err, OnOk}
+use Rattle.std.proofs.lemmas.List.{take-append-le, take_all}
+use Rattle.std.proofs.lemmas.Bool.{true≢false, cond-true, cond-false, or_left, or_from}
 use Rattle.ads_frames.specs.Frame.{frame_bytes}
 use Rattle.ads_frames.specs.Division.{front_of, frames_of, rest_of, is_broken}
-use Rattle.ads_machine.specs.Device.{Reply}
+use Rattle.ads_base.specs.declared.net_id.NetId.{NetId}
+use Rattle.ads_plant.specs.Description.{Route}
+use Rattle.ads_plant.specs.World.{Plant}
+use Rattle.ads_machine.specs.Device.{Answer, Answered, Silent, Closing, Reply, FrameOutcome}
 use Rattle.ads_machine.specs.Connection.{with_closing, produce, is_deaf}
-use Rattle.ads_machine.specs.Piece.{packets_left, with_one_taken, after_packet, after_packets, after_rest, end_of_piece, with_received, with_piece, after_piece}
-use Rattle.ads_machine.specs.Selftest.{selftest_reply}
-use Rattle.server_core.specs.Served.{served, ServedConnection, ServedExchange}
+use Rattle.ads_machine.specs.Piece.{packets_left, with_one_taken, with_client, after_answer, after_outcome, after_packet, after_packets, after_rest, end_of_piece, with_received, with_piece, after_piece}
+use Rattle.ads_machine.specs.Replies.{performed}
 use Rattle.ads_machine.specs.Summary.{count_of}
+use Rattle.ams_tcp.specs.Held.{Held}
 use Rattle.ams_tcp.specs.History.{Represents, answer_of, after_next, after_feed}
 use Rattle.ams_tcp.specs.declared.cut.Cut.TheVariants as cut
-use Rattle.server_core.specs.declared.conn.Conn.{Conn}
+use Rattle.port_device.specs.Holds.{HoldsPorts}
+use Rattle.session.specs.SessionState.{SessionState}
+use Rattle.session.specs.StandsFor.{StandsFor}
+use Rattle.session.specs.Takes.{Takes as TakesPacket, outcome_of_packet, HasAddress, IsAnswer}
+use Rattle.session.specs.declared.taken.Taken.{Taken}
+use Rattle.port_device.specs.PortMemory.{PortsMemory}
+use Rattle.session.specs.declared.taken.Taken.TheVariants as taken
 use Rattle.server_core.specs.declared.summary.Summary.{Summary}
-use Rattle.server_core.specs.Counts.{replies_of, samples_of}
+use Rattle.server_core.specs.declared.device.Device.{Device}
+use Rattle.server_core.specs.Served.{served, World, Client, ServedConnection, ServedExchange}
+use Rattle.server_core.specs.Conns.{Conn}
+use Rattle.server_core.specs.Counts.{Counts, replies_of, samples_of}
 use Rattle.server_core.specs.ConnStands.{history_of, Stands, Goes}
-use Rattle.server_core.specs.Taking.{settled, Takes, TakesSome}
+use Rattle.server_core.specs.HoldsWorld.{HoldsWorld, IsConnected}
+use Rattle.server_core.specs.Taking.{answered, settled, Takes, TakesSome, Produces}
 use Rattle.server_core.proofs.CountLemmas.{same_count, same_counts, then_counts, one_more}
 use Rattle.server_core.proofs.StreamLemmas.{packet_is_next, rest_is_open, rest_is_broken, after_frame, after_not_yet, after_broken, own_mark}
-use Rattle.server_core.proofs.ProduceLemmas.{produce-stream, counts_closing}
+use Rattle.server_core.proofs.ProduceLemmas.{SameStream, produce-stream, counts_closing, stands_with_closing}
 
--- the packet is answered
-pub answered : List ℕ → ServedConnection → ServedConnection
-answered packet k = produce (Reply (frame_bytes (selftest_reply packet))) (with_one_taken k)
+-- the device takes a packet as the session does
+pub take_is : (w : World) (c : Client) (packet : List ℕ) → served.take w c packet ≡ outcome_of_packet w c packet
+unfolding served
+take_is w c packet = refl
 
-pub after_packet-answered : (packet : List ℕ) (x : ServedExchange) → x.connection.closing ≡ false → (after_packet served packet x).connection ≡ answered packet x.connection
-unfolding after_packet answered
-after_packet-answered packet x is_open = ap (λ (y : ServedExchange). y.connection) (cond-false x.connection.closing x _ is_open)
+-- a packet changes neither the plant nor a signal
+pub record KeepsPlant (w v : World) : Type 0 where
+  pub plant : v.plant ≡ w.plant
+  pub signals : v.signals ≡ w.signals
 
-pub answered-left : (packet : List ℕ) (k : ServedConnection) → packets_left (answered packet k) ≡ drop (k.frames_taken + 1) (frames_of k.received)
-unfolding answered
-answered-left packet k =
-    let stream = produce-stream (Reply (frame_bytes (selftest_reply packet))) (with_one_taken k) in
-    ap (λ n. drop n (frames_of (produce (Reply (frame_bytes (selftest_reply packet))) (with_one_taken k)).received)) stream.frames_taken
-    ∙ ap (λ bs. drop (k.frames_taken + 1) (frames_of bs)) stream.received
+pub take_keeps : (w : World) (c : Client) (packet : List ℕ) → KeepsPlant w (served.take w c packet).world
+unfolding served performed
+take_keeps w c packet = record { plant = refl; signals = refl }
+
+-- an exchange behind its frame
+abbrev pub with_one : ServedExchange → ServedExchange
+with_one x = record x { connection = with_one_taken x.connection }
+
+pub after_packet-answered : (packet : List ℕ) (x : ServedExchange) → x.connection.closing ≡ false → after_packet served packet x ≡ answered packet (with_one x)
+unfolding after_packet
+after_packet-answered packet x is_open = cond-false x.connection.closing x _ is_open
+
+answer-stream : (a : Answer) (k : ServedConnection) → SameStream k (after_answer a k)
+answer-stream (Answered packet) k = produce-stream (Reply (frame_bytes packet)) k
+answer-stream Silent k = record { number = refl; received = refl; frames_taken = refl; client = refl; gone = refl }
+answer-stream Closing k = record { number = refl; received = refl; frames_taken = refl; client = refl; gone = refl }
+
+answered-left : (packet : List ℕ) (x : ServedExchange) → packets_left (answered packet (with_one x)).connection ≡ drop (x.connection.frames_taken + 1) (frames_of x.connection.received)
+answered-left packet x =
+    let o = served.take x.world x.connection.client packet in
+    let stream = answer-stream o.answer (with_client o.client (with_one_taken x.connection)) in
+    ap (λ n. drop n (frames_of (after_answer o.answer (with_client o.client (with_one_taken x.connection))).received)) stream.frames_taken
+    ∙ ap (λ bs. drop (x.connection.frames_taken + 1) (frames_of bs)) stream.received
 
 -- one packet is taken, and the end is the same
-pub settled-one : (packet : List ℕ) (packets : List (List ℕ)) (x : ServedExchange) → x.connection.closing ≡ false
+settled-one : (packet : List ℕ) (packets : List (List ℕ)) (x : ServedExchange) → x.connection.closing ≡ false
     → packets_left x.connection ≡ packet ∷ packets → packets_left (after_packet served packet x).connection ≡ packets
     → settled (after_packet served packet x) ≡ settled x
 unfolding settled after_packets
@@ -82,151 +116,275 @@ settled-broken x none rest =
     ap (λ ps. end_of_piece (after_packets served ps x)) none
     ∙ ap (λ (k : ServedConnection). record x { connection = k }) (cond-true (is_broken (front_of (rest_of x.connection.received))) (with_closing x.connection) x.connection rest)
 
--- the splitter gave a frame, and the request was counted
-pub taken_one : (conn mid : Conn) (s t : Summary) (k : ServedConnection) (packet : List ℕ) → Stands conn k
-    → cut.Frame packet ≡ answer_of (history_of conn k) → Represents mid.splitter (after_next (history_of conn k))
-    → mid.number ≡ conn.number → mid.out ≡ conn.out → mid.closing ≡ conn.closing → t ≡ record s { requests = count_of (s.requests + 1) }
-    → Goes mid s t k (with_one_taken k)
-taken_one conn mid s t k packet st answer stream number out closing counted = record {
-  stands = record {
-    number = number ∙ st.number;
-    stream = after_frame mid.splitter (history_of conn k) packet answer stream;
-    waiting = out ∙ st.waiting;
-    bytes_taken = st.bytes_taken;
-    closing = closing ∙ st.closing;
-  };
-  counted = record {
-    connections = ap (λ (x : Summary). x.connections) counted;
-    requests = λ others e. ap (λ (x : Summary). x.requests) counted ∙ one_more s.requests k.frames_taken others e;
-    replies = λ others e. ap (λ (x : Summary). x.replies) counted ∙ e;
-    samples = λ others e. ap (λ (x : Summary). x.samples) counted ∙ e;
-    accepted = ap (λ (x : Summary). x.accepted) counted;
-    refused = ap (λ (x : Summary). x.refused) counted;
-  };
-  gone = refl;
+-- a session whose stream alone is another stands for the same client
+pub kept_client : (plant : Plant) (c : Client) (s t : SessionState) → t ≡ record s { stream = t.stream } → StandsFor plant c s → StandsFor plant c t
+kept_client plant c s t keeps st = subst (λ (held : SessionState). StandsFor plant c held) (sym keeps) (record { handles = st.handles; additions = st.additions; watches = st.watches })
+
+-- the session gave a frame
+pub taken_one : (plant : Plant) (conn mid : Conn) (k : ServedConnection) (packet : List ℕ) → Stands plant conn k
+    → cut.Frame packet ≡ answer_of (history_of conn k) → Represents mid.session.stream (after_next (history_of conn k))
+    → mid.session ≡ (let held = conn.session in record held { stream = mid.session.stream }) → mid.number ≡ conn.number → mid.out ≡ conn.out → mid.closing ≡ conn.closing
+    → Stands plant mid (with_one_taken k)
+taken_one plant conn mid k packet st answer stream keeps number out closing = record {
+  number = number ∙ st.number;
+  stream = after_frame mid.session.stream (history_of conn k) packet answer stream;
+  client = λ is_open. kept_client plant k.client conn.session mid.session keeps (st.client is_open);
+  waiting = out ∙ st.waiting;
+  bytes_taken = st.bytes_taken;
+  closing = closing ∙ st.closing;
 }
 
--- and it was answered
-pub takes_frame : (conn mid new : Conn) (s t u : Summary) (x : ServedExchange) (packet frame : List ℕ) → x.connection.closing ≡ false
-    → cut.Frame packet ≡ answer_of (history_of conn x.connection) → Goes mid s t x.connection (with_one_taken x.connection)
-    → Goes new t u (with_one_taken x.connection) (produce (Reply frame) (with_one_taken x.connection)) → frame ≡ frame_bytes (selftest_reply packet)
-    → Takes (not new.closing) new s u x
-unfolding answered
-takes_frame conn mid new s t u x packet frame is_open answer first second is_reply = by_mark new.closing refl
-  where
-    k : ServedConnection
-    k = x.connection
+-- and the request was counted
+pub counts_request : (s t : Summary) (k : ServedConnection) → t ≡ record s { requests = count_of (s.requests + 1) } → Counts s t k (with_one_taken k)
+counts_request s t k counted = record {
+  connections = ap (λ (x : Summary). x.connections) counted;
+  requests = λ others e. ap (λ (x : Summary). x.requests) counted ∙ one_more s.requests k.frames_taken others e;
+  replies = λ others e. ap (λ (x : Summary). x.replies) counted ∙ e;
+  samples = λ others e. ap (λ (x : Summary). x.samples) counted ∙ e;
+  accepted = ap (λ (x : Summary). x.accepted) counted;
+  refused = ap (λ (x : Summary). x.refused) counted;
+}
 
+-- nothing was produced, and the client is another
+pub stands_with_client : (plant : Plant) (conn new : Conn) (k : ServedConnection) (c : Client) → Stands plant conn k → new.session.stream ≡ conn.session.stream → StandsFor plant c new.session
+    → new.number ≡ conn.number → new.out ≡ conn.out → new.closing ≡ conn.closing → Stands plant new (with_client c k)
+stands_with_client plant conn new k c st stream client number out closing = record {
+  number = number ∙ st.number;
+  stream = subst (λ (held : Held). Represents held (record { fed = k.received; given = k.frames_taken; told_broken = held.told_broken })) (sym stream) st.stream;
+  client = λ is_open. client;
+  waiting = out ∙ st.waiting;
+  bytes_taken = st.bytes_taken;
+  closing = closing ∙ st.closing;
+}
+
+same_with_client : (s : Summary) (k : ServedConnection) (c : Client) → Counts s s k (with_client c k)
+same_with_client s k c = record {
+  connections = refl;
+  requests = same_count s.requests k.frames_taken;
+  replies = same_count s.replies (replies_of k);
+  samples = same_count s.samples (samples_of k);
+  accepted = refl;
+  refused = refl;
+}
+
+-- the same counts where the client alone is another
+pub counts_client : (s t : Summary) (k l : ServedConnection) (c : Client) → Counts s t (with_client c k) l → Counts s t k l
+counts_client s t k l c counted = then_counts s s t k (with_client c k) l (same_with_client s k c) counted
+
+-- what the session makes of a packet is what the device does
+pub took_packet : (w : World) (c : Client) (packet : List ℕ) (answer : Taken) (ports : PortsMemory) (s : SessionState) → TakesPacket (outcome_of_packet w c packet) answer ports s
+    → TakesPacket (served.take w c packet) answer ports s
+took_packet w c packet answer ports s took = subst (λ o. TakesPacket o answer ports s) (sym (take_is w c packet)) took
+
+-- the world that the device holds after a packet
+pub held_after : (old new : Device) (w : World) (c : Client) (packet : List ℕ) (held : HoldsWorld old w)
+    → HoldsPorts (served.take w c packet).world new.ports → new.net ≡ old.net → new.routes ≡ old.routes → HoldsWorld new (served.take w c packet).world
+held_after old new w c packet held ports net routes =
+    let keeps = take_keeps w c packet in
+    record {
+      ports = ports;
+      address = subst (λ (p : Plant). HasAddress p new.net.bytes new.routes) (sym keeps.plant)
+          (subst (λ (n : NetId). HasAddress w.plant n.bytes new.routes) (sym net)
+          (subst (λ (rs : List Route). HasAddress w.plant old.net.bytes rs) (sym routes) held.address));
+    }
+
+-- the client that the session stands for, over the plant that is as before
+pub stands_after : (w : World) (c : Client) (packet : List ℕ) (s : SessionState) → StandsFor (served.take w c packet).world.plant (served.take w c packet).client s
+    → StandsFor w.plant (served.take w c packet).client s
+stands_after w c packet s stands = subst (λ (p : Plant). StandsFor p (served.take w c packet).client s) (take_keeps w c packet).plant stands
+
+pub connected_after : (old new : Device) (s t : SessionState) (packet : List ℕ) (k : IsConnected old s) (answer : Taken)
+    → TakesPacket (outcome_of_packet k.world k.client packet) answer new.ports t → new.net ≡ old.net → new.routes ≡ old.routes → IsConnected new t
+connected_after old new s t packet k answer took net routes =
+    let takes = took_packet k.world k.client packet answer new.ports t took in
+    record {
+      world = (served.take k.world k.client packet).world;
+      client = (served.take k.world k.client packet).client;
+      held = held_after old new k.world k.client packet k.held takes.held net routes;
+      stands = takes.stands;
+    }
+
+-- an exchange in which a packet was answered so
+goes_answered : (new : Conn) (device : Device) (s t : Summary) (packet : List ℕ) (x : ServedExchange) (a : Answer) → (served.take x.world x.connection.client packet).answer ≡ a
+    → (let o = served.take x.world x.connection.client packet in Stands x.world.plant new (after_answer a (with_client o.client x.connection)))
+    → (let o = served.take x.world x.connection.client packet in Counts s t x.connection (after_answer a (with_client o.client x.connection)))
+    → HoldsWorld device (served.take x.world x.connection.client packet).world
+    → Goes new device s t x (answered packet x)
+goes_answered new device s t packet x a answer stands counted holds =
+    let o = served.take x.world x.connection.client packet in
+    let keeps = take_keeps x.world x.connection.client packet in
+    let k = with_client o.client x.connection in
+    record {
+      stands = subst (λ (b : Answer). Stands x.world.plant new (after_answer b k)) (sym answer) stands;
+      holds = holds;
+      plant = keeps.plant;
+      signals = keeps.signals;
+      counted = subst (λ (b : Answer). Counts s t x.connection (after_answer b k)) (sym answer) counted;
+      gone = (answer-stream o.answer k).gone;
+    }
+
+-- the answer that the machine gives, by what the session gives
+pub is_reply : (a : Answer) (frame : List ℕ) → IsAnswer a (taken.Answer frame) → (packet : List ℕ) × (a ≡ Answered packet) × (frame ≡ frame_bytes packet)
+is_reply (Answered packet) frame e = (packet, refl, e)
+is_reply Silent frame e = absurd e
+is_reply Closing frame e = absurd e
+
+pub is_silent : (a : Answer) → IsAnswer a taken.Silent → a ≡ Silent
+is_silent (Answered packet) e = absurd e
+is_silent Silent e = refl
+is_silent Closing e = absurd e
+
+pub is_close : (a : Answer) → IsAnswer a taken.Close → a ≡ Closing
+is_close (Answered packet) e = absurd e
+is_close Silent e = absurd e
+is_close Closing e = refl
+
+-- the packet is answered by a frame
+pub goes_reply : (new : Conn) (device : Device) (s t : Summary) (packet frame : List ℕ) (x : ServedExchange)
+    → IsAnswer (served.take x.world x.connection.client packet).answer (taken.Answer frame)
+    → Produces x.world.plant new s t (Reply frame) (with_client (served.take x.world x.connection.client packet).client x.connection)
+    → HoldsWorld device (served.take x.world x.connection.client packet).world → Goes new device s t x (answered packet x)
+goes_reply new device s t packet frame x answer produces holds =
+    let o = served.take x.world x.connection.client packet in
+    let k = with_client o.client x.connection in
+    let reply = is_reply o.answer frame answer in
+    goes_answered new device s t packet x (Answered reply.0) reply.1
+    (subst (λ (bytes : List ℕ). Stands x.world.plant new (produce (Reply bytes) k)) reply.2 produces.stands)
+    (subst (λ (bytes : List ℕ). Counts s t x.connection (produce (Reply bytes) k)) reply.2 (counts_client s t x.connection (produce (Reply frame) k) o.client produces.counted)) holds
+
+-- by nothing
+pub goes_silent : (new : Conn) (device : Device) (s : Summary) (packet : List ℕ) (x : ServedExchange) → IsAnswer (served.take x.world x.connection.client packet).answer taken.Silent
+    → Stands x.world.plant new (with_client (served.take x.world x.connection.client packet).client x.connection)
+    → HoldsWorld device (served.take x.world x.connection.client packet).world → Goes new device s s x (answered packet x)
+goes_silent new device s packet x answer stands holds =
+    let o = served.take x.world x.connection.client packet in
+    goes_answered new device s s packet x Silent (is_silent o.answer answer) stands (same_with_client s x.connection o.client) holds
+
+-- by an end of the connection
+pub goes_close : (mid new : Conn) (device : Device) (s : Summary) (packet : List ℕ) (x : ServedExchange) → IsAnswer (served.take x.world x.connection.client packet).answer taken.Close
+    → Stands x.world.plant mid (with_client (served.take x.world x.connection.client packet).client x.connection)
+    → new.number ≡ mid.number → new.session ≡ mid.session → new.out ≡ mid.out → new.closing ≡ true
+    → HoldsWorld device (served.take x.world x.connection.client packet).world → Goes new device s s x (answered packet x)
+goes_close mid new device s packet x answer stands number session out closing holds =
+    let o = served.take x.world x.connection.client packet in
+    let k = with_client o.client x.connection in
+    goes_answered new device s s packet x Closing (is_close o.answer answer)
+    (stands_with_closing x.world.plant mid new k stands number session out closing) (counts_client s s x.connection (with_closing k) o.client (counts_closing s k)) holds
+
+-- one exchange after another
+pub then_goes : (mid new : Conn) (d e : Device) (s t u : Summary) (x y z : ServedExchange) → Goes mid d s t x y → Goes new e t u y z → Goes new e s u x z
+then_goes mid new d e s t u x y z first second = record {
+  stands = subst (λ (p : Plant). Stands p new z.connection) first.plant second.stands;
+  holds = second.holds;
+  plant = second.plant ∙ first.plant;
+  signals = second.signals ∙ first.signals;
+  counted = then_counts s t u x.connection y.connection z.connection first.counted second.counted;
+  gone = second.gone ∙ first.gone;
+}
+
+-- a frame is taken and answered
+pub takes_frame : (conn mid new : Conn) (d e : Device) (s t u : Summary) (x : ServedExchange) (packet : List ℕ) → x.connection.closing ≡ false
+    → cut.Frame packet ≡ answer_of (history_of conn x.connection) → Goes mid d s t x (with_one x) → Goes new e t u (with_one x) (answered packet (with_one x))
+    → Takes (not new.closing) new e s u x
+takes_frame conn mid new d e s t u x packet is_open answer first second = by_mark new.closing refl
+  where
     y : ServedExchange
     y = after_packet served packet x
 
-    goes : Goes new s u k y.connection
-    goes =
-        let same : produce (Reply frame) (with_one_taken k) ≡ y.connection =
-        ap (λ f. produce (Reply f) (with_one_taken k)) is_reply ∙ sym (after_packet-answered packet x is_open) in
-        subst (λ l. Goes new s u k l) same (record {
-          stands = second.stands;
-          counted = then_counts s t u k (with_one_taken k) (produce (Reply frame) (with_one_taken k)) first.counted second.counted;
-          gone = second.gone ∙ first.gone;
-        })
+    goes : Goes new e s u x y
+    goes = subst (λ z. Goes new e s u x z) (sym (after_packet-answered packet x is_open)) (then_goes mid new d e s t u x (with_one x) (answered packet (with_one x)) first second)
 
     same_end : settled y ≡ settled x
-    same_end = settled-one packet (drop (k.frames_taken + 1) (frames_of k.received)) x is_open (packet_is_next (history_of conn k) packet answer)
-        (ap packets_left (after_packet-answered packet x is_open) ∙ answered-left packet k)
+    same_end = settled-one packet (drop (x.connection.frames_taken + 1) (frames_of x.connection.received)) x is_open (packet_is_next (history_of conn x.connection) packet answer)
+        (ap (λ (z : ServedExchange). packets_left z.connection) (after_packet-answered packet x is_open) ∙ answered-left packet x)
 
-    by_mark : (b : Bool) → new.closing ≡ b → Takes (not b) new s u x
-    by_mark false e = record { next = y; goes = goes; is_open = sym goes.stands.closing ∙ e; same_end = same_end }
-    by_mark true e =
-        let end : settled x ≡ y = sym same_end ∙ settled-closing y (sym goes.stands.closing ∙ e) in
-        subst (λ z. Goes new s u k z.connection) (sym end) goes
+    by_mark : (b : Bool) → new.closing ≡ b → Takes (not b) new e s u x
+    by_mark false c = record { next = y; goes = goes; is_open = sym goes.stands.closing ∙ c; same_end = same_end }
+    by_mark true c =
+        let end : settled x ≡ y = sym same_end ∙ settled-closing y (sym goes.stands.closing ∙ c) in
+        subst (λ z. Goes new e s u x z) (sym end) goes
+
+-- nothing of the device and the world changes
+pub goes_still : (new : Conn) (d : Device) (s t : Summary) (x : ServedExchange) (l : ServedConnection) → HoldsWorld d x.world → Stands x.world.plant new l → Counts s t x.connection l
+    → l.gone ≡ x.connection.gone → Goes new d s t x (record x { connection = l })
+goes_still new d s t x l held stands counted gone = record { stands = stands; holds = held; plant = refl; signals = refl; counted = counted; gone = gone }
 
 -- the rest is open: nothing changes
-pub takes_open : (conn new : Conn) (s : Summary) (x : ServedExchange) → Stands conn x.connection
-    → cut.NotYet ≡ answer_of (history_of conn x.connection) → Represents new.splitter (after_next (history_of conn x.connection))
-    → new.number ≡ conn.number → new.out ≡ conn.out → new.closing ≡ conn.closing → Goes new s s x.connection (settled x).connection
-takes_open conn new s x st answer stream number out closing =
+pub takes_open : (conn new : Conn) (d : Device) (s : Summary) (x : ServedExchange) → HoldsWorld d x.world → Stands x.world.plant conn x.connection
+    → cut.NotYet ≡ answer_of (history_of conn x.connection) → Represents new.session.stream (after_next (history_of conn x.connection))
+    → new.session ≡ (let held = conn.session in record held { stream = new.session.stream }) → new.number ≡ conn.number → new.out ≡ conn.out → new.closing ≡ conn.closing
+    → Goes new d s s x (settled x)
+takes_open conn new d s x held st answer stream keeps number out closing =
     let rest = rest_is_open (history_of conn x.connection) answer in
     let end : settled x ≡ x = settled-open x rest.none_left rest.rest in
-    subst (λ z. Goes new s s x.connection z.connection) (sym end) (record {
-      stands = record {
-        number = number ∙ st.number;
-        stream = after_not_yet new.splitter (history_of conn x.connection) answer stream;
-        waiting = out ∙ st.waiting;
-        bytes_taken = st.bytes_taken;
-        closing = closing ∙ st.closing;
-      };
-      counted = same_counts s x.connection;
-      gone = refl;
-    })
+    subst (λ z. Goes new d s s x z) (sym end) (goes_still new d s s x x.connection held (record {
+      number = number ∙ st.number;
+      stream = after_not_yet new.session.stream (history_of conn x.connection) answer stream;
+      client = λ is_open. kept_client x.world.plant x.connection.client conn.session new.session keeps (st.client is_open);
+      waiting = out ∙ st.waiting;
+      bytes_taken = st.bytes_taken;
+      closing = closing ∙ st.closing;
+    }) (same_counts s x.connection) refl)
 
 -- the rest is broken: the connection closes
-pub takes_broken : (conn new : Conn) (s : Summary) (x : ServedExchange) → Stands conn x.connection
-    → cut.Broken ≡ answer_of (history_of conn x.connection) → Represents new.splitter (after_next (history_of conn x.connection))
-    → new.number ≡ conn.number → new.out ≡ conn.out → new.closing ≡ true → Goes new s s x.connection (settled x).connection
-takes_broken conn new s x st answer stream number out closing =
+pub takes_broken : (conn new : Conn) (d : Device) (s : Summary) (x : ServedExchange) → HoldsWorld d x.world → Stands x.world.plant conn x.connection
+    → cut.Broken ≡ answer_of (history_of conn x.connection) → Represents new.session.stream (after_next (history_of conn x.connection))
+    → new.session ≡ (let held = conn.session in record held { stream = new.session.stream }) → new.number ≡ conn.number → new.out ≡ conn.out → new.closing ≡ true
+    → Goes new d s s x (settled x)
+takes_broken conn new d s x held st answer stream keeps number out closing =
     let rest = rest_is_broken (history_of conn x.connection) answer in
     let end : settled x ≡ record x { connection = with_closing x.connection } = settled-broken x rest.none_left rest.rest in
-    subst (λ z. Goes new s s x.connection z.connection) (sym end) (record {
-      stands = record {
-        number = number ∙ st.number;
-        stream = after_broken new.splitter (history_of conn x.connection) answer stream;
-        waiting = out ∙ st.waiting;
-        bytes_taken = st.bytes_taken;
-        closing = closing;
-      };
-      counted = counts_closing s x.connection;
-      gone = refl;
-    })
+    subst (λ z. Goes new d s s x z) (sym end) (goes_still new d s s x (with_closing x.connection) held (record {
+      number = number ∙ st.number;
+      stream = after_broken new.session.stream (history_of conn x.connection) answer stream;
+      client = λ is_open. absurd (true≢false is_open);
+      waiting = out ∙ st.waiting;
+      bytes_taken = st.bytes_taken;
+      closing = closing;
+    }) (counts_closing s x.connection) refl)
 
-pub none_taken : (conn : Conn) (s : Summary) (x : ServedExchange) → Stands conn x.connection → x.connection.closing ≡ false → TakesSome conn s s x
-none_taken conn s x st is_open = record {
+pub none_taken : (conn : Conn) (d : Device) (s : Summary) (x : ServedExchange) → HoldsWorld d x.world → Stands x.world.plant conn x.connection → x.connection.closing ≡ false → TakesSome conn d s s x
+none_taken conn d s x held st is_open = record {
   next = x;
-  goes = record { stands = st; counted = same_counts s x.connection; gone = refl };
+  goes = goes_still conn d s s x x.connection held st (same_counts s x.connection) refl;
   is_open = is_open;
   same_end = refl;
 }
 
-pub then_goes : (mid new : Conn) (s t u : Summary) (k l m : ServedConnection) → Goes mid s t k l → Goes new t u l m → Goes new s u k m
-then_goes mid new s t u k l m first second =
-    record { stands = second.stands; counted = then_counts s t u k l m first.counted second.counted; gone = second.gone ∙ first.gone }
-
 -- some frames, and then more
-pub takes_more : (mid new : Conn) (s t u : Summary) (x : ServedExchange) (first : TakesSome mid s t x) → TakesSome new t u first.next → TakesSome new s u x
-takes_more mid new s t u x first second = record {
+pub takes_more : (mid new : Conn) (d e : Device) (s t u : Summary) (x : ServedExchange) (first : TakesSome mid d s t x) → TakesSome new e t u first.next → TakesSome new e s u x
+takes_more mid new d e s t u x first second = record {
   next = second.next;
-  goes = then_goes mid new s t u x.connection first.next.connection second.next.connection first.goes second.goes;
+  goes = then_goes mid new d e s t u x first.next second.next first.goes second.goes;
   is_open = second.is_open;
   same_end = second.same_end ∙ first.same_end;
 }
 
 -- some frames, and then the end
-pub takes_all : (mid new : Conn) (s t u : Summary) (x : ServedExchange) (first : TakesSome mid s t x)
-    → Goes new t u first.next.connection (settled first.next).connection → Goes new s u x.connection (settled x).connection
-takes_all mid new s t u x first last =
-    subst (λ z. Goes new s u x.connection z.connection) first.same_end
-    (then_goes mid new s t u x.connection first.next.connection (settled first.next).connection first.goes last)
+pub takes_all : (mid new : Conn) (d e : Device) (s t u : Summary) (x : ServedExchange) (first : TakesSome mid d s t x)
+    → Goes new e t u first.next (settled first.next) → Goes new e s u x (settled x)
+takes_all mid new d e s t u x first last =
+    subst (λ z. Goes new e s u x z) first.same_end (then_goes mid new d e s t u x first.next (settled first.next) first.goes last)
 
 -- a piece came in
-pub fed : (conn new : Conn) (s : Summary) (k : ServedConnection) (piece : List ℕ) → Stands conn k → Represents new.splitter (after_feed (history_of conn k) piece)
-    → new.number ≡ conn.number → new.out ≡ conn.out → new.closing ≡ conn.closing → Goes new s s k (with_received piece k)
-fed conn new s k piece st stream number out closing = record {
-  stands = record {
-    number = number ∙ st.number;
-    stream = own_mark new.splitter (after_feed (history_of conn k) piece) stream;
-    waiting = out ∙ st.waiting;
-    bytes_taken = st.bytes_taken;
-    closing = closing ∙ st.closing;
-  };
-  counted = record {
-    connections = refl;
-    requests = same_count s.requests k.frames_taken;
-    replies = same_count s.replies (replies_of k);
-    samples = same_count s.samples (samples_of k);
-    accepted = refl;
-    refused = refl;
-  };
-  gone = refl;
-}
+pub fed : (conn new : Conn) (d : Device) (s : Summary) (x : ServedExchange) (piece : List ℕ) → HoldsWorld d x.world → Stands x.world.plant conn x.connection
+    → Represents new.session.stream (after_feed (history_of conn x.connection) piece) → new.session ≡ (let held = conn.session in record held { stream = new.session.stream })
+    → new.number ≡ conn.number → new.out ≡ conn.out → new.closing ≡ conn.closing → Goes new d s s x (with_piece piece x)
+fed conn new d s x piece held st stream keeps number out closing = goes_still new d s s x (with_received piece x.connection) held (record {
+  number = number ∙ st.number;
+  stream = own_mark new.session.stream (after_feed (history_of conn x.connection) piece) stream;
+  client = λ is_open. kept_client x.world.plant x.connection.client conn.session new.session keeps (st.client is_open);
+  waiting = out ∙ st.waiting;
+  bytes_taken = st.bytes_taken;
+  closing = closing ∙ st.closing;
+}) (record {
+  connections = refl;
+  requests = same_count s.requests x.connection.frames_taken;
+  replies = same_count s.replies (replies_of x.connection);
+  samples = same_count s.samples (samples_of x.connection);
+  accepted = refl;
+  refused = refl;
+}) refl
 
 -- a connection that is closing takes no piece
 pub after_piece-closing : (piece : List ℕ) (x : ServedExchange) → x.connection.closing ≡ true → after_piece served piece x ≡ x
@@ -237,3 +395,13 @@ pub after_piece-settled : (piece : List ℕ) (x : ServedExchange) → x.connecti
     → settled (with_piece piece x) ≡ after_piece served piece x
 unfolding after_piece settled
 after_piece-settled piece x is_open there = sym (cond-false (is_deaf x.connection) x _ (or_from x.connection.closing x.connection.gone is_open there))
+
+-- a fact under Ok follows from another
+pub on_ok : {A E P Q : Type 0} (r : Result A E) → (P → Q) → OnOk r P → OnOk r Q
+on_ok (Ok a) f h = f h
+on_ok (Err e) f h = h
+
+-- what a lent slice gives back, where it has as many elements as before
+pub lent_back : {X : Type 0} (new old : List X) (len : ℕ) → len ≡ length old → length new ≡ length old → take len (new ++ drop (length new) old) ≡ new
+lent_back new old len ok long =
+    ap (λ n. take n (new ++ drop (length new) old)) (ok ∙ sym long) ∙ take-append-le (length new) new (drop (length new) old) (omega arith) ∙ take_all (length new) new (omega arith)

@@ -1,7 +1,15 @@
 pub mod Served
 pub mod Counts
+pub mod Conns
+pub mod Entries
+pub mod ServerView
+pub mod HoldsWorld
 pub mod ConnStands
 pub mod Taking
+pub mod Delivering
 pub mod CoreState
 pub mod Places
 pub mod Serves
+pub mod Outcomes
+pub mod Asked
+pub mod Reloading

@@ -1,8 +1,9 @@
 -- The connections of the code as a list, found by their numbers.
 use Rattle.std.specs.Prelude.{◌≡◌, ◌≢◌, ℕ, ◌<◌, List, [], ◌∷◌, length, slice_index_or, All}
-use Rattle.std.specs.Prelude.{◌==◌, if◌then◌else◌, Bool, false, Option, None}
+use Rattle.std.specs.Prelude.{◌==◌, if◌then◌else◌, Option, None}
 use Rattle.out_queue.specs.Queue.{front_of}
-use Rattle.server_core.specs.declared.conn.Conn.{Conn}
+use Rattle.server_core.specs.declared.waiting.Waiting.{Waiting}
+use Rattle.server_core.specs.Conns.{Conn}
 
 -- the first connection of this number stands here
 pub record IsPlace (conns : List Conn) (n i : ℕ) : Type 0 where
@@ -13,14 +14,21 @@ pub record IsPlace (conns : List Conn) (n i : ℕ) : Type 0 where
 abbrev pub IsAbsent : List Conn → ℕ → Type 0
 IsAbsent conns n = All (λ (c : Conn). c.number ≢ n) conns
 
+-- what is read of an entry by its number
+abbrev pub read_among : {X : Type 0} → (Waiting → X) → X → List (ℕ × Waiting) → ℕ → X
+read_among read none [] n = none
+read_among read none (e ∷ es) n = if e.0 == n then read e.1 else read_among read none es n
+
 -- what a connection is offered: what is left of its first frame, unless it is blocked
-abbrev pub offer_of_conn : Conn → Option (List ℕ)
-offer_of_conn c = if c.blocked then None else front_of c.out
+abbrev pub offer_of_waiting : Waiting → Option (List ℕ)
+offer_of_waiting w = if w.blocked then None else front_of w.out
 
-abbrev pub offer_among : List Conn → ℕ → Option (List ℕ)
-offer_among [] n = None
-offer_among (c ∷ cs) n = if c.number == n then offer_of_conn c else offer_among cs n
+abbrev pub offer_among : List (ℕ × Waiting) → ℕ → Option (List ℕ)
+offer_among es n = read_among offer_of_waiting None es n
 
-abbrev pub closing_among : List Conn → ℕ → Bool
-closing_among [] n = false
-closing_among (c ∷ cs) n = if c.number == n then c.closing else closing_among cs n
+-- how many frames wait for it, unless it is blocked
+abbrev pub offers_of_waiting : Waiting → ℕ
+offers_of_waiting w = if w.blocked then 0 else length w.out
+
+abbrev pub offers_among : List (ℕ × Waiting) → ℕ → ℕ
+offers_among es n = read_among offers_of_waiting 0 es n

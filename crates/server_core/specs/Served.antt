@@ -1,20 +1,15 @@
--- The device that a core serves. Today it is the built-in one of `selftest`.
+-- The device that a core serves: the whole one.
 use Rattle.ads_machine.specs.Device.{Device}
 use Rattle.ads_machine.specs.Connection.{Connection}
 use Rattle.ads_machine.specs.MachineState.{MachineState, Exchange}
 use Rattle.ads_machine.specs.Moves.{EventStep}
 use Rattle.ads_machine.specs.Events.{state_after_event}
-use Rattle.ads_machine.specs.Selftest.{selftest_device}
+pub use Rattle.ads_machine.specs.World.{World}
+pub use Rattle.ads_machine.specs.Client.{Client}
+use Rattle.ads_product.specs.Server.{server_device}
 
-abbrev pub World : Type 0
-World = Unit {0}
-
--- what is kept for a client
-abbrev pub Client : Type 0
-Client = Unit {0}
-
-abbrev pub served : Device World Client
-served = selftest_device
+unfoldable pub served : Device World Client
+served = server_device
 
 -- an event of its machine
 abbrev pub served_step : EventStep World Client

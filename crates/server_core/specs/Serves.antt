@@ -1,73 +1,111 @@
 -- A core stands for a state of the machine.
-use Rattle.std.specs.Prelude.{◌≡◌, ℕ, List, [], ◌∷◌, ◌≤◌, length, filter, not, is_some, true, false, Option, None, IsSomeAnd}
+use Rattle.std.specs.Prelude.{◌≡◌, ℕ, List, [], ◌∷◌, ◌≤◌, length, filter, not, is_some, true, false, Bool, Option, None, IsSomeAnd}
+use Rattle.signals.specs.Wave.{Wave}
+use Rattle.ads_plant.specs.World.{Plant}
 use Rattle.ads_machine.specs.Connection.{connection_of}
 use Rattle.ads_machine.specs.Offers.{is_among}
 use Rattle.ads_machine.specs.Summary.{summary_of}
-use Rattle.server_core.specs.declared.conn.Conn.{Conn}
-use Rattle.server_core.specs.declared.served_core.Core.{Core}
-use Rattle.server_core.specs.declared.summary.Summary.{Summary}
-use Rattle.server_core.specs.Served.{ServedConnection}
+use Rattle.ads_served.specs.Opened.{AreApart}
+use Rattle.ads_served.specs.Standing.{Standing}
+use Rattle.server_core.specs.ServerView.{ServerView}
+use Rattle.server_core.specs.Served.{World, Client, ServedConnection}
+use Rattle.server_core.specs.Conns.{Conn, conns_of}
 use Rattle.server_core.specs.Counts.{counts_in}
 use Rattle.server_core.specs.ConnStands.{Stands}
+use Rattle.server_core.specs.HoldsWorld.{HoldsState}
 use Rattle.server_core.specs.CoreState.{CoreState}
-use Rattle.server_core.specs.Places.{offer_among}
+use Rattle.server_core.specs.Places.{offer_among, offers_among}
+
+-- what a core is: what it serves, the waves of its signals, and whether memory was wanting
+pub record CoreView : Type 0 where
+  pub server : ServerView
+  pub waves : List Wave
+  pub failed : Bool
 
 -- the connections that are there
 abbrev pub present : List ServedConnection → List ServedConnection
 present ks = filter (λ (k : ServedConnection). not k.gone) ks
 
-abbrev pub EachStands : List Conn → List ServedConnection → Type 0
-EachStands [] [] = Unit {0}
-EachStands [] (k ∷ ks) = ⊥
-EachStands (c ∷ cs) [] = ⊥
-EachStands (c ∷ cs) (k ∷ ks) = Stands c k × EachStands cs ks
-
--- no two connections have one number
-abbrev pub AreApart : List ServedConnection → Type 0
-AreApart [] = Unit {0}
-AreApart (k ∷ ks) = (connection_of k.number ks ≡ None) × AreApart ks
+abbrev pub EachStands : Plant → List Conn → List ServedConnection → Type 0
+EachStands plant [] [] = Unit {0}
+EachStands plant [] (k ∷ ks) = ⊥
+EachStands plant (c ∷ cs) [] = ⊥
+EachStands plant (c ∷ cs) (k ∷ ks) = Stands plant c k × EachStands plant cs ks
 
 -- the marks of the code's connections are those of the list
 abbrev pub EachMarked : List ℕ → List Conn → Type 0
 EachMarked blocked [] = Unit {0}
 EachMarked blocked (c ∷ cs) = (c.blocked ≡ is_among c.number blocked) × EachMarked blocked cs
 
+-- as many sessions as there are numbers
+abbrev pub AreAligned : ServerView → Type 0
+AreAligned v = length v.sessions ≡ length v.entries
+
+abbrev pub conns_in : ServerView → List Conn
+conns_in v = conns_of v.sessions v.entries
+
 -- the code's connections stand for those of the machine that are there
-pub record ServesEach (conns : List Conn) (x : CoreState) : Type 0 where
-  pub each : EachStands conns (present x.state.connections)
+pub record StandsEach (plant : Plant) (conns : List Conn) (x : CoreState) : Type 0 where
+  pub each : EachStands plant conns (present x.state.connections)
   pub apart : AreApart x.state.connections
   pub marked : EachMarked x.blocked conns
   -- whoever is blocked was opened
   pub known : (n : ℕ) → connection_of n x.state.connections ≡ None → is_among n x.blocked ≡ false
 
+-- all that is kept stands for a state
+pub record ServesEach (server : ServerView) (waves : List Wave) (x : CoreState) : Type 0 where
+  pub device : HoldsState server.device waves x.state
+  pub aligned : AreAligned server
+  pub connections : StandsEach x.state.world.plant (conns_in server) x
+
+-- and there is such a state
+pub record ServesSome (server : ServerView) (waves : List Wave) : Type 0 where
+  pub state : CoreState
+  pub serves : ServesEach server waves state
+
+-- for some signals
+pub record IsServing (server : ServerView) : Type 0 where
+  pub waves : List Wave
+  pub some : ServesSome server waves
+
 -- a core that has not failed stands for a state
-pub record Serves (core : Core) (x : CoreState) : Type 0 where
+pub record Serves (core : CoreView) (x : CoreState) : Type 0 where
   pub working : core.failed ≡ false
-  pub connections : ServesEach core.connections.items x
+  pub server : ServesEach core.server core.waves x
 
-abbrev pub HasCounts : Core → CoreState → Type 0
-HasCounts core x = counts_in core.summary ≡ summary_of x.state
+abbrev pub HasCounts : CoreView → CoreState → Type 0
+HasCounts core x = counts_in core.server.summary ≡ summary_of x.state
 
--- the connections and the counts follow from a state to another
-pub record FollowsEach (conns : List Conn) (old_counts new_counts : Summary) (before after : CoreState) : Type 0 where
-  pub serves : ServesEach conns after
-  pub counted : counts_in old_counts ≡ summary_of before.state → counts_in new_counts ≡ summary_of after.state
+-- what is kept and the counts follow from a state to another
+pub record FollowsEach (old new : ServerView) (waves : List Wave) (before after : CoreState) : Type 0 where
+  pub serves : ServesEach new waves after
+  pub counted : counts_in old.summary ≡ summary_of before.state → counts_in new.summary ≡ summary_of after.state
 
 -- the core follows from a state to another
-pub record Follows (old new : Core) (before after : CoreState) : Type 0 where
+pub record Follows (old new : CoreView) (before after : CoreState) : Type 0 where
   pub serves : Serves new after
   pub counted : HasCounts old before → HasCounts new after
 
+-- a core stands for a running machine and its notes, and its counts are the state's
+pub record StandsAt (core : CoreView) (x : Standing World Client) : Type 0 where
+  pub serves : Serves core x.running
+  pub counted : HasCounts core x.running
+  pub notes : core.server.notes ≡ x.notes
+
 -- after want of memory
-abbrev pub HasFailed : Core → Type 0
+abbrev pub HasFailed : CoreView → Type 0
 HasFailed core = core.failed ≡ true
 
 -- what the core offers to a connection
-abbrev pub offer_in : Core → ℕ → Option (List ℕ)
-offer_in core c = offer_among core.connections.items c
+abbrev pub offer_in : CoreView → ℕ → Option (List ℕ)
+offer_in core c = offer_among core.server.entries c
+
+-- how many offers are left to a connection at most
+abbrev pub offers_in : CoreView → ℕ → ℕ
+offers_in core c = offers_among core.server.entries c
 
 -- at most as many bytes as are offered
-abbrev pub FitsOffer : ℕ → ℕ → Core → Type 0
+abbrev pub FitsOffer : ℕ → ℕ → CoreView → Type 0
 FitsOffer n c core = IsSomeAnd (offer_in core c) (λ left. n ≤ length left)
 
 -- a state that has forgotten the connections that are gone

@@ -1,14 +1,29 @@
 //! The server as one object: events go in, frames for each connection come out.
 #![tactic(auto)]
 
-mod answer;
-mod conn;
+mod checking;
+mod clients;
+mod delivering;
+mod device;
+mod events;
 mod laws;
 mod outcome;
+mod reloading;
 mod served_core;
+mod server;
+mod serving;
+mod sources;
 mod summary;
+mod taking;
+mod telling;
+mod ticking;
+mod turned;
+mod waiting;
 
+pub use checking::check_all;
 pub use laws::gone_connections_are_forgotten;
 pub use outcome::Outcome;
 pub use served_core::Core;
+pub use sources::Sources;
 pub use summary::Summary;
+pub use turned::Turned;

@@ -1,61 +1,103 @@
 //! The core: the machine over the connections that are there.
 
-ghost use Rattle.std.specs.Prelude.{◌≡◌, ◌≤◌, ◌<◌, ℕ, List, length, map, slice_get, IfOk, OnOk, OnErr, IfSome, IfNone, IsErr};
-ghost use Rattle.std.specs.Prelude.{Some, option_copied};
+ghost use Rattle.std.specs.Prelude.{◌≡◌, ◌≤◌, ◌<◌, ◌^◌, ◌++◌, [], ℕ, List, length, slice_get, IfOk, OnOk, OnErr, IfSome, IsErr, Some, option_copied};
+ghost use Rattle.type_layout.specs.Descriptions.{description_of};
+ghost use Rattle.ads_plant.specs.Accepted.{IsAccepted};
+ghost use Rattle.ads_outside.specs.declared.moves.Move.TheVariants as move;
+ghost use Rattle.ads_machine.specs.MachineState.{present_numbers};
+ghost use Rattle.ads_machine.specs.Outcomes.{outcome_of_event};
+ghost use Rattle.ads_machine.specs.RunText.{notes_of_event};
+ghost use Rattle.ads_machine.specs.Summary.{summary_of};
+ghost use Rattle.out_queue.specs.Queue.{QUEUE_LIMIT};
 ghost use Rattle.server_core.specs.Counts.{counts_in};
 ghost use Rattle.server_core.specs.CoreState.{CoreState, started, after_event, after_move, OpensNew};
 ghost use Rattle.server_core.specs.CoreState.{offer_at, is_to_be_shut_at};
-ghost use Rattle.server_core.specs.Places.{IsPlace, IsAbsent};
-ghost use Rattle.ads_machine.specs.MachineState.{present_numbers};
-ghost use Rattle.ads_machine.specs.Summary.{summary_of};
-ghost use Rattle.out_queue.specs.Queue.{QUEUE_LIMIT};
-ghost use Rattle.ads_outside.specs.declared.event.Event.TheVariants as event;
-ghost use Rattle.ads_outside.specs.declared.moves.Move.TheVariants as move;
+ghost use Rattle.server_core.specs.Served.{served};
+ghost use Rattle.server_core.specs.Outcomes.{outcome_of};
+ghost use Rattle.server_core.specs.Serves.{Serves, HasCounts, Follows, HasFailed, offer_in, offers_in, FitsOffer};
 
-use crate::conn::Conn;
+use crate::clients::Clients;
+use crate::device::Device;
+use crate::events::take_event;
+use crate::server::Server;
+use crate::sources::Sources;
 use crate::{Outcome, Summary};
-use ads_base::NoMemory;
-use ads_outside::Event;
+use ads_base::{ListOf, NoMemory};
+use ads_outside::{Event, ReloadNotes};
+use net_routes::Routes;
+use port_device::Ports;
 use std::alloc::Global;
+use std::marker::Model;
+use std::thread::Threads;
+use type_layout::Description;
 
 /// The server's machine over many connections, in the order of their opening. A connection that is closed, lost or
 /// shut is no longer kept; what it did stays in the counts.
 #[derive(Drop)]
-pub struct Core {
-    connections: Vec<Conn>,
-    summary: Summary,
+pub struct Core<S: Sources> {
+    server: Server,
+    signals: S,
     // Memory was wanting: nothing is answered any more.
     failed: bool,
 }
 
-impl Core {
-    ghost use Rattle.server_core.specs.Serves.{Serves, HasCounts, Follows, FollowsEach, ServesEach, HasFailed};
-    ghost use Rattle.server_core.specs.Serves.{offer_in, FitsOffer};
+impl<S: Sources> Model for Core<S> {
+    ghost use Rattle.std.specs.Prelude.{◌≡◌, false};
+    ghost use Rattle.server_core.specs.ServerView.{view_of};
+    ghost use Rattle.server_core.specs.Serves.{CoreView, ServesSome};
 
-    /// A core without a connection.
-    pub fn build(alloc: Global) -> Result<Core, NoMemory>
-        ensures serves { IfOk result (λ core. Serves core started) }
-        ensures counted { IfOk result (λ core. HasCounts core started) }
+    ghost Value = { CoreView };
+
+    ghost view = { λ c. record { server = view_of c.server; waves = S.waves c.signals; failed = c.failed } };
+
+    ghost invariant = { λ c. c.failed ≡ false → ServesSome (view_of c.server) (S.waves c.signals) };
+}
+
+impl<S: Sources> Core<S> {
+    /// The core of an accepted description and its signals, without a connection.
+    pub fn build(alloc: Global, d: Description, signals: S) -> Result<Core<S>, NoMemory>
+        requires few { length (S.waves signals) < 2 ^ 32 }
+        requires accepted { IsAccepted (description_of d) (length (S.waves signals)) }
+        ensures serves { IfOk result (λ core. Serves core (started (description_of d) (S.waves signals))) }
+        ensures counted { IfOk result (λ core. HasCounts core (started (description_of d) (S.waves signals))) }
+        ensures notes { IfOk result (λ core. core.server.notes ≡ []) }
     {
+        let count = signals.count() as u32;
+        let device = Device::build(alloc, &d, count)?;
         Ok(Core {
-            connections: Vec::new(alloc),
-            summary: Summary::nothing(),
+            server: Server {
+                device,
+                clients: Clients::new(alloc),
+                summary: Summary::nothing(),
+                notes: ReloadNotes::new(alloc),
+            },
+            signals,
             failed: false,
         })
     }
 
-    /// Takes one event. After want of memory it answers want of memory from then on.
-    pub fn step(&mut self, alloc: Global, event: &Event) -> Result<Outcome, NoMemory>
+    /// Takes one event. An event of a connection that is not there, or is closing, changes nothing, except its end. After
+    /// want of memory it answers want of memory from then on.
+    pub fn step<T: Threads + Sync>(
+        &mut self,
+        rt: &T,
+        alloc: Global,
+        event: &Event,
+    ) -> Result<Outcome, NoMemory>
         ensures follows { OnOk result ((x : CoreState) → Serves self.old x → OpensNew x event.now
             → Follows self.old self.new x (after_event x event.now)) }
+        ensures outcome { IfOk result (λ outcome. (x : CoreState) → Serves self.old x
+            → outcome_of outcome ≡ outcome_of_event served x.state event.now) }
+        ensures noted { OnOk result ((x : CoreState) → Serves self.old x
+            → self.new.server.notes ≡ self.old.server.notes ++ notes_of_event served x.state event.now) }
         ensures no_memory { OnErr result (HasFailed self.new) }
         ensures from_then_on { HasFailed self.old → IsErr result }
     {
         if self.failed {
             return Err(NoMemory);
         }
-        match self.take(alloc, event) {
-            Ok(()) => Ok(Outcome::Done),
+        match take_event(rt, alloc, &mut self.server, &mut self.signals, event) {
+            Ok(outcome) => Ok(outcome),
             Err(NoMemory) => {
                 self.failed = true;
                 Err(NoMemory)
@@ -67,7 +109,7 @@ impl Core {
     pub fn connection(&self, n: usize) -> Option<u32>
         ensures { (x : CoreState) → Serves self.now x → result ≡ slice_get (present_numbers x.state) n }
     {
-        Some(self.connections.get(n)?.number)
+        self.server.connection(n)
     }
 
     /// What is left of the first frame that waits for a connection; None where it is not there, nothing waits, or
@@ -77,12 +119,7 @@ impl Core {
         ensures machine { (x : CoreState) → Serves self.now x → option_copied result ≡ offer_at conn x }
         ensures bound { IfSome result (λ left. length left.now ≤ QUEUE_LIMIT) }
     {
-        let i = self.place_of(conn)?;
-        let conn = &self.connections[i];
-        if conn.blocked {
-            return None;
-        }
-        conn.out.front()
+        self.server.offer_of(conn)
     }
 
     /// The first n bytes of what was offered to a connection were taken.
@@ -90,127 +127,48 @@ impl Core {
         requires { FitsOffer n conn self.old }
         ensures follows { (x : CoreState) (left bytes : List ℕ) → Serves self.old x → offer_in self.old conn ≡ Some left
             → length bytes ≡ n → Follows self.old self.new x (after_move x (move.Took conn (length left) bytes)) }
+        ensures fewer { offers_in self.new conn < offers_in self.old conn }
+        ensures notes { self.new.server.notes ≡ self.old.server.notes }
         ensures from_then_on { HasFailed self.old → HasFailed self.new }
     {
-        if let Some(i) = self.place_of(conn) {
-            let conn = &mut self.connections[i];
-            conn.took(n);
-        }
+        self.server.took(conn, n);
     }
 
     /// Whether a connection that is there is to be shut.
     pub fn closing(&self, conn: u32) -> bool
         ensures { (x : CoreState) → Serves self.now x → result ≡ is_to_be_shut_at conn x }
     {
-        match self.place_of(conn) {
-            Some(i) => self.connections[i].closing,
-            None => false,
-        }
+        self.server.closing(conn)
     }
 
     /// Removes a connection that was lost or shut; nothing changes where it is not there.
     pub fn remove(&mut self, conn: u32)
         ensures shut { (x : CoreState) → Serves self.old x → Follows self.old self.new x (after_move x (move.Shut conn)) }
         ensures lost { (x : CoreState) → Serves self.old x → Follows self.old self.new x (after_move x (move.Lost conn)) }
+        ensures notes { self.new.server.notes ≡ self.old.server.notes }
         ensures from_then_on { HasFailed self.old → HasFailed self.new }
     {
-        self.end(conn);
+        self.server.end(conn);
+    }
+
+    /// The numbers of the connections that are there, in the order of opening.
+    pub fn numbers(&self, alloc: Global) -> Result<ListOf<u32>, NoMemory>
+        ensures { IfOk result (λ numbers. (x : CoreState) → Serves self.now x → numbers ≡ present_numbers x.state) }
+    {
+        self.server.clients.numbers(alloc)
     }
 
     /// The counts of the run.
     pub fn summary(&self) -> Summary
         ensures { (x : CoreState) → HasCounts self.now x → counts_in result ≡ summary_of x.state }
     {
-        self.summary
+        self.server.summary
     }
 
-    // One event.
-    fn take(&mut self, alloc: Global, event: &Event) -> Result<(), NoMemory>
-        ensures follows { OnOk result ((x : CoreState) → ServesEach self.old.connections.items x → OpensNew x event.now
-            → FollowsEach self.new.connections.items self.old.summary self.new.summary x (after_event x event.now)) }
-        ensures failed { self.new.failed ≡ self.old.failed }
+    /// What became of the reloads, in their order.
+    pub fn reload_notes(&self) -> &ReloadNotes
+        ensures { result.now ≡ self.now.server.notes }
     {
-        match event {
-            Event::Opened(number) => {
-                self.open(alloc, *number)?;
-                Ok(())
-            }
-            Event::Piece(number, bytes) => {
-                self.piece(alloc, *number, bytes.as_slice())?;
-                Ok(())
-            }
-            Event::Closed(number) => {
-                self.end(*number);
-                Ok(())
-            }
-            Event::Tick(_) => Ok(()),
-            Event::Reload(_) => {
-                self.summary.count_refused();
-                Ok(())
-            }
-            Event::Writable(number) => {
-                self.writable(*number);
-                Ok(())
-            }
-        }
-    }
-
-    fn open(&mut self, alloc: Global, number: u32) -> Result<(), NoMemory>
-        ensures follows { OnOk result ((x : CoreState) → ServesEach self.old.connections.items x
-            → OpensNew x (event.Opened number)
-            → FollowsEach self.new.connections.items self.old.summary self.new.summary x (after_event x (event.Opened number))) }
-        ensures failed { self.new.failed ≡ self.old.failed }
-    {
-        let conn = Conn::fresh(alloc, number)?;
-        self.connections.push(conn)?;
-        self.summary.count_connection();
-        Ok(())
-    }
-
-    fn piece(&mut self, alloc: Global, number: u32, bytes: &[u8]) -> Result<(), NoMemory>
-        ensures follows { OnOk result ((x : CoreState) → ServesEach self.old.connections.items x
-            → FollowsEach self.new.connections.items self.old.summary self.new.summary x (after_event x (event.Piece number bytes.now))) }
-        ensures failed { self.new.failed ≡ self.old.failed }
-    {
-        if let Some(i) = self.place_of(number) {
-            let conn = &mut self.connections[i];
-            conn.piece(alloc, &mut self.summary, bytes)?;
-        }
-        Ok(())
-    }
-
-    fn writable(&mut self, number: u32)
-        ensures follows { (x : CoreState) → ServesEach self.old.connections.items x
-            → FollowsEach self.new.connections.items self.old.summary self.new.summary x (after_event x (event.Writable number)) }
-        ensures failed { self.new.failed ≡ self.old.failed }
-    {
-        if let Some(i) = self.place_of(number) {
-            let conn = &mut self.connections[i];
-            conn.blocked = false;
-        }
-    }
-
-    // A connection is gone: it was closed, lost or shut.
-    fn end(&mut self, number: u32)
-        ensures closed { (x : CoreState) → ServesEach self.old.connections.items x
-            → FollowsEach self.new.connections.items self.old.summary self.new.summary x (after_event x (event.Closed number)) }
-        ensures failed { self.new.failed ≡ self.old.failed }
-    {
-        if let Some(i) = self.place_of(number) {
-            let _ = self.connections.remove(i);
-        }
-    }
-
-    // Where the first connection of a number stands.
-    fn place_of(&self, number: u32) -> Option<usize>
-        ensures found { IfSome result (IsPlace self.now.connections.items number) }
-        ensures absent { IfNone result (IsAbsent self.now.connections.items number) }
-    {
-        for (i, conn) in self.connections.iter().enumerate() {
-            if conn.number == number {
-                return Some(i);
-            }
-        }
-        None
+        &self.server.notes
     }
 }

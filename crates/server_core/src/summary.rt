@@ -52,6 +52,18 @@ impl Summary {
         self.replies = self.replies.saturating_add(1);
     }
 
+    pub(crate) fn count_samples(&mut self, samples: u32)
+        ensures { self.new ≡ record self.old { samples = count_of (self.old.samples + samples) } }
+    {
+        self.samples = self.samples.saturating_add(samples as u64);
+    }
+
+    pub(crate) fn count_accepted(&mut self)
+        ensures { self.new ≡ record self.old { accepted = count_of (self.old.accepted + 1) } }
+    {
+        self.accepted = self.accepted.saturating_add(1);
+    }
+
     pub(crate) fn count_refused(&mut self)
         ensures { self.new ≡ record self.old { refused = count_of (self.old.refused + 1) } }
     {

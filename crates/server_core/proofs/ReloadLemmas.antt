@@ -1,0 +1,236 @@
+-- A reload: refused, it is counted; accepted, the world changes, and then each connection.
+use Rattle.std.proofs.Common.{◌≡◌, ℕ, suc, ◌+◌, ◌<◌, List, [], ◌∷◌, ◌++◌, length, map, refl, sym, ap, ◌∙◌, subst, arith}
+use Rattle.std.specs.Prelude.{All, false, Result, Ok, Err, IfOk}
+use Rattle.signals.specs.Wave.{Wave}
+use Rattle.ads_outside.specs.declared.event.Event.TheVariants as event
+use Rattle.ads_outside.specs.declared.reload_note.ReloadNote.TheVariants as note
+use Rattle.ads_plant.specs.Description.{Description}
+use Rattle.ads_product.specs.Server.{read_description, read_of_verdict}
+use Rattle.ads_machine.specs.AdsDevice.{reloading}
+use Rattle.ads_machine.specs.Device.{DescriptionFault}
+use Rattle.ads_machine.specs.Events.{state_after_event, after_reload, connection_after_reload}
+use Rattle.ads_machine.specs.Moves.{state_after_move}
+use Rattle.ads_machine.specs.Outcomes.{outcome_of_event, outcome_of_reload}
+use Rattle.ads_machine.specs.Outcomes as machine
+use Rattle.ads_machine.specs.RunText.{notes_of_event, note_of, fault_number}
+use Rattle.ads_machine.specs.Summary.{Summary as CountsOfState, count_of, summary_of}
+use Rattle.ads_machine.specs.Reloads.{world_after_reload, client_reloaded}
+use Rattle.type_layout.specs.Descriptions.{description_of}
+use Rattle.type_layout.specs.declared.description.Description as layout
+use Rattle.symbol_file.specs.Reading.{IsVerdict}
+use Rattle.symbol_file.specs.declared.fault.DescFault.{DescFault}
+use Rattle.symbol_file.specs.declared.fault.DescFault.TheVariants.{Syntax, Rule}
+use Rattle.std.specs.declared.hash.FoldHasher.{FoldHasher}
+use Rattle.std.specs.declared.hash.BuildHasherDefault.{BuildHasherDefault}
+use Rattle.std.specs.HashMap.{HashMap}
+use Rattle.ads_plant.specs.Rights.{rights_of}
+use Rattle.ads_plant.specs.World.{Plant, plant_of}
+use Rattle.ads_machine.specs.NumberedPlaces.{AreKeptSymbols}
+use Rattle.port_device.specs.Holds.{HoldsPorts}
+use Rattle.port_device.specs.KeptSymbols.{kept_symbols_of}
+use Rattle.port_device.specs.PortMemory.{PortsMemory}
+use Rattle.session.specs.Takes.{HasAddress}
+use Rattle.symbol_table.specs.declared.kept.KeptPlace.{KeptPlace}
+use Rattle.server_core.specs.declared.device.Device.{Device}
+use Rattle.server_core.specs.declared.turned.Turned.{Turned}
+use Rattle.server_core.specs.declared.waiting.Waiting.{Waiting}
+use Rattle.server_core.specs.declared.clients.Clients.{Clients}
+use Rattle.server_core.specs.declared.outcome.Outcome.{Outcome}
+use Rattle.server_core.specs.declared.outcome.Outcome.TheVariants.{ReloadOk, ReloadRefused}
+use Rattle.server_core.specs.declared.server.Server.{Server}
+use Rattle.server_core.specs.declared.summary.Summary.{Summary}
+use Rattle.server_core.specs.Asked.{EachAsked}
+use Rattle.server_core.specs.Conns.{conns_of}
+use Rattle.server_core.specs.Counts.{counts_in}
+use Rattle.server_core.specs.CoreState.{CoreState, OpensNew, after_event}
+use Rattle.server_core.specs.Delivering.{Outcomes, after_given, DeliversAll}
+use Rattle.server_core.specs.HoldsWorld.{HoldsState}
+use Rattle.server_core.specs.Outcomes.{fault_of, outcome_of, TakesEvent}
+use Rattle.server_core.specs.Reloading.{fault_note, Refuses, reloaded, Exchanges, Accepts}
+use Rattle.server_core.specs.Served.{served, World, ServedConnection, ServedState}
+use Rattle.session.specs.Reloading.{AreMoves, IsReloadable}
+use Rattle.server_core.specs.ServerView.{ServerView, view_of}
+use Rattle.server_core.specs.Serves.{present, EachStands, StandsEach, ServesEach, ServesSome, IsServing, FollowsEach}
+use Rattle.server_core.proofs.AskedLemmas.{all_follow, counted_all}
+use Rattle.server_core.proofs.ServeLemmas.{held_on}
+use Rattle.server_core.proofs.TickLemmas.{all_cons}
+use Rattle.server_core.proofs.SumLemmas.{counted_refused, counted_accepted}
+
+-- the description that was read, or the fault
+abbrev pub read_as : Result layout.Description DescFault → Result Description DescriptionFault
+read_as (Ok d) = Ok (description_of d)
+read_as (Err fault) = Err (fault_of fault)
+
+pub reading_is : (answer : Result layout.Description DescFault) (n : ℕ) (text : List ℕ) → IsVerdict n text answer → read_description text n ≡ read_as answer
+reading_is (Ok d) n text e = ap read_of_verdict (sym e)
+reading_is (Err (Rule number item)) n text e = ap read_of_verdict (sym e)
+reading_is (Err Syntax) n text e = ap read_of_verdict (sym e)
+
+-- as many signals as the device counts
+count_is : (v : ServerView) (waves : List Wave) (x : CoreState) → ServesEach v waves x → length x.state.world.signals ≡ v.device.signals
+count_is v waves x s = ap (λ (ws : List Wave). length ws) s.device.signals ∙ sym s.device.count
+
+-- a reload by what is read
+reload_is : (text : List ℕ) (x : CoreState) (r : Result Description DescriptionFault) → read_description text (length x.state.world.signals) ≡ r
+    → after_event x (event.Reload text) ≡ record { state = after_reload served (reloading x.state.world r) x.state; blocked = x.blocked }
+unfolding state_after_move state_after_event served
+reload_is text x r e = ap (λ q. record { state = after_reload served (reloading x.state.world q) x.state; blocked = x.blocked }) e
+
+told_is : (text : List ℕ) (x : CoreState) (r : Result Description DescriptionFault) → read_description text (length x.state.world.signals) ≡ r
+    → served.reload text x.state.world ≡ reloading x.state.world r
+unfolding served
+told_is text x r e = ap (reloading x.state.world) e
+
+accepted_is : (d : Description) (x : CoreState) → after_reload served (reloading x.state.world (Ok d)) x.state ≡ reloaded d x
+unfolding connection_after_reload served
+accepted_is d x = refl
+
+-- a refused reload
+pub refuses_takes : (old new : Server) (waves : List Wave) (text : List ℕ) (answer : Result layout.Description DescFault) (fault : DescFault) (outcome : Outcome) → answer ≡ Err fault
+    → IsVerdict old.device.signals text answer → Refuses old new fault outcome → ServesSome (view_of old) waves → TakesEvent (view_of old) (view_of new) waves waves (event.Reload text) outcome
+refuses_takes old new waves text answer fault outcome is verdict refuses some = record {
+  follows = λ x s opens. follows x s;
+  told = λ x s. ap outcome_of refuses.outcome_is ∙ sym (ap (λ r. outcome_of_reload r) (told_is text x (Err (fault_of fault)) (reads x s)));
+  noted = λ x s. refuses.notes ∙ ap (λ n. old.notes ++ n ∷ []) (sym (ap note_of (told_is text x (Err (fault_of fault)) (reads x s))));
+  some = record { state = after_event some.state (event.Reload text); serves = (follows some.state some.serves).serves };
+}
+  where
+    reads : (x : CoreState) → ServesEach (view_of old) waves x → read_description text (length x.state.world.signals) ≡ Err (fault_of fault)
+    reads x s = ap (read_description text) (count_is (view_of old) waves x s) ∙ reading_is answer old.device.signals text verdict ∙ ap read_as is
+
+    follows : (x : CoreState) → ServesEach (view_of old) waves x → FollowsEach (view_of old) (view_of new) waves x (after_event x (event.Reload text))
+    follows x s =
+        let y : ServedState = (let z = x.state in record z { refused = z.refused + 1 }) in
+        subst (λ (z : CoreState). FollowsEach (view_of old) (view_of new) waves x z) (sym (reload_is text x (Err (fault_of fault)) (reads x s))) (record {
+          serves = record {
+            device = held_on old.device new.device waves x.state y refuses.device refl refl s.device;
+            aligned = subst (λ (c : Clients). length c.sessions.items ≡ length c.waiting.entries) (sym refuses.clients) s.aligned;
+            connections = subst (λ (c : Clients). StandsEach x.state.world.plant (conns_of c.sessions.items c.waiting.entries) (record { state = y; blocked = x.blocked })) (sym refuses.clients)
+                (record { each = s.connections.each; apart = s.connections.apart; marked = s.connections.marked; known = s.connections.known });
+          };
+          counted = counted_refused old.summary new.summary x.state y refl refuses.summary;
+        })
+
+-- an accepted one: what is kept after all were told and all frames are produced
+pub accept_follows : (v w : ServerView) (s : Summary) (waves : List Wave) (x : CoreState) (d : Description) (mid new : Clients) → ServesEach v waves x → HoldsState w.device waves (reloaded d x)
+    → EachAsked x.state.world.plant (reloaded d x).world.plant (client_reloaded x.state.moment x.state.world (reloaded d x).world) v.sessions mid.sessions.items → mid.waiting.entries ≡ v.entries
+    → s ≡ (let t = v.summary in record t { accepted = count_of (t.accepted + 1) }) → DeliversAll mid new s w.summary → w.sessions ≡ new.sessions.items → w.entries ≡ new.waiting.entries
+    → FollowsEach v w waves x (record { state = reloaded d x; blocked = x.blocked })
+accept_follows v w s waves x d mid new serves device asked entries counts delivers sessions new_entries =
+    let y = reloaded d x in
+    let outcome : Outcomes = client_reloaded x.state.moment x.state.world y.world in
+    let z : ServedState = (let q = x.state in record q { accepted = q.accepted + 1 }) in
+    let all = all_follow v w s waves waves x outcome y mid new serves asked entries delivers sessions new_entries device refl in
+    record { serves = all.serves; counted = λ c. counted_all outcome s w.summary z y refl refl refl all.counted (counted_accepted v.summary s x.state z refl counts c) }
+
+pub accepts_takes : (old new : Server) (waves : List Wave) (text : List ℕ) (answer : Result layout.Description DescFault) (d : layout.Description) (outcome : Outcome) → answer ≡ Ok d
+    → IsVerdict old.device.signals text answer → Accepts old new (description_of d) outcome → ServesSome (view_of old) waves → TakesEvent (view_of old) (view_of new) waves waves (event.Reload text) outcome
+accepts_takes old new waves text answer d outcome is verdict accepts some = record {
+  follows = λ x s opens. follows x s;
+  told = λ x s. ap outcome_of accepts.outcome_is ∙ ap machine.ReloadOk (accepts.version_is waves x s)
+      ∙ sym (ap (λ r. outcome_of_reload r) (told_is text x (Ok (description_of d)) (reads x s)));
+  noted = λ x s. accepts.notes ∙ ap (λ n. old.notes ++ note.Ok n ∷ []) (accepts.version_is waves x s)
+      ∙ ap (λ n. old.notes ++ n ∷ []) (sym (ap note_of (told_is text x (Ok (description_of d)) (reads x s))));
+  some = record { state = after_event some.state (event.Reload text); serves = (follows some.state some.serves).serves };
+}
+  where
+    reads : (x : CoreState) → ServesEach (view_of old) waves x → read_description text (length x.state.world.signals) ≡ Ok (description_of d)
+    reads x s = ap (read_description text) (count_is (view_of old) waves x s) ∙ reading_is answer old.device.signals text verdict ∙ ap read_as is
+
+    follows : (x : CoreState) → ServesEach (view_of old) waves x → FollowsEach (view_of old) (view_of new) waves x (after_event x (event.Reload text))
+    follows x s =
+        subst (λ (z : CoreState). FollowsEach (view_of old) (view_of new) waves x z)
+        (sym (reload_is text x (Ok (description_of d)) (reads x s) ∙ ap (λ (z : ServedState). record { state = z; blocked = x.blocked }) (accepted_is (description_of d) x)))
+        (accepts.follows waves x s)
+
+-- each session that is not closing can be told of the moves to another world
+told_each : (w z : World) (moves : List KeptPlace) (ts : List Turned) (es : List (ℕ × Waiting)) (ps : List ServedConnection) → AreMoves w.plant z.plant moves → length ts ≡ length es
+    → EachStands w.plant (conns_of ts es) ps → All (λ (t : Turned). t.skip ≡ false → IsReloadable moves t.session) ts
+told_each w z moves [] es ps moved e each = λ k d below. absurd (omega (arith, below))
+told_each w z moves (t ∷ ts) [] ps moved e each = absurd (omega (arith, e))
+told_each w z moves (t ∷ ts) (f ∷ fs) [] moved e each = absurd each
+told_each w z moves (t ∷ ts) (f ∷ fs) (p ∷ ps) moved e each =
+    all_cons (λ (t : Turned). t.skip ≡ false → IsReloadable moves t.session) t ts
+    (λ open_. record { old = w.plant; new = z.plant; client = p.client; moved = moved; stands = each.0.client (sym each.0.closing ∙ open_) })
+    (told_each w z moves ts fs ps moved (omega (arith, e)) each.1)
+
+-- the moves between what old and new ports hold
+pub moved_between : (w z : World) (old new : PortsMemory) (moves : List KeptPlace) → HoldsPorts w old → HoldsPorts z new
+    → ((a b : World) → HoldsPorts a old → HoldsPorts b new → AreKeptSymbols a.plant b.plant (kept_symbols_of moves)) → AreMoves w.plant z.plant moves
+moved_between w z old new moves held held_new kept = record { old_sound = held.plant_sound; new_sound = held_new.plant_sound; kept = kept w z held held_new }
+
+pub can_tell : (v : ServerView) (ports : PortsMemory) (moves : List KeptPlace) (d : Description) (ts : List Turned) → IsServing v
+    → ((w : World) → HoldsPorts w v.device.ports → HoldsPorts (world_after_reload w d) ports)
+    → ((a b : World) → HoldsPorts a v.device.ports → HoldsPorts b ports → AreKeptSymbols a.plant b.plant (kept_symbols_of moves)) → ts ≡ v.sessions
+    → All (λ (t : Turned). t.skip ≡ false → IsReloadable moves t.session) ts
+can_tell v ports moves d ts serving reloads kept same =
+    let x = serving.some.state in
+    let s = serving.some.serves in
+    let w = x.state.world in
+    let z = world_after_reload w d in
+    subst (λ (us : List Turned). All (λ (t : Turned). t.skip ≡ false → IsReloadable moves t.session) us) (sym same)
+    (told_each w z moves v.sessions v.entries (present x.state.connections) (moved_between w z v.device.ports ports moves s.device.world.ports (reloads w s.device.world.ports) kept)
+    s.aligned s.connections.each)
+
+-- the plant of a description, and the signals as before
+reload_plant : (w : World) (d : Description) → (world_after_reload w d).plant ≡ plant_of d
+unfolding world_after_reload
+reload_plant w d = refl
+
+reload_signals : (w : World) (d : Description) → (world_after_reload w d).signals ≡ w.signals
+unfolding world_after_reload
+reload_signals w d = refl
+
+-- the device after a reload
+pub record ReloadsDevice (old new : Device) (d : Description) : Type 0 where
+  pub ports : (w : World) → HoldsPorts w old.ports → HoldsPorts (world_after_reload w d) new.ports
+  pub net : new.net.bytes ≡ d.net
+  pub routes : (n : List ℕ) → rights_of n new.routes ≡ rights_of n d.routes
+  pub signals : new.signals ≡ old.signals
+  pub moment : new.moment ≡ old.moment
+
+pub reloaded_device : (old new : Device) (waves : List Wave) (d : Description) (x : CoreState) → ReloadsDevice old new d → HoldsState old waves x.state → HoldsState new waves (reloaded d x)
+reloaded_device old new waves d x reloads held =
+    let w = x.state.world in
+    record {
+      world = record {
+        ports = reloads.ports w held.world.ports;
+        address = subst (λ (p : Plant). HasAddress p new.net.bytes new.routes) (sym (reload_plant w d)) (record { net_is = sym reloads.net; routes_are = reloads.routes });
+      };
+      signals = reload_signals w d ∙ held.signals;
+      count = reloads.signals ∙ held.count;
+      few = held.few;
+      moment = reloads.moment ∙ held.moment;
+    }
+
+-- as many are asked
+pub asked_length : (a b : Plant) (outcome : Outcomes) (ts us : List Turned) → EachAsked a b outcome ts us → length us ≡ length ts
+asked_length a b outcome [] [] each = refl
+asked_length a b outcome [] (u ∷ us) each = absurd each
+asked_length a b outcome (t ∷ ts) [] each = absurd each
+asked_length a b outcome (t ∷ ts) (u ∷ us) each = ap suc (asked_length a b outcome ts us each.1)
+
+pub exchanged_aligned : (old new : Server) (d : Description) (version : ℕ) → IsServing (view_of old) → Exchanges old new d version → length new.clients.sessions.items ≡ length new.clients.waiting.entries
+exchanged_aligned old new d version serving ex =
+    let x = serving.some.state in
+    let s = serving.some.serves in
+    asked_length x.state.world.plant (reloaded d x).world.plant (client_reloaded x.state.moment x.state.world (reloaded d x).world) old.clients.sessions.items new.clients.sessions.items (ex.asked serving.waves x s)
+    ∙ s.aligned ∙ sym (ap (λ (m : HashMap ℕ Waiting (BuildHasherDefault FoldHasher)). length m.entries) ex.waiting)
+
+pub if_ok : {A E : Type 0} {P Q : A → Type 0} (r : Result A E) → ((a : A) → P a → Q a) → IfOk r P → IfOk r Q
+if_ok (Ok a) f h = f a h
+if_ok (Err e) f h = h
+
+-- an accepted reload, from its parts
+pub accepts_all : (old mid new : Server) (d : Description) (version : ℕ) → Exchanges old mid d version → {s : Summary} → s ≡ (let t = mid.summary in record t { accepted = count_of (t.accepted + 1) })
+    → DeliversAll mid.clients new.clients s new.summary → new.notes ≡ mid.notes ++ note.Ok version ∷ [] → new.device ≡ mid.device → Accepts old new d (ReloadOk version)
+accepts_all old mid new d version ex {s} counts delivers notes device = record {
+  version = version;
+  follows = λ waves x serves.
+      accept_follows (view_of old) (view_of new) s waves x d mid.clients new.clients serves (subst (λ (e : Device). HoldsState e waves (reloaded d x)) (sym device) (ex.device waves x serves))
+      (ex.asked waves x serves) (ap (λ (m : HashMap ℕ Waiting (BuildHasherDefault FoldHasher)). m.entries) ex.waiting)
+      (counts ∙ ap (λ (t : Summary). record t { accepted = count_of (t.accepted + 1) }) ex.summary) delivers refl refl;
+  version_is = ex.version_is;
+  notes = notes ∙ ap (λ ns. ns ++ note.Ok version ∷ []) ex.notes;
+  outcome_is = refl;
+}

@@ -1,0 +1,122 @@
+-- A tick: the world, then each connection.
+use Rattle.std.proofs.Common.{◌≡◌, ℕ, zero, suc, ◌<◌, ◌^◌, List, [], ◌∷◌, length, map, get_or, true, false, refl, sym, ap, ◌∙◌, subst, arith}
+use Rattle.std.specs.Prelude.{All, max}
+use Rattle.std.proofs.lemmas.List.{length-map}
+use Rattle.signals.specs.Wave.{Wave, wave_after_step}
+use Rattle.ads_outside.specs.declared.event.Event.TheVariants as event
+use Rattle.ads_plant.specs.World.{Plant}
+use Rattle.ads_plant.specs.Description.{Route}
+use Rattle.ads_base.specs.declared.net_id.NetId.{NetId}
+use Rattle.ads_machine.specs.Events.{state_after_event, connection_after_tick}
+use Rattle.ads_machine.specs.Moves.{state_after_move}
+use Rattle.ads_machine.specs.Ticks.{world_after_tick, client_after_tick}
+use Rattle.port_device.specs.Holds.{HoldsPorts}
+use Rattle.port_device.specs.PortMemory.{PortsMemory}
+use Rattle.session.specs.Served.{IsServed}
+use Rattle.session.specs.StandsFor.{StandsFor}
+use Rattle.session.specs.Takes.{HasAddress}
+use Rattle.server_core.specs.declared.clients.Clients.{Clients}
+use Rattle.server_core.specs.declared.device.Device.{Device}
+use Rattle.server_core.specs.declared.turned.Turned.{Turned}
+use Rattle.server_core.specs.declared.waiting.Waiting.{Waiting}
+use Rattle.server_core.specs.Asked.{EachAsked}
+use Rattle.server_core.specs.Conns.{Conn, conn_of, conns_of}
+use Rattle.server_core.specs.CoreState.{CoreState, after_event}
+use Rattle.server_core.specs.Delivering.{Outcomes, after_given, DeliversAll}
+use Rattle.server_core.specs.HoldsWorld.{HoldsWorld, HoldsState}
+use Rattle.server_core.specs.Served.{served, World, ServedConnection, ServedState}
+use Rattle.server_core.specs.ServerView.{ServerView}
+use Rattle.server_core.specs.Serves.{EachStands, ServesEach, ServesSome, FollowsEach, present, conns_in}
+use Rattle.server_core.proofs.AskedLemmas.{AllFollow, all_follow, counted_all}
+
+-- what holds of the first and of the others
+pub all_cons : {X : Type 0} (P : X → Type 0) (x : X) (xs : List X) → P x → All P xs → (k : ℕ) (d : X) → k < length (x ∷ xs) → P (get_or (x ∷ xs) k d)
+all_cons P x xs p ps zero d below = p
+all_cons P x xs p ps (suc k) d below = ps k d (omega (arith, below))
+
+-- each session that is not closing is served over a world of the same plant
+pub served_each : (plant : Plant) (w : World) (ports : PortsMemory) (ts : List Turned) (es : List (ℕ × Waiting)) (ps : List ServedConnection) → HoldsPorts w ports → w.plant ≡ plant → length ts ≡ length es
+    → EachStands plant (conns_of ts es) ps → All (λ (t : Turned). t.skip ≡ false → IsServed ports t.session) ts
+served_each plant w ports [] es ps held same e each = λ k d below. absurd (omega (arith, below))
+served_each plant w ports (t ∷ ts) [] ps held same e each = absurd (omega (arith, e))
+served_each plant w ports (t ∷ ts) (f ∷ fs) [] held same e each = absurd each
+served_each plant w ports (t ∷ ts) (f ∷ fs) (p ∷ ps) held same e each =
+    all_cons (λ (t : Turned). t.skip ≡ false → IsServed ports t.session) t ts
+    (λ open_. record { world = w; client = p.client; held = held; stands = subst (λ (q : Plant). StandsFor q p.client t.session) (sym same) (each.0.client (sym each.0.closing ∙ open_)) })
+    (served_each plant w ports ts fs ps held same (omega (arith, e)) each.1)
+
+-- a tick keeps the plant, and steps each signal
+pub tick_plant : (w : World) → (world_after_tick w).plant ≡ w.plant
+unfolding world_after_tick
+tick_plant w = refl
+
+pub tick_signals : (w : World) → (world_after_tick w).signals ≡ map wave_after_step w.signals
+unfolding world_after_tick
+tick_signals w = refl
+
+-- the state after a tick
+abbrev pub ticked : ℕ → CoreState → ServedState
+ticked t x =
+    let s = x.state in
+    let moment = max s.moment t in
+    let world = world_after_tick s.world in
+    record s { world = world; moment = moment; connections = map (after_given (client_after_tick moment world)) s.connections }
+
+tick_is : (t : ℕ) (x : CoreState) → after_event x (event.Tick t) ≡ record { state = ticked t x; blocked = x.blocked }
+unfolding state_after_move state_after_event connection_after_tick served
+tick_is t x = refl
+
+-- the device after a tick
+pub record TicksDevice (old new : Device) (waves : List Wave) (t : ℕ) : Type 0 where
+  pub net : new.net ≡ old.net
+  pub routes : new.routes ≡ old.routes
+  pub signals : new.signals ≡ old.signals
+  pub moment : new.moment ≡ max old.moment t
+  pub ports : (w : World) → HoldsPorts w old.ports → w.signals ≡ waves → HoldsPorts (world_after_tick w) new.ports
+
+-- the ports hold the world after the tick
+pub ticked_ports : (old new : Device) (waves : List Wave) (t : ℕ) (s : ServedState) → TicksDevice old new waves t → HoldsState old waves s → HoldsPorts (world_after_tick s.world) new.ports
+ticked_ports old new waves t s ticks held = ticks.ports s.world held.world.ports held.signals
+
+ticked_device : (old new : Device) (waves ws : List Wave) (t : ℕ) (x : CoreState) → TicksDevice old new waves t → ws ≡ map wave_after_step waves → HoldsState old waves x.state → HoldsState new ws (ticked t x)
+ticked_device old new waves ws t x ticks steps held =
+    let w = x.state.world in
+    record {
+      world = record {
+        ports = ticked_ports old new waves t x.state ticks held;
+        address = subst (λ (p : Plant). HasAddress p new.net.bytes new.routes) (sym (tick_plant w))
+            (subst (λ (n : NetId). HasAddress w.plant n.bytes new.routes) (sym ticks.net)
+            (subst (λ (rs : List Route). HasAddress w.plant old.net.bytes rs) (sym ticks.routes) held.world.address));
+      };
+      signals = tick_signals w ∙ ap (map wave_after_step) held.signals ∙ sym steps;
+      count = ticks.signals ∙ held.count ∙ sym (ap (λ (vs : List Wave). length vs) steps ∙ length-map waves wave_after_step);
+      few = subst (λ (m : ℕ). m < 2 ^ 32) (sym (ap (λ (vs : List Wave). length vs) steps ∙ length-map waves wave_after_step)) held.few;
+      moment = ticks.moment ∙ ap (λ m. max m t) held.moment;
+    }
+
+pub tick_follows : (v w : ServerView) (waves ws : List Wave) (x : CoreState) (t : ℕ) (mid new : Clients) → ServesEach v waves x → TicksDevice v.device w.device waves t → ws ≡ map wave_after_step waves
+    → ((u : World) → HoldsPorts u w.device.ports → u.plant.net ≡ w.device.net.bytes → EachAsked u.plant u.plant (client_after_tick w.device.moment u) v.sessions mid.sessions.items)
+    → mid.waiting.entries ≡ v.entries → DeliversAll mid new v.summary w.summary → w.sessions ≡ new.sessions.items → w.entries ≡ new.waiting.entries
+    → FollowsEach v w ws x (after_event x (event.Tick t))
+tick_follows v w waves ws x t mid new serves ticks steps asked entries delivers sessions new_entries =
+    let y = ticked t x in
+    let outcome : Outcomes = client_after_tick y.moment y.world in
+    let device = ticked_device v.device w.device waves ws t x ticks steps serves.device in
+    let moment : w.device.moment ≡ y.moment = device.moment in
+    let each = asked y.world device.world.ports device.world.address.net_is in
+    let here : EachAsked x.state.world.plant y.world.plant outcome v.sessions mid.sessions.items =
+    subst (λ (p : Plant). EachAsked p y.world.plant outcome v.sessions mid.sessions.items) (tick_plant x.state.world)
+    (subst (λ (m : ℕ). EachAsked y.world.plant y.world.plant (client_after_tick m y.world) v.sessions mid.sessions.items) moment each) in
+    let all = all_follow v w v.summary waves ws x outcome y mid new serves here entries delivers sessions new_entries device refl in
+    subst (λ (z : CoreState). FollowsEach v w ws x z) (sym (tick_is t x))
+    (record { serves = all.serves; counted = counted_all outcome v.summary w.summary x.state y refl refl refl all.counted })
+
+-- the condition of the check, before it is known which state the core stands for
+pub tick_served : (v : ServerView) (device : Device) (waves : List Wave) (t : ℕ) (ts : List Turned) → ServesSome v waves → TicksDevice v.device device waves t → ts ≡ v.sessions
+    → All (λ (u : Turned). u.skip ≡ false → IsServed device.ports u.session) ts
+tick_served v device waves t ts some ticks same =
+    let s = some.serves in
+    let x = some.state in
+    subst (λ (us : List Turned). All (λ (u : Turned). u.skip ≡ false → IsServed device.ports u.session) us) (sym same)
+    (served_each x.state.world.plant (world_after_tick x.state.world) device.ports v.sessions v.entries (present x.state.connections)
+    (ticked_ports v.device device waves t x.state ticks s.device) (tick_plant x.state.world) s.aligned s.connections.each)

@@ -1,0 +1,8 @@
+use Rattle.std.proofs.Common.{ℕ, refl, sym, ap, ◌∙◌}
+use Rattle.server_core.proofs.DeliverLemmas.{delivers_at}
+use Rattle.server_core.proofs.clients.Clients.deliver_at.Goals as goal
+
+pub returns : goal.returns
+returns c =
+    delivers_at c.args.i c.args.self.now _ c.index_mut-turned.result.now c.deliver_frames.new.turned c.index_mut-waiting.result.now c.deliver_frames.new.waiting c.args.summary.now c.deliver_frames.new.summary
+    c.deliver_frames.result c.requires.session c.index_mut-turned.ensures.value c.index_mut-waiting.ensures.value refl refl c.deliver_frames.ensures.marks c.deliver_frames.ensures.goes

@@ -1,0 +1,15 @@
+use Rattle.std.proofs.Common.{◌≡◌, List, ◌++◌, ◌∷◌, [], refl, sym, ap, ◌∙◌}
+use Rattle.std.specs.HashMap.{HashMap}
+use Rattle.ads_outside.specs.declared.reload_note.ReloadNote.TheVariants as note
+use Rattle.type_layout.specs.Descriptions.{description_of}
+use Rattle.server_core.specs.ServerView.{view_of}
+use Rattle.server_core.proofs.ReloadLemmas.{exchanged_aligned, accepts_all}
+use Rattle.server_core.proofs.server.Server.accept.Goals as goal
+
+pub deliver-requires : goal.deliver-requires
+deliver-requires c = exchanged_aligned c.args.self.now c.exchange.new.self (description_of c.args.d.now) c.in_ok-version.version c.requires.serving c.in_ok-version.ensures
+
+pub returns : goal.returns
+returns c =
+    accepts_all c.args.self.now c.exchange.new.self _ (description_of c.args.d.now) c.in_ok-version.version c.in_ok-version.ensures c.count_accepted.ensures c.in_ok-deliver.ensures
+    c.in_ok-push.ensures.ok refl

@@ -1,0 +1,40 @@
+use Rattle.std.proofs.Common.{List, length, refl, sym, ap, ◌∙◌, subst}
+use Rattle.std.specs.Vec.{with_items}
+use Rattle.ads_machine.specs.Ticks.{client_after_tick}
+use Rattle.server_core.specs.declared.clients.Clients.{Clients}
+use Rattle.server_core.specs.declared.device.Device.{Device}
+use Rattle.server_core.specs.declared.turned.Turned.{Turned}
+use Rattle.server_core.specs.Asked.{EachAsked}
+use Rattle.server_core.specs.ServerView.{view_of}
+use Rattle.server_core.proofs.TakingLemmas.{on_ok, lent_back}
+use Rattle.server_core.proofs.TickLemmas.{TicksDevice, tick_follows, tick_served}
+use Rattle.server_core.proofs.ticking.tick.Goals as goal
+
+pub step_into-requires : goal.step_into-requires
+step_into-requires g c = c.requires.serves.device.few
+
+pub check_all-requires : goal.check_all-requires
+check_all-requires g c =
+    let v = view_of c.args.server.now in
+    let device : Device = (let d = v.device in record d { ports = c.step_into.new.ports; moment = c.later_of-server.result }) in
+    let waves = g.S.Sources.waves c.args.signals.now in (
+      c.type_bounds.sync-T,
+      tick_served v device waves c.args.moment c.as_mut_slice.result.now c.requires
+          (record { net = refl; routes = refl; signals = refl; moment = c.later_of-server.ensures; ports = c.step_into.ensures.ports }) c.as_mut_slice.ensures.value,
+    )
+
+pub returns-clause-follows : goal.returns-clause-follows
+returns-clause-follows g c =
+    let v = view_of c.args.server.now in
+    let device : Device = (let d = v.device in record d { ports = c.step_into.new.ports; moment = c.later_of-server.result }) in
+    let waves = g.S.Sources.waves c.args.signals.now in
+    let old = c.args.server.now.clients.sessions in
+    let list = c.check_all.new.list in
+    let mid : Clients = record { sessions = with_items old list; waiting = c.args.server.now.clients.waiting } in
+    let back = lent_back list old.items old.len old.ok.0 (c.check_all.auto.list ∙ ap (λ (ts : List Turned). length ts) c.as_mut_slice.ensures.value) in
+    on_ok c.deliver.result (λ delivers. λ x s.
+    tick_follows v _ waves (g.S.Sources.waves c.step_into.new.self) x c.args.moment mid c.deliver.new.self s
+    (record { net = refl; routes = refl; signals = refl; moment = c.later_of-server.ensures; ports = c.step_into.ensures.ports }) c.step_into.ensures.waves
+    (λ u held net. subst (λ (ts : List Turned). EachAsked u.plant u.plant (client_after_tick device.moment u) old.items ts) (sym back)
+    (subst (λ (ts : List Turned). EachAsked u.plant u.plant (client_after_tick device.moment u) ts list) c.as_mut_slice.ensures.value
+    (c.in_ok-check_all.ensures u held net))) refl delivers refl refl) c.deliver.ensures

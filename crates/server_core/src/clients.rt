@@ -1,0 +1,101 @@
+//! The connections that are there, found by their numbers.
+
+ghost use Rattle.std.specs.Prelude.{◌≡◌, ◌<◌, [], length, slice_get, option_map, IfOk, OnOk, IfSome, IfNone};
+ghost use Rattle.indexmap.specs.IndexMap.{keys};
+ghost use Rattle.server_core.specs.Entries.{IsEntry, IsNoEntry, IsFreshSession, IsNothing, Opens, Ends};
+
+use crate::turned::Turned;
+use crate::waiting::Waiting;
+use ads_base::{ListOf, NoMemory};
+use indexmap::IndexMap;
+use out_queue::OutQueue;
+use session::{FrameList, Session};
+use std::alloc::Global;
+
+/// The sessions, and at equal places what waits for each, by its number, in the order of opening.
+#[derive(Drop)]
+pub(crate) struct Clients {
+    pub(crate) sessions: Vec<Turned>,
+    pub(crate) waiting: IndexMap<u32, Waiting>,
+}
+
+impl Clients {
+    pub(crate) fn new(alloc: Global) -> Clients
+        ensures sessions { result.sessions.items ≡ [] }
+        ensures waiting { result.waiting.entries ≡ [] }
+    {
+        Clients {
+            sessions: Vec::new(alloc),
+            waiting: IndexMap::new(alloc),
+        }
+    }
+
+    /// The number of the n-th connection; None past the last.
+    pub(crate) fn number(&self, n: usize) -> Option<u32>
+        ensures { result ≡ option_map (λ e. e.0) (slice_get self.now.waiting.entries n) }
+    {
+        Some(*self.waiting.get_index(n)?.0)
+    }
+
+    /// All numbers, in the order of opening.
+    pub(crate) fn numbers(&self, alloc: Global) -> Result<ListOf<u32>, NoMemory>
+        ensures { IfOk result (λ numbers. numbers ≡ keys self.now.waiting) }
+    {
+        let mut numbers = ListOf::new(alloc);
+        for i in 0..self.waiting.len() {
+            if let Some(number) = self.number(i) {
+                numbers.push(alloc, number)?;
+            }
+        }
+        Ok(numbers)
+    }
+
+    /// Where the connection of a number stands.
+    pub(crate) fn place_of(&self, number: u32) -> Option<usize>
+        ensures found { IfSome result (IsEntry self.now.waiting.entries number) }
+        ensures absent { IfNone result (IsNoEntry self.now.waiting.entries number) }
+    {
+        self.waiting.get_index_of(&number)
+    }
+
+    /// A connection is opened, whose number is not there.
+    pub(crate) fn open(&mut self, alloc: Global, number: u32) -> Result<(), NoMemory>
+        requires { IsNoEntry self.old.waiting.entries number }
+        ensures { OnOk result (Opens number self.old self.new) }
+    {
+        let turned = fresh_session(alloc)?;
+        let waiting = nothing_waits(alloc)?;
+        self.sessions.push(turned)?;
+        let _ = self.waiting.insert(number, waiting)?;
+        Ok(())
+    }
+
+    /// The connection at a place is gone.
+    pub(crate) fn end_at(&mut self, i: usize)
+        ensures { Ends i self.old self.new }
+    {
+        let _ = self.waiting.shift_remove_index(i);
+        if i < self.sessions.len() {
+            let _ = self.sessions.remove(i);
+        }
+    }
+}
+
+fn fresh_session(alloc: Global) -> Result<Turned, NoMemory>
+    ensures { IfOk result IsFreshSession }
+{
+    Ok(Turned {
+        session: Session::new(alloc)?,
+        skip: false,
+        out: FrameList::new(alloc),
+    })
+}
+
+fn nothing_waits(alloc: Global) -> Result<Waiting, NoMemory>
+    ensures { IfOk result IsNothing }
+{
+    Ok(Waiting {
+        out: OutQueue::new(alloc)?,
+        blocked: false,
+    })
+}

@@ -1,0 +1,43 @@
+//! The device behind all connections.
+
+ghost use Rattle.std.specs.Prelude.{◌≡◌, ◌<◌, ◌^◌, List, length, IfOk};
+ghost use Rattle.signals.specs.Wave.{Wave};
+ghost use Rattle.ads_plant.specs.Accepted.{IsAccepted};
+ghost use Rattle.ads_product.specs.Server.{server_start};
+ghost use Rattle.type_layout.specs.Descriptions.{description_of};
+
+use ads_base::{NetId, NoMemory};
+use net_routes::Routes;
+use port_device::Ports;
+use std::alloc::Global;
+use type_layout::Description;
+
+/// What is served to all connections, and the last moment.
+#[derive(Drop)]
+pub(crate) struct Device {
+    pub(crate) net: NetId,
+    pub(crate) routes: Routes,
+    pub(crate) ports: Ports,
+    // How many signals there are.
+    pub(crate) signals: u32,
+    pub(crate) moment: u64,
+}
+
+impl Device {
+    ghost use Rattle.server_core.specs.HoldsWorld.{HoldsState};
+
+    /// The device of an accepted description for this number of signals, before any tick.
+    pub(crate) fn build(alloc: Global, d: &Description, signals: u32) -> Result<Device, NoMemory>
+        requires { IsAccepted (description_of d.now) signals }
+        ensures { IfOk result (λ device. (waves : List Wave) → signals ≡ length waves → length waves < 2 ^ 32
+            → HoldsState device waves (server_start (description_of d.now) waves)) }
+    {
+        Ok(Device {
+            net: d.net,
+            routes: Routes::build(alloc, &d.routes)?,
+            ports: Ports::build(alloc, d)?,
+            signals,
+            moment: 0,
+        })
+    }
+}

@@ -1,0 +1,51 @@
+//! An event is taken.
+
+ghost use Rattle.std.specs.Prelude.{IfOk};
+ghost use Rattle.server_core.specs.ServerView.{view_of};
+ghost use Rattle.server_core.specs.Serves.{ServesSome};
+ghost use Rattle.server_core.specs.Outcomes.{TakesEvent};
+
+use crate::Outcome;
+use crate::server::Server;
+use crate::sources::Sources;
+use crate::ticking::tick;
+use ads_base::NoMemory;
+use ads_outside::Event;
+use std::alloc::Global;
+use std::thread::Threads;
+
+/// Takes one event.
+pub(crate) fn take_event<T: Threads + Sync, S: Sources>(
+    rt: &T,
+    alloc: Global,
+    server: &mut Server,
+    signals: &mut S,
+    event: &Event,
+) -> Result<Outcome, NoMemory>
+    requires { ServesSome (view_of server.old) (S.waves signals.old) }
+    ensures { IfOk result (TakesEvent (view_of server.old) (view_of server.new) (S.waves signals.old) (S.waves signals.new) event.now) }
+{
+    match event {
+        Event::Opened(number) => {
+            server.open(alloc, *number)?;
+            Ok(Outcome::Done)
+        }
+        Event::Piece(number, bytes) => {
+            server.piece(alloc, *number, bytes.as_slice())?;
+            Ok(Outcome::Done)
+        }
+        Event::Closed(number) => {
+            server.end(*number);
+            Ok(Outcome::Done)
+        }
+        Event::Tick(moment) => {
+            tick(rt, alloc, server, signals, *moment)?;
+            Ok(Outcome::Done)
+        }
+        Event::Reload(text) => server.reload(alloc, text.as_slice()),
+        Event::Writable(number) => {
+            server.writable(*number);
+            Ok(Outcome::Done)
+        }
+    }
+}

@@ -1,0 +1,143 @@
+//! All that a core keeps but its signals.
+
+ghost use Rattle.std.specs.Prelude.{◌≡◌, ◌≤◌, ◌<◌, ℕ, List, length, slice_get, OnOk, IfSome, IsSomeAnd, option_copied};
+ghost use Rattle.signals.specs.Wave.{Wave};
+ghost use Rattle.ads_outside.specs.declared.event.Event.TheVariants as event;
+ghost use Rattle.ads_outside.specs.declared.moves.Move.TheVariants as move;
+ghost use Rattle.ads_machine.specs.MachineState.{present_numbers};
+ghost use Rattle.out_queue.specs.Queue.{QUEUE_LIMIT};
+ghost use Rattle.server_core.specs.CoreState.{CoreState, after_event, after_move, OpensNew, is_to_be_shut_at};
+ghost use Rattle.server_core.specs.Places.{offer_among, offers_among};
+
+use crate::Summary;
+use crate::clients::Clients;
+use crate::device::Device;
+use crate::taking::take_piece;
+use ads_base::NoMemory;
+use ads_outside::ReloadNotes;
+use std::alloc::Global;
+
+/// The device, the connections, and what is told of the run.
+#[derive(Drop)]
+pub(crate) struct Server {
+    pub(crate) device: Device,
+    pub(crate) clients: Clients,
+    pub(crate) summary: Summary,
+    pub(crate) notes: ReloadNotes,
+}
+
+impl Server {
+    ghost use Rattle.server_core.specs.ServerView.{view_of};
+    ghost use Rattle.server_core.specs.Serves.{ServesEach, ServesSome, IsServing, FollowsEach};
+
+    /// A connection is opened; nothing changes where its number is there.
+    pub(crate) fn open(&mut self, alloc: Global, number: u32) -> Result<(), NoMemory>
+        ensures follows { OnOk result ((waves : List Wave) (x : CoreState) → ServesEach (view_of self.old) waves x
+            → OpensNew x (event.Opened number)
+            → FollowsEach (view_of self.old) (view_of self.new) waves x (after_event x (event.Opened number))) }
+        ensures some { OnOk result ((waves : List Wave) → ServesSome (view_of self.old) waves → ServesSome (view_of self.new) waves) }
+        ensures notes { self.new.notes ≡ self.old.notes }
+    {
+        match self.clients.place_of(number) {
+            Some(_) => Ok(()),
+            None => {
+                self.clients.open(alloc, number)?;
+                self.summary.count_connection();
+                Ok(())
+            }
+        }
+    }
+
+    /// A piece of a connection comes in.
+    pub(crate) fn piece(&mut self, alloc: Global, number: u32, bytes: &[u8]) -> Result<(), NoMemory>
+        requires { IsServing (view_of self.old) }
+        ensures follows { OnOk result ((waves : List Wave) (x : CoreState) → ServesEach (view_of self.old) waves x
+            → FollowsEach (view_of self.old) (view_of self.new) waves x (after_event x (event.Piece number bytes.now))) }
+        ensures notes { self.new.notes ≡ self.old.notes }
+    {
+        let Some(i) = self.clients.place_of(number) else {
+            return Ok(());
+        };
+        let turned = &mut self.clients.sessions[i];
+        let waiting = &mut self.clients.waiting[i];
+        take_piece(
+            alloc,
+            turned,
+            waiting,
+            &mut self.device,
+            &mut self.summary,
+            bytes,
+        )
+    }
+
+    /// A connection is writable.
+    pub(crate) fn writable(&mut self, number: u32)
+        ensures follows { (waves : List Wave) (x : CoreState) → ServesEach (view_of self.old) waves x
+            → FollowsEach (view_of self.old) (view_of self.new) waves x (after_event x (event.Writable number)) }
+        ensures notes { self.new.notes ≡ self.old.notes }
+    {
+        if let Some(i) = self.clients.place_of(number) {
+            let waiting = &mut self.clients.waiting[i];
+            waiting.free();
+        }
+    }
+
+    /// A connection is gone: it was closed, lost or shut.
+    pub(crate) fn end(&mut self, number: u32)
+        ensures follows { (waves : List Wave) (x : CoreState) → ServesEach (view_of self.old) waves x
+            → FollowsEach (view_of self.old) (view_of self.new) waves x (after_event x (event.Closed number)) }
+        ensures notes { self.new.notes ≡ self.old.notes }
+    {
+        if let Some(i) = self.clients.place_of(number) {
+            self.clients.end_at(i);
+        }
+    }
+
+    /// The first n bytes of what was offered to a connection were taken.
+    pub(crate) fn took(&mut self, number: u32, n: u32)
+        requires { IsSomeAnd (offer_among self.old.clients.waiting.entries number) (λ left. n ≤ length left) }
+        ensures follows { (waves : List Wave) (x : CoreState) (left bytes : List ℕ) → ServesEach (view_of self.old) waves x
+            → offer_among self.old.clients.waiting.entries number ≡ Some left → length bytes ≡ n
+            → FollowsEach (view_of self.old) (view_of self.new) waves x (after_move x (move.Took number (length left) bytes)) }
+        ensures fewer { offers_among self.new.clients.waiting.entries number < offers_among self.old.clients.waiting.entries number }
+        ensures notes { self.new.notes ≡ self.old.notes }
+    {
+        if let Some(i) = self.clients.place_of(number) {
+            let waiting = &mut self.clients.waiting[i];
+            waiting.took(n);
+        }
+    }
+
+    /// What is left of the first frame that waits for a connection, unless it is blocked.
+    pub(crate) fn offer_of(&self, number: u32) -> Option<&[u8]>
+        ensures offer { option_copied result ≡ offer_among self.now.clients.waiting.entries number }
+        ensures bound { IfSome result (λ left. length left.now ≤ QUEUE_LIMIT) }
+    {
+        let i = self.clients.place_of(number)?;
+        let waiting = &self.clients.waiting[i];
+        if waiting.blocked {
+            return None;
+        }
+        waiting.out.front()
+    }
+
+    /// Whether a connection that is there is to be shut.
+    pub(crate) fn closing(&self, number: u32) -> bool
+        ensures { (waves : List Wave) (x : CoreState) → ServesEach (view_of self.now) waves x → result ≡ is_to_be_shut_at number x }
+    {
+        let Some(i) = self.clients.place_of(number) else {
+            return false;
+        };
+        match self.clients.sessions.get(i) {
+            Some(turned) => turned.skip,
+            None => false,
+        }
+    }
+
+    /// The number of the n-th connection that is there.
+    pub(crate) fn connection(&self, n: usize) -> Option<u32>
+        ensures { (waves : List Wave) (x : CoreState) → ServesEach (view_of self.now) waves x → result ≡ slice_get (present_numbers x.state) n }
+    {
+        self.clients.number(n)
+    }
+}

@@ -1,0 +1,129 @@
+//! One connection: its stream is cut into frames, each is answered, and the replies wait to be taken.
+
+ghost use Rattle.std.specs.Prelude.{◌≡◌, ◌<◌, ◌≤◌, ℕ, length, IsTrue, IfOk, OnOk, false};
+ghost use Rattle.ads_frames.specs.Frame.{IsAmsPacket};
+ghost use Rattle.ads_machine.specs.Device.{Reply};
+ghost use Rattle.ads_machine.specs.Piece.{after_piece};
+ghost use Rattle.ads_plant.specs.World.{Plant};
+ghost use Rattle.server_core.specs.Served.{served, ServedConnection, ServedExchange};
+ghost use Rattle.server_core.specs.Conns.{conn_of};
+ghost use Rattle.server_core.specs.ConnStands.{Stands, Goes};
+ghost use Rattle.server_core.specs.HoldsWorld.{HoldsWorld, IsConnected};
+ghost use Rattle.server_core.specs.Taking.{answered, Takes, Produces, KeepsDevice};
+
+use crate::Summary;
+use crate::device::Device;
+use crate::turned::Turned;
+use crate::waiting::Waiting;
+use ads_base::{NoMemory, Octets};
+use ams_tcp::Cut;
+use out_queue::Pushed;
+use session::Taken;
+use std::alloc::Global;
+
+/// A piece comes in, and all frames that are whole by then are taken.
+pub(crate) fn take_piece(
+    alloc: Global,
+    turned: &mut Turned,
+    waiting: &mut Waiting,
+    device: &mut Device,
+    summary: &mut Summary,
+    bytes: &[u8],
+) -> Result<(), NoMemory>
+    requires { turned.old.skip ≡ false → IsConnected device.old turned.old.session }
+    ensures goes { OnOk result ((n : ℕ) (x : ServedExchange) → HoldsWorld device.old x.world
+        → Stands x.world.plant (conn_of turned.old (n, waiting.old)) x.connection → x.connection.gone ≡ false
+        → Goes (conn_of turned.new (n, waiting.new)) device.new summary.old summary.new x (after_piece served bytes.now x)) }
+    ensures marks { waiting.new.blocked ≡ waiting.old.blocked }
+    ensures device { KeepsDevice device.old device.new }
+{
+    if turned.skip {
+        return Ok(());
+    }
+    turned.session.feed(alloc, bytes)?;
+    while take_next(alloc, turned, waiting, device, summary)? {}
+    Ok(())
+}
+
+// The next frame is taken; false where no more is to be taken.
+fn take_next(
+    alloc: Global,
+    turned: &mut Turned,
+    waiting: &mut Waiting,
+    device: &mut Device,
+    summary: &mut Summary,
+) -> Result<bool, NoMemory>
+    requires { IsConnected device.old turned.old.session }
+    ensures takes { IfOk result (λ more. (n : ℕ) (x : ServedExchange) → HoldsWorld device.old x.world
+        → Stands x.world.plant (conn_of turned.old (n, waiting.old)) x.connection → x.connection.closing ≡ false
+        → Takes more (conn_of turned.new (n, waiting.new)) device.new summary.old summary.new x) }
+    ensures connected { OnOk result (IsConnected device.new turned.new.session) }
+    ensures shorter { IfOk result (λ more. IsTrue more
+        → length turned.new.session.stream.rest < length turned.old.session.stream.rest) }
+    ensures marks { waiting.new.blocked ≡ waiting.old.blocked }
+    ensures device { KeepsDevice device.old device.new }
+{
+    match turned.session.next(alloc)? {
+        Cut::Frame(packet) => {
+            summary.count_request();
+            answer(alloc, turned, waiting, device, summary, packet.as_slice())?;
+            Ok(!turned.skip)
+        }
+        Cut::NotYet => Ok(false),
+        Cut::Broken => {
+            turned.skip = true;
+            Ok(false)
+        }
+    }
+}
+
+// A packet that was taken is answered.
+fn answer(
+    alloc: Global,
+    turned: &mut Turned,
+    waiting: &mut Waiting,
+    device: &mut Device,
+    summary: &mut Summary,
+    packet: &[u8],
+) -> Result<(), NoMemory>
+    requires packet { IsAmsPacket packet.now }
+    requires connected { IsConnected device.old turned.old.session }
+    ensures goes { OnOk result ((n : ℕ) (x : ServedExchange) → HoldsWorld device.old x.world
+        → Stands x.world.plant (conn_of turned.old (n, waiting.old)) x.connection → x.connection.closing ≡ false
+        → Goes (conn_of turned.new (n, waiting.new)) device.new summary.old summary.new x (answered packet.now x)) }
+    ensures connected { OnOk result (IsConnected device.new turned.new.session) }
+    ensures stream { turned.new.session.stream ≡ turned.old.session.stream }
+    ensures marks { waiting.new.blocked ≡ waiting.old.blocked }
+    ensures device { KeepsDevice device.old device.new }
+{
+    match turned.session.take(alloc, &mut device.ports, &device.routes, device.net, packet)? {
+        Taken::Answer(frame) => reply(alloc, turned, waiting, summary, frame),
+        Taken::Silent => Ok(()),
+        Taken::Close => {
+            turned.skip = true;
+            Ok(())
+        }
+    }
+}
+
+// A reply waits behind the others, or does not fit and closes the connection.
+fn reply(
+    alloc: Global,
+    turned: &mut Turned,
+    waiting: &mut Waiting,
+    summary: &mut Summary,
+    frame: Octets,
+) -> Result<(), NoMemory>
+    requires { 0 < length frame }
+    ensures produces { OnOk result ((plant : Plant) (n : ℕ) (k : ServedConnection)
+        → Stands plant (conn_of turned.old (n, waiting.old)) k → k.closing ≡ false
+        → Produces plant (conn_of turned.new (n, waiting.new)) summary.old summary.new (Reply frame) k) }
+    ensures session { turned.new.session ≡ turned.old.session }
+    ensures marks { waiting.new.blocked ≡ waiting.old.blocked }
+{
+    match waiting.out.push_owned(alloc, frame)? {
+        Pushed::Done => summary.count_reply(),
+        Pushed::Over => turned.skip = true,
+    }
+    Ok(())
+}

@@ -1,0 +1,48 @@
+//! A tick.
+
+ghost use Rattle.std.specs.Prelude.{◌≡◌, max, OnOk};
+ghost use Rattle.ads_outside.specs.declared.event.Event.TheVariants as event;
+ghost use Rattle.server_core.specs.CoreState.{CoreState, after_event};
+ghost use Rattle.server_core.specs.ServerView.{view_of};
+ghost use Rattle.server_core.specs.Serves.{ServesEach, ServesSome, FollowsEach};
+
+use crate::checking::check_all;
+use crate::server::Server;
+use crate::sources::Sources;
+use ads_base::NoMemory;
+use std::alloc::Global;
+use std::thread::Threads;
+
+/// A tick: each signal steps, the due notifications of each connection that is not closing are checked, and the
+/// frames of their samples are produced, connection after connection.
+pub(crate) fn tick<T: Threads + Sync, S: Sources>(
+    rt: &T,
+    alloc: Global,
+    server: &mut Server,
+    signals: &mut S,
+    moment: u64,
+) -> Result<(), NoMemory>
+    requires { ServesSome (view_of server.old) (S.waves signals.old) }
+    ensures follows { OnOk result ((x : CoreState) → ServesEach (view_of server.old) (S.waves signals.old) x
+        → FollowsEach (view_of server.old) (view_of server.new) (S.waves signals.new) x (after_event x (event.Tick moment))) }
+    ensures notes { server.new.notes ≡ server.old.notes }
+{
+    signals.step_into(alloc, &mut server.device.ports);
+    server.device.moment = later_of(server.device.moment, moment);
+    check_all(
+        rt,
+        alloc,
+        server.clients.sessions.as_mut_slice(),
+        &server.device.ports,
+        server.device.net,
+        server.device.moment,
+    )?;
+    server.clients.deliver(alloc, &mut server.summary)
+}
+
+// The later of two moments.
+fn later_of(last: u64, moment: u64) -> u64
+    ensures { result ≡ max last moment }
+{
+    if moment > last { moment } else { last }
+}
