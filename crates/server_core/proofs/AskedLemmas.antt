@@ -1,6 +1,6 @@
 -- All connections after a tick or a reload: each is asked, and its frames are produced.
-use Rattle.std.proofs.Common.{◌≡◌, ◌≢◌, ℕ, zero, suc, ◌+◌, ◌<◌, List, [], ◌∷◌, ◌++◌, length, map, get_or, set, Bool, true, false, cond, not, refl, sym, ap, ◌∙◌, subst, inl, inr, arith}
-use Rattle.std.specs.Prelude.{◌||◌, sum, sum_by, filter, Option, Some, None, option_map}
+use Rattle.std.proofs.Common.{◌≡◌, ℕ, zero, suc, ◌+◌, ◌<◌, List, [], ◌∷◌, length, map, get_or, set, Bool, true, false, refl, sym, ap, ◌∙◌, subst, inl, inr, arith}
+use Rattle.std.specs.Prelude.{sum_by, filter, Option, Some, None, option_map}
 use Rattle.std.proofs.lemmas.Bool.{true≢false, cases_Bool, cases_lt, cond-true, cond-false, or_right}
 use Rattle.std.proofs.lemmas.List.{length-map, get_or-set_same, get_or-set_other}
 use Rattle.std.proofs.lemmas.List.Sums.{sum_by-cons, sum-map}
@@ -15,23 +15,22 @@ use Rattle.ads_machine.proofs.Find.{connection_of-map}
 use Rattle.ads_served.specs.Opened.{AreApart}
 use Rattle.ams_tcp.specs.Held.{Held}
 use Rattle.ams_tcp.specs.History.{Represents}
-use Rattle.session.specs.StandsFor.{StandsFor}
 use Rattle.server_core.specs.declared.clients.Clients.{Clients}
 use Rattle.server_core.specs.declared.summary.Summary.{Summary}
 use Rattle.server_core.specs.declared.turned.Turned.{Turned}
 use Rattle.server_core.specs.declared.waiting.Waiting.{Waiting}
 use Rattle.server_core.specs.Asked.{IsAsked, EachAsked}
-use Rattle.server_core.specs.Conns.{Conn, conn_of, conns_of}
+use Rattle.server_core.specs.Conns.{conn_of, conns_of}
 use Rattle.server_core.specs.Counts.{Grows, counts_in, replies_of, samples_of}
 use Rattle.server_core.specs.ConnStands.{Stands}
 use Rattle.server_core.specs.CoreState.{CoreState}
 use Rattle.server_core.specs.Delivering.{Outcomes, Gives, after_given, mark_of, IsPending, EachUpTo, CountsAll, DeliversAll}
 use Rattle.server_core.specs.HoldsWorld.{HoldsState}
-use Rattle.server_core.specs.Served.{Client, ServedConnection, ServedState}
+use Rattle.server_core.specs.Served.{ServedConnection, ServedState}
 use Rattle.server_core.specs.ServerView.{ServerView}
-use Rattle.server_core.specs.Serves.{present, EachStands, EachMarked, StandsEach, ServesEach, conns_in}
+use Rattle.server_core.specs.Serves.{present, EachStands, EachMarked, ServesEach, conns_in}
 use Rattle.server_core.proofs.DeliverLemmas.{all_done}
-use Rattle.server_core.proofs.ProduceLemmas.{SameStream, produce-stream}
+use Rattle.server_core.proofs.ProduceLemmas.{produce-stream}
 use Rattle.server_core.proofs.StateLemmas.{present-gone, present-there}
 use Rattle.server_core.proofs.SumLemmas.{same_counts_of, produced_sum}
 

@@ -15,7 +15,7 @@ use Rattle.server_core.specs.CoreState.{CoreState, started, after_event, after_m
 use Rattle.server_core.specs.HoldsWorld.{HoldsState}
 use Rattle.server_core.specs.Places.{offer_among}
 use Rattle.server_core.specs.ServerView.{ServerView}
-use Rattle.server_core.specs.Serves.{CoreView, present, EachStands, EachMarked, StandsEach, ServesEach, ServesSome, Serves, FollowsEach, Follows}
+use Rattle.server_core.specs.Serves.{CoreView, StandsEach, ServesEach, ServesSome, Serves, FollowsEach, Follows}
 
 -- what is kept follows, and so does the core
 pub follows_core : (v w : CoreView) (x y : CoreState) → Serves v x → w.failed ≡ v.failed → w.waves ≡ v.waves → FollowsEach v.server w.server v.waves x y → Follows v w x y

@@ -1,31 +1,28 @@
 -- Frames of samples that connections give, produced connection after connection.
-use Rattle.std.proofs.Common.{◌≡◌, ◌≢◌, ℕ, zero, suc, ◌+◌, ◌<◌, ◌≤◌, List, [], ◌∷◌, ◌++◌, length, take, map, set, get_or, Bool, true, false, cond, refl, sym, ap, ◌∙◌, subst, inl, inr, arith}
-use Rattle.std.specs.Prelude.{◌||◌, ◌↔◌, sum_by, reverse, All, slice_get, Option, Some, None, IsSome, Result, Ok, Err, OnOk}
-use Rattle.std.specs.Option.{option_to_list}
+use Rattle.std.proofs.Common.{◌≡◌, ℕ, zero, suc, ◌+◌, ◌<◌, List, [], ◌∷◌, ◌++◌, length, take, map, set, get_or, Bool, true, false, refl, sym, ap, ◌∙◌, subst, inl, inr, arith}
+use Rattle.std.specs.Prelude.{◌↔◌, sum_by, reverse, All, slice_get, Some, None, IsSome, Result, OnOk}
 use Rattle.ads_base.specs.declared.no_memory.NoMemory.{NoMemory}
-use Rattle.std.specs.Map.{keys_of, values_of}
+use Rattle.std.specs.Map.{values_of}
 use Rattle.std.proofs.lemmas.Bool.{true≢false, cases_Bool, cond-true, cond-false, or_left, or_from}
-use Rattle.std.proofs.lemmas.List.{reverse-append, reverse-reverse, map-append, take_more, get_or_default}
+use Rattle.std.proofs.lemmas.List.{reverse-append, map-append, take_more, get_or_default}
 use Rattle.std.proofs.lemmas.Option.{slice_get_within, get_or_from_slice_get}
 use Rattle.std.proofs.lemmas.List.Sums.{sum_by-append, sum_by-cons}
-use Rattle.std.proofs.lemmas.List.Elements.{All-head, All-tail}
 use Rattle.indexmap.specs.IndexMap.{set_value_at}
 use Rattle.ads_plant.specs.World.{Plant}
-use Rattle.ads_machine.specs.Device.{Produced, ClientOutcome}
+use Rattle.ads_machine.specs.Device.{Produced}
 use Rattle.ads_machine.specs.Connection.{is_deaf, produce, produce_all}
 use Rattle.ads_machine.specs.Piece.{with_client}
-use Rattle.ads_machine.specs.Events.{after_client_outcome}
 use Rattle.session.specs.NoteFrames.{produced_of, IsNoteFrame}
 use Rattle.session.specs.declared.notes.NoteFrame.{NoteFrame}
 use Rattle.server_core.specs.declared.summary.Summary.{Summary}
 use Rattle.server_core.specs.declared.turned.Turned.{Turned}
 use Rattle.server_core.specs.declared.waiting.Waiting.{Waiting}
 use Rattle.server_core.specs.declared.clients.Clients.{Clients}
-use Rattle.server_core.specs.Served.{Client, ServedConnection}
+use Rattle.server_core.specs.Served.{ServedConnection}
 use Rattle.server_core.specs.Conns.{Conn, conn_of, conns_of}
 use Rattle.server_core.specs.Counts.{Counts, Grows, replies_of, samples_of}
 use Rattle.server_core.specs.ConnStands.{Stands}
-use Rattle.server_core.specs.Delivering.{Delivers, Gives, Outcomes, after_given, mark_of, IsPending, EachUpTo, CountsAll, DeliversAt}
+use Rattle.server_core.specs.Delivering.{Delivers, Outcomes, after_given, mark_of, IsPending, EachUpTo, CountsAll, DeliversAt}
 use Rattle.server_core.specs.Taking.{Produces}
 use Rattle.ads_machine.specs.Summary.{count_of}
 use Rattle.server_core.specs.Serves.{EachStands}

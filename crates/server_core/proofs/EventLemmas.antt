@@ -1,5 +1,5 @@
 -- An event that is no tick and no reload is taken.
-use Rattle.std.proofs.Common.{◌≡◌, ℕ, List, [], ◌++◌, refl, sym, ap, ◌∙◌, subst}
+use Rattle.std.proofs.Common.{◌≡◌, ℕ, List, [], ◌++◌, refl, sym, ap, ◌∙◌}
 use Rattle.std.proofs.lemmas.List.{append-nil}
 use Rattle.signals.specs.Wave.{Wave}
 use Rattle.ads_outside.specs.declared.event.Event.{Event}
@@ -10,7 +10,7 @@ use Rattle.ads_machine.specs.RunText.{notes_of_event}
 use Rattle.server_core.specs.declared.outcome.Outcome.TheVariants.{Done}
 use Rattle.server_core.specs.Served.{served}
 use Rattle.server_core.specs.CoreState.{CoreState, OpensNew, after_event}
-use Rattle.server_core.specs.Outcomes.{outcome_of, TakesEvent}
+use Rattle.server_core.specs.Outcomes.{TakesEvent}
 use Rattle.server_core.specs.ServerView.{ServerView}
 use Rattle.server_core.specs.Serves.{ServesEach, ServesSome, FollowsEach}
 

@@ -1,9 +1,9 @@
 -- What is read of a core, in the code and in the machine.
-use Rattle.std.proofs.Common.{◌≡◌, ◌⊎◌, ℕ, ◌<◌, ◌≤◌, List, [], ◌∷◌, length, map, get_or, Bool, true, false, not, cond, Bor, refl, sym, ap, ◌∙◌, subst, inl, inr, arith}
-use Rattle.std.specs.Prelude.{◌&&◌, nat_lt, drop, ◌==◌, Option, Some, None, IsNone, IsSomeAnd, IfSome, option_copied, slice_get, unwrap_or}
+use Rattle.std.proofs.Common.{◌≡◌, ℕ, ◌<◌, ◌≤◌, List, [], ◌∷◌, length, map, get_or, Bool, true, false, not, cond, Bor, refl, sym, ap, ◌∙◌, subst, inl, inr, arith}
+use Rattle.std.specs.Prelude.{◌&&◌, nat_lt, drop, ◌==◌, Option, Some, None, IsNone, IsSomeAnd, IfSome, option_copied, slice_get}
 use Rattle.std.specs.Option.{option_map}
-use Rattle.std.specs.Map.{keys_of, values_of}
-use Rattle.std.proofs.lemmas.Bool.{cases_Bool, cases_lt, lt-leb, ltb-true, lt-ltb, ltb-false, eqb-true, cond-true, cond-false}
+use Rattle.std.specs.Map.{keys_of}
+use Rattle.std.proofs.lemmas.Bool.{cases_Bool, ltb-false, cond-true, cond-false}
 use Rattle.std.proofs.lemmas.Option.{slice_get-map, get_or_from_slice_get}
 use Rattle.signals.specs.Wave.{Wave}
 use Rattle.ads_machine.specs.Connection.{bytes_of}
@@ -14,7 +14,7 @@ use Rattle.out_queue.specs.Queue.{front_of, frames_after}
 use Rattle.server_core.specs.declared.turned.Turned.{Turned}
 use Rattle.server_core.specs.declared.waiting.Waiting.{Waiting}
 use Rattle.server_core.specs.Served.{ServedConnection}
-use Rattle.server_core.specs.Conns.{Conn, conn_of, conns_of}
+use Rattle.server_core.specs.Conns.{Conn, conn_of}
 use Rattle.server_core.specs.ConnStands.{Stands, FitsFirst, first_left}
 use Rattle.server_core.specs.CoreState.{CoreState, offer_at, is_to_be_shut, is_to_be_shut_at}
 use Rattle.server_core.specs.Entries.{IsEntry, IsNoEntry}
@@ -23,7 +23,7 @@ use Rattle.server_core.specs.ServerView.{ServerView}
 use Rattle.server_core.specs.Serves.{present, ServesEach, conns_in}
 use Rattle.server_core.proofs.ConnLemmas.{conn_here, conns_numbers, conns_length, entry_is_place, first_conn, no_entry_is_absent, some_turned}
 use Rattle.server_core.proofs.EntryLemmas.{HasEntry, entry_or_not, read_at, read_absent}
-use Rattle.server_core.proofs.PlaceLemmas.{AtPlace, IsNotThere, not_there, numbers-same}
+use Rattle.server_core.proofs.PlaceLemmas.{IsNotThere, not_there, numbers-same}
 use Rattle.server_core.proofs.ServeLemmas.{served_at}
 use Rattle.server_core.proofs.StandLemmas.{at_mark}
 

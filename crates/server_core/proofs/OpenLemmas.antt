@@ -1,21 +1,19 @@
 -- A connection is opened.
-use Rattle.std.proofs.Common.{◌≡◌, ◌≢◌, ℕ, ◌+◌, List, [], ◌∷◌, false, refl, sym, ap, ◌∙◌, subst, arith}
-use Rattle.std.specs.Prelude.{Some, None}
+use Rattle.std.proofs.Common.{◌≡◌, ◌≢◌, ℕ, ◌+◌, List, [], ◌∷◌, refl, sym, ◌∙◌, arith}
+use Rattle.std.specs.Prelude.{None}
 use Rattle.std.proofs.lemmas.List.Elements.{All-head, All-tail}
 use Rattle.signals.specs.Wave.{Wave}
 use Rattle.ads_outside.specs.declared.event.Event.TheVariants as event
 use Rattle.ads_plant.specs.World.{Plant}
-use Rattle.ads_machine.specs.Client.{new_client}
 use Rattle.ads_machine.specs.Connection.{connection_of, fresh_connection}
 use Rattle.ads_machine.specs.Offers.{left_after}
 use Rattle.ads_machine.specs.Summary.{count_of}
 use Rattle.ams_tcp.specs.History.{nothing_fed}
-use Rattle.session.specs.StandsFor.{StandsFor}
 use Rattle.server_core.specs.declared.server.Server.{Server}
 use Rattle.server_core.specs.declared.turned.Turned.{Turned}
 use Rattle.server_core.specs.declared.waiting.Waiting.{Waiting}
 use Rattle.server_core.specs.Served.{served, ServedConnection}
-use Rattle.server_core.specs.Conns.{Conn, conn_of, conns_of}
+use Rattle.server_core.specs.Conns.{Conn, conn_of}
 use Rattle.server_core.specs.ConnStands.{Stands}
 use Rattle.server_core.specs.CoreState.{CoreState, after_event}
 use Rattle.server_core.specs.Entries.{IsEntry, IsNoEntry, IsFreshSession, IsNothing, Opens}

@@ -1,6 +1,6 @@
 -- A piece of a connection comes in.
-use Rattle.std.proofs.Common.{◌≡◌, ℕ, List, get_or, set, length, false, refl, sym, ap, ◌∙◌, subst, arith}
-use Rattle.std.specs.Prelude.{Result, Ok, Err, OnOk, Some, slice_get}
+use Rattle.std.proofs.Common.{◌≡◌, ℕ, List, get_or, set, length, false, sym, ap, ◌∙◌, subst}
+use Rattle.std.specs.Prelude.{Result, OnOk, Some, slice_get}
 use Rattle.std.specs.Map.{values_of}
 use Rattle.indexmap.specs.IndexMap.{set_value_at}
 use Rattle.signals.specs.Wave.{Wave}
@@ -10,7 +10,7 @@ use Rattle.ads_machine.specs.Piece.{after_piece}
 use Rattle.server_core.specs.declared.turned.Turned.{Turned}
 use Rattle.server_core.specs.declared.waiting.Waiting.{Waiting}
 use Rattle.server_core.specs.Served.{served, ServedExchange}
-use Rattle.server_core.specs.Conns.{Conn, conn_of}
+use Rattle.server_core.specs.Conns.{conn_of}
 use Rattle.server_core.specs.ConnStands.{Stands, Goes}
 use Rattle.server_core.specs.CoreState.{CoreState, after_event}
 use Rattle.server_core.specs.Entries.{IsEntry}

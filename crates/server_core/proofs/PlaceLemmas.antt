@@ -1,11 +1,10 @@
 -- A connection of the code at its place, and the one of the machine that it stands for.
 use Rattle.std.proofs.Common.{◌≡◌, ◌≢◌, ◌⊎◌, ℕ, zero, suc, ◌<◌, List, [], ◌∷◌, ◌++◌, length, map, set, get_or, true, false, refl, sym, ap, ◌∙◌, subst, inl, inr, arith}
-use Rattle.std.specs.Prelude.{◌==◌, remove, Some, None}
-use Rattle.std.proofs.lemmas.Bool.{cases_Bool, cases_eq, cond-true, cond-false}
+use Rattle.std.specs.Prelude.{remove, Some, None}
+use Rattle.std.proofs.lemmas.Bool.{cases_Bool, cases_eq}
 use Rattle.std.proofs.lemmas.List.Elements.{All-head, All-tail}
 use Rattle.ads_machine.specs.Connection.{connection_of, put_back}
 use Rattle.ads_machine.specs.Offers.{is_among}
-use Rattle.ads_machine.proofs.Find.{test_same, test_other}
 use Rattle.ads_plant.specs.World.{Plant}
 use Rattle.server_core.specs.Conns.{Conn}
 use Rattle.server_core.specs.Served.{ServedConnection}

@@ -1,5 +1,5 @@
 -- A reload: refused, it is counted; accepted, the world changes, and then each connection.
-use Rattle.std.proofs.Common.{◌≡◌, ℕ, suc, ◌+◌, ◌<◌, List, [], ◌∷◌, ◌++◌, length, map, refl, sym, ap, ◌∙◌, subst, arith}
+use Rattle.std.proofs.Common.{◌≡◌, ℕ, suc, ◌+◌, List, [], ◌∷◌, ◌++◌, length, refl, sym, ap, ◌∙◌, subst, arith}
 use Rattle.std.specs.Prelude.{All, false, Result, Ok, Err, IfOk}
 use Rattle.signals.specs.Wave.{Wave}
 use Rattle.ads_outside.specs.declared.event.Event.TheVariants as event
@@ -12,8 +12,8 @@ use Rattle.ads_machine.specs.Events.{state_after_event, after_reload, connection
 use Rattle.ads_machine.specs.Moves.{state_after_move}
 use Rattle.ads_machine.specs.Outcomes.{outcome_of_event, outcome_of_reload}
 use Rattle.ads_machine.specs.Outcomes as machine
-use Rattle.ads_machine.specs.RunText.{notes_of_event, note_of, fault_number}
-use Rattle.ads_machine.specs.Summary.{Summary as CountsOfState, count_of, summary_of}
+use Rattle.ads_machine.specs.RunText.{note_of}
+use Rattle.ads_machine.specs.Summary.{count_of}
 use Rattle.ads_machine.specs.Reloads.{world_after_reload, client_reloaded}
 use Rattle.type_layout.specs.Descriptions.{description_of}
 use Rattle.type_layout.specs.declared.description.Description as layout
@@ -36,17 +36,16 @@ use Rattle.server_core.specs.declared.turned.Turned.{Turned}
 use Rattle.server_core.specs.declared.waiting.Waiting.{Waiting}
 use Rattle.server_core.specs.declared.clients.Clients.{Clients}
 use Rattle.server_core.specs.declared.outcome.Outcome.{Outcome}
-use Rattle.server_core.specs.declared.outcome.Outcome.TheVariants.{ReloadOk, ReloadRefused}
+use Rattle.server_core.specs.declared.outcome.Outcome.TheVariants.{ReloadOk}
 use Rattle.server_core.specs.declared.server.Server.{Server}
 use Rattle.server_core.specs.declared.summary.Summary.{Summary}
 use Rattle.server_core.specs.Asked.{EachAsked}
 use Rattle.server_core.specs.Conns.{conns_of}
-use Rattle.server_core.specs.Counts.{counts_in}
-use Rattle.server_core.specs.CoreState.{CoreState, OpensNew, after_event}
-use Rattle.server_core.specs.Delivering.{Outcomes, after_given, DeliversAll}
+use Rattle.server_core.specs.CoreState.{CoreState, after_event}
+use Rattle.server_core.specs.Delivering.{Outcomes, DeliversAll}
 use Rattle.server_core.specs.HoldsWorld.{HoldsState}
 use Rattle.server_core.specs.Outcomes.{fault_of, outcome_of, TakesEvent}
-use Rattle.server_core.specs.Reloading.{fault_note, Refuses, reloaded, Exchanges, Accepts}
+use Rattle.server_core.specs.Reloading.{Refuses, reloaded, Exchanges, Accepts}
 use Rattle.server_core.specs.Served.{served, World, ServedConnection, ServedState}
 use Rattle.session.specs.Reloading.{AreMoves, IsReloadable}
 use Rattle.server_core.specs.ServerView.{ServerView, view_of}

@@ -1,7 +1,6 @@
 -- What all that is kept stands for, after each kind of move of one connection.
-use Rattle.std.proofs.Common.{◌≡◌, ◌≢◌, ℕ, zero, suc, ◌+◌, ◌<◌, List, [], ◌∷◌, ◌++◌, length, set, get_or, Bool, false, refl, sym, ap, ◌∙◌, subst, inl, inr, arith}
-use Rattle.std.specs.Prelude.{nat_lt, remove, Option, Some, None}
-use Rattle.std.specs.Map.{keys_of}
+use Rattle.std.proofs.Common.{◌≡◌, ◌≢◌, ℕ, zero, suc, ◌+◌, List, [], ◌∷◌, ◌++◌, length, set, get_or, false, refl, sym, ap, ◌∙◌, subst, arith}
+use Rattle.std.specs.Prelude.{remove, Option, Some, None}
 use Rattle.std.proofs.lemmas.List.{length-append}
 use Rattle.std.proofs.Math.ListN.{length-set}
 use Rattle.indexmap.specs.IndexMap.{set_value_at}
@@ -13,28 +12,26 @@ use Rattle.ads_plant.specs.World.{Plant}
 use Rattle.ads_machine.specs.Connection.{connection_of, fresh_connection}
 use Rattle.ads_machine.specs.MachineState.{exchange_of, with_exchange, after_exchange}
 use Rattle.ads_machine.specs.Piece.{after_piece}
-use Rattle.ads_machine.specs.Moves.{with_gone, with_took, state_after_move}
+use Rattle.ads_machine.specs.Moves.{with_gone, state_after_move}
 use Rattle.ads_machine.specs.Events.{state_after_event}
 use Rattle.ads_machine.specs.Offers.{is_among}
 use Rattle.ads_machine.specs.Summary.{count_of, summary_of}
 use Rattle.server_core.specs.declared.device.Device.{Device}
-use Rattle.server_core.specs.declared.summary.Summary.{Summary}
 use Rattle.server_core.specs.declared.turned.Turned.{Turned}
 use Rattle.server_core.specs.declared.waiting.Waiting.{Waiting}
 use Rattle.server_core.specs.Served.{served, World, ServedConnection, ServedExchange, ServedState}
 use Rattle.server_core.specs.Conns.{Conn, conn_of, conns_of}
 use Rattle.server_core.specs.Counts.{Counts, counts_in}
-use Rattle.server_core.specs.Entries.{IsEntry, IsNoEntry, IsFreshSession, IsNothing}
+use Rattle.server_core.specs.Entries.{IsEntry, IsNoEntry}
 use Rattle.server_core.specs.ConnStands.{Stands, Goes}
 use Rattle.server_core.specs.HoldsWorld.{HoldsWorld, HoldsState}
 use Rattle.server_core.specs.Taking.{KeepsDevice}
 use Rattle.server_core.specs.CoreState.{CoreState, after_event, after_move}
 use Rattle.server_core.specs.ServerView.{ServerView}
-use Rattle.server_core.specs.Serves.{StandsEach, ServesEach, FollowsEach, AreAligned, conns_in}
+use Rattle.server_core.specs.Serves.{StandsEach, ServesEach, FollowsEach, conns_in}
 use Rattle.server_core.proofs.ConnLemmas.{conns_set, conns_set_waiting, conns_remove, conns_push, entry_is_place, no_entry_is_absent}
 use Rattle.server_core.proofs.PlaceLemmas.{AtPlace, not_there}
-use Rattle.server_core.proofs.StandLemmas.{stands_at, stands_changed, stands_ended, stands_opened, stands_writable, unchanged, gone_twice, gone_takes_nothing, at_mark, writable_list, writable-other, writable-same, blocked_list, took-other, took-same, took_exchange}
-use Rattle.server_core.proofs.StateLemmas.{put_back-itself}
+use Rattle.server_core.proofs.StandLemmas.{stands_at, stands_changed, stands_ended, stands_opened, unchanged, gone_twice, gone_takes_nothing, at_mark}
 use Rattle.server_core.proofs.SumLemmas.{counted_one, counted_fresh}
 
 -- the connection of an entry

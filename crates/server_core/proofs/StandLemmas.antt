@@ -17,7 +17,7 @@ use Rattle.server_core.specs.CoreState.{CoreState}
 use Rattle.server_core.specs.Places.{IsPlace, IsAbsent}
 use Rattle.server_core.specs.Serves.{present, EachStands, EachMarked, StandsEach}
 use Rattle.server_core.proofs.StateLemmas.{AreApart-put_back, AreApart-append, was_none, was_none_append, put_back-itself, present-append, present-there}
-use Rattle.server_core.proofs.PlaceLemmas.{Concerns, AtPlace, at_place, IsNotThere, not_there, marked_removed, marked_append, stands_append}
+use Rattle.server_core.proofs.PlaceLemmas.{Concerns, AtPlace, at_place, IsNotThere, marked_removed, marked_append, stands_append}
 
 -- the connection at a place
 pub stands_at : (plant : Plant) (conns : List Conn) (x : CoreState) (n i : ℕ) (d : Conn) → StandsEach plant conns x → IsPlace conns n i

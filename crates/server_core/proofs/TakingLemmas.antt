@@ -8,9 +8,9 @@ use Rattle.ads_frames.specs.Division.{front_of, frames_of, rest_of, is_broken}
 use Rattle.ads_base.specs.declared.net_id.NetId.{NetId}
 use Rattle.ads_plant.specs.Description.{Route}
 use Rattle.ads_plant.specs.World.{Plant}
-use Rattle.ads_machine.specs.Device.{Answer, Answered, Silent, Closing, Reply, FrameOutcome}
+use Rattle.ads_machine.specs.Device.{Answer, Answered, Silent, Closing, Reply}
 use Rattle.ads_machine.specs.Connection.{with_closing, produce, is_deaf}
-use Rattle.ads_machine.specs.Piece.{packets_left, with_one_taken, with_client, after_answer, after_outcome, after_packet, after_packets, after_rest, end_of_piece, with_received, with_piece, after_piece}
+use Rattle.ads_machine.specs.Piece.{packets_left, with_one_taken, with_client, after_answer, after_packet, after_packets, after_rest, end_of_piece, with_received, with_piece, after_piece}
 use Rattle.ads_machine.specs.Replies.{performed}
 use Rattle.ads_machine.specs.Summary.{count_of}
 use Rattle.ams_tcp.specs.Held.{Held}

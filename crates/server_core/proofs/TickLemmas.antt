@@ -1,5 +1,5 @@
 -- A tick: the world, then each connection.
-use Rattle.std.proofs.Common.{◌≡◌, ℕ, zero, suc, ◌<◌, ◌^◌, List, [], ◌∷◌, length, map, get_or, true, false, refl, sym, ap, ◌∙◌, subst, arith}
+use Rattle.std.proofs.Common.{◌≡◌, ℕ, zero, suc, ◌<◌, ◌^◌, List, [], ◌∷◌, length, map, get_or, false, refl, sym, ap, ◌∙◌, subst, arith}
 use Rattle.std.specs.Prelude.{All, max}
 use Rattle.std.proofs.lemmas.List.{length-map}
 use Rattle.signals.specs.Wave.{Wave, wave_after_step}
@@ -20,14 +20,14 @@ use Rattle.server_core.specs.declared.device.Device.{Device}
 use Rattle.server_core.specs.declared.turned.Turned.{Turned}
 use Rattle.server_core.specs.declared.waiting.Waiting.{Waiting}
 use Rattle.server_core.specs.Asked.{EachAsked}
-use Rattle.server_core.specs.Conns.{Conn, conn_of, conns_of}
+use Rattle.server_core.specs.Conns.{conns_of}
 use Rattle.server_core.specs.CoreState.{CoreState, after_event}
 use Rattle.server_core.specs.Delivering.{Outcomes, after_given, DeliversAll}
-use Rattle.server_core.specs.HoldsWorld.{HoldsWorld, HoldsState}
+use Rattle.server_core.specs.HoldsWorld.{HoldsState}
 use Rattle.server_core.specs.Served.{served, World, ServedConnection, ServedState}
 use Rattle.server_core.specs.ServerView.{ServerView}
-use Rattle.server_core.specs.Serves.{EachStands, ServesEach, ServesSome, FollowsEach, present, conns_in}
-use Rattle.server_core.proofs.AskedLemmas.{AllFollow, all_follow, counted_all}
+use Rattle.server_core.specs.Serves.{EachStands, ServesEach, ServesSome, FollowsEach, present}
+use Rattle.server_core.proofs.AskedLemmas.{all_follow, counted_all}
 
 -- what holds of the first and of the others
 pub all_cons : {X : Type 0} (P : X → Type 0) (x : X) (xs : List X) → P x → All P xs → (k : ℕ) (d : X) → k < length (x ∷ xs) → P (get_or (x ∷ xs) k d)

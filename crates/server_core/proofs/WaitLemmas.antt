@@ -1,5 +1,5 @@
 -- What waits of a connection changes: it is writable again, or bytes of its offer were taken.
-use Rattle.std.proofs.Common.{◌≡◌, ◌≢◌, ℕ, ◌+◌, ◌≤◌, List, [], ◌∷◌, length, get_or, false, refl, sym, ap, ◌∙◌, subst, arith}
+use Rattle.std.proofs.Common.{◌≡◌, ℕ, ◌+◌, ◌≤◌, List, [], length, get_or, false, refl, sym, ap, ◌∙◌, subst, arith}
 use Rattle.std.specs.Prelude.{nat_lt, map, slice_get, Option, Some, None, IsSomeAnd, unwrap_or}
 use Rattle.std.specs.Map.{values_of}
 use Rattle.indexmap.specs.IndexMap.{set_value_at}
@@ -11,12 +11,12 @@ use Rattle.ads_machine.specs.Connection.{connection_of, bytes_of, bytes_of_all}
 use Rattle.ads_machine.specs.MachineState.{exchange_of, with_exchange, after_exchange}
 use Rattle.ads_machine.specs.Moves.{with_took, state_after_move}
 use Rattle.ads_machine.specs.Events.{state_after_event}
-use Rattle.ads_machine.specs.Offers.{is_among, left_after}
+use Rattle.ads_machine.specs.Offers.{is_among}
 use Rattle.ads_machine.proofs.Waiting.{joined, joined_bytes}
-use Rattle.out_queue.specs.Queue.{front_of, frames_after, FitsFront}
+use Rattle.out_queue.specs.Queue.{frames_after, FitsFront}
 use Rattle.server_core.specs.declared.waiting.Waiting.{Waiting}
-use Rattle.server_core.specs.Served.{served, ServedConnection, ServedState}
-use Rattle.server_core.specs.Conns.{Conn, conn_of, conns_of}
+use Rattle.server_core.specs.Served.{ServedConnection, ServedState}
+use Rattle.server_core.specs.Conns.{Conn, conn_of}
 use Rattle.server_core.specs.ConnStands.{Stands, FitsFirst, first_left}
 use Rattle.server_core.specs.CoreState.{CoreState, after_event, after_move}
 use Rattle.server_core.specs.Entries.{IsEntry, IsNoEntry}

@@ -1,7 +1,6 @@
 -- A reload, in parts. No public clause cites this file.
 use Rattle.std.specs.Prelude.{◌≡◌, ℕ, ◌+◌, List, [], ◌∷◌, ◌++◌, map}
 use Rattle.signals.specs.Wave.{Wave}
-use Rattle.ads_outside.specs.declared.event.Event.TheVariants as event
 use Rattle.ads_outside.specs.declared.reload_note.ReloadNote.{ReloadNote}
 use Rattle.ads_outside.specs.declared.reload_note.ReloadNote.TheVariants as note
 use Rattle.ads_plant.specs.Description.{Description}
@@ -12,13 +11,13 @@ use Rattle.symbol_file.specs.declared.fault.DescFault.{DescFault}
 use Rattle.server_core.specs.declared.outcome.Outcome.{Outcome}
 use Rattle.server_core.specs.declared.outcome.Outcome.TheVariants.{ReloadOk, ReloadRefused}
 use Rattle.server_core.specs.declared.server.Server.{Server}
-use Rattle.server_core.specs.Served.{served, ServedState}
-use Rattle.server_core.specs.CoreState.{CoreState, after_event}
+use Rattle.server_core.specs.Served.{ServedState}
+use Rattle.server_core.specs.CoreState.{CoreState}
 use Rattle.server_core.specs.Asked.{EachAsked}
 use Rattle.server_core.specs.Delivering.{after_given}
 use Rattle.server_core.specs.HoldsWorld.{HoldsState}
-use Rattle.server_core.specs.Outcomes.{fault_of, outcome_of}
-use Rattle.server_core.specs.ServerView.{ServerView, view_of}
+use Rattle.server_core.specs.Outcomes.{fault_of}
+use Rattle.server_core.specs.ServerView.{view_of}
 use Rattle.server_core.specs.Serves.{ServesEach, FollowsEach}
 
 abbrev pub fault_note : DescFault → ReloadNote

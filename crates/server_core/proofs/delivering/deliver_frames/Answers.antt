@@ -1,4 +1,4 @@
-use Rattle.std.proofs.Common.{◌≡◌, [], List, ℕ, refl, sym, ap, ◌∙◌, subst}
+use Rattle.std.proofs.Common.{◌≡◌, [], List, sym, ap, ◌∙◌, subst}
 use Rattle.std.specs.Prelude.{All, map, reverse}
 use Rattle.std.proofs.lemmas.List.{reverse-reverse}
 use Rattle.std.proofs.lemmas.List.Elements.{All-head, All-tail}
@@ -7,7 +7,7 @@ use Rattle.session.specs.NoteFrames.{produced_of, IsNoteFrame}
 use Rattle.session.specs.declared.notes.NoteFrame.{NoteFrame}
 use Rattle.server_core.specs.Conns.{conn_of}
 use Rattle.server_core.specs.Delivering.{Delivers}
-use Rattle.server_core.proofs.DeliverLemmas.{DeliversSome, delivers_first, delivers_next, delivers_all, delivers_closing, produced_of-last, fit-last, none_left}
+use Rattle.server_core.proofs.DeliverLemmas.{DeliversSome, delivers_next, delivers_all, delivers_closing, produced_of-last, fit-last, none_left}
 use Rattle.server_core.proofs.delivering.deliver_frames.Goals as goal
 
 pub returns-then-turned-clause-goes : goal.returns-then-turned-clause-goes

@@ -1,4 +1,4 @@
-use Rattle.std.proofs.Common.{◌≡◌, ℕ, List, sym, subst}
+use Rattle.std.proofs.Common.{ℕ, List, sym, subst}
 use Rattle.ads_outside.specs.declared.event.Event.{Event}
 use Rattle.ads_outside.specs.declared.event.Event.TheVariants as event
 use Rattle.server_core.specs.declared.outcome.Outcome.TheVariants.{Done}
@@ -6,7 +6,7 @@ use Rattle.server_core.specs.CoreState.{CoreState, after_event}
 use Rattle.server_core.specs.Serves.{ServesEach, FollowsEach}
 use Rattle.server_core.specs.ServerView.{view_of}
 use Rattle.server_core.specs.Outcomes.{TakesEvent}
-use Rattle.server_core.proofs.EventLemmas.{takes_plain, opened_plain, piece_plain, closed_plain, tick_plain, writable_plain, event_some}
+use Rattle.server_core.proofs.EventLemmas.{takes_plain, piece_plain, closed_plain, tick_plain, writable_plain, event_some}
 use Rattle.server_core.proofs.ReloadLemmas.{if_ok}
 use Rattle.server_core.proofs.events.take_event.Goals as goal
 

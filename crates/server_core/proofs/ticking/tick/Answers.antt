@@ -7,7 +7,7 @@ use Rattle.server_core.specs.declared.turned.Turned.{Turned}
 use Rattle.server_core.specs.Asked.{EachAsked}
 use Rattle.server_core.specs.ServerView.{view_of}
 use Rattle.server_core.proofs.TakingLemmas.{on_ok, lent_back}
-use Rattle.server_core.proofs.TickLemmas.{TicksDevice, tick_follows, tick_served}
+use Rattle.server_core.proofs.TickLemmas.{tick_follows, tick_served}
 use Rattle.server_core.proofs.ticking.tick.Goals as goal
 
 pub step_into-requires : goal.step_into-requires

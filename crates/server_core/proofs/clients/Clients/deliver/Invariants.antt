@@ -1,4 +1,4 @@
-use Rattle.std.proofs.Common.{◌≡◌, ℕ, List, length, take, map}
+use Rattle.std.proofs.Common.{◌≡◌, List, length, take, map}
 use Rattle.ads_plant.specs.World.{Plant}
 use Rattle.server_core.specs.Served.{ServedConnection}
 use Rattle.server_core.specs.Delivering.{Outcomes, EachUpTo, CountsAll, after_given, mark_of}

@@ -1,4 +1,4 @@
-use Rattle.std.proofs.Common.{ℕ, refl, sym, ap, ◌∙◌}
+use Rattle.std.proofs.Common.{refl}
 use Rattle.server_core.proofs.DeliverLemmas.{delivers_at}
 use Rattle.server_core.proofs.clients.Clients.deliver_at.Goals as goal
 

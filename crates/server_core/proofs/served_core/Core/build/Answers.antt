@@ -1,5 +1,4 @@
 use Rattle.server_core.specs.CoreState.{started}
-use Rattle.server_core.specs.ServerView.{view_of}
 use Rattle.type_layout.specs.Descriptions.{description_of}
 use Rattle.server_core.proofs.CoreLemmas.{started_serves}
 use Rattle.server_core.proofs.served_core.Core.build.Goals as goal

@@ -1,4 +1,4 @@
-use Rattle.std.proofs.Common.{◌≤◌, List, ℕ, length, sym, subst}
+use Rattle.std.proofs.Common.{sym, subst}
 use Rattle.server_core.specs.ServerView.{view_of}
 use Rattle.server_core.specs.Serves.{CoreView, FitsOffer}
 use Rattle.server_core.proofs.CoreLemmas.{took_some}

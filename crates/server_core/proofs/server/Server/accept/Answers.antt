@@ -1,8 +1,5 @@
-use Rattle.std.proofs.Common.{◌≡◌, List, ◌++◌, ◌∷◌, [], refl, sym, ap, ◌∙◌}
-use Rattle.std.specs.HashMap.{HashMap}
-use Rattle.ads_outside.specs.declared.reload_note.ReloadNote.TheVariants as note
+use Rattle.std.proofs.Common.{refl}
 use Rattle.type_layout.specs.Descriptions.{description_of}
-use Rattle.server_core.specs.ServerView.{view_of}
 use Rattle.server_core.proofs.ReloadLemmas.{exchanged_aligned, accepts_all}
 use Rattle.server_core.proofs.server.Server.accept.Goals as goal
 

@@ -1,6 +1,5 @@
-use Rattle.std.proofs.Common.{None, sym, ◌∙◌, refl}
+use Rattle.std.proofs.Common.{refl}
 use Rattle.server_core.specs.ServerView.{view_of}
-use Rattle.server_core.specs.Serves.{ServesSome}
 use Rattle.server_core.proofs.OpenLemmas.{opened_again, opened_some, opens_new}
 use Rattle.server_core.proofs.server.Server.open.Goals as goal
 

@@ -1,4 +1,4 @@
-use Rattle.std.proofs.Common.{◌≡◌, Ok, subst}
+use Rattle.std.proofs.Common.{subst}
 use Rattle.std.specs.Prelude.{IfOk, Result}
 use Rattle.ads_plant.specs.Accepted.{IsAccepted}
 use Rattle.type_layout.specs.Descriptions.{description_of}

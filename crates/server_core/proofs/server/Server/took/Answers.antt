@@ -1,4 +1,4 @@
-use Rattle.std.proofs.Common.{◌≤◌, ◌<◌, ℕ, List, length, None, sym, ap, ◌∙◌, subst}
+use Rattle.std.proofs.Common.{◌≤◌, ◌<◌, ℕ, List, length, None, sym, ◌∙◌, subst}
 use Rattle.std.specs.Prelude.{IsSomeAnd}
 use Rattle.server_core.specs.ServerView.{view_of}
 use Rattle.server_core.specs.Places.{offer_of_waiting, offers_of_waiting, offers_among}

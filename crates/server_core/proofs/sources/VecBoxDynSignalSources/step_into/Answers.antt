@@ -1,4 +1,3 @@
-use Rattle.std.proofs.Common.{◌≡◌}
 use Rattle.server_core.proofs.sources.VecBoxDynSignalSources.step_into.Goals as goal
 
 pub returns-clause-ports : goal.returns-clause-ports
