@@ -186,11 +186,17 @@ impl MemWire {
 }
 
 impl Wire for MemWire {
+    ghost use Rattle.std.specs.Prelude.{List};
+    ghost use Rattle.ads_outside.specs.declared.event.Event.{Event as EventOf};
     ghost use Rattle.ads_outside.specs.WireAnswers.{Starts, Gives, Takes, Shuts};
     ghost use Rattle.ads_outside.specs.MemWire.{state_of_held, started_of, next_of, offer_of};
     ghost use Rattle.ads_outside.specs.MemWire.{after_start, after_next, after_offer, after_shut};
 
     ghost state = { state_of_held };
+
+    ghost Kept = { List EventOf };
+
+    ghost kept = { λ w. w.events };
 
     fn faults(&self) -> u64 {
         self.failing.faults()
@@ -203,6 +209,7 @@ impl Wire for MemWire {
     fn start(&mut self, listen: &str, name: &str, first: &[u8]) -> Started
         ensures starts { Starts result (state_of_held self.old) (state_of_held self.new)
             (record { listen = listen.now; name = name.now; first = first.now }) }
+        ensures kept { self.new.events ≡ self.old.events }
         ensures later { self.old.failing.faults ≤ self.new.failing.faults }
         ensures answer { result ≢ Started.Memory → result ≡ started_of self.old }
         ensures counted { self.new ≡ after_start result self.old (record { listen = listen.now; name = name.now; first = first.now }) }
@@ -221,6 +228,7 @@ impl Wire for MemWire {
 
     fn next(&mut self) -> Next
         ensures gives { Gives result (state_of_held self.old) (state_of_held self.new) }
+        ensures kept { self.new.events ≡ self.old.events }
         ensures later { self.old.failing.faults ≤ self.new.failing.faults }
         ensures answer { result ≢ Next.Memory → result ≡ next_of self.old }
         ensures counted { self.new ≡ after_next result self.old }
@@ -247,6 +255,7 @@ impl Wire for MemWire {
     fn offer(&mut self, conn: u32, bytes: &[u8]) -> Offer
         requires { length bytes.now < 2 ^ 32 }
         ensures takes { Takes result (state_of_held self.old) (state_of_held self.new) conn bytes.now }
+        ensures kept { self.new.events ≡ self.old.events }
         ensures later { self.old.failing.faults ≤ self.new.failing.faults }
         ensures answer { result ≢ Offer.Memory → result ≡ offer_of self.old bytes.now }
         ensures counted { self.new ≡ after_offer result self.old conn bytes.now }
@@ -273,6 +282,7 @@ impl Wire for MemWire {
 
     fn shut(&mut self, conn: u32) -> Shut
         ensures shuts { Shuts result (state_of_held self.old) (state_of_held self.new) conn }
+        ensures kept { self.new.events ≡ self.old.events }
         ensures later { self.old.failing.faults ≤ self.new.failing.faults }
         ensures answer { result ≢ Shut.Memory → result ≡ Shut.Done }
         ensures counted { self.new ≡ after_shut result self.old conn }

@@ -13,6 +13,11 @@ pub trait Wire {
     /// What its calls led to, where that is told, and how many of them failed.
     ghost state: { Self → WireState };
 
+    /// What no call changes.
+    ghost Kept: { Type 0 };
+
+    ghost kept: { Self → Kept };
+
     /// How many calls failed; the count stands still at its type's end.
     fn faults(&self) -> u64
         ensures { result ≡ (state self.now).faults };
@@ -25,21 +30,25 @@ pub trait Wire {
     fn start(&mut self, listen: &str, name: &str, first: &[u8]) -> Started
         ensures starts { Starts result (state self.old) (state self.new)
             (record { listen = listen.now; name = name.now; first = first.now }) }
+        ensures kept { kept self.new ≡ kept self.old }
         ensures later { (state self.old).faults ≤ (state self.new).faults };
 
     /// The next event.
     fn next(&mut self) -> Next
         ensures gives { Gives result (state self.old) (state self.new) }
+        ensures kept { kept self.new ≡ kept self.old }
         ensures later { (state self.old).faults ≤ (state self.new).faults };
 
     /// Offers bytes to a connection.
     fn offer(&mut self, conn: u32, bytes: &[u8]) -> Offer
         requires { length bytes.now < 2 ^ 32 }
         ensures takes { Takes result (state self.old) (state self.new) conn bytes.now }
+        ensures kept { kept self.new ≡ kept self.old }
         ensures later { (state self.old).faults ≤ (state self.new).faults };
 
     /// Shuts a connection.
     fn shut(&mut self, conn: u32) -> Shut
         ensures shuts { Shuts result (state self.old) (state self.new) conn }
+        ensures kept { kept self.new ≡ kept self.old }
         ensures later { (state self.old).faults ≤ (state self.new).faults };
 }

@@ -65,7 +65,7 @@ leads_then {W} {C} step noted old_serves mid_serves new_serves old mid new m n F
   are = λ x serves.
       let P : Running W C → Type 0 = λ y. Second y second.moves in
       join x.running first.moves second.moves (first.are x serves)
-        (subst P (standing-running step noted x first.moves) (second.are (standing_after_all step noted x first.moves) (first.stands x serves)));
+      (subst P (standing-running step noted x first.moves) (second.are (standing_after_all step noted x first.moves) (first.stands x serves)));
 }
 
 -- weaker promises of the same moves

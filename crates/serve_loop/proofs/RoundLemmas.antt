@@ -63,10 +63,10 @@ idle_serves : {W C : Type 0} (step : EventStep W C) (x y : Running W C) (c : ℕ
 unfolding Serves
 idle_serves step x y c same there idle =
     let offer : offer_at c y ≡ None =
-        ap (λ b. if b then None else first_frame (waiting_at c y.state)) same.blocked
-        ∙ (ap (λ o. if is_among c x.blocked then None else first_frame (waiting_of o)) same.found ∙ idle.no_offer) in
+    ap (λ b. if b then None else first_frame (waiting_at c y.state)) same.blocked
+    ∙ (ap (λ o. if is_among c x.blocked then None else first_frame (waiting_of o)) same.found ∙ idle.no_offer) in
     let closing : is_closing_at c y.state ≡ false =
-        ap is_closing same.found ∙ (sym (to_be_shut (connection_of c x.state.connections) there) ∙ idle.stays) in
+    ap is_closing same.found ∙ (sym (to_be_shut (connection_of c x.state.connections) there) ∙ idle.stays) in
     (none_at y c offer, closing)
 
 -- an idle one is passed over

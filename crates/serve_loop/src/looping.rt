@@ -33,6 +33,7 @@ pub fn serve<T: Threads + Sync, W: Wire, M: Served>(
     ensures not_done { result ≢ End.Done → (W.state wire.new).history.ends ≡ (W.state wire.old).history.ends }
     ensures link_fault { result ≡ End.LinkFault → Rose (W.state wire.old).history.stops (W.state wire.new).history.stops }
     ensures no_link_fault { result ≢ End.LinkFault → (W.state wire.new).history.stops ≡ (W.state wire.old).history.stops }
+    ensures kept { W.kept wire.new ≡ W.kept wire.old }
     ensures later { (W.state wire.old).faults ≤ (W.state wire.new).faults }
 {
     let ended = take_turns(rt, alloc, served, wire, limit);
@@ -48,6 +49,7 @@ fn take_turns<T: Threads + Sync, W: Wire, M: Served>(
     limit: u64,
 ) -> End
     ensures serve { AfterServe result M.steps M.noted (M.serves served.old) (M.serves served.new) (W.state wire.old) (W.state wire.new) limit }
+    ensures kept { W.kept wire.new ≡ W.kept wire.old }
     ensures later { (W.state wire.old).faults ≤ (W.state wire.new).faults }
 {
     for _taken in 0..limit {

@@ -30,6 +30,7 @@ pub(crate) fn offer_all<W: Wire, M: Served>(
         (W.state wire.old).history (W.state wire.new).history conn) }
     ensures no_memory { OnErr result (Breaks M.steps M.noted (M.serves served.old)
         (W.state wire.old).history (W.state wire.new).history 0) }
+    ensures kept { W.kept wire.new ≡ W.kept wire.old }
     ensures later { (W.state wire.old).faults ≤ (W.state wire.new).faults }
 {
     loop {
@@ -52,6 +53,7 @@ fn offer_one<W: Wire, M: Served>(
     ensures fewer { IfOk result (λ offered. offered ≡ Offered.Taken
         → M.offers_left served.new conn < M.offers_left served.old conn) }
     ensures no_memory { OnErr result ((W.state wire.new).history ≡ (W.state wire.old).history) }
+    ensures kept { W.kept wire.new ≡ W.kept wire.old }
     ensures later { (W.state wire.old).faults ≤ (W.state wire.new).faults }
 {
     let Some(left) = served.offer_of(conn) else {

@@ -1,6 +1,6 @@
 //! The connections are served, one after another.
 
-ghost use Rattle.std.specs.Prelude.{◌≤◌, OnOk, OnErr};
+ghost use Rattle.std.specs.Prelude.{◌≡◌, ◌≤◌, OnOk, OnErr};
 ghost use Rattle.serve_loop.specs.Leads.{Leads, Breaks};
 ghost use Rattle.serve_loop.specs.Serving.{EndsWhereThere, ServesAllOf};
 
@@ -19,6 +19,7 @@ pub(crate) fn serve_each<W: Wire, M: Served>(
         (W.state wire.old).history (W.state wire.new).history 0 (ServesAllOf M.steps numbers.now)) }
     ensures no_memory { OnErr result (Breaks M.steps M.noted (M.serves served.old)
         (W.state wire.old).history (W.state wire.new).history 0) }
+    ensures kept { W.kept wire.new ≡ W.kept wire.old }
     ensures later { (W.state wire.old).faults ≤ (W.state wire.new).faults }
 {
     for number in numbers {
@@ -28,15 +29,12 @@ pub(crate) fn serve_each<W: Wire, M: Served>(
 }
 
 // A connection is offered what waits for it, and is shut where it is closing.
-fn serve_one<W: Wire, M: Served>(
-    served: &mut M,
-    wire: &mut W,
-    conn: u32,
-) -> Result<(), NoMemory>
+fn serve_one<W: Wire, M: Served>(served: &mut M, wire: &mut W, conn: u32) -> Result<(), NoMemory>
     ensures ok { OnOk result (Leads M.steps M.noted (M.serves served.old) (M.serves served.new)
         (W.state wire.old).history (W.state wire.new).history 0 (EndsWhereThere M.steps conn)) }
     ensures no_memory { OnErr result (Breaks M.steps M.noted (M.serves served.old)
         (W.state wire.old).history (W.state wire.new).history 0) }
+    ensures kept { W.kept wire.new ≡ W.kept wire.old }
     ensures later { (W.state wire.old).faults ≤ (W.state wire.new).faults }
 {
     if offer_all(served, wire, conn)? {

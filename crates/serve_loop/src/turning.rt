@@ -23,6 +23,7 @@ pub fn turn<T: Threads + Sync, W: Wire, M: Served>(
     wire: &mut W,
 ) -> TurnEnd
     ensures turn { AfterTurn result M.steps M.noted (M.serves served.old) (M.serves served.new) (W.state wire.old) (W.state wire.new) }
+    ensures kept { W.kept wire.new ≡ W.kept wire.old }
     ensures later { (W.state wire.old).faults ≤ (W.state wire.new).faults }
 {
     let event = match wire.next() {
@@ -63,6 +64,7 @@ fn take_event<T: Threads + Sync, W: Wire, M: Served>(
         (M.serves served.new) (W.state wire.old).history (W.state wire.new).history 0 (ServesAll M.steps)) }
     ensures no_memory { OnErr result (Breaks M.steps M.noted (ComesBy M.steps M.noted (M.serves served.old) event.now)
         (W.state wire.old).history (W.state wire.new).history 0) }
+    ensures kept { W.kept wire.new ≡ W.kept wire.old }
     ensures later { (W.state wire.old).faults ≤ (W.state wire.new).faults }
 {
     served.step(rt, alloc, event)?;

@@ -1,11 +1,11 @@
 -- One turn behind others.
-use Rattle.std.proofs.Common.{inl, inr}
+use Rattle.std.proofs.Common.{refl, ◌∙◌, inl, inr}
 use Rattle.std.proofs.Math.Nat.{le_refl, le_trans}
 use Rattle.serve_loop.proofs.TurnLemmas.{no_turn, one_more, ends_before, breaks_turns, stops_kept, stops_later}
 use Rattle.serve_loop.proofs.looping.take_turns.Goals as goal
 
 pub loop-taken-init : goal.loop-taken-init
-loop-taken-init g c = record { turns = no_turn _ _ _ _; later = le_refl _ }
+loop-taken-init g c = record { turns = no_turn _ _ _ _; kept = refl; later = le_refl _ }
 
 pub returns-in-End-clause-serve : goal.returns-in-End-clause-serve
 returns-in-End-clause-serve g c =
@@ -28,5 +28,6 @@ loop-taken-preserved g c = record {
     | inl e ↦ one_more _ _ _ _ _ _ _ _ _ _ c.loop-taken.invariant.turns (rw e at c.turn.ensures.turn)
     | inr e ↦ one_more _ _ _ _ _ _ _ _ _ _ c.loop-taken.invariant.turns (rw e at c.turn.ensures.turn)
   ];
+  kept = c.turn.ensures.kept ∙ c.loop-taken.invariant.kept;
   later = le_trans c.loop-taken.invariant.later c.turn.ensures.later;
 }

@@ -1,5 +1,5 @@
 -- One offer behind others.
-use Rattle.std.proofs.Common.{refl}
+use Rattle.std.proofs.Common.{refl, ◌∙◌}
 use Rattle.std.proofs.Math.Nat.{le_refl, le_trans}
 use Rattle.serve_loop.proofs.LeadLemmas.{leads_nowhere, leads_then, breaks_here, on_err}
 use Rattle.serve_loop.proofs.ServeLemmas.{begins_nothing, begins_begins, begins_ends, begins_all}
@@ -8,6 +8,7 @@ use Rattle.serve_loop.proofs.offers.offer_all.Goals as goal
 pub loop-init : goal.loop-init
 loop-init g c = record {
   led = leads_nowhere _ _ _ _ _ _ _ refl (λ x serves. serves) (λ x serves. begins_nothing _ _ x.running);
+  kept = refl;
   later = le_refl _;
 }
 
@@ -18,6 +19,7 @@ returns-in_err-offer_one-clause-no_memory g c =
 pub loop-preserved : goal.loop-preserved
 loop-preserved g c = record {
   led = leads_then _ _ _ _ _ _ _ _ 0 0 _ _ _ (begins_begins _ _) c.loop.invariant.led (rw c.in-Taken.is at c.in_ok-offer_one.ensures.ok);
+  kept = c.offer_one.ensures.kept ∙ c.loop.invariant.kept;
   later = le_trans c.loop.invariant.later c.offer_one.ensures.later;
 }
 

@@ -1,5 +1,5 @@
 -- Some offers were taken, and fewer are left.
-use Rattle.std.proofs.Common.{◌≤◌}
+use Rattle.std.proofs.Common.{◌≡◌, ◌≤◌}
 use Rattle.serve_loop.specs.Leads.{Leads}
 use Rattle.serve_loop.specs.Serving.{Begins}
 use Rattle.serve_loop.proofs.offers.offer_all.Given as goal
@@ -8,6 +8,7 @@ abbrev pub invariant-loop : goal.invariant-loop
 invariant-loop g l = record {
   led : Leads g.M.Served.steps g.M.Served.noted (g.M.Served.serves l.initial.served) (g.M.Served.serves l.served)
       (g.W.Wire.state l.initial.wire).history (g.W.Wire.state l.wire).history 0 (Begins g.M.Served.steps l.conn);
+  kept : g.W.Wire.kept l.wire ≡ g.W.Wire.kept l.initial.wire;
   later : (g.W.Wire.state l.initial.wire).faults ≤ (g.W.Wire.state l.wire).faults;
 }
 

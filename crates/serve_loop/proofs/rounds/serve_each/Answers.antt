@@ -1,5 +1,5 @@
 -- One connection behind others.
-use Rattle.std.proofs.Common.{refl}
+use Rattle.std.proofs.Common.{refl, ◌∙◌}
 use Rattle.std.proofs.Math.Nat.{le_refl, le_trans}
 use Rattle.serve_loop.proofs.LeadLemmas.{leads_nowhere, leads_then, leads_so, breaks_then, on_err}
 use Rattle.serve_loop.proofs.RoundLemmas.{from_first, from_next, from_last}
@@ -8,6 +8,7 @@ use Rattle.serve_loop.proofs.rounds.serve_each.Goals as goal
 pub loop-number-init : goal.loop-number-init
 loop-number-init g c = record {
   led = leads_nowhere _ _ _ _ _ _ _ refl (λ x serves. serves) (λ x serves. from_first _ c.args.numbers.now x.running);
+  kept = refl;
   later = le_refl _;
 }
 
@@ -19,6 +20,7 @@ pub loop-number-preserved : goal.loop-number-preserved
 loop-number-preserved g c = record {
   led = leads_then _ _ _ _ _ _ _ _ 0 0 _ _ _ (from_next _ c.args.numbers.now c.loop-number.number-index c.loop-number-test.true)
       c.loop-number.invariant.led c.in_ok-serve_one.ensures.ok;
+  kept = c.serve_one.ensures.kept ∙ c.loop-number.invariant.kept;
   later = le_trans c.loop-number.invariant.later c.serve_one.ensures.later;
 }
 
