@@ -1,9 +1,9 @@
 -- What a line says, by its words.
-use Rattle.std.proofs.Common.{◌≡◌, ℕ, Bool, true, false, cond, List, [], ◌∷◌, Option, Some, None, refl, sym, ap, ◌∙◌, subst, ◌+◌, Ok, Err}
-use Rattle.std.specs.Option.{option_map, option_map_or, option_and_then}
+use Rattle.std.proofs.Common.{◌≡◌, ℕ, List, [], ◌∷◌, Option, Some, None, refl, sym, ap, ◌∙◌, subst, ◌+◌, Err}
+use Rattle.std.specs.Option.{option_map, option_and_then}
 use Rattle.ads_outside.specs.declared.event.Event.TheVariants as event
-use Rattle.ads_machine.specs.BuiltLines.{LineKind, Open, Bytes, Close, Tick, Reload, Room, Fail, all_lines}
-use Rattle.ads_machine.specs.Reading.{Reading, Block, line_said}
+use Rattle.ads_machine.specs.BuiltLines.{Open, Bytes, Close, Tick, Reload, Room, Fail, all_lines}
+use Rattle.ads_machine.specs.Reading.{Reading, line_said}
 use Rattle.ads_machine.specs.Script.{script_after, after_words, after_line, open_connection, fresh_number, said_by}
 use Rattle.ads_machine.specs.ScriptLine.{ScriptLine, Happens, TakesAtMost, FailsNext}
 use Rattle.ads_machine.specs.ScriptLines.{words_of}

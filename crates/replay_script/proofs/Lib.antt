@@ -5,3 +5,9 @@ pub mod GrammarLemmas
 pub mod NumberLemmas
 pub mod ReadLemmas
 pub mod LogLemmas
+pub mod FreshLemmas
+pub mod RoomLemmas
+pub mod AnswerLemmas
+pub mod PlayedLemmas
+pub mod PlayingLemmas
+pub mod StandingPlayed

@@ -1,6 +1,6 @@
 //! Numbers of connections, each once, in the order in which they came.
 
-ghost use Rattle.std.specs.Prelude.{◌≡◌, ◌++◌, [], ◌∷◌, false, length, OnOk};
+ghost use Rattle.std.specs.Prelude.{◌≡◌, ◌++◌, [], ◌∷◌, false, length, OnOk, OnErr};
 ghost use Rattle.ads_machine.specs.Reading.{is_among};
 
 use ads_base::NoMemory;
@@ -49,7 +49,8 @@ impl NumberList {
     /// Appends a number that is not there.
     pub fn push(&mut self, number: u32) -> Result<(), NoMemory>
         requires { is_among number self.old ≡ false }
-        ensures { OnOk result (self.new ≡ self.old ++ number ∷ []) }
+        ensures ok { OnOk result (self.new ≡ self.old ++ number ∷ []) }
+        ensures no_memory { OnErr result (self.new ≡ self.old) }
     {
         self.numbers.insert(number)?;
         Ok(())

@@ -46,6 +46,14 @@ impl Script {
         self.lines.as_slice()
     }
 
+    /// The lines, which takes no memory.
+    pub(crate) fn into_lines(self) -> ListOf<ScriptLine>
+        ensures { map line_meant result ≡ self }
+    {
+        let Script { lines } = self;
+        lines
+    }
+
     /// No lines.
     pub(crate) fn new(alloc: Global) -> Self
         ensures { result ≡ [] }

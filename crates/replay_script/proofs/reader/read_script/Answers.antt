@@ -1,5 +1,5 @@
 -- Each line is read, or refused by its number.
-use Rattle.std.proofs.Common.{Ok, Err, ◌+◌, ap, sym, ◌∙◌, eqb-true}
+use Rattle.std.proofs.Common.{Err, ◌+◌, ap, sym, ◌∙◌, eqb-true}
 use Rattle.replay_script.proofs.ReadLemmas.{Reads-refused, Reads-read, Reads-end}
 use Rattle.replay_script.proofs.reader.read_script.Goals as goal
 

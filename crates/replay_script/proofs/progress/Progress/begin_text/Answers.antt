@@ -1,6 +1,4 @@
 -- A word behind `reload` is off the grammar.
-use Rattle.std.specs.Option.{option_copied}
-use Rattle.replay_script.specs.Lines.{words_behind}
 use Rattle.replay_script.proofs.GrammarLemmas.{after_reload}
 use Rattle.replay_script.proofs.progress.Progress.begin_text.Goals as goal
 

@@ -1,0 +1,18 @@
+-- Once End was answered, no line is left.
+use Rattle.std.proofs.Common.{◌≤◌, length, map, subst, arith}
+use Rattle.serve_loop.specs.Leads.{events_in}
+use Rattle.replay_script.specs.Script.{line_meant}
+use Rattle.replay_script.specs.ScriptWire.{PlayedScript, IsPlayed}
+use Rattle.replay_script.proofs.AnswerLemmas.{played_over}
+use Rattle.replay_script.proofs.script_wire.ScriptWire.into_log.Goals as goal
+
+pub returns-clause-played : goal.returns-clause-played
+returns-clause-played c =
+    let P : PlayedScript → Type 0 = λ w. IsPlayed w in
+    subst P c.self.view_is (λ over. played_over _ _ _ _ _ _ _ c.self.invariant over)
+
+pub returns-clause-few : goal.returns-clause-few
+returns-clause-few c =
+    let L : PlayedScript → Type 0 = λ w. events_in c.self.inside.log.items ≤ length w.lines in
+    let few : events_in c.self.inside.log.items ≤ length (map line_meant c.self.inside.lines) = omega (arith, c.self.invariant.few) in
+    rw c.from_vec.ensures (subst L c.self.view_is few)
