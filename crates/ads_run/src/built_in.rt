@@ -8,7 +8,8 @@ ghost use Rattle.ads_run.specs.BuiltIn.{built_in};
 use ads_base::{NetId, NoMemory};
 use std::alloc::Global;
 use type_layout::{
-    Description, DeviceFacts4, PortDesc, PortList, Rights, RouteDesc, Routes4, Sizes, Symbols, Types,
+    Description, DeviceFacts4, PortDesc, PortList, Rights, RouteDesc, Routes4, Sizes, Symbols,
+    Types,
 };
 
 /// One machine that may do everything, and one port without symbols.

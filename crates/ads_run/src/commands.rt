@@ -106,12 +106,13 @@ fn selftest_file<T: Threads + Sync, F: Files>(
         → Rose (F.state files.old).faults (F.state files.new).faults) }
     ensures held { (F.state files.new).held ≡ (F.state files.old).held }
 {
-    match bytes_of_file(alloc, files, script)? {
-        Ok(bytes) => {
-            let outcome = selftest(rt, alloc, bank, bytes.as_slice())?;
-            Ok(outcome)
-        }
-        Err(told) => Ok(told),
+    match bytes_of_file(alloc, files, script) {
+        Err(e) => Err(e),
+        Ok(Err(told)) => Ok(told),
+        Ok(Ok(bytes)) => match selftest(rt, alloc, bank, bytes.as_slice()) {
+            Err(e) => Err(e),
+            Ok(outcome) => Ok(outcome),
+        },
     }
 }
 
@@ -133,11 +134,12 @@ fn check_file<F: Files>(
         → Rose (F.state files.old).faults (F.state files.new).faults) }
     ensures held { (F.state files.new).held ≡ (F.state files.old).held }
 {
-    match bytes_of_file(alloc, files, description)? {
-        Ok(bytes) => {
-            let outcome = check(alloc, bytes.as_slice(), signals)?;
-            Ok(outcome)
-        }
-        Err(told) => Ok(told),
+    match bytes_of_file(alloc, files, description) {
+        Err(e) => Err(e),
+        Ok(Err(told)) => Ok(told),
+        Ok(Ok(bytes)) => match check(alloc, bytes.as_slice(), signals) {
+            Err(e) => Err(e),
+            Ok(outcome) => Ok(outcome),
+        },
     }
 }

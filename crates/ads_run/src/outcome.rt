@@ -10,7 +10,7 @@ use ads_base::{NoMemory, Octets};
 use std::alloc::Global;
 
 /// A status, and all that is to be printed.
-#[derive(Debug, Drop)]
+#[derive(Drop)]
 pub struct Outcome {
     pub status: Status,
     pub text: Octets,

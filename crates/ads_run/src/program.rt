@@ -42,7 +42,13 @@ fn status_of_args<T: Threads + Sync>(
 ) -> Result<Status, NoMemory> {
     let all: Vec<String> = args.collect(rt.alloc())?;
     let mut files = RealFiles::new(rt.alloc(), rt.clone()?)?;
-    run_program(threads, rt.alloc(), words_of(all.as_slice()), &mut files, out)
+    run_program(
+        threads,
+        rt.alloc(),
+        words_of(all.as_slice()),
+        &mut files,
+        out,
+    )
 }
 
 // The words behind the program's name.

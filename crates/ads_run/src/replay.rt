@@ -75,16 +75,18 @@ fn replay_text<T: Threads + Sync, F: Files>(
         → Rose (F.state files.old).faults (F.state files.new).faults) }
     ensures held { (F.state files.new).held ≡ (F.state files.old).held }
 {
-    match read(alloc, bytes, bank.count())? {
-        Ok(description) => replay_file(rt, alloc, description, script, bank, files),
-        Err(fault) => {
-            let told = bad_description(alloc, fault)?;
-            Ok(told)
-        }
+    match read(alloc, bytes, bank.count()) {
+        Err(e) => Err(e),
+        Ok(Ok(description)) => replay_file(rt, alloc, description, script, bank, files),
+        Ok(Err(fault)) => match bad_description(alloc, fault) {
+            Err(e) => Err(e),
+            Ok(told) => Ok(told),
+        },
     }
 }
 
 // The play of a script's file over an accepted description.
+#[tactic(auto, using(crate::proofs::EndLemmas::some_of_one))]
 fn replay_file<T: Threads + Sync, F: Files>(
     rt: &T,
     alloc: Global,
@@ -105,11 +107,12 @@ fn replay_file<T: Threads + Sync, F: Files>(
         → Rose (F.state files.old).faults (F.state files.new).faults) }
     ensures held { (F.state files.new).held ≡ (F.state files.old).held }
 {
-    match bytes_of_file(alloc, files, script)? {
-        Ok(bytes) => {
-            let outcome = outcome_of_script(rt, alloc, description, bank, bytes.as_slice())?;
-            Ok(outcome)
-        }
-        Err(told) => Ok(told),
+    match bytes_of_file(alloc, files, script) {
+        Err(e) => Err(e),
+        Ok(Err(told)) => Ok(told),
+        Ok(Ok(bytes)) => match outcome_of_script(rt, alloc, description, bank, bytes.as_slice()) {
+            Err(e) => Err(e),
+            Ok(outcome) => Ok(outcome),
+        },
     }
 }

@@ -25,7 +25,11 @@ pub fn selftest<T: Threads + Sync>(
     ensures is { IfOk result (IsOutcome (verdict_of_script built_in (waves_of (λ b. (⟦<dyn Signal as Signal>⟧ b.vtable).wave b.value) bank) bytes.now)) }
     ensures status { IfOk result (λ o. IsOfScript o.status) }
 {
-    let description = built_in_description(alloc)?;
-    let outcome = outcome_of_script(rt, alloc, description, bank, bytes)?;
-    Ok(outcome)
+    match built_in_description(alloc) {
+        Err(e) => Err(e),
+        Ok(description) => match outcome_of_script(rt, alloc, description, bank, bytes) {
+            Err(e) => Err(e),
+            Ok(outcome) => Ok(outcome),
+        },
+    }
 }

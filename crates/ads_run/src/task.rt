@@ -8,7 +8,7 @@ use cli_words::{Command, Text, read_words};
 use std::alloc::Global;
 
 /// A command that is built, with the names of its files.
-#[derive(Debug, Drop)]
+#[derive(Drop)]
 pub enum Task {
     /// A script is played on the built-in description.
     Selftest { script: Text },
@@ -33,10 +33,12 @@ fn task_of(command: Option<Command>) -> Option<Task>
     match command {
         Some(Command::Selftest { script }) => Some(Task::Selftest { script }),
         Some(Command::Check { description }) => Some(Task::Check { description }),
-        Some(Command::Replay {
-            description,
-            script,
-        }) => Some(Task::Replay {
+        Some(
+            Command::Replay {
+                description,
+                script,
+            },
+        ) => Some(Task::Replay {
             description,
             script,
         }),
