@@ -1,5 +1,5 @@
 -- What the checks of a packet lead to, by what was found of its source, its port and its request.
-use Rattle.std.proofs.Common.{◌≡◌, ◌<◌, ℕ, List, length, true, false, refl, sym, ◌∙◌, ap, subst}
+use Rattle.std.proofs.Common.{◌≡◌, ◌<◌, ℕ, List, length, true, refl, sym, ◌∙◌, ap, subst}
 use Rattle.std.specs.Prelude.{Bool, not, Option, Some, None, IfSome, IfOk, is_some, is_none, option_map, Result, Ok, Err}
 use Rattle.std.specs.Result.{result_ok}
 use Rattle.std.proofs.lemmas.Bool.{false≢true}
@@ -102,15 +102,17 @@ asked-at : (w : World) (c : Client) (ams : List ℕ) (h : AmsHeader) (rights : p
     → Some rights ≡ routed.rights_of h.source.net w.plant.routes → Some r ≡ format.request_of h.command (payload_of ams) → format.command_of r ≡ h.command
     → (p : PlantPort) × IsAsked w c ams h (record { port = p; address = h.source; rights = rights }) r
 asked-at w c ams h rights r None found there passed is_rights is_request is_command = absurd (false≢true there)
-asked-at w c ams h rights r (Some p) found there passed is_rights is_request is_command =
-    (p, record {
-      found = found;
-      command = is_command;
-      decision = passed.decision
-          ∙ ap (λ x. decide_passed all_answered (setup_of w) c h.source x (port_numbered h.target.port w.plant.ports) (format.request_of h.command (payload_of ams))) (sym is_rights)
-          ∙ ap (λ x. decide_passed all_answered (setup_of w) c h.source (Some rights) x (format.request_of h.command (payload_of ams))) found
-          ∙ ap (λ x. decide_passed all_answered (setup_of w) c h.source (Some rights) (Some p) x) (sym is_request);
-    })
+asked-at w c ams h rights r (Some p) found there passed is_rights is_request is_command = (
+  p,
+  record {
+    found = found;
+    command = is_command;
+    decision = passed.decision
+        ∙ ap (λ x. decide_passed all_answered (setup_of w) c h.source x (port_numbered h.target.port w.plant.ports) (format.request_of h.command (payload_of ams))) (sym is_rights)
+        ∙ ap (λ x. decide_passed all_answered (setup_of w) c h.source (Some rights) x (format.request_of h.command (payload_of ams))) found
+        ∙ ap (λ x. decide_passed all_answered (setup_of w) c h.source (Some rights) (Some p) x) (sym is_request);
+  },
+)
 
 pub asked : (w : World) (c : Client) (ams : List ℕ) (h : Header) (rights' : Option Rights) (there : Bool) (request' : Option Request)
     (rights : Rights) (request : Request) → HasPassed w c ams (ams_header_of h) → HasParts w ams (ams_header_of h) rights' there request'
@@ -119,10 +121,12 @@ pub asked : (w : World) (c : Client) (ams : List ℕ) (h : Header) (rights' : Op
     × ((p : PlantPort) × IsAsked w c ams (ams_header_of h) (record { port = p; address = address_of h.source; rights = rights_of rights }) (request_meant request))
 asked w c ams h rights' there request' rights request passed parts is_rights is_there is_request =
     let H = ams_header_of h in
-    let P : Option Request → Type 0 = λ o. IfSome o (λ r. format.command_of (request_meant r) ≡ H.command) in
-    (passed.header, asked-at w c ams H (rights_of rights) (request_meant request) (port_numbered H.target.port w.plant.ports) refl
-    (sym parts.there_is ∙ is_there) passed (sym (ap (option_map rights_of) is_rights) ∙ parts.rights_are)
-    (sym (ap (option_map request_meant) is_request) ∙ parts.request_is) (subst P is_request parts.command_is))
+    let P : Option Request → Type 0 = λ o. IfSome o (λ r. format.command_of (request_meant r) ≡ H.command) in (
+      passed.header,
+      asked-at w c ams H (rights_of rights) (request_meant request) (port_numbered H.target.port w.plant.ports) refl
+          (sym parts.there_is ∙ is_there) passed (sym (ap (option_map rights_of) is_rights) ∙ parts.rights_are)
+          (sym (ap (option_map request_meant) is_request) ∙ parts.request_is) (subst P is_request parts.command_is),
+    )
 
 -- too few bytes for a header
 pub headless : (w : World) (c : Client) (ams : List ℕ) → length ams < 32 → decide all_answered (setup_of w) c ams ≡ NoAnswer

@@ -1,17 +1,17 @@
 -- Which act a single ReadWrite is, what it answers and what it leaves.
-use Rattle.std.proofs.Common.{◌≡◌, ℕ, ◌+◌, ◌<◌, ◌≤◌, ◌⊎◌, ◌↔◌, List, [], ◌∷◌, ◌++◌, length, map, true, false, refl, inl, inr, sym, ◌∙◌, ap, subst, arith}
+use Rattle.std.proofs.Common.{◌≡◌, ℕ, ◌+◌, ◌<◌, ◌≤◌, ◌↔◌, List, [], ◌∷◌, ◌++◌, length, map, true, false, refl, inl, inr, sym, ◌∙◌, ap, subst, arith}
 use Rattle.std.specs.Prelude.{Bool, Option, Some, None, option_and_then, Result, Ok, Err, IfOk, OnOk, OnErr, IsErr, is_err, nat_lt, nat_le, ◌||◌, if◌then◌else◌}
 use Rattle.std.specs.Int.{w32, to_le_bytes}
-use Rattle.std.proofs.lemmas.Bool.{cases_Bool, false≢true, ltb-false, ltb-true, lt-ltb, leb-true, le-leb, or_cases}
+use Rattle.std.proofs.lemmas.Bool.{false≢true, ltb-true, lt-ltb, leb-true, le-leb, or_cases}
 use Rattle.std.proofs.Math.Bool.{or-true}
 use Rattle.std.proofs.lemmas.List.{append-nil}
 use Rattle.ads_base.specs.declared.no_memory.NoMemory.{NoMemory}
 use Rattle.return_codes.specs.declared.code.Code.{Code}
-use Rattle.return_codes.specs.declared.code.Code.TheVariants.{C700, C705, C710}
+use Rattle.return_codes.specs.declared.code.Code.TheVariants.{C700, C705}
 use Rattle.return_codes.specs.Code.{number_of}
 use Rattle.ads_plant.specs.Finding.{Found, found_of}
 use Rattle.ads_plant.specs.World.{PlantPort}
-use Rattle.ads_formats.specs.Codes.{general_device_error, invalid_size, symbol_not_found}
+use Rattle.ads_formats.specs.Codes.{general_device_error, invalid_size}
 use Rattle.ads_formats.specs.Groups.{Group, HandleByName, ValueByName, InfoByName, ExtendedInfoByName, group_of}
 use Rattle.ads_formats.specs.SymbolEntry.{entry_bytes}
 use Rattle.ads_machine.specs.Entries.{entry_of_part}
@@ -25,7 +25,7 @@ use Rattle.ads_machine.specs.Answers.{all_answered, if_answered, answered_group,
 use Rattle.ads_machine.specs.ByName.{MAX_LIVE, MAX_NUMBER, place_of, value_act, info_of, grant_act, if_found, read_write_group}
 use Rattle.ads_machine.specs.Client as client
 use Rattle.ads_machine.specs.Client.{names_of_place, NoEffect, Grants, client_after}
-use Rattle.ads_machine.specs.Handles.{Grant, live_count, handles_after}
+use Rattle.ads_machine.specs.Handles.{Grant, live_count}
 use Rattle.ads_machine.specs.HandleLaws.{handles_of}
 use Rattle.ads_machine.specs.Requests.{act_of}
 use Rattle.symbol_table.specs.declared.place.Place.{Place}
@@ -34,7 +34,6 @@ use Rattle.sym_handles.specs.Kept.{Kept}
 use Rattle.sym_handles.specs.History.{History, Represents, IsFull}
 use Rattle.session.proofs.Tests.{is_false}
 use Rattle.port_device.specs.Answers.{AnswersAct, FindsPlace}
-use Rattle.port_device.specs.Endings.{world_after_act}
 use Rattle.port_device.specs.Groups.{without_handles}
 use Rattle.port_device.specs.Holds.{HoldsPort}
 use Rattle.port_device.specs.PortMemory.{PortMemory}
@@ -262,7 +261,7 @@ least-idle : (b : Bool) (act : Act) → IsIdle act → IsIdle (if b then Refusal
 least-idle true act idle = tt
 least-idle false act idle = idle
 
-port-idle : (c : client.Client) (p : PlantPort) (g : Option Group) (len : ℕ) (name : List ℕ) → IsIdle (read_write_group c p (without_handles g) len name)
+pub port-idle : (c : client.Client) (p : PlantPort) (g : Option Group) (len : ℕ) (name : List ℕ) → IsIdle (read_write_group c p (without_handles g) len name)
 unfolding read_write_group
 port-idle c p (Some ValueByName) len name = found-idle (found_of p.symbols name) _ (λ f. value-idle p len (place_of f))
 port-idle c p (Some InfoByName) len name =

@@ -20,3 +20,10 @@ pub mod CheckLemmas
 pub mod ReplyLemmas
 pub mod TablesAgreed
 pub mod ReloadedAgreed
+pub mod EffectLemmas
+pub mod SumGroups
+pub mod RunLemmas
+pub mod SumLemmas
+pub mod OtherPorts
+pub mod ActPuts
+pub mod TakeLemmas

@@ -1,12 +1,12 @@
 -- Which act a single Read is, and how many bytes it gives.
-use Rattle.std.proofs.Common.{◌≡◌, ℕ, ◌+◌, ◌≤◌, List, ◌++◌, length, true, false, refl, sym, ◌∙◌, ap, subst, arith, length-append}
-use Rattle.std.specs.Prelude.{Option, Some, None, option_and_then, Result, Ok, Err, IfOk, OnOk}
+use Rattle.std.proofs.Common.{◌≡◌, ℕ, ◌+◌, ◌≤◌, List, length, true, false, refl, sym, ap, subst, arith, length-append}
+use Rattle.std.specs.Prelude.{Option, Some, option_and_then, Result, Ok, Err, IfOk, OnOk}
 use Rattle.std.proofs.lemmas.Bool.{false≢true}
 use Rattle.ads_base.specs.declared.no_memory.NoMemory.{NoMemory}
 use Rattle.return_codes.specs.declared.code.Code.{Code}
 use Rattle.ads_plant.specs.World.{PlantPort}
 use Rattle.ads_formats.specs.Groups.{Group, ValueByHandle, group_of}
-use Rattle.ads_formats.specs.Request.{Request, Read}
+use Rattle.ads_formats.specs.Request.{Read}
 use Rattle.ads_laws.proofs.ShortActs.{no_more_than_asked}
 use Rattle.ads_machine.specs.World.{World, Setup, setup_of}
 use Rattle.ads_machine.specs.Acts.{Act, Outcome, outcome_of}

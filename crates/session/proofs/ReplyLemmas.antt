@@ -1,23 +1,23 @@
--- The payloads of replies that have data.
-use Rattle.std.proofs.Common.{◌≡◌, ℕ, ◌+◌, ◌-◌, ◌≤◌, List, [], ◌∷◌, ◌++◌, length, take, drop, refl, sym, ◌∙◌, ap, arith, append_assoc, length-append, take_at, drop_at, length-take, length-drop}
-use Rattle.std.specs.Prelude.{Result, Ok, Err, ◌==◌, replicate, true, false}
+-- The payloads of replies that have whole.
+use Rattle.std.proofs.Common.{◌≡◌, ℕ, ◌+◌, ◌-◌, ◌≤◌, List, [], ◌++◌, length, take, drop, refl, sym, ◌∙◌, ap, arith, append_assoc, length-append, take_at, drop_at, length-take}
+use Rattle.std.specs.Prelude.{Result, Ok, Err, ◌==◌}
 use Rattle.std.specs.Int.{w32, to_le_bytes}
-use Rattle.std.proofs.lemmas.Bool.{cases_Bool, eqb-true}
+use Rattle.std.proofs.lemmas.Bool.{cases_Bool}
 use Rattle.std.proofs.lemmas.List.{drop-drop, take-append-le}
 use Rattle.std.proofs.Common.{inl, inr}
 use Rattle.return_codes.specs.declared.code.Code.{Code}
 use Rattle.ads_plant.specs.World.{Block}
 use Rattle.ads_machine.specs.World.{World}
 use Rattle.ads_formats.specs.Codes.{no_error}
-use Rattle.ads_formats.specs.Reply.{Reply, Read, ReadWrite, written_bytes}
-use Rattle.ads_machine.specs.Acts.{Act, Outcome, Refusal, Allowed, outcome_of}
+use Rattle.ads_formats.specs.Reply.{Read, ReadWrite, written_bytes}
+use Rattle.ads_machine.specs.Acts.{Act, Refusal, Allowed, outcome_of}
 use Rattle.ads_machine.specs.Answers.{READ, READ_WRITE}
 use Rattle.ads_machine.specs.Replies.{reply_payload, reply_in_forms}
-use Rattle.sum_commands.specs.Parts.{Gives, code_in}
+use Rattle.sum_commands.specs.Parts.{code_in}
 use Rattle.port_device.specs.Answers.{AnswersAct}
 use Rattle.session.proofs.SingleLemmas.{gives-answer}
 
--- the payload of data, of the length that it has
+-- the payload of whole, of the length that it has
 abbrev pub data_payload : ℕ → List ℕ → List ℕ
 data_payload code bytes = to_le_bytes w32 code ++ (to_le_bytes w32 (length bytes) ++ bytes)
 
@@ -42,11 +42,11 @@ filled-front out f1 f2 number le start len code there is_len is_number is_le fir
     ∙ ap (λ x. take start out ++ (x ++ (le ++ drop (start + 8) out))) is_number
     ∙ ap (λ x. take start out ++ (to_le_bytes w32 code ++ (x ++ drop (start + 8) out))) (is_le ∙ ap (to_le_bytes w32) is_len)
 
--- a refusal gives no data, so its refused form is the one of no data
+-- a refusal gives no whole, so its refused form is the one of no whole
 
 read-written : (memory : List Block) (act : Act) → let o = outcome_of memory act in written_bytes (Read o.code o.bytes) ≡ data_payload o.code o.bytes
 unfolding written_bytes
-read-written memory (Allowed access) = append_assoc (to_le_bytes w32 no_error) _ _
+read-written memory (Allowed access) = let o = outcome_of memory (Allowed access) in append_assoc (to_le_bytes w32 no_error) (to_le_bytes w32 (length o.bytes)) o.bytes
 read-written memory (Refusal code) = refused-read code
   where
     refused-read : (code : ℕ) → written_bytes (Read code []) ≡ data_payload code []
@@ -54,7 +54,7 @@ read-written memory (Refusal code) = refused-read code
 
 read_write-written : (memory : List Block) (act : Act) → let o = outcome_of memory act in written_bytes (ReadWrite o.code o.bytes) ≡ data_payload o.code o.bytes
 unfolding written_bytes
-read_write-written memory (Allowed access) = append_assoc (to_le_bytes w32 no_error) _ _
+read_write-written memory (Allowed access) = let o = outcome_of memory (Allowed access) in append_assoc (to_le_bytes w32 no_error) (to_le_bytes w32 (length o.bytes)) o.bytes
 read_write-written memory (Refusal code) = refused-read code
   where
     refused-read : (code : ℕ) → written_bytes (ReadWrite code []) ≡ data_payload code []
@@ -73,28 +73,28 @@ pub answer-grows : (w : World) (act : Act) (answer : Result (Unit {0}) Code) (ol
 answer-grows w act (Ok done) old new h = omega (arith, ap length h.1, length-append old (outcome_of w.memory act).bytes)
 answer-grows w act (Err code) old new h = omega (arith, ap length h.1)
 
--- data behind room that is filled in
-pub data-filled : (old mid data new bytes : List ℕ) (start number code : ℕ) → data ≡ mid ++ bytes → number ≡ code → start ≡ length old
+-- whole behind room that is filled in
+pub data-filled : (old mid whole new bytes : List ℕ) (start number code : ℕ) → whole ≡ mid ++ bytes → number ≡ code → start ≡ length old
     → length mid ≡ length old + 8 → take (length old) mid ≡ old
-    → new ≡ take start data ++ (to_le_bytes w32 number ++ (to_le_bytes w32 (length data - (start + 8)) ++ drop (start + 8) data))
+    → new ≡ take start whole ++ (to_le_bytes w32 number ++ (to_le_bytes w32 (length whole - (start + 8)) ++ drop (start + 8) whole))
     → new ≡ old ++ data_payload code bytes
-data-filled old mid data new bytes start number code is_data is_number is_start long begins filled =
+data-filled old mid whole new bytes start number code is_data is_number is_start long begins filled =
     let count : length mid ≡ start + 8 = omega (arith, long, is_start) in
-    let front : take start data ≡ old =
-    ap (λ n. take n data) is_start ∙ ap (take (length old)) is_data ∙ take-append-le (length old) mid bytes (omega (arith, long)) ∙ begins in
-    let behind : drop (start + 8) data ≡ bytes = ap (drop (start + 8)) is_data ∙ drop_at mid bytes (start + 8) count in
-    let len : length data - (start + 8) ≡ length bytes = omega (arith, ap length is_data, length-append mid bytes, count) in
-    filled ∙ ap (λ x. x ++ (to_le_bytes w32 number ++ (to_le_bytes w32 (length data - (start + 8)) ++ drop (start + 8) data))) front
-    ∙ ap (λ n. old ++ (to_le_bytes w32 n ++ (to_le_bytes w32 (length data - (start + 8)) ++ drop (start + 8) data))) is_number
-    ∙ ap (λ n. old ++ (to_le_bytes w32 code ++ (to_le_bytes w32 n ++ drop (start + 8) data))) len
+    let front : take start whole ≡ old =
+    ap (λ n. take n whole) is_start ∙ ap (take (length old)) is_data ∙ take-append-le (length old) mid bytes (omega (arith, long)) ∙ begins in
+    let behind : drop (start + 8) whole ≡ bytes = ap (drop (start + 8)) is_data ∙ drop_at mid bytes (start + 8) count in
+    let len : length whole - (start + 8) ≡ length bytes = omega (arith, ap length is_data, length-append mid bytes, count) in
+    filled ∙ ap (λ x. x ++ (to_le_bytes w32 number ++ (to_le_bytes w32 (length whole - (start + 8)) ++ drop (start + 8) whole))) front
+    ∙ ap (λ n. old ++ (to_le_bytes w32 n ++ (to_le_bytes w32 (length whole - (start + 8)) ++ drop (start + 8) whole))) is_number
+    ∙ ap (λ n. old ++ (to_le_bytes w32 code ++ (to_le_bytes w32 n ++ drop (start + 8) whole))) len
     ∙ ap (λ x. old ++ (to_le_bytes w32 code ++ (to_le_bytes w32 (length bytes) ++ x))) behind
 
-pub answer-filled : (w : World) (act : Act) (answer : Result (Unit {0}) Code) (old mid data new : List ℕ) (start number : ℕ)
-    → AnswersAct w act answer mid data → number ≡ code_in answer → start ≡ length old
+pub answer-filled : (w : World) (act : Act) (answer : Result (Unit {0}) Code) (old mid whole new : List ℕ) (start number : ℕ)
+    → AnswersAct w act answer mid whole → number ≡ code_in answer → start ≡ length old
     → length mid ≡ length old + 8 → take (length old) mid ≡ old
-    → new ≡ take start data ++ (to_le_bytes w32 number ++ (to_le_bytes w32 (length data - (start + 8)) ++ drop (start + 8) data))
+    → new ≡ take start whole ++ (to_le_bytes w32 number ++ (to_le_bytes w32 (length whole - (start + 8)) ++ drop (start + 8) whole))
     → let o = outcome_of w.memory act in new ≡ old ++ data_payload o.code o.bytes
-answer-filled w act answer old mid data new start number answers is_number is_start long begins filled =
+answer-filled w act answer old mid whole new start number answers is_number is_start long begins filled =
     let o = outcome_of w.memory act in
-    let g = gives-answer w act answer mid data answers in
-    data-filled old mid data new o.bytes start number o.code g.bytes (is_number ∙ g.code) is_start long begins filled
+    let g = gives-answer w act answer mid whole answers in
+    data-filled old mid whole new o.bytes start number o.code g.bytes (is_number ∙ g.code) is_start long begins filled

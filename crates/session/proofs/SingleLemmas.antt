@@ -1,7 +1,7 @@
 -- Single requests as parts of a sum: what is said of them in the words of a service.
-use Rattle.std.proofs.Common.{◌≡◌, ℕ, List, [], ◌∷◌, ◌++◌, length, true, false, refl, sym, ◌∙◌, ap, subst}
-use Rattle.std.specs.Prelude.{Bool, Option, Some, None, Result, Ok, Err, IfOk, OnOk, OnErr, ◌==◌, nat_lt, if◌then◌else◌}
-use Rattle.std.proofs.lemmas.Bool.{false≢true, eqb-true}
+use Rattle.std.proofs.Common.{◌≡◌, ℕ, List, [], ◌∷◌, length, true, false, refl, sym, ◌∙◌, ap}
+use Rattle.std.specs.Prelude.{Bool, Option, Some, Result, Ok, Err, IfOk, OnOk, OnErr, ◌==◌, nat_lt, if◌then◌else◌}
+use Rattle.std.proofs.lemmas.Bool.{false≢true}
 use Rattle.std.proofs.Common.{eq-eqb}
 use Rattle.std.proofs.lemmas.List.{append-nil}
 use Rattle.ads_base.specs.declared.no_memory.NoMemory.{NoMemory}
@@ -11,17 +11,17 @@ use Rattle.return_codes.specs.Code.{number_of}
 use Rattle.std.specs.Int.{w32, to_le_bytes}
 use Rattle.ads_plant.specs.Description.{size_in}
 use Rattle.ads_plant.specs.World.{PlantPort, Block}
-use Rattle.ads_formats.specs.Codes.{no_error, invalid_size}
+use Rattle.ads_formats.specs.Codes.{invalid_size}
 use Rattle.ads_formats.specs.Groups.{Group, AreaSize, SymbolVersion, SymbolUpload, UploadInfo, TypeUpload, UploadInfoWithTypes}
 use Rattle.ads_formats.specs.Ranges.{greatest_len}
-use Rattle.ads_formats.specs.Request.{Request, Read, ReadWrite}
+use Rattle.ads_formats.specs.Request.{Request, Read}
 use Rattle.ads_machine.specs.World.{World, Setup, setup_of}
 use Rattle.ads_machine.specs.Access.{Addressed}
-use Rattle.ads_machine.specs.Acts.{Act, Outcome, Refusal, Allowed, fixed_data, outcome_of}
+use Rattle.ads_machine.specs.Acts.{Act, Refusal, Allowed, fixed_data, outcome_of}
 use Rattle.ads_machine.specs.Answers.{all_answered, answered_group}
 use Rattle.ads_machine.specs.Client.{Client}
 use Rattle.ads_machine.specs.Reach.{reach_of}
-use Rattle.ads_machine.specs.Reads.{fixed_reply, type_upload_reply, read_act, read_group}
+use Rattle.ads_machine.specs.Reads.{fixed_reply, read_act, read_group}
 use Rattle.ads_machine.specs.Entries.{symbol_upload_of, type_upload_of, upload_info_of, upload_info_with_types_of}
 use Rattle.ads_machine.specs.Requests.{act_of}
 use Rattle.sum_commands.specs.Parts.{Gives, code_in}
@@ -29,7 +29,7 @@ use Rattle.sym_handles.specs.Kept.{Kept}
 use Rattle.port_device.specs.PortMemory.{PortMemory}
 use Rattle.port_device.specs.Answers.{AnswersAct}
 use Rattle.port_device.specs.Endings.{HasCode, KeepsDescription}
-use Rattle.session.specs.Asking.{Asking, act_asked, after_act, asking_after}
+use Rattle.session.specs.Asking.{Asking, act_asked, asking_after}
 use Rattle.session.specs.Asks.{Asks, SomeAsks}
 use Rattle.session.specs.declared.single.Single.{Single}
 use Rattle.session.specs.Single.{SumState, IsSingle, part_outcome, state_after}
@@ -39,7 +39,7 @@ pub on-ok : {T E : Type 0} (r : Result T E) (P : Type 0) → P → OnOk r P
 on-ok (Ok x) P h = h
 on-ok (Err e) P h = tt
 
-not-zero : (code : Code) → (number_of code == 0) ≡ false
+pub not-zero : (code : Code) → (number_of code == 0) ≡ false
 not-zero C6 = refl
 not-zero code = refl
 
@@ -83,7 +83,7 @@ reached-idle : (r : Result (List Addressed) ℕ) → IsIdle (read_act r)
 reached-idle (Err code) = tt
 reached-idle (Ok places) = (refl, refl)
 
-read-idle : (d : Setup) (c : Client) (p : PlantPort) (g : Option Group) (offset len : ℕ) → IsIdle (read_group d c p g offset len)
+pub read-idle : (d : Setup) (c : Client) (p : PlantPort) (g : Option Group) (offset len : ℕ) → IsIdle (read_group d c p g offset len)
 unfolding read_group
 read-idle d c p (Some (AreaSize area)) offset len = fixed-idle len (to_le_bytes w32 (size_in p.sizes area))
 read-idle d c p (Some SymbolVersion) offset len = fixed-idle len (d.version ∷ [])

@@ -7,17 +7,16 @@ use Rattle.return_codes.specs.declared.code.Code.TheVariants.{C704, C705, C710}
 use Rattle.return_codes.specs.Code.{number_of}
 use Rattle.ads_plant.specs.Description.{Rights}
 use Rattle.ads_plant.specs.World.{PlantPort}
-use Rattle.ads_formats.specs.Codes.{no_error, not_permitted, invalid_size, symbol_not_found, invalid_group}
+use Rattle.ads_formats.specs.Codes.{not_permitted, invalid_size, symbol_not_found}
 use Rattle.ads_formats.specs.Groups.{Group, AreaBytes, AreaBit, ValueByHandle, ReleaseHandle, group_of}
 use Rattle.ads_formats.specs.Numbers.{number32}
 use Rattle.ads_formats.specs.Request.{Write}
-use Rattle.ads_machine.specs.World.{World}
 use Rattle.ads_machine.specs.Access.{Addressed, puts_of, memory_after_puts}
-use Rattle.ads_machine.specs.Acts.{Act, Refusal, writing, changing, effect_of, outcome_of}
+use Rattle.ads_machine.specs.Acts.{Act, Refusal, writing, changing, effect_of}
 use Rattle.ads_machine.specs.Answers.{all_answered, if_answered, answered_group, WRITE}
 use Rattle.ads_machine.specs.Client.{Client, NoEffect, Releases, client_after}
 use Rattle.ads_machine.specs.Client as client
-use Rattle.ads_machine.specs.Handles.{Handle, HandleStatus, Never, Released, Outdated, Live, Release, kept_status, status_of, handles_after}
+use Rattle.ads_machine.specs.Handles.{HandleStatus, Never, Released, Outdated, Live, Release, kept_status, status_of}
 use Rattle.ads_machine.specs.HandleLaws.{AgreeingStatus, AgreeingHandles, handles_of}
 use Rattle.ads_machine.specs.Reach.{addressed_by_status, addressed_in_place, reach_of}
 use Rattle.ads_machine.specs.Requests.{act_of}
@@ -28,10 +27,9 @@ use Rattle.sym_handles.specs.Kept.{Kept}
 use Rattle.sym_handles.specs.History.{History, Represents, release_of}
 use Rattle.session.proofs.Tests.{is_false}
 use Rattle.port_device.specs.PortMemory.{PortMemory}
-use Rattle.port_device.specs.Holds.{HoldsPort}
 use Rattle.port_device.specs.Answers.{IsNamed}
-use Rattle.port_device.specs.Endings.{EndsAs, HasCode, IsAsker, place_write_act, world_after_act}
-use Rattle.port_device.specs.Groups.{is_written_by_port, written_by_port}
+use Rattle.port_device.specs.Endings.{EndsAs, IsAsker, place_write_act}
+use Rattle.port_device.specs.Groups.{written_by_port}
 use Rattle.session.specs.Asking.{Asking, act_asked}
 use Rattle.session.specs.Asks.{Asks, LooksUp}
 use Rattle.session.specs.Ends.{EndsAct, value_write_act}
@@ -117,7 +115,7 @@ refused-ends a act code m kept asks is =
 
 -- a write of a group that the port answers has no effect on the client
 
-permitted-quiet : (k : Asker) (b : Bool) (bytes : List ℕ) (r : Result (List Addressed) ℕ)
+pub permitted-quiet : (k : Asker) (b : Bool) (bytes : List ℕ) (r : Result (List Addressed) ℕ)
     → effect_of (if not b then Refusal not_permitted else write_act k bytes r) ≡ NoEffect
 permitted-quiet k true bytes r = write-quiet k bytes r
 permitted-quiet k false bytes r = refl

@@ -16,3 +16,4 @@ pub mod PacketChecks
 pub mod Runs
 pub mod Reloading
 pub mod NotesEnded
+pub mod Answered

@@ -1,5 +1,5 @@
 -- The nine checks of a packet, by what is known of it. No public clause cites this file.
-use Rattle.std.specs.Prelude.{◌≡◌, ℕ, ◌%◌, List, [], ◌∷◌, length, Bool, not, ◌==◌, ◌&&◌, nat_le, bytes_eq, Option, Some, IfSome, is_some, option_map}
+use Rattle.std.specs.Prelude.{◌≡◌, ℕ, ◌%◌, List, [], ◌∷◌, Bool, not, ◌==◌, bytes_eq, Option, Some, IfSome, is_some, option_map}
 use Rattle.return_codes.specs.Code.{number_of}
 use Rattle.ads_plant.specs.World.{PlantPort}
 use Rattle.ads_formats.specs.Codes.{target_port_not_found, target_machine_not_found, unknown_command_id}
@@ -65,7 +65,8 @@ pub record IsAsked (w : World) (c : Client) (ams : List ℕ) (h : AmsHeader) (k 
 -- what the examination of a packet says: what it leads to; and where something is answered, whose header it has
 abbrev pub Examines : World → Client → List ℕ → Examined → Type 0
 Examines w c ams examined.Silent = decide all_answered (setup_of w) c ams ≡ NoAnswer
-Examines w c ams examined.Close = decide all_answered (setup_of w) c ams ≡ EndConnection
+Examines w c ams examined.Close =
+    (h : AmsHeader) × ((header_of ams ≡ Some h) × (decide all_answered (setup_of w) c ams ≡ EndConnection))
 Examines w c ams (examined.Error h code) =
     (header_of ams ≡ Some (ams_header_of h)) × (decide all_answered (setup_of w) c ams ≡ AmsError (number_of code))
 Examines w c ams (examined.Refused h) =

@@ -1,6 +1,7 @@
 -- What a request comes to once its packet has passed the checks. No public clause cites this file.
-use Rattle.std.specs.Prelude.{◌≡◌, ℕ, List, [], ◌++◌}
+use Rattle.std.specs.Prelude.{◌≡◌, ◌⊎◌, ℕ, List, [], ◌++◌}
 use Rattle.ads_plant.specs.World.{Block}
+use Rattle.ads_formats.specs.Groups.{sum_read, sum_write, sum_read_write}
 use Rattle.ads_formats.specs.Request.{Request, command_of}
 use Rattle.ads_machine.specs.World.{setup_of}
 use Rattle.ads_machine.specs.Acts.{Act, Outcome, outcomes_of, memory_after_acts, client_after_acts}
@@ -56,3 +57,7 @@ after_acts a acts = let w = a.world in record {
 pub record Runs (a : Asking) (r : Request) (old new : List ℕ) (port : PortMemory) (s : SessionState) : Type 0 where
   pub reply : new ≡ old ++ reply_payload (command_of r) (ending_of (decision_of a r) a.world.memory)
   pub after : AsksSession (after_acts a (acts_in (decision_of a r))) port s
+
+-- 0xF080, 0xF081 or 0xF082
+abbrev pub IsSumGroup : ℕ → Type 0
+IsSumGroup group = (group ≡ sum_read) ⊎ ((group ≡ sum_write) ⊎ (group ≡ sum_read_write))

@@ -2,30 +2,43 @@
 use Rattle.std.specs.Prelude.{◌≡◌}
 use Rattle.ads_formats.specs.Request.{Request}
 use Rattle.ads_machine.specs.Acts.{Outcome}
+use Rattle.ads_machine.specs.Client.{Client}
 use Rattle.type_layout.specs.Descriptions.{rights_of}
-use Rattle.port_device.specs.PortMemory.{PortMemory}
 use Rattle.port_device.specs.Endings.{IsAsker, KeepsDescription}
 use Rattle.session.specs.declared.single.Single.{Single}
 use Rattle.session.specs.Asking.{Asking, outcome_asked, asking_after}
 use Rattle.session.specs.Asks.{Asks}
 
--- the client who asks, and the port as it was when the sum began
+-- a client has the notifications of another
+pub record SameNotes (c next : Client) : Type 0 where
+  pub additions : next.additions ≡ c.additions
+  pub watches : next.watches ≡ c.watches
+
+-- the client who asks, and what was lent for the sum, and the client, as they were when it began
 pub record SumState : Type 0 where
   pub asking : Asking
-  pub begun : PortMemory
+  pub begun : Single
+  pub first : Client
+
+-- the same handles and the same port are lent, of which only bytes are others
+pub record StillLent (begun s : Single) : Type 0 where
+  pub handles : s.handles.ghost_name ≡ begun.handles.ghost_name
+  pub port : s.port.ghost_name ≡ begun.port.ghost_name
+  pub keeps : KeepsDescription begun.port.now s.port.now
 
 pub record IsSingle (s : Single) (x : SumState) : Type 0 where
   pub asks : Asks x.asking s.port.now s.handles.now
   pub asker : IsAsker x.asking.asker (rights_of s.rights) s.net.bytes
   pub number : s.number ≡ s.port.now.number
-  pub keeps : KeepsDescription x.begun s.port.now
+  pub lent : StillLent x.begun s
+  pub notes : SameNotes x.first x.asking.client
 
 abbrev pub part_outcome : SumState → Request → Outcome
 part_outcome x r = outcome_asked x.asking r
 
 abbrev pub state_after : SumState → Request → SumState
-state_after x r = record { asking = asking_after x.asking r; begun = x.begun }
+state_after x r = record { asking = asking_after x.asking r; begun = x.begun; first = x.first }
 
--- after want of memory only bytes of the port are others
+-- after want of memory too only bytes of the port are others
 abbrev pub MayLeave : SumState → Request → Single → Type 0
-MayLeave x r s = KeepsDescription x.begun s.port.now
+MayLeave x r s = StillLent x.begun s

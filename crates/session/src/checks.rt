@@ -62,7 +62,14 @@ fn examined_header<'a>(
     let rights = routes.rights(h.source.net);
     let there = ports.find(h.target.port).is_some();
     let request = read_request(h.command, payload).ok();
-    match stop_of(&h, payload.len(), net, rights.is_none(), !there, request.is_none()) {
+    match stop_of(
+        &h,
+        payload.len(),
+        net,
+        rights.is_none(),
+        !there,
+        request.is_none(),
+    ) {
         Stop::Passed => passed(h, rights, there, request),
         Stop::Silent => Examined::Silent,
         Stop::Close => Examined::Close,
@@ -119,13 +126,7 @@ fn stop_of(
 }
 
 // Who asks, and who is asked.
-fn stop_by_address(
-    h: &Header,
-    net: NetId,
-    no_route: bool,
-    no_port: bool,
-    no_request: bool,
-) -> Stop
+fn stop_by_address(h: &Header, net: NetId, no_route: bool, no_port: bool, no_request: bool) -> Stop
     ensures { (d : Decision) → stopped_by result d
         ≡ checked (middle_checks (ams_header_of h.now) net.bytes no_route no_port no_request) d }
 {

@@ -83,7 +83,9 @@ pub(crate) fn read_write_reply(
 {
     let start = out.len();
     put_room(alloc, out, 8)?;
-    let answer = granting::read_write(alloc, handles, port, number, group, offset, len, bytes, out)?;
+    let answer = granting::read_write(
+        alloc, handles, port, number, group, offset, len, bytes, out,
+    )?;
     fill_front(out, start, number_in(answer));
     Ok(())
 }

@@ -10,6 +10,7 @@ use sym_handles::Handles;
 use type_layout::Rights;
 
 /// One client at one port, who runs single requests. After want of memory the part that wanted it may be done.
+#[derive(Drop)]
 pub(crate) struct Single<'a> {
     pub(crate) handles: &'a mut Handles,
     pub(crate) port: &'a mut Port,

@@ -1,5 +1,4 @@
-use Rattle.std.proofs.Common.{◌≡◌, ◌<◌, length, rules}
-use Rattle.std.specs.Prelude.{None}
+use Rattle.std.proofs.Common.{◌<◌, length, rules}
 use Rattle.session.proofs.CheckLemmas.{headless}
 use Rattle.session.proofs.checks.examined.Goals as goal
 

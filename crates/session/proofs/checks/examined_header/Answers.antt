@@ -28,7 +28,7 @@ returns-in-Close c = λ w x ams held address header pay.
     let leads = decided w x ams (ams_header_of c.args.h) c.args.payload.now c.args.net.bytes c.args.routes.now c.args.ports.now c.rights-rights.result
     c.is_some-there.result c.is_none.result (not c.is_some-there.result) c.is_none-2.result c.ok-request.result stop.Close
     held address header pay c.rights-rights.ensures there request e1 refl e3 c.in-Close.ensures in
-    leads
+    (ams_header_of c.args.h, (header, leads))
 
 pub returns-in-Error : goal.returns-in-Error
 returns-in-Error c = λ w x ams held address header pay.

@@ -8,7 +8,7 @@ use Rattle.ads_machine.specs.Reach.{addressed_by_status}
 use Rattle.ads_machine.specs.Reads.{read_act, read_group}
 use Rattle.ads_plant.specs.World.{PlantPort}
 use Rattle.port_device.specs.Groups.{without_handles}
-use Rattle.session.specs.Asking.{Asking, act_asked}
+use Rattle.session.specs.Asking.{act_asked}
 use Rattle.session.proofs.ReadLemmas.{read-by-handle, read-by-port, answer-along, port-answer, read-asked}
 use Rattle.session.proofs.reading.read.Goals as goal
 

@@ -1,4 +1,4 @@
-use Rattle.std.proofs.Common.{◌+◌, ◌++◌, arith, ap, sym, ◌∙◌}
+use Rattle.std.proofs.Common.{◌++◌, arith, ap, sym, ◌∙◌}
 use Rattle.ads_formats.specs.Request.{ReadWrite}
 use Rattle.session.specs.Asking.{act_asked}
 use Rattle.session.proofs.ReplyLemmas.{answer-grows, answer-filled, read_write-payload}

@@ -1,0 +1,109 @@
+-- Reads and writes, single or parts of a sum, change no notification of their client.
+use Rattle.std.proofs.Common.{ℕ, List, length, true, false, refl, sym, ◌∙◌, subst}
+use Rattle.std.specs.Prelude.{Bool, Option, Some, None, Result, not, ◌==◌, ◌||◌, nat_lt, nat_le, if◌then◌else◌}
+use Rattle.std.specs.Int.{w32, to_le_bytes}
+use Rattle.std.proofs.Common.{◌+◌, []}
+use Rattle.ads_plant.specs.Finding.{Found, found_of}
+use Rattle.ads_plant.specs.World.{PlantPort}
+use Rattle.ads_formats.specs.Codes.{not_permitted, general_device_error, invalid_size, symbol_not_found}
+use Rattle.ads_formats.specs.Groups.{Group, AreaBytes, AreaBit, ValueByHandle, ReleaseHandle, HandleByName}
+use Rattle.ads_formats.specs.Numbers.{number32}
+use Rattle.ads_formats.specs.Request.{Read, Write, ReadWrite}
+use Rattle.ads_machine.specs.World.{setup_of}
+use Rattle.ads_machine.specs.Acts.{Act, Refusal, Allowed, changing, effect_of}
+use Rattle.ads_machine.specs.Answers.{all_answered, answered_group}
+use Rattle.ads_machine.specs.ByName.{MAX_LIVE, MAX_NUMBER, place_of, grant_act, if_found, read_write_group}
+use Rattle.ads_machine.specs.Client.{Place, Client, Effect, NoEffect, Grants, Releases, Adds, Deletes, client_after}
+use Rattle.ads_machine.specs.Handles.{live_count, kept_status}
+use Rattle.ads_machine.specs.Reach.{reach_of}
+use Rattle.ads_machine.specs.Requests.{act_of}
+use Rattle.ads_machine.specs.Writes.{Asker, may_write, is_releasable, release_act, write_act, write_group}
+use Rattle.ads_machine.specs.Access.{Addressed}
+use Rattle.port_device.specs.Groups.{without_handles}
+use Rattle.session.specs.Asking.{Asking, act_asked}
+use Rattle.session.specs.Single.{SameNotes}
+use Rattle.session.proofs.GrantLemmas.{IsIdle, port-idle}
+use Rattle.session.proofs.SingleLemmas.{read-idle}
+use Rattle.session.proofs.WriteLemmas.{permitted-quiet}
+
+-- of the handles alone, if of anything
+abbrev pub IsOfHandles : Effect → Type 0
+IsOfHandles NoEffect = Unit {0}
+IsOfHandles (Grants port place) = Unit {0}
+IsOfHandles (Releases handle) = Unit {0}
+IsOfHandles (Adds w) = ⊥
+IsOfHandles (Deletes handle) = ⊥
+
+pub same-notes : (c : Client) (e : Effect) → IsOfHandles e → SameNotes c (client_after c e)
+unfolding client_after
+same-notes c NoEffect h = record { additions = refl; watches = refl }
+same-notes c (Grants port place) h = record { additions = refl; watches = refl }
+same-notes c (Releases handle) h = record { additions = refl; watches = refl }
+same-notes c (Adds w) h = absurd h
+same-notes c (Deletes handle) h = absurd h
+
+pub same-then : (first c next : Client) → SameNotes first c → SameNotes c next → SameNotes first next
+same-then first c next one two = record { additions = two.additions ∙ one.additions; watches = two.watches ∙ one.watches }
+
+idle-effect : (act : Act) → IsIdle act → IsOfHandles (effect_of act)
+idle-effect (Refusal code) idle = tt
+idle-effect (Allowed access) idle = subst IsOfHandles (sym idle.1) tt
+
+permitted-effect : (k : Asker) (b : Bool) (bytes : List ℕ) (r : Result (List Addressed) ℕ)
+    → IsOfHandles (effect_of (if not b then Refusal not_permitted else write_act k bytes r))
+permitted-effect k b bytes r = subst IsOfHandles (sym (permitted-quiet k b bytes r)) tt
+
+pub read-effect : (a : Asking) (group offset len : ℕ) → IsOfHandles (effect_of (act_asked a (Read group offset len)))
+unfolding act_of
+read-effect a group offset len =
+    idle-effect (act_asked a (Read group offset len)) (read-idle (setup_of a.world) a.client a.asker.port (answered_group all_answered _ group) offset len)
+
+release-effect : (c : Client) (p : PlantPort) (bytes : List ℕ) → IsOfHandles (effect_of (release_act c p bytes))
+release-effect c p bytes = go (length bytes == 4) (is_releasable (kept_status c.handles (number32 0 bytes) p.number))
+  where
+    go : (b r : Bool) → IsOfHandles (effect_of (if not b then Refusal invalid_size else if r then changing [] (Releases (number32 0 bytes)) else Refusal symbol_not_found))
+    go true true = tt
+    go true false = tt
+    go false r = tt
+
+group-effect : (c : Client) (k : Asker) (g : Option Group) (offset : ℕ) (bytes : List ℕ) → IsOfHandles (effect_of (write_group c k g offset bytes))
+unfolding write_group
+group-effect c k None offset bytes = tt
+group-effect c k (Some ReleaseHandle) offset bytes = release-effect c k.port bytes
+group-effect c k (Some (AreaBytes area)) offset bytes =
+    permitted-effect k (may_write k.rights) bytes (reach_of c k.port (Some (AreaBytes area)) offset (length bytes))
+group-effect c k (Some (AreaBit area)) offset bytes =
+    permitted-effect k (may_write k.rights) bytes (reach_of c k.port (Some (AreaBit area)) offset (length bytes))
+group-effect c k (Some ValueByHandle) offset bytes =
+    permitted-effect k (may_write k.rights) bytes (reach_of c k.port (Some ValueByHandle) offset (length bytes))
+group-effect c k (Some g) offset bytes = tt
+
+pub write-effect : (a : Asking) (group offset : ℕ) (bytes : List ℕ) → IsOfHandles (effect_of (act_asked a (Write group offset bytes)))
+unfolding act_of
+write-effect a group offset bytes = group-effect a.client a.asker (answered_group all_answered _ group) offset bytes
+
+grant-effect : (c : Client) (p : PlantPort) (place : Place) → IsOfHandles (effect_of (grant_act c p place))
+grant-effect c p place = go (nat_le MAX_LIVE (live_count c.handles) || nat_le MAX_NUMBER (length c.handles))
+  where
+    go : (b : Bool) → IsOfHandles (effect_of (if b then Refusal general_device_error else changing (to_le_bytes w32 (length c.handles + 1)) (Grants p.number place)))
+    go true = tt
+    go false = tt
+
+found-effect : (c : Client) (p : PlantPort) (o : Option Found) → IsOfHandles (effect_of (if_found o (λ f. grant_act c p (place_of f))))
+found-effect c p None = tt
+found-effect c p (Some f) = grant-effect c p (place_of f)
+
+least-effect : (b : Bool) (act : Act) → IsOfHandles (effect_of act) → IsOfHandles (effect_of (if b then Refusal invalid_size else act))
+least-effect true act h = tt
+least-effect false act h = h
+
+named-effect : (c : Client) (p : PlantPort) (g : Option Group) (len : ℕ) (name : List ℕ) → IsOfHandles (effect_of (read_write_group c p g len name))
+unfolding read_write_group
+named-effect c p (Some HandleByName) len name =
+    least-effect (nat_lt len 4) (if_found (found_of p.symbols name) (λ f. grant_act c p (place_of f))) (found-effect c p (found_of p.symbols name))
+named-effect c p (Some ValueByHandle) len name = tt
+named-effect c p g len name = idle-effect (read_write_group c p (without_handles g) len name) (port-idle c p g len name)
+
+pub read_write-effect : (a : Asking) (group offset len : ℕ) (bytes : List ℕ) → IsOfHandles (effect_of (act_asked a (ReadWrite group offset len bytes)))
+unfolding act_of
+read_write-effect a group offset len bytes = named-effect a.client a.asker.port (answered_group all_answered _ group) len bytes

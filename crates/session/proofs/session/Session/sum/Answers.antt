@@ -1,0 +1,31 @@
+use Rattle.std.proofs.Common.{sym, subst, refl, ap, arith, rules}
+use Rattle.ads_formats.specs.Header.{AmsAddress}
+use Rattle.session.specs.Asks.{SomeAsks}
+use Rattle.session.specs.Runs.{AsksSession}
+use Rattle.session.specs.SessionState.{SessionState}
+use Rattle.session.proofs.SumLemmas.{sum-runs}
+use Rattle.session.proofs.session.Session.sum.Goals as goal
+
+pub run_parts-requires-clause-some : goal.run_parts-requires-clause-some
+run_parts-requires-clause-some c =
+    let S : SessionState → Type 0 = λ s. SomeAsks c.args.port.now s.handles in
+    subst S (sym c.self.view_is) c.requires.some
+
+pub fill_front-requires-clause-there : goal.fill_front-requires-clause-there
+fill_front-requires-clause-there c = omega (arith, c.len-start.ensures, c.in_ok-put_room.ensures.long, c.in_ok-answer.ensures.grows)
+
+pub returns-clause-runs : goal.returns-clause-runs
+returns-clause-runs c = λ a h from.
+    let S : SessionState → Type 0 = λ s. AsksSession a c.args.port.now s in
+    let own = subst S (sym c.self.view_is) h in
+    sum-runs a c.args.group c.args.count c.args.len c.args.bytes.now c.args.port.now _ _ _ _ _ c.args.out.now c.put_room.new.out c.run_parts.new.out c.fill_front.new.out
+    c.len-start.result c.number_in.result c.in_ok-answer.answer c.in_ok-answer.ensures.code c.in_ok-answer.ensures.err c.in_ok-answer.ensures.reply
+    c.in_ok-answer.ensures.leaves c.requires.sum own
+    (record {
+      asks = record { held = own.held; handles = own.stands.handles };
+      asker = record { net_is = ap (λ (x : AmsAddress). x.net) from.address; rights_are = from.rights_are };
+      number = c.requires.number;
+      lent = record { handles = refl; port = refl; keeps = refl };
+      notes = record { additions = refl; watches = refl };
+    })
+    refl refl (search rules) refl c.number_in.ensures c.len-start.ensures c.in_ok-put_room.ensures.long c.in_ok-put_room.ensures.begins c.fill_front.ensures

@@ -1,0 +1,352 @@
+//! The request of a packet that passed the checks is run, and its reply's payload written.
+
+ghost use Rattle.std.specs.Prelude.{◌≡◌, ◌≤◌, ◌+◌, ◌++◌, ℕ, length, OnOk, OnErr, IfOk};
+ghost use Rattle.ads_formats.specs.Request as format;
+ghost use Rattle.ads_commands.specs.Request.{request_meant};
+ghost use Rattle.port_device.specs.Endings.{KeepsDescription};
+ghost use Rattle.session.specs.Asking.{Asking};
+ghost use Rattle.session.specs.Asks.{SomeAsks};
+ghost use Rattle.session.specs.Runs.{IsSumGroup};
+ghost use Rattle.session.specs.Single.{SumState, IsSingle, part_outcome, state_after};
+ghost use Rattle.ads_formats.specs.Ranges.{greatest_len};
+ghost use Rattle.sum_commands.specs.SumCommand.{sum_of, refusal_in, refused_by, sum_reply, left_by_sum};
+ghost use Rattle.ads_base.specs.declared.ams_addr.AmsAddr.{AmsAddr};
+ghost use Rattle.type_layout.specs.declared.description.Rights.{Rights};
+
+use crate::groups::is_sum;
+use crate::replies::{fill_front, number_in, read_reply, read_write_reply};
+use crate::room::put_room;
+use crate::single::Single;
+use crate::watching::NoteRequest;
+use crate::{Session, writing};
+use ads_base::{AmsAddr, NoMemory, Octets};
+use ads_commands::{DeviceFacts, Reply, Request, put_reply};
+use port_device::Port;
+use return_codes::Code;
+use std::alloc::Global;
+use sum_commands::run_sum;
+use type_layout::Rights;
+
+impl Session {
+    ghost use Rattle.session.specs.Runs.{AsksSession, IsFrom, Runs};
+
+    /// Runs a request, and appends the payload of its reply. Beckhoff Information System, "ADS Commands".
+    pub(crate) fn run(
+        &mut self,
+        alloc: Global,
+        port: &mut Port,
+        number: u16,
+        source: AmsAddr,
+        rights: Rights,
+        request: Request<'_>,
+        out: &mut Octets,
+    ) -> Result<(), NoMemory>
+        requires some { SomeAsks port.old self.old.handles }
+        requires number { number ≡ port.old.number }
+        ensures runs { OnOk result ((a : Asking) → AsksSession a port.old self.old → IsFrom a source rights
+            → Runs a (request_meant request.entry) out.old out.new port.new self.new) }
+        ensures keeps { KeepsDescription port.old port.new }
+        ensures stream { self.new.stream ≡ self.old.stream }
+    {
+        match request {
+            Request::DeviceInfo => self.info(alloc, port, out),
+            Request::Read { group, offset, len } => {
+                self.read(alloc, port, number, group, offset, len, out)
+            }
+            Request::Write {
+                group,
+                offset,
+                bytes,
+            } => self.write(
+                alloc, port, number, source, rights, group, offset, bytes, out,
+            ),
+            Request::State => self.state(alloc, port, out),
+            Request::Control { ads, device, bytes } => {
+                self.control(alloc, port, rights, ads, device, bytes, out)
+            }
+            Request::Add {
+                group,
+                offset,
+                len,
+                mode,
+                delay,
+                cycle,
+            } => {
+                let asked = NoteRequest {
+                    group,
+                    offset,
+                    len,
+                    mode,
+                    cycle,
+                };
+                self.add(alloc, port, number, source, &asked, delay, out)
+            }
+            Request::Delete { handle } => self.delete(alloc, port, number, handle, out),
+            Request::Note(bytes) => self.note(alloc, port, bytes, out),
+            Request::ReadWrite {
+                group,
+                offset,
+                read_len,
+                bytes,
+            } => self.read_write(
+                alloc, port, number, source, rights, group, offset, read_len, bytes, out,
+            ),
+        }
+    }
+
+    // What the device tells of itself.
+    fn info(&self, alloc: Global, port: &Port, out: &mut Octets) -> Result<(), NoMemory>
+        ensures { OnOk result ((a : Asking) → AsksSession a port.now self.now
+            → Runs a format.ReadDeviceInfo out.old out.new port.now self.now) }
+    {
+        let facts = port.facts();
+        let name = facts.name;
+        let told = DeviceFacts {
+            major: facts.major,
+            minor: facts.minor,
+            build: facts.build,
+            name,
+        };
+        put_reply(alloc, &Reply::Info(0, told), out)
+    }
+
+    fn read(
+        &self,
+        alloc: Global,
+        port: &Port,
+        number: u16,
+        group: u32,
+        offset: u32,
+        len: u32,
+        out: &mut Octets,
+    ) -> Result<(), NoMemory>
+        requires some { SomeAsks port.now self.now.handles }
+        requires number { number ≡ port.now.number }
+        ensures { OnOk result ((a : Asking) → AsksSession a port.now self.now
+            → Runs a (format.Read group offset len) out.old out.new port.now self.now) }
+    {
+        read_reply(alloc, &self.handles, port, number, group, offset, len, out)
+    }
+
+    fn write(
+        &mut self,
+        alloc: Global,
+        port: &mut Port,
+        number: u16,
+        source: AmsAddr,
+        rights: Rights,
+        group: u32,
+        offset: u32,
+        bytes: &[u8],
+        out: &mut Octets,
+    ) -> Result<(), NoMemory>
+        requires some { SomeAsks port.old self.old.handles }
+        requires number { number ≡ port.old.number }
+        ensures runs { OnOk result ((a : Asking) → AsksSession a port.old self.old → IsFrom a source rights
+            → Runs a (format.Write group offset bytes.now) out.old out.new port.new self.new) }
+        ensures keeps { KeepsDescription port.old port.new }
+        ensures stream { self.new.stream ≡ self.old.stream }
+    {
+        let net = source.net;
+        let answer = writing::write(
+            &mut self.handles,
+            port,
+            number,
+            group,
+            offset,
+            bytes,
+            rights,
+            net,
+        );
+        put_reply(alloc, &Reply::Write(number_in(answer)), out)
+    }
+
+    // The two state words.
+    fn state(&self, alloc: Global, port: &Port, out: &mut Octets) -> Result<(), NoMemory>
+        ensures { OnOk result ((a : Asking) → AsksSession a port.now self.now
+            → Runs a format.ReadState out.old out.new port.now self.now) }
+    {
+        let (ads, device) = port.state();
+        put_reply(alloc, &Reply::State(0, ads, device), out)
+    }
+
+    fn control(
+        &self,
+        alloc: Global,
+        port: &mut Port,
+        rights: Rights,
+        ads: u16,
+        device: u16,
+        bytes: &[u8],
+        out: &mut Octets,
+    ) -> Result<(), NoMemory>
+        ensures runs { OnOk result ((a : Asking) (source : AmsAddr) → AsksSession a port.old self.now → IsFrom a source rights
+            → Runs a (format.WriteControl ads device bytes.now) out.old out.new port.new self.now) }
+        ensures keeps { KeepsDescription port.old port.new }
+    {
+        let _any = bytes;
+        let answer = port.control(ads, device, rights);
+        put_reply(alloc, &Reply::Control(number_in(answer)), out)
+    }
+
+    fn add(
+        &mut self,
+        alloc: Global,
+        port: &Port,
+        number: u16,
+        source: AmsAddr,
+        asked: &NoteRequest,
+        delay: u32,
+        out: &mut Octets,
+    ) -> Result<(), NoMemory>
+        requires some { SomeAsks port.now self.old.handles }
+        requires number { number ≡ port.now.number }
+        ensures runs { OnOk result ((a : Asking) (rights : Rights) → AsksSession a port.now self.old → IsFrom a source rights
+            → Runs a (format.AddDeviceNotification asked.now.group asked.now.offset asked.now.len asked.now.mode delay asked.now.cycle)
+            out.old out.new port.now self.new) }
+        ensures stream { self.new.stream ≡ self.old.stream }
+    {
+        let _any = delay;
+        match self.add_note(alloc, port, number, source, asked)? {
+            Ok(handle) => put_reply(alloc, &Reply::Add(0, handle), out),
+            Err(code) => put_reply(alloc, &Reply::Add(code.number(), 0), out),
+        }
+    }
+
+    fn delete(
+        &mut self,
+        alloc: Global,
+        port: &Port,
+        number: u16,
+        handle: u32,
+        out: &mut Octets,
+    ) -> Result<(), NoMemory>
+        requires number { number ≡ port.now.number }
+        ensures runs { OnOk result ((a : Asking) → AsksSession a port.now self.old
+            → Runs a (format.DeleteDeviceNotification handle) out.old out.new port.now self.new) }
+        ensures stream { self.new.stream ≡ self.old.stream }
+    {
+        let _known = port;
+        let answer = self.delete_note(number, handle);
+        put_reply(alloc, &Reply::Delete(number_in(answer)), out)
+    }
+
+    // A notification is stopped by the checks, and does not come here.
+    fn note(
+        &self,
+        alloc: Global,
+        port: &Port,
+        bytes: &[u8],
+        out: &mut Octets,
+    ) -> Result<(), NoMemory>
+        ensures { OnOk result ((a : Asking) → AsksSession a port.now self.now
+            → Runs a (format.DeviceNotification bytes.now) out.old out.new port.now self.now) }
+    {
+        let _any = bytes;
+        let _known = port;
+        put_reply(alloc, &Reply::Write(0), out)
+    }
+
+    fn read_write(
+        &mut self,
+        alloc: Global,
+        port: &mut Port,
+        number: u16,
+        source: AmsAddr,
+        rights: Rights,
+        group: u32,
+        offset: u32,
+        len: u32,
+        bytes: &[u8],
+        out: &mut Octets,
+    ) -> Result<(), NoMemory>
+        requires some { SomeAsks port.old self.old.handles }
+        requires number { number ≡ port.old.number }
+        ensures runs { OnOk result ((a : Asking) → AsksSession a port.old self.old → IsFrom a source rights
+            → Runs a (format.ReadWrite group offset len bytes.now) out.old out.new port.new self.new) }
+        ensures keeps { KeepsDescription port.old port.new }
+        ensures stream { self.new.stream ≡ self.old.stream }
+    {
+        if is_sum(group) {
+            return self.sum(
+                alloc, port, number, source, rights, group, offset, len, bytes, out,
+            );
+        }
+        read_write_reply(
+            alloc,
+            &mut self.handles,
+            port,
+            number,
+            group,
+            offset,
+            len,
+            bytes,
+            out,
+        )
+    }
+
+    // The parts of a sum, one after another. Its offset is how many they are.
+    fn sum(
+        &mut self,
+        alloc: Global,
+        port: &mut Port,
+        number: u16,
+        source: AmsAddr,
+        rights: Rights,
+        group: u32,
+        count: u32,
+        len: u32,
+        bytes: &[u8],
+        out: &mut Octets,
+    ) -> Result<(), NoMemory>
+        requires some { SomeAsks port.old self.old.handles }
+        requires number { number ≡ port.old.number }
+        requires sum { IsSumGroup group }
+        ensures runs { OnOk result ((a : Asking) → AsksSession a port.old self.old → IsFrom a source rights
+            → Runs a (format.ReadWrite group count len bytes.now) out.old out.new port.new self.new) }
+        ensures keeps { KeepsDescription port.old port.new }
+        ensures stream { self.new.stream ≡ self.old.stream }
+    {
+        let start = out.len();
+        put_room(alloc, out, 8)?;
+        let mut single = Single {
+            handles: &mut self.handles,
+            port: &mut *port,
+            number,
+            rights,
+            net: source.net,
+        };
+        let answer = run_parts(alloc, &mut single, group, count, len, bytes, out)?;
+        fill_front(out, start, number_in(answer));
+        Ok(())
+    }
+}
+
+// The parts of a sum, at the handles and the port that were lent for it.
+fn run_parts(
+    alloc: Global,
+    single: &mut Single<'_>,
+    group: u32,
+    count: u32,
+    len: u32,
+    bytes: &[u8],
+    out: &mut Octets,
+) -> Result<Result<(), Code>, NoMemory>
+    requires some { SomeAsks single.old.port.now single.old.handles.now }
+    requires number { single.old.number ≡ single.old.port.now.number }
+    requires sum { IsSumGroup group }
+    ensures handles { single.new.handles.ghost_name ≡ single.old.handles.ghost_name }
+    ensures port { single.new.port.ghost_name ≡ single.old.port.ghost_name }
+    ensures keeps { KeepsDescription single.old.port.now single.new.port.now }
+    ensures code { IfOk result (λ answer. refused_by answer
+        ≡ refusal_in (sum_of group count bytes.now) count (length bytes.now) len) }
+    ensures err { IfOk result (λ answer. OnErr answer ((single.new ≡ single.old) × (out.new ≡ out.old))) }
+    ensures reply { IfOk result (λ answer. OnOk answer ((x : SumState) → IsSingle single.old x
+        → out.new ≡ out.old ++ sum_reply part_outcome state_after x (sum_of group count bytes.now))) }
+    ensures leaves { IfOk result (λ answer. OnOk answer ((x : SumState) → IsSingle single.old x
+        → IsSingle single.new (left_by_sum state_after x (sum_of group count bytes.now)))) }
+    ensures grows { IfOk result (λ answer. length out.old ≤ length out.new) }
+    ensures short { IfOk result (λ answer. length out.new ≤ length out.old + greatest_len) }
+{
+    run_sum(alloc, single, group, count, len, bytes, out)
+}
