@@ -15,6 +15,7 @@ mod notifications;
 mod paths;
 mod payloads;
 mod places;
+mod ports;
 mod queues;
 mod replies;
 mod requests;
@@ -34,6 +35,8 @@ use crate::args::Args;
 use crate::fault::Fault;
 use crate::objects::Objects;
 use std::alloc::Global;
+
+pub use ports::Plant;
 
 /// Makes the call that the first word names with the arguments behind it, and writes its answer.
 pub fn make(
@@ -70,6 +73,7 @@ fn of_library(
         "notify_frames" => notes::make(alloc, call, args, answer),
         "notify_table" => notifications::make(alloc, &mut objects.watches, call, args, answer),
         "out_queue" => queues::make(alloc, &mut objects.queue, call, args, answer),
+        "port_device" => ports::make(alloc, &mut objects.plant, call, args, answer),
         "replay_script" => scripts::make(alloc, call, args, answer),
         "return_codes" => codes::make(alloc, call, args, answer),
         "signals" => waves::make(alloc, call, args, answer),

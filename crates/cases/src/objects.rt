@@ -1,5 +1,6 @@
 //! The objects that have a history: cases of one file are steps of it, and `new` begins it anew.
 
+use crate::calls::Plant;
 use ads_base::NoMemory;
 use ams_tcp::Splitter;
 use notify_table::Watches;
@@ -13,6 +14,7 @@ pub struct Objects {
     pub queue: OutQueue,
     pub handles: Handles,
     pub watches: Watches,
+    pub plant: Option<Plant>,
 }
 
 impl Objects {
@@ -22,6 +24,7 @@ impl Objects {
             queue: OutQueue::new(alloc)?,
             handles: Handles::new(alloc)?,
             watches: Watches::new(alloc)?,
+            plant: None,
         })
     }
 }

@@ -53,7 +53,8 @@ fn routes_of(alloc: Global, args: &mut Args<'_>) -> Result<Routes4, NoMemory> {
     Ok(list)
 }
 
-fn rights_of(args: &mut Args<'_>) -> Rights {
+/// The next word as rights.
+pub fn rights_of(args: &mut Args<'_>) -> Rights {
     match args.name() {
         "read" => Rights::Read,
         "write" => Rights::Write,
