@@ -21,3 +21,4 @@ pub mod EventLemmas
 pub mod AskedLemmas
 pub mod TickLemmas
 pub mod ReloadLemmas
+pub mod CheckLemmas

@@ -13,3 +13,4 @@ pub mod Serves
 pub mod Outcomes
 pub mod Asked
 pub mod Reloading
+pub mod Checking

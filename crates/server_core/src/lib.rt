@@ -6,6 +6,7 @@ mod clients;
 mod delivering;
 mod device;
 mod events;
+mod gate;
 mod laws;
 mod outcome;
 mod reloading;
@@ -21,6 +22,7 @@ mod turned;
 mod waiting;
 
 pub use checking::check_all;
+pub use gate::{Gate, OpenGate};
 pub use laws::gone_connections_are_forgotten;
 pub use outcome::Outcome;
 pub use served_core::Core;

@@ -7,11 +7,15 @@ ghost use Rattle.server_core.specs.ServerView.{view_of};
 ghost use Rattle.server_core.specs.Serves.{ServesEach, ServesSome, FollowsEach};
 
 use crate::checking::check_all;
+use crate::gate::OpenGate;
 use crate::server::Server;
 use crate::sources::Sources;
 use ads_base::NoMemory;
 use std::alloc::Global;
 use std::thread::Threads;
+
+// A list is halved so often, so that at most eight threads check sessions at once.
+const LEVELS: u32 = 3;
 
 /// A tick: each signal steps, the due notifications of each connection that is not closing are checked, and the
 /// frames of their samples are produced, connection after connection.
@@ -36,6 +40,8 @@ pub(crate) fn tick<T: Threads + Sync, S: Sources>(
         &server.device.ports,
         server.device.net,
         server.device.moment,
+        LEVELS,
+        &OpenGate,
     )?;
     server.clients.deliver(alloc, &mut server.summary)
 }

@@ -1,42 +1,6 @@
-use Rattle.std.proofs.Common.{refl, sym, ap, ◌∙◌, subst, arith}
-use Rattle.std.proofs.lemmas.List.{get_or-set_other, get_or_default}
-use Rattle.std.proofs.Math.ListN.{length-set}
-use Rattle.ads_machine.specs.Ticks.{client_after_tick}
-use Rattle.session.specs.Served.{IsServed}
-use Rattle.server_core.specs.declared.turned.Turned.{Turned}
-use Rattle.server_core.specs.Asked.{IsAsked}
-use Rattle.server_core.proofs.AskedLemmas.{each_asked, asked_more}
+use Rattle.server_core.specs.Checking.{AreAsked}
 use Rattle.server_core.proofs.checking.check_all.Goals as goal
 
-pub loop-i-init : goal.loop-i-init
-loop-i-init g c = record { many = refl; others = λ k d at. refl; asked = λ w held net k d below. absurd (omega arith) }
-
-pub check_one-requires : goal.check_one-requires
-check_one-requires g c =
-    let i = c.loop-i.i in
-    let t = c.index-list-i.result in
-    let same = c.loop-i.invariant.others i t (omega arith) in
-    λ open_. subst (λ (u : Turned). IsServed c.args.ports.now u.session) (sym same)
-    (c.requires i t (omega (arith, c.loop-i.invariant.many)) (sym (ap (λ (u : Turned). u.skip) same) ∙ open_))
-
-pub loop-i-preserved : goal.loop-i-preserved
-loop-i-preserved g c =
-    let i = c.loop-i.i in
-    let list = c.loop-i.list in
-    let t = c.index-list-i.result in
-    let new = c.check_one.new.turned in
-    let inv = c.loop-i.invariant in
-    record {
-      many = length-set list i new ∙ inv.many;
-      others = λ k d at. get_or-set_other list i k new d (λ e. absurd (omega (arith, at, e))) ∙ inv.others k d (omega (arith, at));
-      asked = λ w held net.
-          asked_more (λ (a : Turned) (b : Turned). IsAsked w.plant w.plant (client_after_tick c.args.now w) a b) c.args.list.now list i new (omega (arith, inv.many))
-          (λ d. subst (λ (a : Turned). IsAsked w.plant w.plant (client_after_tick c.args.now w) a new)
-          (get_or_default list i t d (omega (arith, inv.many)) ∙ inv.others i d (omega arith)) (c.in_ok-check_one.ensures w held net))
-          (inv.asked w held net);
-    }
-
 pub returns : goal.returns
-returns g c = λ w held net.
-    let inv = c.loop-i.invariant in
-    each_asked w.plant w.plant (client_after_tick c.args.now w) c.args.list.now c.loop-i.list inv.many (λ k d below. inv.asked w held net k d (omega (arith, below)))
+unfolding AreAsked
+returns g c = c.check_parts.ensures

@@ -1,4 +1,4 @@
-use Rattle.std.proofs.Common.{List, length, refl, sym, ap, ◌∙◌, subst}
+use Rattle.std.proofs.Common.{List, length, rules, refl, sym, ap, ◌∙◌, subst}
 use Rattle.std.specs.Vec.{with_items}
 use Rattle.ads_machine.specs.Ticks.{client_after_tick}
 use Rattle.server_core.specs.declared.clients.Clients.{Clients}
@@ -19,8 +19,12 @@ check_all-requires g c =
     let device : Device = (let d = v.device in record d { ports = c.step_into.new.ports; moment = c.later_of-server.result }) in
     let waves = g.S.Sources.waves c.args.signals.now in (
       c.type_bounds.sync-T,
-      tick_served v device waves c.args.moment c.as_mut_slice.result.now c.requires
-          (record { net = refl; routes = refl; signals = refl; moment = c.later_of-server.ensures; ports = c.step_into.ensures.ports }) c.as_mut_slice.ensures.value,
+      (
+        search rules,
+        tick_served v device waves c.args.moment c.as_mut_slice.result.now c.requires
+            (record { net = refl; routes = refl; signals = refl; moment = c.later_of-server.ensures; ports = c.step_into.ensures.ports })
+            c.as_mut_slice.ensures.value,
+      ),
     )
 
 pub returns-clause-follows : goal.returns-clause-follows
