@@ -14,8 +14,8 @@ pub returns-in-Answer-clause-goes : goal.returns-in-Answer-clause-goes
 returns-in-Answer-clause-goes c = on_ok c.reply.result (λ produces. λ n x held st is_open.
     let packet = c.args.packet.now in
     let o = served.take x.world x.connection.client packet in
-    let device : Device = (let d = c.args.device.now in record d { ports = c.take.new._ports }) in
-    let takes = took_packet x.world x.connection.client packet c.in_ok-frame.field-0 c.take.new._ports c.take.new.self
+    let device : Device = (let d = c.args.device.now in record d { ports = c.take.new.ports }) in
+    let takes = took_packet x.world x.connection.client packet c.in_ok-frame.field-0 c.take.new.ports c.take.new.self
     (c.in_ok-frame.ensures.takes x.world x.connection.client held.ports (st.client is_open) held.address) in
     let stands = stands_with_client x.world.plant (conn_of c.args.turned.now (n, c.args.waiting.now)) _ x.connection o.client st c.in_ok-frame.ensures.stream
     (stands_after x.world x.connection.client packet c.take.new.self takes.stands) refl refl refl in
@@ -25,7 +25,7 @@ returns-in-Answer-clause-goes c = on_ok c.reply.result (λ produces. λ n x held
 pub returns-in-Answer-clause-connected : goal.returns-in-Answer-clause-connected
 returns-in-Answer-clause-connected c =
     let k = c.requires.connected in
-    let device : Device = (let d = c.args.device.now in record d { ports = c.take.new._ports }) in
+    let device : Device = (let d = c.args.device.now in record d { ports = c.take.new.ports }) in
     let here = connected_after c.args.device.now device c.args.turned.now.session c.take.new.self c.args.packet.now k c.in_ok-frame.field-0
     (c.in_ok-frame.ensures.takes k.world k.client k.held.ports k.stands k.held.address) refl refl in
     on_ok c.reply.result (λ produces. subst (λ (s : SessionState). IsConnected device s) (sym c.reply.ensures.session) here) c.reply.ensures.produces
@@ -34,8 +34,8 @@ pub returns-in-Silent-clause-goes : goal.returns-in-Silent-clause-goes
 returns-in-Silent-clause-goes c = λ n x held st is_open.
     let packet = c.args.packet.now in
     let o = served.take x.world x.connection.client packet in
-    let device : Device = (let d = c.args.device.now in record d { ports = c.take.new._ports }) in
-    let takes = took_packet x.world x.connection.client packet c.in_ok-frame.field-0 c.take.new._ports c.take.new.self
+    let device : Device = (let d = c.args.device.now in record d { ports = c.take.new.ports }) in
+    let takes = took_packet x.world x.connection.client packet c.in_ok-frame.field-0 c.take.new.ports c.take.new.self
     (c.in_ok-frame.ensures.takes x.world x.connection.client held.ports (st.client is_open) held.address) in
     let stands = stands_with_client x.world.plant (conn_of c.args.turned.now (n, c.args.waiting.now)) _ x.connection o.client st c.in_ok-frame.ensures.stream
     (stands_after x.world x.connection.client packet c.take.new.self takes.stands) refl refl refl in
@@ -52,8 +52,8 @@ pub returns-in-Close-clause-goes : goal.returns-in-Close-clause-goes
 returns-in-Close-clause-goes c = λ n x held st is_open.
     let packet = c.args.packet.now in
     let o = served.take x.world x.connection.client packet in
-    let device : Device = (let d = c.args.device.now in record d { ports = c.take.new._ports }) in
-    let takes = took_packet x.world x.connection.client packet c.in_ok-frame.field-0 c.take.new._ports c.take.new.self
+    let device : Device = (let d = c.args.device.now in record d { ports = c.take.new.ports }) in
+    let takes = took_packet x.world x.connection.client packet c.in_ok-frame.field-0 c.take.new.ports c.take.new.self
     (c.in_ok-frame.ensures.takes x.world x.connection.client held.ports (st.client is_open) held.address) in
     let mid = conn_of (let t = c.args.turned.now in record t { session = c.take.new.self }) (n, c.args.waiting.now) in
     let stands = stands_with_client x.world.plant (conn_of c.args.turned.now (n, c.args.waiting.now)) mid x.connection o.client st c.in_ok-frame.ensures.stream
