@@ -34,9 +34,8 @@ use crate::answer::Answer;
 use crate::args::Args;
 use crate::fault::Fault;
 use crate::objects::Objects;
-use std::alloc::Global;
-
 pub use ports::Plant;
+use std::alloc::Global;
 
 /// Makes the call that the first word names with the arguments behind it, and writes its answer.
 pub fn make(
