@@ -17,6 +17,9 @@ use std::thread::Threads;
 // A list is halved so often, so that at most eight threads check sessions at once.
 const LEVELS: u32 = 3;
 
+// From so many sessions on. A thread costs tens of microseconds to start, a session with nothing due less than one.
+const THREADS_FROM: usize = 32;
+
 /// A tick: each signal steps, the due notifications of each connection that is not closing are checked, and the
 /// frames of their samples are produced, connection after connection.
 pub(crate) fn tick<T: Threads + Sync, S: Sources>(
@@ -33,6 +36,7 @@ pub(crate) fn tick<T: Threads + Sync, S: Sources>(
 {
     signals.step_into(alloc, &mut server.device.ports);
     server.device.moment = later_of(server.device.moment, moment);
+    let levels = levels_for(server.clients.sessions.len());
     check_all(
         rt,
         alloc,
@@ -40,10 +44,15 @@ pub(crate) fn tick<T: Threads + Sync, S: Sources>(
         &server.device.ports,
         server.device.net,
         server.device.moment,
-        LEVELS,
+        levels,
         &OpenGate,
     )?;
     server.clients.deliver(alloc, &mut server.summary)
+}
+
+// How often a list of so many sessions is halved.
+fn levels_for(sessions: usize) -> u32 {
+    if sessions < THREADS_FROM { 0 } else { LEVELS }
 }
 
 // The later of two moments.
