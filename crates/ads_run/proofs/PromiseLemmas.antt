@@ -57,12 +57,15 @@ served_as_alone d waves log turns c untouched =
       all = taken.all turns;
     }
 
+pub turns_keep_promises : (d : Description) (waves : List Wave) (log : List Move) → KeepsTurns server (server_start d waves) log
+    → KeepsPromises d waves log
+turns_keep_promises d waves log turns = record {
+  frames = frames_in_order d waves log turns;
+  writes = λ before after m is. changes_by_writes d waves before m;
+  isolated = served_as_alone d waves log turns;
+  dead_handles = server_refuses_dead_handles;
+}
+
 pub play_keeps_promises : (d : Description) (waves : List Wave) (lines : List ScriptLine) → PlayKeepsPromises d waves lines
 play_keeps_promises d waves lines =
-    let turns = server_plays_in_turns d waves lines in
-    record {
-      frames = frames_in_order d waves (server_play d waves lines) turns;
-      writes = λ before after m is. changes_by_writes d waves before m;
-      isolated = served_as_alone d waves (server_play d waves lines) turns;
-      dead_handles = server_refuses_dead_handles;
-    }
+    turns_keep_promises d waves (server_play d waves lines) (server_plays_in_turns d waves lines)

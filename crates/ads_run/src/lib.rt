@@ -7,6 +7,7 @@ mod commands;
 mod ending;
 mod file;
 mod last_line;
+mod laws;
 mod outcome;
 mod play;
 mod program;
@@ -19,6 +20,7 @@ mod status;
 mod task;
 mod top_call;
 
+pub use crate::laws::logs_in_turns_keep_promises;
 pub use crate::program::status_of;
 pub use crate::program_signals::ProgramSignals;
 pub use crate::status::Status;
