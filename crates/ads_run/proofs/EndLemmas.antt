@@ -1,5 +1,5 @@
 -- What is printed of an outcome, and how a run that printed it ends.
-use Rattle.std.proofs.Common.{◌≡◌, ◌++◌, ◌∷◌, [], map, ℕ, suc, take, append_assoc, List, Option, Some, None, inl, inr, subst, refl, append-nil, ap, sym, ◌∙◌}
+use Rattle.std.proofs.Common.{◌≡◌, ◌++◌, ◌∷◌, [], map, ℕ, suc, take, append_assoc, List, Option, Some, None, inl, inr, subst, ap, sym, ◌∙◌}
 use Rattle.std.specs.Prelude.{Result, Ok, Err, OnErr}
 use Rattle.ads_outside.specs.declared.named_file.NamedFile.{NamedFile}
 use Rattle.ads_outside.specs.FilesState.{ReadsSome, ReadsAll}

@@ -1,5 +1,5 @@
 -- The play of a script keeps the promises.
-use Rattle.std.proofs.Common.{◌≡◌, ℕ, List, [], ◌∷◌, ◌++◌, refl, sym, ap, ◌∙◌, false, append-nil, subst}
+use Rattle.std.proofs.Common.{◌≡◌, ℕ, List, [], ◌∷◌, ◌++◌, refl, sym, ap, ◌∙◌, append-nil, subst}
 use Rattle.signals.specs.Wave.{Wave}
 use Rattle.ads_outside.specs.declared.moves.Move.{Move}
 use Rattle.ads_plant.specs.Description.{Description}

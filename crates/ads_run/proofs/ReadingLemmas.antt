@@ -1,20 +1,22 @@
 -- What the readings of files decide.
-use Rattle.std.proofs.Common.{◌≡◌, ◌<◌, ◌≤◌, ℕ, List, [], ◌∷◌, ◌++◌, Option, Some, None, Ok, Err, inl, inr, subst, ap, sym, ◌∙◌, refl, length, zero, suc, true, false, Bool, arith, append_assoc}
-use Rattle.std.specs.Prelude.{nat_lt, if◌then◌else◌, IsSomeAnd, take}
+use Rattle.std.proofs.Common.{rules, ◌≡◌, ◌<◌, ◌≤◌, ℕ, List, [], ◌∷◌, Option, Some, None, Err, inl, inr, subst, ap, sym, ◌∙◌, refl, length, zero, suc, true, Bool, arith}
+use Rattle.std.specs.Prelude.{if◌then◌else◌, IsSomeAnd}
 use Rattle.std.specs.Str.{bytes_eq}
 use Rattle.std.proofs.lemmas.Bool.{le-ltb, lt-ltb}
 use Rattle.std.proofs.lemmas.Slice.Eq.{bytes_eq-Decides}
 use Rattle.ads_outside.specs.declared.named_file.NamedFile.{NamedFile}
 use Rattle.ads_outside.specs.declared.got.Got.TheVariants as got
-use Rattle.ads_outside.specs.FilesState.{ReadsSome, ReadsAll}
 use Rattle.ads_outside.specs.Limit.{file_limit}
 use Rattle.ads_outside.specs.Named.{bytes_of}
 use Rattle.ads_outside.specs.Reads.{Reads}
+use Rattle.ads_outside.specs.Rose.{Rose}
+use Rattle.signals.specs.Wave.{Wave}
+use Rattle.ads_rules.specs.TextVerdict.{text_verdict}
 use Rattle.ads_run.specs.declared.outcome.Outcome.{Outcome}
 use Rattle.ads_run.specs.declared.status.Status.TheVariants as status
-use Rattle.ads_run.specs.Verdict.{Verdict, ended, verdict_of_file}
+use Rattle.ads_run.specs.Verdict.{Verdict, ended, verdict_of_file, verdict_of_replay}
 use Rattle.ads_run.specs.Outcomes.{IsOutcome, Decides, HasBytes, IsLong, Finds}
-use Rattle.ads_run.specs.Readings.{Names, OverFile, OverFiles}
+use Rattle.ads_run.specs.Readings.{OverFile, OverFiles}
 
 bytes_itself : (xs : List ℕ) → bytes_eq xs xs ≡ true
 bytes_itself xs = let d = bytes_eq-Decides xs xs in d.1 refl
@@ -121,3 +123,18 @@ pub decided_first : (held : Option (List NamedFile)) (over : List NamedFile → 
     → Finds held name failed (Err o) → OverFiles held (λ first second. Decides (verdict_of_file (over second) (bytes_of first name)) failed o)
 decided_first None over name failed o h = let one = decided_none None (over []) name failed o h in (one.0, [], one.1)
 decided_first (Some files) over name failed o h = decided_none (Some files) (over files) name failed o h
+
+-- a fault behind a later count is one behind an earlier one
+rose_from : (old mid new : ℕ) → old ≤ mid → Rose mid new → Rose old new
+rose_from old mid new later rose = search rules
+
+-- what is decided of the script over a description that was read is decided of both files
+pub decided_replay : (held mid_held : Option (List NamedFile)) (waves : List Wave) (script name bytes text : List ℕ) (old mid new : ℕ) (o : Outcome)
+    → mid_held ≡ held → text ≡ bytes → old ≤ mid → OverFile held (HasBytes name bytes)
+    → OverFile mid_held (λ second. Decides (verdict_of_replay waves (bytes_of second script) (text_verdict (length waves) text)) (Rose mid new) o)
+    → OverFiles held (λ first second. Decides (verdict_of_file (λ bytes. verdict_of_replay waves (bytes_of second script) (text_verdict (length waves) bytes)) (bytes_of first name)) (Rose old new) o)
+decided_replay held mid_held waves script name bytes text old mid new o same is later has decided =
+    let over : List NamedFile → List ℕ → Verdict = λ second bytes. verdict_of_replay waves (bytes_of second script) (text_verdict (length waves) bytes) in
+    decided_both held over name bytes (Rose old new) (Rose mid new) o (rose_from old mid new later) has
+    (subst (λ (b : List ℕ). OverFile held (λ second. Decides (over second b) (Rose mid new) o)) is
+    (subst (λ (h : Option (List NamedFile)). OverFile h (λ second. Decides (over second text) (Rose mid new) o)) same decided))

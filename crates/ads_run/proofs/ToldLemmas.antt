@@ -1,21 +1,21 @@
 -- An accepted description can be told of.
-use Rattle.std.proofs.Common.{◌≡◌, ℕ, ◌<◌, ◌≤◌, true, false, Bool, List, [], ◌∷◌, length, map, refl, sym, ◌∙◌, subst}
-use Rattle.std.specs.Prelude.{Option, Some, None, slice_get, All, nat_le, nat_lt, ◌&&◌, IsTrue}
+use Rattle.std.proofs.Common.{◌≡◌, ℕ, ◌<◌, ◌≤◌, true, false, Bool, List, length, refl, sym, ◌∙◌, subst}
+use Rattle.std.specs.Prelude.{Option, Some, None, slice_get, All, nat_le, nat_lt, ◌&&◌}
 use Rattle.std.specs.Option.{option_map_or}
-use Rattle.std.specs.List.{list_all, AllPass, slice_index_or}
+use Rattle.std.specs.List.{list_all, slice_index_or}
 use Rattle.std.proofs.lemmas.Bool.{and_parts, leb-true, false≢true}
 use Rattle.std.proofs.lemmas.Option.{slice_get_within}
 use Rattle.std.proofs.lemmas.List.{length-map}
 use Rattle.std.proofs.lemmas.List.Folds.{list_all-map}
 use Rattle.std.proofs.lemmas.List.Sums.{AllPass-from_list_all}
 use Rattle.ads_plant.specs.Listed.{NamedType, Elem, Plain, Text, Struct, Enum, Shape, One, Array}
-use Rattle.ads_plant.specs.Description.{Symbol, Port, Sizes}
-use Rattle.ads_plant.specs.AcceptedTypes.{all_pairs, is_elem, is_shape, is_structure_at, is_enumeration_at, are_bounds}
+use Rattle.ads_plant.specs.Description.{Sizes}
+use Rattle.ads_plant.specs.AcceptedTypes.{all_pairs, is_elem, is_shape, are_bounds}
 use Rattle.ads_plant.specs.Accepted.{IsAccepted, are_facts, are_two_names, are_apart, is_symbol, is_port}
 use Rattle.type_layout.specs.Shapes.{shape_of}
 use Rattle.type_layout.specs.Spelled.{IsThere, NamesThere}
 use Rattle.type_layout.specs.NamedTypes.{types_of}
-use Rattle.type_layout.specs.Descriptions.{sizes_of, symbol_of, symbols_of, port_of, ports_of, description_of}
+use Rattle.type_layout.specs.Descriptions.{sizes_of, symbol_of, symbols_of, port_of, description_of}
 use Rattle.type_layout.specs.declared.port.PortDesc.{PortDesc}
 use Rattle.type_layout.specs.declared.port.SymbolDesc.{SymbolDesc}
 use Rattle.type_layout.specs.declared.description.Description.{Description}

@@ -1,5 +1,5 @@
 -- The waves of the signals that the program has, each at its beginning. This project's own choice.
-use Rattle.std.specs.Prelude.{ℕ, List, [], ◌∷◌, ◌++◌, replicate}
+use Rattle.std.specs.Prelude.{List, [], ◌∷◌, ◌++◌, replicate}
 use Rattle.std.specs.List.{range_with_len}
 use Rattle.signals.specs.Wave.{Wave}
 

@@ -4,7 +4,6 @@ use Rattle.signals.specs.Wave.{Wave}
 use Rattle.ads_outside.specs.declared.moves.Move.{Move}
 use Rattle.ads_plant.specs.Description.{Description}
 use Rattle.ads_plant.specs.World.{ByteName, byte_at}
-use Rattle.ads_machine.specs.Moves.{state_after_move}
 use Rattle.ads_machine.specs.Offers.{taken_of}
 use Rattle.ads_machine.specs.Turns.{KeepsTurns}
 use Rattle.ads_machine.specs.Projection.{projection_of}

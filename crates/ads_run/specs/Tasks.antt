@@ -1,5 +1,5 @@
 -- What the words ask for: a task with its files.
-use Rattle.std.specs.Prelude.{ℕ, List, [], ◌∷◌, Option, Some, None}
+use Rattle.std.specs.Prelude.{ℕ, List, Option, Some, None}
 use Rattle.cli_words.specs.declared.command.Command.{Command}
 use Rattle.cli_words.specs.declared.command.Command.TheVariants as command
 use Rattle.cli_words.specs.Commands.{command_of}

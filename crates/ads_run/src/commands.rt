@@ -1,7 +1,6 @@
 //! What the words and the files lead to.
 
-ghost use Rattle.std.specs.Prelude.{◌≡◌, ◌≢◌, ◌∷◌, [], map, length, string_bytes, IfOk, OnErr, None, Some};
-ghost use Rattle.signals.specs.Bank.{waves_of};
+ghost use Rattle.std.specs.Prelude.{◌<◌, ◌^◌, ◌≡◌, ◌≢◌, ◌∷◌, [], map, length, string_bytes, IfOk, OnErr, None, Some};
 ghost use Rattle.ads_outside.specs.FilesState.{ReadsAll, ReadsSome};
 ghost use Rattle.ads_outside.specs.Named.{bytes_of};
 ghost use Rattle.ads_outside.specs.Rose.{Rose};
@@ -21,24 +20,25 @@ use crate::task::{Task, task_asked};
 use ads_base::NoMemory;
 use ads_outside::Files;
 use cli_words::Text;
-use signals::{Bank, Signal};
+use server_core::Sources;
 use std::alloc::Global;
 use std::thread::Threads;
 
 /// What the words and the files lead to, with these signals. A file is read only where the words are a command.
-pub fn outcome_of<T: Threads + Sync, F: Files>(
+pub fn outcome_of<T: Threads + Sync, F: Files, G: Sources>(
     rt: &T,
     alloc: Global,
     words: &[String],
-    bank: Bank,
+    signals: G,
     files: &mut F,
 ) -> Result<Outcome, NoMemory>
+    requires few { length (G.waves signals) < 2 ^ 32 }
     ensures usage { IfOk result (λ o. o.status ≡ Status.Usage → asked_task (map string_bytes words.now) ≡ None) }
     ensures asked { IfOk result (λ o. asked_task (map string_bytes words.now) ≡ None
         → IsOutcome (verdict_ended Status.Usage) o) }
     ensures plain { IfOk result (λ o. IsOfRun o.status) }
     ensures decided { IfOk result (λ o. OverFiles (F.state files.old).held (λ first second.
-        Decides (verdict_of (waves_of (λ b. (⟦<dyn Signal as Signal>⟧ b.vtable).wave b.value) bank) (map string_bytes words.now) first second)
+        Decides (verdict_of (G.waves signals) (map string_bytes words.now) first second)
         (Rose (F.state files.old).faults (F.state files.new).faults) o)) }
     ensures unread { asked_task (map string_bytes words.now) ≡ None → files.new ≡ files.old }
     ensures reads { IfOk result (λ o. ReadsFiles (asked_task (map string_bytes words.now)) o.status (F.state files.old).names (F.state files.new).names) }
@@ -49,7 +49,7 @@ pub fn outcome_of<T: Threads + Sync, F: Files>(
 {
     match task_asked(alloc, words)? {
         Some(task) => {
-            let outcome = outcome_of_task(rt, alloc, &task, bank, files)?;
+            let outcome = outcome_of_task(rt, alloc, &task, signals, files)?;
             Ok(outcome)
         }
         None => {
@@ -60,16 +60,17 @@ pub fn outcome_of<T: Threads + Sync, F: Files>(
 }
 
 // The outcome of a task over its files.
-fn outcome_of_task<T: Threads + Sync, F: Files>(
+fn outcome_of_task<T: Threads + Sync, F: Files, G: Sources>(
     rt: &T,
     alloc: Global,
     task: &Task,
-    bank: Bank,
+    signals: G,
     files: &mut F,
 ) -> Result<Outcome, NoMemory>
+    requires few { length (G.waves signals) < 2 ^ 32 }
     ensures plain { IfOk result (λ o. IsOfReplay o.status) }
     ensures decided { IfOk result (λ o. OverFiles (F.state files.old).held (λ first second.
-        Decides (verdict_of_task (waves_of (λ b. (⟦<dyn Signal as Signal>⟧ b.vtable).wave b.value) bank) (Some task.now) first second)
+        Decides (verdict_of_task (G.waves signals) (Some task.now) first second)
         (Rose (F.state files.old).faults (F.state files.new).faults) o)) }
     ensures reads { IfOk result (λ o. ReadsFiles (Some task.now) o.status (F.state files.old).names (F.state files.new).names) }
     ensures reads_some { OnErr result (ReadsFiles (Some task.now) Status.Memory (F.state files.old).names (F.state files.new).names) }
@@ -78,26 +79,32 @@ fn outcome_of_task<T: Threads + Sync, F: Files>(
     ensures held { (F.state files.new).held ≡ (F.state files.old).held }
 {
     match task {
-        Task::Selftest { script } => selftest_file(rt, alloc, script, bank, files),
-        Task::Check { description } => check_file(alloc, description, bank.count(), files),
+        Task::Selftest { script } => selftest_file(rt, alloc, script, signals, files),
+        Task::Check { description } => check_file(
+            alloc,
+            description,
+            signals.count() as u32,
+            files,
+        ),
         Task::Replay {
             description,
             script,
-        } => replay(rt, alloc, description, script, bank, files),
+        } => replay(rt, alloc, description, script, signals, files),
     }
 }
 
 // `selftest` over its file.
 #[tactic(auto, using(crate::proofs::EndLemmas::some_of_one))]
-fn selftest_file<T: Threads + Sync, F: Files>(
+fn selftest_file<T: Threads + Sync, F: Files, G: Sources>(
     rt: &T,
     alloc: Global,
     script: &Text,
-    bank: Bank,
+    signals: G,
     files: &mut F,
 ) -> Result<Outcome, NoMemory>
+    requires few { length (G.waves signals) < 2 ^ 32 }
     ensures decided { IfOk result (λ o. OverFile (F.state files.old).held (λ held.
-        Decides (verdict_of_file (verdict_of_script built_in (waves_of (λ b. (⟦<dyn Signal as Signal>⟧ b.vtable).wave b.value) bank)) (bytes_of held script.now))
+        Decides (verdict_of_file (verdict_of_script built_in (G.waves signals)) (bytes_of held script.now))
         (Rose (F.state files.old).faults (F.state files.new).faults) o)) }
     ensures plain { IfOk result (λ o. IsOfReplay o.status) }
     ensures reads { IfOk result (λ o. ReadsAll (F.state files.old).names (F.state files.new).names (script.now ∷ [])) }
@@ -109,7 +116,7 @@ fn selftest_file<T: Threads + Sync, F: Files>(
     match bytes_of_file(alloc, files, script) {
         Err(e) => Err(e),
         Ok(Err(told)) => Ok(told),
-        Ok(Ok(bytes)) => match selftest(rt, alloc, bank, bytes.as_slice()) {
+        Ok(Ok(bytes)) => match selftest(rt, alloc, signals, bytes.as_slice()) {
             Err(e) => Err(e),
             Ok(outcome) => Ok(outcome),
         },

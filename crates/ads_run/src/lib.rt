@@ -25,3 +25,4 @@ pub use crate::program::status_of;
 pub use crate::program_signals::ProgramSignals;
 pub use crate::status::Status;
 pub use crate::top_call::run;
+pub use server_core::Sources;

@@ -1,29 +1,66 @@
-//! The play of a script: each event is given to the core, and each connection is then offered what waits for it.
+//! The play of a script on a description: what is printed of it.
 
-ghost use Rattle.std.specs.Prelude.{◌≡◌, IfOk, length};
-ghost use Rattle.signals.specs.Bank.{waves_of};
+ghost use Rattle.std.specs.Prelude.{◌≡◌, ◌<◌, ◌^◌, ◌++◌, [], IfOk, length};
 ghost use Rattle.ads_plant.specs.Accepted.{IsAccepted};
+ghost use Rattle.ads_machine.specs.LogText.{log_text_of};
+ghost use Rattle.ads_machine.specs.Summary.{summary_of};
+ghost use Rattle.ads_machine.specs.SummaryText.{summary_text_of};
 ghost use Rattle.type_layout.specs.Descriptions.{description_of};
 ghost use Rattle.ads_product.specs.Server.{server_text};
+ghost use Rattle.ads_served.specs.Standing.{Standing};
+ghost use Rattle.replay_script.specs.Fresh.{OpenNew};
+ghost use Rattle.replay_script.specs.Shown.{summary_from};
+ghost use Rattle.server_core.specs.Counts.{counts_in};
+ghost use Rattle.server_core.specs.Served.{World, Client};
+ghost use Rattle.server_core.specs.Serves.{StandsAt};
 
 use ads_base::{NoMemory, Octets};
-use replay_script::Script;
-use signals::{Bank, Signal};
+use ads_outside::Log;
+use replay_script::{Counts, Script, log_text, summary_text};
+use server_core::{Core, Sources, Summary};
 use std::alloc::Global;
 use std::thread::Threads;
 use type_layout::Description;
 
 /// The printed text of a script's play: its log, and the summary.
-pub fn play<T: Threads + Sync>(
-    _rt: &T,
-    _alloc: Global,
+pub fn play<T: Threads + Sync, G: Sources>(
+    rt: &T,
+    alloc: Global,
     description: Description,
-    bank: Bank,
+    signals: G,
     script: Script,
 ) -> Result<Octets, NoMemory>
-    requires { IsAccepted (description_of description) (length (waves_of (λ b. (⟦<dyn Signal as Signal>⟧ b.vtable).wave b.value) bank)) }
-    ensures { IfOk result (λ text. text ≡ server_text (description_of description) (waves_of (λ b. (⟦<dyn Signal as Signal>⟧ b.vtable).wave b.value) bank) script) }
+    requires new { OpenNew [] script }
+    requires few { length (G.waves signals) < 2 ^ 32 }
+    requires accepted { IsAccepted (description_of description) (length (G.waves signals)) }
+    ensures { IfOk result (λ text. text ≡ server_text (description_of description) (G.waves signals) script) }
 {
-    let _unused = (description, bank, script);
-    Err(NoMemory)
+    let mut core = Core::build(alloc, description, signals)?;
+    let log = replay_script::play(rt, alloc, &mut core, script)?;
+    let text = text_of(alloc, &core, &log)?;
+    Ok(text)
+}
+
+// The text of a log and of what it comes to.
+fn text_of<S: Sources>(alloc: Global, core: &Core<S>, log: &Log) -> Result<Octets, NoMemory>
+    ensures { IfOk result (λ text. (x : Standing World Client) → StandsAt core.now x
+        → text ≡ log_text_of x.notes log.now ++ summary_text_of (summary_of x.running.state)) }
+{
+    let mut text = Octets::new(alloc);
+    log_text(alloc, log, core.reload_notes(), &mut text)?;
+    summary_text(alloc, &counts_of(core.summary()), &mut text)?;
+    Ok(text)
+}
+
+fn counts_of(summary: Summary) -> Counts
+    ensures { summary_from result ≡ counts_in summary }
+{
+    Counts {
+        connections: summary.connections,
+        requests: summary.requests,
+        replies: summary.replies,
+        samples: summary.samples,
+        accepted: summary.accepted,
+        refused: summary.refused,
+    }
 }

@@ -1,7 +1,6 @@
 //! `replay`: a script is played on the description of a file.
 
-ghost use Rattle.std.specs.Prelude.{◌≡◌, ◌≤◌, ◌∷◌, [], IfOk, OnErr, length, Some};
-ghost use Rattle.signals.specs.Bank.{waves_of};
+ghost use Rattle.std.specs.Prelude.{◌<◌, ◌^◌, ◌≡◌, ◌≤◌, ◌∷◌, [], IfOk, OnErr, length, Some};
 ghost use Rattle.ads_outside.specs.FilesState.{ReadsAll, ReadsSome};
 ghost use Rattle.ads_outside.specs.Named.{bytes_of};
 ghost use Rattle.ads_outside.specs.Rose.{Rose};
@@ -21,23 +20,24 @@ use crate::status::Status;
 use ads_base::NoMemory;
 use ads_outside::Files;
 use cli_words::Text;
-use signals::{Bank, Signal};
+use server_core::Sources;
 use std::alloc::Global;
 use std::thread::Threads;
 use symbol_file::read;
 use type_layout::Description;
 
 /// The outcome of `replay` over its two files. The script is read only where the description is accepted.
-pub fn replay<T: Threads + Sync, F: Files>(
+pub fn replay<T: Threads + Sync, F: Files, G: Sources>(
     rt: &T,
     alloc: Global,
     description: &Text,
     script: &Text,
-    bank: Bank,
+    signals: G,
     files: &mut F,
 ) -> Result<Outcome, NoMemory>
+    requires few { length (G.waves signals) < 2 ^ 32 }
     ensures decided { IfOk result (λ o. OverFiles (F.state files.old).held (λ first second.
-        Decides (verdict_of_task (waves_of (λ b. (⟦<dyn Signal as Signal>⟧ b.vtable).wave b.value) bank) (Some (Task.Replay description.now script.now)) first second)
+        Decides (verdict_of_task (G.waves signals) (Some (Task.Replay description.now script.now)) first second)
         (Rose (F.state files.old).faults (F.state files.new).faults) o)) }
     ensures status { IfOk result (λ o. IsOfReplay o.status) }
     ensures reads { IfOk result (λ o. ReadsBoth o.status (F.state files.old).names (F.state files.new).names description.now script.now) }
@@ -48,7 +48,7 @@ pub fn replay<T: Threads + Sync, F: Files>(
 {
     match bytes_of_file(alloc, files, description)? {
         Ok(bytes) => {
-            let outcome = replay_text(rt, alloc, bytes.as_slice(), script, bank, files)?;
+            let outcome = replay_text(rt, alloc, bytes.as_slice(), script, signals, files)?;
             Ok(outcome)
         }
         Err(told) => Ok(told),
@@ -56,16 +56,17 @@ pub fn replay<T: Threads + Sync, F: Files>(
 }
 
 // The play over a description of these bytes.
-fn replay_text<T: Threads + Sync, F: Files>(
+fn replay_text<T: Threads + Sync, F: Files, G: Sources>(
     rt: &T,
     alloc: Global,
     bytes: &[u8],
     script: &Text,
-    bank: Bank,
+    signals: G,
     files: &mut F,
 ) -> Result<Outcome, NoMemory>
+    requires few { length (G.waves signals) < 2 ^ 32 }
     ensures decided { IfOk result (λ o. OverFile (F.state files.old).held (λ second.
-        Decides (verdict_of_replay (waves_of (λ b. (⟦<dyn Signal as Signal>⟧ b.vtable).wave b.value) bank) (bytes_of second script.now) (text_verdict (length (waves_of (λ b. (⟦<dyn Signal as Signal>⟧ b.vtable).wave b.value) bank)) bytes.now))
+        Decides (verdict_of_replay (G.waves signals) (bytes_of second script.now) (text_verdict (length (G.waves signals)) bytes.now))
         (Rose (F.state files.old).faults (F.state files.new).faults) o)) }
     ensures status { IfOk result (λ o. IsOfReplay o.status) }
     ensures reads { IfOk result (λ o. ReadsScript o.status (F.state files.old).names (F.state files.new).names script.now) }
@@ -75,9 +76,9 @@ fn replay_text<T: Threads + Sync, F: Files>(
         → Rose (F.state files.old).faults (F.state files.new).faults) }
     ensures held { (F.state files.new).held ≡ (F.state files.old).held }
 {
-    match read(alloc, bytes, bank.count()) {
+    match read(alloc, bytes, signals.count() as u32) {
         Err(e) => Err(e),
-        Ok(Ok(description)) => replay_file(rt, alloc, description, script, bank, files),
+        Ok(Ok(description)) => replay_file(rt, alloc, description, script, signals, files),
         Ok(Err(fault)) => match bad_description(alloc, fault) {
             Err(e) => Err(e),
             Ok(told) => Ok(told),
@@ -87,17 +88,18 @@ fn replay_text<T: Threads + Sync, F: Files>(
 
 // The play of a script's file over an accepted description.
 #[tactic(auto, using(crate::proofs::EndLemmas::some_of_one))]
-fn replay_file<T: Threads + Sync, F: Files>(
+fn replay_file<T: Threads + Sync, F: Files, G: Sources>(
     rt: &T,
     alloc: Global,
     description: Description,
     script: &Text,
-    bank: Bank,
+    signals: G,
     files: &mut F,
 ) -> Result<Outcome, NoMemory>
-    requires { IsAccepted (description_of description) (length (waves_of (λ b. (⟦<dyn Signal as Signal>⟧ b.vtable).wave b.value) bank)) }
+    requires few { length (G.waves signals) < 2 ^ 32 }
+    requires accepted { IsAccepted (description_of description) (length (G.waves signals)) }
     ensures decided { IfOk result (λ o. OverFile (F.state files.old).held (λ second.
-        Decides (verdict_of_file (verdict_of_script (description_of description) (waves_of (λ b. (⟦<dyn Signal as Signal>⟧ b.vtable).wave b.value) bank)) (bytes_of second script.now))
+        Decides (verdict_of_file (verdict_of_script (description_of description) (G.waves signals)) (bytes_of second script.now))
         (Rose (F.state files.old).faults (F.state files.new).faults) o)) }
     ensures status { IfOk result (λ o. IsOfScriptFile o.status) }
     ensures reads { IfOk result (λ o. ReadsAll (F.state files.old).names (F.state files.new).names (script.now ∷ [])) }
@@ -110,7 +112,13 @@ fn replay_file<T: Threads + Sync, F: Files>(
     match bytes_of_file(alloc, files, script) {
         Err(e) => Err(e),
         Ok(Err(told)) => Ok(told),
-        Ok(Ok(bytes)) => match outcome_of_script(rt, alloc, description, bank, bytes.as_slice()) {
+        Ok(Ok(bytes)) => match outcome_of_script(
+            rt,
+            alloc,
+            description,
+            signals,
+            bytes.as_slice(),
+        ) {
             Err(e) => Err(e),
             Ok(outcome) => Ok(outcome),
         },

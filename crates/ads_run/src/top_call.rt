@@ -1,6 +1,6 @@
 //! The top call: a command, from its words to its status.
 
-ghost use Rattle.std.specs.Prelude.{◌≡◌, ◌≤◌, length, List, ℕ, None, map, string_bytes};
+ghost use Rattle.std.specs.Prelude.{◌<◌, ◌^◌, ◌≡◌, ◌≤◌, length, List, ℕ, None, map, string_bytes};
 ghost use Rattle.ads_outside.specs.Rose.{Rose};
 ghost use Rattle.ads_plant.specs.Description as plant;
 ghost use Rattle.ads_machine.specs.ScriptLine.{ScriptLine};
@@ -15,7 +15,7 @@ use crate::ending::{end_without_memory, print_and_end};
 use crate::status::Status;
 use ads_base::NoMemory;
 use ads_outside::{Files, Sink};
-use signals::{Bank, Signal};
+use server_core::Sources;
 use std::alloc::Global;
 use std::thread::Threads;
 
@@ -34,19 +34,19 @@ use std::thread::Threads;
 /// | TooLong | a file has more than 16,777,216 bytes |
 ///
 /// Each status but Done, WriteFault and Memory prints its last line and nothing else.
-pub fn run<T: Threads + Sync, F: Files, S: Sink>(
+pub fn run<T: Threads + Sync, F: Files, S: Sink, G: Sources>(
     rt: &T,
     alloc: Global,
     words: &[String],
     files: &mut F,
     out: &mut S,
-    signals: Vec<Box<dyn Signal>>,
+    signals: G,
 ) -> Status
-    requires signals { length signals.items ≤ 4294967295 }
+    requires signals { length (G.waves signals) < 2 ^ 32 }
     // The status and all that is printed, by the bytes that the files hold and the waves of the signals; where the files
     // are not told, by some bytes at each reading.
     ensures ends { OverFiles (F.state files.old).held (λ first second.
-        EndsBy (verdict_of (map (λ b. (⟦<dyn Signal as Signal>⟧ b.vtable).wave b.value) signals.items) (map string_bytes words.now) first second)
+        EndsBy (verdict_of (G.waves signals) (map string_bytes words.now) first second)
         (Rose (F.state files.old).faults (F.state files.new).faults) result (S.state out.old) (S.state out.new)) }
 
     // The words: usage exactly where they are no command, want of memory and a failed writing aside.
@@ -65,9 +65,9 @@ pub fn run<T: Threads + Sync, F: Files, S: Sink>(
     ensures write_fault { result ≡ Status.WriteFault → Rose (S.state out.old).faults (S.state out.new).faults }
 
     // What the log of a played script promises, whose text is printed: over any description, with these signals.
-    ensures promises { (d : plant.Description) (lines : List ScriptLine) → PlayKeepsPromises d (map (λ b. (⟦<dyn Signal as Signal>⟧ b.vtable).wave b.value) signals.items) lines }
+    ensures promises { (d : plant.Description) (lines : List ScriptLine) → PlayKeepsPromises d (G.waves signals) lines }
 {
-    match outcome_of(rt, alloc, words, Bank::new(signals), files) {
+    match outcome_of(rt, alloc, words, signals, files) {
         Ok(outcome) => print_and_end(out, outcome.text.as_slice(), outcome.status),
         Err(NoMemory) => end_without_memory(out),
     }

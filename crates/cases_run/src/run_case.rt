@@ -42,14 +42,8 @@ pub fn run_case<T: Threads + Sync>(
     let status = if case.has_signals {
         run_with_signals(threads, alloc, words, &mut files, &mut sink)?
     } else {
-        run(
-            threads,
-            alloc,
-            words,
-            &mut files,
-            &mut sink,
-            Vec::new(alloc),
-        )
+        let none: Vec<Box<dyn Signal>> = Vec::new(alloc);
+        run(threads, alloc, words, &mut files, &mut sink, none)
     };
     let out = Octets::copy_of(alloc, sink.bytes())?;
     Ok(Came {

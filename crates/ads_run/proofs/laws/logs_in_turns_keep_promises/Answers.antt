@@ -2,4 +2,4 @@ use Rattle.ads_run.proofs.PromiseLemmas.{turns_keep_promises}
 use Rattle.ads_run.proofs.laws.logs_in_turns_keep_promises.Goals as goal
 
 pub returns : goal.returns
-returns g c = λ d waves log turns. turns_keep_promises d waves log turns
+returns c = λ d waves log turns. turns_keep_promises d waves log turns

@@ -1,6 +1,6 @@
--- A description that gives no bytes ends the run.
+-- A description that gives no bytes ends the run; one that was read is played over.
 use Rattle.ads_run.proofs.EndLemmas.{on_err, some_behind}
-use Rattle.ads_run.proofs.ReadingLemmas.{decided_first}
+use Rattle.ads_run.proofs.ReadingLemmas.{decided_first, decided_replay}
 use Rattle.ads_run.proofs.replay.replay.Goals as goal
 
 pub returns-in-Err-clause-decided : goal.returns-in-Err-clause-decided
@@ -13,3 +13,11 @@ returns-in_err-outcome-in-Ok-clause-reads_some g c =
     on_err c.from_residual-in_err-outcome-in-Ok.result
     (some_behind (g.F.Files.state c.args.files.now).names (g.F.Files.state c.bytes_of_file.new.files).names (g.F.Files.state c.replay_text.new.files).names
     c.args.description.now c.args.script.now c.in_ok-bytes.ensures.named c.in_err-outcome-in-Ok.ensures.reads_some)
+
+pub returns-in_ok-outcome-in-Ok-clause-decided : goal.returns-in_ok-outcome-in-Ok-clause-decided
+returns-in_ok-outcome-in-Ok-clause-decided g c =
+    decided_replay (g.F.Files.state c.args.files.now).held (g.F.Files.state c.bytes_of_file.new.files).held (g.G.Sources.waves c.args.signals)
+    c.args.script.now c.args.description.now c.in-Ok.bytes c.as_slice.result.now
+    (g.F.Files.state c.args.files.now).faults (g.F.Files.state c.bytes_of_file.new.files).faults (g.F.Files.state c.replay_text.new.files).faults
+    c.in_ok-outcome-in-Ok.outcome c.in_ok-bytes.ensures.held c.as_slice.ensures c.in_ok-bytes.ensures.later
+    (rw c.in-Ok.is at c.in_ok-bytes.ensures.finds) c.in_ok-outcome-in-Ok.ensures.decided

@@ -1,22 +1,19 @@
 -- The outcome is printed.
 use Rattle.std.proofs.Common.{map, inr, inl}
 use Rattle.std.specs.Prelude.{string_bytes}
-use Rattle.ads_run.specs.Verdict.{verdict_of}
 use Rattle.ads_run.specs.Tasks.{asked_task}
-use Rattle.ads_run.proofs.EndLemmas.{ends_as_decided, ends_without_memory, prints_outcome, reads_as_ended, same_waves}
+use Rattle.ads_run.proofs.EndLemmas.{ends_as_decided, ends_without_memory, prints_outcome, reads_as_ended}
 use Rattle.ads_run.proofs.PromiseLemmas.{play_keeps_promises}
 use Rattle.ads_run.proofs.top_call.run.Goals as goal
 
 pub returns-in-Ok-clause-ends : goal.returns-in-Ok-clause-ends
 returns-in-Ok-clause-ends g c =
     let held = (g.F.Files.state c.args.files.now).held in
-    let words = map string_bytes c.args.words.now in
     let o = c.in-Ok.outcome in
     let old = g.S.Sink.state c.args.out.now in
     let new = g.S.Sink.state c.print_and_end.new.out in
-    same_waves held _ _ words _ c.print_and_end.result old new c.new.ensures
-    (ends_as_decided held _ _ o c.print_and_end.result old new
-    (prints_outcome o c.as_slice.result.now c.print_and_end.result old new c.as_slice.ensures c.print_and_end.ensures) c.in-Ok.ensures.decided)
+    ends_as_decided held _ _ o c.print_and_end.result old new
+    (prints_outcome o c.as_slice.result.now c.print_and_end.result old new c.as_slice.ensures c.print_and_end.ensures) c.in-Ok.ensures.decided
 
 pub returns-in-Ok-clause-reads : goal.returns-in-Ok-clause-reads
 returns-in-Ok-clause-reads g c =
