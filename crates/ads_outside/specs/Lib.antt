@@ -12,3 +12,6 @@ pub mod Opened
 pub mod WireState
 pub mod WireAnswers
 pub mod MemWire
+pub mod LinkState
+pub mod LinkAnswers
+pub mod MemLink

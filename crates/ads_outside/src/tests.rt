@@ -1,6 +1,9 @@
 //! What no clause says: that calls succeed with ample memory.
 
-use crate::{Event, Files, Got, MemFiles, MemSink, NamedFile, NamedFiles, Put, Sink};
+use crate::{
+    Connected, Event, Files, Got, Link, LinkEvent, LinkEvents, MemFiles, MemLink, MemSink,
+    NamedFile, NamedFiles, Put, Received, Sent, Sink,
+};
 use ads_base::{Calls, Octets};
 use std::alloc::Global;
 use std::test::Fail;
@@ -90,5 +93,36 @@ fn a_sink_holds_what_was_put(rt: HostRuntime) -> Result<(), Fail> {
     assert_eq!(rt; sink.put(b" three"), Put::All);
     assert_eq!(rt; sink.bytes(), b"one two three".as_slice());
     assert_eq!(rt; sink.faults(), 1);
+    Ok(())
+}
+
+fn brings(link: &mut MemLink, expected: Received, bytes: &[u8]) -> bool {
+    let mut buf = [0u8; 4];
+    let answer = link.recv(&mut buf);
+    answer == expected && buf.starts_with(bytes)
+}
+
+#[test]
+fn a_link_gives_what_comes(rt: HostRuntime) -> Result<(), Fail> {
+    let alloc = rt.alloc();
+    let mut events = LinkEvents::new(alloc);
+    events.push(alloc, LinkEvent::Bytes(octets(alloc, b"abcdefg")?, 5))?;
+    events.push(alloc, LinkEvent::Quiet(7))?;
+    let mut link = MemLink::new(alloc, events, calls(alloc, &[1, 5])?);
+    assert_eq!(rt; link.connect("a:1"), Connected::Failed);
+    assert_eq!(rt; link.connect("a:1"), Connected::Ready(5));
+    assert_eq!(rt; link.send(b"one "), Sent::All);
+    assert!(rt; brings(&mut link, Received::Bytes(4, 5), b"abcd"));
+    assert_eq!(rt; link.send(b"lost"), Sent::Failed);
+    assert_eq!(rt; link.send(b"two"), Sent::All);
+    assert!(rt; brings(&mut link, Received::Bytes(3, 5), b"efg"));
+    assert!(rt; brings(&mut link, Received::Quiet(7), b""));
+    assert!(rt;
+        brings(&mut link, Received::Closed(7), b""),
+        "behind the last, it is closed"
+    );
+    assert_eq!(rt; link.sent(), b"one two".as_slice());
+    assert_eq!(rt; link.log().len(), 8);
+    assert_eq!(rt; link.faults(), 2);
     Ok(())
 }
