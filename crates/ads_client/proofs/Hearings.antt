@@ -11,7 +11,7 @@ use Rattle.ads_formats.specs.Notification.{Stamp}
 use Rattle.ads_formats.specs.NotificationReading.{notification_of}
 use Rattle.ads_formats.specs.Commands.{DEVICE_NOTIFICATION}
 use Rattle.ads_client.specs.Heard.{StampedSample, samples_of_stamps}
-use Rattle.ads_client.specs.Unanswered.{Unanswered, is_timed_out, is_timed_out_at, least_id, next_timeout, without, without_timeout}
+use Rattle.ads_client.specs.Unanswered.{Unanswered, is_outstanding_at, is_timed_out, is_timed_out_at, least_id, next_timeout, without_first}
 use Rattle.ads_client.specs.Client.{Client, packets_left}
 use Rattle.ads_client.specs.Hearing.{Hearing, broken_hearing, is_response, is_answer, is_off_its_text, response_hearing, samples_hearing, notification_hearing, header_hearing, packet_hearing, rest_hearing, with_one_taken, packets_hearing, hearing_of_samples, hearing_unless_broken, hearing_of_timeout, next_hearing, samples_in, hearings_left}
 use Rattle.ads_client.specs.Laws.{goes_on, HearingsFall}
@@ -33,17 +33,18 @@ abbrev timeouts_left : Client → ℕ
 timeouts_left c = timeouts_of c.unanswered
 
 -- an answer ends no timeout
-timeouts_without : (id : ℕ) (us : List Unanswered) → timeouts_of (without id us) ≡ timeouts_of us
-timeouts_without id [] = refl
-timeouts_without id (u ∷ us) = by_time u.timed_out (timeouts_without id us)
+timeouts_behind_answer : (id : ℕ) (us : List Unanswered) → timeouts_of (without_first (is_outstanding_at id) us) ≡ timeouts_of us
+unfolding without_first
+timeouts_behind_answer id [] = refl
+timeouts_behind_answer id (u ∷ us) = by_time u.timed_out (timeouts_behind_answer id us)
   where
-    by_time : (o : Option ℕ) → timeouts_of (without id us) ≡ timeouts_of us
-        → timeouts_of (without id (record u { timed_out = o } ∷ us)) ≡ timeouts_of (record u { timed_out = o } ∷ us)
+    by_time : (o : Option ℕ) → timeouts_of (without_first (is_outstanding_at id) us) ≡ timeouts_of us
+        → timeouts_of (without_first (is_outstanding_at id) (record u { timed_out = o } ∷ us)) ≡ timeouts_of (record u { timed_out = o } ∷ us)
     by_time None same = by_id (u.id == id) same
       where
-        by_id : (b : Bool) → timeouts_of (without id us) ≡ timeouts_of us
-            → timeouts_of (if not b then record u { timed_out = None } ∷ without id us else without id us) ≡ timeouts_of us
-        by_id true same = same
+        by_id : (b : Bool) → timeouts_of (without_first (is_outstanding_at id) us) ≡ timeouts_of us
+            → timeouts_of (if b then us else record u { timed_out = None } ∷ without_first (is_outstanding_at id) us) ≡ timeouts_of us
+        by_id true same = refl
         by_id false same = same
     by_time (Some now) same = ap suc same
 
@@ -66,7 +67,7 @@ kept_response c most h packet =
     let same : (client : Client) → client ≡ c → Unit {0} = λ client e. tt in
     either (Keeps c most) (is_answer c h) _ _
     (either (Keeps c most) (is_off_its_text h (payload_of packet)) _ _ (kept_broken c most _)
-    (record { timeouts = timeouts_without h.id c.unanswered; received = refl; taken = refl; samples = omega arith }))
+    (record { timeouts = timeouts_behind_answer h.id c.unanswered; received = refl; taken = refl; samples = omega arith }))
     (record { timeouts = refl; received = refl; taken = refl; samples = omega arith })
 
 kept_samples : (c : Client) (ss : List StampedSample) → KeepsIf c (length ss) (samples_hearing c ss)
@@ -151,7 +152,7 @@ unbroken_falls c (Some p) e = absurd (let h : false ≡ true = e in cc)
 -- a timeout that is found
 record IsFound (id : ℕ) (us : List Unanswered) (u : Unanswered) : Type 0 where
   same_id : u.id ≡ id
-  fewer : timeouts_of (without_timeout id us) + 1 ≡ timeouts_of us
+  fewer : timeouts_of (without_first (is_timed_out_at id) us) + 1 ≡ timeouts_of us
 
 abbrev no_request : Option Unanswered
 no_request = None
@@ -164,7 +165,7 @@ after_other false v us vs e = e
 
 found_here : (id : ℕ) (v : Unanswered) (vs : List Unanswered) (u : Unanswered) (b : Bool) → is_timed_out_at id v ≡ b
     → (find (is_timed_out_at id) vs ≡ Some u → IsFound id vs u) → find (is_timed_out_at id) (v ∷ vs) ≡ Some u → IsFound id (v ∷ vs) u
-unfolding without_timeout
+unfolding without_first
 found_here id v vs u true passes later e =
     let parts : (is_timed_out v ≡ true) × ((v.id == id) ≡ true) = and_parts (is_timed_out v) (v.id == id) passes in
     let here : Some v ≡ Some u = rw passes at e in
@@ -179,7 +180,7 @@ found_here id v vs u false other later e =
     let fewer = f.fewer in
     record {
       same_id = f.same_id;
-      fewer = rw other (after_other (is_timed_out v) v (without_timeout id vs) vs fewer);
+      fewer = rw other (after_other (is_timed_out v) v (without_first (is_timed_out_at id) vs) vs fewer);
     }
 
 found_timeout : (id : ℕ) (us : List Unanswered) (u : Unanswered) → find (is_timed_out_at id) us ≡ Some u → IsFound id us u
@@ -188,7 +189,7 @@ found_timeout id (v ∷ vs) u e = found_here id v vs u (is_timed_out_at id v) re
 
 -- the timeout that is told is one less
 told_timeout : (us : List Unanswered) (id : Option ℕ) (u : Unanswered) → option_and_then (λ least. find (is_timed_out_at least) us) id ≡ Some u
-    → timeouts_of (without_timeout u.id us) + 1 ≡ timeouts_of us
+    → timeouts_of (without_first (is_timed_out_at u.id) us) + 1 ≡ timeouts_of us
 told_timeout us None u e = absurd (let none : no_request ≡ Some u = e in cc)
 told_timeout us (Some id) u e = let f = found_timeout id us u e in rw f.same_id f.fewer
 

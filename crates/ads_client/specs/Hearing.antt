@@ -13,7 +13,7 @@ use Rattle.ads_formats.specs.Reply.{reply_of}
 use Rattle.ads_formats.specs.Commands.{DEVICE_NOTIFICATION}
 use Rattle.ads_client.specs.Heard.{Heard, Answered, Stray, TimedOut, NotYet, StampedSample, samples_of_stamps, heard_of_sample}
 use Rattle.ads_client.specs.Heard as heard
-use Rattle.ads_client.specs.Unanswered.{Unanswered, is_outstanding_at, is_timed_out, next_timeout, without, without_timeout}
+use Rattle.ads_client.specs.Unanswered.{Unanswered, is_outstanding_at, is_timed_out, is_timed_out_at, next_timeout, without_first}
 use Rattle.ads_client.specs.Client.{Client, packets_left}
 
 -- what is heard, and the client after it
@@ -45,7 +45,7 @@ is_off_its_text h payload = (h.error == no_error) && is_none (reply_of h.command
 abbrev pub answer_hearing : Client → AmsHeader → List ℕ → Hearing
 answer_hearing c h packet =
     if is_off_its_text h (payload_of packet) then broken_hearing c (peer.Text packet)
-    else hearing (Answered h.id h.error h.command (payload_of packet)) (record c { unanswered = without h.id c.unanswered })
+    else hearing (Answered h.id h.error h.command (payload_of packet)) (record c { unanswered = without_first (is_outstanding_at h.id) c.unanswered })
 
 abbrev pub response_hearing : Client → AmsHeader → List ℕ → Hearing
 response_hearing c h packet = if is_answer c h then answer_hearing c h packet else hearing (Stray h.id) c
@@ -98,7 +98,7 @@ hearing_unless_broken c None = hearing_of_samples c c.samples
 abbrev pub hearing_of_timeout : Client → Option Unanswered → Hearing
 hearing_of_timeout c None = hearing_unless_broken c c.broken
 hearing_of_timeout c (Some u) =
-    hearing (TimedOut u.id u.sent (unwrap_or u.timed_out 0)) (record c { unanswered = without_timeout u.id c.unanswered })
+    hearing (TimedOut u.id u.sent (unwrap_or u.timed_out 0)) (record c { unanswered = without_first (is_timed_out_at u.id) c.unanswered })
 
 -- timeouts come first, then what is broken, then the samples that are left, then the frames
 unfoldable pub next_hearing : Client → Hearing

@@ -52,9 +52,10 @@ unfoldable pub free_id : ℕ → List Unanswered → ℕ → ℕ
 free_id zero us id = id
 free_id (suc n) us id = if has_outstanding id us then free_id n us (id_after id) else id
 
--- the others, once the outstanding request of this id is answered
-abbrev pub without : ℕ → List Unanswered → List Unanswered
-without id us = filter (λ (u : Unanswered). not (is_outstanding_at id u)) us
+-- the others, without the first that passes a test
+unfoldable pub without_first : (Unanswered → Bool) → List Unanswered → List Unanswered
+without_first test [] = []
+without_first test (u ∷ us) = if test u then us else u ∷ without_first test us
 
 abbrev pub is_overdue : ℕ → Unanswered → Bool
 is_overdue now u = is_outstanding u && nat_le TIMEOUT (now - u.sent)
@@ -79,8 +80,3 @@ is_timed_out_at id u = is_timed_out u && (u.id == id)
 -- the timeout that is told next: that of the least id, and the first of these in the order of issue
 abbrev pub next_timeout : List Unanswered → Option Unanswered
 next_timeout us = option_and_then (λ id. find (is_timed_out_at id) us) (least_id us)
-
--- the others, once the first timeout of this id is told
-unfoldable pub without_timeout : ℕ → List Unanswered → List Unanswered
-without_timeout id [] = []
-without_timeout id (u ∷ us) = if is_timed_out_at id u then us else u ∷ without_timeout id us

@@ -3,3 +3,4 @@ pub mod QuoteLemmas
 mod Examples
 pub mod LawLemmas
 pub mod HexLemmas
+pub mod ValuesFound

@@ -1,7 +1,8 @@
 -- What holds of values and their texts whatever reads or writes them.
-use Rattle.std.specs.Prelude.{◌≡◌, ℕ, ◌-◌, ◌<◌, List, [], ◌∷◌, ◌++◌, length, take, drop, map, replicate, slice_index, ◌==◌, if◌then◌else◌}
+use Rattle.std.specs.Prelude.{◌≡◌, ℕ, ◌-◌, ◌<◌, List, [], ◌∷◌, ◌++◌, length, take, drop, map, replicate, slice_index, ◌==◌, ◌↔◌, Some, if◌then◌else◌}
 use Rattle.std.specs.Char.{to_ascii_lowercase}
 use Rattle.ads_frames.specs.Number.{AreBytes}
+use Rattle.ads_client.specs.ValueReading.{value_of_text}
 use Rattle.ads_formats.specs.ValueText.{ValueForm, Signed, Unsigned, Truth, Quoted, Hexadecimal, form_of, before_nul, value_text, IsValueOf}
 
 -- no text is read as two values
@@ -38,3 +39,8 @@ in_lower_case Hexadecimal text = take 3 text ++ map to_ascii_lowercase (drop 3 t
 -- the text of the value that a text is read as is the text again
 abbrev pub WrittenAgain : Type 0
 WrittenAgain = (id size : ℕ) (text value : List ℕ) → IsValueOf id size text value → value_text id value ≡ in_lower_case (form_of id size) text
+
+-- a value is found for a text exactly where the text is read as that value
+abbrev pub FindsValues : Type 0
+FindsValues = (id size : ℕ) (text value : List ℕ)
+    → (value_of_text id size text ≡ Some value) ↔ (AreBytes value × IsValueOf id size text value)

@@ -1,6 +1,6 @@
 //! Laws of values and their texts.
 
-ghost use Rattle.value_text.specs.Laws.{OneValue, ReadAgain, FullStringRefused, WrittenAgain};
+ghost use Rattle.value_text.specs.Laws.{OneValue, ReadAgain, FullStringRefused, WrittenAgain, FindsValues};
 
 /// No text is read as two values: with `to_text` and `from_text`, a number or hexadecimal digits come back as
 /// they were.
@@ -22,4 +22,9 @@ pub fn a_full_string_is_refused()
 /// The text of the value that was read is the text again; but hexadecimal digits come back in lower case.
 pub fn a_text_is_written_again()
     ensures { WrittenAgain }
+{}
+
+/// The client's definitions find a value for a text exactly where the text is read as that value.
+pub fn values_are_found()
+    ensures { FindsValues }
 {}
