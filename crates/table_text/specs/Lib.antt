@@ -1,0 +1,3 @@
+pub mod SetMember
+pub mod PlainTable
+pub mod TableText
