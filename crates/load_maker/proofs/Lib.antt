@@ -1,0 +1,5 @@
+pub mod Described
+pub mod LineTexts
+pub mod MadeRead
+pub mod LoadLemmas
+pub mod TableLemmas

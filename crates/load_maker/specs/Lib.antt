@@ -1,0 +1,3 @@
+pub mod MadeLines
+pub mod LoadScript
+pub mod LoadDescription

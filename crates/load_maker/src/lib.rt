@@ -1,0 +1,11 @@
+//! The input of `load`: a description and a script, as functions of a number.
+#![tactic(auto)]
+
+mod description;
+mod lines;
+mod load;
+mod requests;
+mod turns;
+mod watches;
+
+pub use load::{Load, make};

@@ -1,0 +1,107 @@
+//! The requests of a load, and the ticks behind each tenth.
+
+ghost use Rattle.std.specs.Prelude.{◌≡◌, ◌≤◌, ◌<◌, ◌+◌, ◌*◌, ◌/◌, ◌%◌, ◌==◌, ◌++◌, OnOk, if◌then◌else◌};
+ghost use Rattle.std.specs.Int.{w32, to_le_bytes};
+ghost use Rattle.ads_formats.specs.Request.{Read, Write};
+ghost use Rattle.load_maker.specs.MadeLines.{line_text, script_text};
+ghost use Rattle.load_maker.specs.LoadScript.{DATA, request_line, turn_request, tick_lines, turn_of, first_turns};
+
+use crate::lines::put_tick;
+use crate::requests::put_request_line;
+use ads_base::{NoMemory, Octets};
+use ads_commands::Request;
+use std::alloc::Global;
+
+/// Appends the lines of `n` requests, as the row of numbers says that begins with `n`.
+pub fn put_turns(alloc: Global, out: &mut Octets, n: u32) -> Result<(), NoMemory>
+    requires { n ≤ 100000 }
+    ensures { OnOk result (out.new ≡ out.old ++ script_text (first_turns n n)) }
+{
+    let mut x = u64::from(n);
+    for i in 0..n {
+        x = next_number(x);
+        put_turn(alloc, out, x, i + 1)?;
+    }
+    Ok(())
+}
+
+fn next_number(x: u64) -> u64
+    requires { x < 2147483648 }
+    ensures next { result ≡ (x * 1103515245 + 12345) % 2147483648 }
+    ensures small { result < 2147483648 }
+{
+    (x * 1_103_515_245 + 12_345) % 2_147_483_648
+}
+
+// The i-th request, whose number is x, and the tick behind it.
+fn put_turn(alloc: Global, out: &mut Octets, x: u64, i: u32) -> Result<(), NoMemory>
+    requires { i ≤ 100000 }
+    ensures { OnOk result (out.new ≡ out.old ++ script_text (turn_of x i)) }
+{
+    put_access(alloc, out, x, i)?;
+    put_tenth(alloc, out, i)?;
+    Ok(())
+}
+
+fn put_tenth(alloc: Global, out: &mut Octets, i: u32) -> Result<(), NoMemory>
+    requires { i ≤ 100000 }
+    ensures { OnOk result (out.new ≡ out.old ++ script_text (tick_lines i)) }
+{
+    if i % 10 == 0 {
+        put_tick(alloc, out, 100_000 * u64::from(i))
+    } else {
+        Ok(())
+    }
+}
+
+fn put_access(alloc: Global, out: &mut Octets, x: u64, i: u32) -> Result<(), NoMemory>
+    requires { i ≤ 100000 }
+    ensures { OnOk result (out.new ≡ out.old ++ line_text (request_line (x % 4 + 1) (10 + i) (turn_request x i))) }
+{
+    let client = (x % 4) as u8 + 1;
+    let symbol = (x / 4 % 100) as u32;
+    if x / 400 % 2 == 0 {
+        put_read(alloc, out, client, symbol, i)
+    } else {
+        put_write(alloc, out, client, symbol, i)
+    }
+}
+
+fn put_read(
+    alloc: Global,
+    out: &mut Octets,
+    client: u8,
+    symbol: u32,
+    i: u32,
+) -> Result<(), NoMemory>
+    requires few { symbol < 100 }
+    requires short { i ≤ 100000 }
+    ensures { OnOk result (out.new ≡ out.old ++ line_text (request_line client (10 + i) (Read DATA (4 * symbol) 4))) }
+{
+    let request = Request::Read {
+        group: 0x4040,
+        offset: 4 * symbol,
+        len: 4,
+    };
+    put_request_line(alloc, out, client, 10 + i, 2, &request)
+}
+
+fn put_write(
+    alloc: Global,
+    out: &mut Octets,
+    client: u8,
+    symbol: u32,
+    i: u32,
+) -> Result<(), NoMemory>
+    requires few { symbol < 100 }
+    requires short { i ≤ 100000 }
+    ensures { OnOk result (out.new ≡ out.old ++ line_text (request_line client (10 + i) (Write DATA (4 * symbol) (to_le_bytes w32 i)))) }
+{
+    let value = i.to_le_bytes();
+    let request = Request::Write {
+        group: 0x4040,
+        offset: 4 * symbol,
+        bytes: &value,
+    };
+    put_request_line(alloc, out, client, 10 + i, 3, &request)
+}
