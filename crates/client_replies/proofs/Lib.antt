@@ -1,0 +1,5 @@
+pub mod EntryLines
+pub mod ValueLemmas
+pub mod Answering
+pub mod Keeping
+pub mod SoundRunners

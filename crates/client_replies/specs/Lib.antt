@@ -1,0 +1,4 @@
+pub mod Kept
+pub mod Stages
+pub mod Parts
+pub mod Sound

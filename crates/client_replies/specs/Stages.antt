@@ -1,0 +1,73 @@
+-- Which call, stage, output and end of a call a kept value is.
+use Rattle.std.specs.Prelude.{ℕ, [], map}
+use Rattle.ads_client.specs.Calls as calls
+use Rattle.ads_client.specs.Printed.{ok_line}
+use Rattle.ads_client.specs.Stages as stages
+use Rattle.client_replies.specs.Kept.{entry_kept, request_kept}
+use Rattle.client_replies.specs.declared.call.Call.{Call}
+use Rattle.client_replies.specs.declared.call.Call.TheVariants as call
+use Rattle.client_replies.specs.declared.call.Mode2.{Mode2}
+use Rattle.client_replies.specs.declared.call.Mode2.TheVariants as mode
+use Rattle.client_replies.specs.declared.watching.Watching.{Watching}
+use Rattle.client_replies.specs.declared.stage.CallEnd.{CallEnd}
+use Rattle.client_replies.specs.declared.stage.CallEnd.TheVariants as end
+use Rattle.client_replies.specs.declared.stage.Output.{Output}
+use Rattle.client_replies.specs.declared.stage.Output.TheVariants as output
+use Rattle.client_replies.specs.declared.stage.Purpose.{Purpose}
+use Rattle.client_replies.specs.declared.stage.Purpose.TheVariants as purpose
+use Rattle.client_replies.specs.declared.stage.Stage.{Stage}
+use Rattle.client_replies.specs.declared.stage.Stage.TheVariants as stage
+use Rattle.client_replies.specs.declared.stage.Progress.{Progress}
+
+abbrev pub mode_meant : Mode2 → ℕ
+mode_meant mode.Cycle = calls.SERVER_CYCLE
+mode_meant mode.Change = calls.SERVER_ON_CHANGE
+
+abbrev pub watching_of : ℕ → ℕ → ℕ → calls.Watching
+watching_of m cycle count = record { mode = m; cycle = cycle; count = count }
+
+abbrev pub call_meant : Call → calls.Call
+call_meant call.Info = calls.Info
+call_meant call.State = calls.State
+call_meant (call.Control ads device) = calls.Control ads device
+call_meant (call.Get name) = calls.Get name
+call_meant (call.Set name text) = calls.Set name text
+call_meant call.List = calls.Symbols
+call_meant (call.Watch name m cycle count) = calls.Watch name (watching_of (mode_meant m) cycle count)
+
+abbrev pub watching_kept : Watching → calls.Watching
+watching_kept w = watching_of (mode_meant w.mode) w.cycle w.count
+
+abbrev pub end_meant : CallEnd → stages.CallEnd
+end_meant end.Done = stages.Done
+end_meant (end.Refused code) = stages.Refused code
+end_meant (end.BadPeer peer) = stages.BadPeer peer
+end_meant end.BadValue = stages.BadValue
+end_meant (end.TimedOut sent now) = stages.TimedOut sent now
+
+abbrev pub output_kept : Output → stages.Output
+output_kept (output.ToSend asked) = stages.ToSend (request_kept asked)
+output_kept (output.ToPrint text) = stages.ToPrint text
+
+abbrev pub purpose_kept : Purpose → stages.Purpose
+purpose_kept purpose.ToGet = stages.ToGet
+purpose_kept (purpose.ToSet text) = stages.ToSet text
+purpose_kept (purpose.ToWatch w) = stages.ToWatch (watching_kept w)
+
+abbrev pub stage_kept : Stage → stages.Stage
+stage_kept stage.AwaitsFacts = stages.AwaitsFacts
+stage_kept stage.AwaitsState = stages.AwaitsState
+stage_kept stage.AwaitsOk = stages.AwaitsLast ok_line
+stage_kept stage.AwaitsDeletion = stages.AwaitsLast []
+stage_kept (stage.AwaitsEntry p name) = stages.AwaitsEntry (purpose_kept p) name
+stage_kept (stage.AwaitsValue e) = stages.AwaitsValue (entry_kept e)
+stage_kept (stage.AwaitsHandle value) = stages.AwaitsHandle value
+stage_kept (stage.AwaitsWrite handle) = stages.AwaitsWrite handle
+stage_kept stage.AwaitsUploadInfo = stages.AwaitsUploadInfo
+stage_kept (stage.AwaitsUpload count) = stages.AwaitsUpload count
+stage_kept (stage.AwaitsNotification e w) = stages.AwaitsNotification (entry_kept e) (watching_kept w)
+stage_kept (stage.Watches e handle left) = stages.Watches (entry_kept e) handle left
+stage_kept (stage.Finished e) = stages.Finished (end_meant e)
+
+abbrev pub progress_kept : Progress → stages.Progress
+progress_kept p = stages.progress (stage_kept p.stage) (map output_kept p.outputs)

@@ -1,0 +1,187 @@
+//! The lines that client commands print.
+
+ghost use Rattle.std.specs.Prelude.{◌≡◌, ◌∷◌, ◌++◌, [], codes, IfOk, OnOk};
+ghost use Rattle.std.specs.Fmt.{decimal};
+ghost use Rattle.ads_formats.specs.ValueText.{before_nul, value_text};
+ghost use Rattle.ads_commands.specs.Reply.{facts_meant};
+ghost use Rattle.symbol_info.specs.Entry.{entry_meant};
+ghost use Rattle.ads_client.specs.Printed as printed;
+
+use ads_base::{NoMemory, Octets};
+use ads_commands::DeviceFacts;
+use std::alloc::Global;
+use symbol_info::Entry;
+use value_text::to_text;
+
+/// `name NAME version MAJOR.MINOR.BUILD`
+pub(crate) fn facts_line(alloc: Global, facts: &DeviceFacts) -> Result<Octets, NoMemory>
+    ensures { IfOk result (λ text. text ≡ printed.facts_line (facts_meant facts.now)) }
+{
+    let mut text = Octets::new(alloc);
+    text.put(alloc, b"name ")?;
+    put_name(alloc, &mut text, &facts.name)?;
+    text.put(alloc, b" version ")?;
+    put_version(alloc, &mut text, facts)?;
+    text.push(alloc, b'\n')?;
+    Ok(text)
+}
+
+// `MAJOR.MINOR.BUILD`
+fn put_version(alloc: Global, text: &mut Octets, facts: &DeviceFacts) -> Result<(), NoMemory>
+    ensures { OnOk result (text.new ≡ text.old ++ decimal facts.now.major ++ codes "." ++ decimal facts.now.minor
+        ++ codes "." ++ decimal facts.now.build) }
+{
+    put_decimal(alloc, text, u64::from(facts.major))?;
+    text.put(alloc, b".")?;
+    put_decimal(alloc, text, u64::from(facts.minor))?;
+    text.put(alloc, b".")?;
+    put_decimal(alloc, text, u64::from(facts.build))?;
+    Ok(())
+}
+
+/// `ads S device D`
+pub(crate) fn state_line(alloc: Global, ads: u16, device: u16) -> Result<Octets, NoMemory>
+    ensures { IfOk result (λ text. text ≡ printed.state_line ads device) }
+{
+    let mut text = Octets::new(alloc);
+    text.put(alloc, b"ads ")?;
+    put_decimal(alloc, &mut text, u64::from(ads))?;
+    text.put(alloc, b" device ")?;
+    put_decimal(alloc, &mut text, u64::from(device))?;
+    text.push(alloc, b'\n')?;
+    Ok(text)
+}
+
+/// `ok`
+pub(crate) fn ok_line(alloc: Global) -> Result<Octets, NoMemory>
+    ensures { IfOk result (λ text. text ≡ printed.ok_line) }
+{
+    let mut text = Octets::new(alloc);
+    text.put(alloc, b"ok\n")?;
+    Ok(text)
+}
+
+/// `ended`
+pub(crate) fn ended_line(alloc: Global) -> Result<Octets, NoMemory>
+    ensures { IfOk result (λ text. text ≡ printed.ended_line) }
+{
+    let mut text = Octets::new(alloc);
+    text.put(alloc, b"ended\n")?;
+    Ok(text)
+}
+
+/// Name, group, offset, size, flags and type of a symbol.
+pub(crate) fn entry_line(alloc: Global, entry: &Entry<'_>) -> Result<Octets, NoMemory>
+    ensures { IfOk result (λ text. text ≡ printed.entry_line (entry_meant entry.now)) }
+{
+    let mut text = Octets::new(alloc);
+    put_name(alloc, &mut text, entry.name)?;
+    text.push(alloc, b' ')?;
+    put_place(alloc, &mut text, entry)?;
+    text.push(alloc, b' ')?;
+    put_name(alloc, &mut text, entry.kind)?;
+    text.push(alloc, b'\n')?;
+    Ok(text)
+}
+
+// Group, offset, size and flags.
+fn put_place(alloc: Global, text: &mut Octets, entry: &Entry<'_>) -> Result<(), NoMemory>
+    ensures { OnOk result (text.new ≡ text.old ++ printed.hexadecimal entry.now.group ++ codes " " ++ decimal entry.now.offset
+        ++ codes " " ++ decimal entry.now.size ++ codes " " ++ printed.hexadecimal entry.now.flags) }
+{
+    put_hexadecimal(alloc, text, entry.group)?;
+    text.push(alloc, b' ')?;
+    put_decimal(alloc, text, u64::from(entry.offset))?;
+    text.push(alloc, b' ')?;
+    put_decimal(alloc, text, u64::from(entry.size))?;
+    text.push(alloc, b' ')?;
+    put_hexadecimal(alloc, text, entry.flags)?;
+    Ok(())
+}
+
+/// The text of a value.
+pub(crate) fn value_line(alloc: Global, type_id: u32, bytes: &[u8]) -> Result<Octets, NoMemory>
+    ensures { IfOk result (λ text. text ≡ printed.line (value_text type_id bytes.now)) }
+{
+    let mut text = Octets::new(alloc);
+    to_text(alloc, type_id, bytes, &mut text)?;
+    text.push(alloc, b'\n')?;
+    Ok(text)
+}
+
+/// A sample's moment, and the text of its value.
+pub(crate) fn sample_line(
+    alloc: Global,
+    time: u64,
+    type_id: u32,
+    bytes: &[u8],
+) -> Result<Octets, NoMemory>
+    ensures { IfOk result (λ text. text ≡ printed.sample_line time (value_text type_id bytes.now)) }
+{
+    let mut text = Octets::new(alloc);
+    put_decimal(alloc, &mut text, time)?;
+    text.push(alloc, b' ')?;
+    to_text(alloc, type_id, bytes, &mut text)?;
+    text.push(alloc, b'\n')?;
+    Ok(text)
+}
+
+// A name: its bytes before the first NUL.
+fn put_name(alloc: Global, text: &mut Octets, name: &[u8]) -> Result<(), NoMemory>
+    ensures { OnOk result (text.new ≡ text.old ++ printed.name_text name.now) }
+{
+    put_escaped(alloc, text, part_before_nul(name))
+}
+
+fn part_before_nul(bytes: &[u8]) -> &[u8]
+    ensures { result.now ≡ before_nul bytes.now }
+{
+    for i in 0..bytes.len() {
+        if bytes[i] == 0 {
+            return &bytes[..i];
+        }
+    }
+    bytes
+}
+
+/// Appends bytes, each that can't be printed as `\x` and two digits.
+#[tactic(auto, unfolding(ads_client::specs::Printed::escaped))]
+pub(crate) fn put_escaped(alloc: Global, text: &mut Octets, bytes: &[u8]) -> Result<(), NoMemory>
+    ensures { OnOk result (text.new ≡ text.old ++ printed.escaped bytes.now) }
+{
+    for byte in bytes {
+        put_escaped_byte(alloc, text, *byte)?;
+    }
+    Ok(())
+}
+
+fn put_escaped_byte(alloc: Global, text: &mut Octets, byte: u8) -> Result<(), NoMemory>
+    ensures { OnOk result (text.new ≡ text.old ++ printed.escaped_byte byte) }
+{
+    if 0x20 <= byte && byte <= 0x7E {
+        text.push(alloc, byte)?;
+        return Ok(());
+    }
+    let digits = hex::encode(alloc, &[byte])?;
+    text.put(alloc, b"\\x")?;
+    text.put(alloc, digits.as_bytes())?;
+    Ok(())
+}
+
+/// Appends a number in decimal digits.
+pub(crate) fn put_decimal(alloc: Global, text: &mut Octets, n: u64) -> Result<(), NoMemory>
+    ensures { OnOk result (text.new ≡ text.old ++ decimal n) }
+{
+    let digits = format!(in alloc; "{n}")?;
+    text.put(alloc, digits.as_bytes())?;
+    Ok(())
+}
+
+// `0x` and upper-case hexadecimal digits.
+fn put_hexadecimal(alloc: Global, text: &mut Octets, n: u32) -> Result<(), NoMemory>
+    ensures { OnOk result (text.new ≡ text.old ++ printed.hexadecimal n) }
+{
+    let digits = format!(in alloc; "0x{n:X}")?;
+    text.put(alloc, digits.as_bytes())?;
+    Ok(())
+}

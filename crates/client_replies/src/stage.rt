@@ -1,0 +1,104 @@
+//! Where a call stands, and what it gives to be done.
+
+use crate::own_entry::OwnEntry;
+use crate::watching::Watching;
+use ads_base::{ListOf, Octets, Peer};
+
+/// How a call ended. Moments count 100 ns from 1 January 1601.
+#[derive(Debug, Drop)]
+pub enum CallEnd {
+    Done,
+    /// An answer had this AMS error or, that being 0, this result.
+    Refused(u32),
+    /// The peer broke the protocol.
+    BadPeer(Peer),
+    /// The text is no value of the symbol.
+    BadValue,
+    /// No answer came: the moments of the request and of the tick by which it timed out.
+    TimedOut { sent: u64, now: u64 },
+}
+
+/// A request of a call, with its data.
+///
+/// Beckhoff Information System, "ADS Commands".
+#[derive(Debug, Drop)]
+pub enum Asked {
+    DeviceInfo,
+    State,
+    Control {
+        ads: u16,
+        device: u16,
+    },
+    Read {
+        group: u32,
+        offset: u32,
+        len: u32,
+    },
+    Write {
+        group: u32,
+        offset: u32,
+        bytes: Octets,
+    },
+    /// Samples without a delay.
+    Add {
+        group: u32,
+        offset: u32,
+        len: u32,
+        mode: u32,
+        cycle: u32,
+    },
+    Delete {
+        handle: u32,
+    },
+    ReadWrite {
+        group: u32,
+        offset: u32,
+        read_len: u32,
+        bytes: Octets,
+    },
+}
+
+/// What a call gives to be done.
+#[derive(Debug, Drop)]
+pub enum Output {
+    ToSend(Asked),
+    ToPrint(Octets),
+}
+
+/// What a symbol's entry is asked for.
+#[derive(Debug, Drop)]
+pub enum Purpose {
+    ToGet,
+    /// The value of this text is written.
+    ToSet(Octets),
+    ToWatch(Watching),
+}
+
+/// Where a call stands: what it waits for.
+#[derive(Debug, Drop)]
+pub enum Stage {
+    AwaitsFacts,
+    AwaitsState,
+    /// The answer to WriteControl, or to the release of a handle.
+    AwaitsOk,
+    /// The answer to DeleteDeviceNotification.
+    AwaitsDeletion,
+    AwaitsEntry(Purpose, Octets),
+    AwaitsValue(OwnEntry),
+    /// A handle, by which this value is written then.
+    AwaitsHandle(Octets),
+    AwaitsWrite(u32),
+    AwaitsUploadInfo,
+    AwaitsUpload(u32),
+    AwaitsNotification(OwnEntry, Watching),
+    /// So many samples of the notification with this handle.
+    Watches(OwnEntry, u32, u32),
+    Finished(CallEnd),
+}
+
+/// Where a call stands then, and what is to be done before anything more is heard.
+#[derive(Debug, Drop)]
+pub struct Progress {
+    pub stage: Stage,
+    pub outputs: ListOf<Output>,
+}
