@@ -12,8 +12,9 @@ use Rattle.ads_formats.specs.NotificationReading.{notification_of}
 use Rattle.ads_formats.specs.Commands.{DEVICE_NOTIFICATION}
 use Rattle.ads_client.specs.Heard.{StampedSample, samples_of_stamps}
 use Rattle.ads_client.specs.Unanswered.{Unanswered, is_outstanding_at, is_timed_out, is_timed_out_at, least_id, next_timeout, without_first}
+use Rattle.ads_client.specs.PassedOver.{is_response, says_something}
 use Rattle.ads_client.specs.Client.{Client, packets_left}
-use Rattle.ads_client.specs.Hearing.{Hearing, broken_hearing, is_response, is_answer, is_off_its_text, response_hearing, samples_hearing, notification_hearing, header_hearing, packet_hearing, rest_hearing, with_one_taken, packets_hearing, hearing_of_samples, hearing_unless_broken, hearing_of_timeout, next_hearing, samples_in, hearings_left}
+use Rattle.ads_client.specs.Hearing.{Hearing, broken_hearing, is_answer, is_off_its_text, response_hearing, samples_hearing, notification_hearing, header_hearing, packet_hearing, rest_hearing, with_one_taken, packets_hearing, hearing_of_samples, hearing_unless_broken, hearing_of_timeout, next_hearing, samples_in, hearings_left}
 use Rattle.ads_client.specs.Laws.{goes_on, HearingsFall}
 
 either : {X : Type 0} (P : X → Type 0) (b : Bool) (x y : X) → P x → P y → P (if b then x else y)
@@ -111,7 +112,7 @@ record HasLeft (c : Client) (packets : List (List ℕ)) : Type 0 where
 
 one_less : (c : Client) (packet : List ℕ) (packets : List (List ℕ)) → HasLeft c (packet ∷ packets) → HasLeft (with_one_taken c) packets
 one_less c packet packets l = record {
-  packets_are = rw add-one (drop-next c.taken (frames_of c.received) packets packet l.packets_are);
+  packets_are = rw add-one (drop-next c.taken (filter says_something (frames_of c.received)) packets packet l.packets_are);
   no_samples = l.no_samples;
 }
 

@@ -1,5 +1,5 @@
 -- A client of one device: what it issues, and what time and bytes do. Beckhoff Information System, "AMS Header".
-use Rattle.std.specs.Prelude.{ℕ, List, [], ◌∷◌, ◌++◌, length, map, drop, Bool, nat_le, Option, Some, None, if◌then◌else◌}
+use Rattle.std.specs.Prelude.{ℕ, List, [], ◌∷◌, ◌++◌, length, map, filter, drop, Bool, nat_le, Option, Some, None, if◌then◌else◌}
 use Rattle.ads_base.specs.declared.peer.Peer.{Peer}
 use Rattle.ads_frames.specs.Frame.{frame_bytes}
 use Rattle.ads_frames.specs.Division.{frames_of}
@@ -7,6 +7,7 @@ use Rattle.ads_formats.specs.Codes.{no_error}
 use Rattle.ads_formats.specs.Header.{AmsAddress, header_bytes, request_flags}
 use Rattle.ads_formats.specs.Request.{Request, command_of, request_bytes}
 use Rattle.ads_client.specs.Heard.{StampedSample}
+use Rattle.ads_client.specs.PassedOver.{says_something}
 use Rattle.ads_client.specs.Unanswered.{Unanswered, MAX_OUTSTANDING, outstanding_count, id_after, free_id, after_tick_of}
 
 pub record Client : Type 0 where
@@ -18,7 +19,7 @@ pub record Client : Type 0 where
   pub unanswered : List Unanswered
   -- all bytes that came
   pub received : List ℕ
-  -- how many of their frames were taken
+  -- how many of their frames that say something were taken
   pub taken : ℕ
   -- of the notification that was taken last, those not told yet
   pub samples : List StampedSample
@@ -87,6 +88,6 @@ client_after_feed c piece = record c { received = c.received ++ piece }
 unfoldable pub client_after_tick : Client → ℕ → Client
 client_after_tick c now = record c { unanswered = map (after_tick_of now) c.unanswered }
 
--- the AMS packets of the whole frames that are not taken yet
+-- the AMS packets that say something and are not taken yet
 abbrev pub packets_left : Client → List (List ℕ)
-packets_left c = drop c.taken (frames_of c.received)
+packets_left c = drop c.taken (filter says_something (frames_of c.received))

@@ -1,5 +1,5 @@
 -- What a client hears next. Beckhoff Information System, "AMS Header", "ADS Device Notification".
-use Rattle.std.specs.Prelude.{ℕ, ◌+◌, ◌%◌, List, [], ◌∷◌, length, take, Bool, not, ◌==◌, ◌&&◌, Option, Some, None, is_none, unwrap_or, sum_by, filter, if◌then◌else◌}
+use Rattle.std.specs.Prelude.{ℕ, ◌+◌, List, [], ◌∷◌, length, take, Bool, not, ◌==◌, ◌&&◌, Option, Some, None, is_none, unwrap_or, sum_by, filter, if◌then◌else◌}
 use Rattle.std.specs.List.{list_any}
 use Rattle.std.specs.Option.{option_map_or}
 use Rattle.ads_base.specs.declared.peer.Peer.{Peer}
@@ -14,6 +14,7 @@ use Rattle.ads_formats.specs.Commands.{DEVICE_NOTIFICATION}
 use Rattle.ads_client.specs.Heard.{Heard, Answered, Stray, TimedOut, NotYet, StampedSample, samples_of_stamps, heard_of_sample}
 use Rattle.ads_client.specs.Heard as heard
 use Rattle.ads_client.specs.Unanswered.{Unanswered, is_outstanding_at, is_timed_out, is_timed_out_at, next_timeout, without_first}
+use Rattle.ads_client.specs.PassedOver.{is_response}
 use Rattle.ads_client.specs.Client.{Client, packets_left}
 
 -- what is heard, and the client after it
@@ -27,10 +28,6 @@ hearing h c = record { heard = h; client = c }
 -- from then on it is broken
 abbrev pub broken_hearing : Client → Peer → Hearing
 broken_hearing c p = hearing (heard.Broken p) (record c { broken = Some p })
-
--- a response carries the flag 0x0001
-abbrev pub is_response : AmsHeader → Bool
-is_response h = (h.flags % 2) == 1
 
 -- a response answers an outstanding request of its id and its command, from the peer to the client
 abbrev pub is_answer : Client → AmsHeader → Bool

@@ -1,5 +1,6 @@
 pub mod Heard
 pub mod Unanswered
+pub mod PassedOver
 pub mod Client
 pub mod Hearing
 pub mod History
