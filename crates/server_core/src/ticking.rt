@@ -10,6 +10,7 @@ use crate::checking::check_all;
 use crate::gate::OpenGate;
 use crate::server::Server;
 use crate::sources::Sources;
+use crate::touched::Touched;
 use ads_base::NoMemory;
 use std::alloc::Global;
 use std::thread::Threads;
@@ -36,6 +37,7 @@ pub(crate) fn tick<T: Threads + Sync, S: Sources>(
 {
     signals.step_into(alloc, &mut server.device.ports);
     server.device.moment = later_of(server.device.moment, moment);
+    server.clients.touched = Touched::All;
     let levels = levels_for(server.clients.sessions.len());
     check_all(
         rt,
