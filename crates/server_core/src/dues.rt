@@ -68,12 +68,7 @@ impl Clients {
     }
 
     // The number of the connection at a place, where it is to be served.
-    fn put_due(
-        &self,
-        alloc: Global,
-        i: usize,
-        numbers: &mut ListOf<u32>,
-    ) -> Result<(), NoMemory>
+    fn put_due(&self, alloc: Global, i: usize, numbers: &mut ListOf<u32>) -> Result<(), NoMemory>
         ensures { OnOk result (numbers.new ≡ numbers.old ++ number_if (due_at self.now.sessions.items self.now.waiting.entries i)
             (slice_get self.now.waiting.entries i)) }
     {

@@ -8,10 +8,7 @@ ghost use Rattle.server_core.specs.Touched.{IsOutside};
 pub(crate) enum Touched {
     Nothing,
     /// Those from the first to the last of these places.
-    Stretch {
-        first: usize,
-        last: usize,
-    },
+    Stretch { first: usize, last: usize },
     All,
 }
 
