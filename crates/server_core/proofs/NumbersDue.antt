@@ -1,5 +1,5 @@
 -- The numbers of the connections that are to be served, in the code and in the machine.
-use Rattle.std.proofs.Common.{◌≡◌, ℕ, zero, suc, ◌+◌, ◌<◌, ◌≤◌, List, [], ◌∷◌, ◌++◌, length, take, get_or, Bool, true, false, not, cond, refl, sym, ap, ◌∙◌, subst, inl, inr, add-one, arith}
+use Rattle.std.proofs.Common.{◌≡◌, ℕ, zero, suc, ◌+◌, ◌-◌, ◌<◌, ◌≤◌, List, [], ◌∷◌, ◌++◌, length, take, get_or, Bool, true, false, not, cond, refl, sym, ap, ◌∙◌, subst, inl, inr, zero-add, add-one, arith}
 use Rattle.std.specs.Prelude.{◌||◌, ◌&&◌, filter, is_some, slice_get, Option, Some, None}
 use Rattle.std.specs.Option.{option_map}
 use Rattle.std.specs.Map.{keys_of}
@@ -40,10 +40,13 @@ none_before ts es (suc n) idle =
     ∙ no_number (due_at ts es n) (slice_get es n) (idle n (omega arith))
 
 -- the last have no number
+suc_before : (j n : ℕ) → suc j + n ≡ suc (j + n)
+suc_before j n = omega arith
+
 same_numbers : (ts : List Turned) (es : List (ℕ × Waiting)) (n j : ℕ) → ((k : ℕ) → n ≤ k → number_if (due_at ts es k) (slice_get es k) ≡ []) → numbers_due ts es (j + n) ≡ numbers_due ts es n
-same_numbers ts es n zero none = ap (λ m. numbers_due ts es m) (omega arith)
+same_numbers ts es n zero none = ap (λ m. numbers_due ts es m) (zero-add n)
 same_numbers ts es n (suc j) none =
-    ap (λ m. numbers_due ts es m) (let e : suc j + n ≡ suc (j + n) = omega arith in e)
+    ap (λ m. numbers_due ts es m) (suc_before j n)
     ∙ ap (λ ns. numbers_due ts es (j + n) ++ ns) (none (j + n) (omega arith)) ∙ append-nil (numbers_due ts es (j + n)) ∙ same_numbers ts es n j none
 
 same_up_to : (ts : List Turned) (es : List (ℕ × Waiting)) (n m : ℕ) → n ≤ m → ((k : ℕ) → n ≤ k → number_if (due_at ts es k) (slice_get es k) ≡ []) → numbers_due ts es m ≡ numbers_due ts es n

@@ -1,21 +1,15 @@
 -- Which connections are idle while one is touched, opened or gone.
-use Rattle.std.proofs.Common.{◌≡◌, ◌≢◌, ◌⊎◌, ℕ, zero, suc, ◌+◌, ◌<◌, ◌≤◌, min, max, List, [], ◌∷◌, ◌++◌, length, set, take, drop, Bool, true, false, refl, sym, ap, ◌∙◌, subst, inl, inr, add-one, arith}
-use Rattle.std.specs.Prelude.{◌||◌, remove, slice_get, Option, Some, None}
+use Rattle.std.proofs.Common.{◌≡◌, ◌≢◌, ℕ, zero, suc, ◌+◌, ◌<◌, ◌≤◌, List, [], ◌∷◌, ◌++◌, length, set, take, drop, Bool, true, false, cond, refl, sym, ap, ◌∙◌, subst, inl, inr, nat_eq, add-one, arith}
+use Rattle.std.specs.Prelude.{◌||◌, is_some, remove, slice_get, Option, Some, None, Result, Ok, Err, OnOk, OnErr}
 use Rattle.std.proofs.lemmas.Bool.{cases_lt}
-use Rattle.indexmap.specs.IndexMap.{set_value_at}
+use Rattle.indexmap.specs.IndexMap.{set_value_at, insert_entry}
+use Rattle.out_queue.specs.Queue.{front_of}
 use Rattle.server_core.specs.declared.touched.Touched.{Touched}
 use Rattle.server_core.specs.declared.turned.Turned.{Turned}
 use Rattle.server_core.specs.declared.waiting.Waiting.{Waiting}
+use Rattle.server_core.specs.Entries.{IsNothing, IsNoEntry}
+use Rattle.server_core.proofs.EntryLemmas.{entry_added}
 use Rattle.server_core.specs.Touched.{IsOutside, OthersIdle, due_at, test_in, is_closing, is_offered, is_entry_offered}
-
--- what is outside once one more place is touched
-pub outside_one : (i k : ℕ) → (k < i) ⊎ (i < k) → k ≢ i
-outside_one i k (inl below) same = absurd (omega arith)
-outside_one i k (inr above) same = absurd (omega arith)
-
-pub outside_more : (first last i k : ℕ) → (k < min first i) ⊎ (max last i < k) → ((k < first) ⊎ (last < k)) × (k ≢ i)
-outside_more first last i k (inl below) = (inl (omega arith), λ same. absurd (omega arith))
-outside_more first last i k (inr above) = (inr (omega arith), λ same. absurd (omega arith))
 
 -- two tests, neither of which holds
 first_fails : (a b : Bool) → (a || b) ≡ false → a ≡ false
@@ -105,8 +99,20 @@ idle_removed old new ts es i idle before behind k outside = elim (cases_lt k i) 
 ]
 
 -- nothing is taken out behind the end
-pub remove_past : {X : Type 0} (xs : List X) (i : ℕ) → length xs ≤ i → remove xs i ≡ xs
+pub remove_past : {X : Type 0} (xs : List X) (i : ℕ) → length xs ≤ i → xs ≡ remove xs i
 remove_past [] zero past = refl
 remove_past [] (suc i) past = refl
 remove_past (x ∷ xs) zero past = absurd (omega (arith, past))
 remove_past (x ∷ xs) (suc i) past = ap (λ ys. x ∷ ys) (remove_past xs i (omega (arith, past)))
+
+-- nothing is offered where nothing waits
+pub nothing_offered : (w : Waiting) → IsNothing w → is_offered w ≡ false
+nothing_offered w none =
+    ap (λ b. is_some (cond b None (front_of w.out))) none.free ∙ ap (λ fs. is_some (cond false None (front_of fs))) none.out
+
+-- one that is put in where its number is not there, or is not, for want of memory
+pub idle_inserted : {A E : Type 0} (r : Result A E) (touched : Touched) (ts : List Turned) (old new : List (ℕ × Waiting)) (n : ℕ) (w : Waiting) → OnOk r (new ≡ insert_entry nat_eq old n w) → OnErr r (new ≡ old)
+    → IsNoEntry old n → is_offered w ≡ false → OthersIdle touched ts old → OthersIdle touched ts new
+idle_inserted (Ok a) touched ts old new n w put kept none quiet idle =
+    subst (λ (es : List (ℕ × Waiting)). OthersIdle touched ts es) (sym (put ∙ entry_added old n w none)) (idle_entry touched ts old n w quiet idle)
+idle_inserted (Err e) touched ts old new n w put kept none quiet idle = subst (λ (es : List (ℕ × Waiting)). OthersIdle touched ts es) (sym kept) idle

@@ -1,6 +1,6 @@
 //! The connections that are there, found by their numbers.
 
-ghost use Rattle.std.specs.Prelude.{◌≡◌, ◌<◌, [], length, slice_get, option_map, IfOk, OnOk, IfSome, IfNone};
+ghost use Rattle.std.specs.Prelude.{◌≡◌, ◌<◌, [], length, remove, slice_get, option_map, IfOk, OnOk, IfSome, IfNone};
 ghost use Rattle.indexmap.specs.IndexMap.{keys};
 ghost use Rattle.server_core.specs.Touched.{OthersIdle};
 
@@ -81,9 +81,17 @@ impl Clients {
         ensures { Ends i self.old self.new }
     {
         let _ = self.waiting.shift_remove_index(i);
-        if i < self.sessions.len() {
-            let _ = self.sessions.remove(i);
-        }
+        remove_session(&mut self.sessions, i);
         self.touched = self.touched.without(i);
+    }
+}
+
+// The session at a place is gone, if one is there.
+#[tactic(auto, using(crate::proofs::TouchedLemmas::remove_past))]
+fn remove_session(sessions: &mut Vec<Turned>, i: usize)
+    ensures { sessions.new.items ≡ remove sessions.old.items i }
+{
+    if i < sessions.len() {
+        let _ = sessions.remove(i);
     }
 }

@@ -98,7 +98,7 @@ impl Clients {
 }
 
 fn is_closed(turned: Option<&Turned>) -> bool
-    ensures { result ≡ test_in is_closing (option_copied turned) }
+    ensures { result ≡ test_in is_closing (option_copied turned.entry) }
 {
     match turned {
         Some(turned) => turned.skip,

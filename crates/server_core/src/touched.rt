@@ -1,6 +1,6 @@
 //! Which connections an event touched.
 
-ghost use Rattle.std.specs.Prelude.{◌≡◌, ◌≢◌, ◌+◌, ◌<◌, ◌≤◌, ℕ, ◌×◌};
+ghost use Rattle.std.specs.Prelude.{◌≡◌, ◌≢◌, ◌+◌, ◌<◌, ◌≤◌, ◌⊎◌, ℕ};
 ghost use Rattle.server_core.specs.Touched.{IsOutside};
 
 /// The places of connections that may have something to be offered, or are to be shut. All others are idle.

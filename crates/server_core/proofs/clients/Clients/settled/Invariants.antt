@@ -1,6 +1,6 @@
 use Rattle.std.proofs.Common.{◌≡◌, ℕ, ◌<◌, false}
 use Rattle.server_core.specs.Touched.{due_at}
-use Rattle.server_core.proofs.dues.Clients.settled.Given as goal
+use Rattle.server_core.proofs.clients.Clients.settled.Given as goal
 
 -- those so far are idle
 abbrev pub invariant-loop-i : goal.invariant-loop-i
