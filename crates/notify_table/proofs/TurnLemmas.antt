@@ -1,9 +1,10 @@
 -- Turns that are due stand in front of the others.
 use Rattle.std.proofs.Common.{◌≡◌, ℕ, ◌+◌, ◌<◌, ◌≤◌, ◌++◌, [], ◌∷◌, map, List, length, take, drop, get_or, false, sym}
-use Rattle.std.proofs.Common.{ap, ◌∙◌, arith}
+use Rattle.std.proofs.Common.{ap, ◌∙◌, arith, true, inl, inr}
 use Rattle.std.specs.List.{All, filter}
-use Rattle.std.proofs.lemmas.Bool.{lt-leb, leb-false}
-use Rattle.std.proofs.lemmas.List.{append-nil, get_or_default, map_more, get_or-drop, length-drop, length-take-le}
+use Rattle.std.specs.List.Sorted.{IsPartitionedBy, IsPartitionPoint}
+use Rattle.std.proofs.lemmas.Bool.{cases_lt, lt-leb, le-leb, leb-true, leb-false}
+use Rattle.std.proofs.lemmas.List.{append-nil, get_or_default, map_more, get_or-drop, get_or-take, length-drop, length-take-le}
 use Rattle.std.proofs.lemmas.List.{length-append, drop_all}
 use Rattle.std.proofs.lemmas.List.Elements.{All-get_or}
 use Rattle.notify_table.proofs.Filtered.{filter_none, filter_behind}
@@ -43,6 +44,30 @@ pub due_all : (now : ℕ) (turns : List Turn) (i : ℕ) → length turns ≤ i �
 due_all now turns i past due =
     filter_behind (is_turn_due now) turns i due
     ∙ rw (drop_all i turns past) (append-nil (take i turns))
+
+-- a turn before one that is due is due
+pub due_parted : (now : ℕ) (turns : List Turn) → AreInTurn turns → IsPartitionedBy (is_turn_due now) turns
+due_parted now turns in_turn i j d before within due =
+    let rank = in_turn.rise i j d before within in
+    let handle = All-get_or HasHandle turns j d within in_turn.handles in
+    let now_due = leb-true _ _ due in
+    le-leb _ _ (omega arith)
+
+-- those that are due end at this place
+pub due_until : (now : ℕ) (turns : List Turn) (i : ℕ) (d : Turn) → AreInTurn turns → i ≤ length turns
+    → IsPartitionPoint (λ t. is_turn_due now t ≡ true) (λ t. is_turn_due now t ≡ false) turns i
+    → i ≡ length (filter (is_turn_due now) turns)
+due_until now turns i d in_turn within point = elim (cases_lt i (length turns)) [
+  | inl inside ↦ sym (length-take-le i turns within)
+      ∙ sym (ap (λ (ts : List Turn). length ts) (due_before now turns i d in_turn inside due (point.1 i d (omega arith) inside)))
+  | inr past ↦ sym (length-take-le i turns within) ∙ sym (ap (λ (ts : List Turn). length ts) (due_all now turns i past due))
+]
+  where
+    due : AllDue now (take i turns)
+    due k e below =
+        let short = length-take-le i turns within in
+        let first : k < i = omega (arith, short, below) in
+        rw (get_or-take i turns k e first) (point.0 k e (omega arith) first)
 
 -- the handle of one more turn
 pub handles_more : (turns : List Turn) (i : ℕ) (d : Turn) (handles : List ℕ) → i < length turns

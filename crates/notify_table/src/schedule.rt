@@ -12,7 +12,7 @@ ghost use Rattle.notify_table.specs.Schedules.{watch_under, watch_at, nth_watch,
 ghost use Rattle.notify_table.specs.Reloads.{range_after, is_ended, end_of, ended_meant};
 
 use crate::record::Record;
-use crate::turn::{Turn, due_turns, put_turn};
+use crate::turn::{Turn, count_due, due_turns, put_turn};
 use crate::{Ended, Spec};
 use ads_base::{NoMemory, Steps};
 use index_groups::Reach;
@@ -132,6 +132,13 @@ impl Schedule {
         ensures counted { OnOk result (steps.old + length (map handle_of (filter (λ w. is_due now w) self.now)) ≤ steps.new) }
     {
         due_turns(alloc, &self.turns, now, steps)
+    }
+
+    // How many notifications are due.
+    pub fn count_due(&self, now: u64) -> usize
+        ensures { result ≡ length (map handle_of (filter (λ w. is_due now w) self.now)) }
+    {
+        count_due(&self.turns, now)
     }
 
     // The handles of the notifications that a reload ends, in the order of their turns.

@@ -71,6 +71,15 @@ pub(crate) fn due_turns<L: Ledger>(
     Ok(handles)
 }
 
+// How many turns are due: they stand in front, so the place behind the last is found by halving.
+pub(crate) fn count_due(turns: &[Turn], now: u64) -> usize
+    requires { AreInTurn turns.now }
+    ensures { result ≡ length (filter (is_turn_due now) turns.now) }
+{
+    let now = u128::from(now);
+    turns.partition_point(|turn| turn.next <= now)
+}
+
 fn is_due<L: Ledger>(turn: &Turn, now: u64, steps: &mut Steps<L>) -> bool
     ensures value { result ≡ is_turn_due now turn.now }
     ensures step { steps.new ≡ steps.old + 1 }

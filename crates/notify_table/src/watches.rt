@@ -131,6 +131,13 @@ impl Watches {
         Ok(Handles32::from_vec(handles))
     }
 
+    /// How many notifications are due at a moment. None is looked at but by halving.
+    pub fn count_due(&self, now: u64) -> usize
+        ensures { result ≡ length (due_handles now self.now) }
+    {
+        self.schedule.count_due(now)
+    }
+
     /// Checks a due notification whose bytes are these: whether a sample is to be sent. The moment is kept, and the
     /// bytes where they are sent. The others that are due stay so.
     pub fn checked(&mut self, handle: u32, now: u64, bytes: &[u8]) -> bool
@@ -153,6 +160,7 @@ impl Watches {
         ensures ended { IfOk result (λ ended. map ended_meant ended
             ≡ map end_of (ended_watches (range_after m.now) self.old.watches)) }
         ensures watches { OnOk result (self.new ≡ table_after self.old (Reloaded (range_after m.now))) }
+        ensures table { IsTable self.old }
         ensures no_memory { OnErr result (self.new ≡ self.old) }
     {
         let ended = self.ended(alloc, m)?;

@@ -4,7 +4,6 @@ ghost use Rattle.std.specs.List.{concat};
 ghost use Rattle.out_queue.specs.Queue.{QUEUE_LIMIT, queued, front_of, FitsFront, frames_after};
 
 use ads_base::{NoMemory, Octets};
-use bytes::{Buf, Bytes};
 use std::alloc::Global;
 use std::collections::VecDeque;
 use std::marker::Model;
@@ -24,19 +23,23 @@ pub enum Pushed {
 /// The frames that wait for one connection, which contracts see as the list of what is left of them.
 #[derive(Drop)]
 pub struct OutQueue {
-    frames: VecDeque<Bytes>,
+    frames: VecDeque<Octets>,
+    // How many bytes of the first frame were taken.
+    taken: usize,
+    // How many bytes wait.
     bytes: usize,
 }
 
 impl Model for OutQueue {
     ghost use Rattle.std.specs.Prelude.{◌≡◌, ◌≤◌, ℕ, List};
     ghost use Rattle.out_queue.specs.Queue.{QUEUE_LIMIT, queued};
+    ghost use Rattle.out_queue.specs.Kept.{left_of, IsTaken};
 
     ghost Value = { List (List ℕ) };
 
-    ghost view = { λ q. q.frames.items };
+    ghost view = { λ q. left_of q.taken q.frames.items };
 
-    ghost invariant = { λ q. (q.bytes ≡ queued q.frames.items) × (q.bytes ≤ QUEUE_LIMIT) };
+    ghost invariant = { λ q. IsTaken q.taken q.frames.items × (q.bytes ≡ queued (left_of q.taken q.frames.items)) × (q.bytes ≤ QUEUE_LIMIT) };
 }
 
 impl OutQueue {
@@ -46,6 +49,7 @@ impl OutQueue {
     {
         Ok(OutQueue {
             frames: VecDeque::new(alloc),
+            taken: 0,
             bytes: 0,
         })
     }
@@ -61,7 +65,7 @@ impl OutQueue {
         if frame.len() > MAX_QUEUED - self.bytes {
             return Ok(Pushed::Over);
         }
-        let copy = Bytes::copy_from_slice(alloc, frame)?;
+        let copy = Octets::copy_of(alloc, frame)?;
         self.frames.push_back(copy)?;
         self.bytes += frame.len();
         Ok(Pushed::Done)
@@ -79,8 +83,7 @@ impl OutQueue {
         if len > MAX_QUEUED - self.bytes {
             return Ok(Pushed::Over);
         }
-        let bytes = Bytes::from_vec(frame.into_vec())?;
-        self.frames.push_back(bytes)?;
+        self.frames.push_back(frame)?;
         self.bytes += len;
         Ok(Pushed::Done)
     }
@@ -91,7 +94,8 @@ impl OutQueue {
         ensures first { IfSome result (λ left. front_of self.now ≡ Some left.now) }
         ensures bound { IfSome result (λ left. length left.now ≤ QUEUE_LIMIT) }
     {
-        Some(self.frames.front()?.as_slice())
+        let frame = self.frames.front()?;
+        Some(&frame.as_slice()[self.taken..])
     }
 
     /// Takes bytes of the first frame, which is gone once it is taken whole. No other byte moves.
@@ -101,16 +105,17 @@ impl OutQueue {
         ensures less { queued self.new + n ≡ queued self.old }
         ensures bytes { concat self.new ≡ drop n (concat self.old) }
     {
-        let Some(mut frame) = self.frames.pop_front() else {
+        let Some(frame) = self.frames.front() else {
             return;
         };
         let n = n as usize;
+        let left = frame.len() - self.taken;
         self.bytes -= n;
-        if frame.len() == n {
-            return;
+        if left == n {
+            let _ = self.frames.pop_front();
+            self.taken = 0;
+        } else {
+            self.taken += n;
         }
-        frame.advance(n);
-        // The place is there: the frame came from it.
-        let _ = self.frames.push_front(frame);
     }
 }

@@ -11,6 +11,8 @@ pub mod StandLemmas
 pub mod ServeLemmas
 pub mod TakingLemmas
 pub mod OfferLemmas
+pub mod TouchedLemmas
+pub mod NumbersDue
 pub mod Forgotten
 pub mod OpenLemmas
 pub mod WaitLemmas

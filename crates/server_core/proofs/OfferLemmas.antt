@@ -33,7 +33,7 @@ front_is None out empty first = sym (ap front_of (empty refl))
 front_is (Some left) out empty first = sym first
 
 -- what waits for a connection that is there
-waiting_there : (plant : Plant) (conn : Conn) (k : ServedConnection) → Stands plant conn k → k.gone ≡ false → waiting_of (Some k) ≡ conn.out
+pub waiting_there : (plant : Plant) (conn : Conn) (k : ServedConnection) → Stands plant conn k → k.gone ≡ false → waiting_of (Some k) ≡ conn.out
 waiting_there plant conn k s there = cond-false k.gone [] (left_after k.bytes_taken (map bytes_of k.produced)) there ∙ sym s.waiting
 
 offer_found : (v : ServerView) (waves : List Wave) (x : CoreState) (n : ℕ) → ServesEach v waves x → (e : HasEntry v.entries n) → offer_of_waiting e.waiting ≡ offer_at n x

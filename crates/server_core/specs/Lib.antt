@@ -9,6 +9,7 @@ pub mod Taking
 pub mod Delivering
 pub mod CoreState
 pub mod Places
+pub mod Touched
 pub mod Serves
 pub mod Outcomes
 pub mod Asked

@@ -1,15 +1,15 @@
 //! The connections that are there, found by their numbers.
 
-ghost use Rattle.std.specs.Prelude.{◌≡◌, ◌<◌, [], length, slice_get, option_map, IfOk, OnOk, IfSome, IfNone};
+ghost use Rattle.std.specs.Prelude.{◌≡◌, ◌<◌, [], length, remove, slice_get, option_map, IfOk, OnOk, IfSome, IfNone};
 ghost use Rattle.indexmap.specs.IndexMap.{keys};
-ghost use Rattle.server_core.specs.Entries.{IsEntry, IsNoEntry, IsFreshSession, IsNothing, Opens, Ends};
+ghost use Rattle.server_core.specs.Touched.{OthersIdle};
 
+use crate::fresh::{fresh_session, nothing_waits};
+use crate::touched::Touched;
 use crate::turned::Turned;
 use crate::waiting::Waiting;
 use ads_base::{ListOf, NoMemory};
 use indexmap::IndexMap;
-use out_queue::OutQueue;
-use session::{FrameList, Session};
 use std::alloc::Global;
 
 /// The sessions, and at equal places what waits for each, by its number, in the order of opening.
@@ -17,9 +17,14 @@ use std::alloc::Global;
 pub(crate) struct Clients {
     pub(crate) sessions: Vec<Turned>,
     pub(crate) waiting: IndexMap<u32, Waiting>,
+    /// Where something may be offered or is to be shut.
+    pub(crate) touched: Touched,
+    ghost others_idle: { OthersIdle touched sessions.items waiting.entries },
 }
 
 impl Clients {
+    ghost use Rattle.server_core.specs.Entries.{IsEntry, IsNoEntry, Opens, Ends};
+
     pub(crate) fn new(alloc: Global) -> Clients
         ensures sessions { result.sessions.items ≡ [] }
         ensures waiting { result.waiting.entries ≡ [] }
@@ -27,6 +32,7 @@ impl Clients {
         Clients {
             sessions: Vec::new(alloc),
             waiting: IndexMap::new(alloc),
+            touched: Touched::Nothing,
         }
     }
 
@@ -75,27 +81,17 @@ impl Clients {
         ensures { Ends i self.old self.new }
     {
         let _ = self.waiting.shift_remove_index(i);
-        if i < self.sessions.len() {
-            let _ = self.sessions.remove(i);
-        }
+        remove_session(&mut self.sessions, i);
+        self.touched = self.touched.without(i);
     }
 }
 
-fn fresh_session(alloc: Global) -> Result<Turned, NoMemory>
-    ensures { IfOk result IsFreshSession }
+// The session at a place is gone, if one is there.
+#[tactic(auto, using(crate::proofs::TouchedLemmas::remove_past))]
+fn remove_session(sessions: &mut Vec<Turned>, i: usize)
+    ensures { sessions.new.items ≡ remove sessions.old.items i }
 {
-    Ok(Turned {
-        session: Session::new(alloc)?,
-        skip: false,
-        out: FrameList::new(alloc),
-    })
-}
-
-fn nothing_waits(alloc: Global) -> Result<Waiting, NoMemory>
-    ensures { IfOk result IsNothing }
-{
-    Ok(Waiting {
-        out: OutQueue::new(alloc)?,
-        blocked: false,
-    })
+    if i < sessions.len() {
+        let _ = sessions.remove(i);
+    }
 }

@@ -37,6 +37,7 @@ impl Clients {
         requires waiting { i < length self.old.waiting.entries }
         ensures { OnOk result (DeliversAt i self.old self.new summary.old summary.new) }
     {
+        self.touched = self.touched.with(i);
         let turned = &mut self.sessions[i];
         let waiting = &mut self.waiting[i];
         deliver_frames(alloc, turned, waiting, summary)

@@ -5,7 +5,9 @@ mod checking;
 mod clients;
 mod delivering;
 mod device;
+mod dues;
 mod events;
+mod fresh;
 mod gate;
 mod laws;
 mod outcome;
@@ -18,6 +20,7 @@ mod summary;
 mod taking;
 mod telling;
 mod ticking;
+mod touched;
 mod turned;
 mod waiting;
 

@@ -14,6 +14,7 @@ use crate::Outcome;
 use crate::device::Device;
 use crate::server::Server;
 use crate::telling::tell_all;
+use crate::touched::Touched;
 use ads_base::NoMemory;
 use ads_outside::ReloadNote;
 use net_routes::Routes;
@@ -53,6 +54,7 @@ impl Server {
         let ports = self.device.ports.reload(alloc, d)?;
         let moves = self.device.ports.moves(alloc, &ports)?;
         let routes = Routes::build(alloc, &d.routes)?;
+        self.clients.touched = Touched::All;
         let sessions = self.clients.sessions.as_mut_slice();
         tell_all(alloc, sessions, &moves, self.device.net, self.device.moment)?;
         let version = ports.version();

@@ -1,6 +1,6 @@
 //! The core: the machine over the connections that are there.
 
-ghost use Rattle.std.specs.Prelude.{◌≡◌, ◌≤◌, ◌<◌, ◌^◌, ◌++◌, [], ℕ, List, length, slice_get, IfOk, OnOk, OnErr, IfSome, IsErr, Some, option_copied};
+ghost use Rattle.std.specs.Prelude.{◌≡◌, ◌≤◌, ◌<◌, ◌^◌, ◌++◌, [], ℕ, List, length, filter, slice_get, IfOk, OnOk, OnErr, IfSome, IsErr, Some, option_copied};
 ghost use Rattle.type_layout.specs.Descriptions.{description_of};
 ghost use Rattle.ads_plant.specs.Accepted.{IsAccepted};
 ghost use Rattle.ads_outside.specs.declared.moves.Move.TheVariants as move;
@@ -9,6 +9,7 @@ ghost use Rattle.ads_machine.specs.Outcomes.{outcome_of_event};
 ghost use Rattle.ads_machine.specs.RunText.{notes_of_event};
 ghost use Rattle.ads_machine.specs.Summary.{summary_of};
 ghost use Rattle.out_queue.specs.Queue.{QUEUE_LIMIT};
+ghost use Rattle.ads_served.specs.Due.{is_due};
 ghost use Rattle.server_core.specs.Counts.{counts_in};
 ghost use Rattle.server_core.specs.CoreState.{CoreState, started, after_event, after_move, OpensNew};
 ghost use Rattle.server_core.specs.CoreState.{offer_at, is_to_be_shut_at};
@@ -156,6 +157,14 @@ impl<S: Sources> Core<S> {
         ensures { IfOk result (λ numbers. (x : CoreState) → Serves self.now x → numbers ≡ present_numbers x.state) }
     {
         self.server.clients.numbers(alloc)
+    }
+
+    /// The numbers of the connections that have something to be offered or are to be shut, in the order of opening. It costs
+    /// what events touched since they were last served: one connection, but for a tick and a reload.
+    pub fn due(&self, alloc: Global) -> Result<ListOf<u32>, NoMemory>
+        ensures { IfOk result (λ numbers. (x : CoreState) → Serves self.now x → numbers ≡ filter (is_due x) (present_numbers x.state)) }
+    {
+        self.server.clients.due(alloc)
     }
 
     /// The counts of the run.

@@ -30,6 +30,14 @@ impl Server {
     ghost use Rattle.server_core.specs.ServerView.{view_of};
     ghost use Rattle.server_core.specs.Serves.{ServesEach, ServesSome, IsServing, FollowsEach};
 
+    /// Connections that are idle by now are forgotten among those that were touched.
+    pub(crate) fn settle(&mut self)
+        ensures view { view_of self.new ≡ view_of self.old }
+        ensures notes { self.new.notes ≡ self.old.notes }
+    {
+        self.clients.settle();
+    }
+
     /// A connection is opened; nothing changes where its number is there.
     pub(crate) fn open(&mut self, alloc: Global, number: u32) -> Result<(), NoMemory>
         ensures follows { OnOk result ((waves : List Wave) (x : CoreState) → ServesEach (view_of self.old) waves x
@@ -58,6 +66,7 @@ impl Server {
         let Some(i) = self.clients.place_of(number) else {
             return Ok(());
         };
+        self.clients.touched = self.clients.touched.with(i);
         let turned = &mut self.clients.sessions[i];
         let waiting = &mut self.clients.waiting[i];
         take_piece(
@@ -77,6 +86,7 @@ impl Server {
         ensures notes { self.new.notes ≡ self.old.notes }
     {
         if let Some(i) = self.clients.place_of(number) {
+            self.clients.touched = self.clients.touched.with(i);
             let waiting = &mut self.clients.waiting[i];
             waiting.free();
         }
@@ -103,6 +113,7 @@ impl Server {
         ensures notes { self.new.notes ≡ self.old.notes }
     {
         if let Some(i) = self.clients.place_of(number) {
+            self.clients.touched = self.clients.touched.with(i);
             let waiting = &mut self.clients.waiting[i];
             waiting.took(n);
         }

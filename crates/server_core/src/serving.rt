@@ -45,7 +45,7 @@ impl<S: Sources> Served for Core<S> {
     }
 
     fn due(&self, alloc: Global) -> Result<ListOf<u32>, NoMemory> {
-        self.numbers(alloc)
+        self.due(alloc)
     }
 
     fn offer_of(&self, conn: u32) -> Option<&[u8]> {

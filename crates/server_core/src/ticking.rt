@@ -10,6 +10,8 @@ use crate::checking::check_all;
 use crate::gate::OpenGate;
 use crate::server::Server;
 use crate::sources::Sources;
+use crate::touched::Touched;
+use crate::turned::Turned;
 use ads_base::NoMemory;
 use std::alloc::Global;
 use std::thread::Threads;
@@ -17,8 +19,8 @@ use std::thread::Threads;
 // A list is halved so often, so that at most eight threads check sessions at once.
 const LEVELS: u32 = 3;
 
-// From so many sessions on. A thread costs tens of microseconds to start, a session with nothing due less than one.
-const THREADS_FROM: usize = 32;
+// From so many due notifications on. A thread costs tens of microseconds to start, a check a fraction of one.
+const THREADS_FROM: usize = 512;
 
 /// A tick: each signal steps, the due notifications of each connection that is not closing are checked, and the
 /// frames of their samples are produced, connection after connection.
@@ -36,7 +38,8 @@ pub(crate) fn tick<T: Threads + Sync, S: Sources>(
 {
     signals.step_into(alloc, &mut server.device.ports);
     server.device.moment = later_of(server.device.moment, moment);
-    let levels = levels_for(server.clients.sessions.len());
+    server.clients.touched = Touched::All;
+    let levels = levels_for(server.clients.sessions.as_slice(), server.device.moment);
     check_all(
         rt,
         alloc,
@@ -50,9 +53,18 @@ pub(crate) fn tick<T: Threads + Sync, S: Sources>(
     server.clients.deliver(alloc, &mut server.summary)
 }
 
-// How often a list of so many sessions is halved.
-fn levels_for(sessions: usize) -> u32 {
-    if sessions < THREADS_FROM { 0 } else { LEVELS }
+// How often a list is halved: where so many checks are due that threads pay. What is due is counted and not looked at.
+fn levels_for(list: &[Turned], now: u64) -> u32 {
+    let mut due = 0usize;
+    for turned in list {
+        if !turned.skip {
+            due = due.saturating_add(turned.session.count_due(now));
+        }
+        if due >= THREADS_FROM {
+            return LEVELS;
+        }
+    }
+    0
 }
 
 // The later of two moments.

@@ -3,6 +3,7 @@
 ghost use Rattle.std.specs.Prelude.{◌≡◌, length, nat_lt, false};
 ghost use Rattle.out_queue.specs.Queue.{frames_after};
 ghost use Rattle.server_core.specs.ConnStands.{FitsFirst, first_left};
+ghost use Rattle.server_core.specs.Touched.{is_offered};
 
 use out_queue::OutQueue;
 
@@ -27,6 +28,13 @@ impl Waiting {
         let short = (n as usize) < left.len();
         self.out.took(n);
         self.blocked = short;
+    }
+
+    /// Whether something is offered: a frame waits, and the connection is not blocked.
+    pub(crate) fn is_offered(&self) -> bool
+        ensures { result ≡ is_offered self.now }
+    {
+        !self.blocked && self.out.front().is_some()
     }
 
     /// The connection is writable again.

@@ -4,13 +4,11 @@ ghost use Rattle.std.specs.Prelude.{◌≡◌, map, All, IfOk, OnOk};
 ghost use Rattle.ads_machine.specs.World.{World};
 ghost use Rattle.ads_machine.specs.Client.{Client};
 ghost use Rattle.ads_machine.specs.Reloads.{client_reloaded};
-ghost use Rattle.notify_table.specs.Table.{IsTable};
 ghost use Rattle.session.specs.NoteFrames.{produced_of, IsNoteFrame};
 
 use crate::notes_ended::end_frames;
 use crate::{FrameList, Session};
 use ads_base::{NetId, NoMemory};
-use notify_table::Watches;
 use std::alloc::Global;
 use symbol_table::Moves;
 
@@ -38,16 +36,8 @@ impl Session {
         ensures fits { IfOk result (All IsNoteFrame) }
         ensures stream { self.new.stream ≡ self.old.stream }
     {
-        know_table(&self.watches);
         let ended = self.watches.moved(alloc, moves)?;
         self.handles.moved(moves);
         end_frames(alloc, ended.as_slice(), net, time)
     }
-}
-
-// A client has at most 512 notifications.
-fn know_table(watches: &Watches)
-    ensures { IsTable watches.now }
-{
-    let _spec = watches.spec(0);
 }

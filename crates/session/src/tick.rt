@@ -1,9 +1,10 @@
 //! A tick: the due notifications of one client are checked.
 
-ghost use Rattle.std.specs.Prelude.{◌≡◌, map, All, IfOk, OnOk};
+ghost use Rattle.std.specs.Prelude.{◌≡◌, length, map, All, IfOk, OnOk};
 ghost use Rattle.ads_machine.specs.World.{World};
 ghost use Rattle.ads_machine.specs.Client.{Client};
 ghost use Rattle.ads_machine.specs.Ticks.{client_after_tick};
+ghost use Rattle.notify_table.specs.Table.{due_handles};
 ghost use Rattle.port_device.specs.Holds.{HoldsPorts};
 ghost use Rattle.session.specs.NoteFrames.{produced_of, IsNoteFrame};
 
@@ -38,5 +39,12 @@ impl Session {
         ensures keeps { self.new ≡ record self.old { watches = self.new.watches } }
     {
         check_due(alloc, &mut self.watches, ports, net, now)
+    }
+
+    /// How many notifications a tick at a moment checks.
+    pub fn count_due(&self, now: u64) -> usize
+        ensures { result ≡ length (due_handles now self.now.watches) }
+    {
+        self.watches.count_due(now)
     }
 }

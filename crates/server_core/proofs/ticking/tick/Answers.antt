@@ -1,7 +1,5 @@
 use Rattle.std.proofs.Common.{List, length, rules, refl, sym, ap, ◌∙◌, subst}
-use Rattle.std.specs.Vec.{with_items}
 use Rattle.ads_machine.specs.Ticks.{client_after_tick}
-use Rattle.server_core.specs.declared.clients.Clients.{Clients}
 use Rattle.server_core.specs.declared.device.Device.{Device}
 use Rattle.server_core.specs.declared.turned.Turned.{Turned}
 use Rattle.server_core.specs.Asked.{EachAsked}
@@ -34,10 +32,9 @@ returns-clause-follows g c =
     let waves = g.S.Sources.waves c.args.signals.now in
     let old = c.args.server.now.clients.sessions in
     let list = c.check_all.new.list in
-    let mid : Clients = record { sessions = with_items old list; waiting = c.args.server.now.clients.waiting } in
     let back = lent_back list old.items old.len old.ok.0 (c.check_all.auto.list ∙ ap (λ (ts : List Turned). length ts) c.as_mut_slice.ensures.value) in
     on_ok c.deliver.result (λ delivers. λ x s.
-    tick_follows v _ waves (g.S.Sources.waves c.step_into.new.self) x c.args.moment mid c.deliver.new.self s
+    tick_follows v _ waves (g.S.Sources.waves c.step_into.new.self) x c.args.moment _ c.deliver.new.self s
     (record { net = refl; routes = refl; signals = refl; moment = c.later_of-server.ensures; ports = c.step_into.ensures.ports }) c.step_into.ensures.waves
     (λ u held net. subst (λ (ts : List Turned). EachAsked u.plant u.plant (client_after_tick device.moment u) old.items ts) (sym back)
     (subst (λ (ts : List Turned). EachAsked u.plant u.plant (client_after_tick device.moment u) ts list) c.as_mut_slice.ensures.value

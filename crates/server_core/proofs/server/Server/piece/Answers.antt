@@ -1,3 +1,4 @@
+use Rattle.server_core.proofs.TouchedLemmas.{idle_set}
 use Rattle.std.proofs.Common.{refl, arith}
 use Rattle.server_core.specs.ServerView.{view_of}
 use Rattle.server_core.proofs.PieceLemmas.{is_connected, piece_at}
@@ -22,3 +23,10 @@ returns-clause-follows c =
 
 pub returns-in_default-clause-follows : goal.returns-in_default-clause-follows
 returns-in_default-clause-follows c = λ waves x s. piece_absent (view_of c.args.self.now) waves x c.args.number c.args.bytes.now s c.in_default.ensures.absent
+
+pub invariant_of-self-2 : goal.invariant_of-self-2
+invariant_of-self-2 c =
+    let old = c.args.self.now.clients in
+    record {
+      others_idle = idle_set old.touched c.with-self.result old.sessions.items old.waiting.entries c.in-Some.i c.take_piece.new.turned c.take_piece.new.waiting old.others_idle c.with-self.ensures;
+    }

@@ -1,3 +1,4 @@
+use Rattle.server_core.proofs.TouchedLemmas.{idle_set_waiting}
 use Rattle.std.proofs.Common.{◌≤◌, ◌<◌, ℕ, List, length, None, sym, ◌∙◌, subst}
 use Rattle.std.specs.Prelude.{IsSomeAnd}
 use Rattle.server_core.specs.ServerView.{view_of}
@@ -35,3 +36,8 @@ returns-in_default-clause-follows c = λ waves x left bytes s offered taken.
 pub returns-in_default-clause-fewer : goal.returns-in_default-clause-fewer
 returns-in_default-clause-fewer c =
     absurd (subst (λ o. IsSomeAnd o (λ (left : List ℕ). c.args.n ≤ length left)) (read_absent offer_of_waiting None c.args.self.now.clients.waiting.entries c.args.number c.in_default.ensures.absent) c.requires)
+
+pub invariant_of-self-in-Some : goal.invariant_of-self-in-Some
+invariant_of-self-in-Some c =
+    let old = c.args.self.now.clients in
+    record { others_idle = idle_set_waiting old.touched c.with-self.result old.sessions.items old.waiting.entries c.in-Some.i c.took.new.self old.others_idle c.with-self.ensures }

@@ -12,7 +12,7 @@ moved-requires-2 c =
 
 pub end_frames-requires : goal.end_frames-requires
 end_frames-requires c =
-    few_ended c.args.moves.now c.self.inside.watches c.as_slice.result.now c.know_table.ensures
+    few_ended c.args.moves.now c.self.inside.watches c.as_slice.result.now c.in_ok-ended.ensures.table
     (ap (map ended_meant) c.as_slice.ensures ∙ c.in_ok-ended.ensures.ended)
 
 pub returns-clause-frames : goal.returns-clause-frames

@@ -8,7 +8,7 @@ use Rattle.server_core.specs.ServerView.{view_of}
 use Rattle.server_core.specs.Outcomes.{TakesEvent}
 use Rattle.server_core.proofs.EventLemmas.{takes_plain, piece_plain, closed_plain, tick_plain, writable_plain, event_some}
 use Rattle.server_core.proofs.ReloadLemmas.{if_ok}
-use Rattle.server_core.proofs.events.take_event.Goals as goal
+use Rattle.server_core.proofs.events.take_settled.Goals as goal
 
 pub returns-in_ok-piece-in-Piece : goal.returns-in_ok-piece-in-Piece
 returns-in_ok-piece-in-Piece g c =
