@@ -1,10 +1,22 @@
-//! The real outside: files of the disk, and standard output.
+//! The real outside: files of the disk, standard output, and sockets.
 #![tactic(auto)]
 
+mod came;
+mod connection;
+mod description_watch;
+mod listening_at;
+mod out_buffer;
+mod peers;
 mod real_files;
 mod real_sink;
+mod real_wire;
+mod sockets;
+mod stage;
 #[cfg(test)]
 mod tests;
+mod tick_clock;
+mod turn;
 
 pub use real_files::RealFiles;
 pub use real_sink::RealSink;
+pub use real_wire::RealWire;

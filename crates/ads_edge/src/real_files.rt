@@ -55,13 +55,13 @@ impl<R: SystemFiles + Drop> Files for RealFiles<R> {
     }
 }
 
-// A buffer of 65,536 bytes.
-fn empty_buffer(alloc: Global) -> Result<Vec<u8>, AllocError> {
+/// A buffer of 65,536 bytes.
+pub(crate) fn empty_buffer(alloc: Global) -> Result<Vec<u8>, AllocError> {
     Vec::from_elem(alloc, 0u8, 65_536)
 }
 
-// All bytes of a file, a buffer at a time.
-fn read_all<F: Read>(alloc: Global, file: &mut F, buffer: &mut [u8]) -> Got
+/// All bytes of a file, a buffer at a time.
+pub(crate) fn read_all<F: Read>(alloc: Global, file: &mut F, buffer: &mut [u8]) -> Got
     ensures { IsWithinLimit result }
 {
     let mut bytes = Octets::new(alloc);

@@ -102,3 +102,21 @@ ends_usage (Some files) waves failed s out out_new wire printed = inl (printed, 
 pub on_err : {T E P : Type 0} (r : Result T E) → P → OnErr r P
 on_err (Ok x) p = tt
 on_err (Err e) p = p
+
+-- the same text
+pub prints_same : (r : Status) (text other : List ℕ) (s : Status) (old new : SinkState) → text ≡ other
+    → PrintsEnding (record { status = r; text = text }) s old new → PrintsEnding (record { status = r; text = other }) s old new
+prints_same r text other s old new is printed = let P : List ℕ → Type 0 = λ t. PrintsEnding (record { status = r; text = t }) s old new in subst P is printed
+
+-- what the reading of a file gave, seen by its variant
+pub finds_here : (held : Option (List NamedFile)) (name : List ℕ) (failed : Type 0) (found other : Result (List ℕ) Outcome) → found ≡ other → Finds held name failed found → Finds held name failed other
+finds_here held name failed found other is finds = let P : Result (List ℕ) Outcome → Type 0 = λ r. Finds held name failed r in subst P is finds
+
+-- how a task ends that is known
+pub ends_of_task : (held : Option (List NamedFile)) (waves : List Wave) (t u : Task) (failed : Type 0) (s : Status)
+    (out out_new : SinkState) (wire wire_new : WireHistory) → t ≡ u
+    → OverFiles held (λ first second. EndsBy (verdict_of_task waves (Some u) first second) failed s out out_new wire wire_new)
+    → OverFiles held (λ first second. EndsBy (verdict_of_task waves (Some t) first second) failed s out out_new wire wire_new)
+ends_of_task held waves t u failed s out out_new wire wire_new is ends_so =
+    let P : Task → Type 0 = λ x. OverFiles held (λ first second. EndsBy (verdict_of_task waves (Some x) first second) failed s out out_new wire wire_new) in
+    subst P (sym is) ends_so

@@ -1,6 +1,6 @@
 -- What a run of the loop over a core makes of a service.
 use Rattle.std.proofs.Common.{◌≡◌, ◌≢◌, ◌<◌, ◌≤◌, ℕ, List, [], ◌∷◌, ◌++◌, Option, Some, None, inl, inr, subst, ap, sym, ◌∙◌, refl, arith}
-use Rattle.std.specs.Prelude.{◌⊎◌}
+use Rattle.std.specs.Prelude.{◌⊎◌, Result, Err, length}
 use Rattle.signals.specs.Wave.{Wave}
 use Rattle.ads_outside.specs.declared.end.End.{End}
 use Rattle.ads_outside.specs.declared.end.End.TheVariants as end
@@ -17,6 +17,11 @@ use Rattle.ads_machine.specs.MachineState.{MachineState}
 use Rattle.ads_machine.specs.Moves.{state_after}
 use Rattle.ads_machine.specs.RunText.{notes_of_event}
 use Rattle.ads_machine.specs.Turns.{KeepsTurns}
+use Rattle.ads_rules.specs.TextVerdict.{TextVerdict, Described, text_verdict}
+use Rattle.symbol_file.specs.declared.fault.DescFault.{DescFault}
+use Rattle.symbol_file.specs.declared.fault.DescFault.TheVariants as fault
+use Rattle.symbol_file.specs.Reading.{answer_of, IsVerdict}
+use Rattle.type_layout.specs.declared.description.Description as layout
 use Rattle.ads_product.specs.Server.{server, server_start, server_after}
 use Rattle.ads_served.specs.Standing.{Standing, standing_after_all}
 use Rattle.replay_script.proofs.StandingPlayed.{state_played}
@@ -30,10 +35,12 @@ use Rattle.server_core.specs.CoreState.{started}
 use Rattle.ads_run.specs.declared.status.Status.{Status}
 use Rattle.ads_run.specs.declared.status.Status.TheVariants as status
 use Rattle.ads_run.specs.Ending.{Ending, line_alone}
-use Rattle.ads_run.specs.Outcomes.{at_start}
+use Rattle.ads_run.specs.Ends.{EndsSo}
+use Rattle.ads_run.specs.Outcomes.{at_start, status_of_fault}
 use Rattle.ads_run.specs.Prints.{PutsMemoryLine, PrintsEnding}
 use Rattle.ads_run.specs.Promises.{KeepsPromises, KeepsPromisesSoFar}
 use Rattle.ads_run.specs.Service.{Service, counts_and_line, state_after_moves}
+use Rattle.ads_run.specs.Verdict.{verdict_of_served, verdict_of_serve}
 use Rattle.ads_run.specs.Serving.{StopsBehind, AddsToLog, MakesMoves, RunsService, TellsAndRuns, CannotTell, EndsService}
 use Rattle.ads_run.proofs.PromiseLemmas.{turns_keep_promises, offers_keep_promises}
 
@@ -228,3 +235,38 @@ not_started service a s out out_new old new stops is printed =
 pub no_memory_at_start : (service : Service) (s : Status) (out out_new : SinkState) (old new : WireHistory) → new ≡ old → s ≡ status.Memory → PutsMemoryLine out out_new
     → EndsService service s out out_new old new
 no_memory_at_start service s out out_new old new same is line = inl (inr (same, is, line))
+
+-- a description that is refused
+pub refused_so : (waves : List Wave) (name listen bytes : List ℕ) (limit : ℕ) (f : DescFault) (s : Status) (out out_new : SinkState) (wire : WireHistory)
+    → answer_of (Err f) ≡ text_verdict (length waves) bytes → PrintsEnding (line_alone (status_of_fault f)) s out out_new
+    → EndsSo (verdict_of_serve waves name listen limit bytes) s out out_new wire wire
+refused_so waves name listen bytes limit fault.Syntax s out out_new wire is printed =
+    let P : TextVerdict → Type 0 = λ v. EndsSo (verdict_of_served (record { listen = listen; name = name; first = bytes }) waves limit v) s out out_new wire wire in
+    subst P is (printed, refl)
+refused_so waves name listen bytes limit (fault.Rule number item) s out out_new wire is printed =
+    let P : TextVerdict → Type 0 = λ v. EndsSo (verdict_of_served (record { listen = listen; name = name; first = bytes }) waves limit v) s out out_new wire wire in
+    subst P is (printed, refl)
+
+-- what is served of an accepted description
+abbrev pub service_of : List Wave → List ℕ → List ℕ → List ℕ → ℕ → Description → Service
+service_of waves name listen bytes limit d =
+    record { start = record { listen = listen; name = name; first = bytes }; description = d; waves = waves; limit = limit }
+
+pub served_so : (waves : List Wave) (name listen bytes : List ℕ) (limit : ℕ) (d : Description) (s : Status) (out out_new : SinkState) (wire wire_new : WireHistory)
+    → Described d ≡ text_verdict (length waves) bytes → EndsService (service_of waves name listen bytes limit d) s out out_new wire wire_new
+    → EndsSo (verdict_of_serve waves name listen limit bytes) s out out_new wire wire_new
+served_so waves name listen bytes limit d s out out_new wire wire_new is h =
+    let P : TextVerdict → Type 0 = λ v. EndsSo (verdict_of_served (record { listen = listen; name = name; first = bytes }) waves limit v) s out out_new wire wire_new in
+    subst P is h
+
+-- the verdict of the reader is that of the text
+pub verdict_here : (answer other : Result layout.Description DescFault) (n m : ℕ) (bytes : List ℕ) → answer ≡ other → n ≡ m → IsVerdict n bytes answer
+    → answer_of other ≡ text_verdict m bytes
+verdict_here answer other n m bytes same count is = sym (ap answer_of same) ∙ (is ∙ ap (λ k. text_verdict k bytes) count)
+
+pub started_with : (listen listen_text name name_text first : List ℕ) → listen_text ≡ listen → name_text ≡ name
+    → ◌≡◌ {A = Listening} (record { listen = listen; name = name; first = first }) (record { listen = listen_text; name = name_text; first = first })
+started_with listen listen_text name name_text first l n =
+    let with_listen : List ℕ → Listening = λ t. record { listen = t; name = name; first = first } in
+    let with_name : List ℕ → Listening = λ t. record { listen = listen_text; name = t; first = first } in
+    ap with_listen (sym l) ∙ ap with_name (sym n)

@@ -84,7 +84,7 @@ fn outcome_of_task<T: Threads + Sync, F: Files, G: Sources>(
 }
 
 // `selftest` over its file.
-#[tactic(auto, using(crate::proofs::EndLemmas::some_of_one))]
+#[tactic(auto, using(crate::proofs::ReadLemmas::some_of_one))]
 fn selftest_file<T: Threads + Sync, F: Files, G: Sources>(
     rt: &T,
     alloc: Global,
@@ -114,7 +114,7 @@ fn selftest_file<T: Threads + Sync, F: Files, G: Sources>(
 }
 
 // `check` over its file, for this number of signals.
-#[tactic(auto, using(crate::proofs::EndLemmas::some_of_one))]
+#[tactic(auto, using(crate::proofs::ReadLemmas::some_of_one))]
 fn check_file<F: Files>(
     alloc: Global,
     description: &Text,

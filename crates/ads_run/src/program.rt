@@ -15,9 +15,8 @@ use crate::program_signals::ProgramSignals;
 use crate::status::Status;
 use crate::top_call::run;
 use ads_base::NoMemory;
-use ads_base::Calls;
-use ads_edge::{RealFiles, RealSink};
-use ads_outside::{Cuts, Events, Files, MemWire, Sink, Wire};
+use ads_edge::{RealFiles, RealSink, RealWire};
+use ads_outside::{Files, Sink, Wire};
 use signals::Signal;
 use std::alloc::Global;
 use std::env::{self, Args};
@@ -45,7 +44,7 @@ fn status_of_args<T: Threads + Sync>(
 ) -> Result<Status, NoMemory> {
     let all: Vec<String> = args.collect(rt.alloc())?;
     let mut files = RealFiles::new(rt.alloc(), rt.clone()?)?;
-    let mut wire = MemWire::new(rt.alloc(), Events::new(rt.alloc()), Calls::new(rt.alloc()), Cuts::new(rt.alloc()));
+    let mut wire = RealWire::new(rt.alloc(), *rt)?;
     run_program(
         threads,
         rt.alloc(),

@@ -87,7 +87,7 @@ fn replay_text<T: Threads + Sync, F: Files, G: Sources>(
 }
 
 // The play of a script's file over an accepted description.
-#[tactic(auto, using(crate::proofs::EndLemmas::some_of_one))]
+#[tactic(auto, using(crate::proofs::ReadLemmas::some_of_one))]
 fn replay_file<T: Threads + Sync, F: Files, G: Sources>(
     rt: &T,
     alloc: Global,

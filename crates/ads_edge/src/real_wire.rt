@@ -1,0 +1,163 @@
+//! Real sockets and the system's clock.
+
+ghost use Rattle.std.specs.Prelude.{◌≡◌, ◌<◌, ◌^◌, length};
+
+use crate::sockets::Sockets;
+use crate::turn::Turn;
+use ads_base::NoMemory;
+use ads_outside::{Event, Next, Offer, Shut, Started, Wire};
+use std::alloc::Global;
+use std::net::Net;
+use std::rt::Files as SystemFiles;
+use std::time::Clock;
+
+/// TCP over the network that a runtime reaches: a tick every 10 ms, pieces of at most 65,536 bytes, at most 64 connections at
+/// once. What it gives and what peers take is not told.
+///
+/// What is offered to a connection is gathered, at most 262,144 bytes, and sent before the wire waits again; a connection
+/// that was shut stays till its peer has taken that, is gone, or takes nothing for 30 s. The named description is read again each second, and is
+/// given where it holds other bytes than last.
+#[derive(Drop)]
+pub struct RealWire<R: Net + Clock + SystemFiles + Drop> {
+    alloc: Global,
+    rt: R,
+    buffer: Vec<u8>,
+    sockets: Option<Sockets>,
+    // The number that was opened last, and counts.
+    last: u32,
+    events: u64,
+    stops: u64,
+    faults: u64,
+}
+
+impl<R: Net + Clock + SystemFiles + Drop> RealWire<R> {
+    /// A wire that is not started, with a buffer to read by.
+    pub fn new(alloc: Global, rt: R) -> Result<RealWire<R>, NoMemory> {
+        Ok(RealWire {
+            alloc,
+            rt,
+            buffer: crate::real_files::empty_buffer(alloc)?,
+            sockets: None,
+            last: 0,
+            events: 0,
+            stops: 0,
+            faults: 0,
+        })
+    }
+}
+
+#[cfg(test)]
+impl<R: Net + Clock + SystemFiles + Drop> RealWire<R> {
+    /// The port at which it listens.
+    pub(crate) fn port(&self) -> Option<u16> {
+        self.sockets.as_ref()?.port()
+    }
+}
+
+impl<R: Net + Clock + SystemFiles + Drop> Wire for RealWire<R> {
+    ghost use Rattle.ads_edge.specs.Sockets.{state_of_sockets};
+
+    ghost state = { λ w. state_of_sockets w.last w.events w.stops w.faults };
+
+    ghost Kept = { Unit {0} };
+
+    ghost kept = { λ _. tt };
+
+    fn faults(&self) -> u64 {
+        self.faults
+    }
+
+    fn stops(&self) -> u64 {
+        self.stops
+    }
+
+    fn start(&mut self, listen: &str, name: &str, first: &[u8]) -> Started {
+        match Sockets::open(self.alloc, &self.rt, listen, name, first) {
+            Ok(Some(sockets)) => {
+                self.sockets = Some(sockets);
+                Started::Ready
+            }
+            Ok(None) => {
+                self.faults = self.faults.saturating_add(1);
+                self.stops = self.stops.saturating_add(1);
+                Started::Failed
+            }
+            Err(NoMemory) => Started::Memory,
+        }
+    }
+
+    #[tactic(auto, using(crate::proofs::NumberLemmas::next_is_new, crate::proofs::NumberLemmas::next_number))]
+    fn next(&mut self) -> Next {
+        let number = self.last.checked_add(1);
+        let turn = match &mut self.sockets {
+            Some(sockets) => sockets.turn(&self.rt, number, self.buffer.as_mut_slice()),
+            None => Turn::Failed,
+        };
+        match turn {
+            Turn::Opened => match number {
+                Some(number) => {
+                    self.last = number;
+                    self.events = self.events.saturating_add(1);
+                    Next::Event(Event::Opened(number))
+                }
+                None => {
+                    self.faults = self.faults.saturating_add(1);
+                    self.stops = self.stops.saturating_add(1);
+                    Next::Failed
+                }
+            },
+            Turn::Piece(conn, bytes) => {
+                self.events = self.events.saturating_add(1);
+                Next::Event(Event::Piece(conn, bytes))
+            }
+            Turn::Closed(conn) => {
+                self.events = self.events.saturating_add(1);
+                Next::Event(Event::Closed(conn))
+            }
+            Turn::Writable(conn) => {
+                self.events = self.events.saturating_add(1);
+                Next::Event(Event::Writable(conn))
+            }
+            Turn::Tick(moment) => {
+                self.events = self.events.saturating_add(1);
+                Next::Event(Event::Tick(moment))
+            }
+            Turn::Reload(bytes) => {
+                self.events = self.events.saturating_add(1);
+                Next::Event(Event::Reload(bytes))
+            }
+            Turn::Failed => {
+                self.faults = self.faults.saturating_add(1);
+                self.stops = self.stops.saturating_add(1);
+                Next::Failed
+            }
+            Turn::Memory => Next::Memory,
+        }
+    }
+
+    fn offer(&mut self, conn: u32, bytes: &[u8]) -> Offer {
+        let taken = match &mut self.sockets {
+            Some(sockets) => sockets.offer(conn, bytes),
+            None => Ok(None),
+        };
+        match taken {
+            Ok(Some(n)) => Offer::Took(n),
+            Ok(None) => {
+                self.faults = self.faults.saturating_add(1);
+                Offer::Failed
+            }
+            Err(NoMemory) => Offer::Memory,
+        }
+    }
+
+    fn shut(&mut self, conn: u32) -> Shut {
+        let shut = match &mut self.sockets {
+            Some(sockets) => sockets.shut(conn),
+            None => Ok(()),
+        };
+        match shut {
+            Ok(()) => Shut::Done,
+            Err(NoMemory) => Shut::Memory,
+        }
+    }
+}

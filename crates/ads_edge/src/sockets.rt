@@ -1,0 +1,279 @@
+//! A listening socket, its connections, the clock and the watch.
+
+ghost use Rattle.std.specs.Prelude.{◌≤◌, ◌<◌, ◌^◌, length, IfOk, IfSome};
+
+use crate::description_watch::DescriptionWatch;
+use crate::listening_at::address_of;
+use crate::peers::Peers;
+use crate::tick_clock::{TickClock, moment};
+use crate::turn::Turn;
+use ads_base::NoMemory;
+use mio::event::Event;
+use mio::net::{TcpListener, TcpStream};
+use mio::{Events, Interest, Poll, Token};
+use std::alloc::Global;
+use std::io::{self, ErrorKind};
+use std::net::Net;
+use std::rt::Files as SystemFiles;
+use std::time::{Clock, Duration, Instant};
+
+/// The token of the listening socket. The token of a connection is its number, which is not 0.
+const DOOR: Token = Token(0);
+
+/// How many events one poll tells: one of each connection and of the listening socket at least.
+const EVENTS: usize = 128;
+
+/// Sockets that are polled.
+pub(crate) struct Sockets {
+    alloc: Global,
+    poll: Poll,
+    events: Events,
+    listener: TcpListener,
+    // Someone may wait to be accepted; where accepting failed, it is tried again at the next tick.
+    knocks: bool,
+    peers: Peers,
+    clock: TickClock,
+    // The last turn was a tick.
+    struck: bool,
+    watch: DescriptionWatch,
+}
+
+impl Sockets {
+    /// Listens there, and watches the named file, which held these bytes. None where the address can't be listened at.
+    pub(crate) fn open<R: Net + Clock>(
+        alloc: Global,
+        rt: &R,
+        listen: &str,
+        name: &str,
+        first: &[u8],
+    ) -> Result<Option<Sockets>, NoMemory> {
+        let Some((poll, listener)) = listening(rt, listen) else {
+            return Ok(None);
+        };
+        let Ok(now) = Instant::now(rt) else {
+            return Ok(None);
+        };
+        Ok(Some(Sockets {
+            alloc,
+            poll,
+            events: Events::with_capacity(alloc, EVENTS)?,
+            listener,
+            knocks: true,
+            peers: Peers::new(alloc),
+            clock: TickClock::new(now),
+            struck: false,
+            watch: DescriptionWatch::new(alloc, name, first, now)?,
+        }))
+    }
+
+    /// Waits for what happens next. A connection that is accepted gets the number; without one that is a failure.
+    pub(crate) fn turn<R: Clock + SystemFiles>(
+        &mut self,
+        rt: &R,
+        number: Option<u32>,
+        buffer: &mut [u8],
+    ) -> Turn {
+        for _ in 0..u64::MAX {
+            if let Some(turn) = self.look(rt, number, buffer) {
+                return turn;
+            }
+            if let Some(turn) = self.wait(rt) {
+                return turn;
+            }
+        }
+        Turn::Failed
+    }
+
+    /// Offers bytes to a connection: how many were taken; None where it is not there or its peer is gone.
+    pub(crate) fn offer(&mut self, number: u32, bytes: &[u8]) -> Result<Option<u32>, NoMemory>
+        requires { length bytes.now < 2 ^ 32 }
+        ensures { IfOk result (λ taken. IfSome taken (λ n. n ≤ length bytes.now)) }
+    {
+        self.peers.offer(number, bytes)
+    }
+
+    /// The server is done with a connection: what waits for it is still sent.
+    pub(crate) fn shut(&mut self, number: u32) -> Result<(), NoMemory> {
+        self.peers.shut(number)
+    }
+
+    // What happens now, without a wait.
+    fn look<R: Clock + SystemFiles>(
+        &mut self,
+        rt: &R,
+        number: Option<u32>,
+        buffer: &mut [u8],
+    ) -> Option<Turn> {
+        if let Some(turn) = self.time_turn(rt, buffer) {
+            return Some(turn);
+        }
+        if let Some(turn) = self.peers.next_told() {
+            return Some(turn);
+        }
+        if let Some(turn) = self.peers.next_piece(buffer) {
+            self.struck = false;
+            return Some(turn);
+        }
+        if self.peers.send_all().is_err() {
+            return Some(Turn::Memory);
+        }
+        if let Some(turn) = self.peers.next_told() {
+            return Some(turn);
+        }
+        self.accept(number)
+    }
+
+    // A tick or a reload, if one is due. Behind a tick something else has its turn, if there is anything.
+    fn time_turn<R: Clock + SystemFiles>(&mut self, rt: &R, buffer: &mut [u8]) -> Option<Turn> {
+        if self.struck {
+            return None;
+        }
+        let Ok(now) = Instant::now(rt) else {
+            return Some(Turn::Failed);
+        };
+        if let Some(bytes) = self.watch.changed(self.alloc, rt, now, buffer) {
+            return Some(Turn::Reload(bytes));
+        }
+        if !self.clock.strikes(now) {
+            return None;
+        }
+        self.struck = true;
+        self.knocks = true;
+        self.peers.pass_tick();
+        match moment(rt) {
+            Some(moment) => Some(Turn::Tick(moment)),
+            None => Some(Turn::Failed),
+        }
+    }
+
+    // Accepts a connection, if one waits and there is room.
+    fn accept(&mut self, number: Option<u32>) -> Option<Turn> {
+        if !self.knocks || !self.peers.has_room() {
+            return None;
+        }
+        match self.listener.accept() {
+            Ok((stream, _)) => self.welcome(number, stream),
+            Err(error) => {
+                let again = error.kind() == ErrorKind::Interrupted
+                    || error.kind() == ErrorKind::ConnectionAborted;
+                self.knocks = again;
+                None
+            }
+        }
+    }
+
+    // A connection was accepted. Where it can't be watched it is dropped.
+    fn welcome(&mut self, number: Option<u32>, mut stream: TcpStream) -> Option<Turn> {
+        let Some(number) = number else {
+            return Some(Turn::Failed);
+        };
+        let _ = stream.set_nodelay(true);
+        let both = Interest::READABLE | Interest::WRITABLE;
+        self.poll
+            .registry()
+            .register(&mut stream, Token(number as usize), both)
+            .ok()?;
+        match self.peers.open(number, stream) {
+            Ok(()) => Some(Turn::Opened),
+            Err(NoMemory) => Some(Turn::Memory),
+        }
+    }
+
+    // Waits until a socket is ready or a tick is due.
+    fn wait<R: Clock>(&mut self, rt: &R) -> Option<Turn> {
+        let Ok(now) = Instant::now(rt) else {
+            return Some(Turn::Failed);
+        };
+        let busy = self.peers.is_busy() || self.knocks && self.peers.has_room();
+        let left = if busy {
+            Duration::ZERO
+        } else {
+            self.clock.left(now)
+        };
+        self.struck = false;
+        self.poll_for(left)
+    }
+
+    // Sends what waits, as far as the peers read within a second.
+    fn send_rest(&mut self) {
+        for _ in 0..100u32 {
+            if self.peers.send_all().is_err() || !self.peers.waits() {
+                return;
+            }
+            if self.poll_for(Duration::from_millis(10)).is_some() {
+                return;
+            }
+        }
+    }
+
+    // Polls for so long, and notes what is ready.
+    fn poll_for(&mut self, left: Duration) -> Option<Turn> {
+        if self.poll.poll(&mut self.events, Some(left)).is_err() {
+            return Some(Turn::Failed);
+        }
+        match note_all(&self.events, &mut self.peers) {
+            Ok(knocks) => self.knocks = self.knocks || knocks,
+            Err(NoMemory) => return Some(Turn::Memory),
+        }
+        self.peers.begin_turns();
+        None
+    }
+}
+
+#[cfg(test)]
+impl Sockets {
+    /// The port at which it listens.
+    pub(crate) fn port(&self) -> Option<u16> {
+        Some(self.listener.local_addr().ok()?.port())
+    }
+}
+
+impl Drop for Sockets {
+    // What was taken is still sent.
+    fn drop(mut self) {
+        self.send_rest();
+        let Sockets {
+            alloc: _,
+            poll: _,
+            events: _,
+            listener: _,
+            knocks: _,
+            peers: _,
+            clock: _,
+            struck: _,
+            watch: _,
+        } = self;
+    }
+}
+
+// A poll, and a socket that listens there and is polled.
+fn listening<R: Net>(rt: &R, listen: &str) -> Option<(Poll, TcpListener)> {
+    let address = address_of(listen)?;
+    let poll = Poll::new(rt).ok()?;
+    let mut listener = TcpListener::bind(rt, address).ok()?;
+    poll.registry()
+        .register(&mut listener, DOOR, Interest::READABLE)
+        .ok()?;
+    Some((poll, listener))
+}
+
+// Notes what a poll told; true where someone may wait to be accepted.
+fn note_all(events: &Events, peers: &mut Peers) -> Result<bool, NoMemory> {
+    let mut knocks = false;
+    for event in events {
+        knocks = note(peers, event)? || knocks;
+    }
+    Ok(knocks)
+}
+
+// Notes one event; true where someone may wait to be accepted.
+fn note(peers: &mut Peers, event: &Event) -> Result<bool, NoMemory> {
+    let token = event.token();
+    if token == DOOR {
+        return Ok(true);
+    }
+    if let Ok(number) = u32::try_from(token.0) {
+        peers.note(number, event)?;
+    }
+    Ok(false)
+}
