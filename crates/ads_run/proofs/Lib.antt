@@ -1,5 +1,9 @@
-pub mod ReadingLemmas
-pub mod EndLemmas
-pub mod PromiseLemmas
 pub mod ToldLemmas
 pub mod PlayLemmas
+pub mod PromiseLemmas
+pub mod ReadingLemmas
+pub mod ReadLemmas
+pub mod EndLemmas
+pub mod ServiceLemmas
+pub mod CauseLemmas
+pub mod SignalLemmas

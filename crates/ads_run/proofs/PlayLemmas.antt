@@ -15,19 +15,16 @@ use Rattle.ads_product.specs.Server.{server_start, server_text}
 use Rattle.ads_served.specs.Standing.{Standing, standing_after_all}
 use Rattle.replay_script.specs.Playing.{IsUnused, IsPlay}
 use Rattle.replay_script.proofs.StandingPlayed.{state_played, notes_played}
+use Rattle.ads_run.specs.Outcomes.{at_start}
 use Rattle.server_core.specs.CoreState.{started}
 use Rattle.server_core.specs.Served.{World, Client, served, served_step}
 use Rattle.server_core.specs.Serves.{CoreView, Serves, HasCounts, StandsAt}
 
--- a core before any move
-abbrev first : Description → List Wave → Standing World Client
-first d waves = record { running = started d waves; notes = [] }
+pub stands_at_start : (core : CoreView) (d : Description) (waves : List Wave) → Serves core (started d waves) → HasCounts core (started d waves) → core.server.notes ≡ [] → StandsAt core (at_start d waves)
+stands_at_start core d waves serves counted notes = record { serves = serves; counted = counted; notes = notes }
 
-pub stands_first : (core : CoreView) (d : Description) (waves : List Wave) → Serves core (started d waves) → HasCounts core (started d waves) → core.server.notes ≡ [] → StandsAt core (first d waves)
-stands_first core d waves serves counted notes = record { serves = serves; counted = counted; notes = notes }
-
-first_unused : (d : Description) (waves : List Wave) → IsUnused (first d waves)
-first_unused d waves = record { none = refl; free = refl }
+start_unused : (d : Description) (waves : List Wave) → IsUnused (at_start d waves)
+start_unused d waves = record { none = refl; free = refl }
 
 -- what the core's log and counts come to
 pub text_played : (core new : CoreView) (d : Description) (waves : List Wave) (lines : List ScriptLine) (log : List Move) (text : _) → Serves core (started d waves) → HasCounts core (started d waves) → core.server.notes ≡ []
@@ -36,8 +33,8 @@ pub text_played : (core new : CoreView) (d : Description) (waves : List Wave) (l
     → text ≡ server_text d waves lines
 unfolding served
 text_played core new d waves lines log text serves counted none play told =
-    let x = first d waves in
-    let played = play x (stands_first core d waves serves counted none) (first_unused d waves) in
+    let x = at_start d waves in
+    let played = play x (stands_at_start core d waves serves counted none) (start_unused d waves) in
     let y = standing_after_all served_step (notes_of_event served) x log in
     let notes : y.notes ≡ notes_of served (server_start d waves) log = notes_played served x log in
     let state : y.running.state ≡ state_after served_step (server_start d waves) log = state_played served_step (notes_of_event served) x log in

@@ -1,4 +1,4 @@
--- The play of a script keeps the promises.
+-- A log in turns keeps the promises, so the play of a script does; and a log of offers keeps what stands of them.
 use Rattle.std.proofs.Common.{◌≡◌, ℕ, List, [], ◌∷◌, ◌++◌, refl, sym, ap, ◌∙◌, append-nil, subst}
 use Rattle.signals.specs.Wave.{Wave}
 use Rattle.ads_outside.specs.declared.moves.Move.{Move}
@@ -13,13 +13,13 @@ use Rattle.ads_machine.specs.Turns.{KeepsTurns}
 use Rattle.ads_machine.specs.Delivery.{AreOffers}
 use Rattle.ads_machine.specs.Answers.{all_answered}
 use Rattle.ads_machine.proofs.Changes.{state_after-append}
-use Rattle.ads_machine.proofs.TurnsKept.{offers_whole}
-use Rattle.ads_machine.proofs.ServerDelivers.{server_takes_output, server_takes_all}
+use Rattle.ads_machine.proofs.TurnsKept.{offers_whole, takes_output}
+use Rattle.ads_machine.proofs.ServerDelivers.{server_only_adds, server_takes_output, server_takes_all}
 use Rattle.ads_laws.proofs.Exact.{changes_only_by_writes}
 use Rattle.ads_product.specs.Server.{read_description, server_device, server, server_start, server_after, server_play}
 use Rattle.ads_product.specs.ServerLaws.{IsUntouchedHere}
 use Rattle.ads_product.proofs.ServerProofs.{server_plays_in_turns, server_is_isolated, server_takes_as_alone, server_refuses_dead_handles}
-use Rattle.ads_run.specs.Promises.{GivesFramesInOrder, ChangesByWrites, IsServedAsAlone, KeepsPromises, PlayKeepsPromises}
+use Rattle.ads_run.specs.Promises.{GivesFramesInOrder, ChangesByWrites, IsServedAsAlone, BeginsAsAlone, KeepsPromises, KeepsPromisesSoFar, PlayKeepsPromises}
 
 frames_in_order : (d : Description) (waves : List Wave) (log : List Move) → KeepsTurns server (server_start d waves) log
     → GivesFramesInOrder d waves log
@@ -63,6 +63,21 @@ turns_keep_promises d waves log turns = record {
   frames = frames_in_order d waves log turns;
   writes = λ before after m is. changes_by_writes d waves before m;
   isolated = served_as_alone d waves log turns;
+  dead_handles = server_refuses_dead_handles;
+}
+
+begins_as_alone : (d : Description) (waves : List Wave) (log : List Move) → AreOffers server (server_start d waves) log
+    → (c : ℕ) → IsUntouchedHere d waves c log → BeginsAsAlone d waves c log
+begins_as_alone d waves log offers c untouched =
+    let taken = server_takes_as_alone d waves c log untouched in
+    record { given = server_is_isolated d waves c log untouched; begins = taken.begins offers }
+
+pub offers_keep_promises : (d : Description) (waves : List Wave) (log : List Move) → AreOffers server (server_start d waves) log
+    → KeepsPromisesSoFar d waves log
+offers_keep_promises d waves log offers = record {
+  begins = λ c. takes_output World Client server (world_of d waves) c log (server_only_adds World Client server_device) offers;
+  writes = λ before after m is. changes_by_writes d waves before m;
+  isolated = begins_as_alone d waves log offers;
   dead_handles = server_refuses_dead_handles;
 }
 

@@ -125,7 +125,7 @@ decided_first None over name failed o h = let one = decided_none None (over []) 
 decided_first (Some files) over name failed o h = decided_none (Some files) (over files) name failed o h
 
 -- a fault behind a later count is one behind an earlier one
-rose_from : (old mid new : ℕ) → old ≤ mid → Rose mid new → Rose old new
+pub rose_from : (old mid new : ℕ) → old ≤ mid → Rose mid new → Rose old new
 rose_from old mid new later rose = search rules
 
 -- what is decided of the script over a description that was read is decided of both files

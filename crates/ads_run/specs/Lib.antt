@@ -1,11 +1,16 @@
 pub mod StatusTable
+pub mod Ending
 pub mod BuiltIn
 pub mod Tasks
 pub mod ProgramWaves
 pub mod Report
 pub mod Told
+pub mod Promises
+pub mod Service
 pub mod Verdict
 pub mod Readings
+pub mod Prints
+pub mod Serving
 pub mod Ends
-pub mod Promises
+pub mod Causes
 pub mod Outcomes

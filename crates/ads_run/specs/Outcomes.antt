@@ -1,18 +1,23 @@
 -- Outcomes of a command against its verdict; no public clause cites this.
-use Rattle.std.specs.Prelude.{◌≡◌, ◌⊎◌, ◌≤◌, ◌<◌, ℕ, List, length, Option, Some, Result, Ok, Err, IsSomeAnd}
+use Rattle.std.specs.Prelude.{◌≡◌, ◌⊎◌, ◌≤◌, ◌<◌, ℕ, List, [], length, Option, Some, Result, Ok, Err, IsSomeAnd}
 use Rattle.ads_outside.specs.declared.named_file.NamedFile.{NamedFile}
 use Rattle.ads_outside.specs.Limit.{file_limit}
 use Rattle.ads_outside.specs.Named.{bytes_of}
+use Rattle.signals.specs.Wave.{Wave}
+use Rattle.ads_plant.specs.Description.{Description}
+use Rattle.ads_served.specs.Standing.{Standing}
+use Rattle.server_core.specs.CoreState.{started}
+use Rattle.server_core.specs.Served.{World, Client}
 use Rattle.symbol_file.specs.declared.fault.DescFault.{DescFault}
 use Rattle.symbol_file.specs.declared.fault.DescFault.TheVariants as fault
 use Rattle.ads_run.specs.declared.outcome.Outcome.{Outcome}
 use Rattle.ads_run.specs.declared.status.Status.{Status}
 use Rattle.ads_run.specs.declared.status.Status.TheVariants as status
-use Rattle.ads_run.specs.Verdict.{Verdict, ended}
+use Rattle.ads_run.specs.Verdict.{Verdict, Ends, ended}
 use Rattle.ads_run.specs.Readings.{OverFile}
 
 abbrev pub verdict_in : Outcome → Verdict
-verdict_in o = record { status = o.status; text = o.text }
+verdict_in o = Ends (record { status = o.status; text = o.text })
 
 -- the outcome is the verdict's
 abbrev pub IsOutcome : Verdict → Outcome → Type 0
@@ -60,20 +65,34 @@ IsOfScript s = ⊥
 abbrev pub IsOfScriptFile : Status → Type 0
 IsOfScriptFile s = IsOfScript s ⊎ IsOfFile s
 
--- no usage, and no want of memory or failed writing
-abbrev pub IsOfReplay : Status → Type 0
-IsOfReplay status.Usage = ⊥
-IsOfReplay status.WriteFault = ⊥
-IsOfReplay status.Memory = ⊥
-IsOfReplay s = Unit {0}
+-- how a task ends that asks its files alone, want of memory and a failed writing aside
+abbrev pub IsOfFileTask : Status → Type 0
+IsOfFileTask status.Usage = ⊥
+IsOfFileTask status.WriteFault = ⊥
+IsOfFileTask status.LinkFault = ⊥
+IsOfFileTask status.Budget = ⊥
+IsOfFileTask status.Memory = ⊥
+IsOfFileTask s = Unit {0}
 
--- no want of memory or failed writing
-abbrev pub IsOfRun : Status → Type 0
-IsOfRun status.WriteFault = ⊥
-IsOfRun status.Memory = ⊥
-IsOfRun s = Unit {0}
+-- how a service ends, whose description is accepted
+abbrev pub IsOfService : Status → Type 0
+IsOfService status.Done = Unit {0}
+IsOfService status.WriteFault = Unit {0}
+IsOfService status.LinkFault = Unit {0}
+IsOfService status.Budget = Unit {0}
+IsOfService status.Memory = Unit {0}
+IsOfService s = ⊥
+
+-- or its description is refused
+abbrev pub IsOfServe : Status → Type 0
+IsOfServe (status.BadDescription n item) = Unit {0}
+IsOfServe s = IsOfService s
 
 -- a description that is refused
 abbrev pub status_of_fault : DescFault → Status
 status_of_fault fault.Syntax = status.BadDescription 0 0
 status_of_fault (fault.Rule number item) = status.BadDescription number item
+
+-- a server that is about to begin
+abbrev pub at_start : Description → List Wave → Standing World Client
+at_start d waves = record { running = started d waves; notes = [] }

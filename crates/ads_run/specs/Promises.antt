@@ -1,6 +1,8 @@
--- What a played script promises: of the log of its play over a description, with signals that begin so.
+-- What a log promises: of a script's play over a description, with signals that begin so, or of what is served.
 use Rattle.std.specs.Prelude.{◌≡◌, ℕ, List, [], ◌++◌, ◌∷◌, false}
 use Rattle.signals.specs.Wave.{Wave}
+use Rattle.ads_outside.specs.declared.end.End.{End}
+use Rattle.ads_outside.specs.declared.end.End.TheVariants as end
 use Rattle.ads_outside.specs.declared.moves.Move.{Move}
 use Rattle.ads_plant.specs.Description.{Description}
 use Rattle.ads_plant.specs.World.{ByteName, byte_at}
@@ -49,6 +51,25 @@ pub record KeepsPromises (d : Description) (waves : List Wave) (log : List Move)
   pub isolated : (c : ℕ) → IsUntouchedHere d waves c log → IsServedAsAlone d waves c log
   -- an access by a handle that is not live is refused and touches nothing
   pub dead_handles : ServerRefusesDeadHandles
+
+-- the same of what it would be given alone, where the log may be cut off in mid-turn
+pub record BeginsAsAlone (d : Description) (waves : List Wave) (c : ℕ) (log : List Move) : Type 0 where
+  pub given : server_output d waves c log ≡ server_output d waves c (projection_of c log)
+  pub begins : IsPrefix (taken_of c log) (server_output d waves c (projection_of c log))
+
+-- what stands of the promises where want of memory may have cut off the log in mid-turn
+pub record KeepsPromisesSoFar (d : Description) (waves : List Wave) (log : List Move) : Type 0 where
+  pub begins : (c : ℕ) → IsPrefix (taken_of c log) (server_output d waves c log)
+  pub writes : (before after : List Move) (m : Move) → log ≡ before ++ m ∷ after → ChangesByWrites d waves before m
+  pub isolated : (c : ℕ) → IsUntouchedHere d waves c log → BeginsAsAlone d waves c log
+  pub dead_handles : ServerRefusesDeadHandles
+
+-- what a log promises that ended so
+abbrev pub KeepsPromisesAt : End → Description → List Wave → List Move → Type 0
+KeepsPromisesAt end.Done d waves log = KeepsPromises d waves log
+KeepsPromisesAt end.Budget d waves log = KeepsPromises d waves log
+KeepsPromisesAt end.LinkFault d waves log = KeepsPromises d waves log
+KeepsPromisesAt end.Memory d waves log = KeepsPromisesSoFar d waves log
 
 -- the promises of a script's play
 abbrev pub PlayKeepsPromises : Description → List Wave → List ScriptLine → Type 0

@@ -2,6 +2,8 @@
 use Rattle.std.specs.Prelude.{◌≡◌, ◌⊎◌, ℕ, List, [], ◌∷◌, Option, Some, None}
 use Rattle.ads_outside.specs.declared.named_file.NamedFile.{NamedFile}
 use Rattle.ads_outside.specs.FilesState.{ReadsSome, ReadsAll}
+use Rattle.ads_run.specs.declared.file_task.FileTask.{FileTask}
+use Rattle.ads_run.specs.declared.file_task.FileTask.TheVariants as file_task
 use Rattle.ads_run.specs.declared.status.Status.{Status}
 use Rattle.ads_run.specs.declared.status.Status.TheVariants as status
 use Rattle.ads_run.specs.declared.task.Task.{Task}
@@ -44,8 +46,12 @@ ReadsScript (status.BadDescription n item) old new script = new ≡ old
 ReadsScript s old new script = ReadsAll old new (script ∷ [])
 
 -- the files that a run of a task has read, which ended so
+abbrev pub ReadsFilesOf : FileTask → Status → Names → Names → Type 0
+ReadsFilesOf (file_task.Selftest script) s old new = ReadsOne s old new script
+ReadsFilesOf (file_task.Check description) s old new = ReadsOne s old new description
+ReadsFilesOf (file_task.Replay description script) s old new = ReadsBoth s old new description script
+
 abbrev pub ReadsFiles : Option Task → Status → Names → Names → Type 0
 ReadsFiles None s old new = ReadsAll old new []
-ReadsFiles (Some (task.Selftest script)) s old new = ReadsOne s old new script
-ReadsFiles (Some (task.Check description)) s old new = ReadsOne s old new description
-ReadsFiles (Some (task.Replay description script)) s old new = ReadsBoth s old new description script
+ReadsFiles (Some (task.OfFiles t)) s old new = ReadsFilesOf t s old new
+ReadsFiles (Some (task.Serve description listen events)) s old new = ReadsOne s old new description

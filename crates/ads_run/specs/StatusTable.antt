@@ -28,6 +28,8 @@ row_of (status.BadDescription rule item) = record { number = 2; line = descripti
 row_of (status.BadScript n) = record { number = 3; line = line (codes "ads: script line " ++ decimal n) }
 row_of status.ReadFault = record { number = 4; line = line (codes "ads: read fault") }
 row_of status.WriteFault = record { number = 5; line = [] }
+row_of status.LinkFault = record { number = 6; line = line (codes "ads: link fault") }
+row_of status.Budget = record { number = 7; line = line (codes "ads: budget") }
 row_of status.Memory = record { number = 10; line = line (codes "ads: memory") }
 row_of status.TooLong = record { number = 12; line = line (codes "ads: file too long") }
 

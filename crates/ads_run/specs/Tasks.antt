@@ -3,15 +3,19 @@ use Rattle.std.specs.Prelude.{ℕ, List, Option, Some, None}
 use Rattle.cli_words.specs.declared.command.Command.{Command}
 use Rattle.cli_words.specs.declared.command.Command.TheVariants as command
 use Rattle.cli_words.specs.Commands.{command_of}
+use Rattle.ads_run.specs.declared.file_task.FileTask.{FileTask}
+use Rattle.ads_run.specs.declared.file_task.FileTask.TheVariants as file_task
 use Rattle.ads_run.specs.declared.task.Task.{Task}
 use Rattle.ads_run.specs.declared.task.Task.TheVariants as task
 
 -- the task of a command; the other commands are not built
 unfoldable pub task_of_command : Option Command → Option Task
 task_of_command None = None
-task_of_command (Some (command.Selftest script)) = Some (task.Selftest script)
-task_of_command (Some (command.Check description)) = Some (task.Check description)
-task_of_command (Some (command.Replay description script)) = Some (task.Replay description script)
+task_of_command (Some (command.Selftest script)) = Some (task.OfFiles (file_task.Selftest script))
+task_of_command (Some (command.Check description)) = Some (task.OfFiles (file_task.Check description))
+task_of_command (Some (command.Replay description script)) =
+    Some (task.OfFiles (file_task.Replay description script))
+task_of_command (Some (command.Serve description listen events)) = Some (task.Serve description listen events)
 task_of_command (Some c) = None
 
 -- the task that the words ask for, if they are a command that is built

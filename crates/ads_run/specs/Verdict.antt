@@ -1,5 +1,6 @@
--- What the words and the files lead to, where nothing fails: a status, and all that is printed.
+-- What the words and the files lead to, where nothing fails.
 use Rattle.std.specs.Prelude.{ℕ, List, Option, Some, None, Result, Ok, Err, length, nat_lt, if◌then◌else◌}
+use Rattle.ads_outside.specs.declared.listening.Listening.{Listening}
 use Rattle.ads_outside.specs.declared.named_file.NamedFile.{NamedFile}
 use Rattle.ads_outside.specs.Limit.{file_limit}
 use Rattle.ads_outside.specs.Named.{bytes_of}
@@ -8,26 +9,34 @@ use Rattle.ads_plant.specs.Description.{Description}
 use Rattle.ads_machine.specs.ScriptLine.{ScriptLine}
 use Rattle.ads_rules.specs.TextVerdict.{TextVerdict, Described, Breaks, NoDocument, text_verdict}
 use Rattle.ads_product.specs.Server.{server_script, server_text}
+use Rattle.ads_run.specs.declared.file_task.FileTask.{FileTask}
+use Rattle.ads_run.specs.declared.file_task.FileTask.TheVariants as file_task
 use Rattle.ads_run.specs.declared.status.Status.{Status}
 use Rattle.ads_run.specs.declared.status.Status.TheVariants as status
 use Rattle.ads_run.specs.declared.task.Task.{Task}
 use Rattle.ads_run.specs.declared.task.Task.TheVariants as task
 use Rattle.ads_run.specs.BuiltIn.{built_in}
-use Rattle.ads_run.specs.StatusTable.{last_line_of}
+use Rattle.ads_run.specs.Ending.{Ending, line_alone}
 use Rattle.ads_run.specs.Report.{report_of}
+use Rattle.ads_run.specs.Service.{Service}
 use Rattle.ads_run.specs.Tasks.{asked_task}
 
-pub record Verdict : Type 0 where
-  pub status : Status
-  pub text : List ℕ
+-- the run ends so; or a description is served, and what comes over the wire decides
+pub data Verdict : Type 0 where
+  Ends : Ending → Verdict
+  Serves : Service → Verdict
 
 -- a status whose last line is all that is printed
 abbrev pub ended : Status → Verdict
-ended s = record { status = s; text = last_line_of s }
+ended s = Ends (line_alone s)
+
+-- a text is printed, and the run is done
+abbrev pub prints : List ℕ → Verdict
+prints text = Ends (record { status = status.Done; text = text })
 
 -- the play of a script over a description, with signals that begin so; or the script's first line off the grammar
 abbrev pub verdict_of_lines : Description → List Wave → Result (List ScriptLine) ℕ → Verdict
-verdict_of_lines d waves (Ok lines) = record { status = status.Done; text = server_text d waves lines }
+verdict_of_lines d waves (Ok lines) = prints (server_text d waves lines)
 verdict_of_lines d waves (Err number) = ended (status.BadScript number)
 
 abbrev pub verdict_of_script : Description → List Wave → List ℕ → Verdict
@@ -35,7 +44,7 @@ verdict_of_script d waves bytes = verdict_of_lines d waves (server_script bytes)
 
 -- the description's report, or what is wrong with it; 0 stands for no TOML document
 abbrev pub verdict_of_description : TextVerdict → Verdict
-verdict_of_description (Described d) = record { status = status.Done; text = report_of d }
+verdict_of_description (Described d) = prints (report_of d)
 verdict_of_description (Breaks number item) = ended (status.BadDescription number item)
 verdict_of_description NoDocument = ended (status.BadDescription 0 0)
 
@@ -54,16 +63,35 @@ verdict_of_replay waves script NoDocument = ended (status.BadDescription 0 0)
 abbrev pub verdict_of_check : ℕ → List ℕ → Verdict
 verdict_of_check signals bytes = verdict_of_description (text_verdict signals bytes)
 
--- words that are no command are told so. The files are those at the first reading and those at the second.
-abbrev pub verdict_of_task : List Wave → Option Task → List NamedFile → List NamedFile → Verdict
-verdict_of_task waves None first second = ended status.Usage
-verdict_of_task waves (Some (task.Selftest script)) first second =
+-- what is wrong with the description; where nothing is, it is served
+abbrev pub verdict_of_served : Listening → List Wave → ℕ → TextVerdict → Verdict
+verdict_of_served start waves limit (Described d) =
+    Serves (record { start = start; description = d; waves = waves; limit = limit })
+verdict_of_served start waves limit (Breaks number item) = ended (status.BadDescription number item)
+verdict_of_served start waves limit NoDocument = ended (status.BadDescription 0 0)
+
+-- a description with this name and these bytes, where to listen, and how many events are taken at most
+abbrev pub verdict_of_serve : List Wave → List ℕ → List ℕ → ℕ → List ℕ → Verdict
+verdict_of_serve waves name listen limit bytes =
+    verdict_of_served (record { listen = listen; name = name; first = bytes }) waves limit
+    (text_verdict (length waves) bytes)
+
+-- the verdict on a task that asks its files alone. The files are those at the first reading and those at the second.
+abbrev pub verdict_of_file_task : List Wave → FileTask → List NamedFile → List NamedFile → Verdict
+verdict_of_file_task waves (file_task.Selftest script) first second =
     verdict_of_file (verdict_of_script built_in waves) (bytes_of first script)
-verdict_of_task waves (Some (task.Check description)) first second =
+verdict_of_file_task waves (file_task.Check description) first second =
     verdict_of_file (verdict_of_check (length waves)) (bytes_of first description)
-verdict_of_task waves (Some (task.Replay description script)) first second =
+verdict_of_file_task waves (file_task.Replay description script) first second =
     verdict_of_file (λ bytes. verdict_of_replay waves (bytes_of second script) (text_verdict (length waves) bytes))
     (bytes_of first description)
+
+-- words that are no command are told so
+abbrev pub verdict_of_task : List Wave → Option Task → List NamedFile → List NamedFile → Verdict
+verdict_of_task waves None first second = ended status.Usage
+verdict_of_task waves (Some (task.OfFiles t)) first second = verdict_of_file_task waves t first second
+verdict_of_task waves (Some (task.Serve description listen events)) first second =
+    verdict_of_file (verdict_of_serve waves description listen events) (bytes_of first description)
 
 -- the verdict on words, with signals that begin so
 abbrev pub verdict_of : List Wave → List (List ℕ) → List NamedFile → List NamedFile → Verdict

@@ -1,7 +1,7 @@
 //! What is printed at the end of a run.
 
 ghost use Rattle.std.specs.Prelude.{◌≡◌};
-ghost use Rattle.ads_run.specs.Ends.{PrintsVerdict, PutsMemoryLine};
+ghost use Rattle.ads_run.specs.Prints.{PrintsEnding, PutsMemoryLine};
 
 use crate::last_line::MEMORY_LINE;
 use crate::status::Status;
@@ -9,7 +9,7 @@ use ads_outside::{Put, Sink};
 
 /// Prints a text and ends with a status, or with what the sink answers. No empty piece is put.
 pub fn print_and_end<S: Sink>(out: &mut S, text: &[u8], status: Status) -> Status
-    ensures { PrintsVerdict (record { status = status; text = text.now }) result (S.state out.old) (S.state out.new) }
+    ensures { PrintsEnding (record { status = status; text = text.now }) result (S.state out.old) (S.state out.new) }
 {
     if text.is_empty() {
         return status;

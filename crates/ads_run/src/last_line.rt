@@ -12,6 +12,9 @@ use std::alloc::Global;
 /// The line on words that are no command.
 pub const USAGE_LINE: &[u8] = b"ads: usage\n";
 
+/// The line on a wire that failed.
+pub const LINK_FAULT_LINE: &[u8] = b"ads: link fault\n";
+
 /// The line on want of memory, which takes none.
 pub const MEMORY_LINE: &[u8] = b"ads: memory\n";
 
@@ -28,6 +31,8 @@ pub fn last_line(alloc: Global, status: Status) -> Result<Octets, NoMemory>
         Status::BadScript(number) => return bad_script_line(alloc, number),
         Status::ReadFault => b"ads: read fault\n".as_slice(),
         Status::WriteFault => b"".as_slice(),
+        Status::LinkFault => LINK_FAULT_LINE,
+        Status::Budget => b"ads: budget\n".as_slice(),
         Status::Memory => MEMORY_LINE,
         Status::TooLong => b"ads: file too long\n".as_slice(),
     };

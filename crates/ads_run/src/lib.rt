@@ -1,4 +1,4 @@
-//! The server's commands as a library: `run` over any files and any sink, and the run over the real ones.
+//! The server's commands as a library: `run` over any files, any wire and any sink, and the run over the real ones.
 #![tactic(auto)]
 
 mod built_in;
@@ -6,6 +6,7 @@ mod check;
 mod commands;
 mod ending;
 mod file;
+mod file_task;
 mod last_line;
 mod laws;
 mod outcome;
@@ -16,7 +17,10 @@ mod replay;
 mod report;
 mod script_run;
 mod selftest;
+mod serve;
+mod serving;
 mod status;
+mod summary;
 mod task;
 mod top_call;
 

@@ -9,15 +9,14 @@ ghost use Rattle.type_layout.specs.Descriptions.{description_of};
 ghost use Rattle.ads_product.specs.Server.{server_text};
 ghost use Rattle.ads_served.specs.Standing.{Standing};
 ghost use Rattle.replay_script.specs.Fresh.{OpenNew};
-ghost use Rattle.replay_script.specs.Shown.{summary_from};
-ghost use Rattle.server_core.specs.Counts.{counts_in};
 ghost use Rattle.server_core.specs.Served.{World, Client};
 ghost use Rattle.server_core.specs.Serves.{StandsAt};
 
+use crate::summary::put_summary;
 use ads_base::{NoMemory, Octets};
 use ads_outside::Log;
-use replay_script::{Counts, Script, log_text, summary_text};
-use server_core::{Core, Sources, Summary};
+use replay_script::{Script, log_text};
+use server_core::{Core, Sources};
 use std::alloc::Global;
 use std::thread::Threads;
 use type_layout::Description;
@@ -48,19 +47,6 @@ fn text_of<S: Sources>(alloc: Global, core: &Core<S>, log: &Log) -> Result<Octet
 {
     let mut text = Octets::new(alloc);
     log_text(alloc, log, core.reload_notes(), &mut text)?;
-    summary_text(alloc, &counts_of(core.summary()), &mut text)?;
+    put_summary(alloc, core, &mut text)?;
     Ok(text)
-}
-
-fn counts_of(summary: Summary) -> Counts
-    ensures { summary_from result ≡ counts_in summary }
-{
-    Counts {
-        connections: summary.connections,
-        requests: summary.requests,
-        replies: summary.replies,
-        samples: summary.samples,
-        accepted: summary.accepted,
-        refused: summary.refused,
-    }
 }

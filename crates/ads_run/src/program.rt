@@ -1,9 +1,11 @@
-//! The program's run: its words, the files of the disk, standard output, and the signals that it has.
+//! The program's run: its words, the files of the disk, sockets, standard output, and the signals that it has.
 
 ghost use Rattle.std.specs.Prelude.{◌≡◌, ◌≢◌, drop, map, string_bytes, IfOk, OnErr};
 ghost use Rattle.ads_outside.specs.Rose.{Rose};
-ghost use Rattle.ads_run.specs.Verdict.{verdict_of, ended};
-ghost use Rattle.ads_run.specs.Ends.{EndsBy, PrintsVerdict};
+ghost use Rattle.ads_run.specs.Verdict.{verdict_of};
+ghost use Rattle.ads_run.specs.Ending.{line_alone};
+ghost use Rattle.ads_run.specs.Ends.{EndsBy};
+ghost use Rattle.ads_run.specs.Prints.{PrintsEnding};
 ghost use Rattle.ads_run.specs.ProgramWaves.{program_waves};
 ghost use Rattle.ads_run.specs.Readings.{OverFiles};
 
@@ -13,16 +15,16 @@ use crate::program_signals::ProgramSignals;
 use crate::status::Status;
 use crate::top_call::run;
 use ads_base::NoMemory;
-use ads_edge::{RealFiles, RealSink};
-use ads_outside::{Files, Sink};
+use ads_edge::{RealFiles, RealSink, RealWire};
+use ads_outside::{Files, Sink, Wire};
 use signals::Signal;
 use std::alloc::Global;
 use std::env::{self, Args};
 use std::io::ErrorKind;
 use std::thread::Threads;
 
-/// The status of the run over the words of the process, the files of the disk and standard output, with the threads that
-/// the program may start. A word that is not UTF-8 is no word of a command.
+/// The status of the run over the words of the process, the files of the disk, sockets and standard output, with the
+/// threads that the program may start. A word that is not UTF-8 is no word of a command.
 pub fn status_of<T: Threads + Sync>(rt: &HostRuntime, threads: &T) -> Status {
     let mut out = RealSink::new(rt);
     match env::args(rt) {
@@ -42,11 +44,13 @@ fn status_of_args<T: Threads + Sync>(
 ) -> Result<Status, NoMemory> {
     let all: Vec<String> = args.collect(rt.alloc())?;
     let mut files = RealFiles::new(rt.alloc(), rt.clone()?)?;
+    let mut wire = RealWire::new(rt.alloc(), *rt)?;
     run_program(
         threads,
         rt.alloc(),
         words_of(all.as_slice()),
         &mut files,
+        &mut wire,
         out,
     )
 }
@@ -62,7 +66,7 @@ fn words_of(all: &[String]) -> &[String]
 fn end_without_words<S: Sink>(kind: ErrorKind, out: &mut S) -> Status
     ensures memory { kind ≡ ErrorKind.OutOfMemory → result ≡ Status.Memory }
     ensures usage { kind ≢ ErrorKind.OutOfMemory
-        → PrintsVerdict (ended Status.Usage) result (S.state out.old) (S.state out.new) }
+        → PrintsEnding (line_alone Status.Usage) result (S.state out.old) (S.state out.new) }
 {
     if kind == ErrorKind::OutOfMemory {
         return end_without_memory(out);
@@ -71,17 +75,19 @@ fn end_without_words<S: Sink>(kind: ErrorKind, out: &mut S) -> Status
 }
 
 // The run with the signals that the program has.
-fn run_program<T: Threads + Sync, F: Files, S: Sink>(
+fn run_program<T: Threads + Sync, F: Files, W: Wire, S: Sink>(
     threads: &T,
     alloc: Global,
     words: &[String],
     files: &mut F,
+    wire: &mut W,
     out: &mut S,
 ) -> Result<Status, NoMemory>
     ensures ok { IfOk result (λ status. OverFiles (F.state files.old).held (λ first second.
         EndsBy (verdict_of program_waves (map string_bytes words.now) first second)
-        (Rose (F.state files.old).faults (F.state files.new).faults) status (S.state out.old) (S.state out.new))) }
-    ensures no_memory { OnErr result ((files.new ≡ files.old) × (out.new ≡ out.old)) }
+        (Rose (F.state files.old).faults (F.state files.new).faults) status (S.state out.old) (S.state out.new)
+        (W.state wire.old).history (W.state wire.new).history)) }
+    ensures no_memory { OnErr result ((files.new ≡ files.old) × (wire.new ≡ wire.old) × (out.new ≡ out.old)) }
 {
     let ProgramSignals {
         ramp,
@@ -92,5 +98,5 @@ fn run_program<T: Threads + Sync, F: Files, S: Sink>(
     signals.push(Box::new(alloc, ramp)?)?;
     signals.push(Box::new(alloc, square)?)?;
     signals.push(Box::new(alloc, table)?)?;
-    Ok(run(threads, alloc, words, files, out, signals))
+    Ok(run(threads, alloc, words, files, wire, out, signals))
 }

@@ -1,16 +1,16 @@
 //! `replay`: a script is played on the description of a file.
 
-ghost use Rattle.std.specs.Prelude.{◌<◌, ◌^◌, ◌≡◌, ◌≤◌, ◌∷◌, [], IfOk, OnErr, length, Some};
+ghost use Rattle.std.specs.Prelude.{◌<◌, ◌^◌, ◌≡◌, ◌≤◌, ◌∷◌, [], IfOk, OnErr, length};
 ghost use Rattle.ads_outside.specs.FilesState.{ReadsAll, ReadsSome};
 ghost use Rattle.ads_outside.specs.Named.{bytes_of};
 ghost use Rattle.ads_outside.specs.Rose.{Rose};
 ghost use Rattle.ads_plant.specs.Accepted.{IsAccepted};
 ghost use Rattle.ads_rules.specs.TextVerdict.{text_verdict};
 ghost use Rattle.type_layout.specs.Descriptions.{description_of};
-ghost use Rattle.ads_run.specs.Verdict.{verdict_of_file, verdict_of_script, verdict_of_replay, verdict_of_task};
-ghost use Rattle.ads_run.specs.Outcomes.{Decides, IsOfScriptFile, IsOfReplay};
+ghost use Rattle.ads_run.specs.Verdict.{verdict_of_file, verdict_of_script, verdict_of_replay, verdict_of_file_task};
+ghost use Rattle.ads_run.specs.Outcomes.{Decides, IsOfScriptFile, IsOfFileTask};
 ghost use Rattle.ads_run.specs.Readings.{OverFile, OverFiles, ReadsBoth, ReadsScript};
-ghost use Rattle.ads_run.specs.declared.task.Task.TheVariants as Task;
+ghost use Rattle.ads_run.specs.declared.file_task.FileTask.TheVariants as FileTask;
 
 use crate::check::bad_description;
 use crate::file::bytes_of_file;
@@ -37,9 +37,9 @@ pub fn replay<T: Threads + Sync, F: Files, G: Sources>(
 ) -> Result<Outcome, NoMemory>
     requires few { length (G.waves signals) < 2 ^ 32 }
     ensures decided { IfOk result (λ o. OverFiles (F.state files.old).held (λ first second.
-        Decides (verdict_of_task (G.waves signals) (Some (Task.Replay description.now script.now)) first second)
+        Decides (verdict_of_file_task (G.waves signals) (FileTask.Replay description.now script.now) first second)
         (Rose (F.state files.old).faults (F.state files.new).faults) o)) }
-    ensures status { IfOk result (λ o. IsOfReplay o.status) }
+    ensures status { IfOk result (λ o. IsOfFileTask o.status) }
     ensures reads { IfOk result (λ o. ReadsBoth o.status (F.state files.old).names (F.state files.new).names description.now script.now) }
     ensures reads_some { OnErr result (ReadsSome (F.state files.old).names (F.state files.new).names (description.now ∷ script.now ∷ [])) }
     ensures fault { IfOk result (λ o. o.status ≡ Status.ReadFault
@@ -68,7 +68,7 @@ fn replay_text<T: Threads + Sync, F: Files, G: Sources>(
     ensures decided { IfOk result (λ o. OverFile (F.state files.old).held (λ second.
         Decides (verdict_of_replay (G.waves signals) (bytes_of second script.now) (text_verdict (length (G.waves signals)) bytes.now))
         (Rose (F.state files.old).faults (F.state files.new).faults) o)) }
-    ensures status { IfOk result (λ o. IsOfReplay o.status) }
+    ensures status { IfOk result (λ o. IsOfFileTask o.status) }
     ensures reads { IfOk result (λ o. ReadsScript o.status (F.state files.old).names (F.state files.new).names script.now) }
     ensures reads_some { OnErr result (ReadsSome (F.state files.old).names (F.state files.new).names (script.now ∷ [])) }
     ensures later { (F.state files.old).faults ≤ (F.state files.new).faults }
@@ -87,7 +87,7 @@ fn replay_text<T: Threads + Sync, F: Files, G: Sources>(
 }
 
 // The play of a script's file over an accepted description.
-#[tactic(auto, using(crate::proofs::EndLemmas::some_of_one))]
+#[tactic(auto, using(crate::proofs::ReadLemmas::some_of_one))]
 fn replay_file<T: Threads + Sync, F: Files, G: Sources>(
     rt: &T,
     alloc: Global,

@@ -17,6 +17,10 @@ pub enum Status {
     ReadFault,
     /// Standard output could not be written.
     WriteFault,
+    /// The wire could not be started, or gave no further event.
+    LinkFault,
+    /// As many events were taken as were allowed.
+    Budget,
     /// Memory was wanting.
     Memory,
     /// A file has more than 16,777,216 bytes.
@@ -37,6 +41,8 @@ impl Status {
             Status::BadScript(_) => 3,
             Status::ReadFault => 4,
             Status::WriteFault => 5,
+            Status::LinkFault => 6,
+            Status::Budget => 7,
             Status::Memory => 10,
             Status::TooLong => 12,
         }

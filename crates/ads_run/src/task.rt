@@ -3,6 +3,7 @@
 ghost use Rattle.std.specs.Prelude.{◌≡◌, map, string_bytes, IfOk};
 ghost use Rattle.ads_run.specs.Tasks.{task_of_command, asked_task};
 
+use crate::file_task::FileTask;
 use ads_base::NoMemory;
 use cli_words::{Command, Text, read_words};
 use std::alloc::Global;
@@ -10,12 +11,14 @@ use std::alloc::Global;
 /// A command that is built, with the names of its files.
 #[derive(Drop)]
 pub enum Task {
-    /// A script is played on the built-in description.
-    Selftest { script: Text },
-    /// A description is checked.
-    Check { description: Text },
-    /// A script is played on a description.
-    Replay { description: Text, script: Text },
+    /// It asks its files alone.
+    OfFiles(FileTask),
+    /// A description is served over the wire, until so many events were taken.
+    Serve {
+        description: Text,
+        listen: Text,
+        events: u64,
+    },
 }
 
 /// The task that the words ask for; none where they are no command that is built.
@@ -31,16 +34,29 @@ fn task_of(command: Option<Command>) -> Option<Task>
     ensures { result ≡ task_of_command command }
 {
     match command {
-        Some(Command::Selftest { script }) => Some(Task::Selftest { script }),
-        Some(Command::Check { description }) => Some(Task::Check { description }),
+        Some(Command::Selftest { script }) => Some(Task::OfFiles(FileTask::Selftest { script })),
+        Some(Command::Check { description }) => {
+            Some(Task::OfFiles(FileTask::Check { description }))
+        }
         Some(
             Command::Replay {
                 description,
                 script,
             },
-        ) => Some(Task::Replay {
+        ) => Some(Task::OfFiles(FileTask::Replay {
             description,
             script,
+        })),
+        Some(
+            Command::Serve {
+                description,
+                listen,
+                events,
+            },
+        ) => Some(Task::Serve {
+            description,
+            listen,
+            events,
         }),
         _ => None,
     }

@@ -2,8 +2,9 @@
 
 use crate::fault::Fault;
 use crate::run_case::Case;
+use crate::wire_case::WireCase;
 use ads_base::{Calls, Octets};
-use ads_outside::{NamedFile, NamedFiles};
+use ads_outside::{Event, NamedFile, NamedFiles};
 use std::alloc::Global;
 use std::mem;
 
@@ -12,7 +13,10 @@ use std::mem;
 pub enum Target {
     Nothing,
     File(Octets),
+    /// The description that a wire tells anew.
+    Reload,
     Output,
+    Log,
 }
 
 /// What the lines so far have said.
@@ -23,6 +27,7 @@ pub struct Draft {
     pub failing_puts: Calls,
     pub parts: Calls,
     pub has_signals: bool,
+    pub wire: WireCase,
     pub status: Option<u8>,
     /// Whether a comment says what the run shows.
     pub has_comment: bool,
@@ -42,6 +47,7 @@ impl Draft {
             failing_puts: Calls::new(alloc),
             parts: Calls::new(alloc),
             has_signals: true,
+            wire: WireCase::new(alloc),
             status: None,
             has_comment: false,
             text: Octets::new(alloc),
@@ -61,7 +67,9 @@ impl Draft {
                 }
             }
             Target::File(name) => self.files.push(alloc, NamedFile { name, bytes })?,
+            Target::Reload => self.wire.events.push(alloc, Event::Reload(bytes))?,
             Target::Output => self.out = Some(bytes),
+            Target::Log => self.wire.log = bytes,
         }
         Ok(())
     }
@@ -75,6 +83,7 @@ impl Draft {
             failing_puts,
             parts,
             has_signals,
+            wire,
             status,
             has_comment,
             text: _text,
@@ -98,6 +107,7 @@ impl Draft {
             failing_puts,
             parts,
             has_signals,
+            wire,
             status,
             out,
         })

@@ -3,6 +3,7 @@
 use crate::draft::{Draft, Target};
 use crate::fault::Fault;
 use crate::folder::Folder;
+use crate::wire_case::take_wire_line;
 use ads_base::{Calls, NoMemory, Octets};
 use std::alloc::Global;
 use std::str;
@@ -33,7 +34,13 @@ pub fn take_line(
             let name = Octets::copy_of(alloc, rest.as_bytes())?;
             draft.begin(alloc, Target::File(name))
         }
+        "reload" => draft.begin(alloc, Target::Reload),
         "out" => draft.begin(alloc, Target::Output),
+        "log" => draft.begin(alloc, Target::Log),
+        "opened" | "piece" | "closed" | "tick" | "writable" | "fail-wire" | "cut" => {
+            draft.begin(alloc, Target::Nothing)?;
+            take_wire_line(alloc, &mut draft.wire, key, rest)
+        }
         _ => take_setting(alloc, draft, key, rest),
     }
 }

@@ -1,14 +1,17 @@
-//! Tries whole runs of the server over files and a sink in memory. Each file that data/runs.txt names is one run: its
-//! words, its files, the calls that fail, and the status and the output that must come.
+//! Tries whole runs of the server over files, a wire and a sink in memory. Each file that data/runs.txt names holds runs: their
+//! words, files and events, the calls that fail, and the status, the output and the wire's log that must come.
 #![tactic(auto)]
 
 mod draft;
 mod fault;
 mod folder;
 mod line;
+mod new_events;
 mod run_case;
 mod tally;
 mod told;
+mod wire_case;
+mod wire_log;
 
 use crate::fault::Fault;
 use crate::tally::{Tally, try_all};

@@ -1,7 +1,11 @@
-//! A run over files and a sink in memory.
+//! A run over files, a wire and a sink in memory.
 
+use crate::fault::Fault;
+use crate::new_events::open_new;
+use crate::wire_case::WireCase;
+use crate::wire_log::log_text;
 use ads_base::{Calls, NoMemory, Octets};
-use ads_outside::{Files, MemFiles, MemSink, NamedFiles, Sink};
+use ads_outside::{Files, MemFiles, MemSink, MemWire, NamedFiles, Sink, Wire};
 use ads_run::{ProgramSignals, Status, run};
 use signals::Signal;
 use std::alloc::Global;
@@ -19,44 +23,54 @@ pub struct Case {
     pub parts: Calls,
     /// Whether the program's three signals are handed in, or none.
     pub has_signals: bool,
+    pub wire: WireCase,
     pub status: u8,
     pub out: Octets,
 }
 
-/// What came: the number of the status, and what was printed.
+/// What came: the number of the status, what was printed, and the wire's log.
 #[derive(Drop)]
 pub struct Came {
     pub status: u8,
     pub out: Octets,
+    pub log: Octets,
 }
 
-/// Runs the words of a case over its files.
-pub fn run_case<T: Threads + Sync>(
-    threads: &T,
-    alloc: Global,
-    case: Case,
-) -> Result<Came, NoMemory> {
+/// Runs the words of a case over its files and its wire.
+pub fn run_case<T: Threads + Sync>(threads: &T, alloc: Global, case: Case) -> Result<Came, Fault> {
+    if !open_new(alloc, case.wire.events.as_slice())? {
+        return Err(Fault::Off("two connections have one number"));
+    }
     let mut files = MemFiles::new(alloc, case.files, case.failing_reads);
     let mut sink = MemSink::with_parts(alloc, case.failing_puts, case.parts);
+    let mut wire = MemWire::new(
+        alloc,
+        case.wire.events,
+        case.wire.failing_calls,
+        case.wire.cuts,
+    );
     let words = case.words.as_slice();
     let status = if case.has_signals {
-        run_with_signals(threads, alloc, words, &mut files, &mut sink)?
+        run_with_signals(threads, alloc, words, &mut files, &mut wire, &mut sink)?
     } else {
         let none: Vec<Box<dyn Signal>> = Vec::new(alloc);
-        run(threads, alloc, words, &mut files, &mut sink, none)
+        run(threads, alloc, words, &mut files, &mut wire, &mut sink, none)
     };
     let out = Octets::copy_of(alloc, sink.bytes())?;
+    let log = log_text(alloc, wire.log())?;
     Ok(Came {
         status: status.number(),
         out,
+        log,
     })
 }
 
-fn run_with_signals<T: Threads + Sync, F: Files, S: Sink>(
+fn run_with_signals<T: Threads + Sync, F: Files, W: Wire, S: Sink>(
     threads: &T,
     alloc: Global,
     words: &[String],
     files: &mut F,
+    wire: &mut W,
     sink: &mut S,
 ) -> Result<Status, NoMemory> {
     let ProgramSignals {
@@ -68,5 +82,5 @@ fn run_with_signals<T: Threads + Sync, F: Files, S: Sink>(
     signals.push(Box::new(alloc, ramp)?)?;
     signals.push(Box::new(alloc, square)?)?;
     signals.push(Box::new(alloc, table)?)?;
-    Ok(run(threads, alloc, words, files, sink, signals))
+    Ok(run(threads, alloc, words, files, wire, sink, signals))
 }

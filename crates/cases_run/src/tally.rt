@@ -4,7 +4,7 @@ use crate::draft::Draft;
 use crate::fault::Fault;
 use crate::folder::Folder;
 use crate::line::take_line;
-use crate::run_case::{Case, run_case};
+use crate::run_case::{Came, Case, run_case};
 use crate::told::{tell_difference, tell_end, tell_fault};
 use ads_base::Octets;
 use std::thread::Threads;
@@ -93,15 +93,24 @@ fn try_case<T: Threads + Sync>(
     case: Case,
     tally: &mut Tally,
 ) -> Result<(), Fault> {
-    let wanted_status = case.status;
-    let wanted = Octets::copy_of(rt.alloc(), case.out.as_slice())?;
+    let wanted = Came {
+        status: case.status,
+        out: Octets::copy_of(rt.alloc(), case.out.as_slice())?,
+        log: Octets::copy_of(rt.alloc(), case.wire.log.as_slice())?,
+    };
     let came = run_case(threads, rt.alloc(), case)?;
-    if came.status == wanted_status && came.out.as_slice() == wanted.as_slice() {
+    if is_as_wanted(&came, &wanted) {
         tally.good = tally.good.saturating_add(1);
         return Ok(());
     }
     tally.differing = tally.differing.saturating_add(1);
     tell_difference(rt, name, line)?;
-    tell_end(rt, "came", came.status, came.out.as_slice())?;
-    tell_end(rt, "wanted", wanted_status, wanted.as_slice())
+    tell_end(rt, "came", &came)?;
+    tell_end(rt, "wanted", &wanted)
+}
+
+fn is_as_wanted(came: &Came, wanted: &Came) -> bool {
+    came.status == wanted.status
+        && came.out.as_slice() == wanted.out.as_slice()
+        && came.log.as_slice() == wanted.log.as_slice()
 }

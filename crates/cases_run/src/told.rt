@@ -1,6 +1,7 @@
 //! What is printed of runs that did not go as wanted.
 
 use crate::fault::Fault;
+use crate::run_case::Came;
 use std::str;
 
 /// A file that describes no run: its name, the line, and what is wrong.
@@ -15,10 +16,20 @@ pub fn tell_difference(rt: &HostRuntime, name: &str, line: u32) -> Result<(), Fa
     Ok(())
 }
 
-/// How a run ended, or was to end: its status, and what it printed.
-pub fn tell_end(rt: &HostRuntime, word: &str, status: u8, out: &[u8]) -> Result<(), Fault> {
+/// How a run ended, or was to end: its status, what it printed, and the wire's log.
+pub fn tell_end(rt: &HostRuntime, word: &str, came: &Came) -> Result<(), Fault> {
+    let status = came.status;
     println!(rt; "  {word}: status {status}")?;
-    match str::from_utf8(out) {
+    tell_text(rt, came.out.as_slice())?;
+    if came.log.len() > 0 {
+        println!(rt; "  {word}: log of the wire")?;
+        tell_text(rt, came.log.as_slice())?;
+    }
+    Ok(())
+}
+
+fn tell_text(rt: &HostRuntime, text: &[u8]) -> Result<(), Fault> {
+    match str::from_utf8(text) {
         Ok(text) => tell_lines(rt, text),
         Err(_) => {
             println!(rt; "    bytes that are no text")?;

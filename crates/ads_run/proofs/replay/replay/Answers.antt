@@ -1,5 +1,6 @@
 -- A description that gives no bytes ends the run; one that was read is played over.
-use Rattle.ads_run.proofs.EndLemmas.{on_err, some_behind}
+use Rattle.ads_run.proofs.EndLemmas.{on_err}
+use Rattle.ads_run.proofs.ReadLemmas.{some_behind}
 use Rattle.ads_run.proofs.ReadingLemmas.{decided_first, decided_replay}
 use Rattle.ads_run.proofs.replay.replay.Goals as goal
 

@@ -1,36 +1,40 @@
--- The outcome is printed.
-use Rattle.std.proofs.Common.{map, inr, inl}
+-- How the run ended says why, and what a play promises is proved of every script.
+use Rattle.std.proofs.Common.{map}
 use Rattle.std.specs.Prelude.{string_bytes}
+use Rattle.ads_outside.specs.Rose.{Rose}
 use Rattle.ads_run.specs.Tasks.{asked_task}
-use Rattle.ads_run.proofs.EndLemmas.{ends_as_decided, ends_without_memory, prints_outcome, reads_as_ended}
+use Rattle.ads_run.specs.Verdict.{verdict_of}
+use Rattle.ads_run.proofs.CauseLemmas.{facts_of, own_end}
 use Rattle.ads_run.proofs.PromiseLemmas.{play_keeps_promises}
 use Rattle.ads_run.proofs.top_call.run.Goals as goal
 
-pub returns-in-Ok-clause-ends : goal.returns-in-Ok-clause-ends
-returns-in-Ok-clause-ends g c =
-    let held = (g.F.Files.state c.args.files.now).held in
-    let o = c.in-Ok.outcome in
-    let old = g.S.Sink.state c.args.out.now in
-    let new = g.S.Sink.state c.print_and_end.new.out in
-    ends_as_decided held _ _ o c.print_and_end.result old new
-    (prints_outcome o c.as_slice.result.now c.print_and_end.result old new c.as_slice.ensures c.print_and_end.ensures) c.in-Ok.ensures.decided
+pub returns-clause-usage : goal.returns-clause-usage
+returns-clause-usage g c =
+    (facts_of (g.F.Files.state c.args.files.now).held (g.G.Sources.waves c.args.signals) (asked_task (map string_bytes c.args.words.now))
+    (Rose (g.F.Files.state c.args.files.now).faults (g.F.Files.state c.run_words-status.new.files).faults) c.run_words-status.result
+    (g.S.Sink.state c.args.out.now) (g.S.Sink.state c.run_words-status.new.out)
+    (g.W.Wire.state c.args.wire.now).history (g.W.Wire.state c.run_words-status.new.wire).history c.run_words-status.ensures.ends).usage
 
-pub returns-in-Ok-clause-reads : goal.returns-in-Ok-clause-reads
-returns-in-Ok-clause-reads g c =
-    let o = c.in-Ok.outcome in
-    let old = g.S.Sink.state c.args.out.now in
-    let new = g.S.Sink.state c.print_and_end.new.out in
-    reads_as_ended (asked_task (map string_bytes c.args.words.now)) o c.print_and_end.result _ _ old new c.in-Ok.ensures.plain
-    (prints_outcome o c.as_slice.result.now c.print_and_end.result old new c.as_slice.ensures c.print_and_end.ensures) c.in-Ok.ensures.reads
+pub returns-clause-write_fault : goal.returns-clause-write_fault
+returns-clause-write_fault g c =
+    (facts_of (g.F.Files.state c.args.files.now).held (g.G.Sources.waves c.args.signals) (asked_task (map string_bytes c.args.words.now))
+    (Rose (g.F.Files.state c.args.files.now).faults (g.F.Files.state c.run_words-status.new.files).faults) c.run_words-status.result
+    (g.S.Sink.state c.args.out.now) (g.S.Sink.state c.run_words-status.new.out)
+    (g.W.Wire.state c.args.wire.now).history (g.W.Wire.state c.run_words-status.new.wire).history c.run_words-status.ensures.ends).write_fault
 
-pub returns-in-Err-clause-ends : goal.returns-in-Err-clause-ends
-returns-in-Err-clause-ends g c =
-    ends_without_memory (g.F.Files.state c.args.files.now).held _ _ c.end_without_memory.result
-    (g.S.Sink.state c.args.out.now) (g.S.Sink.state c.end_without_memory.new.out)
-    (λ verdict. inr (inr (c.end_without_memory.ensures.memory, inl c.end_without_memory.ensures.line)))
+pub returns-clause-cause : goal.returns-clause-cause
+returns-clause-cause g c =
+    (facts_of (g.F.Files.state c.args.files.now).held (g.G.Sources.waves c.args.signals) (asked_task (map string_bytes c.args.words.now))
+    (Rose (g.F.Files.state c.args.files.now).faults (g.F.Files.state c.run_words-status.new.files).faults) c.run_words-status.result
+    (g.S.Sink.state c.args.out.now) (g.S.Sink.state c.run_words-status.new.out)
+    (g.W.Wire.state c.args.wire.now).history (g.W.Wire.state c.run_words-status.new.wire).history c.run_words-status.ensures.ends).cause
 
-pub returns-in-Ok-clause-promises : goal.returns-in-Ok-clause-promises
-returns-in-Ok-clause-promises g c = λ d lines. play_keeps_promises d _ lines
+pub returns-clause-complete : goal.returns-clause-complete
+returns-clause-complete g c =
+    own_end (g.F.Files.state c.args.files.now).held (λ first second. verdict_of (g.G.Sources.waves c.args.signals) (map string_bytes c.args.words.now) first second)
+    (g.F.Files.state c.args.files.now) (g.F.Files.state c.run_words-status.new.files) c.run_words-status.result
+    (g.S.Sink.state c.args.out.now) (g.S.Sink.state c.run_words-status.new.out)
+    (g.W.Wire.state c.args.wire.now).history (g.W.Wire.state c.run_words-status.new.wire).history c.run_words-status.ensures.ends
 
-pub returns-in-Err-clause-promises : goal.returns-in-Err-clause-promises
-returns-in-Err-clause-promises g c = λ d lines. play_keeps_promises d _ lines
+pub returns-clause-promises : goal.returns-clause-promises
+returns-clause-promises g c = λ d lines. play_keeps_promises d _ lines

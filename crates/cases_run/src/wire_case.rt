@@ -1,0 +1,79 @@
+//! What the wire of a run gives and takes.
+
+use crate::fault::Fault;
+use ads_base::{Calls, Octets};
+use ads_outside::{Cuts, Event, Events};
+use std::alloc::Global;
+
+/// The events of a wire in memory, which of its calls fail, how many bytes its offers take, and the log that must come.
+#[derive(Drop)]
+pub struct WireCase {
+    pub events: Events,
+    pub failing_calls: Calls,
+    pub cuts: Cuts,
+    pub log: Octets,
+}
+
+impl WireCase {
+    /// A wire that gives nothing.
+    pub fn new(alloc: Global) -> WireCase {
+        WireCase {
+            events: Events::new(alloc),
+            failing_calls: Calls::new(alloc),
+            cuts: Cuts::new(alloc),
+            log: Octets::new(alloc),
+        }
+    }
+}
+
+/// Reads a line on the wire: an event, a call that fails, or how many bytes an offer takes.
+pub fn take_wire_line(
+    alloc: Global,
+    wire: &mut WireCase,
+    key: &str,
+    rest: &str,
+) -> Result<(), Fault> {
+    match key {
+        "cut" => Ok(wire.cuts.push(alloc, conn_of(rest)?)?),
+        "fail-wire" => Ok(wire.failing_calls.push(alloc, number_of(rest)?)?),
+        "piece" => {
+            let event = piece_of(alloc, rest)?;
+            Ok(wire.events.push(alloc, event)?)
+        }
+        _ => {
+            let event = event_of(key, rest)?;
+            Ok(wire.events.push(alloc, event)?)
+        }
+    }
+}
+
+// An event without bytes.
+fn event_of(key: &str, rest: &str) -> Result<Event, Fault> {
+    match key {
+        "opened" => Ok(Event::Opened(conn_of(rest)?)),
+        "closed" => Ok(Event::Closed(conn_of(rest)?)),
+        "writable" => Ok(Event::Writable(conn_of(rest)?)),
+        _ => Ok(Event::Tick(number_of(rest)?)),
+    }
+}
+
+// `1 00002c000000 0501`: a connection, and bytes in hexadecimal, which blanks may part.
+fn piece_of(alloc: Global, rest: &str) -> Result<Event, Fault> {
+    let (conn, digits) = rest.split_once(' ').unwrap_or((rest, ""));
+    let conn = conn_of(conn)?;
+    let mut bytes = Octets::new(alloc);
+    for part in digits.split_ascii_whitespace() {
+        let part = hex::decode(alloc, part);
+        let part = part.map_err(|_| Fault::Off("no bytes in hexadecimal"))?;
+        bytes.put(alloc, part.as_slice())?;
+    }
+    Ok(Event::Piece(conn, bytes))
+}
+
+fn conn_of(text: &str) -> Result<u32, Fault> {
+    text.parse::<u32>().map_err(|_| Fault::Off("no number"))
+}
+
+fn number_of(text: &str) -> Result<u64, Fault> {
+    text.parse::<u64>().map_err(|_| Fault::Off("no number"))
+}
