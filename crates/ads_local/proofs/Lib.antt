@@ -1,0 +1,4 @@
+pub mod LocalOver
+mod Told
+mod CallExamples
+mod WatchExamples

@@ -1,0 +1,2 @@
+pub mod LocalCall
+pub mod Laws

@@ -1,0 +1,6 @@
+pub mod Heard
+pub mod Kept
+pub mod Represents
+pub mod Unanswered
+pub mod Samples
+pub mod Hears
