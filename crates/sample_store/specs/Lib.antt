@@ -1,0 +1,4 @@
+pub mod Views
+pub mod Keeper
+pub mod MapKeeper
+pub mod Places

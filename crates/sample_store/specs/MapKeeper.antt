@@ -1,0 +1,12 @@
+-- A keeper in memory: its rows, and the calls that are to fail.
+use Rattle.std.specs.Prelude.{List, if◌then◌else◌}
+use Rattle.ads_samples.specs.Row.{Row}
+use Rattle.ads_outside.specs.FailingCalls.{FailingCalls, fails_next, called, faulted}
+
+pub record HeldRows : Type 0 where
+  pub rows : List Row
+  pub failing : FailingCalls
+
+-- the calls after one more
+abbrev pub failing_after : FailingCalls → FailingCalls
+failing_after f = if fails_next f then faulted f else called f

@@ -1,0 +1,129 @@
+//! Samples in memory, for tests.
+
+ghost use Rattle.std.specs.Prelude.{◌≡◌, ◌≤◌, [], true, Some, option_map};
+
+use crate::failing::Failing;
+use crate::places::put_row;
+use crate::totals::total_of;
+use crate::{Keeper, KeeperOpen, Kept, Row, Totalled};
+use ads_base::{Calls, NoMemory};
+use std::alloc::Global;
+use std::marker::Model;
+
+/// Samples in memory. Calls with given numbers fail.
+#[derive(Drop)]
+pub struct MapKeeper {
+    alloc: Global,
+    rows: Vec<Row>,
+    failing: Failing,
+}
+
+impl Model for MapKeeper {
+    ghost use Rattle.std.specs.Prelude.{map};
+    ghost use Rattle.sample_store.specs.Views.{row_kept};
+    ghost use Rattle.sample_store.specs.MapKeeper.{HeldRows};
+
+    ghost Value = { HeldRows };
+
+    ghost view = { λ m. record { rows = map row_kept m.rows.items; failing = m.failing } };
+}
+
+impl MapKeeper {
+    ghost use Rattle.ads_outside.specs.FailingCalls.{none_made};
+    ghost use Rattle.ads_samples.specs.Rows.{row_numbered};
+    ghost use Rattle.sample_store.specs.Views.{row_kept};
+
+    /// No rows; the calls of `open`, `put` and `total` with these numbers, counted from 1, fail.
+    pub fn new(alloc: Global, fails: Calls) -> MapKeeper
+        ensures { result ≡ record { rows = []; failing = none_made fails } }
+    {
+        MapKeeper {
+            alloc,
+            rows: Vec::new(alloc),
+            failing: Failing::new(fails),
+        }
+    }
+
+    /// The row of a number.
+    pub fn row(&self, number: u64) -> Option<&Row>
+        ensures { option_map (λ r. row_kept r.now) result ≡ row_numbered number self.now.rows }
+    {
+        for row in &self.rows {
+            if row.number == number {
+                return Some(row);
+            }
+        }
+        None
+    }
+}
+
+impl Keeper for MapKeeper {
+    ghost use Rattle.ads_outside.specs.FailingCalls.{fails_next};
+    ghost use Rattle.sample_store.specs.MapKeeper.{failing_after};
+    ghost use Rattle.ads_outside.specs.Rose.{Rose};
+    ghost use Rattle.sample_store.specs.Keeper.{Counts, Keeps, Totals};
+    ghost use Rattle.sample_store.specs.Views.{row_kept};
+
+    ghost state = { λ m. record { rows = Some m.rows; faults = m.failing.faults } };
+
+    fn faults(&self) -> u64 {
+        self.failing.faults()
+    }
+
+    fn open(&mut self, _name: &str) -> KeeperOpen
+        ensures counts { Counts result (Some self.old.rows) }
+        ensures rows { Some self.new.rows ≡ Some self.old.rows }
+        ensures later { self.old.failing.faults ≤ self.new.failing.faults }
+        ensures failed { result ≡ KeeperOpen.Failed → Rose self.old.failing.faults self.new.failing.faults }
+        ensures fails { fails_next self.old.failing ≡ true → result ≡ KeeperOpen.Failed }
+        ensures only { result ≡ KeeperOpen.Failed → fails_next self.old.failing ≡ true }
+        ensures counted { self.new.failing ≡ failing_after self.old.failing }
+    {
+        if self.failing.fails_next() {
+            self.failing.fault();
+            return KeeperOpen::Failed;
+        }
+        self.failing.call();
+        KeeperOpen::Ready(self.rows.len() as u64)
+    }
+
+    fn put(&mut self, row: &Row) -> Kept
+        ensures kept { Keeps result (Some self.old.rows) (Some self.new.rows) (row_kept row.now) }
+        ensures later { self.old.failing.faults ≤ self.new.failing.faults }
+        ensures failed { result ≡ Kept.Failed → Rose self.old.failing.faults self.new.failing.faults }
+        ensures fails { fails_next self.old.failing ≡ true → result ≡ Kept.Failed }
+        ensures only { result ≡ Kept.Failed → fails_next self.old.failing ≡ true }
+        ensures counted { self.new.failing ≡ failing_after self.old.failing }
+    {
+        if self.failing.fails_next() {
+            self.failing.fault();
+            return Kept::Failed;
+        }
+        self.failing.call();
+        match put_row(self.alloc, &mut self.rows, row) {
+            Ok(()) => Kept::Done,
+            Err(NoMemory) => Kept::Memory,
+        }
+    }
+
+    fn total(&mut self, name: &[u8]) -> Totalled
+        ensures told { Totals result (Some self.old.rows) name.now }
+        ensures rows { Some self.new.rows ≡ Some self.old.rows }
+        ensures later { self.old.failing.faults ≤ self.new.failing.faults }
+        ensures failed { result ≡ Totalled.Failed → Rose self.old.failing.faults self.new.failing.faults }
+        ensures fails { fails_next self.old.failing ≡ true → result ≡ Totalled.Failed }
+        ensures only { result ≡ Totalled.Failed → fails_next self.old.failing ≡ true }
+        ensures counted { self.new.failing ≡ failing_after self.old.failing }
+    {
+        if self.failing.fails_next() {
+            self.failing.fault();
+            return Totalled::Failed;
+        }
+        self.failing.call();
+        match total_of(self.alloc, self.rows.as_slice(), name) {
+            Ok(Some(total)) => Totalled::Found(total),
+            Ok(None) => Totalled::Nothing,
+            Err(NoMemory) => Totalled::Memory,
+        }
+    }
+}
