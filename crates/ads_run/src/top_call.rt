@@ -86,7 +86,7 @@ pub fn run<T: Threads + Sync, F: Files, W: Wire, S: Sink, G: Sources>(
     ensures complete { NothingFailed (F.state files.old) (F.state files.new) (S.state out.old) (S.state out.new)
         (W.state wire.old).history (W.state wire.new).history
         → OverFiles (F.state files.old).held (λ first second.
-            IsOwnEnd (verdict_of (G.waves signals) (map string_bytes words.now) first second) result) }
+        IsOwnEnd (verdict_of (G.waves signals) (map string_bytes words.now) first second) result) }
 
     // What the log of a played script promises, whose text is printed: over any description, with these signals.
     ensures promises { (d : plant.Description) (lines : List ScriptLine) → PlayKeepsPromises d (G.waves signals) lines }

@@ -54,7 +54,9 @@ pub fn run_case<T: Threads + Sync>(threads: &T, alloc: Global, case: Case) -> Re
         run_with_signals(threads, alloc, words, &mut files, &mut wire, &mut sink)?
     } else {
         let none: Vec<Box<dyn Signal>> = Vec::new(alloc);
-        run(threads, alloc, words, &mut files, &mut wire, &mut sink, none)
+        run(
+            threads, alloc, words, &mut files, &mut wire, &mut sink, none,
+        )
     };
     let out = Octets::copy_of(alloc, sink.bytes())?;
     let log = log_text(alloc, wire.log())?;

@@ -14,5 +14,10 @@ pub returns-in-Failed-clause-ends : goal.returns-in-Failed-clause-ends
 returns-in-Failed-clause-ends g c = λ service stands limit. inl (refl, inl (refl, c.in-Failed.ensures.put))
 
 pub returns-in-Memory-clause-ends : goal.returns-in-Memory-clause-ends
-returns-in-Memory-clause-ends g c = λ service stands limit. inl (refl, inr (c.end_without_memory.ensures.memory,
-    (g.S.Sink.state c.put.new.self, c.in-Memory.ensures.put, c.in-Memory.ensures.later, c.end_without_memory.ensures.line)))
+returns-in-Memory-clause-ends g c = λ service stands limit. inl (
+  refl,
+  inr (
+    c.end_without_memory.ensures.memory,
+    (g.S.Sink.state c.put.new.self, c.in-Memory.ensures.put, c.in-Memory.ensures.later, c.end_without_memory.ensures.line),
+  ),
+)
