@@ -1,3 +1,4 @@
 pub mod Came
+pub mod Heard
 pub mod Sockets
 pub mod Waiting

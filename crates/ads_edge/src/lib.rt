@@ -1,13 +1,15 @@
-//! The real outside: files of the disk, standard output, and sockets.
+//! The real outside: files of the disk, standard output, the sockets of a server and that of a client.
 #![tactic(auto)]
 
 mod came;
 mod connection;
 mod description_watch;
+mod heard;
 mod listening_at;
 mod out_buffer;
 mod peers;
 mod real_files;
+mod real_link;
 mod real_sink;
 mod real_wire;
 mod sockets;
@@ -18,5 +20,6 @@ mod tick_clock;
 mod turn;
 
 pub use real_files::RealFiles;
+pub use real_link::RealLink;
 pub use real_sink::RealSink;
 pub use real_wire::RealWire;
