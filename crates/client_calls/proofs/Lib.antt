@@ -1,0 +1,4 @@
+pub mod TurnLemmas
+pub mod StandingLemmas
+pub mod WayLemmas
+pub mod NameLemmas

@@ -1,0 +1,8 @@
+use Rattle.client_calls.proofs.WayLemmas.{step_told, stands_told}
+use Rattle.client_calls.proofs.runner.Runner.turn.Goals as goal
+
+pub returns-in-Ok-clause-step : goal.returns-in-Ok-clause-step
+returns-in-Ok-clause-step c = step_told c.args.now c.args.self.now c.take_turn.new.self c.in-Ok.step c.in-Ok.ensures.turned
+
+pub returns-in-Ok-clause-stands : goal.returns-in-Ok-clause-stands
+returns-in-Ok-clause-stands c = stands_told c.args.now c.args.self.now c.take_turn.new.self c.in-Ok.step c.in-Ok.ensures.turned

@@ -1,0 +1,4 @@
+pub mod Kept
+pub mod Represents
+pub mod Steps
+pub mod Turns
