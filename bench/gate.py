@@ -1,16 +1,14 @@
 #!/usr/bin/env python3
 """What the gate costs: processor time of each crate under `rt ci`, against a budget.
 
-    python3 bench/gate.py               runs `rt ci` at the top of the clone where it is called
-    python3 bench/gate.py NAME..        runs `rt ci NAME..`: these crates and those below them, on a copy
-    python3 bench/gate.py --anew        has rt prove all again, also what an earlier run on this machine passed (which else costs nothing here)
+    python3 bench/gate.py       runs `rt ci` at the top of the clone where it is called; rt proves all from nothing
 
 What rt says is passed on. When it has ended, a table (Markdown) tells for each crate the processor seconds of
 
   library   its proof, and the compiling of its program
   tests     its second proof, with its #[test] functions
-  third     the proof that its wrong bodies begin with, where it has two of them or more, and the look at what that proof left
-  bodies    the wrong bodies of its must-fail/, and how many there were
+  third     where it has two wrong bodies or more: the first of them, whose check proves the rest of the crate once more, and the look at what the others left
+  bodies    the other wrong bodies of its must-fail/, and how many there are in all
 
 with the lines of code (src/), and the processor minutes for each 1,000 of these; then the sums, the budget, what rt counted of all that it started, and what
 rt ci ended with. The status is that of rt.
@@ -72,8 +70,7 @@ def label_of(number):
     if not crate:
         return None
     if folder.startswith("rt-edit-"):
-        is_seed = os.path.basename(word_behind(words, "--incremental")) == "seed"
-        return crate, "third" if is_seed else "bodies"
+        return crate, "bodies"
     return crate, "tests" if "--test" in words else "library"
 
 
@@ -96,13 +93,25 @@ class Watch:
 
     def rows(self):
         """For each crate the seconds of each kind, and the number of its wrong bodies."""
-        rows = {}
+        rows, edits = {}, {}
         for key, label in self.labels.items():
             if label:
-                row = rows.setdefault(label[0], {**dict.fromkeys(KINDS, 0.0), "count": 0})
+                row = rows.setdefault(label[0], {**dict.fromkeys(KINDS, 0.0), "count": edits_of(label[0])})
                 row[label[1]] += self.seconds[key]
-                row["count"] += label[1] == "bodies"
+                if label[1] == "bodies":
+                    edits.setdefault(label[0], []).append((int(key[1]), self.seconds[key]))
+        for crate, tried in edits.items():
+            if rows[crate]["count"] > 1:
+                # (the first proves the whole crate, and behind the last stands the crate as it is)
+                ends = sum(seconds for _, seconds in ([min(tried), max(tried)] if len(tried) > 1 else tried))
+                rows[crate]["third"] += ends
+                rows[crate]["bodies"] -= ends
         return rows
+
+
+def edits_of(crate):
+    folder = f"crates/{crate}/must-fail"
+    return sum(name.endswith(".edit") for name in os.listdir(folder)) if os.path.isdir(folder) else 0
 
 
 def pass_on(stream, lines):
@@ -157,8 +166,11 @@ def tell(rows):
 
 
 def main():
+    if len(sys.argv) > 1:
+        print(__doc__, file=sys.stderr)
+        return 2
     begun = time.time()
-    status, lines, watch = watched(["rt", "ci", *sys.argv[1:]])
+    status, lines, watch = watched(["rt", "ci"])
     tell(watch.rows())
     spent = resource.getrusage(resource.RUSAGE_CHILDREN)
     minutes = (spent.ru_utime + spent.ru_stime) / 60
