@@ -1,17 +1,15 @@
 -- Events that open new numbers, from a place on.
-use Rattle.std.proofs.Common.{◌≡◌, ℕ, ◌+◌, suc, List, ◌∷◌, ◌++◌, drop, true, false, refl, ap, sym, ◌∙◌, add-one}
+use Rattle.std.proofs.Common.{◌≡◌, ℕ, ◌+◌, ◌<◌, ◌≤◌, suc, List, [], ◌∷◌, ◌++◌, drop, length, true, false, refl, ap, sym, ◌∙◌, add-one}
+use Rattle.std.proofs.Math.ListN.{drop_of_length-le}
 use Rattle.std.proofs.Math.Seq.{drop-cons}
-use Rattle.std.proofs.lemmas.Option.{slice_get_within, get_or_from_slice_get}
-use Rattle.std.specs.Prelude.{Bool, Some, IsTrue, ◌&&◌, slice_get}
+use Rattle.std.specs.List.{slice_index_or}
+use Rattle.std.specs.Prelude.{Bool, IsTrue, ◌&&◌}
 use Rattle.ads_outside.specs.declared.event.Event.{Event}
 use Rattle.ads_outside.specs.Opened.{opened_by, is_new, are_new}
 
 -- the event at a place, and those behind it
-at_place : (es : List Event) (i : ℕ) (e : Event) → slice_get es i ≡ Some e → drop i es ≡ e ∷ drop (i + 1) es
-at_place es i e found =
-    let within = slice_get_within es i e found in
-    let here = get_or_from_slice_get es i e e found in
-    rw add-one (drop-cons es i e within ∙ ap (λ x. x ∷ drop (suc i) es) here)
+at_place : (es : List Event) (i : ℕ) (e : Event) → i < length es → e ≡ slice_index_or es i e → drop i es ≡ e ∷ drop (i + 1) es
+at_place es i e within here = rw add-one (drop-cons es i e within ∙ ap (λ x. x ∷ drop (suc i) es) (sym here))
 
 both : (a b : Bool) → IsTrue a → IsTrue b → IsTrue (a && b)
 both true b x y = y
@@ -21,7 +19,14 @@ first_then_rest : (e : Event) (es : List Event) (opened : List ℕ) → IsTrue (
 unfolding are_new
 first_then_rest e es opened here rest = both (is_new e opened) (are_new es (opened ++ opened_by e)) here rest
 
-pub new_from : (es : List Event) (i : ℕ) (e : Event) (opened more : List ℕ) → slice_get es i ≡ Some e → IsTrue (is_new e opened) → more ≡ opened ++ opened_by e
+pub new_from : (es : List Event) (i : ℕ) (e : Event) (opened more : List ℕ) → i < length es → e ≡ slice_index_or es i e → IsTrue (is_new e opened) → more ≡ opened ++ opened_by e
     → IsTrue (are_new (drop (i + 1) es) more) → IsTrue (are_new (drop i es) opened)
-new_from es i e opened more found here is rest =
-    rw (at_place es i e found) (first_then_rest e (drop (i + 1) es) opened here (ap (λ (o : List ℕ). are_new (drop (i + 1) es) o) (sym is) ∙ rest))
+new_from es i e opened more within here new is rest =
+    rw (at_place es i e within here) (first_then_rest e (drop (i + 1) es) opened new (ap (λ (o : List ℕ). are_new (drop (i + 1) es) o) (sym is) ∙ rest))
+
+none_left : (opened : List ℕ) → IsTrue (are_new [] opened)
+unfolding are_new
+none_left opened = refl
+
+pub nothing_left : (es : List Event) (i : ℕ) (opened : List ℕ) → length es ≤ i → IsTrue (are_new (drop i es) opened)
+nothing_left es i opened past = rw (drop_of_length-le es past) (none_left opened)
