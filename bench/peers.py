@@ -134,8 +134,8 @@ def half_closed(server):
 
 def half_closed_large(server):
     """A stream that ends behind requests whose replies are far more than a socket takes at once."""
-    ask = frame(2, 3, read(0x4040, 0, 1000000))
-    want = reply(2, 3, struct.pack("<II", 0, 1000000) + bytes(1000000))
+    ask = frame(2, 3, read(0x4040, 1000, 990000))
+    want = reply(2, 3, struct.pack("<II", 0, 990000) + bytes(990000))
     with server.open() as s:
         s.sendall(ask * 4)
         s.shutdown(socket.SHUT_WR)
