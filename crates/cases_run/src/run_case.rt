@@ -38,19 +38,31 @@ pub struct Came {
 
 /// Runs the words of a case over its files and its wire.
 pub fn run_case<T: Threads + Sync>(threads: &T, alloc: Global, case: Case) -> Result<Came, Fault> {
-    if !open_new(alloc, case.wire.events.as_slice())? {
+    let Case {
+        words,
+        files,
+        failing_reads,
+        failing_puts,
+        parts,
+        has_signals,
+        wire,
+        status: _,
+        out: _wanted,
+    } = case;
+    let WireCase {
+        events,
+        failing_calls,
+        cuts,
+        log: _wanted_log,
+    } = wire;
+    if !open_new(alloc, events.as_slice())? {
         return Err(Fault::Off("two connections have one number"));
     }
-    let mut files = MemFiles::new(alloc, case.files, case.failing_reads);
-    let mut sink = MemSink::with_parts(alloc, case.failing_puts, case.parts);
-    let mut wire = MemWire::new(
-        alloc,
-        case.wire.events,
-        case.wire.failing_calls,
-        case.wire.cuts,
-    );
-    let words = case.words.as_slice();
-    let status = if case.has_signals {
+    let mut files = MemFiles::new(alloc, files, failing_reads);
+    let mut sink = MemSink::with_parts(alloc, failing_puts, parts);
+    let mut wire = MemWire::new(alloc, events, failing_calls, cuts);
+    let words = words.as_slice();
+    let status = if has_signals {
         run_with_signals(threads, alloc, words, &mut files, &mut wire, &mut sink)?
     } else {
         let none: Vec<Box<dyn Signal>> = Vec::new(alloc);
