@@ -12,12 +12,13 @@ ghost use Rattle.notify_table.specs.Schedules.{watch_under, watch_at, nth_watch,
 ghost use Rattle.notify_table.specs.Reloads.{range_after, is_ended, end_of, ended_meant};
 
 use crate::record::Record;
-use crate::turn::{Turn, count_due, due_turns, put_turn};
+use crate::turn::{Turn, count_due, due_turns, put_turn, take_turn};
 use crate::{Ended, Spec};
 use ads_base::{NoMemory, Steps};
 use index_groups::Reach;
 use slab::Slab;
 use std::alloc::Global;
+use std::collections::VecDeque;
 use std::marker::Model;
 use std::sync::ledger::Ledger;
 use symbol_table::Moves;
@@ -26,8 +27,9 @@ use symbol_table::Moves;
 #[derive(Drop)]
 pub(crate) struct Schedule {
     records: Slab<Record>,
-    // By the moment from which on the next check is due, and by handle.
-    turns: Vec<Turn>,
+    // By the moment from which on the next check is due, and by handle. One that is checked leaves the front and, mostly,
+    // goes to the back, so nothing between them is moved.
+    turns: VecDeque<Turn>,
 }
 
 impl Model for Schedule {
@@ -49,7 +51,7 @@ impl Schedule {
     {
         Schedule {
             records: Slab::new(alloc),
-            turns: Vec::new(alloc),
+            turns: VecDeque::new(alloc),
         }
     }
 
@@ -97,7 +99,7 @@ impl Schedule {
         requires { at < length self.old }
         ensures { self.new ≡ remove self.old at }
     {
-        let turn = self.turns.remove(at);
+        let turn = take_turn(&mut self.turns, at);
         let _ = self.records.remove(turn.key);
     }
 
@@ -109,7 +111,7 @@ impl Schedule {
         ensures new { (place : ℕ) × (place ≤ length (remove self.old at))
             × (self.new ≡ insert (remove self.old at) place (after_check now bytes.now (nth_watch self.old at))) }
     {
-        let turn = self.turns.remove(at);
+        let turn = take_turn(&mut self.turns, at);
         let (sent, next) = check_record(&mut self.records, turn.key, now, bytes);
         let turn = Turn {
             next,
@@ -186,8 +188,8 @@ impl Schedule {
     }
 }
 
-fn place_of_handle(turns: &[Turn], handle: u32) -> Option<usize>
-    ensures { result ≡ position (λ t. nat_eq (handle_of_turn t) handle) turns.now }
+fn place_of_handle(turns: &VecDeque<Turn>, handle: u32) -> Option<usize>
+    ensures { result ≡ position (λ t. nat_eq (handle_of_turn t) handle) turns.now.items }
 {
     turns.iter().position(|turn| turn.handle == handle)
 }
@@ -261,15 +263,16 @@ fn put_reach(records: &mut Slab<Record>, key: usize, reach: Reach)
 fn ending_turns(
     alloc: Global,
     records: &Slab<Record>,
-    turns: &[Turn],
+    turns: &VecDeque<Turn>,
     m: &Moves,
 ) -> Result<Vec<u32>, NoMemory>
-    requires { All (IsKept records.now) turns.now }
+    requires { All (IsKept records.now) turns.now.items }
     ensures { IfOk result (λ handles. handles.items
-        ≡ map handle_of (filter (is_ended m.now) (map (watch_at records.now) turns.now))) }
+        ≡ map handle_of (filter (is_ended m.now) (map (watch_at records.now) turns.now.items))) }
 {
     let mut handles = Vec::new(alloc);
-    for turn in turns {
+    for i in 0..turns.len() {
+        let turn = turns[i];
         if ends(records, turn.key, m) {
             handles.push(turn.handle)?;
         }

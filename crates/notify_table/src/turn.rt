@@ -1,11 +1,13 @@
 //! The order in which checks become due.
 
 ghost use Rattle.std.specs.Prelude.{◌≡◌, ℕ, ◌+◌, ◌<◌, ◌≤◌, map, filter, length, insert, nat_lt, IfOk};
-ghost use Rattle.std.specs.Prelude.{OnOk, vec_len, vec_capacity};
+ghost use Rattle.std.specs.Prelude.{OnOk, remove, slice_index_or};
+ghost use Rattle.std.specs.VecDeque.{deque_len, deque_capacity};
 ghost use Rattle.notify_table.specs.Turns.{AreInTurn, IsPlaceOf, turn_rank, is_turn_due, handle_of_turn};
 
 use ads_base::{NoMemory, Steps};
 use std::alloc::Global;
+use std::collections::VecDeque;
 use std::sync::ledger::Ledger;
 
 // When the next check of a notification is due, and where its record is.
@@ -28,18 +30,18 @@ fn is_before(t: Turn, u: Turn) -> bool
     }
 }
 
-fn place_of(turns: &[Turn], turn: Turn) -> usize
-    requires { AreInTurn turns.now }
-    ensures { IsPlaceOf turn turns.now result }
+fn place_of(turns: &VecDeque<Turn>, turn: Turn) -> usize
+    requires { AreInTurn turns.now.items }
+    ensures { IsPlaceOf turn turns.now.items result }
 {
     turns.partition_point(|t| is_before(*t, turn))
 }
 
 // Puts a turn where it belongs. There is room.
-pub(crate) fn put_turn(turns: &mut Vec<Turn>, turn: Turn)
+pub(crate) fn put_turn(turns: &mut VecDeque<Turn>, turn: Turn)
     requires in_turn { AreInTurn turns.old.items }
-    requires room { vec_len turns.old < vec_capacity turns.old }
-    ensures put { (place : ℕ) × (place ≤ vec_len turns.old)
+    requires room { deque_len turns.old < deque_capacity turns.old }
+    ensures put { (place : ℕ) × (place ≤ deque_len turns.old)
         × (turns.new.items ≡ insert turns.old.items place turn) }
     ensures in_turn { AreInTurn turns.new.items }
 {
@@ -48,22 +50,37 @@ pub(crate) fn put_turn(turns: &mut Vec<Turn>, turn: Turn)
     let _ = turns.insert(place, turn);
 }
 
+// Takes the turn at a place out. Its room stays.
+pub(crate) fn take_turn(turns: &mut VecDeque<Turn>, at: usize) -> Turn
+    requires { at < deque_len turns.old }
+    ensures value { result ≡ slice_index_or turns.old.items at result }
+    ensures items { turns.new.items ≡ remove turns.old.items at }
+    ensures len { deque_len turns.new + 1 ≡ deque_len turns.old }
+    ensures capacity { deque_capacity turns.new ≡ deque_capacity turns.old }
+{
+    match turns.remove(at) {
+        Some(turn) => turn,
+        None => unreachable!(),
+    }
+}
+
 // The handles of the turns that are due, in their order. One step for each turn that is looked at.
 pub(crate) fn due_turns<L: Ledger>(
     alloc: Global,
-    turns: &[Turn],
+    turns: &VecDeque<Turn>,
     now: u64,
     steps: &mut Steps<L>,
 ) -> Result<Vec<u32>, NoMemory>
-    requires { AreInTurn turns.now }
+    requires { AreInTurn turns.now.items }
     ensures due { IfOk result (λ handles. handles.items
-        ≡ map handle_of_turn (filter (is_turn_due now) turns.now)) }
-    ensures cost { steps.new ≤ steps.old + (length (filter (is_turn_due now) turns.now) + 1) }
-    ensures counted { OnOk result (steps.old + length (filter (is_turn_due now) turns.now) ≤ steps.new) }
+        ≡ map handle_of_turn (filter (is_turn_due now) turns.now.items)) }
+    ensures cost { steps.new ≤ steps.old + (length (filter (is_turn_due now) turns.now.items) + 1) }
+    ensures counted { OnOk result (steps.old + length (filter (is_turn_due now) turns.now.items) ≤ steps.new) }
 {
     let mut handles = Vec::new(alloc);
-    for turn in turns {
-        if !is_due(turn, now, steps) {
+    for i in 0..turns.len() {
+        let turn = turns[i];
+        if !is_due(&turn, now, steps) {
             return Ok(handles);
         }
         handles.push(turn.handle)?;
@@ -72,9 +89,9 @@ pub(crate) fn due_turns<L: Ledger>(
 }
 
 // How many turns are due: they stand in front, so the place behind the last is found by halving.
-pub(crate) fn count_due(turns: &[Turn], now: u64) -> usize
-    requires { AreInTurn turns.now }
-    ensures { result ≡ length (filter (is_turn_due now) turns.now) }
+pub(crate) fn count_due(turns: &VecDeque<Turn>, now: u64) -> usize
+    requires { AreInTurn turns.now.items }
+    ensures { result ≡ length (filter (is_turn_due now) turns.now.items) }
 {
     let now = u128::from(now);
     turns.partition_point(|turn| turn.next <= now)

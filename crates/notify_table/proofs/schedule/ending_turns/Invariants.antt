@@ -6,5 +6,5 @@ use Rattle.notify_table.specs.Schedules.{watch_at}
 use Rattle.notify_table.proofs.schedule.ending_turns.Given as goal
 
 -- the handles of those among the turns so far
-abbrev pub invariant-loop-turn : goal.invariant-loop-turn
-invariant-loop-turn l = l.handles.items ≡ map handle_of (filter (is_ended l.m) (map (watch_at l.records) (take l.turn-index l.turns)))
+abbrev pub invariant-loop-i : goal.invariant-loop-i
+invariant-loop-i l = l.handles.items ≡ map handle_of (filter (is_ended l.m) (map (watch_at l.records) (take l.i l.turns.items)))

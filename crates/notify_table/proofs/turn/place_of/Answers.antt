@@ -6,11 +6,11 @@ use Rattle.notify_table.proofs.turn.place_of.Goals as goal
 
 pub returns : goal.returns
 returns c =
-    let parted = IsPartitionedBy-ltb turn_rank c.args.turns.now (turn_rank c.args.turn) c.requires.rise in
+    let parted = IsPartitionedBy-ltb turn_rank c.args.turns.now.items (turn_rank c.args.turn) c.requires.rise in
     let point = IsPartitionPoint-from_clause (λ t. nat_lt (turn_rank t) (turn_rank c.args.turn)) _ _ c.partition_point.ensures.partitioned parted
     (λ a r q k. search rules) in
     record {
-      within = c.partition_point.ensures.bound;
+      within = omega (arith, c.args.turns.now.ok.0, c.partition_point.ensures.bound);
       before = λ k d below. let less = ltb-true _ _ (point.0 k d (omega arith) below) in omega arith;
       behind = λ k d from below. ltb-false _ _ (point.1 k d from below);
     }

@@ -10,22 +10,22 @@ use Rattle.notify_table.proofs.schedule.Schedule.check.Goals as goal
 
 pub put_turn-requires-clause-in_turn : goal.put_turn-requires-clause-in_turn
 put_turn-requires-clause-in_turn c =
-    others_in_turn c.self.inside.records c.self.inside.records c.self.inside.turns.items c.remove-turn.new.self.items c.args.self.now c.args.at
-    c.remove-turn.result
+    others_in_turn c.self.inside.records c.self.inside.records c.self.inside.turns.items c.take_turn-turn.new.turns.items c.args.self.now c.args.at
+    c.take_turn-turn.result
     c.self.invariant (within_turns c.self.inside.records c.self.inside.turns.items c.args.self.now c.args.at c.self.view_is c.requires.there)
-    c.remove-turn.ensures.items
+    c.take_turn-turn.ensures.items
 
 pub invariant_of-self : goal.invariant_of-self
 invariant_of-self c =
     let within = within_turns c.self.inside.records c.self.inside.turns.items c.args.self.now c.args.at c.self.view_is c.requires.there in
-    changed_scheduled c.self.inside.records c.check_record-sent.new.records c.self.inside.turns.items c.remove-turn.new.self.items c.args.self.now c.args.at
-    c.remove-turn.result c.put_turn.new.turns.items c.put_turn.ensures.put.0
-    (record { next = c.check_record-sent.result.1; handle = c.remove-turn.result.handle; key = c.remove-turn.result.key })
-    (after_check c.args.now c.args.bytes.now (watch_at c.self.inside.records c.remove-turn.result))
-    c.self.invariant within c.remove-turn.ensures.value c.remove-turn.ensures.items c.put_turn.ensures.put.2 refl c.check_record-sent.ensures.updates
+    changed_scheduled c.self.inside.records c.check_record-sent.new.records c.self.inside.turns.items c.take_turn-turn.new.turns.items c.args.self.now c.args.at
+    c.take_turn-turn.result c.put_turn.new.turns.items c.put_turn.ensures.put.0
+    (record { next = c.check_record-sent.result.1; handle = c.take_turn-turn.result.handle; key = c.take_turn-turn.result.key })
+    (after_check c.args.now c.args.bytes.now (watch_at c.self.inside.records c.take_turn-turn.result))
+    c.self.invariant within c.take_turn-turn.ensures.value c.take_turn-turn.ensures.items c.put_turn.ensures.put.2 refl c.check_record-sent.ensures.updates
     c.check_record-sent.ensures.no_more
-    (Keeps-checked c.args.now c.args.bytes.now (get c.self.inside.records c.remove-turn.result.key) c.remove-turn.result _
-    (keeps_of c.self.inside.records c.self.inside.turns.items c.args.at c.remove-turn.result c.self.invariant within c.remove-turn.ensures.value)
+    (Keeps-checked c.args.now c.args.bytes.now (get c.self.inside.records c.take_turn-turn.result.key) c.take_turn-turn.result _
+    (keeps_of c.self.inside.records c.self.inside.turns.items c.args.at c.take_turn-turn.result c.self.invariant within c.take_turn-turn.ensures.value)
     refl c.check_record-sent.ensures.next)
     c.put_turn.ensures.in_turn
 
@@ -36,18 +36,18 @@ returns-clause-new c =
       omega (
         arith,
         c.put_turn.ensures.put.1,
-        c.remove-turn.ensures.len,
+        c.take_turn-turn.ensures.len,
         length-map c.self.inside.turns.items (watch_at c.self.inside.records),
         ap length c.self.view_is,
         length-remove c.args.self.now c.args.at c.requires.there,
       ),
-      rw (nth_is c.self.inside.records c.self.inside.turns.items c.args.self.now c.args.at c.remove-turn.result c.self.view_is within
-          c.remove-turn.ensures.value)
-          (changed_watches c.self.inside.records c.check_record-sent.new.records c.self.inside.turns.items c.remove-turn.new.self.items
+      rw (nth_is c.self.inside.records c.self.inside.turns.items c.args.self.now c.args.at c.take_turn-turn.result c.self.view_is within
+          c.take_turn-turn.ensures.value)
+          (changed_watches c.self.inside.records c.check_record-sent.new.records c.self.inside.turns.items c.take_turn-turn.new.turns.items
           c.args.self.now c.args.at
-          c.remove-turn.result c.put_turn.new.turns.items c.put_turn.ensures.put.0
-          (record { next = c.check_record-sent.result.1; handle = c.remove-turn.result.handle; key = c.remove-turn.result.key })
-          (after_check c.args.now c.args.bytes.now (watch_at c.self.inside.records c.remove-turn.result))
-          c.self.view_is c.self.invariant within c.remove-turn.ensures.value c.remove-turn.ensures.items c.put_turn.ensures.put.2 refl
+          c.take_turn-turn.result c.put_turn.new.turns.items c.put_turn.ensures.put.0
+          (record { next = c.check_record-sent.result.1; handle = c.take_turn-turn.result.handle; key = c.take_turn-turn.result.key })
+          (after_check c.args.now c.args.bytes.now (watch_at c.self.inside.records c.take_turn-turn.result))
+          c.self.view_is c.self.invariant within c.take_turn-turn.ensures.value c.take_turn-turn.ensures.items c.put_turn.ensures.put.2 refl
           c.check_record-sent.ensures.updates),
     )

@@ -4,7 +4,7 @@ use Rattle.notify_table.proofs.schedule.Schedule.due.Goals as goal
 
 pub returns-clause-due : goal.returns-clause-due
 returns-clause-due g c =
-    rw (← c.self.view_is, due_watches c.args.now c.self.inside.records c.self.inside.turns.items c.self.invariant.kept, ← c.deref.ensures.value)
+    rw (← c.self.view_is, due_watches c.args.now c.self.inside.records c.self.inside.turns.items c.self.invariant.kept)
     c.due_turns.ensures.due
 
 pub returns-clause-cost : goal.returns-clause-cost
@@ -13,8 +13,6 @@ returns-clause-cost g c =
       ← c.self.view_is,
       due_watches c.args.now c.self.inside.records c.self.inside.turns.items c.self.invariant.kept,
       length-map,
-      ←
-          c.deref.ensures.value,
     ) c.due_turns.ensures.cost
 
 pub returns-clause-counted : goal.returns-clause-counted
@@ -23,6 +21,4 @@ returns-clause-counted g c =
       ← c.self.view_is,
       due_watches c.args.now c.self.inside.records c.self.inside.turns.items c.self.invariant.kept,
       length-map,
-      ←
-          c.deref.ensures.value,
     ) c.due_turns.ensures.counted

@@ -8,6 +8,5 @@ use Rattle.notify_table.proofs.schedule.Schedule.find.Goals as goal
 pub returns : goal.returns
 returns c =
     c.place_of_handle.ensures
-    ∙ ap (position (λ t. nat_eq (handle_of_turn t) c.args.handle)) c.deref.ensures.value
     ∙ position_of_turn c.args.handle c.self.inside.records c.self.inside.turns.items c.self.invariant.kept
     ∙ ap (position (is_numbered c.args.handle)) c.self.view_is
