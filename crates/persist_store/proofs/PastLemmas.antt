@@ -54,11 +54,6 @@ period-other p ws w lt =
     let other = ne_eqb w.period p (λ e. absurd (omega (arith, lt, e))) in
     filter-append (λ (v : PastWrite). v.period == p) ws (w ∷ []) ∙ rw (other, append-nil) refl
 
--- what a stop leaves, where nothing was written in between
-pub only_left : (m : HeldFile) (c : List ℕ) → leaves_since m m.period c → leaves_now m c
-only_left m c (inl now) = now
-only_left m c (inr past) = absurd (omega (arith, past.from, past.before))
-
 -- a call that writes nothing
 pub quiet : (m new : HeldFile) (fails : Bool) → new ≡ after_call fails m → Elapses m.period new.period (leaves_since m) (leaves_since new) (leaves_now new)
 quiet m new fails is =

@@ -2,7 +2,7 @@
 use Rattle.std.specs.Prelude.{◌≡◌, ◌⊎◌, ℕ, ◌+◌, List, [], ◌∷◌, ◌++◌, length, take, Bool, false, ◌||◌, ◌==◌, nat_lt, nat_le, if◌then◌else◌, Option, Some, None, unwrap_or}
 use Rattle.std.specs.Option.{option_map_or}
 use Rattle.std.specs.List.{list_all}
-use Rattle.std.proofs.Common.{inl, sym, ap}
+use Rattle.std.proofs.Common.{inl, inr, sym, ap, not-le_of_lt}
 use Rattle.ads_outside.specs.FailingCalls.{FailingCalls, fails_next, called, faulted}
 use Rattle.ads_outside.specs.Rose.{raised}
 use Rattle.persist_store.specs.Past.{of_period, LeftIn, LeftInPast}
@@ -29,6 +29,11 @@ leaves_since m t c = leaves_now m c ⊎ LeftInPast m.writes t m.period c
 
 pub leaves_told : (m : HeldFile) (file : List ℕ) → Some m.file ≡ Some file → leaves_now m file
 leaves_told m file told = inl (sym (ap (λ o. unwrap_or o []) told))
+
+-- since now nothing else was left than what a stop now leaves
+pub only_left : (m : HeldFile) (c : List ℕ) → leaves_since m m.period c → leaves_now m c
+only_left m c (inl now) = now
+only_left m c (inr past) = absurd (not-le_of_lt past.before past.from)
 
 -- no write was made behind this many syncs
 abbrev pub are_made_by : ℕ → List PastWrite → Bool

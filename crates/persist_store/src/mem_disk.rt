@@ -227,8 +227,7 @@ fn wrote(failed: bool, done: bool) -> Wrote
 }
 
 impl Disk for MemDisk {
-    ghost use Rattle.persist_store.specs.MemDisk.{leaves_now, leaves_since, leaves_told};
-    ghost use Rattle.persist_store.proofs.PastLemmas.{only_left};
+    ghost use Rattle.persist_store.specs.MemDisk.{leaves_now, leaves_since, leaves_told, only_left};
 
     ghost contents = { λ m. Some m.file };
 
