@@ -1,5 +1,5 @@
 -- What a disk in memory may leave: before and after a write, and before and after a sync.
-use Rattle.std.proofs.Common.{◌≡◌, ◌⊎◌, inl, inr, ⊎_elim, ℕ, ◌+◌, ◌-◌, ◌<◌, ◌≤◌, min, List, [], ◌∷◌, ◌++◌, length, take, drop, true, false, refl, sym, subst, ◌∙◌, ap, arith, append-nil}
+use Rattle.std.proofs.Common.{◌≡◌, ◌⊎◌, inl, inr, ⊎_elim, ℕ, ◌+◌, ◌-◌, ◌<◌, ◌≤◌, min, List, [], ◌∷◌, ◌++◌, length, take, drop, true, false, true≢false, refl, sym, subst, ◌∙◌, ap, arith, append-nil}
 use Rattle.std.specs.Prelude.{Bool, Option, Some, None, IfSome, IsSome, filter, nat_le, ◌==◌, option_map}
 use Rattle.std.specs.List.{list_all}
 use Rattle.std.proofs.lemmas.Bool.{cases_lt, and_parts, and_from, cases_Bool, leb-true, le-leb, eq-eqb, ne_eqb}
@@ -136,7 +136,7 @@ writes_once m mid new fails place size file false is torn kept some put =
     let P : HeldFile → Type 0 = λ x. WritesOnce m mid x place size in
     let Q : HeldFile → Type 0 = λ x. WritesOnce m x x place size in
     subst P (sym (kept refl)) (subst Q (sym is) (writes_nothing m fails place size))
-writes_once m mid new fails place size None true is torn kept some put = absurd (some refl)
+writes_once m mid new fails place size None true is torn kept some put = absurd (true≢false (sym (some refl)))
 writes_once m mid new fails place size (Some f) true is torn kept some put =
     let P : HeldFile → Type 0 = λ x. WritesOnce m mid x place size in
     let Q : HeldFile → Type 0 = λ x. WritesOnce m x (after_put x place size f) place size in
@@ -144,7 +144,7 @@ writes_once m mid new fails place size (Some f) true is torn kept some put =
 
 pub writes_all : (m mid new : HeldFile) (place size : ℕ) (bytes : List ℕ) (file : Option (List ℕ)) (done : Bool) → IfSome file (λ f. is_to_fail m ≡ false → f ≡ written place bytes m.file)
     → (done ≡ true → IsSome file) → IfSome file (λ f. done ≡ true → new ≡ after_put mid place size f) → is_to_fail m ≡ false → done ≡ true → new.file ≡ written place bytes m.file
-writes_all m mid new place size bytes None done all some put works is = absurd (some is)
+writes_all m mid new place size bytes None done all some put works is = absurd (true≢false (sym (some is)))
 writes_all m mid new place size bytes (Some f) done all some put works is = ap (λ (x : HeldFile). x.file) (put is) ∙ all works
 
 -- a sync

@@ -29,6 +29,7 @@ impl<'a> Model for Entries<'a> {
 impl<'a> Entries<'a> {
     /// The entries of a body text. `None` where the bytes are no body text: a number of entries of 4 bytes, and just these
     /// entries, whatever they hold.
+    #[tactic(auto, unfolding(ads_store_file::specs::BodyText::entries_of))]
     pub fn read(body: &'a [u8]) -> Option<Entries<'a>>
         ensures { result ≡ entries_of body.now }
     {
@@ -74,6 +75,7 @@ fn step(bytes: &[u8], count: u32) -> Option<(StoredEntry<'_>, &[u8])>
 }
 
 // Whether the bytes are so many entries and nothing else.
+#[tactic(auto, using(crate::proofs::EntryLemmas::still_entries, crate::proofs::EntryLemmas::no_entries, crate::proofs::EntryLemmas::none_left))]
 fn are_entries(bytes: &[u8], count: u32) -> bool
     ensures { result ≡ is_some (entries_in count bytes.now) }
 {

@@ -8,4 +8,4 @@ abbrev pub decreases-loop-left : goal.decreases-loop-left
 decreases-loop-left l = l.left
 
 abbrev pub invariant-loop-left : goal.invariant-loop-left
-invariant-loop-left l = is_some (entries_in l.left l.rest.now) ≡ is_some (entries_in l.initial.left l.initial.rest.now)
+invariant-loop-left l = is_some (entries_in l.left l.rest) ≡ is_some (entries_in l.count l.bytes)
