@@ -2,8 +2,7 @@
 
 ghost use Rattle.std.specs.Prelude.{◌≡◌, ◌≢◌, ◌≤◌, ◌<◌, ◌^◌, ◌+◌, ◌∷◌, [], ◌++◌, length, take, slice_get, IsTrue, OnOk, OnErr};
 
-use crate::failing::Failing;
-use crate::{Event, Listening, Log, Move, Next, Offer, Shut, Started, Wire};
+use crate::{Event, Failing, Listening, Log, Move, Next, Offer, Shut, Started, Wire};
 use ads_base::{Calls, ListOf, NoMemory, Octets};
 use std::alloc::Global;
 use std::marker::Model;
