@@ -220,14 +220,6 @@ impl Sockets {
     }
 }
 
-#[cfg(test)]
-impl Sockets {
-    /// The port at which it listens.
-    pub(crate) fn port(&self) -> Option<u16> {
-        Some(self.listener.local_addr().ok()?.port())
-    }
-}
-
 impl Drop for Sockets {
     // What was taken is still sent.
     fn drop(mut self) {
