@@ -1,11 +1,13 @@
 -- What the readings of files decide.
-use Rattle.std.proofs.Common.{rules, ◌≡◌, ◌<◌, ◌≤◌, ℕ, List, [], ◌∷◌, Option, Some, None, Err, inl, inr, subst, ap, sym, ◌∙◌, refl, length, zero, suc, true, Bool, arith}
+use Rattle.std.proofs.Common.{rules, ◌≡◌, ◌<◌, ◌≤◌, ℕ, List, [], ◌∷◌, Option, Some, None, Err, inl, inr, subst, ap, sym, ◌∙◌, refl, length, zero, suc, true, Bool, ◌++◌, arith}
 use Rattle.std.specs.Prelude.{if◌then◌else◌, IsSomeAnd}
 use Rattle.std.specs.Str.{bytes_eq}
 use Rattle.std.proofs.lemmas.Bool.{le-ltb, lt-ltb}
+use Rattle.std.proofs.lemmas.List.{append-nil}
 use Rattle.std.proofs.lemmas.Slice.Eq.{bytes_eq-Decides}
 use Rattle.ads_outside.specs.declared.named_file.NamedFile.{NamedFile}
 use Rattle.ads_outside.specs.declared.got.Got.TheVariants as got
+use Rattle.ads_outside.specs.FilesState.{ReadsAll}
 use Rattle.ads_outside.specs.Limit.{file_limit}
 use Rattle.ads_outside.specs.Named.{bytes_of}
 use Rattle.ads_outside.specs.Reads.{Reads}
@@ -138,3 +140,14 @@ decided_replay held mid_held waves script name bytes text old mid new o same is 
     decided_both held over name bytes (Rose old new) (Rose mid new) o (rose_from old mid new later) has
     (subst (λ (b : List ℕ). OverFile held (λ second. Decides (over second b) (Rose mid new) o)) is
     (subst (λ (h : Option (List NamedFile)). OverFile h (λ second. Decides (over second text) (Rose mid new) o)) same decided))
+
+-- what is decided whatever the files hold
+pub decided_alone : (held : Option (List NamedFile)) (verdict : Verdict) (failed : Type 0) (o : Outcome) → IsOutcome verdict o
+    → OverFiles held (λ first second. Decides verdict failed o)
+decided_alone None verdict failed o is = ([], [], inl is)
+decided_alone (Some files) verdict failed o is = inl is
+
+-- no file was read
+pub none_read : (names : Option (List (List ℕ))) → ReadsAll names names []
+none_read None = tt
+none_read (Some names) = ap Some (sym (append-nil names))

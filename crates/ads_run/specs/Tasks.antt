@@ -15,6 +15,8 @@ task_of_command (Some (command.Selftest script)) = Some (task.OfFiles (file_task
 task_of_command (Some (command.Check description)) = Some (task.OfFiles (file_task.Check description))
 task_of_command (Some (command.Replay description script)) =
     Some (task.OfFiles (file_task.Replay description script))
+task_of_command (Some (command.Load n)) = Some (task.OfFiles (file_task.Load n))
+task_of_command (Some (command.Migrate description)) = Some (task.OfFiles (file_task.Migrate description))
 task_of_command (Some (command.Serve description listen events)) = Some (task.Serve description listen events)
 task_of_command (Some c) = None
 

@@ -2,6 +2,7 @@
 
 ghost use Rattle.std.specs.Prelude.{◌≡◌, map, string_bytes, IfOk};
 ghost use Rattle.ads_run.specs.Tasks.{task_of_command, asked_task};
+ghost use Rattle.ads_run.specs.Fits.{FitsTask};
 
 use crate::file_task::FileTask;
 use ads_base::NoMemory;
@@ -23,7 +24,8 @@ pub enum Task {
 
 /// The task that the words ask for; none where they are no command that is built.
 pub fn task_asked(alloc: Global, words: &[String]) -> Result<Option<Task>, NoMemory>
-    ensures { IfOk result (λ task. task ≡ asked_task (map string_bytes words.now)) }
+    ensures asked { IfOk result (λ task. task ≡ asked_task (map string_bytes words.now)) }
+    ensures fits { IfOk result (λ task. FitsTask task) }
 {
     let command = read_words(alloc, words)?;
     Ok(task_of(command))
@@ -47,6 +49,10 @@ fn task_of(command: Option<Command>) -> Option<Task>
             description,
             script,
         })),
+        Some(Command::Load { n }) => Some(Task::OfFiles(FileTask::Load { n })),
+        Some(Command::Migrate { description }) => {
+            Some(Task::OfFiles(FileTask::Migrate { description }))
+        }
         Some(
             Command::Serve {
                 description,
