@@ -1,15 +1,9 @@
--- The numbers of a command are those that the grammar of words allows.
-use Rattle.std.specs.Prelude.{◌≤◌, ℕ, Option, Some, None}
-use Rattle.cli_words.specs.declared.command.Command.{Command}
-use Rattle.cli_words.specs.declared.command.Command.TheVariants as command
+-- The numbers of a task are small enough for what it does.
+use Rattle.std.specs.Prelude.{◌≤◌, Option, Some, None}
 use Rattle.ads_run.specs.declared.file_task.FileTask.{FileTask}
 use Rattle.ads_run.specs.declared.file_task.FileTask.TheVariants as file_task
 use Rattle.ads_run.specs.declared.task.Task.{Task}
 use Rattle.ads_run.specs.declared.task.Task.TheVariants as task
-
-abbrev pub FitsCommand : Option Command → Type 0
-FitsCommand (Some (command.Load n)) = n ≤ 100000
-FitsCommand c = Unit {0}
 
 abbrev pub FitsFileTask : FileTask → Type 0
 FitsFileTask (file_task.Load n) = n ≤ 100000

@@ -1,7 +1,7 @@
 //! What the words ask for.
 
 ghost use Rattle.std.specs.Prelude.{◌≡◌, map, string_bytes, IfOk};
-ghost use Rattle.ads_run.specs.Tasks.{task_of_command, asked_task};
+ghost use Rattle.ads_run.specs.Tasks.{task_of_command, task_of_load, asked_task};
 ghost use Rattle.ads_run.specs.Fits.{FitsTask};
 
 use crate::file_task::FileTask;
@@ -49,7 +49,7 @@ fn task_of(command: Option<Command>) -> Option<Task>
             description,
             script,
         })),
-        Some(Command::Load { n }) => Some(Task::OfFiles(FileTask::Load { n })),
+        Some(Command::Load { n }) => task_of_load(n),
         Some(Command::Migrate { description }) => {
             Some(Task::OfFiles(FileTask::Migrate { description }))
         }
@@ -65,5 +65,15 @@ fn task_of(command: Option<Command>) -> Option<Task>
             events,
         }),
         _ => None,
+    }
+}
+
+fn task_of_load(n: u64) -> Option<Task>
+    ensures { result ≡ task_of_load n }
+{
+    if n <= 100_000 {
+        Some(Task::OfFiles(FileTask::Load { n }))
+    } else {
+        None
     }
 }
