@@ -1,12 +1,14 @@
 #!/usr/bin/env python3
-"""Writes the hostile runs of the program `cases_run`: what no well-behaved client sends, with what the model of the protocol (bench/model.py) says must come.
+"""Writes the hostile runs of the program `cases_run`: what no well-behaved client sends, with what the model of the protocol (bench/model.py) says must come;
+and runs over the two descriptions that docs/FORMATS.md shows.
 
-    python3 bench/hostile.py        writes crates/cases_run/data/hostile_*.runs, and says how many runs each has
+    python3 bench/hostile.py        writes crates/cases_run/data/hostile_*.runs, shown.runs and shown_*.toml, and says how many runs each has
 
 What must come is computed from the protocol alone, never from what the program prints.
 """
 import itertools
 import os
+import re
 import sys
 import tomllib
 
@@ -352,7 +354,34 @@ def faults():
         yield serve(f"Piece {number} of the output can't be written.", 0, [], talk, number)
 
 
+# The descriptions that the documents show.
+
+
+def shown():
+    with open(os.path.join(HERE, "..", "docs", "FORMATS.md")) as it:
+        texts = re.findall(r"```toml\n(.*?)```", it.read(), re.S)
+    for schema, text in enumerate(texts, 1):
+        with open(os.path.join(DATA, f"shown_{schema}.toml"), "w") as it:
+            it.write(text)
+        d = tomllib.loads(text)
+        port = model.Server(d, SIGNALS).ports[851]
+        counts = f"port 851 name {d['port'][0]['name']} image {sum(map(len, port.areas.values()))} symbols {len(port.symbols)} upload {len(port.upload())}"
+        yield (f"# The example of schema {schema} in docs/FORMATS.md is accepted.\nwords check plant.toml\nfile plant.toml\nfrom shown_{schema}.toml\nstatus 0\nout\n"
+               f"| {counts}\n| ok ports 1 symbols {len(port.symbols)} types {len(d['type'])}\n")
+        events = [("open", 1), ("bytes", 1, read(1, 0x4040, 0, 8)), ("bytes", 1, write(2, 0x4040, 4, b"\1\2\3\4")), ("bytes", 1, write(3, 0x4040, 4, b"\5", source=OTHER)),
+                  ("bytes", 1, read(4, 0x4040, 0, 8)), ("bytes", 1, ask(5, 0xF009, 0, 200, b"main.mode"))]
+        script = "\n".join(line for event in events for line in lines_of(event, ""))
+        came = "\n".join(f"| {line}" for line in model.play(d, SIGNALS, events).splitlines())
+        yield (f"# The same, asked: the first bytes; a write of the second symbol by one machine and by another, which has a route under schema 2 alone and there is\n"
+               f"# the writer; what stands there then; the entry of Main.mode.\n"
+               f"words replay plant.toml it.script\nfile plant.toml\nfrom shown_{schema}.toml\nfile it.script\n{script}\nstatus 0\nout\n{came}\n")
+
+
 def main():
+    made = list(shown())
+    with open(os.path.join(DATA, "shown.runs"), "w") as it:
+        it.write("----\n".join(made))
+    print(f"shown.runs: {len(made)} runs")
     for name, runs in (("frames", frames), ("lengths", lengths), ("sums", sums), ("edges", edges), ("limits", limits), ("reloads", reloads), ("offers", offers), ("faults", faults)):
         made = list(runs())
         with open(os.path.join(DATA, f"hostile_{name}.runs"), "w") as it:
