@@ -27,7 +27,7 @@ use Rattle.ads_run.specs.declared.status.Status.TheVariants as status
 use Rattle.ads_run.specs.declared.task.Task.{Task}
 use Rattle.ads_run.specs.declared.task.Task.TheVariants as task
 use Rattle.ads_run.specs.BuiltIn.{built_in}
-use Rattle.ads_run.specs.Causes.{HasCause, CauseOfService, EndsOfWire, TakesAll, FailsOfWire, NothingFailed, IsOwnEnd}
+use Rattle.ads_run.specs.Causes.{HasCause, EndsOfWire, TakesAll, FailsOfWire, NothingFailed, IsOwnEnd}
 use Rattle.ads_run.specs.Ending.{Ending, line_alone}
 use Rattle.ads_run.specs.Ends.{EndsSo, EndsBy}
 use Rattle.ads_run.specs.Prints.{PrintsEnding}

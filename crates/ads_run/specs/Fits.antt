@@ -1,5 +1,5 @@
 -- The numbers of a task are small enough for what it does.
-use Rattle.std.specs.Prelude.{◌≤◌, Option, Some, None}
+use Rattle.std.specs.Prelude.{◌≤◌, Option, Some}
 use Rattle.ads_run.specs.declared.file_task.FileTask.{FileTask}
 use Rattle.ads_run.specs.declared.file_task.FileTask.TheVariants as file_task
 use Rattle.ads_run.specs.declared.task.Task.{Task}

@@ -3,7 +3,6 @@ use Rattle.std.specs.Prelude.{ℕ, List, Option, Some, None, nat_le, if◌then�
 use Rattle.cli_words.specs.declared.command.Command.{Command}
 use Rattle.cli_words.specs.declared.command.Command.TheVariants as command
 use Rattle.cli_words.specs.Commands.{command_of}
-use Rattle.ads_run.specs.declared.file_task.FileTask.{FileTask}
 use Rattle.ads_run.specs.declared.file_task.FileTask.TheVariants as file_task
 use Rattle.ads_run.specs.declared.task.Task.{Task}
 use Rattle.ads_run.specs.declared.task.Task.TheVariants as task
