@@ -5,7 +5,6 @@ use Rattle.ads_formats.specs.Header.{AmsAddress}
 use Rattle.ads_outside.specs.declared.connected.Connected.{Connected}
 use Rattle.ads_outside.specs.declared.connected.Connected.TheVariants as connected
 use Rattle.ads_outside.specs.declared.link_move.LinkMove.{LinkMove}
-use Rattle.ads_outside.specs.declared.link_move.LinkMove.TheVariants as move
 use Rattle.ads_outside.specs.LinkAnswers.{log_after_connect}
 use Rattle.ads_outside.specs.LinkState.{LinkState}
 use Rattle.ads_outside.specs.Puts.{Appends, AppendsPart}
@@ -15,11 +14,11 @@ use Rattle.ads_client.specs.Calls.{Call}
 use Rattle.ads_client.specs.CallOver.{call_over}
 use Rattle.ads_client.specs.Conversation as conversation
 use Rattle.ads_client.specs.Conversation.{LinkAnswer, Conversation, conversation_begun, conversation_after}
+use Rattle.ads_talk.specs.CallLog.{call_log, call_log_up_to, call_sent_last}
 use Rattle.client_replies.specs.Stages.{end_meant}
 use Rattle.client_loop.specs.declared.loop_end.LoopEnd.{LoopEnd}
 use Rattle.client_loop.specs.declared.loop_end.LoopEnd.TheVariants as end
-use Rattle.client_loop.specs.Talk.{history_over}
-use Rattle.client_loop.specs.Told.{TellsWhole, TellsPart}
+use Rattle.client_loop.specs.Heard.{history_over, SendsSome}
 
 -- a call, between which addresses it is made, and what the link is connected to
 pub record Calling : Type 0 where
@@ -40,8 +39,26 @@ abbrev pub AreAwaited : Conversation → List LinkAnswer → Type 0
 AreAwaited c [] = Unit {0}
 AreAwaited c (answer ∷ answers) = (c.end ≡ None) × AreAwaited (conversation_after c answer) answers
 
--- The link was connected at a moment and gave some answers, each to a call that went on. The call over them ended so, or goes
--- on; all that it sent was sent, and all its text was put.
+-- a link that could tell a log before tells it with all moves of the call behind it
+abbrev pub LogsAll : {O : Type 0} → Calling → ℕ → List LinkAnswer → (O → List LinkMove → Type 0)
+    → (O → List LinkMove → Type 0) → Type 0
+LogsAll {O} x moment answers old_tells new_tells = (o : O) (log : List LinkMove) → old_tells o log
+    → new_tells o (log ++ call_log x.me x.peer x.call x.to moment answers)
+
+-- all up to the last answer, and some of what the call sends behind that
+pub record TellsSome {O : Type 0} (x : Calling) (moment : ℕ) (answers : List LinkAnswer)
+    (tells : O → List LinkMove → Type 0) (o : O) (log : List LinkMove) : Type 0 where
+  pub moves : List LinkMove
+  pub told : tells o (log ++ call_log_up_to x.me x.peer x.call x.to moment answers ++ moves)
+  pub some : SendsSome (call_sent_last x.me x.peer x.call moment answers) moves
+
+abbrev pub LogsSome : {O : Type 0} → Calling → ℕ → List LinkAnswer → (O → List LinkMove → Type 0)
+    → (O → List LinkMove → Type 0) → Type 0
+LogsSome {O} x moment answers old_tells new_tells =
+    (o : O) (log : List LinkMove) → old_tells o log → TellsSome x moment answers new_tells o log
+
+-- The link was connected at a moment and gave some answers, each to a call that went on. The call over them ended so, or goes on;
+-- all that it sent was sent, and all its text was put.
 pub record Talks {O : Type 0} (x : Calling) (ended : Option conversation.LoopEnd)
     (old_tells new_tells : O → List LinkMove → Type 0) (new : LinkState) (out out_new : SinkState) : Type 0 where
   pub moment : ℕ
@@ -50,10 +67,10 @@ pub record Talks {O : Type 0} (x : Calling) (ended : Option conversation.LoopEnd
   pub awaited : AreAwaited (conversation_begun x.me x.peer x.call moment) answers
   pub end_is : (over x moment answers).end ≡ ended
   pub text : Appends out.held out_new.held (over x moment answers).text
-  pub told : (o : O) (log : List LinkMove) → old_tells o log
-      → TellsWhole new_tells o (log ++ move.Connected x.to moment ∷ []) (over x moment answers).sent answers
+  pub told : LogsAll x moment answers old_tells new_tells
 
--- The same of a call that broke off: of what it sent and of its text some first bytes were sent and put.
+-- The same of a call that broke off behind these answers: of its text some first bytes were put, and of what it sends behind the
+-- last answer some was sent.
 pub record BreaksOff {O : Type 0} (x : Calling) (old_tells new_tells : O → List LinkMove → Type 0)
     (new : LinkState) (out out_new : SinkState) : Type 0 where
   pub moment : ℕ
@@ -61,8 +78,7 @@ pub record BreaksOff {O : Type 0} (x : Calling) (old_tells new_tells : O → Lis
   pub history : new.history ≡ history_over moment answers
   pub awaited : AreAwaited (conversation_begun x.me x.peer x.call moment) answers
   pub text : AppendsPart out.held out_new.held (over x moment answers).text
-  pub told : (o : O) (log : List LinkMove) → old_tells o log
-      → TellsPart new_tells o (log ++ move.Connected x.to moment ∷ []) (over x moment answers).sent answers
+  pub told : LogsSome x moment answers old_tells new_tells
 
 -- The link was not connected: nothing was sent, and nothing put.
 pub record NeverBegins {O : Type 0} (x : Calling) (answer : Connected)

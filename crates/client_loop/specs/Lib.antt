@@ -1,3 +1,2 @@
-pub mod Talk
-pub mod Told
+pub mod Heard
 pub mod Called
