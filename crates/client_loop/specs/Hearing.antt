@@ -10,7 +10,7 @@ use Rattle.ads_outside.specs.Rose.{Rose}
 use Rattle.ads_outside.specs.SinkState.{SinkState}
 use Rattle.ads_client.specs.CallOver.{conversation_after_all}
 use Rattle.ads_client.specs.Conversation as conversation
-use Rattle.ads_client.specs.Conversation.{LinkAnswer, Conversation, MAX_QUIET, MAX_ANSWERS, moment_of, runner_after_answer, conversation_after}
+use Rattle.ads_client.specs.Conversation.{LinkAnswer, Conversation, Sent, MAX_QUIET, MAX_ANSWERS, moment_of, runner_after_answer, conversation_after}
 use Rattle.ads_client.specs.Runner.{Runner}
 use Rattle.ads_talk.specs.CallLog.{event_of, sent_behind, sent_last, log_behind, log_up_to}
 use Rattle.client_replies.specs.Stages.{end_meant}
@@ -62,42 +62,69 @@ AfterComing {O} (Err e) k new old_tells new_tells link new_link =
     ComesNot old_tells new_tells link.history new_link.history
     ⊎ ((a : LinkAnswer) × Comes a old_tells new_tells link.history new_link.history)
 
--- Some answers came behind a conversation that goes on; all that it sent and its text stand whole. It ended so, or goes on.
-pub record GoesOver {O : Type 0} (c : Conversation) (ended : Option conversation.LoopEnd)
-    (old_tells new_tells : O → List LinkMove → Type 0) (link new_link : LinkState) (out new_out : SinkState) : Type 0 where
+-- Some answers came to a conversation. Behind this text, all of its text stands, and behind what is still to be sent all that it sent.
+-- It ended so, or goes on.
+pub record IsWhole {O : Type 0} (before : List ℕ) (pending : List Sent) (c : Conversation)
+    (ended : Option conversation.LoopEnd) (old_tells new_tells : O → List LinkMove → Type 0)
+    (link new_link : LinkState) (out new_out : SinkState) : Type 0 where
   pub answers : List LinkAnswer
   pub history : new_link.history ≡ history_after_answers link.history answers
   pub awaited : AreAwaited c answers
   pub end_is : (conversation_after_all c answers).end ≡ ended
-  pub text : (base : Option (List ℕ)) → Appends base out.held c.text
+  pub text : (base : Option (List ℕ)) → Appends base out.held before
       → Appends base new_out.held (conversation_after_all c answers).text
-  pub told : (o : O) (log : List LinkMove) → old_tells o log → new_tells o (log ++ log_behind [] c answers)
+  pub told : (o : O) (log : List LinkMove) → old_tells o log → new_tells o (log ++ log_behind pending c answers)
 
--- it broke off behind some answers
-pub record StopsOver {O : Type 0} (c : Conversation)
-    (old_tells new_tells : O → List LinkMove → Type 0) (link new_link : LinkState) (out new_out : SinkState) : Type 0 where
+-- It broke off: some first bytes of its text stand there, and some of what it sends behind the last answer.
+pub record IsPart {O : Type 0} (before : List ℕ) (pending : List Sent) (c : Conversation)
+    (old_tells new_tells : O → List LinkMove → Type 0) (link new_link : LinkState) (out new_out : SinkState)
+    : Type 0 where
   pub answers : List LinkAnswer
   pub history : new_link.history ≡ history_after_answers link.history answers
   pub awaited : AreAwaited c answers
-  pub text : (base : Option (List ℕ)) → Appends base out.held c.text
+  pub text : (base : Option (List ℕ)) → Appends base out.held before
       → AppendsPart base new_out.held (conversation_after_all c answers).text
   pub told : (o : O) (log : List LinkMove) → old_tells o log
-      → SentSome (sent_last [] c answers) new_tells o (log ++ log_up_to [] c answers)
+      → SentSome (sent_last pending c answers) new_tells o (log ++ log_up_to pending c answers)
 
 -- by how it ended
+abbrev pub EndsBy : {O : Type 0} → Result LoopEnd NoMemory → List ℕ → List Sent → Conversation
+    → (O → List LinkMove → Type 0) → (O → List LinkMove → Type 0) → LinkState → LinkState → SinkState → SinkState
+    → Type 0
+EndsBy (Ok (end.Call e)) before pending c old_tells new_tells link new_link out new_out =
+    IsWhole before pending c (Some (conversation.CallEnded (end_meant e))) old_tells new_tells link new_link out new_out
+EndsBy (Ok end.Budget) before pending c old_tells new_tells link new_link out new_out =
+    IsWhole before pending c (Some conversation.Budget) old_tells new_tells link new_link out new_out
+EndsBy (Ok end.LinkFault) before pending c old_tells new_tells link new_link out new_out =
+    Rose link.faults new_link.faults
+    × (IsWhole before pending c None old_tells new_tells link new_link out new_out
+    ⊎ IsPart before pending c old_tells new_tells link new_link out new_out)
+EndsBy (Ok end.WriteFault) before pending c old_tells new_tells link new_link out new_out =
+    Rose out.faults new_out.faults × IsPart before pending c old_tells new_tells link new_link out new_out
+EndsBy (Err e) before pending c old_tells new_tells link new_link out new_out =
+    IsPart before pending c old_tells new_tells link new_link out new_out
+
+-- a conversation all of whose text stands there, and all that it sent
 abbrev pub EndsOver : {O : Type 0} → Result LoopEnd NoMemory → Conversation → (O → List LinkMove → Type 0)
     → (O → List LinkMove → Type 0) → LinkState → LinkState → SinkState → SinkState → Type 0
-EndsOver (Ok (end.Call e)) c old_tells new_tells link new_link out new_out =
-    GoesOver c (Some (conversation.CallEnded (end_meant e))) old_tells new_tells link new_link out new_out
-EndsOver (Ok end.Budget) c old_tells new_tells link new_link out new_out =
-    GoesOver c (Some conversation.Budget) old_tells new_tells link new_link out new_out
-EndsOver (Ok end.LinkFault) c old_tells new_tells link new_link out new_out =
-    Rose link.faults new_link.faults
-    × (GoesOver c None old_tells new_tells link new_link out new_out ⊎ StopsOver c old_tells new_tells link new_link out new_out)
-EndsOver (Ok end.WriteFault) c old_tells new_tells link new_link out new_out =
-    Rose out.faults new_out.faults × StopsOver c old_tells new_tells link new_link out new_out
-EndsOver (Err e) c old_tells new_tells link new_link out new_out =
-    StopsOver c old_tells new_tells link new_link out new_out
+EndsOver result c old_tells new_tells link new_link out new_out =
+    EndsBy result c.text [] c old_tells new_tells link new_link out new_out
+
+-- one that only begins
+abbrev pub EndsFrom : {O : Type 0} → Result LoopEnd NoMemory → Conversation → (O → List LinkMove → Type 0)
+    → (O → List LinkMove → Type 0) → LinkState → LinkState → SinkState → SinkState → Type 0
+EndsFrom result c old_tells new_tells link new_link out new_out =
+    EndsBy result [] c.sent c old_tells new_tells link new_link out new_out
+
+abbrev pub GoesOver : {O : Type 0} → Conversation → Option conversation.LoopEnd → (O → List LinkMove → Type 0)
+    → (O → List LinkMove → Type 0) → LinkState → LinkState → SinkState → SinkState → Type 0
+GoesOver c ended old_tells new_tells link new_link out new_out =
+    IsWhole c.text [] c ended old_tells new_tells link new_link out new_out
+
+abbrev pub StopsOver : {O : Type 0} → Conversation → (O → List LinkMove → Type 0)
+    → (O → List LinkMove → Type 0) → LinkState → LinkState → SinkState → SinkState → Type 0
+StopsOver c old_tells new_tells link new_link out new_out =
+    IsPart c.text [] c old_tells new_tells link new_link out new_out
 
 -- the end of a conversation that goes on, unless the last answer came
 abbrev pub end_at_last : Conversation → Option conversation.LoopEnd

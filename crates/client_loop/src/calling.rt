@@ -1,17 +1,19 @@
 //! The whole call.
 
+ghost use Rattle.std.specs.Prelude.{◌<◌, length, IfOk};
+ghost use Rattle.ads_client.specs.Conversation.{conversation_begun};
 ghost use Rattle.ams_header.specs.Header.{address_of};
 ghost use Rattle.ads_outside.specs.LinkState.{LinkNeverFalls};
 ghost use Rattle.ads_outside.specs.SinkState.{NeverFalls};
 ghost use Rattle.client_replies.specs.Sound.{HasShortTexts};
 ghost use Rattle.client_replies.specs.Stages.{call_meant};
 ghost use Rattle.client_loop.specs.Called.{AfterCall, calling};
-ghost use Rattle.client_loop.specs.Talking.{AfterTalk};
+ghost use Rattle.client_loop.specs.Hearing.{EndsFrom};
 
 use crate::LoopEnd;
 use crate::hearing::hear_all;
 use crate::turning::{Turned, take_turns};
-use ads_base::{AmsAddr, NoMemory, Octets};
+use ads_base::{AmsAddr, NoMemory};
 use ads_outside::{Connected, Link, Sink};
 use client_calls::{Call, Runner};
 use std::alloc::Global;
@@ -55,12 +57,12 @@ fn talk<L: Link, S: Sink>(
     now: u64,
 ) -> Result<LoopEnd, NoMemory>
     requires { HasShortTexts (call_meant call) }
-    ensures talks { AfterTalk result (address_of me) (address_of peer) (call_meant call) now
+    ensures talks { EndsFrom result (conversation_begun (address_of me) (address_of peer) (call_meant call) now)
         (L.tells link.old) (L.tells link.new) (L.state link.old) (L.state link.new) (S.state out.old) (S.state out.new) }
     ensures link_later { LinkNeverFalls (L.state link.old) (L.state link.new) }
     ensures out_later { NeverFalls (S.state out.old) (S.state out.new) }
 {
-    let mut buf = Octets::from_vec(vec![in alloc; 0; 65536]?);
+    let mut buf = empty_buffer(alloc)?;
     let mut runner = Runner::new(alloc, call, me, peer)?;
     match take_turns(alloc, &mut runner, link, out, now)? {
         Turned::Waits => hear_all(alloc, &mut runner, link, out, buf.as_mut_slice()),
@@ -68,4 +70,12 @@ fn talk<L: Link, S: Sink>(
         Turned::LinkFault => Ok(LoopEnd::LinkFault),
         Turned::WriteFault => Ok(LoopEnd::WriteFault),
     }
+}
+
+// A buffer of 65,536 bytes.
+fn empty_buffer(alloc: Global) -> Result<Vec<u8>, NoMemory>
+    ensures { IfOk result (λ buffer. 0 < length buffer.items) }
+{
+    let buffer = Vec::from_elem(alloc, 0u8, 65_536)?;
+    Ok(buffer)
 }

@@ -1,9 +1,7 @@
 //! The turns of a call at a moment: what it gives is sent and put.
 
 ghost use Rattle.std.specs.Prelude.{◌≡◌, ◌<◌, ℕ, List, IfOk, MatchOption};
-
 ghost use Rattle.ads_outside.specs.LinkState.{LinkNeverFalls};
-
 ghost use Rattle.ads_outside.specs.SinkState.{NeverFalls};
 ghost use Rattle.ads_client.specs.Runner.{Runner as Spec};
 ghost use Rattle.client_calls.specs.Kept.{turns_left};
