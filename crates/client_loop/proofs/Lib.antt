@@ -6,3 +6,5 @@ pub mod TurnLemmas
 pub mod RoundLemmas
 pub mod OverLemmas
 pub mod TalkLemmas
+pub mod LaterLemmas
+pub mod ComeLemmas

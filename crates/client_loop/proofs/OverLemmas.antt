@@ -1,5 +1,6 @@
 -- Answers one after another.
 use Rattle.std.proofs.Common.{◌≡◌, ◌⊎◌, ℕ, ◌+◌, ◌≤◌, ◌<◌, List, [], ◌∷◌, ◌++◌, Bool, true, false, Option, Some, None, refl, sym, ap, ◌∙◌, subst, inl, inr, append_assoc, arith}
+use Rattle.std.proofs.lemmas.Bool.{ne_eqb}
 use Rattle.std.proofs.lemmas.List.{append-nil}
 use Rattle.std.specs.Prelude.{Result, Ok, Err, ◌==◌, if◌then◌else◌}
 use Rattle.ads_base.specs.declared.no_memory.NoMemory.{NoMemory}
@@ -42,7 +43,7 @@ hears_none c k tells link out b = record {
 }
 
 before_last : (n : ℕ) → n < MAX_ANSWERS → end_at (n + 1) ≡ None
-before_last n few = ap (λ b. if b then Some conversation.Budget else None) (eqb_other (n + 1) (MAX_ANSWERS + 1) (λ e. omega arith))
+before_last n few = ap (λ b. if b then Some conversation.Budget else None) (ne_eqb (n + 1) (MAX_ANSWERS + 1) (λ e. omega arith))
 
 -- fewer answers than are waited for came
 pub is_at : {O : Type 0} (c : Conversation) (k : RunnerKept) (quiet count : ℕ) (first second : O → List LinkMove → Type 0) (link mid_link : LinkState) (out mid : SinkState)
@@ -103,7 +104,7 @@ told_without tells o log [] told some = subst (tells o) (append-nil log) told
 told_without tells o log (m ∷ ms) told some = absurd some
 
 -- what is told where nothing is left to be sent
-told_whole : {O : Type 0} (tells : O → List LinkMove → Type 0) (o : O) (log : List LinkMove) (s : SentSome [] tells o log) → tells o log
+pub told_whole : {O : Type 0} (tells : O → List LinkMove → Type 0) (o : O) (log : List LinkMove) (s : SentSome [] tells o log) → tells o log
 told_whole tells o log s = told_without tells o log s.moves s.told s.some
 
 stops_with : {O : Type 0} (more : List LinkAnswer) (c : Conversation) (front : List LinkAnswer) (tells : O → List LinkMove → Type 0) (o : O) (log : List LinkMove)

@@ -1,5 +1,6 @@
 -- An answer of the link, and the turns behind it.
-use Rattle.std.proofs.Common.{◌≡◌, ◌⊎◌, ℕ, ◌+◌, ◌≤◌, ◌<◌, List, [], ◌∷◌, ◌++◌, Option, Some, None, Bool, true, false, refl, sym, ap, ◌∙◌, subst, inl, inr}
+use Rattle.std.proofs.Common.{◌≡◌, ◌⊎◌, ℕ, ◌+◌, ◌≤◌, ◌<◌, List, [], ◌∷◌, ◌++◌, Option, Some, None, Bool, true, false, refl, sym, ap, ◌∙◌, subst, inl, inr, arith}
+use Rattle.std.proofs.lemmas.Bool.{eqb-false}
 use Rattle.std.specs.Prelude.{Result, Ok, Err, ◌==◌, ◌||◌, if◌then◌else◌}
 use Rattle.ads_base.specs.declared.peer.Peer.TheVariants as peer
 use Rattle.ads_client.specs.Stages.{BadPeer}
@@ -29,7 +30,7 @@ use Rattle.client_loop.specs.declared.turning.Turned.TheVariants as turned
 use Rattle.client_loop.specs.LinkAfter.{history_after_answer}
 use Rattle.client_loop.specs.Said.{SentSome, Gives, GivesSome}
 use Rattle.client_loop.specs.Turning.{GivesSteps, GivesSomeSteps, AfterTurns}
-use Rattle.client_loop.specs.Hearing.{IsCame, Comes, ComesNot, TakesIn, AfterComing, GoesOver, StopsOver, EndsOver, end_at_last, IsAt, Hears, AfterRound, waits_behind, moment_in}
+use Rattle.client_loop.specs.Hearing.{IsCame, Comes, ComesNot, TakesIn, AfterComing, GoesOver, StopsOver, EndsOver, end_at_last, IsAt, Hears, AfterRound, waits_behind, moment_in, heard_by, AllTurns, EndsTurns, TurnsBehind, IfGoes}
 use Rattle.client_loop.proofs.SaidLemmas.{puts_then, puts_part, puts_all, puts_more, tells_more, tells_same}
 use Rattle.client_loop.proofs.TurnLemmas.{rose_later}
 use Rattle.client_loop.proofs.GoingLemmas.{turns_after, text_after, behind_is, over_after, Waited, waits_after}
@@ -252,3 +253,55 @@ round_waits (came.Closed now) k heard_k new first second third link mid_link new
     let w = waits_after c t.answer at.on after.1 in
     ends_whole c t.answer (Some (CallEnded (BadPeer peer.Closed))) first second third link mid_link new_link out new_out at.on t.comes same after.2
     (w.end ∙ ap (end_by_answer (conversation_after c t.answer)) t.kind_is)
+
+-- by how the turns behind the answer ended
+round_by : {O : Type 0} (ended : Turned) (kind : Came) (k heard_k new : RunnerKept) (first second third : O → List LinkMove → Type 0) (link mid_link new_link : LinkState) (out new_out : SinkState)
+    (quiet : ℕ) (c : Conversation) → IsAt k quiet c → TakesIn kind k heard_k first second link.history mid_link.history
+    → Behind (Ok ended) kind heard_k new second third mid_link new_link out new_out → new_link.history ≡ mid_link.history → link.faults ≤ mid_link.faults
+    → AfterRound (Ok (heard_by ended kind quiet)) c new first third link new_link out new_out
+round_by turned.Waits kind k heard_k new first second third link mid_link new_link out new_out quiet c at t behind same later =
+    round_waits kind k heard_k new first second third link mid_link new_link out new_out quiet c at t behind same
+round_by (turned.Over e) kind k heard_k new first second third link mid_link new_link out new_out quiet c at t behind same later =
+    round_over e kind k heard_k new first second third link mid_link new_link out new_out quiet c at t behind same
+round_by turned.LinkFault kind k heard_k new first second third link mid_link new_link out new_out quiet c at t behind same later =
+    round_link kind k heard_k new first second third link mid_link new_link out new_out quiet c at t behind same later
+round_by turned.WriteFault kind k heard_k new first second third link mid_link new_link out new_out quiet c at t behind same later =
+    round_write kind k heard_k new first second third link mid_link new_link out new_out quiet c at t behind same
+
+pub round_of : {O : Type 0} (result : Result Heard NoMemory) (kind : Came) (k heard_k new : RunnerKept) (first second third : O → List LinkMove → Type 0) (link mid_link new_link : LinkState) (out new_out : SinkState)
+    (quiet : ℕ) (c : Conversation) → IsAt k quiet c → TakesIn kind k heard_k first second link.history mid_link.history
+    → TurnsBehind result kind quiet heard_k new second third mid_link new_link out new_out → new_link.history ≡ mid_link.history → link.faults ≤ mid_link.faults
+    → AfterRound result c new first third link new_link out new_out
+round_of (Ok told) kind k heard_k new first second third link mid_link new_link out new_out quiet c at t behind same later =
+    subst (λ h. AfterRound (Ok h) c new first third link new_link out new_out) (sym behind.told_is)
+    (round_by behind.ended kind k heard_k new first second third link mid_link new_link out new_out quiet c at t behind.turns same later)
+round_of (Err e) kind k heard_k new first second third link mid_link new_link out new_out quiet c at t behind same later =
+    round_not e kind k heard_k new first second third link mid_link new_link out new_out quiet c at t behind same
+
+pub ends_turns : {O : Type 0} (ended : Turned) (told : Heard) (kind : Came) (quiet now : ℕ) (k new : RunnerKept) (second third : O → List LinkMove → Type 0) (mid_link new_link : LinkState) (out new_out : SinkState)
+    → told ≡ heard_by ended kind quiet → now ≡ moment_in kind → AllTurns (Ok ended) now k new second third mid_link new_link out new_out
+    → EndsTurns told kind quiet k new second third mid_link new_link out new_out
+ends_turns ended told kind quiet now k new second third mid_link new_link out new_out is at turns = record {
+  ended = ended;
+  told_is = is;
+  turns = subst (λ n. AllTurns (Ok ended) n k new second third mid_link new_link out new_out) at turns;
+}
+
+pub goes_told : (told : Heard) (P : Type 0) → P → IfGoes (Ok told) (λ quiet. P)
+goes_told (heard.Goes quiet) P p = p
+goes_told (heard.Ends e) P p = tt
+
+few_unless : (last : Bool) (quiet : ℕ) → (last ≡ false → quiet < MAX_QUIET) → IfGoes (Ok (heard_unless last quiet)) (λ in_a_row. in_a_row < MAX_QUIET)
+few_unless true quiet few = tt
+few_unless false quiet few = few refl
+
+below_next : (quiet : ℕ) → quiet < MAX_QUIET → (quiet + 1 == MAX_QUIET) ≡ false → quiet + 1 < MAX_QUIET
+below_next quiet few other = let e = eqb-false (quiet + 1) MAX_QUIET other in omega arith
+
+waits_few : (kind : Came) (quiet : ℕ) → quiet < MAX_QUIET → IfGoes (Ok (waits_behind kind quiet)) (λ in_a_row. in_a_row < MAX_QUIET)
+waits_few (came.Bytes now) quiet few = omega arith
+waits_few (came.Quiet now) quiet few = few_unless (quiet + 1 == MAX_QUIET) (quiet + 1) (below_next quiet few)
+waits_few (came.Closed now) quiet few = tt
+
+pub told_few : (told : Heard) (kind : Came) (quiet : ℕ) → told ≡ waits_behind kind quiet → quiet < MAX_QUIET → IfGoes (Ok told) (λ in_a_row. in_a_row < MAX_QUIET)
+told_few told kind quiet is few = subst (λ h. IfGoes (Ok h) (λ in_a_row. in_a_row < MAX_QUIET)) (sym is) (waits_few kind quiet few)

@@ -23,9 +23,12 @@ use Rattle.client_loop.specs.declared.hearing.Heard.{Heard}
 use Rattle.client_loop.specs.declared.hearing.Heard.TheVariants as heard
 use Rattle.client_loop.specs.declared.loop_end.LoopEnd.{LoopEnd}
 use Rattle.client_loop.specs.declared.loop_end.LoopEnd.TheVariants as end
+use Rattle.client_loop.specs.declared.turning.Turned.{Turned}
+use Rattle.client_loop.specs.declared.turning.Turned.TheVariants as turned
 use Rattle.client_loop.specs.Called.{AreAwaited}
 use Rattle.client_loop.specs.LinkAfter.{history_after_answer, history_after_answers}
 use Rattle.client_loop.specs.Said.{SentSome}
+use Rattle.client_loop.specs.Turning.{AfterTurns}
 
 -- which answer came
 abbrev pub IsCame : Came → LinkAnswer → Type 0
@@ -197,3 +200,30 @@ abbrev pub waits_behind : Came → ℕ → Heard
 waits_behind (came.Bytes now) quiet = heard.Goes 0
 waits_behind (came.Quiet now) quiet = if quiet + 1 == MAX_QUIET then heard.Ends end.Budget else heard.Goes (quiet + 1)
 waits_behind (came.Closed now) quiet = heard.Ends (end.Call (call_end.BadPeer peer.Closed))
+
+-- the turns behind an answer, of which so many were Quiet in a row before it: what they are by how the turns ended
+abbrev pub heard_by : Turned → Came → ℕ → Heard
+heard_by turned.Waits kind quiet = waits_behind kind quiet
+heard_by (turned.Over e) kind quiet = heard.Ends (end.Call e)
+heard_by turned.LinkFault kind quiet = heard.Ends end.LinkFault
+heard_by turned.WriteFault kind quiet = heard.Ends end.WriteFault
+
+abbrev pub AllTurns : {O : Type 0} → Result Turned NoMemory → ℕ → RunnerKept → RunnerKept → (O → List LinkMove → Type 0)
+    → (O → List LinkMove → Type 0) → LinkState → LinkState → SinkState → SinkState → Type 0
+AllTurns result now k new old_tells new_tells link new_link out new_out =
+    (r : Runner) (n : ℕ) → StandsFor k r → AfterTurns result now new old_tells new_tells link new_link out new_out n r
+
+-- how all turns behind an answer ended
+pub record EndsTurns {O : Type 0} (told : Heard) (kind : Came) (quiet : ℕ) (k new : RunnerKept)
+    (old_tells new_tells : O → List LinkMove → Type 0) (link new_link : LinkState) (out new_out : SinkState) : Type 0 where
+  pub ended : Turned
+  pub told_is : told ≡ heard_by ended kind quiet
+  pub turns : AllTurns (Ok ended) (moment_in kind) k new old_tells new_tells link new_link out new_out
+
+abbrev pub TurnsBehind : {O : Type 0} → Result Heard NoMemory → Came → ℕ → RunnerKept → RunnerKept
+    → (O → List LinkMove → Type 0) → (O → List LinkMove → Type 0) → LinkState → LinkState → SinkState → SinkState
+    → Type 0
+TurnsBehind (Ok told) kind quiet k new old_tells new_tells link new_link out new_out =
+    EndsTurns told kind quiet k new old_tells new_tells link new_link out new_out
+TurnsBehind (Err e) kind quiet k new old_tells new_tells link new_link out new_out =
+    AllTurns (Err e) (moment_in kind) k new old_tells new_tells link new_link out new_out

@@ -11,7 +11,7 @@ use client_calls::Runner;
 use std::alloc::Global;
 
 /// An answer of a link that was heard, with its moment.
-#[derive(Clone, Copy, Debug, PartialEq, Eq)]
+#[derive(Clone, Copy)]
 pub(crate) enum Came {
     /// Bytes came.
     Bytes(u64),
@@ -37,8 +37,10 @@ pub(crate) fn take_in<L: Link>(
     match link.recv(buf) {
         Received::Bytes(n, now) => {
             runner.tick(now);
-            runner.feed(alloc, &buf[..n as usize])?;
-            Ok(Some(Came::Bytes(now)))
+            match runner.feed(alloc, &buf[..n as usize]) {
+                Ok(()) => Ok(Some(Came::Bytes(now))),
+                Err(e) => Err(e),
+            }
         }
         Received::Quiet(now) => {
             runner.tick(now);

@@ -1,6 +1,9 @@
 //! The whole call.
 
-ghost use Rattle.std.specs.Prelude.{◌<◌, length, IfOk};
+ghost use Rattle.ads_formats.specs.Header.{AmsAddress};
+ghost use Rattle.ads_client.specs.Calls.{Call as CallSpec};
+ghost use Rattle.ads_client.specs.Runner.{new_runner};
+ghost use Rattle.client_calls.specs.Represents.{StandsFor, IsGoingOn};
 ghost use Rattle.ads_client.specs.Conversation.{conversation_begun};
 ghost use Rattle.ams_header.specs.Header.{address_of};
 ghost use Rattle.ads_outside.specs.LinkState.{LinkNeverFalls};
@@ -37,10 +40,7 @@ pub fn run_call<L: Link, S: Sink>(
     ensures out_later { NeverFalls (S.state out.old) (S.state out.new) }
 {
     match link.connect(to) {
-        Connected::Ready(now) => match talk(alloc, call, me, peer, link, out, now) {
-            Ok(end) => Ok(end),
-            Err(e) => Err(e),
-        },
+        Connected::Ready(now) => talk(alloc, call, me, peer, link, out, now),
         Connected::Failed => Ok(LoopEnd::LinkFault),
         Connected::Memory => Err(NoMemory),
     }
@@ -62,20 +62,32 @@ fn talk<L: Link, S: Sink>(
     ensures link_later { LinkNeverFalls (L.state link.old) (L.state link.new) }
     ensures out_later { NeverFalls (S.state out.old) (S.state out.new) }
 {
-    let mut buf = empty_buffer(alloc)?;
-    let mut runner = Runner::new(alloc, call, me, peer)?;
-    match take_turns(alloc, &mut runner, link, out, now)? {
-        Turned::Waits => hear_all(alloc, &mut runner, link, out, buf.as_mut_slice()),
-        Turned::Over(end) => Ok(LoopEnd::Call(end)),
-        Turned::LinkFault => Ok(LoopEnd::LinkFault),
-        Turned::WriteFault => Ok(LoopEnd::WriteFault),
+    match Runner::new(alloc, call, me, peer) {
+        Ok(mut runner) => talk_by(alloc, &mut runner, link, out, now),
+        Err(e) => Err(e),
     }
 }
 
-// A buffer of 65,536 bytes.
-fn empty_buffer(alloc: Global) -> Result<Vec<u8>, NoMemory>
-    ensures { IfOk result (λ buffer. 0 < length buffer.items) }
+// The call of a new runner.
+fn talk_by<L: Link, S: Sink>(
+    alloc: Global,
+    runner: &mut Runner,
+    link: &mut L,
+    out: &mut S,
+    now: u64,
+) -> Result<LoopEnd, NoMemory>
+    requires { IsGoingOn runner.old }
+    ensures talks { (me peer : AmsAddress) (call : CallSpec) → StandsFor runner.old (new_runner me peer call)
+        → EndsFrom result (conversation_begun me peer call now)
+        (L.tells link.old) (L.tells link.new) (L.state link.old) (L.state link.new) (S.state out.old) (S.state out.new) }
+    ensures link_later { LinkNeverFalls (L.state link.old) (L.state link.new) }
+    ensures out_later { NeverFalls (S.state out.old) (S.state out.new) }
 {
-    let buffer = Vec::from_elem(alloc, 0u8, 65_536)?;
-    Ok(buffer)
+    match take_turns(alloc, runner, link, out, now) {
+        Ok(Turned::Waits) => hear_all(alloc, runner, link, out),
+        Ok(Turned::Over(end)) => Ok(LoopEnd::Call(end)),
+        Ok(Turned::LinkFault) => Ok(LoopEnd::LinkFault),
+        Ok(Turned::WriteFault) => Ok(LoopEnd::WriteFault),
+        Err(e) => Err(e),
+    }
 }

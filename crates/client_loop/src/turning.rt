@@ -14,7 +14,7 @@ use client_calls::{CallEnd, CallStep, Runner};
 use std::alloc::Global;
 
 /// What became of the turns of a call.
-#[derive(Debug, Drop)]
+#[derive(Drop)]
 pub(crate) enum Turned {
     /// The call waits for more.
     Waits,
@@ -39,9 +39,10 @@ pub(crate) fn take_turns<L: Link, S: Sink>(
     ensures out_later { NeverFalls (S.state out.old) (S.state out.new) }
 {
     'turns: loop {
-        match take_turn(alloc, runner, link, out, now)? {
-            Some(turned) => return Ok(turned),
-            None => {}
+        match take_turn(alloc, runner, link, out, now) {
+            Ok(None) => {}
+            Ok(Some(turned)) => return Ok(turned),
+            Err(e) => return Err(e),
         }
     }
 }
@@ -62,11 +63,12 @@ fn take_turn<L: Link, S: Sink>(
     ensures link_later { LinkNeverFalls (L.state link.old) (L.state link.new) }
     ensures out_later { NeverFalls (S.state out.old) (S.state out.new) }
 {
-    match runner.turn(alloc, now)? {
-        CallStep::Send(bytes) => send(link, &bytes),
-        CallStep::Print(text) => print(out, &text),
-        CallStep::Wait => Ok(Some(Turned::Waits)),
-        CallStep::Over(end) => Ok(Some(Turned::Over(end))),
+    match runner.turn(alloc, now) {
+        Ok(CallStep::Send(bytes)) => send(link, &bytes),
+        Ok(CallStep::Print(text)) => print(out, &text),
+        Ok(CallStep::Wait) => Ok(Some(Turned::Waits)),
+        Ok(CallStep::Over(end)) => Ok(Some(Turned::Over(end))),
+        Err(e) => Err(e),
     }
 }
 

@@ -5,7 +5,7 @@ use Rattle.ads_outside.specs.SinkState.{NeverFalls}
 use Rattle.ads_client.specs.Conversation.{Conversation, MAX_QUIET}
 use Rattle.client_calls.specs.Represents.{IsGoingOn}
 use Rattle.client_loop.specs.Hearing.{IsBegun, HearsAll}
-use Rattle.client_loop.proofs.hearing.hear_all.Given as goal
+use Rattle.client_loop.proofs.hearing.hear_each.Given as goal
 
 abbrev pub invariant-loop-heard : goal.invariant-loop-heard
 invariant-loop-heard g l = record {
