@@ -13,8 +13,8 @@ talk-requires g c = c.requires
 pub returns-in-Ready-clause-called : goal.returns-in-Ready-clause-called
 returns-in-Ready-clause-called g c =
     calls c.talk.result (calling (address_of c.args.me) (address_of c.args.peer) (call_meant c.args.call) c.args.to.now) c.in-Ready.now
-    (g.L.Link.tells c.args.link.now) (g.L.Link.tells c.connect.new.link) (g.L.Link.tells c.talk.new.link)
-    (g.L.Link.state c.args.link.now) (g.L.Link.state c.connect.new.link) (g.L.Link.state c.talk.new.link)
+    (g.L.Link.tells c.args.link.now) (g.L.Link.tells c.connect.new.self) (g.L.Link.tells c.talk.new.link)
+    (g.L.Link.state c.args.link.now) (g.L.Link.state c.connect.new.self) (g.L.Link.state c.talk.new.link)
     (g.S.Sink.state c.args.out.now) (g.S.Sink.state c.talk.new.out)
     c.in-Ready.ensures.connects c.connect.ensures.later.faults (λ o log told. c.in-Ready.ensures.told o log told) c.talk.ensures.talks
 

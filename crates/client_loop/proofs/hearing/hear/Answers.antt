@@ -1,5 +1,5 @@
 -- An answer that came, or not.
-use Rattle.std.proofs.Common.{inl}
+use Rattle.std.proofs.Common.{inl, rules}
 use Rattle.client_loop.proofs.LaterLemmas.{link_then, sink_same}
 use Rattle.client_loop.proofs.RoundLemmas.{round_of, over_nothing, no_answer}
 use Rattle.client_loop.proofs.hearing.hear.Goals as goal
