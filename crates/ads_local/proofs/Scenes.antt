@@ -58,6 +58,8 @@ cuts_like f g first (a ∷ answers) same cuts =
 pub cuts_as : (first : ℕ) (answers : List LinkAnswer) → CutsAs (cutting_from first answers) first answers
 cuts_as first [] = tt
 cuts_as first (a ∷ answers) =
-    let here : cutting_from first (a ∷ answers) first ≡ most_of a = cond-true (first == first) _ _ (test_same first first refl) in
-    (here, cuts_like _ (cutting_from (first + 1) answers) (first + 1) answers
-        (λ n le. cond-false (n == first) _ _ (test_other n first (λ e. absurd (omega (arith, le, e))))) (cuts_as (first + 1) answers))
+    let here : cutting_from first (a ∷ answers) first ≡ most_of a = cond-true (first == first) _ _ (test_same first first refl) in (
+      here,
+      cuts_like _ (cutting_from (first + 1) answers) (first + 1) answers
+          (λ n le. cond-false (n == first) _ _ (test_other n first (λ e. absurd (omega (arith, le, e))))) (cuts_as (first + 1) answers),
+    )
