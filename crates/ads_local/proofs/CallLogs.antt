@@ -12,11 +12,11 @@ use Rattle.ads_machine.proofs.Find.{test_same}
 use Rattle.ads_formats.specs.Header.{AmsAddress}
 use Rattle.ads_client.specs.Calls.{Call}
 use Rattle.ads_client.specs.Runner.{turns}
-use Rattle.ads_client.specs.Conversation.{LinkAnswer, Bytes, Quiet, Closed, Sent, LoopEnd, Budget, Conversation, MAX_ANSWERS, MAX_QUIET, moment_of, conversation_begun, conversation_after, conversation_after_turns, conversation_going_on, with_answer, ended_by, unless_ended, end_by_answer, end_by_count}
+use Rattle.ads_client.specs.Conversation.{LinkAnswer, Bytes, Quiet, Closed, Sent, LoopEnd, Budget, Conversation, MAX_ANSWERS, MAX_QUIET, moment_of, conversation_begun, conversation_after, conversation_after_turns, conversation_going_on, with_answer, unless_ended, end_by_answer, end_by_count}
 use Rattle.ads_client.specs.CallOver.{conversation_after_all, call_over}
 use Rattle.ads_talk.specs.CallLog.{event_of, sent_behind, log_up_to}
-use Rattle.ads_local.specs.Laws.{IsLocalCall, CallsAreLocal}
-use Rattle.ads_local.specs.LocalCall.{Cutting, LocalScene, local_answer, scene_after, scene_after_answers, scene_behind, scene_begun, machine_after_pieces}
+use Rattle.ads_local.specs.Laws.{CallsAreLocal}
+use Rattle.ads_local.specs.LocalCall.{Cutting, LocalScene, local_answer, scene_after, scene_after_answers, scene_behind, machine_after_pieces}
 use Rattle.ads_local.specs.LinkLog.{answer_of, most_of, answered_like, without_connection, machine_after_link_move, IsLogOf, cutting_of}
 use Rattle.ads_local.proofs.LinkLogs.{behind_sends}
 use Rattle.ads_local.proofs.Scenes.{all_over, going_on, one_more, scene_stays, scene_goes_on, CutsAs, cuts_as}

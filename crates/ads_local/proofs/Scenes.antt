@@ -1,14 +1,13 @@
 -- A scene of a local call, answer by answer, and a call that is over.
-use Rattle.std.proofs.Common.{◌≡◌, ◌≢◌, ℕ, zero, suc, ◌+◌, ◌<◌, ◌≤◌, ◌==◌, ◌⊎◌, inl, inr, List, [], ◌∷◌, ◌++◌, length, drop, Bool, true, false, refl, sym, ap, ◌∙◌, subst, arith}
-use Rattle.std.specs.Prelude.{is_some, Option, Some, None, if◌then◌else◌}
-use Rattle.std.proofs.lemmas.Bool.{cases_eq, cond-true, cond-false}
-use Rattle.ads_machine.specs.MachineState.{MachineState}
+use Rattle.std.proofs.Common.{◌≡◌, ℕ, zero, suc, ◌+◌, ◌≤◌, ◌==◌, List, [], ◌∷◌, refl, ap, ◌∙◌, arith}
+use Rattle.std.specs.Prelude.{is_some, Option, Some, None}
+use Rattle.std.proofs.lemmas.Bool.{cond-true, cond-false}
 use Rattle.ads_machine.specs.Moves.{EventStep}
 use Rattle.ads_machine.proofs.Find.{test_same, test_other}
-use Rattle.ads_client.specs.Conversation.{LinkAnswer, Bytes, Quiet, Closed, LoopEnd, Conversation, MAX_ANSWERS, MAX_QUIET, conversation_after, conversation_going_on, conversation_after_turns, with_answer, ended_by, unless_ended, end_by_answer, end_by_count}
+use Rattle.ads_client.specs.Conversation.{LinkAnswer, LoopEnd, Conversation, conversation_after, conversation_going_on, conversation_after_turns, unless_ended}
 use Rattle.ads_client.specs.CallOver.{conversation_after_all}
-use Rattle.ads_local.specs.LocalCall.{Cutting, LocalScene, Answered, local_answer, scene_after, scene_after_answers, scene_behind, machine_after_pieces}
-use Rattle.ads_local.specs.LinkLog.{most_of, answered_like, cutting_from}
+use Rattle.ads_local.specs.LocalCall.{Cutting, LocalScene, scene_after_answers, scene_behind}
+use Rattle.ads_local.specs.LinkLog.{most_of, cutting_from}
 
 -- a call that is over takes nothing more
 pub over_stays : (c : Conversation) (e : LoopEnd) (a : LinkAnswer) → c.end ≡ Some e → conversation_after c a ≡ c

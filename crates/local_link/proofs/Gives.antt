@@ -1,10 +1,8 @@
 -- What a call of `recv` gives, by what was taken before and behind a tick.
-use Rattle.std.proofs.Common.{◌≡◌, ℕ, ◌<◌, ◌≤◌, List, take, length, true, false, refl, sym, ap, ◌∙◌, subst, arith}
+use Rattle.std.proofs.Common.{◌≡◌, ℕ, ◌<◌, ◌≤◌, List, take, length, true, false, ap, ◌∙◌, subst, arith}
 use Rattle.ads_outside.specs.declared.event.Event.TheVariants as event
-use Rattle.ads_outside.specs.declared.link_event.LinkEvent.TheVariants as come
 use Rattle.ads_outside.specs.declared.received.Received.TheVariants as received
 use Rattle.ads_outside.specs.LinkState.{LinkHistory, bytes_came, quiet_came, closed_came}
-use Rattle.ads_machine.specs.Connection.{connection_of}
 use Rattle.ads_machine.specs.Running.{is_to_be_shut_at}
 use Rattle.ads_local.specs.LocalCall.{LAST_MOMENT, next_tick}
 use Rattle.ads_local.proofs.Came.{ticked}
@@ -12,7 +10,7 @@ use Rattle.server_core.specs.CoreState.{CoreState, after_event}
 use Rattle.server_core.specs.Served.{ServedState, served_step}
 use Rattle.server_core.specs.Serves.{CoreView, Serves}
 use Rattle.local_link.specs.Link.{LocalView, unblocked, StandsFor}
-use Rattle.local_link.specs.Giving.{TakesBytes, TakesNothing, Takes, Gives}
+use Rattle.local_link.specs.Giving.{Takes, Gives}
 use Rattle.local_link.proofs.Waits.{taken_bytes, taken_nothing}
 use Rattle.local_link.proofs.Moves.{gives_waiting, gives_closed, stays_open, ticks, gives_later, gives_quiet}
 
@@ -28,9 +26,9 @@ bytes_at_once_of old new n now size buf takes some fit moment history wanting = 
   follows = record {
     wanting = wanting;
     follows = λ s stands.
-      let t = taken_bytes n buf new.core s some (takes s stands.core) in
-      let long : 0 < length (take n buf) = (let len = t.0 in omega (arith, len, some)) in
-      gives_waiting new s (take n buf) now long t.1 (moment ∙ stands.moment) (ap (λ (h : LinkHistory). h.moment) history);
+        let t = taken_bytes n buf new.core s some (takes s stands.core) in
+        let long : 0 < length (take n buf) = (let len = t.0 in omega (arith, len, some)) in
+        gives_waiting new s (take n buf) now long t.1 (moment ∙ stands.moment) (ap (λ (h : LinkHistory). h.moment) history);
   };
 }
 
@@ -43,7 +41,7 @@ closed_at_once_of old new n now size buf takes none shut moment history wanting 
   follows = record {
     wanting = wanting;
     follows = λ s stands.
-      gives_closed new s now (taken_nothing n buf new.core s none (takes s stands.core)) shut (moment ∙ stands.moment) (ap (λ (h : LinkHistory). h.moment) history);
+        gives_closed new s now (taken_nothing n buf new.core s none (takes s stands.core)) shut (moment ∙ stands.moment) (ap (λ (h : LinkHistory). h.moment) history);
   };
 }
 
@@ -72,11 +70,11 @@ bytes_later_of old new mid later n now size buf t takes some fit history wanting
   follows = record {
     wanting = wanting;
     follows = λ s stands.
-      let nothing = taken_nothing t.n t.buf mid s t.none (t.takes s stands.core) in
-      let at_s = next_moment s old now stands t.moment in
-      let bytes = taken_bytes n buf new.core (ticked served_step s) some (takes (ticked served_step s) (ticks mid later s now nothing at_s t.tick)) in
-      let long : 0 < length (take n buf) = (let len = bytes.0 in omega (arith, len, some)) in
-      gives_later new mid s (take n buf) now (last_of s old stands t.last) nothing (stays_open mid s nothing t.stays) long bytes.1 at_s (ap (λ (h : LinkHistory). h.moment) history);
+        let nothing = taken_nothing t.n t.buf mid s t.none (t.takes s stands.core) in
+        let at_s = next_moment s old now stands t.moment in
+        let bytes = taken_bytes n buf new.core (ticked served_step s) some (takes (ticked served_step s) (ticks mid later s now nothing at_s t.tick)) in
+        let long : 0 < length (take n buf) = (let len = bytes.0 in omega (arith, len, some)) in
+        gives_later new mid s (take n buf) now (last_of s old stands t.last) nothing (stays_open mid s nothing t.stays) long bytes.1 at_s (ap (λ (h : LinkHistory). h.moment) history);
   };
 }
 
@@ -88,10 +86,10 @@ nothing_later_of old new mid later n now size buf t takes none history wanting =
   follows = record {
     wanting = wanting;
     follows = λ s stands.
-      let nothing = taken_nothing t.n t.buf mid s t.none (t.takes s stands.core) in
-      let at_s = next_moment s old now stands t.moment in
-      let still = taken_nothing n buf new.core (ticked served_step s) none (takes (ticked served_step s) (ticks mid later s now nothing at_s t.tick)) in
-      gives_quiet new mid s now (last_of s old stands t.last) nothing (stays_open mid s nothing t.stays) still at_s (ap (λ (h : LinkHistory). h.moment) history);
+        let nothing = taken_nothing t.n t.buf mid s t.none (t.takes s stands.core) in
+        let at_s = next_moment s old now stands t.moment in
+        let still = taken_nothing n buf new.core (ticked served_step s) none (takes (ticked served_step s) (ticks mid later s now nothing at_s t.tick)) in
+        gives_quiet new mid s now (last_of s old stands t.last) nothing (stays_open mid s nothing t.stays) still at_s (ap (λ (h : LinkHistory). h.moment) history);
   };
 }
 

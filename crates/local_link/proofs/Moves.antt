@@ -1,6 +1,6 @@
 -- A move of the link is the machine's, and the link stands for the machine behind it.
-use Rattle.std.proofs.Common.{◌≡◌, ℕ, suc, ◌<◌, ◌≤◌, ◌^◌, ◌+◌, List, [], take, length, true, false, refl, sym, ap, ◌∙◌, subst, arith}
-use Rattle.std.specs.Prelude.{Option, Some, None, min, max}
+use Rattle.std.proofs.Common.{◌≡◌, ℕ, ◌<◌, ◌≤◌, List, length, true, false, refl, sym, ap, ◌∙◌, subst, arith}
+use Rattle.std.specs.Prelude.{Option, Some, None}
 use Rattle.ads_outside.specs.declared.event.Event.TheVariants as event
 use Rattle.ads_outside.specs.declared.link_event.LinkEvent.{LinkEvent}
 use Rattle.ads_outside.specs.declared.link_event.LinkEvent.TheVariants as come
@@ -8,11 +8,11 @@ use Rattle.ads_outside.specs.declared.link_move.LinkMove.TheVariants as link
 use Rattle.ads_outside.specs.declared.moves.Move.TheVariants as move
 use Rattle.ads_machine.specs.Connection.{connection_of}
 use Rattle.ads_machine.specs.Events.{state_after_event}
-use Rattle.ads_machine.specs.MachineState.{Exchange, after_exchange}
+use Rattle.ads_machine.specs.MachineState.{after_exchange}
 use Rattle.ads_machine.specs.Moves.{state_after_move}
 use Rattle.ads_machine.specs.Running.{is_to_be_shut, is_to_be_shut_at}
 use Rattle.ads_client.specs.Conversation.{Bytes, Quiet, Closed}
-use Rattle.ads_local.specs.LocalCall.{Answered, answered, bytes_taken, waiting_bytes, LAST_MOMENT, next_tick}
+use Rattle.ads_local.specs.LocalCall.{Answered, answered, bytes_taken, LAST_MOMENT, next_tick}
 use Rattle.ads_local.specs.LinkLog.{answer_of, answered_like, without_connection, machine_after_link_move, IsMoveOf}
 use Rattle.ads_local.proofs.Came.{ticked, came_waiting, came_closed, came_later, came_quiet}
 use Rattle.server_core.specs.CoreState.{CoreState, after_event}
@@ -73,13 +73,13 @@ pub gives_waiting : (new : LocalView) (s : ServedState) (bytes : List ℕ) (now 
     → Comes s (come.Bytes bytes now) new
 gives_waiting new s bytes now some takes moment last =
     comes s (come.Bytes bytes now) (bytes_taken served_step s bytes) new (came_waiting served_step s bytes now some takes.first)
-      (taken_answer s bytes now moment) (stands_taken new s bytes takes (last ∙ moment))
+    (taken_answer s bytes now moment) (stands_taken new s bytes takes (last ∙ moment))
 
 pub gives_closed : (new : LocalView) (s : ServedState) (now : ℕ) → TakesNothing new.core s → ((x : CoreState) → Serves new.core x → true ≡ is_to_be_shut_at 1 x) → now ≡ s.moment → new.history.moment ≡ now
     → Comes s (come.Closed now) new
 gives_closed new s now takes shut moment last =
     comes s (come.Closed now) (answered (Closed s.moment) s) new (came_closed served_step s now takes.none (sym (shut (unblocked s) takes.serves)))
-      (ap Closed (sym moment)) (record { core = takes.serves; moment = last ∙ moment })
+    (ap Closed (sym moment)) (record { core = takes.serves; moment = last ∙ moment })
 
 pub stays_open : (core : CoreView) (s : ServedState) → TakesNothing core s → ((x : CoreState) → Serves core x → false ≡ is_to_be_shut_at 1 x) → is_to_be_shut (connection_of 1 s.connections) ≡ false
 stays_open core s takes open_ = sym (open_ (unblocked s) takes.serves)
@@ -97,7 +97,7 @@ gives_later new mid s bytes now le nothing open_ some takes moment last =
     let t = ticked served_step s in
     let at : now ≡ t.moment = moment ∙ sym (tick_moment s le) in
     comes s (come.Bytes bytes now) (bytes_taken served_step t bytes) new (came_later served_step s bytes now nothing.none open_ some takes.first)
-      (taken_answer t bytes now at) (stands_taken new t bytes takes (last ∙ at))
+    (taken_answer t bytes now at) (stands_taken new t bytes takes (last ∙ at))
 
 pub gives_quiet : (new : LocalView) (mid : CoreView) (s : ServedState) (now : ℕ) → s.moment ≤ LAST_MOMENT → TakesNothing mid s → is_to_be_shut (connection_of 1 s.connections) ≡ false
     → TakesNothing new.core (ticked served_step s) → now ≡ next_tick s.moment → new.history.moment ≡ now
@@ -106,4 +106,4 @@ gives_quiet new mid s now le nothing open_ still moment last =
     let t = ticked served_step s in
     let at : now ≡ t.moment = moment ∙ sym (tick_moment s le) in
     comes s (come.Quiet now) (answered (Quiet t.moment) t) new (came_quiet served_step s now nothing.none open_ still.none)
-      (ap Quiet (sym at)) (record { core = still.serves; moment = last ∙ at })
+    (ap Quiet (sym at)) (record { core = still.serves; moment = last ∙ at })

@@ -1,13 +1,11 @@
 -- A log that is told goes on by what a call answered.
-use Rattle.std.proofs.Common.{◌≡◌, ◌≢◌, ℕ, List, [], ◌∷◌, ◌++◌, true, false, refl, sym, ◌∙◌, subst}
+use Rattle.std.proofs.Common.{◌≡◌, ◌≢◌, ℕ, List, [], ◌∷◌, ◌++◌, true, false, sym, ◌∙◌, subst}
 use Rattle.std.proofs.lemmas.Bool.{false≢true}
-use Rattle.ads_outside.specs.declared.link_event.LinkEvent.TheVariants as come
 use Rattle.ads_outside.specs.declared.link_move.LinkMove.{LinkMove}
-use Rattle.ads_outside.specs.declared.link_move.LinkMove.TheVariants as link
 use Rattle.ads_outside.specs.declared.received.Received.{Received}
 use Rattle.ads_outside.specs.declared.received.Received.TheVariants as received
 use Rattle.ads_outside.specs.LinkAnswers.{log_after_recv}
-use Rattle.ads_local.specs.LinkLog.{IsLogOf, machine_after_link_move, machine_after_log}
+use Rattle.ads_local.specs.LinkLog.{machine_after_log}
 use Rattle.ads_local.proofs.LinkLogs.{machine_after_log-more, is_log-more}
 use Rattle.server_core.specs.Served.{ServedState, served_step}
 use Rattle.local_link.specs.Link.{LocalView, StandsFor, IsTold}

@@ -1,5 +1,5 @@
 -- What waits for connection 1, and what is taken of it.
-use Rattle.std.proofs.Common.{◌≡◌, ℕ, zero, suc, ◌<◌, ◌≤◌, ◌+◌, ◌-◌, List, [], ◌∷◌, ◌++◌, length, take, drop, flat_map, refl, sym, ap, ◌∙◌, subst, inl, inr, arith, length-drop, length-take, true, false, Bool}
+use Rattle.std.proofs.Common.{◌≡◌, ℕ, zero, suc, ◌<◌, ◌≤◌, ◌-◌, List, [], ◌∷◌, length, take, drop, flat_map, refl, sym, ap, ◌∙◌, subst, inl, inr, arith, length-drop, length-take, true, false, Bool}
 use Rattle.std.specs.Prelude.{Option, Some, None, nat_le, nat_lt, if◌then◌else◌, filter, not, ◌==◌}
 use Rattle.std.proofs.lemmas.Bool.{cases_Bool, cond-true, cond-false}
 use Rattle.std.proofs.lemmas.Bool.Decides.{nat_tests}
@@ -16,7 +16,7 @@ use Rattle.server_core.specs.CoreState.{CoreState, after_event, after_move, Open
 use Rattle.server_core.specs.Served.{Client, ServedState, served_step}
 use Rattle.server_core.specs.Serves.{CoreView, Serves, Follows, offer_in}
 use Rattle.local_link.specs.Link.{unblocked}
-use Rattle.local_link.specs.Giving.{CopiesFirst, CopiesOffer, TakesBytes, TakesNothing, Takes}
+use Rattle.local_link.specs.Giving.{CopiesOffer, TakesBytes, TakesNothing, Takes}
 
 -- no empty frame is left
 left_some : (fs : List (List ℕ)) (n : ℕ) (left : List ℕ) → first_frame (left_after n fs) ≡ Some left → 0 < length left
@@ -88,7 +88,7 @@ none_of : (old : CoreView) (s : ServedState) (buf : List ℕ) (o : Option (List 
 none_of old s buf None e copies machine serves = record { none = nothing_in (waiting_at 1 s) (sym (machine (unblocked s) serves) ∙ e); serves = serves }
 none_of old s buf (Some left) e copies machine serves =
     absurd (let some = some_of (connection_of 1 s.connections) left (sym (machine (unblocked s) serves) ∙ e) in
-      let empty : length left ≡ 0 = ap length (copies.some refl) in omega (arith, some, empty))
+    let empty : length left ≡ 0 = ap length (copies.some refl) in omega (arith, some, empty))
 
 -- bytes of the offer were taken, and connection 1 was writable again
 pub took_some : (old mid new : CoreView) (s : ServedState) (n : ℕ) (buf : List ℕ) → 0 < n → CopiesOffer n (offer_in old 1) buf

@@ -2,6 +2,7 @@
 
 ghost use Rattle.std.specs.Prelude.{◌≡◌, ◌≢◌, ◌≤◌, ◌<◌, [], ◌∷◌, ◌++◌, List, length, IfOk, OnOk, OnErr};
 ghost use Rattle.ads_outside.specs.LinkState.{not_connected, connected_at};
+ghost use Rattle.ads_local.specs.LocalCall.{LAST_MOMENT, next_tick};
 ghost use Rattle.server_core.specs.Served.{ServedState};
 ghost use Rattle.server_core.specs.Serves.{Serves};
 
@@ -71,7 +72,8 @@ impl<P: Steps, G: Sources> LocalLink<P, G> {
     {
         self.core.remove(1);
         gone_connections_are_forgotten();
-        self.steps.step(self.alloc, &mut self.core, Event::Opened(1))?;
+        self.steps
+            .step(self.alloc, &mut self.core, Event::Opened(1))?;
         let now = self.counts.moment();
         self.counts.connect(now);
         Ok(now)
@@ -83,7 +85,8 @@ impl<P: Steps, G: Sources> LocalLink<P, G> {
         ensures same { self.new.history ≡ self.old.history }
     {
         let copy = Octets::copy_of(self.alloc, bytes)?;
-        self.steps.step(self.alloc, &mut self.core, Event::Piece(1, copy))?;
+        self.steps
+            .step(self.alloc, &mut self.core, Event::Piece(1, copy))?;
         Ok(())
     }
 
@@ -105,8 +108,9 @@ impl<P: Steps, G: Sources> LocalLink<P, G> {
             self.counts.close(now);
             return Ok(Received::Closed(now));
         }
-        let now = self.counts.moment().saturating_add(LOCAL_TICK);
-        self.steps.step(self.alloc, &mut self.core, Event::Tick(now))?;
+        let now = next_tick(self.counts.moment());
+        self.steps
+            .step(self.alloc, &mut self.core, Event::Tick(now))?;
         let came = take_waiting(&self.steps, self.alloc, &mut self.core, buf)?;
         if came > 0 {
             self.counts.bytes(now);
@@ -115,6 +119,14 @@ impl<P: Steps, G: Sources> LocalLink<P, G> {
         self.counts.quiet(now);
         Ok(Received::Quiet(now))
     }
+}
+
+// The moment of the tick behind this one; the clock stands still at its type's end.
+fn next_tick(now: u64) -> u64
+    ensures is { result ≡ next_tick now }
+    ensures bound { now ≤ LAST_MOMENT }
+{
+    now.saturating_add(LOCAL_TICK)
 }
 
 impl<P: Steps, G: Sources> Link for LocalLink<P, G> {

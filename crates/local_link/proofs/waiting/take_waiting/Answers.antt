@@ -12,4 +12,4 @@ returns-then-n-eq0-clause-takes g c = λ s serves.
 pub returns-clause-takes : goal.returns-clause-takes
 returns-clause-takes g c = λ s serves.
     took_some c.args.core.now c.took.new.self c.step.new.core s c.copy_offer-n.result c.copy_offer-n.new.buf (omega (arith, c.if-n-eq0.false))
-      c.copy_offer-n.ensures.copies c.copy_offer-n.ensures.machine c.took.ensures.follows c.in_ok-step.ensures serves
+    c.copy_offer-n.ensures.copies c.copy_offer-n.ensures.machine c.took.ensures.follows c.in_ok-step.ensures serves

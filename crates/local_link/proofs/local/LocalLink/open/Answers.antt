@@ -11,13 +11,13 @@ unfolding machine_after_link_move
 returns-clause-opened g c = record {
   wanting = ap (λ (l : LocalView). l.wanting) c.self.view_is;
   follows = λ s stands.
-    let here = subst (λ (l : LocalView). StandsFor l s) (sym c.self.view_is) stands in
-    let shut = c.remove.ensures.shut (unblocked s) here.core in
-    let moment = c.moment-now.ensures ∙ here.moment in (
-      moment,
-      record {
-        core = opens_anew c.remove.new.self c.step.new.core s here.core.server.connections.apart shut.serves c.gone_connections_are_forgotten.ensures c.in_ok-step.ensures;
-        moment = ap (λ (h : LinkHistory). h.moment) c.connect.ensures ∙ moment ∙ sym (opened_moment s);
-      },
-    );
+      let here = subst (λ (l : LocalView). StandsFor l s) (sym c.self.view_is) stands in
+      let shut = c.remove.ensures.shut (unblocked s) here.core in
+      let moment = c.moment-now.ensures ∙ here.moment in (
+        moment,
+        record {
+          core = opens_anew c.remove.new.self c.step.new.core s here.core.server.connections.apart shut.serves c.gone_connections_are_forgotten.ensures c.in_ok-step.ensures;
+          moment = ap (λ (h : LinkHistory). h.moment) c.connect.ensures ∙ moment ∙ sym (opened_moment s);
+        },
+      );
 }

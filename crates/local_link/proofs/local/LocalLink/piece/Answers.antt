@@ -13,12 +13,12 @@ unfolding machine_after_link_move state_after_move
 returns-clause-follows g c = record {
   wanting = ap (λ (l : LocalView). l.wanting) c.self.view_is;
   follows = λ s stands.
-    let here = subst (λ (l : LocalView). StandsFor l s) (sym c.self.view_is) stands in
-    let core = c.in_ok-step.ensures (unblocked s) here.core tt in (
-      tt,
-      record {
-        core = subst (λ bytes. Serves c.step.new.core (after_event (unblocked s) (event.Piece 1 bytes))) c.in_ok-copy.ensures core;
-        moment = here.moment ∙ sym (piece_moment s c.args.bytes.now);
-      },
-    );
+      let here = subst (λ (l : LocalView). StandsFor l s) (sym c.self.view_is) stands in
+      let core = c.in_ok-step.ensures (unblocked s) here.core tt in (
+        tt,
+        record {
+          core = subst (λ bytes. Serves c.step.new.core (after_event (unblocked s) (event.Piece 1 bytes))) c.in_ok-copy.ensures core;
+          moment = here.moment ∙ sym (piece_moment s c.args.bytes.now);
+        },
+      );
 }
