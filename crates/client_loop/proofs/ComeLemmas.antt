@@ -1,17 +1,16 @@
 -- What came, as the answer of a link that a call hears.
-use Rattle.std.proofs.Common.{◌≡◌, ℕ, List, [], ◌++◌, take, Option, Some, None, refl, ap, sym, subst, inl, inr}
-use Rattle.std.specs.Prelude.{Result, Ok, Err}
+use Rattle.std.proofs.Common.{◌≡◌, ℕ, List, [], take, refl, ap, sym, subst}
 use Rattle.std.proofs.lemmas.List.{append-nil}
 use Rattle.ads_outside.specs.declared.link_move.LinkMove.{LinkMove}
 use Rattle.ads_outside.specs.declared.received.Received.TheVariants as received
-use Rattle.ads_outside.specs.LinkAnswers.{BringsBytes, LinkFails, log_after_recv}
+use Rattle.ads_outside.specs.LinkAnswers.{BringsBytes, log_after_recv}
 use Rattle.ads_outside.specs.LinkState.{LinkState, quiet_came, closed_came}
 use Rattle.ads_client.specs.Conversation as conversation
 use Rattle.ads_client.specs.Runner.{Runner, runner_after_feed, runner_after_tick}
 use Rattle.client_calls.specs.Kept.{RunnerKept}
 use Rattle.client_calls.specs.Represents.{StandsFor}
 use Rattle.client_loop.specs.declared.answers.Came.TheVariants as came
-use Rattle.client_loop.specs.Hearing.{Comes, ComesNot, TakesIn}
+use Rattle.client_loop.specs.Hearing.{Comes, TakesIn}
 
 abbrev Tells : {O : Type 0} → (O → List LinkMove → Type 0) → (O → List LinkMove → Type 0) → (List LinkMove → List LinkMove) → Type 0
 Tells {O} first second behind = (o : O) (log : List LinkMove) → first o log → second o (behind log)

@@ -1,13 +1,10 @@
 -- Counts that do not fall, call by call; and some cases of an answer.
-use Rattle.std.proofs.Common.{ℕ, ◌<◌, ◌≤◌, Option, Some, None}
+use Rattle.std.proofs.Common.{Option, Some, None}
 use Rattle.std.proofs.Math.Nat.{le_refl, le_trans}
 use Rattle.std.specs.Prelude.{Result, Ok, Err, IfOk, MatchOption}
 use Rattle.ads_base.specs.declared.no_memory.NoMemory.{NoMemory}
 use Rattle.ads_outside.specs.LinkState.{LinkState, LinkNeverFalls}
 use Rattle.ads_outside.specs.SinkState.{SinkState, NeverFalls}
-use Rattle.ads_client.specs.Runner.{Runner, turns}
-use Rattle.client_calls.specs.Kept.{RunnerKept}
-use Rattle.client_calls.specs.Represents.{StandsFor, IsGoingOn}
 use Rattle.client_loop.specs.declared.turning.Turned.{Turned}
 
 pub link_same : (a : LinkState) → LinkNeverFalls a a

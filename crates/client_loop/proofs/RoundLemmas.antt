@@ -1,5 +1,5 @@
 -- An answer of the link, and the turns behind it.
-use Rattle.std.proofs.Common.{◌≡◌, ◌⊎◌, ℕ, ◌+◌, ◌≤◌, ◌<◌, List, [], ◌∷◌, ◌++◌, Option, Some, None, Bool, true, false, refl, sym, ap, ◌∙◌, subst, inl, inr, arith}
+use Rattle.std.proofs.Common.{◌≡◌, ℕ, ◌+◌, ◌≤◌, ◌<◌, List, [], ◌∷◌, ◌++◌, Option, Some, None, Bool, true, false, refl, sym, ap, ◌∙◌, subst, inl, inr, arith}
 use Rattle.std.proofs.lemmas.Bool.{eqb-false}
 use Rattle.std.specs.Prelude.{Result, Ok, Err, ◌==◌, ◌||◌, if◌then◌else◌}
 use Rattle.ads_base.specs.declared.peer.Peer.TheVariants as peer
@@ -15,7 +15,7 @@ use Rattle.ads_client.specs.CallOver.{conversation_after_all}
 use Rattle.ads_client.specs.Conversation as conversation
 use Rattle.ads_client.specs.Conversation.{LinkAnswer, Conversation, CallEnded, MAX_QUIET, MAX_ANSWERS, moment_of, sent_by, printed_by, quiet_after, end_by_answer, runner_after_answer, conversation_after}
 use Rattle.ads_client.specs.Runner.{Runner, turns}
-use Rattle.ads_talk.specs.CallLog.{event_of, sent_moves, sent_behind, sent_last, log_behind, log_up_to}
+use Rattle.ads_talk.specs.CallLog.{event_of, sent_moves, sent_last, log_behind, log_up_to}
 use Rattle.client_replies.specs.Stages.{end_meant}
 use Rattle.client_calls.specs.Kept.{RunnerKept}
 use Rattle.client_calls.specs.Represents.{StandsFor}
@@ -23,14 +23,12 @@ use Rattle.client_loop.specs.declared.answers.Came.{Came}
 use Rattle.client_loop.specs.declared.answers.Came.TheVariants as came
 use Rattle.client_loop.specs.declared.hearing.Heard.{Heard}
 use Rattle.client_loop.specs.declared.hearing.Heard.TheVariants as heard
-use Rattle.client_loop.specs.declared.loop_end.LoopEnd.{LoopEnd}
 use Rattle.client_loop.specs.declared.loop_end.LoopEnd.TheVariants as end
 use Rattle.client_loop.specs.declared.turning.Turned.{Turned}
 use Rattle.client_loop.specs.declared.turning.Turned.TheVariants as turned
-use Rattle.client_loop.specs.LinkAfter.{history_after_answer}
-use Rattle.client_loop.specs.Said.{SentSome, Gives, GivesSome}
+use Rattle.client_loop.specs.Said.{SentSome}
 use Rattle.client_loop.specs.Turning.{GivesSteps, GivesSomeSteps, AfterTurns}
-use Rattle.client_loop.specs.Hearing.{IsCame, Comes, ComesNot, TakesIn, AfterComing, GoesOver, StopsOver, EndsOver, end_at_last, IsAt, Hears, AfterRound, waits_behind, moment_in, heard_by, AllTurns, EndsTurns, TurnsBehind, IfGoes}
+use Rattle.client_loop.specs.Hearing.{IsCame, Comes, ComesNot, TakesIn, AfterComing, GoesOver, StopsOver, end_at_last, IsAt, Hears, AfterRound, waits_behind, moment_in, heard_by, AllTurns, EndsTurns, TurnsBehind, IfGoes}
 use Rattle.client_loop.proofs.SaidLemmas.{puts_then, puts_part, puts_all, puts_more, tells_more, tells_same}
 use Rattle.client_loop.proofs.TurnLemmas.{rose_later}
 use Rattle.client_loop.proofs.GoingLemmas.{turns_after, text_after, behind_is, over_after, Waited, waits_after}

@@ -1,14 +1,12 @@
 -- The first turns of a call, and the whole call behind the connection.
-use Rattle.std.proofs.Common.{◌≡◌, ◌⊎◌, ℕ, ◌≤◌, List, [], ◌∷◌, ◌++◌, Option, Some, None, refl, sym, ap, ◌∙◌, subst, inl, inr, append_assoc}
+use Rattle.std.proofs.Common.{◌≡◌, ℕ, ◌≤◌, List, [], ◌∷◌, ◌++◌, Option, None, refl, sym, ap, ◌∙◌, subst, inl, inr, append_assoc}
 use Rattle.std.specs.Prelude.{Result, Ok, Err}
 use Rattle.std.proofs.lemmas.List.{append-nil}
 use Rattle.ads_base.specs.declared.no_memory.NoMemory.{NoMemory}
 use Rattle.ads_formats.specs.Header.{AmsAddress}
-use Rattle.ads_outside.specs.declared.connected.Connected.TheVariants as connected
 use Rattle.ads_outside.specs.declared.link_move.LinkMove.{LinkMove}
 use Rattle.ads_outside.specs.declared.link_move.LinkMove.TheVariants as move
 use Rattle.ads_outside.specs.LinkState.{LinkState, connected_at}
-use Rattle.ads_outside.specs.Puts.{Appends, AppendsPart}
 use Rattle.ads_outside.specs.SinkState.{SinkState}
 use Rattle.ads_client.specs.Calls.{Call}
 use Rattle.ads_client.specs.CallOver.{conversation_after_all}
@@ -17,7 +15,6 @@ use Rattle.ads_client.specs.Conversation.{LinkAnswer, Conversation, Sent, CallEn
 use Rattle.ads_client.specs.Runner.{new_runner, turns}
 use Rattle.ads_talk.specs.CallLog.{sent_moves, sent_last, log_behind, log_up_to}
 use Rattle.client_replies.specs.declared.stage.CallEnd.{CallEnd}
-use Rattle.client_replies.specs.Stages.{end_meant}
 use Rattle.client_calls.specs.Kept.{RunnerKept}
 use Rattle.client_loop.specs.declared.loop_end.LoopEnd.{LoopEnd}
 use Rattle.client_loop.specs.declared.loop_end.LoopEnd.TheVariants as end
@@ -26,7 +23,7 @@ use Rattle.client_loop.specs.LinkAfter.{history_after_answers}
 use Rattle.client_loop.specs.Said.{SentSome, Gives, GivesSome}
 use Rattle.client_loop.specs.Turning.{AfterTurns}
 use Rattle.client_loop.specs.Called.{Calling, Talks, BreaksOff, AfterCall}
-use Rattle.client_loop.specs.Hearing.{IsWhole, IsPart, EndsBy, EndsOver, EndsFrom, IsBegun}
+use Rattle.client_loop.specs.Hearing.{IsWhole, IsPart, EndsOver, EndsFrom, IsBegun}
 use Rattle.client_loop.proofs.LogLemmas.{log_pending}
 use Rattle.client_loop.proofs.OverLemmas.{told_whole}
 use Rattle.client_loop.proofs.SaidLemmas.{puts_nothing, puts_then, puts_part, puts_none, tells_more, tells_same, all_some}

@@ -1,5 +1,5 @@
 -- Turns of a call over a link, one after another.
-use Rattle.std.proofs.Common.{◌≡◌, ℕ, ◌≤◌, List, [], ◌∷◌, ◌++◌, length, Option, Some, None, refl, sym, ap, ◌∙◌, subst, arith}
+use Rattle.std.proofs.Common.{◌≡◌, ℕ, ◌≤◌, List, [], ◌∷◌, ◌++◌, Option, Some, None, refl, sym, ap, ◌∙◌, subst, arith}
 use Rattle.std.specs.Prelude.{Result, Ok, Err}
 use Rattle.std.proofs.lemmas.List.{append-nil}
 use Rattle.ads_base.specs.declared.no_memory.NoMemory.{NoMemory}
@@ -8,7 +8,7 @@ use Rattle.ads_outside.specs.LinkState.{LinkState}
 use Rattle.ads_outside.specs.Puts.{Appends}
 use Rattle.ads_outside.specs.Rose.{Rose}
 use Rattle.ads_outside.specs.SinkState.{SinkState}
-use Rattle.ads_client.specs.Conversation.{Sent, CallEnded, sent_by, printed_by, end_of_stage}
+use Rattle.ads_client.specs.Conversation.{CallEnded, sent_by, printed_by, end_of_stage}
 use Rattle.ads_client.specs.Runner.{Runner, CallStep, Send, Print, Wait, Over, turn, Turns, turns, after_step, joined}
 use Rattle.client_replies.specs.Stages.{end_meant}
 use Rattle.client_calls.specs.Kept.{RunnerKept}
@@ -17,7 +17,7 @@ use Rattle.client_loop.specs.declared.turning.Turned.{Turned}
 use Rattle.client_loop.specs.declared.turning.Turned.TheVariants as turned
 use Rattle.client_loop.specs.Said.{Gives, GivesSome}
 use Rattle.client_loop.specs.Turning.{GivesSteps, GivesSomeSteps, AfterSend, AfterPut, AfterTurn, AfterTurns, TakesTurns}
-use Rattle.client_loop.proofs.SaidLemmas.{puts_nothing, puts_none, puts_more, tells_same, gives_nothing, gives_then, gives_none, gives_some_then, gives_some_more, part_sent}
+use Rattle.client_loop.proofs.SaidLemmas.{puts_nothing, puts_none, puts_more, tells_same, gives_nothing, gives_then, gives_some_then, gives_some_more, part_sent}
 use Rattle.client_loop.proofs.RestLemmas.{turn_rests, unfolds_sent, unfolds_printed, unfolds_waiting, unfolds_over, sent-append, printed-append, joined_step}
 
 pub rose_later : (a b c : ℕ) → a ≤ b → Rose b c → Rose a c

@@ -1,5 +1,5 @@
 -- What an answer of the link leads to, and what all answers lead to, behind a conversation that goes on.
-use Rattle.std.specs.Prelude.{◌≡◌, ◌⊎◌, ◌+◌, ◌<◌, ◌==◌, ℕ, List, [], ◌∷◌, ◌++◌, Option, Some, None, Result, Ok, Err, if◌then◌else◌}
+use Rattle.std.specs.Prelude.{◌≡◌, ◌⊎◌, ◌+◌, ◌==◌, ℕ, List, [], ◌∷◌, ◌++◌, Option, Some, None, Result, Ok, Err, if◌then◌else◌}
 use Rattle.ads_base.specs.declared.no_memory.NoMemory.{NoMemory}
 use Rattle.ads_base.specs.declared.peer.Peer.TheVariants as peer
 use Rattle.ads_outside.specs.declared.link_move.LinkMove.{LinkMove}
@@ -12,7 +12,7 @@ use Rattle.ads_client.specs.CallOver.{conversation_after_all}
 use Rattle.ads_client.specs.Conversation as conversation
 use Rattle.ads_client.specs.Conversation.{LinkAnswer, Conversation, Sent, MAX_QUIET, MAX_ANSWERS, moment_of, runner_after_answer, conversation_after}
 use Rattle.ads_client.specs.Runner.{Runner}
-use Rattle.ads_talk.specs.CallLog.{event_of, sent_behind, sent_last, log_behind, log_up_to}
+use Rattle.ads_talk.specs.CallLog.{event_of, sent_last, log_behind, log_up_to}
 use Rattle.client_replies.specs.Stages.{end_meant}
 use Rattle.client_calls.specs.Kept.{RunnerKept}
 use Rattle.client_calls.specs.Represents.{StandsFor}

@@ -1,5 +1,5 @@
 -- So many answers came, and the call goes on.
-use Rattle.std.proofs.Common.{ℕ, ◌<◌}
+use Rattle.std.proofs.Common.{◌<◌}
 use Rattle.ads_outside.specs.LinkState.{LinkNeverFalls}
 use Rattle.ads_outside.specs.SinkState.{NeverFalls}
 use Rattle.ads_client.specs.Conversation.{Conversation, MAX_QUIET}
