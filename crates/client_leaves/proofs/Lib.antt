@@ -1,0 +1,5 @@
+pub mod TypeLemmas
+pub mod MemberLemmas
+pub mod UploadLemmas
+pub mod PathLemmas
+pub mod WalkLemmas
