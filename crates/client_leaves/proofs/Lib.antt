@@ -3,3 +3,4 @@ pub mod MemberLemmas
 pub mod UploadLemmas
 pub mod PathLemmas
 pub mod WalkLemmas
+mod Examples
