@@ -1,12 +1,12 @@
 -- The sub entries of a type are read one after another.
-use Rattle.std.proofs.Common.{◌≡◌, ℕ, zero, suc, ◌+◌, ◌-◌, ◌<◌, ◌≤◌, List, [], ◌∷◌, ◌++◌, map, Bool, true, false, ◌&&◌, cond, eqb, refl, sym, ap, subst, ◌∙◌, append_assoc, arith}
-use Rattle.std.specs.Prelude.{Option, Some, None, is_some, length, flat_map, option_map}
+use Rattle.std.proofs.Common.{◌≡◌, ℕ, suc, ◌+◌, ◌-◌, ◌<◌, ◌≤◌, List, [], ◌∷◌, ◌++◌, map, Bool, true, false, ◌&&◌, cond, eqb, refl, sym, ap, ◌∙◌, append_assoc, arith}
+use Rattle.std.specs.Prelude.{Some, None, is_some, length, flat_map}
 use Rattle.std.specs.Option.{option_and_then}
 use Rattle.std.proofs.lemmas.Bool.{and_parts, eqb-true}
 use Rattle.std.proofs.lemmas.List.{append-nil, map-append}
 use Rattle.ads_formats.specs.Numbers.{number16}
 use Rattle.ads_formats.specs.TypeEntry as formats
-use Rattle.ads_formats.specs.TypeEntryReading.{is_fields, fields_at, entry_at, after_entry, after_sub_in, after_subs_in, subs_in, behind_fields, is_entry, type_entry_of}
+use Rattle.ads_formats.specs.TypeEntryReading.{is_fields, fields_at, entry_at, after_entry, after_sub_in, after_subs_in, subs_in, is_entry, type_entry_of}
 use Rattle.type_upload.specs.declared.entry.TypeEntry.{TypeEntry}
 use Rattle.type_upload.specs.Entry.{IsRead, entry_meant}
 use Rattle.type_upload.proofs.SubLemmas.{subs_found}

@@ -1,11 +1,11 @@
 -- The paths of an array's elements.
-use Rattle.std.proofs.Common.{◌≡◌, ℕ, zero, suc, ◌+◌, ◌-◌, ◌*◌, ◌<◌, ◌≤◌, List, [], ◌∷◌, ◌++◌, map, length, take, drop, get_or, refl, sym, ap, ◌∙◌, append_assoc, arith}
-use Rattle.std.specs.Prelude.{flat_map, codes, pos, ◌+ℤ◌}
+use Rattle.std.proofs.Common.{◌≡◌, ℕ, suc, ◌+◌, ◌-◌, ◌*◌, ◌<◌, ◌≤◌, List, [], ◌∷◌, ◌++◌, map, length, take, drop, get_or, refl, sym, ap, ◌∙◌, append_assoc, arith}
+use Rattle.std.specs.Prelude.{flat_map, pos, ◌+ℤ◌}
 use Rattle.std.specs.List.{range_with_len}
 use Rattle.std.proofs.Math.Nat.{suc-mul, one-le-mul}
-use Rattle.std.proofs.lemmas.List.{length-append, append-nil, map-append, length-map, take_all}
+use Rattle.std.proofs.lemmas.List.{length-append, append-nil, map-append, take_all}
 use Rattle.std.proofs.lemmas.List.FromFn.{length-map-range_with_len}
-use Rattle.ads_plant.specs.Spelling.{integer_text, joined_by_comma}
+use Rattle.ads_plant.specs.Spelling.{integer_text}
 use Rattle.ads_plant.specs.TypeTexts.{Ends}
 use Rattle.ads_client.specs.Leaves.{indexes_in, indexes_of, element_path}
 use Rattle.ads_client.specs.LeafTypes.{elements_of, element_count}

@@ -1,14 +1,14 @@
 -- What the parts of a walk find is what the whole finds.
-use Rattle.std.proofs.Common.{◌≡◌, ℕ, zero, suc, ◌+◌, ◌-◌, ◌*◌, ◌^◌, ◌<◌, ◌≤◌, List, [], ◌∷◌, ◌++◌, map, length, drop, Bool, true, false, cond, eqb, refl, sym, ap, subst, ◌∙◌, append_assoc, arith, inl, inr}
+use Rattle.std.proofs.Common.{◌≡◌, ℕ, zero, suc, ◌+◌, ◌*◌, ◌^◌, ◌<◌, ◌≤◌, List, [], ◌∷◌, ◌++◌, map, length, drop, Bool, true, false, refl, sym, ap, ◌∙◌, append_assoc, arith}
 use Rattle.std.specs.Prelude.{Option, Some, None, not, ◌&&◌, ◌==◌, nat_le, flat_map, if◌then◌else◌}
 use Rattle.std.proofs.Math.Nat.{suc-mul, mul-le-mul_right}
-use Rattle.std.proofs.lemmas.Bool.{cases_Bool, and_parts, leb-true, eqb-true, ne_eqb}
-use Rattle.std.proofs.lemmas.List.{append-nil, length-append}
+use Rattle.std.proofs.lemmas.Bool.{and_parts, leb-true, eqb-true, ne_eqb}
+use Rattle.std.proofs.lemmas.List.{append-nil}
 use Rattle.ads_plant.specs.Plain.{Kind, kind_id, kind_size}
 use Rattle.ads_plant.specs.TypeTexts.{Ends, ElemText, PlainText, StringText, NamedText, TypeText, type_text_of}
 use Rattle.ads_formats.specs.TypeEntry.{TypeEntry, TypeFields}
-use Rattle.ads_client.specs.Leaves.{Leaf, leaf, element_path, indexes_of, leaves_of_elements, leaves_of_text, leaves_in_text, leaves_of_member, leaves_of_named, leaves_of_elem}
-use Rattle.ads_client.specs.LeafTypes.{type_named, element_count, elem_size, text_size, stands_in, is_member, are_members, is_enumeration, is_named_type, is_sound_elem}
+use Rattle.ads_client.specs.Leaves.{Leaf, leaf, leaves_of_elements, leaves_of_text, leaves_of_member, leaves_of_elem}
+use Rattle.ads_client.specs.LeafTypes.{type_named, element_count, elem_size, text_size, stands_in, is_member, are_members, is_enumeration, is_sound_elem}
 use Rattle.type_layout.specs.declared.read_texts.Ends as code
 use Rattle.type_layout.specs.ReadTexts.{ends_of, ends_among}
 use Rattle.client_leaves.specs.Paths.{paths_from}
@@ -216,14 +216,6 @@ pub record MembersWalked (is_sound : ElemText → Bool) (leaves_at : TypeFields 
 pub members_walked : (is_sound : ElemText → Bool) (leaves_at : TypeFields → List Leaf) (types : List TypeEntry) (size : ℕ) (all : List TypeFields) (old : List Leaf)
     → MembersWalked is_sound leaves_at types size 0 all all old old
 members_walked is_sound leaves_at types size all old = record { sound = refl; same = refl }
-
-pub member_within : (is_sound : ElemText → Bool) (types : List TypeEntry) (end size : ℕ) (f : TypeFields) (o : Option TypeText)
-    → true ≡ is_member is_sound types end size f o → f.offset + f.size ≤ size
-member_within is_sound types end size f None holds = absurd cc
-member_within is_sound types end size f (Some t) holds =
-    let stands = (and_parts (stands_in types end size f t) (is_sound t.elem) (sym holds)).0 in
-    let last = (and_parts _ (nat_le (f.offset + f.size) size) stands).1 in
-    leb-true (f.offset + f.size) size last
 
 pub members_stop : (is_sound : ElemText → Bool) (leaves_at : TypeFields → List Leaf) (types : List TypeEntry) (size end : ℕ) (all left others : List TypeFields) (f : TypeFields)
     (o : Option TypeText) (old now : List Leaf) → left ≡ f ∷ others → MembersWalked is_sound leaves_at types size end all left old now

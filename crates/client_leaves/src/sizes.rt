@@ -55,7 +55,7 @@ pub(crate) fn text_size(types: &ReadTypes<'_>, text: &TypeText<'_>) -> u128
 /// Whether a member has the size of its text, begins where the one before ended or later, and ends in its structure.
 pub(crate) fn stands_in(
     types: &ReadTypes<'_>,
-    end: u32,
+    end: u64,
     size: u32,
     member: &TypeEntry<'_>,
     text: &TypeText<'_>,
@@ -66,7 +66,7 @@ pub(crate) fn stands_in(
     if u128::from(member.size) != text_size(types, text) {
         return false;
     }
-    if member.offset < end {
+    if u64::from(member.offset) < end {
         return false;
     }
     u64::from(member.offset) + u64::from(member.size) <= u64::from(size)

@@ -211,7 +211,7 @@ fn structure_leaves(
         if !sound {
             return Ok(false);
         }
-        end = member.offset + member.size;
+        end = u64::from(member.offset) + u64::from(member.size);
     }
     Ok(true)
 }
@@ -223,7 +223,7 @@ fn member_leaves(
     types: &ReadTypes<'_>,
     depth: u8,
     size: u32,
-    end: u32,
+    end: u64,
     member: &TypeEntry<'_>,
     path: &[u8],
     place: u32,

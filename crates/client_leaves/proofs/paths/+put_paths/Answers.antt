@@ -1,7 +1,4 @@
 -- The paths of an index more.
-use Rattle.std.proofs.Common.{◌≡◌, ◌-◌, length, take, drop, map, get_or, sym, ◌∙◌, ap, arith}
-use Rattle.std.specs.Prelude.{pos}
-use Rattle.type_layout.specs.ReadTexts.{ends_of}
 use Rattle.client_leaves.proofs.PathLemmas.{paths_more}
 use Rattle.client_leaves.proofs.paths.+put_paths.Goals as goal
 

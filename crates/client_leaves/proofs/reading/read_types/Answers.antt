@@ -1,6 +1,6 @@
 -- The types so far, and those that are left, are all.
 use Rattle.std.proofs.Common.{◌≡◌, ◌≢◌, sym, ◌∙◌, length}
-use Rattle.std.specs.Prelude.{Some, None}
+use Rattle.std.specs.Prelude.{Some}
 use Rattle.std.proofs.lemmas.Bool.{eqb-true, eq-eqb, false≢true}
 use Rattle.ads_formats.specs.TypeEntryReading.{type_entry_of}
 use Rattle.client_leaves.specs.Table.{type_kept}

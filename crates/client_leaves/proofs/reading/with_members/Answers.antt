@@ -1,6 +1,4 @@
 -- Each sub entry is read, since they stand whole.
-use Rattle.std.proofs.Common.{sym, ◌∙◌, arith, map}
-use Rattle.client_leaves.specs.Table.{member_kept}
 use Rattle.client_leaves.proofs.MemberLemmas.{members_there, members_more}
 use Rattle.client_leaves.proofs.reading.with_members.Goals as goal
 

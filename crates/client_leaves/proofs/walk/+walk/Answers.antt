@@ -1,16 +1,13 @@
 -- What the parts of a walk find is what the whole finds.
-use Rattle.std.proofs.Common.{◌≡◌, ◌≢◌, ◌+◌, ◌-◌, ◌++◌, suc, ◌<◌, List, map, length, true, false, refl, sym, ap, ◌∙◌, arith}
-use Rattle.std.specs.Prelude.{Some, None}
+use Rattle.std.proofs.Common.{◌≡◌, ◌≢◌, ◌-◌, ◌++◌, suc, List, map, length, refl, sym, ap, ◌∙◌, arith}
 use Rattle.std.proofs.lemmas.Bool.{eq-eqb, false≢true}
-use Rattle.ads_plant.specs.TypeTexts.{PlainText, StringText, NamedText, type_text_of}
-use Rattle.ads_client.specs.LeafTypes.{is_sound_elem, is_member, elem_size}
+use Rattle.ads_client.specs.LeafTypes.{elem_size}
 use Rattle.ads_client.specs.Leaves.{Leaf, leaves_of_elem}
 use Rattle.type_layout.specs.Shapes.{kind_of}
-use Rattle.type_layout.specs.ReadTexts.{ends_among, elem_text_of, text_of}
+use Rattle.type_layout.specs.ReadTexts.{elem_text_of, text_of}
 use Rattle.client_leaves.specs.Kept.{leaf_kept}
 use Rattle.client_leaves.specs.Table.{member_kept, type_kept, types_kept}
-use Rattle.client_leaves.specs.Walks.{Walked}
-use Rattle.client_leaves.proofs.WalkLemmas.{walked_no, walked_yes, walked_as, plain_sound, plain_leaves, string_sound, string_leaves, no_type, named_sound, named_leaves, array_some, array_room, array_leaves_are, some_ends, some_subs, member_within, structure_sound, structure_leaves_are}
+use Rattle.client_leaves.proofs.WalkLemmas.{walked_no, walked_yes, walked_as, plain_sound, plain_leaves, string_sound, string_leaves, no_type, named_sound, named_leaves, array_some, array_room, array_leaves_are, some_ends, some_subs, structure_sound, structure_leaves_are}
 use Rattle.client_leaves.proofs.walk.+walk.Goals as goal
 
 pub elem_leaves-returns-in_ok-put_leaf-in-Plain : goal.elem_leaves-returns-in_ok-put_leaf-in-Plain
@@ -42,18 +39,19 @@ elem_leaves-returns-in_ok-sound-in-Some t c =
     rw c.in-Named.is (walked_as c.in_ok-sound-in-Some.sound _ _ _ _ _ _ (named_sound c.args.depth types name (type_kept c.in-Some.t.now) found)
     (named_leaves c.args.depth types name (type_kept c.in-Some.t.now) c.args.path.now c.args.place found) c.in_ok-sound-in-Some.ensures)
 
-pub structure_leaves-overflow_add-end : goal.structure_leaves-overflow_add-end
-structure_leaves-overflow_add-end t c =
-    let holds : true ≡ _ = sym c.if-not-sound.false ∙ c.in_ok-sound.ensures.same in
-    let within = member_within (is_sound_elem c.args.depth (types_kept c.args.types.now)) (types_kept c.args.types.now) c.members.end c.args.size _ _ holds in
-    omega (arith, within, c.ranges.size.fits)
-
 pub text_leaves-array_leaves-requires : goal.text_leaves-array_leaves-requires
 text_leaves-array_leaves-requires t c =
     let t = text_of c.args.text.now in
-    let are = c.as_slice.ensures ∙ c.in_ok-paths.ensures in
-    (omega (arith, c.decreases), (c.requires.table, (array_some c.args.path.now c.as_slice.result.now t.ends are,
-    array_room (types_kept c.args.types.now) t c.args.place c.args.path.now c.as_slice.result.now are c.requires.room)))
+    let are = c.as_slice.ensures ∙ c.in_ok-paths.ensures in (
+      omega (arith, c.decreases),
+      (
+        c.requires.table,
+        (
+          array_some c.args.path.now c.as_slice.result.now t.ends are,
+          array_room (types_kept c.args.types.now) t c.args.place c.args.path.now c.as_slice.result.now are c.requires.room,
+        ),
+      ),
+    )
 
 pub text_leaves-returns : goal.text_leaves-returns
 text_leaves-returns t c =

@@ -1,6 +1,6 @@
 -- The index has the place of the type.
 use Rattle.std.proofs.Common.{◌≡◌, sym, ◌∙◌, ap, map}
-use Rattle.std.specs.Prelude.{slice_get, option_map}
+use Rattle.std.specs.Prelude.{slice_get}
 use Rattle.std.specs.List.{HoldsAt}
 use Rattle.std.specs.Borrow.{Bor}
 use Rattle.client_leaves.specs.declared.table.ReadType.{ReadType}
