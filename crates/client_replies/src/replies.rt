@@ -19,9 +19,9 @@ use crate::asking::{
 };
 use crate::entries::{entry_lines, one_entry};
 use crate::own_entry::OwnEntry;
-use crate::showing::{after_leaves, after_type_info, after_types};
 use crate::printed::{facts_line, ok_line, state_line, value_line};
 use crate::progress::{done_with, ended, sending, stay};
+use crate::showing::{after_leaves, after_type_info, after_types};
 use crate::stage::{CallEnd, Progress, Purpose, Stage};
 use crate::values::read_value;
 use ads_base::{NoMemory, Octets, Peer, get32};

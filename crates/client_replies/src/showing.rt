@@ -50,7 +50,14 @@ pub(crate) fn after_types(
         ≡ replies.after_types name (entry_kept entry.now) (types_in count bytes.now) payload) }
 {
     let size = entry.size;
-    match leaves_in(alloc, count, bytes, entry.name.as_slice(), entry.kind.as_slice(), size)? {
+    match leaves_in(
+        alloc,
+        count,
+        bytes,
+        entry.name.as_slice(),
+        entry.kind.as_slice(),
+        size,
+    )? {
         None => Ok(None),
         Some(leaves) => {
             let asked = value_request(name, size);
