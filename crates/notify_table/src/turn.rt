@@ -1,6 +1,6 @@
 //! The order in which checks become due.
 
-ghost use Rattle.std.specs.Prelude.{◌≡◌, ℕ, ◌+◌, ◌<◌, ◌≤◌, map, filter, length, insert, nat_lt, IfOk};
+ghost use Rattle.std.specs.Prelude.{◌≡◌, ℕ, ◌+◌, ◌<◌, ◌≤◌, map, filter, length, insert, nat_lt, IfOk, IsTrue};
 ghost use Rattle.std.specs.Prelude.{OnOk, remove, slice_index_or};
 ghost use Rattle.std.specs.VecDeque.{deque_len, deque_capacity};
 ghost use Rattle.notify_table.specs.Turns.{AreInTurn, IsPlaceOf, turn_rank, is_turn_due, handle_of_turn};
@@ -34,7 +34,21 @@ fn place_of(turns: &VecDeque<Turn>, turn: Turn) -> usize
     requires { AreInTurn turns.now.items }
     ensures { IsPlaceOf turn turns.now.items result }
 {
+    if is_behind_all(turns, turn) {
+        return turns.len();
+    }
     turns.partition_point(|t| is_before(*t, turn))
+}
+
+// Whether a turn comes behind all, as mostly after a check.
+fn is_behind_all(turns: &VecDeque<Turn>, turn: Turn) -> bool
+    requires { AreInTurn turns.now.items }
+    ensures { IsTrue result → IsPlaceOf turn turns.now.items (length turns.now.items) }
+{
+    match turns.back() {
+        Some(last) => is_before(*last, turn),
+        None => true,
+    }
 }
 
 // Puts a turn where it belongs. There is room.
