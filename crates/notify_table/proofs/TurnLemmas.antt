@@ -6,7 +6,8 @@ use Rattle.std.specs.List.Sorted.{IsPartitionedBy, IsPartitionPoint}
 use Rattle.std.proofs.lemmas.Bool.{cases_lt, lt-leb, le-leb, leb-true, leb-false, ltb-true}
 use Rattle.std.proofs.lemmas.List.{append-nil, get_or_default, map_more, get_or-drop, get_or-take, length-drop, length-take-le}
 use Rattle.std.proofs.lemmas.List.{length-append, drop_all}
-use Rattle.std.proofs.lemmas.List.Elements.{All-get_or}
+use Rattle.std.proofs.lemmas.List.Elements.{All-get_or, All-push}
+use Rattle.std.proofs.lemmas.List.Sorted.{IsNonDecreasingBy-push}
 use Rattle.notify_table.proofs.Filtered.{filter_none, filter_behind}
 use Rattle.notify_table.specs.declared.turn.Turn.{Turn}
 use Rattle.notify_table.specs.Turns.{AreInTurn, AllDue, HasHandle, is_turn_due, handle_of_turn, turn_rank, IsPlaceOf}
@@ -89,4 +90,11 @@ behind_last turn turns n last in_turn is_len is_last later = record {
       let less = ltb-true _ _ later in
       rw same (omega (arith, rise, rank, less));
   behind = λ k d from below. absurd (omega (arith, from, below));
+}
+
+-- where a turn comes behind all, all are in turn once it stands there
+pub in_turn_behind : (turn : Turn) (turns : List Turn) → HasHandle turn → AreInTurn turns → IsPlaceOf turn turns (length turns) → AreInTurn (turns ++ turn ∷ [])
+in_turn_behind turn turns handle in_turn place = record {
+  handles = All-push HasHandle turns turn in_turn.handles handle;
+  rise = IsNonDecreasingBy-push turn_rank turns turn in_turn.rise (λ d some. place.before (length turns - 1) d (omega (arith, some)));
 }

@@ -34,9 +34,6 @@ fn place_of(turns: &VecDeque<Turn>, turn: Turn) -> usize
     requires { AreInTurn turns.now.items }
     ensures { IsPlaceOf turn turns.now.items result }
 {
-    if is_behind_all(turns, turn) {
-        return turns.len();
-    }
     turns.partition_point(|t| is_before(*t, turn))
 }
 
@@ -59,9 +56,25 @@ pub(crate) fn put_turn(turns: &mut VecDeque<Turn>, turn: Turn)
         × (turns.new.items ≡ insert turns.old.items place turn) }
     ensures in_turn { AreInTurn turns.new.items }
 {
+    if is_behind_all(turns, turn) {
+        put_last(turns, turn);
+        return;
+    }
     let place = place_of(turns, turn);
     // There is room, so this cannot fail.
     let _ = turns.insert(place, turn);
+}
+
+// Puts a turn behind all others, where it belongs. There is room.
+fn put_last(turns: &mut VecDeque<Turn>, turn: Turn)
+    requires in_turn { AreInTurn turns.old.items }
+    requires room { deque_len turns.old < deque_capacity turns.old }
+    requires behind { IsPlaceOf turn turns.old.items (length turns.old.items) }
+    ensures put { (place : ℕ) × (place ≤ deque_len turns.old)
+        × (turns.new.items ≡ insert turns.old.items place turn) }
+    ensures in_turn { AreInTurn turns.new.items }
+{
+    turns.push_back_reserved(turn);
 }
 
 // Takes the turn at a place out. Its room stays.
