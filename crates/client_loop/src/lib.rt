@@ -1,0 +1,9 @@
+//! A call of the client over any link: its requests are sent, its texts are put into a sink, and what comes is heard.
+#![tactic(auto)]
+
+mod calling;
+mod loop_end;
+
+pub use calling::run_call;
+pub use client_calls::{Call, CallEnd, Mode2};
+pub use loop_end::LoopEnd;
