@@ -4,6 +4,8 @@ pub mod PromiseLemmas
 pub mod ReadingLemmas
 pub mod ReadLemmas
 pub mod EndLemmas
+pub mod RunLemmas
+pub mod CallLemmas
 pub mod ServiceLemmas
 pub mod TaskLemmas
 pub mod MigrationLemmas

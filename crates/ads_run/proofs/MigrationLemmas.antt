@@ -21,7 +21,7 @@ use Rattle.ads_run.specs.Migrated.{MigratesFile, IsMigrationOf, HasMigratedFile,
 use Rattle.ads_run.specs.Outcomes.{IsOutcome, HasBytes, Finds, IsOfFile, status_of_fault}
 use Rattle.ads_run.specs.Prints.{PrintsEnding}
 use Rattle.ads_run.specs.Readings.{OverFile}
-use Rattle.ads_run.specs.Verdict.{Verdict, Ends, Serves, ended, prints, verdict_of_migrate, verdict_of_migrated}
+use Rattle.ads_run.specs.Verdict.{Verdict, Ends, Serves, Calls, CallsLocally, ended, prints, verdict_of_migrate, verdict_of_migrated}
 use Rattle.ads_run.proofs.ReadingLemmas.{map_file}
 
 -- the text that is printed is the verdict's
@@ -36,6 +36,8 @@ as_refused signals bytes (fault.Rule number item) h = ap (verdict_of_migrated by
 status_in : Verdict → Status
 status_in (Ends e) = e.status
 status_in (Serves service) = status.Usage
+status_in (Calls x) = status.Usage
+status_in (CallsLocally x) = status.Usage
 
 -- a description that is refused is not done
 pub refused_not_done : (f : DescFault) (o : Outcome) (P : Type 0) → IsOutcome (ended (status_of_fault f)) o → o.status ≡ status.Done → P
@@ -71,6 +73,10 @@ migration_of signals t name s held text is h = subst (λ u. IsMigrationOf signal
     at status.Budget h = tt
     at status.Memory h = tt
     at status.TooLong h = tt
+    at (status.Refused n) h = tt
+    at status.BadPeer h = tt
+    at (status.TimedOut m n) h = tt
+    at status.BadValue h = tt
 
 -- what was printed is the text of the outcome
 put_done : (signals : ℕ) (name : List ℕ) (e : Ending) (held : Option (List NamedFile)) (old new : SinkState) → PrintsEnding e status.Done old new
@@ -95,6 +101,10 @@ put_so signals name e status.LinkFault held old new printed is = tt
 put_so signals name e status.Budget held old new printed is = tt
 put_so signals name e status.Memory held old new printed is = tt
 put_so signals name e status.TooLong held old new printed is = tt
+put_so signals name e (status.Refused n) held old new printed is = tt
+put_so signals name e status.BadPeer held old new printed is = tt
+put_so signals name e (status.TimedOut m n) held old new printed is = tt
+put_so signals name e status.BadValue held old new printed is = tt
 
 pub put_migrated : (signals : ℕ) (t : FileTask) (e : Ending) (s : Status) (held : Option (List NamedFile)) (old new : SinkState) → PrintsEnding e s old new
     → IsMigrationOf signals t e.status held e.text → HasMigratedFile signals t s held old new
@@ -123,6 +133,7 @@ any_at_memory : (signals : ℕ) (t : Option Task) (held : Option (List NamedFile
 any_at_memory signals None held old new = tt
 any_at_memory signals (Some (task.OfFiles t)) held old new = at_memory signals t held old new
 any_at_memory signals (Some (task.Serve d l n)) held old new = tt
+any_at_memory signals (Some (task.Ask what client)) held old new = tt
 
 pub any_without_memory : (signals : ℕ) (t : Option Task) (s : Status) (held : Option (List NamedFile)) (old new : SinkState) → s ≡ status.Memory → HasMigrated signals t s held old new
 any_without_memory signals t s held old new is = subst (λ r. HasMigrated signals t r held old new) (sym is) (any_at_memory signals t held old new)

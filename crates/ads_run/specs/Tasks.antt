@@ -3,6 +3,7 @@ use Rattle.std.specs.Prelude.{ℕ, List, Option, Some, None}
 use Rattle.cli_words.specs.declared.command.Command.{Command}
 use Rattle.cli_words.specs.declared.command.Command.TheVariants as command
 use Rattle.cli_words.specs.Commands.{command_of}
+use Rattle.ads_run.specs.declared.client_task.ClientTask.TheVariants as ask
 use Rattle.ads_run.specs.declared.file_task.FileTask.{FileTask}
 use Rattle.ads_run.specs.declared.file_task.FileTask.TheVariants as file_task
 use Rattle.ads_run.specs.declared.task.Task.{Task}
@@ -18,6 +19,14 @@ task_of_command (Some (command.Replay description script)) =
 task_of_command (Some (command.Load n)) = Some (task.OfFiles (file_task.Load n))
 task_of_command (Some (command.Migrate description)) = Some (task.OfFiles (file_task.Migrate description))
 task_of_command (Some (command.Serve description listen events)) = Some (task.Serve description listen events)
+task_of_command (Some (command.Info client)) = Some (task.Ask ask.Info client)
+task_of_command (Some (command.State client)) = Some (task.Ask ask.State client)
+task_of_command (Some (command.List client)) = Some (task.Ask ask.List client)
+task_of_command (Some (command.Control ads device client)) = Some (task.Ask (ask.Control ads device) client)
+task_of_command (Some (command.Get name client)) = Some (task.Ask (ask.Get name) client)
+task_of_command (Some (command.Set name value client)) = Some (task.Ask (ask.Set name value) client)
+task_of_command (Some (command.Watch name change cycle count client)) =
+    Some (task.Ask (ask.Watch name change cycle count) client)
 task_of_command (Some c) = None
 
 -- the task that the words ask for, if they are a command that is built

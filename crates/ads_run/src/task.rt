@@ -4,9 +4,10 @@ ghost use Rattle.std.specs.Prelude.{◌≡◌, map, string_bytes, IfOk};
 ghost use Rattle.ads_run.specs.Tasks.{task_of_command, asked_task};
 ghost use Rattle.ads_run.specs.Fits.{FitsTask};
 
+use crate::client_task::ClientTask;
 use crate::file_task::FileTask;
 use ads_base::NoMemory;
-use cli_words::{Command, Text, read_words};
+use cli_words::{ClientWords, Command, Text, read_words};
 use std::alloc::Global;
 
 /// A command that is built, with the names of its files.
@@ -19,6 +20,11 @@ pub enum Task {
         description: Text,
         listen: Text,
         events: u64,
+    },
+    /// A client asks a server.
+    Ask {
+        what: ClientTask,
+        client: ClientWords,
     },
 }
 
@@ -64,6 +70,47 @@ fn task_of(command: Option<Command>) -> Option<Task>
             listen,
             events,
         }),
+        Some(Command::Info(client)) => Some(ask(ClientTask::Info, client)),
+        Some(Command::State(client)) => Some(ask(ClientTask::State, client)),
+        Some(Command::List(client)) => Some(ask(ClientTask::List, client)),
+        Some(
+            Command::Control {
+                ads,
+                device,
+                client,
+            },
+        ) => Some(ask(ClientTask::Control { ads, device }, client)),
+        Some(Command::Get { name, client }) => Some(ask(ClientTask::Get { name }, client)),
+        Some(
+            Command::Set {
+                name,
+                value,
+                client,
+            },
+        ) => Some(ask(ClientTask::Set { name, value }, client)),
+        Some(
+            Command::Watch {
+                name,
+                change,
+                cycle,
+                count,
+                client,
+            },
+        ) => Some(ask(
+            ClientTask::Watch {
+                name,
+                change,
+                cycle,
+                count,
+            },
+            client,
+        )),
         _ => None,
     }
+}
+
+fn ask(what: ClientTask, client: ClientWords) -> Task
+    ensures { result ≡ Task.Ask what client }
+{
+    Task::Ask { what, client }
 }
