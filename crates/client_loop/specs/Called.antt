@@ -18,7 +18,8 @@ use Rattle.ads_talk.specs.CallLog.{call_log, call_log_up_to, call_sent_last}
 use Rattle.client_replies.specs.Stages.{end_meant}
 use Rattle.client_loop.specs.declared.loop_end.LoopEnd.{LoopEnd}
 use Rattle.client_loop.specs.declared.loop_end.LoopEnd.TheVariants as end
-use Rattle.client_loop.specs.Heard.{history_over, SendsSome}
+use Rattle.client_loop.specs.LinkAfter.{history_over}
+use Rattle.client_loop.specs.Said.{SentSome}
 
 -- a call, between which addresses it is made, and what the link is connected to
 pub record Calling : Type 0 where
@@ -45,17 +46,12 @@ abbrev pub LogsAll : {O : Type 0} → Calling → ℕ → List LinkAnswer → (O
 LogsAll {O} x moment answers old_tells new_tells = (o : O) (log : List LinkMove) → old_tells o log
     → new_tells o (log ++ call_log x.me x.peer x.call x.to moment answers)
 
--- all up to the last answer, and some of what the call sends behind that
-pub record TellsSome {O : Type 0} (x : Calling) (moment : ℕ) (answers : List LinkAnswer)
-    (tells : O → List LinkMove → Type 0) (o : O) (log : List LinkMove) : Type 0 where
-  pub moves : List LinkMove
-  pub told : tells o (log ++ call_log_up_to x.me x.peer x.call x.to moment answers ++ moves)
-  pub some : SendsSome (call_sent_last x.me x.peer x.call moment answers) moves
-
+-- it tells it with all of them up to the last answer, and some of what the call sends behind that
 abbrev pub LogsSome : {O : Type 0} → Calling → ℕ → List LinkAnswer → (O → List LinkMove → Type 0)
     → (O → List LinkMove → Type 0) → Type 0
-LogsSome {O} x moment answers old_tells new_tells =
-    (o : O) (log : List LinkMove) → old_tells o log → TellsSome x moment answers new_tells o log
+LogsSome {O} x moment answers old_tells new_tells = (o : O) (log : List LinkMove) → old_tells o log
+    → SentSome (call_sent_last x.me x.peer x.call moment answers) new_tells o
+    (log ++ call_log_up_to x.me x.peer x.call x.to moment answers)
 
 -- The link was connected at a moment and gave some answers, each to a call that went on. The call over them ended so, or goes on;
 -- all that it sent was sent, and all its text was put.
