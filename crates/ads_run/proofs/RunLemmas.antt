@@ -19,11 +19,13 @@ use Rattle.symbol_file.specs.declared.fault.DescFault.{DescFault}
 use Rattle.symbol_file.specs.declared.fault.DescFault.TheVariants as fault
 use Rattle.symbol_file.specs.Reading.{answer_of}
 use Rattle.cli_words.specs.declared.client_words.ClientWords.{ClientWords}
+use Rattle.cli_words.specs.declared.client_words.PeerWords.{PeerWords}
 use Rattle.ads_run.specs.declared.client_task.ClientTask.{ClientTask}
 use Rattle.ads_run.specs.declared.outcome.Outcome.{Outcome}
 use Rattle.ads_run.specs.declared.status.Status.{Status}
 use Rattle.ads_run.specs.declared.status.Status.TheVariants as status
 use Rattle.ads_run.specs.declared.task.Task.{Task}
+use Rattle.ads_run.specs.declared.task.Task.TheVariants as task
 use Rattle.ads_run.specs.Asking.{LocalCalling, local_calling}
 use Rattle.ads_run.specs.Calling.{LinkUse, used, EndsCall, EndsLocalCall}
 use Rattle.ads_run.specs.Ending.{Ending, line_alone}
@@ -32,7 +34,7 @@ use Rattle.ads_run.specs.Outcomes.{IsOutcome, Decides, HasBytes, Finds, status_o
 use Rattle.ads_run.specs.Prints.{PutsMemoryLine, PrintsEnding}
 use Rattle.ads_run.specs.Readings.{OverFile, OverFiles}
 use Rattle.ads_run.specs.Tasks.{asked_task}
-use Rattle.ads_run.specs.Verdict.{Verdict, Ends, Serves, Calls, CallsLocally, ended, verdict_of, verdict_of_task, verdict_of_file, verdict_of_called, verdict_of_local}
+use Rattle.ads_run.specs.Verdict.{Verdict, Ends, Serves, Calls, CallsLocally, ended, verdict_of, verdict_of_task, verdict_of_file, verdict_of_called, verdict_of_local, verdict_of_ask}
 use Rattle.ads_run.proofs.EndLemmas.{ending_in}
 use Rattle.ads_run.proofs.ReadingLemmas.{map_file, map_files, at_bytes, decided_none}
 
@@ -210,3 +212,12 @@ pub runs_without_memory : {O : Type 0} (held : Option (List NamedFile)) (v : Lis
     → OverFiles held (λ first second. RunsBy (v first second) failed s out out_new wire wire (used told told state state))
 runs_without_memory None v failed s out out_new wire told state is line = ([], [], inl (memory_so (v [] []) s out out_new wire told state is line))
 runs_without_memory (Some files) v failed s out out_new wire told state is line = inl (memory_so (v files files) s out out_new wire told state is line)
+
+-- a client that asks this peer
+pub runs_of_peer : {O : Type 0} (held : Option (List NamedFile)) (waves : List Wave) (what : ClientTask) (client : ClientWords) (p : PeerWords) (failed : Type 0) (s : Status)
+    (out out_new : SinkState) (wire wire_new : WireHistory) (link : LinkUse O) → client.peer ≡ p
+    → OverFiles held (λ first second. RunsBy (verdict_of_ask waves what client p first) failed s out out_new wire wire_new link)
+    → OverFiles held (λ first second. RunsBy (verdict_of_task waves (Some (task.Ask what client)) first second) failed s out out_new wire wire_new link)
+runs_of_peer held waves what client p failed s out out_new wire wire_new link is runs =
+    let P : PeerWords → Type 0 = λ q. OverFiles held (λ first second. RunsBy (verdict_of_ask waves what client q first) failed s out out_new wire wire_new link) in
+    subst P (sym is) runs
