@@ -2,19 +2,22 @@
 use Rattle.std.proofs.Common.{◌≡◌, ◌≤◌, ℕ, List, Option, Some, None, inl, inr, subst, ap, sym, ◌∙◌, refl}
 use Rattle.std.specs.Prelude.{◌⊎◌, Result, Ok, Err}
 use Rattle.ads_base.specs.declared.no_memory.NoMemory.{NoMemory}
+use Rattle.ads_outside.specs.declared.link_move.LinkMove.{LinkMove}
 use Rattle.ads_outside.specs.LinkState.{LinkState}
 use Rattle.ads_outside.specs.Rose.{Rose}
-use Rattle.ads_outside.specs.SinkState.{SinkState}
+use Rattle.ads_outside.specs.SinkState.{SinkState, NeverFalls}
 use Rattle.ads_client.specs.Conversation.{LoopEnd, CallEnded, Budget}
 use Rattle.ads_client.specs.Stages.{CallEnd, Done, Refused, BadPeer, BadValue, TimedOut}
-use Rattle.client_loop.specs.Called.{Calling, AfterCall, Talks}
+use Rattle.ads_formats.specs.Header.{AmsAddress}
+use Rattle.ads_client.specs.Calls.{Call}
+use Rattle.client_loop.specs.Called.{Calling, calling, AfterCall, Talks}
 use Rattle.client_loop.specs.declared.loop_end.LoopEnd as loop
 use Rattle.client_loop.specs.declared.loop_end.LoopEnd.TheVariants as end
 use Rattle.client_replies.specs.Stages.{end_meant}
 use Rattle.ads_run.specs.declared.status.Status.{Status}
 use Rattle.ads_run.specs.declared.status.Status.TheVariants as status
 use Rattle.ads_run.specs.Asking.{LocalCalling}
-use Rattle.ads_run.specs.Calling.{LinkUse, EndsCall, AfterLocal, EndsLocalCall, LocalTalks, PrintsAnswer, status_of_call, status_of_loop}
+use Rattle.ads_run.specs.Calling.{LinkUse, used, EndsCall, AfterLocal, EndsLocalCall, LocalTalks, PrintsAnswer, status_of_call, status_of_loop}
 use Rattle.ads_run.specs.Causes.{CauseOfCall, IsEndOfCall, IsEndOfLocal, IsNoLinkEnd}
 use Rattle.ads_run.specs.Ending.{line_alone}
 use Rattle.ads_run.specs.Prints.{PrintsEnding}
@@ -178,3 +181,19 @@ own_local_at x (Err e) s out between out_new no_fault called later printed = inr
 pub own_local : (x : LocalCalling) (s : Status) (out out_new : SinkState) → (Rose out.faults out_new.faults → ⊥) → EndsLocalCall x s out out_new
     → IsEndOfLocal x s ⊎ (s ≡ status.Memory)
 own_local x s out out_new no_fault h = own_local_at x h.answer s out h.between out_new no_fault h.called h.later.faults h.prints
+
+-- the call that was made is the one that was asked for
+pub same_calling : (a b c d : AmsAddress) (m n : Call) (s t : List ℕ) → a ≡ b → c ≡ d → m ≡ n → s ≡ t → calling a c m s ≡ calling b d n t
+same_calling a b c d m n s t p q r e =
+    ap (λ z. calling z c m s) p ∙ (ap (λ z. calling b z m s) q ∙ (ap (λ z. calling b d z s) r ∙ ap (λ z. calling b d n z) e))
+
+pub call_ends : {O : Type 0} (x y : Calling) (answer : Result loop.LoopEnd NoMemory) (s : Status) (out between out_new : SinkState)
+    (told tells : O → List LinkMove → Type 0) (old new : LinkState) → y ≡ x → AfterCall answer y told tells old new out between → NeverFalls out between
+    → PrintsAnswer answer s between out_new → EndsCall x s out out_new (used told tells old new)
+call_ends x y answer s out between out_new told tells old new same called later printed = record {
+  answer = answer;
+  between = between;
+  called = subst (λ z. AfterCall answer z told tells old new out between) same called;
+  later = later;
+  prints = printed;
+}

@@ -113,7 +113,7 @@ call_as_run None x failed s out out_new wire link h = ([], [], inl h)
 call_as_run (Some files) x failed s out out_new wire link h = inl h
 
 -- a run that wanted memory asks by any verdict that it may have
-judged_without_memory : (waves : List Wave) (what : ClientTask) (client : ClientWords) (v : TextVerdict) (s : Status) (out out_new : SinkState)
+pub judged_without_memory : (waves : List Wave) (what : ClientTask) (client : ClientWords) (v : TextVerdict) (s : Status) (out out_new : SinkState)
     → s ≡ status.Memory → PutsMemoryLine out out_new → AsksSo (verdict_of_called waves what client v) s out out_new
 judged_without_memory waves what client (Described d) s out out_new is line = never_asked (local_calling d waves what client) s out out_new is line
 judged_without_memory waves what client (Breaks n item) s out out_new is line = inr (inr (is, inl line))
