@@ -49,8 +49,7 @@ pub counts_played : (core new : CoreView) (d : Description) (waves : List Wave) 
     → ((x : Standing World Client) → StandsAt core x → IsUnused x → IsPlay served_step (notes_of_event served) (StandsAt new) x lines log)
     → ((x : Standing World Client) → StandsAt new x → text ≡ summary_text_of (summary_of x.running.state))
     → text ≡ counts_of_play d waves lines
-unfolding served
-unfolding counts_of_play
+unfolding served counts_of_play
 counts_played core new d waves lines log text serves counted none play told =
     let x = at_start d waves in
     let played = play x (stands_at_start core d waves serves counted none) (start_unused d waves) in

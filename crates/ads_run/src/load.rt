@@ -39,7 +39,14 @@ pub fn load<T: Threads + Sync, G: Sources>(
         description,
         script,
     } = make(alloc, n)?;
-    let text = play_texts(rt, alloc, n, description.as_slice(), script.as_slice(), signals)?;
+    let text = play_texts(
+        rt,
+        alloc,
+        n,
+        description.as_slice(),
+        script.as_slice(),
+        signals,
+    )?;
     Ok(Outcome {
         status: Status::Done,
         text,

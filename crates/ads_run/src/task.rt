@@ -1,7 +1,7 @@
 //! What the words ask for.
 
 ghost use Rattle.std.specs.Prelude.{◌≡◌, map, string_bytes, IfOk};
-ghost use Rattle.ads_run.specs.Tasks.{task_of_command, asked_task};
+ghost use Rattle.ads_run.specs.Tasks.{asked_task, fits_what, is_text, task_of_ask, task_of_command, task_of_load};
 ghost use Rattle.ads_run.specs.Fits.{FitsTask};
 
 use crate::client_task::ClientTask;
@@ -55,7 +55,7 @@ fn task_of(command: Option<Command>) -> Option<Task>
             description,
             script,
         })),
-        Some(Command::Load { n }) => Some(Task::OfFiles(FileTask::Load { n })),
+        Some(Command::Load { n }) => task_of_load(n),
         Some(Command::Migrate { description }) => {
             Some(Task::OfFiles(FileTask::Migrate { description }))
         }
@@ -70,24 +70,24 @@ fn task_of(command: Option<Command>) -> Option<Task>
             listen,
             events,
         }),
-        Some(Command::Info(client)) => Some(ask(ClientTask::Info, client)),
-        Some(Command::State(client)) => Some(ask(ClientTask::State, client)),
-        Some(Command::List(client)) => Some(ask(ClientTask::List, client)),
+        Some(Command::Info(client)) => task_of_ask(ClientTask::Info, client),
+        Some(Command::State(client)) => task_of_ask(ClientTask::State, client),
+        Some(Command::List(client)) => task_of_ask(ClientTask::List, client),
         Some(
             Command::Control {
                 ads,
                 device,
                 client,
             },
-        ) => Some(ask(ClientTask::Control { ads, device }, client)),
-        Some(Command::Get { name, client }) => Some(ask(ClientTask::Get { name }, client)),
+        ) => task_of_ask(ClientTask::Control { ads, device }, client),
+        Some(Command::Get { name, client }) => task_of_ask(ClientTask::Get { name }, client),
         Some(
             Command::Set {
                 name,
                 value,
                 client,
             },
-        ) => Some(ask(ClientTask::Set { name, value }, client)),
+        ) => task_of_ask(ClientTask::Set { name, value }, client),
         Some(
             Command::Watch {
                 name,
@@ -96,7 +96,7 @@ fn task_of(command: Option<Command>) -> Option<Task>
                 count,
                 client,
             },
-        ) => Some(ask(
+        ) => task_of_ask(
             ClientTask::Watch {
                 name,
                 change,
@@ -104,13 +104,50 @@ fn task_of(command: Option<Command>) -> Option<Task>
                 count,
             },
             client,
-        )),
+        ),
         _ => None,
     }
 }
 
-fn ask(what: ClientTask, client: ClientWords) -> Task
-    ensures { result ≡ Task.Ask what client }
+fn task_of_load(n: u64) -> Option<Task>
+    ensures { result ≡ task_of_load n }
 {
-    Task::Ask { what, client }
+    if n <= 100_000 {
+        Some(Task::OfFiles(FileTask::Load { n }))
+    } else {
+        None
+    }
+}
+
+fn task_of_ask(what: ClientTask, client: ClientWords) -> Option<Task>
+    ensures { result ≡ task_of_ask what client }
+{
+    if client.port <= 65_535 && fits_what(&what) {
+        Some(Task::Ask { what, client })
+    } else {
+        None
+    }
+}
+
+fn fits_what(what: &ClientTask) -> bool
+    ensures { result ≡ fits_what what.now }
+{
+    match what {
+        ClientTask::Info | ClientTask::State | ClientTask::List => true,
+        ClientTask::Control { ads, device } => *ads <= 65_535 && *device <= 65_535,
+        ClientTask::Get { name } => is_text(name),
+        ClientTask::Set { name, value } => is_text(name) && is_text(value),
+        ClientTask::Watch {
+            name,
+            change: _,
+            cycle,
+            count,
+        } => is_text(name) && *cycle <= 4_294_967_295 && *count <= 1_000_000,
+    }
+}
+
+fn is_text(text: &Text) -> bool
+    ensures { result ≡ is_text text.now }
+{
+    text.as_str().len() <= 65_536
 }

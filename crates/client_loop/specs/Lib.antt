@@ -1,5 +1,3 @@
 pub mod LinkAfter
 pub mod Said
 pub mod Called
-pub mod Turning
-pub mod Hearing

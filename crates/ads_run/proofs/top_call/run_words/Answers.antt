@@ -1,10 +1,11 @@
 -- The task's run is that of the words.
-use Rattle.std.proofs.Common.{map, sym, ◌∙◌}
+use Rattle.std.proofs.Common.{map, sym, ◌∙◌, length}
 use Rattle.std.specs.Prelude.{string_bytes, Some, None}
 use Rattle.ads_outside.specs.Rose.{Rose}
 use Rattle.ads_run.specs.Calling.{used}
+use Rattle.ads_run.specs.Tasks.{asked_task}
 use Rattle.ads_run.specs.Verdict.{verdict_of}
-use Rattle.ads_run.proofs.MigrationLemmas.{any_without_memory}
+use Rattle.ads_run.proofs.MigrationLemmas.{of_task, any_without_memory}
 use Rattle.ads_run.proofs.RunLemmas.{runs_as_asked, runs_usage, runs_without_memory}
 use Rattle.ads_run.proofs.top_call.run_words.Goals as goal
 
@@ -33,3 +34,20 @@ returns-in-Err-clause-ends g c =
     (Rose (g.F.Files.state c.args.files.now).faults (g.F.Files.state c.args.files.now).faults) c.end_without_memory.result
     (g.S.Sink.state c.args.out.now) (g.S.Sink.state c.end_without_memory.new.out) (g.W.Wire.state c.args.wire.now).history
     (g.L.Link.tells c.args.link.now) (g.L.Link.state c.args.link.now) c.end_without_memory.ensures.memory c.end_without_memory.ensures.line
+
+pub returns-in-Ok-Some-clause-migrated : goal.returns-in-Ok-Some-clause-migrated
+returns-in-Ok-Some-clause-migrated g c =
+    of_task (length (g.G.Sources.waves c.args.signals)) (asked_task (map string_bytes c.args.words.now)) (Some c.in-Ok-Some.task) c.run_task.result
+    (g.F.Files.state c.args.files.now).held (g.S.Sink.state c.args.out.now) (g.S.Sink.state c.run_task.new.out)
+    (sym c.in-Ok-Some.ensures.asked ∙ c.in-Ok-Some.field-0-is) c.run_task.ensures.migrated
+
+pub returns-in-Ok-None-clause-migrated : goal.returns-in-Ok-None-clause-migrated
+returns-in-Ok-None-clause-migrated g c =
+    of_task (length (g.G.Sources.waves c.args.signals)) (asked_task (map string_bytes c.args.words.now)) None c.print_and_end.result
+    (g.F.Files.state c.args.files.now).held (g.S.Sink.state c.args.out.now) (g.S.Sink.state c.print_and_end.new.out)
+    (sym c.in-Ok-None.ensures.asked ∙ c.in-Ok-None.field-0-is) tt
+
+pub returns-in-Err-clause-migrated : goal.returns-in-Err-clause-migrated
+returns-in-Err-clause-migrated g c =
+    any_without_memory (length (g.G.Sources.waves c.args.signals)) (asked_task (map string_bytes c.args.words.now)) c.end_without_memory.result
+    (g.F.Files.state c.args.files.now).held (g.S.Sink.state c.args.out.now) (g.S.Sink.state c.end_without_memory.new.out) c.end_without_memory.ensures.memory
