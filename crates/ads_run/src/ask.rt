@@ -30,7 +30,7 @@ use ads_base::{AmsAddr, NetId, NoMemory};
 use ads_outside::{Files, Link, Sink};
 use cli_words::{ClientWords, Text};
 use client_loop::run_call;
-use local_link::{LocalLink, Steps};
+use local_link::{LocalLink, OnThreads, Steps};
 use server_core::{Core, Sources};
 use std::alloc::Global;
 use std::thread::Threads;
@@ -160,8 +160,28 @@ fn ask_core<T: Threads + Sync, S: Sink, G: Sources>(
         → EndsLocalCall (local_calling d waves what.now client.now) result (S.state out.old) (S.state out.new) }
     ensures no_read_fault { IsNoReadFault result }
 {
-    let link = LocalLink::new(rt, alloc, core);
-    ask_link(alloc, what, client, net, link, out)
+    ask_by(OnThreads::new(rt), alloc, what, client, net, core, out)
+}
+
+// The same, by who makes the core's events.
+fn ask_by<P: Steps, S: Sink, G: Sources>(
+    steps: P,
+    alloc: Global,
+    what: &ClientTask,
+    client: &ClientWords,
+    net: NetId,
+    core: Core<G>,
+    out: &mut S,
+) -> Status
+    requires can { P.can_step steps }
+    requires what { FitsClientTask what.now }
+    requires client { FitsClient client.now }
+    ensures ends { (d : plant.Description) (waves : List Wave) → Serves core (started d waves) → net.bytes ≡ d.net
+        → EndsLocalCall (local_calling d waves what.now client.now) result (S.state out.old) (S.state out.new) }
+    ensures no_read_fault { IsNoReadFault result }
+{
+    let mut link = LocalLink::new(steps, alloc, core);
+    ask_link(alloc, what, client, net, &mut link, out)
 }
 
 // The server behind a link in the same process is asked, which has not been called.
@@ -170,22 +190,21 @@ fn ask_link<P: Steps, S: Sink, G: Sources>(
     what: &ClientTask,
     client: &ClientWords,
     net: NetId,
-    link: LocalLink<P, G>,
+    link: &mut LocalLink<P, G>,
     out: &mut S,
 ) -> Status
     requires what { FitsClientTask what.now }
     requires client { FitsClient client.now }
-    ensures ends { (d : plant.Description) (waves : List Wave) → IsTold link (server_start d waves) [] → net.bytes ≡ d.net
+    ensures ends { (d : plant.Description) (waves : List Wave) → IsTold link.old (server_start d waves) [] → net.bytes ≡ d.net
         → EndsLocalCall (local_calling d waves what.now client.now) result (S.state out.old) (S.state out.new) }
     ensures no_read_fault { IsNoReadFault result }
 {
-    let mut link = link;
     match call_of(alloc, what) {
         Err(NoMemory) => end_without_memory(out),
         Ok(call) => {
             let me = own_addr(client);
             let peer = asked_addr(net, client);
-            let answer = run_call(alloc, call, me, peer, LOCAL_ADDRESS, &mut link, out);
+            let answer = run_call(alloc, call, me, peer, LOCAL_ADDRESS, link, out);
             print_answer(alloc, answer, out)
         }
     }

@@ -12,8 +12,8 @@ returns-in-Err-clause-ends g c = λ d waves told net.
     never_asked (local_calling d waves c.args.what.now c.args.client.now) c.end_without_memory.result (g.S.Sink.state c.args.out.now) (g.S.Sink.state c.end_without_memory.new.out)
     c.end_without_memory.ensures.memory c.end_without_memory.ensures.line
 
-pub returns-clause-ends : goal.returns-clause-ends
-returns-clause-ends g c = λ d waves told net.
+pub returns-in-Ok-clause-ends : goal.returns-in-Ok-clause-ends
+returns-in-Ok-clause-ends g c = λ d waves told net.
     let at : List ℕ → AmsAddress = λ n. record { net = n; port = c.args.client.now.port } in
     local_ends (local_calling d waves c.args.what.now c.args.client.now) _ _ c.run_call-answer.result c.print_answer.result _ _
     (g.S.Sink.state c.args.out.now) (g.S.Sink.state c.run_call-answer.new.out) (g.S.Sink.state c.print_answer.new.out)
