@@ -4,6 +4,9 @@ pub mod PromiseLemmas
 pub mod ReadingLemmas
 pub mod ReadLemmas
 pub mod EndLemmas
+pub mod RunLemmas
+pub mod CallLemmas
+pub mod LocalLemmas
 pub mod ServiceLemmas
 pub mod TaskLemmas
 pub mod MigrationLemmas

@@ -35,6 +35,10 @@ put_so signals name e status.LinkFault held old new printed is = tt
 put_so signals name e status.Budget held old new printed is = tt
 put_so signals name e status.Memory held old new printed is = tt
 put_so signals name e status.TooLong held old new printed is = tt
+put_so signals name e (status.Refused n) held old new printed is = tt
+put_so signals name e status.BadPeer held old new printed is = tt
+put_so signals name e (status.TimedOut m n) held old new printed is = tt
+put_so signals name e status.BadValue held old new printed is = tt
 
 pub put_migrated : (signals : ℕ) (t : FileTask) (e : Ending) (s : Status) (held : Option (List NamedFile)) (old new : SinkState) → PrintsEnding e s old new
     → IsMigrationOf signals t e.status held e.text → HasMigratedFile signals t s held old new
@@ -63,6 +67,7 @@ any_at_memory : (signals : ℕ) (t : Option Task) (held : Option (List NamedFile
 any_at_memory signals None held old new = tt
 any_at_memory signals (Some (task.OfFiles t)) held old new = at_memory signals t held old new
 any_at_memory signals (Some (task.Serve d l n)) held old new = tt
+any_at_memory signals (Some (task.Ask what client)) held old new = tt
 
 pub any_without_memory : (signals : ℕ) (t : Option Task) (s : Status) (held : Option (List NamedFile)) (old new : SinkState) → s ≡ status.Memory → HasMigrated signals t s held old new
 any_without_memory signals t s held old new is = subst (λ r. HasMigrated signals t r held old new) (sym is) (any_at_memory signals t held old new)

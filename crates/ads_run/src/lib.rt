@@ -1,8 +1,12 @@
 //! The server's commands as a library: `run` over any files, any wire and any sink, and the run over the real ones.
 #![tactic(auto)]
 
+mod ask;
 mod built_in;
+mod call_end;
 mod check;
+mod client_call;
+mod client_task;
 mod commands;
 mod ending;
 mod file;
