@@ -5,18 +5,15 @@ use Rattle.ads_outside.specs.declared.named_file.NamedFile.{NamedFile}
 use Rattle.ads_outside.specs.Named.{bytes_of}
 use Rattle.ads_outside.specs.SinkState.{SinkState}
 use Rattle.ads_outside.specs.WireState.{WireHistory}
-use Rattle.signals.specs.Wave.{Wave}
 use Rattle.ads_run.specs.declared.outcome.Outcome.{Outcome}
 use Rattle.ads_run.specs.declared.status.Status.{Status}
 use Rattle.ads_run.specs.declared.status.Status.TheVariants as status
-use Rattle.ads_run.specs.declared.task.Task.{Task}
-use Rattle.ads_run.specs.Ending.{Ending, line_alone}
+use Rattle.ads_run.specs.Ending.{Ending}
 use Rattle.ads_run.specs.Ends.{EndsSo, EndsBy}
 use Rattle.ads_run.specs.Outcomes.{IsOutcome, Decides, HasBytes, Finds}
 use Rattle.ads_run.specs.Prints.{PutsMemoryLine, PrintsEnding}
 use Rattle.ads_run.specs.Readings.{OverFile, OverFiles}
-use Rattle.ads_run.specs.Tasks.{asked_task}
-use Rattle.ads_run.specs.Verdict.{Verdict, Ends, Serves, ended, verdict_of, verdict_of_task, verdict_of_file}
+use Rattle.ads_run.specs.Verdict.{Verdict, Ends, Serves, Calls, CallsLocally, ended, verdict_of_file}
 use Rattle.ads_run.proofs.ReadingLemmas.{map_file, map_files, at_bytes, decided_none}
 
 abbrev pub ending_in : Outcome → Ending
@@ -46,6 +43,8 @@ pub wants_memory_so : (verdict : Verdict) (s : Status) (out out_new : SinkState)
     → EndsSo verdict s out out_new wire wire
 wants_memory_so (Ends e) s out out_new wire is line = (inr (inr (is, inl line)), refl)
 wants_memory_so (Serves service) s out out_new wire is line = inl (inr (refl, is, line))
+wants_memory_so (Calls x) s out out_new wire is line = ((is, line), refl)
+wants_memory_so (CallsLocally x) s out out_new wire is line = ((is, line), refl)
 
 pub ends_without_memory : (held : Option (List NamedFile)) (verdict_for : List NamedFile → List NamedFile → Verdict) (failed : Type 0) (s : Status)
     (out out_new : SinkState) (wire : WireHistory) → s ≡ status.Memory → PutsMemoryLine out out_new
@@ -83,22 +82,6 @@ pub prints_outcome : (o : Outcome) (text : List ℕ) (s : Status) (old new : Sin
     → PrintsEnding (record { status = o.status; text = text }) s old new → PrintsEnding (ending_in o) s old new
 prints_outcome o text s old new is printed = let P : List ℕ → Type 0 = λ t. PrintsEnding (record { status = o.status; text = t }) s old new in subst P is printed
 
--- how the task ends is how the words end that ask for it
-pub ends_as_asked : (held : Option (List NamedFile)) (waves : List Wave) (words : List (List ℕ)) (t : Option Task) (failed : Type 0) (s : Status)
-    (out out_new : SinkState) (wire wire_new : WireHistory) → asked_task words ≡ t
-    → OverFiles held (λ first second. EndsBy (verdict_of_task waves t first second) failed s out out_new wire wire_new)
-    → OverFiles held (λ first second. EndsBy (verdict_of waves words first second) failed s out out_new wire wire_new)
-ends_as_asked held waves words t failed s out out_new wire wire_new asked ends_so =
-    let P : Option Task → Type 0 = λ a. OverFiles held (λ first second. EndsBy (verdict_of_task waves a first second) failed s out out_new wire wire_new) in
-    subst P (sym asked) ends_so
-
--- words that are no command are told so
-pub ends_usage : (held : Option (List NamedFile)) (waves : List Wave) (failed : Type 0) (s : Status) (out out_new : SinkState) (wire : WireHistory)
-    → PrintsEnding (line_alone status.Usage) s out out_new
-    → OverFiles held (λ first second. EndsBy (verdict_of_task waves None first second) failed s out out_new wire wire)
-ends_usage None waves failed s out out_new wire printed = ([], [], inl (printed, refl))
-ends_usage (Some files) waves failed s out out_new wire printed = inl (printed, refl)
-
 pub on_err : {T E P : Type 0} (r : Result T E) → P → OnErr r P
 on_err (Ok x) p = tt
 on_err (Err e) p = p
@@ -111,12 +94,3 @@ prints_same r text other s old new is printed = let P : List ℕ → Type 0 = λ
 -- what the reading of a file gave, seen by its variant
 pub finds_here : (held : Option (List NamedFile)) (name : List ℕ) (failed : Type 0) (found other : Result (List ℕ) Outcome) → found ≡ other → Finds held name failed found → Finds held name failed other
 finds_here held name failed found other is finds = let P : Result (List ℕ) Outcome → Type 0 = λ r. Finds held name failed r in subst P is finds
-
--- how a task ends that is known
-pub ends_of_task : (held : Option (List NamedFile)) (waves : List Wave) (t u : Task) (failed : Type 0) (s : Status)
-    (out out_new : SinkState) (wire wire_new : WireHistory) → t ≡ u
-    → OverFiles held (λ first second. EndsBy (verdict_of_task waves (Some u) first second) failed s out out_new wire wire_new)
-    → OverFiles held (λ first second. EndsBy (verdict_of_task waves (Some t) first second) failed s out out_new wire wire_new)
-ends_of_task held waves t u failed s out out_new wire wire_new is ends_so =
-    let P : Task → Type 0 = λ x. OverFiles held (λ first second. EndsBy (verdict_of_task waves (Some x) first second) failed s out out_new wire wire_new) in
-    subst P (sym is) ends_so

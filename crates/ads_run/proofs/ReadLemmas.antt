@@ -35,6 +35,10 @@ one_without_memory status.WriteFault old new a h = some_of_one old new a h
 one_without_memory status.LinkFault old new a h = some_of_one old new a h
 one_without_memory status.Budget old new a h = some_of_one old new a h
 one_without_memory status.TooLong old new a h = some_of_one old new a h
+one_without_memory (status.Refused n) old new a h = some_of_one old new a h
+one_without_memory status.BadPeer old new a h = some_of_one old new a h
+one_without_memory (status.TimedOut m n) old new a h = some_of_one old new a h
+one_without_memory status.BadValue old new a h = some_of_one old new a h
 
 two_without_memory : (s : Status) (old new : Names) (a b : List ℕ) → ReadsBoth s old new a b → ReadsSome old new (a ∷ b ∷ [])
 two_without_memory status.Memory old new a b h = h
@@ -53,12 +57,22 @@ two_without_memory status.Budget old new a b (inl h) = first_of_two old new a b 
 two_without_memory status.Budget old new a b (inr h) = some_of_two old new a b h
 two_without_memory status.TooLong old new a b (inl h) = first_of_two old new a b h
 two_without_memory status.TooLong old new a b (inr h) = some_of_two old new a b h
+two_without_memory (status.Refused n) old new a b (inl h) = first_of_two old new a b h
+two_without_memory (status.Refused n) old new a b (inr h) = some_of_two old new a b h
+two_without_memory status.BadPeer old new a b (inl h) = first_of_two old new a b h
+two_without_memory status.BadPeer old new a b (inr h) = some_of_two old new a b h
+two_without_memory (status.TimedOut m n) old new a b (inl h) = first_of_two old new a b h
+two_without_memory (status.TimedOut m n) old new a b (inr h) = some_of_two old new a b h
+two_without_memory status.BadValue old new a b (inl h) = first_of_two old new a b h
+two_without_memory status.BadValue old new a b (inr h) = some_of_two old new a b h
 
 -- where a run ends for want of memory, it has read as far as it may
 wants_memory : (t : FileTask) (s : Status) (old new : Names) → ReadsFilesOf t s old new → ReadsFilesOf t status.Memory old new
 wants_memory (file_task.Selftest script) s old new h = one_without_memory s old new script h
 wants_memory (file_task.Check description) s old new h = one_without_memory s old new description h
 wants_memory (file_task.Replay description script) s old new h = two_without_memory s old new description script h
+wants_memory (file_task.Load n) s old new h = h
+wants_memory (file_task.Migrate description) s old new h = one_without_memory s old new description h
 
 one_fault : (s : Status) (old new : Names) (a : List ℕ) → IsOfFileTask s → ReadsOne s old new a → ReadsOne status.WriteFault old new a
 one_fault status.Memory old new a plain h = absurd plain
@@ -71,6 +85,10 @@ one_fault (status.BadDescription n i) old new a plain h = h
 one_fault (status.BadScript n) old new a plain h = h
 one_fault status.ReadFault old new a plain h = h
 one_fault status.TooLong old new a plain h = h
+one_fault (status.Refused n) old new a plain h = absurd plain
+one_fault status.BadPeer old new a plain h = absurd plain
+one_fault (status.TimedOut m n) old new a plain h = absurd plain
+one_fault status.BadValue old new a plain h = absurd plain
 
 two_fault : (s : Status) (old new : Names) (a b : List ℕ) → IsOfFileTask s → ReadsBoth s old new a b → ReadsBoth status.WriteFault old new a b
 two_fault status.Memory old new a b plain h = absurd plain
@@ -83,11 +101,17 @@ two_fault (status.BadScript n) old new a b plain h = inr h
 two_fault status.Usage old new a b plain h = h
 two_fault status.ReadFault old new a b plain h = h
 two_fault status.TooLong old new a b plain h = h
+two_fault (status.Refused n) old new a b plain h = absurd plain
+two_fault status.BadPeer old new a b plain h = absurd plain
+two_fault (status.TimedOut m n) old new a b plain h = absurd plain
+two_fault status.BadValue old new a b plain h = absurd plain
 
 writing_fails : (t : FileTask) (s : Status) (old new : Names) → IsOfFileTask s → ReadsFilesOf t s old new → ReadsFilesOf t status.WriteFault old new
 writing_fails (file_task.Selftest script) s old new plain h = one_fault s old new script plain h
 writing_fails (file_task.Check description) s old new plain h = one_fault s old new description plain h
 writing_fails (file_task.Replay description script) s old new plain h = two_fault s old new description script plain h
+writing_fails (file_task.Load n) s old new plain h = h
+writing_fails (file_task.Migrate description) s old new plain h = one_fault s old new description plain h
 
 -- the files that a run has read which printed its outcome
 pub reads_as_ended : (t : FileTask) (e : Ending) (s : Status) (old new : Names) (before after : SinkState) → IsOfFileTask e.status
@@ -114,6 +138,10 @@ reads_one status.WriteFault old new a h = h
 reads_one status.LinkFault old new a h = h
 reads_one status.Budget old new a h = h
 reads_one status.TooLong old new a h = h
+reads_one (status.Refused n) old new a h = h
+reads_one status.BadPeer old new a h = h
+reads_one (status.TimedOut m n) old new a h = h
+reads_one status.BadValue old new a h = h
 
 pub reads_some_of_one : (s : Status) (old new : Names) (a : List ℕ) → s ≡ status.Memory → ReadsSome old new (a ∷ []) → ReadsOne s old new a
 reads_some_of_one s old new a is h = subst (λ r. ReadsOne r old new a) (sym is) h

@@ -1,21 +1,33 @@
--- Why a run ended so, by the counts of the wire; and how a run ends where nothing fails.
-use Rattle.std.specs.Prelude.{◌≡◌, ◌⊎◌, ◌<◌, ℕ, Bool, true, false, Option, Some, None}
+-- Why a run ended so, by the counts of the wire and of the link; and how a run ends where nothing fails.
+use Rattle.std.specs.Prelude.{◌≡◌, ◌⊎◌, ◌<◌, ℕ, Bool, true, false, List, Option, Some, None}
 use Rattle.ads_outside.specs.FilesState.{FilesState}
+use Rattle.ads_outside.specs.LinkState.{LinkState}
 use Rattle.ads_outside.specs.Rose.{Rose, raised}
 use Rattle.ads_outside.specs.SinkState.{SinkState}
 use Rattle.ads_outside.specs.WireState.{WireHistory}
 use Rattle.serve_loop.specs.TurnTaken.{raised_by}
+use Rattle.ads_client.specs.Conversation.{LinkAnswer, LoopEnd}
+use Rattle.ads_local.specs.LocalCall.{Cutting}
+use Rattle.cli_words.specs.declared.client_words.ClientWords.{ClientWords}
+use Rattle.cli_words.specs.declared.client_words.PeerWords.{PeerWords}
+use Rattle.cli_words.specs.declared.client_words.PeerWords.TheVariants as peer
+use Rattle.client_loop.specs.Called.{Calling, calling, over}
+use Rattle.client_loop.specs.LinkAfter.{history_over}
+use Rattle.ads_run.specs.declared.client_task.ClientTask.{ClientTask}
 use Rattle.ads_run.specs.declared.status.Status.{Status}
 use Rattle.ads_run.specs.declared.status.Status.TheVariants as status
 use Rattle.ads_run.specs.declared.task.Task.{Task}
 use Rattle.ads_run.specs.declared.task.Task.TheVariants as task
-use Rattle.ads_run.specs.Verdict.{Verdict, Ends, Serves}
+use Rattle.ads_run.specs.Asking.{LocalCalling, call_asked, own_address, asked_address}
+use Rattle.ads_run.specs.Calling.{status_of_loop, local_conversation}
+use Rattle.ads_run.specs.Verdict.{Verdict, Ends, Serves, Calls, CallsLocally}
 
 -- whether a task is served over a wire
 abbrev pub is_service : Option Task → Bool
 is_service None = false
 is_service (Some (task.OfFiles t)) = false
 is_service (Some (task.Serve description listen events)) = true
+is_service (Some (task.Ask what client)) = false
 
 -- the wire gave fewer events than that, and then answered End
 pub record EndsOfWire (limit : ℕ) (old new : WireHistory) : Type 0 where
@@ -39,23 +51,59 @@ pub record FailsOfWire (limit : ℕ) (old new : WireHistory) : Type 0 where
   pub fewer : (count ≡ 0) ⊎ (count < limit)
   pub events : new.events ≡ raised_by count old.events
 
+-- only a client's call ends so
+abbrev pub IsNoCallEnd : Status → Type 0
+IsNoCallEnd (status.Refused code) = ⊥
+IsNoCallEnd status.BadPeer = ⊥
+IsNoCallEnd (status.TimedOut sent now) = ⊥
+IsNoCallEnd status.BadValue = ⊥
+IsNoCallEnd s = Unit {0}
+
 -- why a service of so many events ended so
 abbrev pub CauseOfService : ℕ → Status → WireHistory → WireHistory → Type 0
 CauseOfService limit status.Done old new = EndsOfWire limit old new
 CauseOfService limit status.Budget old new = TakesAll limit old new
 CauseOfService limit status.LinkFault old new = FailsOfWire limit old new
-CauseOfService limit s old new = Unit {0}
+CauseOfService limit s old new = IsNoCallEnd s
 
--- no other task ends by the wire
+-- no other task ends by the wire or by a link
 abbrev pub IsNoServiceEnd : Status → Type 0
 IsNoServiceEnd status.LinkFault = ⊥
 IsNoServiceEnd status.Budget = ⊥
-IsNoServiceEnd s = Unit {0}
+IsNoServiceEnd s = IsNoCallEnd s
 
-abbrev pub HasCause : Option Task → Status → WireHistory → WireHistory → Type 0
-HasCause None s old new = IsNoServiceEnd s
-HasCause (Some (task.OfFiles t)) s old new = IsNoServiceEnd s
-HasCause (Some (task.Serve description listen events)) s old new = CauseOfService events s old new
+-- the status is that of the call over the answers that the link gave
+pub record IsEndOfCall (x : Calling) (s : Status) (new : LinkState) : Type 0 where
+  pub moment : ℕ
+  pub answers : List LinkAnswer
+  pub history : new.history ≡ history_over moment answers
+  pub ended : LoopEnd
+  pub end_is : (over x moment answers).end ≡ Some ended
+  pub status : s ≡ status_of_loop ended
+
+-- why a call over the link ended so
+abbrev pub CauseOfCall : Calling → Status → LinkState → LinkState → Type 0
+CauseOfCall x status.LinkFault old new = Rose old.faults new.faults
+CauseOfCall x status.ReadFault old new = Unit {0}
+CauseOfCall x status.WriteFault old new = Unit {0}
+CauseOfCall x status.Memory old new = Unit {0}
+CauseOfCall x s old new = IsEndOfCall x s new
+
+-- in the same process no link fails
+abbrev pub IsNoLinkEnd : Status → Type 0
+IsNoLinkEnd status.LinkFault = ⊥
+IsNoLinkEnd s = Unit {0}
+
+abbrev pub CauseOfAsking : ClientTask → ClientWords → PeerWords → Status → LinkState → LinkState → Type 0
+CauseOfAsking what client (peer.To to net) s old new =
+    CauseOfCall (calling (own_address client) (asked_address net client) (call_asked what) to) s old new
+CauseOfAsking what client (peer.Local description) s old new = IsNoLinkEnd s
+
+abbrev pub HasCause : Option Task → Status → WireHistory → WireHistory → LinkState → LinkState → Type 0
+HasCause None s old new link link_new = IsNoServiceEnd s
+HasCause (Some (task.OfFiles t)) s old new link link_new = IsNoServiceEnd s
+HasCause (Some (task.Serve description listen events)) s old new link link_new = CauseOfService events s old new
+HasCause (Some (task.Ask what client)) s old new link link_new = CauseOfAsking what client client.peer s link link_new
 
 -- the words, the description or the script decided, or a file could not be read
 abbrev pub IsBeforeRun : Status → Type 0
@@ -66,15 +114,25 @@ IsBeforeRun status.ReadFault = Unit {0}
 IsBeforeRun status.TooLong = Unit {0}
 IsBeforeRun s = ⊥
 
--- no reading, no piece of output, no start of the wire and no event failed
+-- no reading, no piece of output, no start of the wire, no event and no call of the link failed
 pub record NothingFailed (files files_new : FilesState) (out out_new : SinkState) (wire wire_new : WireHistory)
-    : Type 0 where
+    (link link_new : LinkState) : Type 0 where
   pub reading : Rose files.faults files_new.faults → ⊥
   pub writing : Rose out.faults out_new.faults → ⊥
   pub serving : Rose wire.stops wire_new.stops → ⊥
+  pub talking : Rose link.faults link_new.faults → ⊥
 
--- how a run ends where nothing failed: as its verdict says, or a service is done or took all its events; or
--- memory was wanting
-abbrev pub IsOwnEnd : Verdict → Status → Type 0
-IsOwnEnd (Ends ending) s = (s ≡ ending.status) ⊎ (s ≡ status.Memory)
-IsOwnEnd (Serves service) s = (s ≡ status.Done) ⊎ (s ≡ status.Budget) ⊎ (s ≡ status.Memory)
+-- the status is that of the call over the server in the same process
+pub record IsEndOfLocal (x : LocalCalling) (s : Status) : Type 0 where
+  pub cutting : Cutting
+  pub ended : LoopEnd
+  pub end_is : (local_conversation x cutting).end ≡ Some ended
+  pub status : s ≡ status_of_loop ended
+
+-- how a run ends where nothing failed: as its verdict says, or a service is done or took all its events, or a call is
+-- over as its conversation is; or memory was wanting
+abbrev pub IsOwnEnd : Verdict → Status → LinkState → Type 0
+IsOwnEnd (Ends ending) s link_new = (s ≡ ending.status) ⊎ (s ≡ status.Memory)
+IsOwnEnd (Serves service) s link_new = (s ≡ status.Done) ⊎ (s ≡ status.Budget) ⊎ (s ≡ status.Memory)
+IsOwnEnd (Calls x) s link_new = IsEndOfCall x s link_new ⊎ (s ≡ status.Memory)
+IsOwnEnd (CallsLocally x) s link_new = IsEndOfLocal x s ⊎ (s ≡ status.Memory)

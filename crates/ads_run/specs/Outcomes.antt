@@ -72,6 +72,10 @@ IsOfFileTask status.WriteFault = ⊥
 IsOfFileTask status.LinkFault = ⊥
 IsOfFileTask status.Budget = ⊥
 IsOfFileTask status.Memory = ⊥
+IsOfFileTask (status.Refused code) = ⊥
+IsOfFileTask status.BadPeer = ⊥
+IsOfFileTask (status.TimedOut sent now) = ⊥
+IsOfFileTask status.BadValue = ⊥
 IsOfFileTask s = Unit {0}
 
 -- how a service ends, whose description is accepted
@@ -87,6 +91,11 @@ IsOfService s = ⊥
 abbrev pub IsOfServe : Status → Type 0
 IsOfServe (status.BadDescription n item) = Unit {0}
 IsOfServe s = IsOfService s
+
+-- no reading failed
+abbrev pub IsNoReadFault : Status → Type 0
+IsNoReadFault status.ReadFault = ⊥
+IsNoReadFault s = Unit {0}
 
 -- a description that is refused
 abbrev pub status_of_fault : DescFault → Status

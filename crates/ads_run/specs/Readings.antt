@@ -1,7 +1,9 @@
 -- Which files a run has read, and what they held.
-use Rattle.std.specs.Prelude.{◌≡◌, ◌⊎◌, ℕ, List, [], ◌∷◌, Option, Some, None}
+use Rattle.std.specs.Prelude.{◌≡◌, ◌⊎◌, ℕ, Bool, true, false, List, [], ◌∷◌, Option, Some, None}
 use Rattle.ads_outside.specs.declared.named_file.NamedFile.{NamedFile}
 use Rattle.ads_outside.specs.FilesState.{ReadsSome, ReadsAll}
+use Rattle.cli_words.specs.declared.client_words.PeerWords.{PeerWords}
+use Rattle.cli_words.specs.declared.client_words.PeerWords.TheVariants as peer
 use Rattle.ads_run.specs.declared.file_task.FileTask.{FileTask}
 use Rattle.ads_run.specs.declared.file_task.FileTask.TheVariants as file_task
 use Rattle.ads_run.specs.declared.status.Status.{Status}
@@ -50,8 +52,36 @@ abbrev pub ReadsFilesOf : FileTask → Status → Names → Names → Type 0
 ReadsFilesOf (file_task.Selftest script) s old new = ReadsOne s old new script
 ReadsFilesOf (file_task.Check description) s old new = ReadsOne s old new description
 ReadsFilesOf (file_task.Replay description script) s old new = ReadsBoth s old new description script
+ReadsFilesOf (file_task.Load n) s old new = ReadsAll old new []
+ReadsFilesOf (file_task.Migrate description) s old new = ReadsOne s old new description
+
+-- whether a task asks for no file
+abbrev pub asks_no_file : FileTask → Bool
+asks_no_file (file_task.Load n) = true
+asks_no_file t = false
+
+-- whether a client asks over the link
+abbrev pub is_over_link : PeerWords → Bool
+is_over_link (peer.To to net) = true
+is_over_link (peer.Local description) = false
+
+abbrev pub asks_link : Option Task → Bool
+asks_link (Some (task.Ask what client)) = is_over_link client.peer
+asks_link t = false
+
+abbrev pub reads_no_file : Option Task → Bool
+reads_no_file None = true
+reads_no_file (Some (task.OfFiles t)) = asks_no_file t
+reads_no_file (Some (task.Serve description listen events)) = false
+reads_no_file (Some (task.Ask what client)) = is_over_link client.peer
+
+-- of a client's command: the description of the server in the same process
+abbrev pub ReadsOfPeer : PeerWords → Status → Names → Names → Type 0
+ReadsOfPeer (peer.To to net) s old new = ReadsAll old new []
+ReadsOfPeer (peer.Local description) s old new = ReadsOne s old new description
 
 abbrev pub ReadsFiles : Option Task → Status → Names → Names → Type 0
 ReadsFiles None s old new = ReadsAll old new []
 ReadsFiles (Some (task.OfFiles t)) s old new = ReadsFilesOf t s old new
 ReadsFiles (Some (task.Serve description listen events)) s old new = ReadsOne s old new description
+ReadsFiles (Some (task.Ask what client)) s old new = ReadsOfPeer client.peer s old new

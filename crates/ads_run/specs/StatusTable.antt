@@ -1,6 +1,9 @@
 -- How each status ends the process: its number, and the last line that it prints. This project's own choice.
 use Rattle.std.specs.Prelude.{ℕ, List, [], ◌∷◌, ◌++◌, ◌==◌, if◌then◌else◌, codes}
 use Rattle.std.specs.Fmt.{decimal}
+use Rattle.ads_base.specs.declared.peer.Peer.TheVariants as peer
+use Rattle.ads_client.specs.EndLines.{status_of_end, last_line_of_end}
+use Rattle.ads_client.specs.Stages.{CallEnd, Refused, BadPeer, TimedOut, BadValue}
 use Rattle.ads_machine.specs.SummaryText.{counted}
 use Rattle.ads_run.specs.declared.status.Status.{Status}
 use Rattle.ads_run.specs.declared.status.Status.TheVariants as status
@@ -21,6 +24,10 @@ pub record Row : Type 0 where
   -- the last line, where there is one
   pub line : List ℕ
 
+-- how a client's call ends, as the client has it
+abbrev pub row_of_end : CallEnd → Row
+row_of_end end = record { number = status_of_end end; line = last_line_of_end end }
+
 abbrev pub row_of : Status → Row
 row_of status.Done = record { number = 0; line = [] }
 row_of status.Usage = record { number = 1; line = line (codes "ads: usage") }
@@ -30,6 +37,10 @@ row_of status.ReadFault = record { number = 4; line = line (codes "ads: read fau
 row_of status.WriteFault = record { number = 5; line = [] }
 row_of status.LinkFault = record { number = 6; line = line (codes "ads: link fault") }
 row_of status.Budget = record { number = 7; line = line (codes "ads: budget") }
+row_of (status.Refused code) = row_of_end (Refused code)
+row_of status.BadPeer = row_of_end (BadPeer peer.Closed)
+row_of (status.TimedOut sent now) = row_of_end (TimedOut sent now)
+row_of status.BadValue = row_of_end BadValue
 row_of status.Memory = record { number = 10; line = line (codes "ads: memory") }
 row_of status.TooLong = record { number = 12; line = line (codes "ads: file too long") }
 

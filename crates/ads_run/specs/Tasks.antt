@@ -1,12 +1,35 @@
 -- What the words ask for: a task with its files.
-use Rattle.std.specs.Prelude.{ℕ, List, Option, Some, None}
+use Rattle.std.specs.Prelude.{ℕ, Bool, true, ◌&&◌, List, length, Option, Some, None, nat_le, if◌then◌else◌}
 use Rattle.cli_words.specs.declared.command.Command.{Command}
 use Rattle.cli_words.specs.declared.command.Command.TheVariants as command
 use Rattle.cli_words.specs.Commands.{command_of}
-use Rattle.ads_run.specs.declared.file_task.FileTask.{FileTask}
+use Rattle.cli_words.specs.declared.client_words.ClientWords.{ClientWords}
+use Rattle.ads_run.specs.declared.client_task.ClientTask.{ClientTask}
+use Rattle.ads_run.specs.declared.client_task.ClientTask.TheVariants as ask
 use Rattle.ads_run.specs.declared.file_task.FileTask.TheVariants as file_task
 use Rattle.ads_run.specs.declared.task.Task.{Task}
 use Rattle.ads_run.specs.declared.task.Task.TheVariants as task
+
+-- a load of at most 100,000; the grammar of words has no greater one
+abbrev pub task_of_load : ℕ → Option Task
+task_of_load n = if nat_le n 100000 then Some (task.OfFiles (file_task.Load n)) else None
+
+-- what a client asks, within what a call takes; the grammar of words has no more
+abbrev pub is_text : List ℕ → Bool
+is_text text = nat_le (length text) 65536
+
+abbrev pub fits_what : ClientTask → Bool
+fits_what ask.Info = true
+fits_what ask.State = true
+fits_what ask.List = true
+fits_what (ask.Control ads device) = nat_le ads 65535 && nat_le device 65535
+fits_what (ask.Get name) = is_text name
+fits_what (ask.Set name value) = is_text name && is_text value
+fits_what (ask.Watch name change cycle count) = is_text name && nat_le cycle 4294967295 && nat_le count 1000000
+
+abbrev pub task_of_ask : ClientTask → ClientWords → Option Task
+task_of_ask what client =
+    if nat_le client.port 65535 && fits_what what then Some (task.Ask what client) else None
 
 -- the task of a command; the other commands are not built
 unfoldable pub task_of_command : Option Command → Option Task
@@ -15,7 +38,17 @@ task_of_command (Some (command.Selftest script)) = Some (task.OfFiles (file_task
 task_of_command (Some (command.Check description)) = Some (task.OfFiles (file_task.Check description))
 task_of_command (Some (command.Replay description script)) =
     Some (task.OfFiles (file_task.Replay description script))
+task_of_command (Some (command.Load n)) = task_of_load n
+task_of_command (Some (command.Migrate description)) = Some (task.OfFiles (file_task.Migrate description))
 task_of_command (Some (command.Serve description listen events)) = Some (task.Serve description listen events)
+task_of_command (Some (command.Info client)) = task_of_ask ask.Info client
+task_of_command (Some (command.State client)) = task_of_ask ask.State client
+task_of_command (Some (command.List client)) = task_of_ask ask.List client
+task_of_command (Some (command.Control ads device client)) = task_of_ask (ask.Control ads device) client
+task_of_command (Some (command.Get name client)) = task_of_ask (ask.Get name) client
+task_of_command (Some (command.Set name value client)) = task_of_ask (ask.Set name value) client
+task_of_command (Some (command.Watch name change cycle count client)) =
+    task_of_ask (ask.Watch name change cycle count) client
 task_of_command (Some c) = None
 
 -- the task that the words ask for, if they are a command that is built

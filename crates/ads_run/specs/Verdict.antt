@@ -9,14 +9,22 @@ use Rattle.ads_plant.specs.Description.{Description}
 use Rattle.ads_machine.specs.ScriptLine.{ScriptLine}
 use Rattle.ads_rules.specs.TextVerdict.{TextVerdict, Described, Breaks, NoDocument, text_verdict}
 use Rattle.ads_product.specs.Server.{server_script, server_text}
+use Rattle.description_migration.specs.Migration.{migrated_text}
+use Rattle.cli_words.specs.declared.client_words.ClientWords.{ClientWords}
+use Rattle.cli_words.specs.declared.client_words.PeerWords.{PeerWords}
+use Rattle.cli_words.specs.declared.client_words.PeerWords.TheVariants as peer
+use Rattle.client_loop.specs.Called.{Calling, calling}
+use Rattle.ads_run.specs.declared.client_task.ClientTask.{ClientTask}
 use Rattle.ads_run.specs.declared.file_task.FileTask.{FileTask}
 use Rattle.ads_run.specs.declared.file_task.FileTask.TheVariants as file_task
 use Rattle.ads_run.specs.declared.status.Status.{Status}
 use Rattle.ads_run.specs.declared.status.Status.TheVariants as status
 use Rattle.ads_run.specs.declared.task.Task.{Task}
 use Rattle.ads_run.specs.declared.task.Task.TheVariants as task
+use Rattle.ads_run.specs.Asking.{LocalCalling, local_calling, call_asked, own_address, asked_address}
 use Rattle.ads_run.specs.BuiltIn.{built_in}
 use Rattle.ads_run.specs.Ending.{Ending, line_alone}
+use Rattle.ads_run.specs.Load.{load_text}
 use Rattle.ads_run.specs.Report.{report_of}
 use Rattle.ads_run.specs.Service.{Service}
 use Rattle.ads_run.specs.Tasks.{asked_task}
@@ -25,6 +33,9 @@ use Rattle.ads_run.specs.Tasks.{asked_task}
 pub data Verdict : Type 0 where
   Ends : Ending → Verdict
   Serves : Service → Verdict
+  -- a client calls over the link, or over the server of a description in the same process
+  Calls : Calling → Verdict
+  CallsLocally : LocalCalling → Verdict
 
 -- a status whose last line is all that is printed
 abbrev pub ended : Status → Verdict
@@ -63,6 +74,19 @@ verdict_of_replay waves script NoDocument = ended (status.BadDescription 0 0)
 abbrev pub verdict_of_check : ℕ → List ℕ → Verdict
 verdict_of_check signals bytes = verdict_of_description (text_verdict signals bytes)
 
+-- what is wrong with the description; where nothing is, its text under schema 2
+abbrev pub verdict_of_migrated : List ℕ → TextVerdict → Verdict
+verdict_of_migrated bytes (Described d) = prints (migrated_text bytes)
+verdict_of_migrated bytes (Breaks number item) = ended (status.BadDescription number item)
+verdict_of_migrated bytes NoDocument = ended (status.BadDescription 0 0)
+
+abbrev pub verdict_of_migrate : ℕ → List ℕ → Verdict
+verdict_of_migrate signals bytes = verdict_of_migrated bytes (text_verdict signals bytes)
+
+-- the counts of the load of n
+abbrev pub verdict_of_load : List Wave → ℕ → Verdict
+verdict_of_load waves n = prints (load_text waves n)
+
 -- what is wrong with the description; where nothing is, it is served
 abbrev pub verdict_of_served : Listening → List Wave → ℕ → TextVerdict → Verdict
 verdict_of_served start waves limit (Described d) =
@@ -85,6 +109,25 @@ verdict_of_file_task waves (file_task.Check description) first second =
 verdict_of_file_task waves (file_task.Replay description script) first second =
     verdict_of_file (λ bytes. verdict_of_replay waves (bytes_of second script) (text_verdict (length waves) bytes))
     (bytes_of first description)
+verdict_of_file_task waves (file_task.Load n) first second = verdict_of_load waves n
+verdict_of_file_task waves (file_task.Migrate description) first second =
+    verdict_of_file (verdict_of_migrate (length waves)) (bytes_of first description)
+
+-- what is wrong with the description; where nothing is, a client calls its server in the same process
+abbrev pub verdict_of_called : List Wave → ClientTask → ClientWords → TextVerdict → Verdict
+verdict_of_called waves what client (Described d) = CallsLocally (local_calling d waves what client)
+verdict_of_called waves what client (Breaks number item) = ended (status.BadDescription number item)
+verdict_of_called waves what client NoDocument = ended (status.BadDescription 0 0)
+
+abbrev pub verdict_of_local : List Wave → ClientTask → ClientWords → List ℕ → Verdict
+verdict_of_local waves what client bytes = verdict_of_called waves what client (text_verdict (length waves) bytes)
+
+-- a client asks a server over the link, or that of a description
+abbrev pub verdict_of_ask : List Wave → ClientTask → ClientWords → PeerWords → List NamedFile → Verdict
+verdict_of_ask waves what client (peer.To to net) first =
+    Calls (calling (own_address client) (asked_address net client) (call_asked what) to)
+verdict_of_ask waves what client (peer.Local description) first =
+    verdict_of_file (verdict_of_local waves what client) (bytes_of first description)
 
 -- words that are no command are told so
 abbrev pub verdict_of_task : List Wave → Option Task → List NamedFile → List NamedFile → Verdict
@@ -92,6 +135,7 @@ verdict_of_task waves None first second = ended status.Usage
 verdict_of_task waves (Some (task.OfFiles t)) first second = verdict_of_file_task waves t first second
 verdict_of_task waves (Some (task.Serve description listen events)) first second =
     verdict_of_file (verdict_of_serve waves description listen events) (bytes_of first description)
+verdict_of_task waves (Some (task.Ask what client)) first second = verdict_of_ask waves what client client.peer first
 
 -- the verdict on words, with signals that begin so
 abbrev pub verdict_of : List Wave → List (List ℕ) → List NamedFile → List NamedFile → Verdict

@@ -1,14 +1,20 @@
 //! The server's commands as a library: `run` over any files, any wire and any sink, and the run over the real ones.
 #![tactic(auto)]
 
+mod ask;
 mod built_in;
+mod call_end;
 mod check;
+mod client_call;
+mod client_task;
 mod commands;
 mod ending;
 mod file;
 mod file_task;
 mod last_line;
 mod laws;
+mod load;
+mod migrate;
 mod outcome;
 mod play;
 mod program;

@@ -3,8 +3,9 @@
 ghost use Rattle.std.specs.Prelude.{◌≡◌, ◌≢◌, drop, map, string_bytes, IfOk, OnErr};
 ghost use Rattle.ads_outside.specs.Rose.{Rose};
 ghost use Rattle.ads_run.specs.Verdict.{verdict_of};
+ghost use Rattle.ads_run.specs.Calling.{used};
 ghost use Rattle.ads_run.specs.Ending.{line_alone};
-ghost use Rattle.ads_run.specs.Ends.{EndsBy};
+ghost use Rattle.ads_run.specs.Ends.{RunsBy};
 ghost use Rattle.ads_run.specs.Prints.{PrintsEnding};
 ghost use Rattle.ads_run.specs.ProgramWaves.{program_waves};
 ghost use Rattle.ads_run.specs.Readings.{OverFiles};
@@ -15,8 +16,8 @@ use crate::program_signals::ProgramSignals;
 use crate::status::Status;
 use crate::top_call::run;
 use ads_base::NoMemory;
-use ads_edge::{RealFiles, RealSink, RealWire};
-use ads_outside::{Files, Sink, Wire};
+use ads_edge::{RealFiles, RealLink, RealSink, RealWire};
+use ads_outside::{Files, Link, Sink, Wire};
 use signals::Signal;
 use std::alloc::Global;
 use std::env::{self, Args};
@@ -45,12 +46,14 @@ fn status_of_args<T: Threads + Sync>(
     let all: Vec<String> = args.collect(rt.alloc())?;
     let mut files = RealFiles::new(rt.alloc(), rt.clone()?)?;
     let mut wire = RealWire::new(rt.alloc(), *rt)?;
+    let mut link = RealLink::new(*rt);
     run_program(
         threads,
         rt.alloc(),
         words_of(all.as_slice()),
         &mut files,
         &mut wire,
+        &mut link,
         out,
     )
 }
@@ -75,19 +78,21 @@ fn end_without_words<S: Sink>(kind: ErrorKind, out: &mut S) -> Status
 }
 
 // The run with the signals that the program has.
-fn run_program<T: Threads + Sync, F: Files, W: Wire, S: Sink>(
+fn run_program<T: Threads + Sync, F: Files, W: Wire, L: Link, S: Sink>(
     threads: &T,
     alloc: Global,
     words: &[String],
     files: &mut F,
     wire: &mut W,
+    link: &mut L,
     out: &mut S,
 ) -> Result<Status, NoMemory>
     ensures ok { IfOk result (λ status. OverFiles (F.state files.old).held (λ first second.
-        EndsBy (verdict_of program_waves (map string_bytes words.now) first second)
+        RunsBy (verdict_of program_waves (map string_bytes words.now) first second)
         (Rose (F.state files.old).faults (F.state files.new).faults) status (S.state out.old) (S.state out.new)
-        (W.state wire.old).history (W.state wire.new).history)) }
-    ensures no_memory { OnErr result ((files.new ≡ files.old) × (wire.new ≡ wire.old) × (out.new ≡ out.old)) }
+        (W.state wire.old).history (W.state wire.new).history
+        (used (L.tells link.old) (L.tells link.new) (L.state link.old) (L.state link.new)))) }
+    ensures no_memory { OnErr result ((files.new ≡ files.old) × (wire.new ≡ wire.old) × (link.new ≡ link.old) × (out.new ≡ out.old)) }
 {
     let ProgramSignals {
         ramp,
@@ -98,5 +103,5 @@ fn run_program<T: Threads + Sync, F: Files, W: Wire, S: Sink>(
     signals.push(Box::new(alloc, ramp)?)?;
     signals.push(Box::new(alloc, square)?)?;
     signals.push(Box::new(alloc, table)?)?;
-    Ok(run(threads, alloc, words, files, wire, out, signals))
+    Ok(run(threads, alloc, words, files, wire, link, out, signals))
 }

@@ -102,8 +102,8 @@ fn serve_text<T: Threads + Sync, W: Wire, S: Sink, G: Sources>(
     }
 }
 
-// What is wrong with a description is told.
-fn refuse<S: Sink>(alloc: Global, fault: DescFault, out: &mut S) -> Status
+/// What is wrong with a description is told.
+pub fn refuse<S: Sink>(alloc: Global, fault: DescFault, out: &mut S) -> Status
     ensures { PrintsEnding (line_alone (status_of_fault fault)) result (S.state out.old) (S.state out.new) }
 {
     match bad_description(alloc, fault) {

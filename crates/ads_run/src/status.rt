@@ -17,10 +17,18 @@ pub enum Status {
     ReadFault,
     /// Standard output could not be written.
     WriteFault,
-    /// The wire could not be started, or gave no further event.
+    /// The wire could not be started, or gave no further event; or the link failed.
     LinkFault,
-    /// As many events were taken as were allowed.
+    /// As many events were taken as were allowed, or too many answers of a link were waited for.
     Budget,
+    /// An answer to a request of a client had this AMS error or, that being 0, this result.
+    Refused(u32),
+    /// A peer broke the protocol, or closed the connection before the call was over.
+    BadPeer,
+    /// No answer came: the moments of the request and of the tick by which it timed out.
+    TimedOut { sent: u64, now: u64 },
+    /// The text is no value of the symbol.
+    BadValue,
     /// Memory was wanting.
     Memory,
     /// A file has more than 16,777,216 bytes.
@@ -43,8 +51,12 @@ impl Status {
             Status::WriteFault => 5,
             Status::LinkFault => 6,
             Status::Budget => 7,
+            Status::Refused(_) => 8,
+            Status::BadPeer => 9,
             Status::Memory => 10,
+            Status::TimedOut { .. } => 11,
             Status::TooLong => 12,
+            Status::BadValue => 13,
         }
     }
 }

@@ -1,11 +1,13 @@
 //! What the words ask for.
 
 ghost use Rattle.std.specs.Prelude.{◌≡◌, map, string_bytes, IfOk};
-ghost use Rattle.ads_run.specs.Tasks.{task_of_command, asked_task};
+ghost use Rattle.ads_run.specs.Tasks.{asked_task, fits_what, is_text, task_of_ask, task_of_command, task_of_load};
+ghost use Rattle.ads_run.specs.Fits.{FitsTask};
 
+use crate::client_task::ClientTask;
 use crate::file_task::FileTask;
 use ads_base::NoMemory;
-use cli_words::{Command, Text, read_words};
+use cli_words::{ClientWords, Command, Text, read_words};
 use std::alloc::Global;
 
 /// A command that is built, with the names of its files.
@@ -19,11 +21,17 @@ pub enum Task {
         listen: Text,
         events: u64,
     },
+    /// A client asks a server.
+    Ask {
+        what: ClientTask,
+        client: ClientWords,
+    },
 }
 
 /// The task that the words ask for; none where they are no command that is built.
 pub fn task_asked(alloc: Global, words: &[String]) -> Result<Option<Task>, NoMemory>
-    ensures { IfOk result (λ task. task ≡ asked_task (map string_bytes words.now)) }
+    ensures asked { IfOk result (λ task. task ≡ asked_task (map string_bytes words.now)) }
+    ensures fits { IfOk result (λ task. FitsTask task) }
 {
     let command = read_words(alloc, words)?;
     Ok(task_of(command))
@@ -47,6 +55,10 @@ fn task_of(command: Option<Command>) -> Option<Task>
             description,
             script,
         })),
+        Some(Command::Load { n }) => task_of_load(n),
+        Some(Command::Migrate { description }) => {
+            Some(Task::OfFiles(FileTask::Migrate { description }))
+        }
         Some(
             Command::Serve {
                 description,
@@ -58,6 +70,84 @@ fn task_of(command: Option<Command>) -> Option<Task>
             listen,
             events,
         }),
+        Some(Command::Info(client)) => task_of_ask(ClientTask::Info, client),
+        Some(Command::State(client)) => task_of_ask(ClientTask::State, client),
+        Some(Command::List(client)) => task_of_ask(ClientTask::List, client),
+        Some(
+            Command::Control {
+                ads,
+                device,
+                client,
+            },
+        ) => task_of_ask(ClientTask::Control { ads, device }, client),
+        Some(Command::Get { name, client }) => task_of_ask(ClientTask::Get { name }, client),
+        Some(
+            Command::Set {
+                name,
+                value,
+                client,
+            },
+        ) => task_of_ask(ClientTask::Set { name, value }, client),
+        Some(
+            Command::Watch {
+                name,
+                change,
+                cycle,
+                count,
+                client,
+            },
+        ) => task_of_ask(
+            ClientTask::Watch {
+                name,
+                change,
+                cycle,
+                count,
+            },
+            client,
+        ),
         _ => None,
     }
+}
+
+fn task_of_load(n: u64) -> Option<Task>
+    ensures { result ≡ task_of_load n }
+{
+    if n <= 100_000 {
+        Some(Task::OfFiles(FileTask::Load { n }))
+    } else {
+        None
+    }
+}
+
+fn task_of_ask(what: ClientTask, client: ClientWords) -> Option<Task>
+    ensures { result ≡ task_of_ask what client }
+{
+    if client.port <= 65_535 && fits_what(&what) {
+        Some(Task::Ask { what, client })
+    } else {
+        None
+    }
+}
+
+fn fits_what(what: &ClientTask) -> bool
+    ensures { result ≡ fits_what what.now }
+{
+    match what {
+        ClientTask::Info | ClientTask::State | ClientTask::List => true,
+        ClientTask::Control { ads, device } => *ads <= 65_535 && *device <= 65_535,
+        ClientTask::Get { name } => is_text(name),
+        ClientTask::Set { name, value } => is_text(name) && is_text(value),
+        ClientTask::Watch {
+            name,
+            change: _,
+            cycle,
+            count,
+        } => is_text(name) && *cycle <= 4_294_967_295 && *count <= 1_000_000,
+    }
+}
+
+fn is_text(text: &Text) -> bool
+    ensures { result ≡ is_text text.now }
+{
+    text.as_str().len() <= 65_536
 }

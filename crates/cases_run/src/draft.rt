@@ -1,6 +1,7 @@
 //! A case while its lines are read.
 
 use crate::fault::Fault;
+use crate::link_case::LinkCase;
 use crate::run_case::Case;
 use crate::wire_case::WireCase;
 use ads_base::{Calls, Octets};
@@ -17,6 +18,8 @@ pub enum Target {
     Reload,
     Output,
     Log,
+    /// What must have been sent over the link.
+    Talk,
 }
 
 /// What the lines so far have said.
@@ -28,6 +31,7 @@ pub struct Draft {
     pub parts: Calls,
     pub has_signals: bool,
     pub wire: WireCase,
+    pub link: LinkCase,
     pub status: Option<u8>,
     /// Whether a comment says what the run shows.
     pub has_comment: bool,
@@ -48,6 +52,7 @@ impl Draft {
             parts: Calls::new(alloc),
             has_signals: true,
             wire: WireCase::new(alloc),
+            link: LinkCase::new(alloc),
             status: None,
             has_comment: false,
             text: Octets::new(alloc),
@@ -70,6 +75,7 @@ impl Draft {
             Target::Reload => self.wire.events.push(alloc, Event::Reload(bytes))?,
             Target::Output => self.out = Some(bytes),
             Target::Log => self.wire.log = bytes,
+            Target::Talk => self.link.talk = bytes,
         }
         Ok(())
     }
@@ -84,6 +90,7 @@ impl Draft {
             parts,
             has_signals,
             wire,
+            link,
             status,
             has_comment,
             text: _text,
@@ -108,6 +115,7 @@ impl Draft {
             parts,
             has_signals,
             wire,
+            link,
             status,
             out,
         })

@@ -3,6 +3,7 @@
 use crate::draft::{Draft, Target};
 use crate::fault::Fault;
 use crate::folder::Folder;
+use crate::link_case::take_link_line;
 use crate::wire_case::take_wire_line;
 use ads_base::{Calls, NoMemory, Octets};
 use std::alloc::Global;
@@ -37,6 +38,11 @@ pub fn take_line(
         "reload" => draft.begin(alloc, Target::Reload),
         "out" => draft.begin(alloc, Target::Output),
         "log" => draft.begin(alloc, Target::Log),
+        "talk" => draft.begin(alloc, Target::Talk),
+        "comes" | "quiet" | "ends" | "fail-link" => {
+            draft.begin(alloc, Target::Nothing)?;
+            take_link_line(alloc, &mut draft.link, key, rest)
+        }
         "opened" | "piece" | "closed" | "tick" | "writable" | "fail-wire" | "cut" => {
             draft.begin(alloc, Target::Nothing)?;
             take_wire_line(alloc, &mut draft.wire, key, rest)

@@ -1,11 +1,12 @@
-//! A run over files, a wire and a sink in memory.
+//! A run over files, a wire, a link and a sink in memory.
 
 use crate::fault::Fault;
+use crate::link_case::{LinkCase, talk_of};
 use crate::new_events::open_new;
 use crate::wire_case::WireCase;
 use crate::wire_log::log_text;
 use ads_base::{Calls, NoMemory, Octets};
-use ads_outside::{Files, MemFiles, MemSink, MemWire, NamedFiles, Sink, Wire};
+use ads_outside::{Files, Link, MemFiles, MemLink, MemSink, MemWire, NamedFiles, Sink, Wire};
 use ads_run::{ProgramSignals, Status, run};
 use signals::Signal;
 use std::alloc::Global;
@@ -24,16 +25,18 @@ pub struct Case {
     /// Whether the program's three signals are handed in, or none.
     pub has_signals: bool,
     pub wire: WireCase,
+    pub link: LinkCase,
     pub status: u8,
     pub out: Octets,
 }
 
-/// What came: the number of the status, what was printed, and the wire's log.
+/// What came: the number of the status, what was printed, the wire's log, and what was sent over the link.
 #[derive(Drop)]
 pub struct Came {
     pub status: u8,
     pub out: Octets,
     pub log: Octets,
+    pub talk: Octets,
 }
 
 /// Runs the words of a case over its files and its wire.
@@ -46,6 +49,7 @@ pub fn run_case<T: Threads + Sync>(threads: &T, alloc: Global, case: Case) -> Re
         parts,
         has_signals,
         wire,
+        link,
         status: _,
         out: _wanted,
     } = case;
@@ -55,36 +59,47 @@ pub fn run_case<T: Threads + Sync>(threads: &T, alloc: Global, case: Case) -> Re
         cuts,
         log: _wanted_log,
     } = wire;
+    let LinkCase {
+        events: link_events,
+        failing_calls: link_fails,
+        talk: _wanted_talk,
+    } = link;
     if !open_new(alloc, events.as_slice())? {
         return Err(Fault::Off("two connections have one number"));
     }
     let mut files = MemFiles::new(alloc, files, failing_reads);
     let mut sink = MemSink::with_parts(alloc, failing_puts, parts);
     let mut wire = MemWire::new(alloc, events, failing_calls, cuts);
+    let mut link = MemLink::new(alloc, link_events, link_fails);
     let words = words.as_slice();
     let status = if has_signals {
-        run_with_signals(threads, alloc, words, &mut files, &mut wire, &mut sink)?
+        run_with_signals(
+            threads, alloc, words, &mut files, &mut wire, &mut link, &mut sink,
+        )?
     } else {
         let none: Vec<Box<dyn Signal>> = Vec::new(alloc);
         run(
-            threads, alloc, words, &mut files, &mut wire, &mut sink, none,
+            threads, alloc, words, &mut files, &mut wire, &mut link, &mut sink, none,
         )
     };
     let out = Octets::copy_of(alloc, sink.bytes())?;
     let log = log_text(alloc, wire.log())?;
+    let talk = talk_of(alloc, link.log())?;
     Ok(Came {
         status: status.number(),
         out,
         log,
+        talk,
     })
 }
 
-fn run_with_signals<T: Threads + Sync, F: Files, W: Wire, S: Sink>(
+fn run_with_signals<T: Threads + Sync, F: Files, W: Wire, L: Link, S: Sink>(
     threads: &T,
     alloc: Global,
     words: &[String],
     files: &mut F,
     wire: &mut W,
+    link: &mut L,
     sink: &mut S,
 ) -> Result<Status, NoMemory> {
     let ProgramSignals {
@@ -96,5 +111,5 @@ fn run_with_signals<T: Threads + Sync, F: Files, W: Wire, S: Sink>(
     signals.push(Box::new(alloc, ramp)?)?;
     signals.push(Box::new(alloc, square)?)?;
     signals.push(Box::new(alloc, table)?)?;
-    Ok(run(threads, alloc, words, files, wire, sink, signals))
+    Ok(run(threads, alloc, words, files, wire, link, sink, signals))
 }

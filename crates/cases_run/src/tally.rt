@@ -97,6 +97,7 @@ fn try_case<T: Threads + Sync>(
         status: case.status,
         out: Octets::copy_of(rt.alloc(), case.out.as_slice())?,
         log: Octets::copy_of(rt.alloc(), case.wire.log.as_slice())?,
+        talk: Octets::copy_of(rt.alloc(), case.link.talk.as_slice())?,
     };
     let came = run_case(threads, rt.alloc(), case)?;
     if is_as_wanted(&came, &wanted) {
@@ -113,4 +114,5 @@ fn is_as_wanted(came: &Came, wanted: &Came) -> bool {
     came.status == wanted.status
         && came.out.as_slice() == wanted.out.as_slice()
         && came.log.as_slice() == wanted.log.as_slice()
+        && came.talk.as_slice() == wanted.talk.as_slice()
 }

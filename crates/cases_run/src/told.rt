@@ -16,7 +16,7 @@ pub fn tell_difference(rt: &HostRuntime, name: &str, line: u32) -> Result<(), Fa
     Ok(())
 }
 
-/// How a run ended, or was to end: its status, what it printed, and the wire's log.
+/// How a run ended, or was to end: its status, what it printed, the wire's log, and what was sent over the link.
 pub fn tell_end(rt: &HostRuntime, word: &str, came: &Came) -> Result<(), Fault> {
     let status = came.status;
     println!(rt; "  {word}: status {status}")?;
@@ -24,6 +24,10 @@ pub fn tell_end(rt: &HostRuntime, word: &str, came: &Came) -> Result<(), Fault> 
     if came.log.len() > 0 {
         println!(rt; "  {word}: log of the wire")?;
         tell_text(rt, came.log.as_slice())?;
+    }
+    if came.talk.len() > 0 {
+        println!(rt; "  {word}: sent over the link")?;
+        tell_text(rt, came.talk.as_slice())?;
     }
     Ok(())
 }

@@ -61,19 +61,26 @@ fn event_of(key: &str, rest: &str) -> Result<Event, Fault> {
 fn piece_of(alloc: Global, rest: &str) -> Result<Event, Fault> {
     let (conn, digits) = rest.split_once(' ').unwrap_or((rest, ""));
     let conn = conn_of(conn)?;
+    let bytes = bytes_of(alloc, digits)?;
+    Ok(Event::Piece(conn, bytes))
+}
+
+/// Bytes in hexadecimal, which blanks may part.
+pub fn bytes_of(alloc: Global, digits: &str) -> Result<Octets, Fault> {
     let mut bytes = Octets::new(alloc);
     for part in digits.split_ascii_whitespace() {
         let part = hex::decode(alloc, part);
         let part = part.map_err(|_| Fault::Off("no bytes in hexadecimal"))?;
         bytes.put(alloc, part.as_slice())?;
     }
-    Ok(Event::Piece(conn, bytes))
+    Ok(bytes)
 }
 
 fn conn_of(text: &str) -> Result<u32, Fault> {
     text.parse::<u32>().map_err(|_| Fault::Off("no number"))
 }
 
-fn number_of(text: &str) -> Result<u64, Fault> {
+/// A decimal number of 64 bits.
+pub fn number_of(text: &str) -> Result<u64, Fault> {
     text.parse::<u64>().map_err(|_| Fault::Off("no number"))
 }

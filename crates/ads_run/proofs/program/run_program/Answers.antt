@@ -16,7 +16,7 @@ returns-clause-ok g c =
     c.into_dyn_box.result c.into_dyn_box-in_ok-new-2.result c.into_dyn_box-in_ok-new-3.result
     ramp.ghosts.wave square.ghosts.wave table.ghosts.wave
     c.in_ok-ramp.field-0.ramp c.in_ok-new.field-0.value c.in_ok-ramp.field-0.square c.in_ok-new-2.field-0.value c.in_ok-ramp.field-0.table c.in_ok-new-3.field-0.value
-    program_waves _ _ _ c.run.result _ _ _ _
+    program_waves _ _ _ c.run.result _ _ _ _ _
     c.run.ensures.ends c.in_ok-ramp.ensures (search rules) (search rules) (search rules) (search rules)
     (search rules) (search rules) (search rules)
     (read_made own-1 (own-1.entry at-1-1) at-1-1 refl Wave (λ j y. j.1.wave y) c.into_dyn_box.result.vtable c.into_dyn_box.result.value c.in_ok-new.field-0.value c.into_dyn_box.ensures.1)

@@ -1,0 +1,33 @@
+-- The file gives no bytes, or its description is asked.
+use Rattle.std.proofs.Common.{Ok, Err}
+use Rattle.ads_outside.specs.Rose.{Rose}
+use Rattle.ads_run.specs.Verdict.{verdict_of_local}
+use Rattle.ads_run.proofs.EndLemmas.{finds_here}
+use Rattle.ads_run.proofs.ReadLemmas.{reads_one}
+use Rattle.ads_run.proofs.RunLemmas.{asks_without_memory, asks_unfound, asks_found}
+use Rattle.ads_run.proofs.ask.ask_locally.Goals as goal
+
+pub returns-in-Err-clause-ends : goal.returns-in-Err-clause-ends
+returns-in-Err-clause-ends g c =
+    asks_without_memory (g.F.Files.state c.args.files.now).held (g.G.Sources.waves c.args.signals) c.args.what.now c.args.client.now c.args.description.now
+    (Rose (g.F.Files.state c.args.files.now).faults (g.F.Files.state c.bytes_of_file.new.files).faults) c.end_without_memory.result
+    (g.S.Sink.state c.args.out.now) (g.S.Sink.state c.end_without_memory.new.out) c.end_without_memory.ensures.memory c.end_without_memory.ensures.line
+
+pub returns-in-Ok-Err-clause-ends : goal.returns-in-Ok-Err-clause-ends
+returns-in-Ok-Err-clause-ends g c =
+    asks_unfound (g.F.Files.state c.args.files.now).held (verdict_of_local (g.G.Sources.waves c.args.signals) c.args.what.now c.args.client.now)
+    c.args.description.now (Rose (g.F.Files.state c.args.files.now).faults (g.F.Files.state c.bytes_of_file.new.files).faults) c.in-Ok-Err.told c.as_slice.result.now c.print_and_end.result
+    (g.S.Sink.state c.args.out.now) (g.S.Sink.state c.print_and_end.new.out) c.as_slice.ensures c.print_and_end.ensures
+    (finds_here (g.F.Files.state c.args.files.now).held c.args.description.now (Rose (g.F.Files.state c.args.files.now).faults (g.F.Files.state c.bytes_of_file.new.files).faults) c.in-Ok-Err.field-0 (Err c.in-Ok-Err.told) c.in-Ok-Err.field-0-is c.in-Ok-Err.ensures.finds)
+
+pub returns-in-Ok-Ok-clause-ends : goal.returns-in-Ok-Ok-clause-ends
+returns-in-Ok-Ok-clause-ends g c =
+    asks_found (g.F.Files.state c.args.files.now).held (verdict_of_local (g.G.Sources.waves c.args.signals) c.args.what.now c.args.client.now)
+    c.args.description.now c.in-Ok-Ok.bytes c.as_slice-in-Ok-Ok.result.now (Rose (g.F.Files.state c.args.files.now).faults (g.F.Files.state c.bytes_of_file.new.files).faults) c.ask_text.result
+    (g.S.Sink.state c.args.out.now) (g.S.Sink.state c.ask_text.new.out)
+    c.as_slice-in-Ok-Ok.ensures
+    (finds_here (g.F.Files.state c.args.files.now).held c.args.description.now (Rose (g.F.Files.state c.args.files.now).faults (g.F.Files.state c.bytes_of_file.new.files).faults) c.in-Ok-Ok.field-0 (Ok c.in-Ok-Ok.bytes) c.in-Ok-Ok.field-0-is c.in-Ok-Ok.ensures.finds)
+    c.ask_text.ensures.ends
+
+pub returns-in-Ok-Ok-clause-reads : goal.returns-in-Ok-Ok-clause-reads
+returns-in-Ok-Ok-clause-reads g c = reads_one c.ask_text.result _ _ c.args.description.now c.in-Ok-Ok.ensures.named

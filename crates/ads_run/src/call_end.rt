@@ -1,0 +1,57 @@
+//! What is printed behind a client's call.
+
+ghost use Rattle.std.specs.Prelude.{◌≡◌};
+ghost use Rattle.client_replies.specs.Stages.{end_meant};
+ghost use Rattle.ads_run.specs.Calling.{PrintsAnswer, status_of_call};
+ghost use Rattle.ads_run.specs.Ending.{line_alone};
+ghost use Rattle.ads_run.specs.Prints.{PrintsEnding};
+
+use crate::ending::{end_without_memory, print_and_end};
+use crate::last_line::{LINK_FAULT_LINE, last_line};
+use crate::status::Status;
+use ads_base::NoMemory;
+use ads_outside::Sink;
+use client_loop::{CallEnd, LoopEnd};
+use std::alloc::Global;
+
+/// Prints the last line of a call that ended so, and ends with its status.
+pub fn print_answer<S: Sink>(
+    alloc: Global,
+    answer: Result<LoopEnd, NoMemory>,
+    out: &mut S,
+) -> Status
+    ensures { PrintsAnswer answer result (S.state out.old) (S.state out.new) }
+{
+    match answer {
+        Ok(LoopEnd::Call(end)) => print_line(alloc, status_of_end(&end), out),
+        Ok(LoopEnd::Budget) => print_line(alloc, Status::Budget, out),
+        Ok(LoopEnd::LinkFault) => print_and_end(out, LINK_FAULT_LINE, Status::LinkFault),
+        Ok(LoopEnd::WriteFault) => Status::WriteFault,
+        Err(NoMemory) => end_without_memory(out),
+    }
+}
+
+fn status_of_end(end: &CallEnd) -> Status
+    ensures { result ≡ status_of_call (end_meant end.now) }
+{
+    match end {
+        CallEnd::Done => Status::Done,
+        CallEnd::Refused(code) => Status::Refused(*code),
+        CallEnd::BadPeer(_) => Status::BadPeer,
+        CallEnd::BadValue => Status::BadValue,
+        CallEnd::TimedOut { sent, now } => Status::TimedOut {
+            sent: *sent,
+            now: *now,
+        },
+    }
+}
+
+// The last line of a status is all that is printed.
+fn print_line<S: Sink>(alloc: Global, status: Status, out: &mut S) -> Status
+    ensures { PrintsEnding (line_alone status) result (S.state out.old) (S.state out.new) }
+{
+    match last_line(alloc, status) {
+        Ok(line) => print_and_end(out, line.as_slice(), status),
+        Err(NoMemory) => end_without_memory(out),
+    }
+}
