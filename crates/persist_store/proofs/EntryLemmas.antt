@@ -65,19 +65,19 @@ has_some n text ne some is =
     true≢false (sym (subst P (no_entries n text ne is) some))
 
 -- what is read in front of so many entries
-module _ {T : Type 0} (f : T → EntryRead) where
-  pub step_none : (r : Option T) (n : ℕ) (text : List ℕ) (Q : Type 0) → n ≢ 0 → IsSome (entries_in n text) → option_map f r ≡ entry_of text → IfNone r Q
-  step_none (Some x) n text Q ne some is = tt
-  step_none None n text Q ne some is = absurd (has_some n text ne some is)
+pub step_none : {T : Type 0} (r : Option T) (f : T → EntryRead) (n : ℕ) (text : List ℕ) (Q : Type 0) → n ≢ 0 → IsSome (entries_in n text) → option_map f r ≡ entry_of text → IfNone r Q
+step_none (Some x) f n text Q ne some is = tt
+step_none None f n text Q ne some is = absurd (has_some n text ne some is)
 
-  pub step_left : (r : Option T) (n : ℕ) (text : List ℕ) → n ≢ 0 → IsSome (entries_in n text) → option_map f r ≡ entry_of text → IfSome r (λ x. IsSome (entries_in (n - 1) (f x).behind))
-  step_left (Some x) n text ne some is = (has_first n text (f x) ne some is).left
-  step_left None n text ne some is = tt
+pub step_left : {T : Type 0} (r : Option T) (f : T → EntryRead) (n : ℕ) (text : List ℕ) → n ≢ 0 → IsSome (entries_in n text) → option_map f r ≡ entry_of text
+    → IfSome r (λ x. IsSome (entries_in (n - 1) (f x).behind))
+step_left (Some x) f n text ne some is = (has_first n text (f x) ne some is).left
+step_left None f n text ne some is = tt
 
-  pub step_next : (r : Option T) (n : ℕ) (text : List ℕ) → n ≢ 0 → IsSome (entries_in n text) → option_map f r ≡ entry_of text
-      → IfSome r (λ x. unwrap_or (entries_in n text) [] ≡ (f x).entry ∷ unwrap_or (entries_in (n - 1) (f x).behind) [])
-  step_next (Some x) n text ne some is = (has_first n text (f x) ne some is).next
-  step_next None n text ne some is = tt
+pub step_next : {T : Type 0} (r : Option T) (f : T → EntryRead) (n : ℕ) (text : List ℕ) → n ≢ 0 → IsSome (entries_in n text) → option_map f r ≡ entry_of text
+    → IfSome r (λ x. unwrap_or (entries_in n text) [] ≡ (f x).entry ∷ unwrap_or (entries_in (n - 1) (f x).behind) [])
+step_next (Some x) f n text ne some is = (has_first n text (f x) ne some is).next
+step_next None f n text ne some is = tt
 
 pub zero_entries : (text : List ℕ) → IsSome (entries_in 0 text) → entries_in 0 text ≡ Some []
 unfolding entries_in
