@@ -1,2 +1,3 @@
 pub mod LocalCall
+pub mod LinkLog
 pub mod Laws

@@ -1,17 +1,27 @@
 -- A call over the server in the same process: the answers of the link are the machine's, on connection 1.
-use Rattle.std.specs.Prelude.{ℕ, zero, suc, ◌+◌, List, [], ◌∷◌, flat_map, length, take, drop, is_some, if◌then◌else◌}
+use Rattle.std.specs.Prelude.{ℕ, zero, suc, ◌+◌, ◌-◌, ◌^◌, List, [], ◌∷◌, flat_map, length, take, drop, min, is_some, if◌then◌else◌}
 use Rattle.ads_outside.specs.declared.event.Event.TheVariants as event
 use Rattle.ads_outside.specs.declared.moves.Move.TheVariants as move
 use Rattle.ads_formats.specs.Header.{AmsAddress}
 use Rattle.ads_machine.specs.MachineState.{MachineState}
 use Rattle.ads_machine.specs.Moves.{EventStep, state_after_move}
-use Rattle.ads_machine.specs.Offers.{waiting_at, is_closing_at}
+use Rattle.ads_machine.specs.Connection.{connection_of}
+use Rattle.ads_machine.specs.Offers.{waiting_at}
+use Rattle.ads_machine.specs.Running.{is_to_be_shut}
 use Rattle.ads_client.specs.Calls.{Call}
 use Rattle.ads_client.specs.Conversation.{LinkAnswer, Bytes, Quiet, Closed, Sent, Conversation, MAX_ANSWERS, conversation_begun, conversation_after}
 
 -- This project's own choice: where nothing waits, a hundredth of a second passes.
 abbrev pub LOCAL_TICK : ℕ
 LOCAL_TICK = 100000
+
+-- This project's own choice: the clock stands still at the last moment of 64 bits, which no call reaches.
+abbrev pub LAST_MOMENT : ℕ
+LAST_MOMENT = 2 ^ 64 - 1
+
+-- the moment of the next tick
+abbrev pub next_tick : ℕ → ℕ
+next_tick moment = min (moment + LOCAL_TICK) LAST_MOMENT
 
 -- the greatest number of bytes of the n-th answer, less one
 abbrev pub Cutting : Type 0
@@ -55,11 +65,11 @@ unfoldable pub answer_after_tick : {W C : Type 0} → EventStep W C → ℕ → 
 answer_after_tick step most s =
     waiting_or step most s (answered (Quiet s.moment) s) (waiting_bytes s)
 
--- what waits; or else Closed where the connection is closing; or else a tick, and what waits then, or Quiet
+-- what waits; or else Closed where the connection is to be shut; or else a tick, and what waits then, or Quiet
 unfoldable pub local_answer : {W C : Type 0} → EventStep W C → ℕ → MachineState W C → Answered W C
 local_answer step most s =
-    let later = answer_after_tick step most (step s (event.Tick (s.moment + LOCAL_TICK))) in
-    let other = if is_closing_at 1 s then answered (Closed s.moment) s else later in
+    let later = answer_after_tick step most (step s (event.Tick (next_tick s.moment))) in
+    let other = if is_to_be_shut (connection_of 1 s.connections) then answered (Closed s.moment) s else later in
     waiting_or step most s other (waiting_bytes s)
 
 -- the call takes an answer, and what it sends then comes to the machine
@@ -95,10 +105,15 @@ scene_begun step s me peer call =
     let c = conversation_begun me peer call s.moment in
     record { machine = machine_after_pieces step (step s (event.Opened 1)) c.sent; conversation = c }
 
--- a call over a machine, where the answers are cut so
+-- a call over a machine, where the answers are cut so, after at most so many answers
+abbrev pub local_call_within : {W C : Type 0} → EventStep W C → Cutting → ℕ → MachineState W C → AmsAddress → AmsAddress → Call → Conversation
+local_call_within step cutting n s me peer call =
+    (scene_after_answers step cutting n (scene_begun step s me peer call)).conversation
+
+-- all of it
 abbrev pub local_call : {W C : Type 0} → EventStep W C → Cutting → MachineState W C → AmsAddress → AmsAddress → Call → Conversation
 local_call step cutting s me peer call =
-    (scene_after_answers step cutting MAX_ANSWERS (scene_begun step s me peer call)).conversation
+    local_call_within step cutting MAX_ANSWERS s me peer call
 
 -- the answers of the machine in it
 abbrev pub local_answers : {W C : Type 0} → EventStep W C → Cutting → MachineState W C → AmsAddress → AmsAddress → Call → List LinkAnswer

@@ -27,14 +27,14 @@ use Rattle.ads_run.specs.declared.status.Status.TheVariants as status
 use Rattle.ads_run.specs.declared.task.Task.{Task}
 use Rattle.ads_run.specs.declared.task.Task.TheVariants as task
 use Rattle.ads_run.specs.BuiltIn.{built_in}
-use Rattle.ads_run.specs.Causes.{HasCause, CauseOfService, EndsOfWire, TakesAll, FailsOfWire, NothingFailed, IsOwnEnd}
+use Rattle.ads_run.specs.Causes.{HasCause, EndsOfWire, TakesAll, FailsOfWire, NothingFailed, IsOwnEnd}
 use Rattle.ads_run.specs.Ending.{Ending, line_alone}
 use Rattle.ads_run.specs.Ends.{EndsSo, EndsBy}
 use Rattle.ads_run.specs.Prints.{PrintsEnding}
 use Rattle.ads_run.specs.Readings.{OverFiles}
 use Rattle.ads_run.specs.Service.{Service, ending_after}
 use Rattle.ads_run.specs.Serving.{MakesMoves, PrintsAt, EndsService}
-use Rattle.ads_run.specs.Verdict.{Verdict, Ends, Serves, ended, prints, verdict_of_lines, verdict_of_script, verdict_of_description, verdict_of_file, verdict_of_replay, verdict_of_served, verdict_of_serve, verdict_of_file_task, verdict_of_task}
+use Rattle.ads_run.specs.Verdict.{Verdict, Ends, Serves, ended, prints, verdict_of_lines, verdict_of_script, verdict_of_description, verdict_of_file, verdict_of_replay, verdict_of_migrated, verdict_of_served, verdict_of_serve, verdict_of_file_task, verdict_of_task}
 use Rattle.ads_run.proofs.ReadingLemmas.{map_files, rose_from}
 
 -- what the end of a run of a task says
@@ -213,6 +213,11 @@ of_replay P h waves script (Described d) = of_script P h d waves script
 of_replay P h waves script (Breaks n item) = h.bad n item
 of_replay P h waves script NoDocument = h.bad 0 0
 
+of_migrated : (P : Verdict → Type 0) → Holds P → (bytes : List ℕ) (v : TextVerdict) → P (verdict_of_migrated bytes v)
+of_migrated P h bytes (Described d) = h.prints_ _
+of_migrated P h bytes (Breaks n item) = h.bad n item
+of_migrated P h bytes NoDocument = h.bad 0 0
+
 of_file_task : (P : Verdict → Type 0) → Holds P → (waves : List Wave) (t : FileTask) (first second : List NamedFile) → P (verdict_of_file_task waves t first second)
 of_file_task P h waves (file_task.Selftest script) first second = of_script P h built_in waves (bytes_of first script)
 of_file_task P h waves (file_task.Check d) first second =
@@ -221,6 +226,10 @@ of_file_task P h waves (file_task.Check d) first second =
 of_file_task P h waves (file_task.Replay d script) first second =
     of_file P (λ bytes. verdict_of_replay waves (bytes_of second script) (text_verdict (length waves) bytes)) (bytes_of first d) h.unread h.long
     (λ bytes. of_replay P h waves (bytes_of second script) (text_verdict (length waves) bytes))
+of_file_task P h waves (file_task.Load n) first second = h.prints_ _
+of_file_task P h waves (file_task.Migrate d) first second =
+    of_file P (λ bytes. verdict_of_migrated bytes (text_verdict (length waves) bytes)) (bytes_of first d) h.unread h.long
+    (λ bytes. of_migrated P h bytes (text_verdict (length waves) bytes))
 
 file_facts : (t : FileTask) (s : Status) (out out_new : SinkState) (wire wire_new : WireHistory)
     → Holds (λ v. EndsSo v s out out_new wire wire_new → Facts (Some (task.OfFiles t)) s out out_new wire wire_new)

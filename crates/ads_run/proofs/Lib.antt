@@ -1,9 +1,12 @@
-pub mod ToldLemmas
+mod ToldLemmas
 pub mod PlayLemmas
 pub mod PromiseLemmas
 pub mod ReadingLemmas
 pub mod ReadLemmas
 pub mod EndLemmas
 pub mod ServiceLemmas
+pub mod TaskLemmas
+pub mod MigrationLemmas
+pub mod LoadLemmas
 pub mod CauseLemmas
 pub mod SignalLemmas

@@ -12,6 +12,7 @@ use Rattle.ads_machine.specs.ScriptLine.{ScriptLine}
 use Rattle.ads_machine.specs.Summary.{summary_of}
 use Rattle.ads_machine.specs.SummaryText.{summary_text_of}
 use Rattle.ads_product.specs.Server.{server_start, server_text}
+use Rattle.ads_run.specs.Load.{counts_of_play}
 use Rattle.ads_served.specs.Standing.{Standing, standing_after_all}
 use Rattle.replay_script.specs.Playing.{IsUnused, IsPlay}
 use Rattle.replay_script.proofs.StandingPlayed.{state_played, notes_played}
@@ -42,3 +43,18 @@ text_played core new d waves lines log text serves counted none play told =
     ∙ (ap (λ (ns : List ReloadNote). log_text_of ns log ++ summary_text_of (summary_of y.running.state)) notes
     ∙ (ap (λ (s : MachineState World Client). log_text_of (notes_of served (server_start d waves) log) log ++ summary_text_of (summary_of s)) state
     ∙ ap (λ l. text_of_log served (server_start d waves) l) played.is))
+
+-- what the core's counts come to
+pub counts_played : (core new : CoreView) (d : Description) (waves : List Wave) (lines : List ScriptLine) (log : List Move) (text : _) → Serves core (started d waves) → HasCounts core (started d waves) → core.server.notes ≡ []
+    → ((x : Standing World Client) → StandsAt core x → IsUnused x → IsPlay served_step (notes_of_event served) (StandsAt new) x lines log)
+    → ((x : Standing World Client) → StandsAt new x → text ≡ summary_text_of (summary_of x.running.state))
+    → text ≡ counts_of_play d waves lines
+unfolding served counts_of_play
+counts_played core new d waves lines log text serves counted none play told =
+    let x = at_start d waves in
+    let played = play x (stands_at_start core d waves serves counted none) (start_unused d waves) in
+    let y = standing_after_all served_step (notes_of_event served) x log in
+    let state : y.running.state ≡ state_after served_step (server_start d waves) log = state_played served_step (notes_of_event served) x log in
+    told y played.stands
+    ∙ (ap (λ (s : MachineState World Client). summary_text_of (summary_of s)) state
+    ∙ ap (λ (l : List Move). summary_text_of (summary_of (state_after served_step (server_start d waves) l))) played.is)

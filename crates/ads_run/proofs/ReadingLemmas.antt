@@ -1,6 +1,6 @@
 -- What the readings of files decide.
 use Rattle.std.proofs.Common.{rules, ◌≡◌, ◌<◌, ◌≤◌, ℕ, List, [], ◌∷◌, Option, Some, None, Err, inl, inr, subst, ap, sym, ◌∙◌, refl, length, zero, suc, true, Bool, arith}
-use Rattle.std.specs.Prelude.{if◌then◌else◌, IsSomeAnd}
+use Rattle.std.specs.Prelude.{if◌then◌else◌, IsSomeAnd, IfOk, Result, Ok}
 use Rattle.std.specs.Str.{bytes_eq}
 use Rattle.std.proofs.lemmas.Bool.{le-ltb, lt-ltb}
 use Rattle.std.proofs.lemmas.Slice.Eq.{bytes_eq-Decides}
@@ -12,9 +12,12 @@ use Rattle.ads_outside.specs.Reads.{Reads}
 use Rattle.ads_outside.specs.Rose.{Rose}
 use Rattle.signals.specs.Wave.{Wave}
 use Rattle.ads_rules.specs.TextVerdict.{text_verdict}
+use Rattle.ads_base.specs.declared.no_memory.NoMemory.{NoMemory}
+use Rattle.ads_run.specs.declared.file_task.FileTask.{FileTask}
+use Rattle.ads_run.specs.declared.file_task.FileTask.TheVariants as file_task
 use Rattle.ads_run.specs.declared.outcome.Outcome.{Outcome}
 use Rattle.ads_run.specs.declared.status.Status.TheVariants as status
-use Rattle.ads_run.specs.Verdict.{Verdict, ended, verdict_of_file, verdict_of_replay}
+use Rattle.ads_run.specs.Verdict.{Verdict, ended, verdict_of_file, verdict_of_replay, verdict_of_load, verdict_of_file_task}
 use Rattle.ads_run.specs.Outcomes.{IsOutcome, Decides, HasBytes, IsLong, Finds}
 use Rattle.ads_run.specs.Readings.{OverFile, OverFiles}
 
@@ -138,3 +141,16 @@ decided_replay held mid_held waves script name bytes text old mid new o same is 
     decided_both held over name bytes (Rose old new) (Rose mid new) o (rose_from old mid new later) has
     (subst (λ (b : List ℕ). OverFile held (λ second. Decides (over second b) (Rose mid new) o)) is
     (subst (λ (h : Option (List NamedFile)). OverFile h (λ second. Decides (over second text) (Rose mid new) o)) same decided))
+
+-- what is decided whatever the files hold
+pub decided_alone : (held : Option (List NamedFile)) (verdict : Verdict) (failed : Type 0) (o : Outcome) → IsOutcome verdict o
+    → OverFiles held (λ first second. Decides verdict failed o)
+decided_alone None verdict failed o is = ([], [], inl is)
+decided_alone (Some files) verdict failed o is = inl is
+
+pub load_decided : (held : Option (List NamedFile)) (waves : List Wave) (t : FileTask) (n : ℕ) (failed : Type 0) (answer : Result Outcome NoMemory)
+    → t ≡ file_task.Load n → IfOk answer (IsOutcome (verdict_of_load waves n)) → IfOk answer (λ o. OverFiles held (λ first second. Decides (verdict_of_file_task waves t first second) failed o))
+load_decided held waves t n failed (Err e) is h = tt
+load_decided held waves t n failed (Ok o) is h =
+    let P : FileTask → Type 0 = λ u. OverFiles held (λ first second. Decides (verdict_of_file_task waves u first second) failed o) in
+    subst P (sym is) (decided_alone held (verdict_of_load waves n) failed o h)

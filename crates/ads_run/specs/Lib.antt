@@ -5,10 +5,13 @@ pub mod Tasks
 pub mod ProgramWaves
 pub mod Report
 pub mod Told
+pub mod Load
+pub mod Fits
 pub mod Promises
 pub mod Service
 pub mod Verdict
 pub mod Readings
+pub mod Migrated
 pub mod Prints
 pub mod Serving
 pub mod Ends

@@ -1,5 +1,5 @@
 -- Which files a run has read, and what they held.
-use Rattle.std.specs.Prelude.{◌≡◌, ◌⊎◌, ℕ, List, [], ◌∷◌, Option, Some, None}
+use Rattle.std.specs.Prelude.{◌≡◌, ◌⊎◌, ℕ, Bool, true, false, List, [], ◌∷◌, Option, Some, None}
 use Rattle.ads_outside.specs.declared.named_file.NamedFile.{NamedFile}
 use Rattle.ads_outside.specs.FilesState.{ReadsSome, ReadsAll}
 use Rattle.ads_run.specs.declared.file_task.FileTask.{FileTask}
@@ -50,6 +50,18 @@ abbrev pub ReadsFilesOf : FileTask → Status → Names → Names → Type 0
 ReadsFilesOf (file_task.Selftest script) s old new = ReadsOne s old new script
 ReadsFilesOf (file_task.Check description) s old new = ReadsOne s old new description
 ReadsFilesOf (file_task.Replay description script) s old new = ReadsBoth s old new description script
+ReadsFilesOf (file_task.Load n) s old new = ReadsAll old new []
+ReadsFilesOf (file_task.Migrate description) s old new = ReadsOne s old new description
+
+-- whether a task asks for no file
+abbrev pub asks_no_file : FileTask → Bool
+asks_no_file (file_task.Load n) = true
+asks_no_file t = false
+
+abbrev pub reads_no_file : Option Task → Bool
+reads_no_file None = true
+reads_no_file (Some (task.OfFiles t)) = asks_no_file t
+reads_no_file (Some (task.Serve description listen events)) = false
 
 abbrev pub ReadsFiles : Option Task → Status → Names → Names → Type 0
 ReadsFiles None s old new = ReadsAll old new []

@@ -9,6 +9,7 @@ use Rattle.ads_plant.specs.Description.{Description}
 use Rattle.ads_machine.specs.ScriptLine.{ScriptLine}
 use Rattle.ads_rules.specs.TextVerdict.{TextVerdict, Described, Breaks, NoDocument, text_verdict}
 use Rattle.ads_product.specs.Server.{server_script, server_text}
+use Rattle.description_migration.specs.Migration.{migrated_text}
 use Rattle.ads_run.specs.declared.file_task.FileTask.{FileTask}
 use Rattle.ads_run.specs.declared.file_task.FileTask.TheVariants as file_task
 use Rattle.ads_run.specs.declared.status.Status.{Status}
@@ -17,6 +18,7 @@ use Rattle.ads_run.specs.declared.task.Task.{Task}
 use Rattle.ads_run.specs.declared.task.Task.TheVariants as task
 use Rattle.ads_run.specs.BuiltIn.{built_in}
 use Rattle.ads_run.specs.Ending.{Ending, line_alone}
+use Rattle.ads_run.specs.Load.{load_text}
 use Rattle.ads_run.specs.Report.{report_of}
 use Rattle.ads_run.specs.Service.{Service}
 use Rattle.ads_run.specs.Tasks.{asked_task}
@@ -63,6 +65,19 @@ verdict_of_replay waves script NoDocument = ended (status.BadDescription 0 0)
 abbrev pub verdict_of_check : ℕ → List ℕ → Verdict
 verdict_of_check signals bytes = verdict_of_description (text_verdict signals bytes)
 
+-- what is wrong with the description; where nothing is, its text under schema 2
+abbrev pub verdict_of_migrated : List ℕ → TextVerdict → Verdict
+verdict_of_migrated bytes (Described d) = prints (migrated_text bytes)
+verdict_of_migrated bytes (Breaks number item) = ended (status.BadDescription number item)
+verdict_of_migrated bytes NoDocument = ended (status.BadDescription 0 0)
+
+abbrev pub verdict_of_migrate : ℕ → List ℕ → Verdict
+verdict_of_migrate signals bytes = verdict_of_migrated bytes (text_verdict signals bytes)
+
+-- the counts of the load of n
+abbrev pub verdict_of_load : List Wave → ℕ → Verdict
+verdict_of_load waves n = prints (load_text waves n)
+
 -- what is wrong with the description; where nothing is, it is served
 abbrev pub verdict_of_served : Listening → List Wave → ℕ → TextVerdict → Verdict
 verdict_of_served start waves limit (Described d) =
@@ -85,6 +100,9 @@ verdict_of_file_task waves (file_task.Check description) first second =
 verdict_of_file_task waves (file_task.Replay description script) first second =
     verdict_of_file (λ bytes. verdict_of_replay waves (bytes_of second script) (text_verdict (length waves) bytes))
     (bytes_of first description)
+verdict_of_file_task waves (file_task.Load n) first second = verdict_of_load waves n
+verdict_of_file_task waves (file_task.Migrate description) first second =
+    verdict_of_file (verdict_of_migrate (length waves)) (bytes_of first description)
 
 -- words that are no command are told so
 abbrev pub verdict_of_task : List Wave → Option Task → List NamedFile → List NamedFile → Verdict

@@ -1,20 +1,24 @@
 //! What a task leads to that asks its files alone.
 
-ghost use Rattle.std.specs.Prelude.{◌<◌, ◌^◌, ◌≡◌, ◌∷◌, [], length, IfOk, OnErr};
+ghost use Rattle.std.specs.Prelude.{◌<◌, ◌^◌, ◌≡◌, ◌∷◌, [], length, true, IfOk, OnErr};
 ghost use Rattle.ads_outside.specs.FilesState.{ReadsAll, ReadsSome};
 ghost use Rattle.ads_outside.specs.Named.{bytes_of};
 ghost use Rattle.ads_outside.specs.Rose.{Rose};
 ghost use Rattle.ads_outside.specs.WireState.{WireHistory};
 ghost use Rattle.ads_run.specs.BuiltIn.{built_in};
 ghost use Rattle.ads_run.specs.Ends.{EndsBy};
+ghost use Rattle.ads_run.specs.Fits.{FitsFileTask};
+ghost use Rattle.ads_run.specs.Migrated.{HasMigratedFile, IsMigrationOf};
 ghost use Rattle.ads_run.specs.Verdict.{verdict_of_file_task, verdict_of_file, verdict_of_script, verdict_of_check};
-ghost use Rattle.ads_run.specs.Readings.{OverFile, OverFiles, ReadsFilesOf};
+ghost use Rattle.ads_run.specs.Readings.{OverFile, OverFiles, ReadsFilesOf, asks_no_file};
 ghost use Rattle.ads_run.specs.Outcomes.{Decides, IsOfFileTask};
 
 use crate::check::check;
 use crate::ending::{end_without_memory, print_and_end};
 use crate::file::bytes_of_file;
 use crate::file_task::FileTask;
+use crate::load::load;
+use crate::migrate::migrate_file;
 use crate::outcome::Outcome;
 use crate::replay::replay;
 use crate::selftest::selftest;
@@ -36,12 +40,15 @@ pub fn print_file_task<T: Threads + Sync, F: Files, S: Sink, G: Sources>(
     signals: G,
 ) -> Status
     requires few { length (G.waves signals) < 2 ^ 32 }
+    requires fits { FitsFileTask task.now }
     ensures ends { (wire : WireHistory) → OverFiles (F.state files.old).held (λ first second.
         EndsBy (verdict_of_file_task (G.waves signals) task.now first second)
         (Rose (F.state files.old).faults (F.state files.new).faults) result (S.state out.old) (S.state out.new) wire wire) }
     ensures reads { ReadsFilesOf task.now result (F.state files.old).names (F.state files.new).names }
     ensures held { (F.state files.new).held ≡ (F.state files.old).held }
     ensures read_fault { result ≡ Status.ReadFault → Rose (F.state files.old).faults (F.state files.new).faults }
+    ensures migrated { HasMigratedFile (length (G.waves signals)) task.now result (F.state files.old).held (S.state out.old) (S.state out.new) }
+    ensures unread { asks_no_file task.now ≡ true → files.new ≡ files.old }
 {
     match outcome_of_task(rt, alloc, task, signals, files) {
         Ok(outcome) => print_and_end(out, outcome.text.as_slice(), outcome.status),
@@ -58,6 +65,7 @@ fn outcome_of_task<T: Threads + Sync, F: Files, G: Sources>(
     files: &mut F,
 ) -> Result<Outcome, NoMemory>
     requires few { length (G.waves signals) < 2 ^ 32 }
+    requires fits { FitsFileTask task.now }
     ensures plain { IfOk result (λ o. IsOfFileTask o.status) }
     ensures decided { IfOk result (λ o. OverFiles (F.state files.old).held (λ first second.
         Decides (verdict_of_file_task (G.waves signals) task.now first second)
@@ -67,6 +75,8 @@ fn outcome_of_task<T: Threads + Sync, F: Files, G: Sources>(
     ensures fault { IfOk result (λ o. o.status ≡ Status.ReadFault
         → Rose (F.state files.old).faults (F.state files.new).faults) }
     ensures held { (F.state files.new).held ≡ (F.state files.old).held }
+    ensures migrated { IfOk result (λ o. IsMigrationOf (length (G.waves signals)) task.now o.status (F.state files.old).held o.text) }
+    ensures unread { asks_no_file task.now ≡ true → files.new ≡ files.old }
 {
     match task {
         FileTask::Selftest { script } => selftest_file(rt, alloc, script, signals, files),
@@ -80,6 +90,13 @@ fn outcome_of_task<T: Threads + Sync, F: Files, G: Sources>(
             description,
             script,
         } => replay(rt, alloc, description, script, signals, files),
+        FileTask::Load { n } => load(rt, alloc, *n as u32, signals),
+        FileTask::Migrate { description } => migrate_file(
+            alloc,
+            description,
+            signals.count() as u32,
+            files,
+        ),
     }
 }
 

@@ -9,6 +9,8 @@ mod file;
 mod file_task;
 mod last_line;
 mod laws;
+mod load;
+mod migrate;
 mod outcome;
 mod play;
 mod program;

@@ -7,6 +7,7 @@ ghost use Rattle.ads_machine.specs.Summary.{summary_of};
 ghost use Rattle.ads_machine.specs.SummaryText.{summary_text_of};
 ghost use Rattle.type_layout.specs.Descriptions.{description_of};
 ghost use Rattle.ads_product.specs.Server.{server_text};
+ghost use Rattle.ads_run.specs.Load.{counts_of_play};
 ghost use Rattle.ads_served.specs.Standing.{Standing};
 ghost use Rattle.replay_script.specs.Fresh.{OpenNew};
 ghost use Rattle.server_core.specs.Served.{World, Client};
@@ -37,6 +38,35 @@ pub fn play<T: Threads + Sync, G: Sources>(
     let mut core = Core::build(alloc, description, signals)?;
     let log = replay_script::play(rt, alloc, &mut core, script)?;
     let text = text_of(alloc, &core, &log)?;
+    Ok(text)
+}
+
+/// The summary line of a script's play.
+pub fn play_counts<T: Threads + Sync, G: Sources>(
+    rt: &T,
+    alloc: Global,
+    description: Description,
+    signals: G,
+    script: Script,
+) -> Result<Octets, NoMemory>
+    requires new { OpenNew [] script }
+    requires few { length (G.waves signals) < 2 ^ 32 }
+    requires accepted { IsAccepted (description_of description) (length (G.waves signals)) }
+    ensures { IfOk result (λ text. text ≡ counts_of_play (description_of description) (G.waves signals) script) }
+{
+    let mut core = Core::build(alloc, description, signals)?;
+    let _log = replay_script::play(rt, alloc, &mut core, script)?;
+    let text = counts_text(alloc, &core)?;
+    Ok(text)
+}
+
+// The summary line of a core.
+fn counts_text<S: Sources>(alloc: Global, core: &Core<S>) -> Result<Octets, NoMemory>
+    ensures { IfOk result (λ text. (x : Standing World Client) → StandsAt core.now x
+        → text ≡ summary_text_of (summary_of x.running.state)) }
+{
+    let mut text = Octets::new(alloc);
+    put_summary(alloc, core, &mut text)?;
     Ok(text)
 }
 

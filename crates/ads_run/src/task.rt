@@ -1,7 +1,8 @@
 //! What the words ask for.
 
 ghost use Rattle.std.specs.Prelude.{◌≡◌, map, string_bytes, IfOk};
-ghost use Rattle.ads_run.specs.Tasks.{task_of_command, asked_task};
+ghost use Rattle.ads_run.specs.Tasks.{task_of_command, task_of_load, asked_task};
+ghost use Rattle.ads_run.specs.Fits.{FitsTask};
 
 use crate::file_task::FileTask;
 use ads_base::NoMemory;
@@ -23,7 +24,8 @@ pub enum Task {
 
 /// The task that the words ask for; none where they are no command that is built.
 pub fn task_asked(alloc: Global, words: &[String]) -> Result<Option<Task>, NoMemory>
-    ensures { IfOk result (λ task. task ≡ asked_task (map string_bytes words.now)) }
+    ensures asked { IfOk result (λ task. task ≡ asked_task (map string_bytes words.now)) }
+    ensures fits { IfOk result (λ task. FitsTask task) }
 {
     let command = read_words(alloc, words)?;
     Ok(task_of(command))
@@ -47,6 +49,10 @@ fn task_of(command: Option<Command>) -> Option<Task>
             description,
             script,
         })),
+        Some(Command::Load { n }) => task_of_load(n),
+        Some(Command::Migrate { description }) => {
+            Some(Task::OfFiles(FileTask::Migrate { description }))
+        }
         Some(
             Command::Serve {
                 description,
@@ -59,5 +65,15 @@ fn task_of(command: Option<Command>) -> Option<Task>
             events,
         }),
         _ => None,
+    }
+}
+
+fn task_of_load(n: u64) -> Option<Task>
+    ensures { result ≡ task_of_load n }
+{
+    if n <= 100_000 {
+        Some(Task::OfFiles(FileTask::Load { n }))
+    } else {
+        None
     }
 }

@@ -1,15 +1,17 @@
 //! The top call: a command, from its words to its status.
 
-ghost use Rattle.std.specs.Prelude.{◌<◌, ◌^◌, ◌≡◌, ◌≢◌, length, List, ℕ, None, Some, false, map, string_bytes};
+ghost use Rattle.std.specs.Prelude.{◌<◌, ◌^◌, ◌≡◌, ◌≢◌, length, List, ℕ, None, Some, true, false, map, string_bytes};
 ghost use Rattle.ads_outside.specs.Rose.{Rose};
 ghost use Rattle.ads_plant.specs.Description as plant;
 ghost use Rattle.ads_machine.specs.ScriptLine.{ScriptLine};
 ghost use Rattle.ads_run.specs.Causes.{HasCause, IsBeforeRun, IsOwnEnd, NothingFailed, is_service};
 ghost use Rattle.ads_run.specs.Ending.{line_alone};
 ghost use Rattle.ads_run.specs.Ends.{EndsBy};
+ghost use Rattle.ads_run.specs.Fits.{FitsTask};
+ghost use Rattle.ads_run.specs.Migrated.{HasMigrated};
 ghost use Rattle.ads_run.specs.Prints.{PrintsEnding};
 ghost use Rattle.ads_run.specs.Promises.{PlayKeepsPromises};
-ghost use Rattle.ads_run.specs.Readings.{OverFiles, ReadsFiles};
+ghost use Rattle.ads_run.specs.Readings.{OverFiles, ReadsFiles, reads_no_file};
 ghost use Rattle.ads_run.specs.Tasks.{asked_task};
 ghost use Rattle.ads_run.specs.Verdict.{verdict_of, verdict_of_task};
 
@@ -65,7 +67,7 @@ pub fn run<T: Threads + Sync, F: Files, W: Wire, S: Sink, G: Sources>(
     ensures usage { result ≡ Status.Usage → asked_task (map string_bytes words.now) ≡ None }
     ensures no_command { asked_task (map string_bytes words.now) ≡ None
         → PrintsEnding (line_alone Status.Usage) result (S.state out.old) (S.state out.new) }
-    ensures unread { asked_task (map string_bytes words.now) ≡ None → files.new ≡ files.old }
+    ensures unread { reads_no_file (asked_task (map string_bytes words.now)) ≡ true → files.new ≡ files.old }
 
     // The files that are read are those of the command, and stay as they are.
     ensures reads { ReadsFiles (asked_task (map string_bytes words.now)) result
@@ -87,6 +89,10 @@ pub fn run<T: Threads + Sync, F: Files, W: Wire, S: Sink, G: Sources>(
         (W.state wire.old).history (W.state wire.new).history
         → OverFiles (F.state files.old).held (λ first second.
         IsOwnEnd (verdict_of (G.waves signals) (map string_bytes words.now) first second) result) }
+
+    // What `migrate` prints where it is done: the description under schema 2, of which the rules say the same.
+    ensures migrated { HasMigrated (length (G.waves signals)) (asked_task (map string_bytes words.now)) result
+        (F.state files.old).held (S.state out.old) (S.state out.new) }
 
     // What the log of a played script promises, whose text is printed: over any description, with these signals.
     ensures promises { (d : plant.Description) (lines : List ScriptLine) → PlayKeepsPromises d (G.waves signals) lines }
@@ -112,13 +118,15 @@ fn run_words<T: Threads + Sync, F: Files, W: Wire, S: Sink, G: Sources>(
         (W.state wire.old).history (W.state wire.new).history) }
     ensures no_command { asked_task (map string_bytes words.now) ≡ None
         → PrintsEnding (line_alone Status.Usage) result (S.state out.old) (S.state out.new) }
-    ensures unread { asked_task (map string_bytes words.now) ≡ None → files.new ≡ files.old }
+    ensures unread { reads_no_file (asked_task (map string_bytes words.now)) ≡ true → files.new ≡ files.old }
     ensures reads { ReadsFiles (asked_task (map string_bytes words.now)) result
         (F.state files.old).names (F.state files.new).names }
     ensures held { (F.state files.new).held ≡ (F.state files.old).held }
     ensures no_wire { is_service (asked_task (map string_bytes words.now)) ≡ false → wire.new ≡ wire.old }
     ensures before_run { IsBeforeRun result → wire.new ≡ wire.old }
     ensures read_fault { result ≡ Status.ReadFault → Rose (F.state files.old).faults (F.state files.new).faults }
+    ensures migrated { HasMigrated (length (G.waves signals)) (asked_task (map string_bytes words.now)) result
+        (F.state files.old).held (S.state out.old) (S.state out.new) }
 {
     match task_asked(alloc, words) {
         Ok(Some(task)) => run_task(rt, alloc, &task, files, wire, out, signals),
@@ -138,6 +146,7 @@ fn run_task<T: Threads + Sync, F: Files, W: Wire, S: Sink, G: Sources>(
     signals: G,
 ) -> Status
     requires signals { length (G.waves signals) < 2 ^ 32 }
+    requires fits { FitsTask (Some task.now) }
     ensures ends { OverFiles (F.state files.old).held (λ first second.
         EndsBy (verdict_of_task (G.waves signals) (Some task.now) first second)
         (Rose (F.state files.old).faults (F.state files.new).faults) result (S.state out.old) (S.state out.new)
@@ -147,6 +156,9 @@ fn run_task<T: Threads + Sync, F: Files, W: Wire, S: Sink, G: Sources>(
     ensures no_wire { is_service (Some task.now) ≡ false → wire.new ≡ wire.old }
     ensures before_run { IsBeforeRun result → wire.new ≡ wire.old }
     ensures read_fault { result ≡ Status.ReadFault → Rose (F.state files.old).faults (F.state files.new).faults }
+    ensures migrated { HasMigrated (length (G.waves signals)) (Some task.now) result
+        (F.state files.old).held (S.state out.old) (S.state out.new) }
+    ensures unread { reads_no_file (Some task.now) ≡ true → files.new ≡ files.old }
 {
     match task {
         Task::OfFiles(task) => print_file_task(rt, alloc, task, files, out, signals),
