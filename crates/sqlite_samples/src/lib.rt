@@ -1,0 +1,8 @@
+//! Recorded samples in an SQLite file.
+#![tactic(auto)]
+
+mod sqlite_keeper;
+mod statements;
+mod tables;
+
+pub use sqlite_keeper::SqliteKeeper;
