@@ -37,6 +37,9 @@ RUNS = {
     "the report of a description": ["check", "plant.toml"],
     "a description under schema 2": ["migrate", "plant.toml"],
     "a load of 20 requests": ["load", "20"],
+    **{f"a client in the same process: {said}": [*words, "--local", "plant.toml", "--me", "192.168.0.9.1.1"] for said, words in {
+        "a value": ["get", "Main.title"], "a value that is set": ["set", "Main.count", "7"], "a list": ["list"],
+        "three samples": ["watch", "Main.wave", "--mode", "change", "--cycle", "0", "--count", "3"], "a refusal": ["get", "Main.nope"]}.items()},
     "a description that is refused": ["check", "overlap.toml"],
     "words that are no command": ["replay"],
 }
