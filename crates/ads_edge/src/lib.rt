@@ -14,8 +14,6 @@ mod real_sink;
 mod real_wire;
 mod sockets;
 mod stage;
-#[cfg(test)]
-mod tests;
 mod tick_clock;
 mod turn;
 

@@ -116,13 +116,18 @@ impl<R: Net + Clock + Drop> Link for RealLink<R> {
 fn connected<R: Net>(rt: &R, to: &str) -> Option<R::Stream> {
     let address = address_of(to)?;
     let patience = Duration::from_secs(PATIENCE_SECS);
-    let stream = TcpStream::connect_timeout(rt, &address, patience).ok()?;
-    stream.set_nodelay(true).ok()?;
-    stream
-        .set_read_timeout(Some(Duration::from_millis(QUIET_MILLIS)))
-        .ok()?;
-    stream.set_write_timeout(Some(patience)).ok()?;
-    Some(stream)
+    match TcpStream::connect_timeout(rt, &address, patience) {
+        Ok(stream) => set_up(stream, patience),
+        Err(_) => None,
+    }
+}
+
+fn set_up<S: OpenStream + Drop>(stream: S, patience: Duration) -> Option<S> {
+    let quiet = Duration::from_millis(QUIET_MILLIS);
+    let is_set_up = stream.set_nodelay(true).is_ok()
+        && stream.set_read_timeout(Some(quiet)).is_ok()
+        && stream.set_write_timeout(Some(patience)).is_ok();
+    if is_set_up { Some(stream) } else { None }
 }
 
 // This moment, or the last one where the clock stands before it.

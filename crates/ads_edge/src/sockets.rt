@@ -220,14 +220,6 @@ impl Sockets {
     }
 }
 
-#[cfg(test)]
-impl Sockets {
-    /// The port at which it listens.
-    pub(crate) fn port(&self) -> Option<u16> {
-        Some(self.listener.local_addr().ok()?.port())
-    }
-}
-
 impl Drop for Sockets {
     // What was taken is still sent.
     fn drop(mut self) {
@@ -249,12 +241,21 @@ impl Drop for Sockets {
 // A poll, and a socket that listens there and is polled.
 fn listening<R: Net>(rt: &R, listen: &str) -> Option<(Poll, TcpListener)> {
     let address = address_of(listen)?;
+    match TcpListener::bind(rt, address) {
+        Ok(listener) => polled(rt, listener),
+        Err(_) => None,
+    }
+}
+
+fn polled<R: Net>(rt: &R, mut listener: TcpListener) -> Option<(Poll, TcpListener)> {
     let poll = Poll::new(rt).ok()?;
-    let mut listener = TcpListener::bind(rt, address).ok()?;
-    poll.registry()
-        .register(&mut listener, DOOR, Interest::READABLE)
-        .ok()?;
-    Some((poll, listener))
+    let registered = poll
+        .registry()
+        .register(&mut listener, DOOR, Interest::READABLE);
+    match registered {
+        Ok(()) => Some((poll, listener)),
+        Err(_) => None,
+    }
 }
 
 // Notes what a poll told; true where someone may wait to be accepted.

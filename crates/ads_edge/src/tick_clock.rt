@@ -18,7 +18,7 @@ impl TickClock {
     /// A clock that strikes 10 ms after this time.
     pub(crate) fn new(now: Instant) -> TickClock {
         TickClock {
-            due: later(now, Duration::from_millis(TICK_MILLIS)),
+            due: beat_after(now),
         }
     }
 
@@ -27,12 +27,8 @@ impl TickClock {
         if now < self.due {
             return false;
         }
-        let next = later(self.due, Duration::from_millis(TICK_MILLIS));
-        self.due = if now < next {
-            next
-        } else {
-            later(now, Duration::from_millis(TICK_MILLIS))
-        };
+        let next = beat_after(self.due);
+        self.due = if now < next { next } else { beat_after(now) };
         true
     }
 
@@ -40,6 +36,11 @@ impl TickClock {
     pub(crate) fn left(&self, now: Instant) -> Duration {
         self.due.duration_since(now)
     }
+}
+
+// A beat after this time.
+fn beat_after(time: Instant) -> Instant {
+    later(time, Duration::from_millis(TICK_MILLIS))
 }
 
 /// A time that comes so much later.

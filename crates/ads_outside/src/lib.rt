@@ -27,13 +27,12 @@ mod sent;
 mod shut;
 mod sink;
 mod started;
-#[cfg(test)]
-mod tests;
 mod wire;
 
 pub use connected::Connected;
 pub use end::End;
 pub use event::Event;
+pub use failing::Failing;
 pub use files::Files;
 pub use got::Got;
 pub use link::Link;

@@ -3,8 +3,7 @@
 ghost use Rattle.std.specs.Prelude.{◌≡◌, ◌≢◌, ◌≤◌, [], ◌∷◌, ◌++◌, Some, OnOk, OnErr};
 ghost use Rattle.std.specs.Option.{option_copied};
 
-use crate::failing::Failing;
-use crate::{Files, Got, NamedFiles};
+use crate::{Failing, Files, Got, NamedFiles};
 use ads_base::{Calls, ListOf, NoMemory, Octets};
 use std::alloc::Global;
 use std::marker::Model;

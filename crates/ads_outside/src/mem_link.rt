@@ -4,9 +4,8 @@ ghost use Rattle.std.specs.Prelude.{◌≡◌, ◌≢◌, ◌≤◌, ◌<◌, �
 ghost use Rattle.ads_outside.specs.MemLink.{moment_of, piece_of, received_as, size_of, bytes_in, Fits};
 ghost use Rattle.ads_outside.specs.declared.received.Received.TheVariants as received;
 
-use crate::failing::Failing;
 use crate::{
-    Connected, Link, LinkCounts, LinkEvent, LinkEvents, LinkLog, LinkMove, Received, Sent,
+    Connected, Failing, Link, LinkCounts, LinkEvent, LinkEvents, LinkLog, LinkMove, Received, Sent,
 };
 use ads_base::{Calls, NoMemory, Octets};
 use std::alloc::Global;

@@ -2,8 +2,7 @@
 
 ghost use Rattle.std.specs.Prelude.{◌≡◌, ◌≢◌, ◌≤◌, ◌<◌, [], Some, length, take};
 
-use crate::failing::Failing;
-use crate::{Put, Sink};
+use crate::{Failing, Put, Sink};
 use ads_base::{Calls, NoMemory, Octets};
 use std::alloc::Global;
 use std::marker::Model;

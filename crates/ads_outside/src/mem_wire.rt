@@ -1,9 +1,8 @@
 //! A wire in memory, for tests.
 
-ghost use Rattle.std.specs.Prelude.{◌≡◌, ◌≢◌, ◌≤◌, ◌<◌, ◌^◌, ◌+◌, ◌∷◌, [], ◌++◌, length, take, slice_get, IsTrue, OnOk, OnErr};
+ghost use Rattle.std.specs.Prelude.{◌≡◌, ◌≢◌, ◌≤◌, ◌<◌, ◌^◌, ◌+◌, ◌∷◌, [], ◌++◌, length, take, slice_get, IsTrue, IfOk, OnOk, OnErr};
 
-use crate::failing::Failing;
-use crate::{Event, Listening, Log, Move, Next, Offer, Shut, Started, Wire};
+use crate::{Event, Failing, Listening, Log, Move, Next, Offer, Shut, Started, Wire};
 use ads_base::{Calls, ListOf, NoMemory, Octets};
 use std::alloc::Global;
 use std::marker::Model;
@@ -99,7 +98,7 @@ impl MemWire {
 }
 
 impl MemWire {
-    ghost use Rattle.std.specs.Prelude.{IfOk, IfSome};
+    ghost use Rattle.std.specs.Prelude.{IfSome};
     ghost use Rattle.ads_outside.specs.Opened.{is_new, opened_in, opened_by_move};
     ghost use Rattle.ads_outside.specs.MemWire.{given_to};
     ghost use Rattle.ads_outside.specs.FailingCalls.{faulted};
@@ -113,14 +112,7 @@ impl MemWire {
         }) }
         ensures no_memory { OnErr result (self.new ≡ self.old) }
     {
-        let listen = Octets::copy_of(self.alloc, listen.as_bytes())?;
-        let name = Octets::copy_of(self.alloc, name.as_bytes())?;
-        let first = Octets::copy_of(self.alloc, first)?;
-        let start = Listening {
-            listen,
-            name,
-            first,
-        };
+        let start = listening(self.alloc, listen, name, first)?;
         self.starts.push(self.alloc, start)?;
         Ok(())
     }
@@ -147,9 +139,12 @@ impl MemWire {
         ensures event { IfOk result (λ event. event ≡ slice_get self.now.events self.now.given) }
         ensures small { IfOk result (λ event. IfSome event (λ e. self.now.given + 1 < 2 ^ 64)) }
     {
-        match self.events.as_slice().get(self.given) {
-            Some(event) => Ok(Some(event.copy(self.alloc)?)),
-            None => Ok(None),
+        let Some(event) = self.events.as_slice().get(self.given) else {
+            return Ok(None);
+        };
+        match event.copy(self.alloc) {
+            Ok(event) => Ok(Some(event)),
+            Err(e) => Err(e),
         }
     }
 
@@ -183,6 +178,17 @@ impl MemWire {
         self.failing.fault();
         self.stops = self.stops.saturating_add(1);
     }
+}
+
+// What a wire is started with.
+fn listening(alloc: Global, listen: &str, name: &str, first: &[u8]) -> Result<Listening, NoMemory>
+    ensures { IfOk result (λ a. a ≡ record { listen = listen.now; name = name.now; first = first.now }) }
+{
+    Ok(Listening {
+        listen: Octets::copy_of(alloc, listen.as_bytes())?,
+        name: Octets::copy_of(alloc, name.as_bytes())?,
+        first: Octets::copy_of(alloc, first)?,
+    })
 }
 
 impl Wire for MemWire {

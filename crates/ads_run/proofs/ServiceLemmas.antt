@@ -1,5 +1,5 @@
 -- What a run of the loop over a core makes of a service.
-use Rattle.std.proofs.Common.{◌≡◌, ◌≢◌, ◌<◌, ◌≤◌, ℕ, List, [], ◌∷◌, ◌++◌, Option, Some, None, inl, inr, subst, ap, sym, ◌∙◌, refl, arith}
+use Rattle.std.proofs.Common.{◌≡◌, ◌≢◌, ◌<◌, ◌≤◌, ℕ, List, Option, Some, None, inl, inr, subst, ap, sym, ◌∙◌, refl, arith}
 use Rattle.std.specs.Prelude.{◌⊎◌, Result, Err, length}
 use Rattle.signals.specs.Wave.{Wave}
 use Rattle.ads_outside.specs.declared.end.End.{End}
@@ -14,7 +14,6 @@ use Rattle.ads_plant.specs.Description.{Description}
 use Rattle.ads_machine.specs.Connection.{connection_of}
 use Rattle.ads_machine.specs.Delivery.{AreOffers}
 use Rattle.ads_machine.specs.MachineState.{MachineState}
-use Rattle.ads_machine.specs.Moves.{state_after}
 use Rattle.ads_machine.specs.RunText.{notes_of_event}
 use Rattle.ads_machine.specs.Turns.{KeepsTurns}
 use Rattle.ads_rules.specs.TextVerdict.{TextVerdict, Described, text_verdict}
@@ -26,7 +25,7 @@ use Rattle.ads_product.specs.Server.{server, server_start, server_after}
 use Rattle.ads_served.specs.Standing.{Standing, standing_after_all}
 use Rattle.replay_script.proofs.StandingPlayed.{state_played}
 use Rattle.serve_loop.specs.Leads.{events_in}
-use Rattle.serve_loop.specs.TurnTaken.{StandsOver, AreTurnsOf, TakesTurns, AfterServe}
+use Rattle.serve_loop.specs.TurnTaken.{StandsOver, AreTurnsOf, AfterServe}
 use Rattle.serve_loop.proofs.EndLemmas.{log-after}
 use Rattle.serve_loop.proofs.TurnLemmas.{stops-after}
 use Rattle.server_core.specs.Served.{World, Client, served, served_step}
@@ -34,11 +33,10 @@ use Rattle.server_core.specs.Serves.{CoreView, StandsAt}
 use Rattle.server_core.specs.CoreState.{started}
 use Rattle.ads_run.specs.declared.status.Status.{Status}
 use Rattle.ads_run.specs.declared.status.Status.TheVariants as status
-use Rattle.ads_run.specs.Ending.{Ending, line_alone}
+use Rattle.ads_run.specs.Ending.{line_alone}
 use Rattle.ads_run.specs.Ends.{EndsSo}
 use Rattle.ads_run.specs.Outcomes.{at_start, status_of_fault}
 use Rattle.ads_run.specs.Prints.{PutsMemoryLine, PrintsEnding}
-use Rattle.ads_run.specs.Promises.{KeepsPromises, KeepsPromisesSoFar}
 use Rattle.ads_run.specs.Service.{Service, counts_and_line, state_after_moves}
 use Rattle.ads_run.specs.Verdict.{verdict_of_served, verdict_of_serve}
 use Rattle.ads_run.specs.Serving.{StopsBehind, AddsToLog, MakesMoves, RunsService, TellsAndRuns, CannotTell, EndsService}

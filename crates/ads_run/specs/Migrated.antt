@@ -1,5 +1,5 @@
 -- What `migrate` leaves in the sink that is done: the description of its file under schema 2.
-use Rattle.std.specs.Prelude.{◌≡◌, ℕ, List, Option, Some, None}
+use Rattle.std.specs.Prelude.{◌≡◌, ℕ, List, Option, Some}
 use Rattle.ads_outside.specs.declared.named_file.NamedFile.{NamedFile}
 use Rattle.ads_outside.specs.declared.put.Put.TheVariants as put
 use Rattle.ads_outside.specs.Named.{bytes_of}

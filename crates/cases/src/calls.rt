@@ -12,6 +12,7 @@ mod layout;
 mod names;
 mod notes;
 mod notifications;
+mod outside;
 mod paths;
 mod payloads;
 mod places;
@@ -62,6 +63,7 @@ fn of_library(
     match library {
         "ads_base" => base::make(alloc, call, args, answer),
         "ads_commands" => payloads::make(alloc, call, args, answer),
+        "ads_outside" => outside::make(alloc, call, args, answer),
         "ams_header" => header::make(call, args, answer),
         "ams_tcp" => frames::make(alloc, &mut objects.splitter, call, args, answer),
         "cli_words" => words::make(alloc, call, args, answer),

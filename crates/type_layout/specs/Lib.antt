@@ -7,3 +7,4 @@ pub mod Spelled
 pub mod ReadTexts
 pub mod Dimensions
 pub mod SameShapes
+pub mod Forms

@@ -95,7 +95,11 @@ fn name_at(types: &[NamedType], place: u16) -> &[u8]
 }
 
 // After want of memory a part of the text may stand there.
-fn append_bounds(alloc: Global, bounds: &[Bound], out: &mut Octets) -> Result<(), NoMemory>
+pub(crate) fn append_bounds(
+    alloc: Global,
+    bounds: &[Bound],
+    out: &mut Octets,
+) -> Result<(), NoMemory>
     ensures ok { OnOk result (out.new
         ≡ out.old ++ joined_by_comma (map bound_text (bounds_of bounds.now))) }
     ensures no_memory { OnErr result (Extends out.old out.new) }

@@ -1,6 +1,4 @@
 -- A load is decided whatever the files hold.
-use Rattle.ads_outside.specs.Rose.{Rose}
-use Rattle.ads_run.specs.Verdict.{verdict_of_file_task}
 use Rattle.ads_run.proofs.ReadingLemmas.{load_decided}
 use Rattle.ads_run.proofs.commands.outcome_of_task.Goals as goal
 

@@ -1,0 +1,394 @@
+#!/usr/bin/env python3
+"""Writes the hostile runs of the program `cases_run`: what no well-behaved client sends, with what the model of the protocol (bench/model.py) says must come;
+and runs over the two descriptions that docs/FORMATS.md shows.
+
+    python3 bench/hostile.py        writes crates/cases_run/data/hostile_*.runs, shown.runs and shown_*.toml, and says how many runs each has
+
+What must come is computed from the protocol alone, never from what the program prints.
+"""
+import itertools
+import os
+import re
+import sys
+import tomllib
+
+HERE = os.path.dirname(os.path.abspath(__file__))
+sys.path.insert(0, HERE)
+import model  # noqa: E402
+from model import u16, u32  # noqa: E402
+
+DATA = os.path.join(HERE, "..", "crates", "cases_run", "data")
+SIGNALS = [list(range(1000)), [0] * 10 + [1] * 10, [3, 1, 4, 1, 5, 9, 2, 6]]
+NET, ME, OTHER = "5.1.2.3.1.1", "192.168.0.9.1.1", "192.168.0.10.1.1"
+
+
+def described(name):
+    with open(os.path.join(DATA, name), "rb") as it:
+        return tomllib.load(it)
+
+
+PLANT, PLANT2 = described("plant.toml"), described("plant2.toml")
+
+
+def frame(command, number, payload, *, source=ME, net=NET, port=851, flags=4, length=None, head=None, reserved=0):
+    ams = model.net_of(net) + u16(port) + model.net_of(source) + u16(32905) + u16(command) + u16(flags)
+    ams += u32(len(payload) if length is None else length) + u32(0) + u32(number) + payload
+    return u16(reserved) + u32(len(ams) if head is None else head) + ams
+
+
+def read(number, group, at, some):
+    return frame(2, number, u32(group) + u32(at) + u32(some))
+
+
+def write(number, group, at, given, **other):
+    return frame(3, number, u32(group) + u32(at) + u32(len(given)) + given, **other)
+
+
+def ask(number, group, at, most, given):
+    return frame(9, number, u32(group) + u32(at) + u32(most) + u32(len(given)) + given)
+
+
+def add(number, group, at, some, mode=4, cycle=0):
+    return frame(6, number, u32(group) + u32(at) + u32(some) + u32(mode) + u32(0) + u32(cycle) + bytes(16))
+
+
+def state(number):
+    return frame(4, number, b"")
+
+
+# Runs as text.
+
+
+def lines_of(event, plants):
+    if event[0] == "bytes":
+        return [f"| bytes {event[1]} {event[2].hex()}"]
+    if event[0] == "reload":
+        return ["| reload", f"from {plants}", "| ."]
+    return ["| " + " ".join(map(str, event))]
+
+
+def replay(said, events, plants="plant2.toml"):
+    """A run of `replay` over the plant: a comment and events."""
+    script = [line for event in events for line in lines_of(event, plants)]
+    came = model.play(PLANT, SIGNALS, events)
+    head = [f"# {line}" for line in said.splitlines()] + ["words replay plant.toml it.script", "file plant.toml", "from plant.toml", "file it.script"]
+    return "\n".join(head + script + ["status 0", "out"] + [f"| {line}" for line in came.splitlines()]) + "\n"
+
+
+def asked(said, *frames):
+    """One connection that sends these frames, each in a piece of its own, and then asks for the state."""
+    return replay(said, [("open", 1)] + [("bytes", 1, it) for it in frames] + [("bytes", 1, state(99))])
+
+
+# Frames.
+
+DEFECTS = {
+    "length": ("the data length is one too great", {"length": 1}),
+    "response": ("it is a response", {"flags": 5}),
+    "flags": ("its flags are no request's", {"flags": 6}),
+    "route": ("its source has no route", {"source": "9.9.9.9.1.1"}),
+    "net": ("it is for another machine", {"net": "5.1.2.3.1.2"}),
+    "port": ("it is for a port that is not there", {"port": 852}),
+    "note": ("its command is 8", {"command": 8}),
+    "command": ("its command is 10", {"command": 10}),
+    "payload": ("it has a byte too many", {"payload": b"\0"}),
+}
+
+
+def broken_frame(names):
+    given = {"command": 4, "payload": b""}
+    for name in names:
+        given.update(DEFECTS[name][1])
+    if "response" in names and "flags" in names:
+        given["flags"] = 7
+    if "length" in names:
+        given["length"] = len(given["payload"]) + 1
+    command, payload = given.pop("command"), given.pop("payload")
+    return frame(command, 7, payload, **given)
+
+
+def frames():
+    for name, (said, _) in DEFECTS.items():
+        yield asked(f"A request of the state, but {said}; then one as it should be.", broken_frame([name]))
+    for one, two in itertools.combinations(DEFECTS, 2):
+        if (one, two) != ("note", "command"):
+            yield asked(f"Two faults: {DEFECTS[one][0]}, and {DEFECTS[two][0]}.", broken_frame([one, two]))
+    for flags in (0, 1, 2, 3, 0x44, 0x104, 0x8004, 0xFFFE, 0xFFFF):
+        yield asked(f"Flags {flags:#06x} in place of 0x0004.", frame(4, 7, b"", flags=flags))
+    for command in (0, 8, 10, 255, 256, 65535):
+        yield asked(f"Command {command}.", frame(command, 7, b""))
+
+
+# Lengths.
+
+
+def lengths():
+    good = {
+        1: b"", 2: u32(0x4040) + u32(0) + u32(4), 3: u32(0x4040) + u32(124) + u32(2) + b"\x11\x22", 4: b"", 5: u16(6) + u16(0) + u32(1) + b"\x33",
+        6: u32(0x4040) + u32(0) + u32(4) + u32(4) + u32(0) + u32(0) + bytes(16), 7: u32(1), 9: u32(0xF003) + u32(0) + u32(4) + u32(10) + b"Main.count",
+    }
+    at = {3: 8, 5: 4, 9: 12}
+    for command, payload in good.items():
+        yield asked(f"Command {command} as it should be.", frame(command, 7, payload))
+        yield asked(f"Command {command} with a byte too many.", frame(command, 7, payload + b"\0"))
+        if payload:
+            yield asked(f"Command {command} with a byte too few.", frame(command, 7, payload[:-1]))
+            yield asked(f"Command {command} with its first byte alone.", frame(command, 7, payload[:1]))
+        for lie in (1, -1):
+            yield asked(f"Command {command}: the data length is {lie:+} of what it is.", frame(command, 7, payload, length=(len(payload) + lie) % 2 ** 32))
+            if command in at:
+                k = at[command]
+                own = (int.from_bytes(payload[k:k + 4], "little") + lie) % 2 ** 32
+                yield asked(f"Command {command}: the length before its data is {lie:+} of what it is.", frame(command, 7, payload[:k] + u32(own) + payload[k + 4:]))
+        for lie in (1, -1):
+            yield asked(f"Command {command}: the frame's length is {lie:+} of what it is, so the next frame begins elsewhere.",
+                        frame(command, 7, payload, head=32 + len(payload) + lie))
+    for command, k in at.items():
+        yield asked(f"Command {command}: the length before its data is 4,294,967,295.", frame(command, 7, good[command][:k] + u32(2 ** 32 - 1) + good[command][k + 4:]))
+    for head in (0, 1, 31, 2097153, 2 ** 32 - 1):
+        yield asked(f"A frame that says that it has {head} bytes.", frame(4, 7, b"", head=head))
+    for reserved in (1, 0x100, 0xFFFF):
+        yield asked(f"Reserved bytes {reserved:#06x}.", frame(4, 7, b"", reserved=reserved))
+
+
+# Sums.
+
+
+def sum_of(number, group, count, most, heads, data=b""):
+    return ask(number, group, count, most, heads + data)
+
+
+def head(*numbers):
+    return b"".join(map(u32, numbers))
+
+
+def sums():
+    four = head(0x4040, 0, 4)
+    for group in model.SUMS:
+        yield asked(f"A sum {group:#06x} of no part.", sum_of(7, group, 0, 0, b""))
+        yield asked(f"A sum {group:#06x} of no part, with a byte too many.", sum_of(7, group, 0, 0, b"\0"))
+        yield asked(f"A sum {group:#06x} of no part that leaves room for a thousand bytes.", sum_of(7, group, 0, 1000, b""))
+        for count in (1, 2, 500, 501, 2 ** 31, 2 ** 32 - 1):
+            yield asked(f"A sum {group:#06x} that says that it has {count} parts and has none.", sum_of(7, group, count, 4, b""))
+    for count in (1, 2, 500):
+        for lie in (0, 1, -1):
+            yield asked(f"{count} reads of four bytes, with room for {lie:+} of what they give.", sum_of(7, 0xF080, count, 8 * count + lie, four * count))
+        yield asked(f"{count} reads, and a byte too many behind them.", sum_of(7, 0xF080, count, 8 * count, four * count, b"\0"))
+        yield asked(f"{count} reads, the last of them without its last byte.", sum_of(7, 0xF080, count, 8 * count, (four * count)[:-1]))
+    yield asked("501 reads.", sum_of(7, 0xF080, 501, 8 * 501, four * 501))
+    yield asked("Two reads whose lengths add up to more than 32 bits hold.", sum_of(7, 0xF080, 2, 24, head(0x4040, 0, 2 ** 32 - 1) * 2))
+    yield asked("Two reads that together pass 2,000,000 bytes.", sum_of(7, 0xF080, 2, 2 ** 32 - 1, head(0x4040, 0, 1000000) * 2))
+    yield asked("A read of 1,999,996 bytes: the greatest reply of a sum, of zeros, since the area is smaller.",
+                sum_of(7, 0xF080, 1, 2000000, head(0x4040, 0, 100), b"")[:-12] + head(0x4040, 0, 100))
+    for group in (0x4025, 0xF008, 0xF00C, 0xF00F, 0xF00B, 0xF00E, 0xF005, 0xF006, 0xF080, 0x9999, 0x4021):
+        for some in (0, 1, 4, 400):
+            yield asked(f"A sum's read of group {group:#06x} with {some} bytes, and one that is right behind it.", sum_of(7, 0xF080, 2, 12 + some, head(group, 0, some) + four))
+    for at, given in ((124, b"\1\2\3\4"), (125, b"\1\2\3\4"), (128, b""), (128, b"\1"), (60, b"\1"), (60, b""), (56, b"\1\2\3\4\5"), (2 ** 32 - 1, b"\1")):
+        yield asked(f"A sum of two writes, the first of {len(given)} bytes at {at}, and a read of what stands there then.",
+                    sum_of(7, 0xF081, 2, 8, head(0x4040, at, len(given)) + head(0x4040, 0, 1), given + b"\7"), read(8, 0x4040, 0, 128))
+    yield asked("A sum of writes that says less data than it has.", sum_of(7, 0xF081, 1, 4, head(0x4040, 0, 1), b"\1\2"))
+    yield asked("A sum of writes that says more data than it has.", sum_of(7, 0xF081, 1, 4, head(0x4040, 0, 3), b"\1\2"))
+    yield asked("A sum of writes with room for one byte less than its results.", sum_of(7, 0xF081, 1, 3, head(0x4040, 0, 1), b"\1"))
+    yield asked("A sum that releases a handle twice.", ask(6, 0xF003, 0, 4, b"Main.count"), sum_of(7, 0xF081, 2, 8, head(0xF006, 0, 4) * 2, u32(1) * 2))
+    name = b"Main.count"
+    for some in (3, 4, 5):
+        yield asked(f"A sum of two handles by name, each with room for {some} bytes.", sum_of(7, 0xF082, 2, 2 * (8 + some), head(0xF003, 0, some, len(name)) * 2, name * 2))
+    yield asked("A sum by name of a handle, of a symbol that is not there, and of a value.",
+                sum_of(7, 0xF082, 3, 36, head(0xF003, 0, 4, 10) + head(0xF003, 0, 4, 1) + head(0xF004, 0, 4, 10), name + b"x" + name))
+    for group in model.SUMS:
+        yield asked(f"A sum {group:#06x} as a part of a sum by name.", sum_of(7, 0xF082, 1, 8, head(group, 0, 0, 0)))
+    yield asked("A sum by name with room for one byte less than its parts may give.", sum_of(7, 0xF082, 1, 11, head(0xF003, 0, 4, 10), name))
+    yield asked("A sum by name that says less data than it has.", sum_of(7, 0xF082, 1, 12, head(0xF003, 0, 4, 9), name))
+
+
+# Edges.
+
+
+def edges():
+    port = PLANT["port"][0]
+    for group, area in sorted(model.BYTES_OF.items()):
+        size = port[area]
+        for at in (0, size - 1, size, size + 1, 2 ** 32 - 1):
+            yield asked(f"Bytes of {area} from {at} on: none, one, two, and more than 32 bits hold.",
+                        *[read(some % 90, group, at, some) for some in (0, 1, 2, 2 ** 32 - 1)])
+            yield asked(f"Writes to {area} from {at} on: none, one, two bytes, and all {size} read back.",
+                        *[write(1 + len(given), group, at, given) for given in (b"", b"\x5a", b"\x5a\xa5")], read(9, group, 0, size))
+    for group, area in sorted(model.BITS_OF.items()):
+        bits = 8 * port[area]
+        for at in (0, 7, 8, bits - 1, bits, bits + 7, 2 ** 32 - 1):
+            yield asked(f"Bit {at} of {area}: read, set by 2, read, cleared, read; no bit and two bits.",
+                        read(1, group, at, 1), write(2, group, at, b"\2"), read(3, group, at, 1), write(4, group, at, b"\0"), read(5, group, at, 1),
+                        read(6, group, at, 0), read(7, group, at, 2), write(8, group, at, b""), write(9, group, at, b"\1\1"))
+    for name in (b"", b"\0", b".", b"Main", b"Main.", b"Main.count.", b"Main.count\0\0", b"Main.axis[0]", b"Main.axis[4]", b"Main.axis[1,1]", b"Main.axis[]",
+                 b"Main.axis[01]", b"Main.axis[-0]", b"Main.axis[+1]", b"Main.axis[1].pos.x", b"Main.axis[2147483648]", b"Main.axis[99999999999999999999]", b"Main..count",
+                 b"Main.co unt", b"\xffMain", b"M" * 1024, b"M" * 1025, b"Main.axis[1][1]", b"Main.count[1]", b"MAIN.AXIS[3].LABEL\0"):
+        shown = name if len(name) < 60 else name[:9] + b".."
+        yield asked(f"The name {shown!r} by each group: a handle, a value of no byte, where it is, and its entry.",
+                    ask(1, 0xF003, 0, 4, name), ask(2, 0xF004, 0, 0, name), ask(3, 0xF007, 0, 12, name), ask(4, 0xF009, 0, 400, name))
+
+
+# Limits.
+
+
+def limits():
+    for number in (0, 1, 2, 2 ** 32 - 1):
+        yield asked(f"Handle {number}, which nobody was given: read, written, released, watched; and a notification of that number deleted.",
+                    read(1, 0xF005, number, 1), write(2, 0xF005, number, b"\1"), write(3, 0xF006, 0, u32(number)), add(4, 0xF005, number, 1), frame(7, 5, u32(number)))
+    for some in (0, 1, 2047, 2048, 2049, 2 ** 32 - 1):
+        yield asked(f"A notification of {some} bytes.", add(1, 0x4040, 0, some))
+    for mode in (0, 1, 2, 3, 4, 5, 2 ** 32 - 1):
+        yield replay(f"A notification of mode {mode}, of a group that is not there and of one that is; two ticks.",
+                     [("open", 1), ("bytes", 1, add(1, 0x9999, 0, 4, mode)), ("bytes", 1, add(2, 0x4040, 0, 4, mode)), ("tick", 1), ("tick", 2)])
+    for cycle in (0, 1, 2, 2 ** 32 - 1):
+        yield replay(f"A notification at each tick with cycle {cycle}: ticks that stand still, go back, and come to the end of the clock.",
+                     [("open", 1), ("bytes", 1, add(1, 0x4040, 0, 1, 3, cycle)),
+                      *[("tick", it) for it in (0, 0, 1, 2, 1, 2 ** 32, 2 ** 64 - 2, 2 ** 64 - 1, 2 ** 64 - 1, 5)]])
+
+
+# Reloads and offers.
+
+
+def reloads():
+    whole = ask(1, 0xF003, 0, 4, b"Main.count")
+    for cut in range(0, len(whole) + 1, 2):
+        yield replay(f"A reload behind {cut} of the {len(whole)} bytes of a request for a handle; then a read by it.",
+                     [("open", 1)] + ([("bytes", 1, whole[:cut])] if cut else []) + [("reload", PLANT2)] + ([("bytes", 1, whole[cut:])] if cut < len(whole) else [])
+                     + [("bytes", 1, read(2, 0xF005, 1, 4))])
+    for at, some in ((0, 4), (0, 8), (4, 4), (8, 48), (8, 16), (60, 2), (72, 8), (72, 4), (64, 2), (100, 4)):
+        yield replay(f"A notification of {some} bytes of data from {at} on, and a handle of Main.title, over a reload that moves Main.count and gives Main.title another type.",
+                     [("open", 1), ("bytes", 1, add(1, 0x4040, at, some)), ("bytes", 1, ask(2, 0xF003, 0, 4, b"Main.title")), ("tick", 5), ("reload", PLANT2),
+                      ("bytes", 1, write(3, 0x4040, 100, b"\1\2\3\4")), ("tick", 6), ("bytes", 1, read(4, 0xF005, 1, 4)), ("bytes", 1, frame(7, 5, u32(1)))])
+
+
+def offers():
+    reply = 46
+    for room in range(reply + 1):
+        yield replay(f"A reply of {reply} bytes for which there is room for {room}, and then for all.",
+                     [("open", 1), ("room", 1, room), ("bytes", 1, state(1)), ("bytes", 1, state(2)), ("room", 1, 2 ** 64 - 1)])
+    for room in (0, 10, 46):
+        yield replay(f"An offer that fails, with room for {room}: that connection is lost, and another is given its reply.",
+                     [("open", 1), ("open", 2), ("room", 1, room), ("fail", 1), ("bytes", 1, state(1)), ("bytes", 2, state(2)), ("bytes", 1, state(3))])
+        yield replay(f"A broken frame behind a reply for which there is room for {room}: it is shut with what it has taken.",
+                     [("open", 1), ("room", 1, room), ("bytes", 1, state(1) + b"\1" + bytes(5)), ("bytes", 1, state(2)), ("room", 1, 100)])
+
+
+# Failing calls.
+
+
+class Stopped(Exception):
+    pass
+
+
+def served(fails, cuts, events):
+    """What `serve` prints and what happens on its wire, where the n-th call of the wire fails and the n-th offer takes at most so many bytes."""
+    server, log, calls, cut = model.Server(PLANT, SIGNALS), [], 0, list(cuts)
+
+    def call():
+        nonlocal calls
+        calls += 1
+        return calls != fails
+
+    if not call():
+        return 6, "ads: link fault\n", log
+    for event in events:
+        if not call():
+            return 6, "listening\nads: link fault\n", log
+        log.append({"open": "opened", "bytes": "piece", "close": "closed", "tick": "tick"}[event[0]] + f" {event[1]}")
+        conn = server.conns.get(event[1])
+        if event[0] == "open":
+            server.conns[event[1]], server.opened = model.Connection(), server.opened + 1
+        elif event[0] == "tick":
+            server.tick(event[1])
+        elif event[0] == "close":
+            server.conns.pop(event[1], None)
+        elif conn and not conn.closing:
+            conn.stream += event[2]
+            server.take(conn)
+        for number in list(server.conns):
+            conn = server.conns[number]
+            while conn.queue and not conn.blocked:
+                given = conn.queue[0]
+                if not call():
+                    log.append(f"lost {number}")
+                    del server.conns[number]
+                    break
+                took = min(len(given), cut.pop(0)) if cut else len(given)
+                conn.queued -= took
+                log.append(f"took {number} of {len(given)} x{given[:took].hex()}")
+                conn.queue[0], conn.blocked = given[took:], took < len(given)
+                if not conn.blocked:
+                    conn.queue.pop(0)
+            if number in server.conns and server.conns[number].closing:
+                log.append(f"shut {number}")
+                calls += 1
+                del server.conns[number]
+    if not call():
+        return 6, "listening\nads: link fault\n", log
+    counts = f"connections {server.opened} requests {server.requests} replies {server.replies} samples {server.samples} reloads 0 0\n"
+    return 0, "listening\n" + counts, log
+
+
+def serve(said, fails, cuts, events, puts=None, leave=None):
+    status, out, log = served(fails, cuts, events)
+    lines = [f"# {said}", "words serve plant.toml --listen 127.0.0.1:48898 --events 1000", "file plant.toml", "from plant.toml"]
+    lines += [f"fail-wire {fails}"] if fails else []
+    lines += [f"cut {it}" for it in cuts]
+    for event in events:
+        lines.append({"open": "opened", "bytes": "piece", "close": "closed", "tick": "tick"}[event[0]] + " " + " ".join(it if isinstance(it, str) else it.hex() if isinstance(it, bytes) else str(it) for it in event[1:]))
+    if puts:
+        pieces = [line + "\n" for line in out.splitlines()]
+        out, status = "".join(pieces[:puts - 1]), 5
+        lines += [f"fail-put {puts}"]
+        log = [] if puts == 1 else log
+    lines += [f"status {status}", "out"] + [f"| {line}" for line in out.splitlines()]
+    return "\n".join(lines + (["log"] + [f"| {line}" for line in log] if log else [])) + "\n"
+
+
+def faults():
+    talk = [("open", 1), ("open", 2), ("bytes", 1, state(1)), ("bytes", 2, state(2) + read(3, 0x4040, 0, 4)), ("tick", 5), ("bytes", 1, state(4)), ("close", 2), ("bytes", 1, state(5))]
+    for number in range(1, 16):
+        yield serve(f"Call {number} of the wire fails: a start or an event ends the run, an offer loses its connection alone.", number, [], talk)
+    for cut in range(0, 47, 5):
+        yield serve(f"The first offer takes {cut} bytes: that connection waits, and the other is served.", 0, [cut], talk)
+    for number in (1, 2):
+        yield serve(f"Piece {number} of the output can't be written.", 0, [], talk, number)
+
+
+# The descriptions that the documents show.
+
+
+def shown():
+    with open(os.path.join(HERE, "..", "docs", "FORMATS.md")) as it:
+        texts = re.findall(r"```toml\n(.*?)```", it.read(), re.S)
+    for schema, text in enumerate(texts, 1):
+        with open(os.path.join(DATA, f"shown_{schema}.toml"), "w") as it:
+            it.write(text)
+        d = tomllib.loads(text)
+        port = model.Server(d, SIGNALS).ports[851]
+        counts = f"port 851 name {d['port'][0]['name']} image {sum(map(len, port.areas.values()))} symbols {len(port.symbols)} upload {len(port.upload())}"
+        yield (f"# The example of schema {schema} in docs/FORMATS.md is accepted.\nwords check plant.toml\nfile plant.toml\nfrom shown_{schema}.toml\nstatus 0\nout\n"
+               f"| {counts}\n| ok ports 1 symbols {len(port.symbols)} types {len(d['type'])}\n")
+        events = [("open", 1), ("bytes", 1, read(1, 0x4040, 0, 8)), ("bytes", 1, write(2, 0x4040, 4, b"\1\2\3\4")), ("bytes", 1, write(3, 0x4040, 4, b"\5", source=OTHER)),
+                  ("bytes", 1, read(4, 0x4040, 0, 8)), ("bytes", 1, ask(5, 0xF009, 0, 200, b"main.mode"))]
+        script = "\n".join(line for event in events for line in lines_of(event, ""))
+        came = "\n".join(f"| {line}" for line in model.play(d, SIGNALS, events).splitlines())
+        yield (f"# The same, asked: the first bytes; a write of the second symbol by one machine and by another, which has a route under schema 2 alone and there is\n"
+               f"# the writer; what stands there then; the entry of Main.mode.\n"
+               f"words replay plant.toml it.script\nfile plant.toml\nfrom shown_{schema}.toml\nfile it.script\n{script}\nstatus 0\nout\n{came}\n")
+
+
+def main():
+    made = list(shown())
+    with open(os.path.join(DATA, "shown.runs"), "w") as it:
+        it.write("----\n".join(made))
+    print(f"shown.runs: {len(made)} runs")
+    for name, runs in (("frames", frames), ("lengths", lengths), ("sums", sums), ("edges", edges), ("limits", limits), ("reloads", reloads), ("offers", offers), ("faults", faults)):
+        made = list(runs())
+        with open(os.path.join(DATA, f"hostile_{name}.runs"), "w") as it:
+            it.write("----\n".join(made))
+        print(f"hostile_{name}.runs: {len(made)} runs")
+    return 0
+
+
+if __name__ == "__main__":
+    sys.exit(main())

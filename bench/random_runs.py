@@ -1,0 +1,470 @@
+#!/usr/bin/env python3
+"""Random descriptions and scripts: what `ads replay` prints against a model of the protocol in plain Python (bench/model.py), byte for byte; and damaged
+descriptions, scripts and words, which must end with a status of their own and never crash or hang.
+
+    python3 bench/random_runs.py [--seconds N] [--seed N] [--program PATH] [--keep FOLDER]
+
+Build the program first: in crates/ads, `rt run -- selftest ../../examples/state.script`. Without --seconds it runs for a minute. A difference is told with its
+seed, and its description, script and both texts are kept in the folder of --keep. It ends with 1 where anything differed.
+"""
+import argparse
+import os
+import random
+import subprocess
+import sys
+import tempfile
+import time
+
+HERE = os.path.dirname(os.path.abspath(__file__))
+sys.path.insert(0, HERE)
+import model  # noqa: E402
+
+PROGRAM = os.path.join(HERE, "..", "crates", "ads", "out", "ads")
+SIGNALS = [list(range(1000)), [0] * 10 + [1] * 10, [3, 1, 4, 1, 5, 9, 2, 6]]
+STATUSES = {0, 1, 2, 3, 12}
+WORDS = ["alpha", "Beta", "gamma_1", "_d", "Main", "axis", "Pos", "x", "Y2", "Flag"]
+
+
+# Descriptions.
+
+
+def text_of(value):
+    if isinstance(value, bool):
+        return "true" if value else "false"
+    if isinstance(value, int):
+        return str(value)
+    if isinstance(value, list):
+        return "[" + ", ".join(text_of(it) for it in value) + "]"
+    if isinstance(value, dict):
+        return "{ " + ", ".join(f"{key} = {text_of(it)}" for key, it in value.items()) + " }"
+    return '"' + value + '"'
+
+
+def toml_of(d):
+    """A description's text: its ports and symbols as tables, all else in one line each."""
+    lines = [f"{key} = {text_of(it)}" for key, it in d.items() if key != "port"]
+    for port in d["port"]:
+        lines += ["[[port]]"] + [f"{key} = {text_of(it)}" for key, it in port.items() if key != "symbol"]
+        for symbol in port.get("symbol", []):
+            lines += ["[[port.symbol]]"] + [f"{key} = {text_of(it)}" for key, it in symbol.items()]
+    return "\n".join(lines) + "\n"
+
+
+def any_case(r, text):
+    return "".join(r.choice((c.lower(), c.upper())) for c in text)
+
+
+def comment(r):
+    return "".join(r.choice("abc XYZ.,;~!") for _ in range(r.randrange(12)))
+
+
+def kind_text(r, named, depth=0):
+    """A type text that names some of these types."""
+    choice = r.random()
+    if choice < 0.2 and depth == 0:
+        bounds = ",".join(f"{low}..{low + r.randrange(4)}" for low in (r.randrange(-3, 4) for _ in range(r.randint(1, 3))))
+        return f"{any_case(r, 'ARRAY')} [{bounds}] {any_case(r, 'OF')} {kind_text(r, named, 1)}"
+    if choice < 0.35:
+        return r.choice((any_case(r, "STRING"), f"{any_case(r, 'STRING')}({r.randrange(20)})"))
+    if choice < 0.6 and named:
+        return any_case(r, r.choice(named))
+    return any_case(r, r.choice(sorted(model.PLAIN)))
+
+
+def types_of(r, schema):
+    found, named = [], []
+    for number in range(r.randrange(5)):
+        name = f"T{number}_{r.choice(WORDS)}"
+        if schema == 2 and r.random() < 0.4:
+            base = r.choice(("SINT", "USINT", "INT", "UINT", "DINT", "UDINT", "LINT", "ULINT"))
+            size = model.PLAIN[base][0]
+            low, high = (0, min(2 ** (8 * size), 2 ** 63) - 1) if base[0] == "U" and base != "U" else (-2 ** (8 * size - 1), 2 ** (8 * size - 1) - 1)
+            numbers = list(dict.fromkeys(r.choice((low, high, r.randint(low, high), r.randrange(0, 9))) for _ in range(r.randint(1, 4))))
+            found.append({"name": name, "base": any_case(r, base), "value": [{"name": f"V{k}", "number": it} for k, it in enumerate(numbers)]})
+        else:
+            members = []
+            for k in range(r.randint(1, 4)):
+                member = {"name": f"{r.choice(WORDS)}{k}", "type": kind_text(r, named)}
+                if r.random() < 0.3:
+                    member["comment"] = comment(r)
+                members.append(member)
+            found.append({"name": name, "member": members})
+        named.append(name)
+    return found, named
+
+
+def symbols_of(r, types, named, schema, sizes, signals, nets):
+    found, ends = [], {area: r.randrange(3) for area in model.AREAS}
+    for number in range(r.randrange(9)):
+        kind = kind_text(r, named)
+        tree = model.type_of(kind)
+        size, area = types.size(tree), r.choice(model.AREAS)
+        at = ends[area] + r.choice((0, 0, 1, 3))
+        if size > 600 or at + size > sizes[area]:
+            continue
+        ends[area] = at + size
+        it = {"name": f"{r.choice(WORDS)}{number}.{r.choice(WORDS)}" if r.random() < 0.6 else f"{r.choice(WORDS)}_{number}", "type": kind, "area": area, "offset": at}
+        it.update({key: True for key in ("persistent", "read_only") if r.random() < 0.2})
+        if r.random() < 0.3:
+            it["comment"] = comment(r)
+        base = types.named[tree[1].lower()].get("base") if tree[0] == "named" else None
+        if r.random() < 0.5 and base:
+            value = r.choice(types.named[tree[1].lower()]["values"])["number"]
+            it["initial"] = any_case(r, (value % 2 ** (8 * size)).to_bytes(size, "little").hex())
+        elif r.random() < 0.5 and not base:
+            it["initial"] = any_case(r, r.randbytes(size).hex())
+        if tree[0] == "plain" and signals and r.random() < 0.4:
+            it["signal"] = signals.pop()
+        if schema == 2 and r.random() < 0.25:
+            it["writers"] = r.sample(nets, r.randint(1, len(nets)))
+        found.append(it)
+    return found
+
+
+def description(r):
+    schema = r.choice((1, 2))
+    listed, named = types_of(r, schema)
+    types = model.Types(listed)
+    nets = [f"10.0.0.{k}.1.1" for k in range(1, 5)]
+    signals = r.sample(range(3), 3)
+    d = {"schema": schema, "net": "5.1.2.3.1.1", "route": [{"net": net, "rights": r.choice(("read", "write", "control", "control"))} for net in nets[:r.randint(1, 4)]]}
+    if listed or r.random() < 0.5:
+        d["type"] = listed
+    d["port"] = []
+    for number in r.sample((851, 852, 1, 65535), r.choice((1, 1, 2, 3))):
+        sizes = {area: r.choice((0, r.randrange(1, 40), r.randrange(40, 2000))) for area in model.AREAS}
+        port = {"port": number, "name": "App " + "x" * r.randrange(13), "major": r.randrange(256), "minor": r.randrange(256), "build": r.randrange(65536)}
+        port.update({area: size for area, size in sizes.items() if size or r.random() < 0.5})
+        port["symbol"] = symbols_of(r, types, named, schema, sizes, signals, nets)
+        d["port"].append(port)
+    return d
+
+
+def changed(r, d):
+    """A description that is much like another."""
+    if r.random() < 0.3:
+        return description(r)
+    d = {key: it for key, it in d.items()}
+    d["net"] = r.choice((d["net"], d["net"], "5.1.2.3.1.2"))
+    d["route"] = [dict(it, rights=r.choice(("read", "control", it["rights"]))) for it in d["route"] if r.random() < 0.95]
+    ports = []
+    for port in d["port"]:
+        if r.random() < 0.1 and len(d["port"]) > 1:
+            continue
+        port = dict(port, build=r.randrange(65536), data=port.get("data", 0) + 64)
+        listed = [dict(it) for it in port["symbol"] if r.random() < 0.9]
+        r.shuffle(listed)
+        for it in listed:
+            if r.random() < 0.2:
+                it["name"] = any_case(r, it["name"])
+            if r.random() < 0.2:
+                it.pop("initial", None)
+        if listed and r.random() < 0.5:
+            # (one goes behind all others of the data area)
+            it = r.choice(listed)
+            it["area"], it["offset"] = "data", port["data"] - 64
+            size = model.Types(d.get("type", [])).size(model.type_of(it["type"]))
+            port["data"] += size
+        port["symbol"] = listed
+        ports.append(port)
+    if ports:
+        d["port"] = ports
+    return d
+
+
+# Scripts.
+
+
+def frame_of(r, d, net, source_port, command, number, payload):
+    target = model.net_of(d["net"])
+    port = r.choice(d["port"])["port"]
+    if r.random() < 0.03:
+        target = bytes(6)
+    if r.random() < 0.03:
+        port = 77
+    flags, length, error = 4, len(payload), r.choice((0, 0, 5))
+    if r.random() < 0.03:
+        flags = r.choice((0, 5, 1, 6, 0x44, 0xFFFF))
+    if r.random() < 0.03:
+        length += r.choice((1, -1 if length else 1))
+    ams = target + model.u16(port) + model.net_of(net) + model.u16(source_port) + model.u16(command) + model.u16(flags)
+    ams += model.u32(length) + model.u32(error) + model.u32(number) + payload
+    head = b"\0\0" + model.u32(len(ams))
+    if r.random() < 0.008:
+        head = r.choice((b"\1\0" + head[2:], b"\0\0" + model.u32(31), b"\0\0" + model.u32(2097153)))
+    return head + ams
+
+
+def count(r, near):
+    return max(0, r.choice((near, near, near, near + 1, near - 1, 0, 1, 4, 2 ** 32 - 1, r.randrange(64))))
+
+
+def a_path(r, d):
+    """A name that may be a symbol's, or a part's."""
+    port = r.choice(d["port"])
+    if not port["symbol"] or r.random() < 0.1:
+        return r.choice((b"", b"x", b"Main", b"a[0]", b"\xff", b"a" * 1025, b"1a", b"a..b"))
+    types, it = model.Types(d.get("type", [])), r.choice(port["symbol"])
+    path, kind = it["name"], model.type_of(it["type"])
+    while r.random() < 0.7:
+        if kind[0] == "array":
+            path += "[" + ",".join(str(low + r.randrange(-1 if r.random() < 0.1 else 0, some)) for low, some in kind[1]) + "]"
+            kind = kind[2]
+        elif kind[0] == "named" and "members" in types.named[kind[1].lower()]:
+            member = r.choice(types.named[kind[1].lower()]["members"])
+            path, kind = path + "." + member[0], member[1]
+        else:
+            break
+    return any_case(r, path).encode() + r.choice((b"", b"", b"\0", b"\0\0" if r.random() < 0.1 else b""))
+
+
+def place(r, d, handles):
+    """A group, an offset and a length that may be good."""
+    if handles and r.random() < 0.4:
+        number = r.choice(sorted(handles))
+        return 0xF005, number, count(r, handles[number]["size"])
+    if r.random() < 0.1:
+        return 0xF005, r.randrange(9), 1
+    port = r.choice(d["port"])
+    if r.random() < 0.2:
+        group = r.choice(sorted(model.BITS_OF))
+        return group, r.randrange(8 * port.get(model.BITS_OF[group], 0) + 9), count(r, 1)
+    group = r.choice(sorted(model.BYTES_OF))
+    size = port.get(model.BYTES_OF[group], 0)
+    if port["symbol"] and r.random() < 0.7:
+        it = r.choice(port["symbol"])
+        size = model.Types(d.get("type", [])).size(model.type_of(it["type"]))
+        return model.GROUP_OF[it["area"]], it["offset"], count(r, size)
+    at = r.choice((0, size, size + 1, r.randrange(size + 1)))
+    return group, at, count(r, r.randrange(size + 1))
+
+
+def bytes_for(r, most):
+    return r.randbytes(min(most, r.choice((most, 40)), 3000))
+
+
+def request(r, d, handles, in_sum=False):
+    """A command and its payload."""
+    command = r.choice((2, 2, 3, 3, 9, 9, 9, 6, 6, 1, 4, 5, 7)) if not in_sum else r.choice((2, 3, 9))
+    if not in_sum and r.random() < 0.02:
+        return r.choice((0, 8, 10, 65535)), r.randbytes(r.randrange(9))
+    u32 = model.u32
+    if command == 2:
+        group, at, some = place(r, d, handles)
+        if r.random() < 0.3:
+            group, some = r.choice((*model.SIZE_OF, 0xF008, 0xF00B, 0xF00C, 0xF00E, 0xF00F, 0x9999, 0xF006, 0xF080)), r.choice((0, 1, 4, 8, 24, 1000, 100000))
+        payload = u32(group) + u32(at) + u32(some)
+    elif command == 3:
+        group, at, some = place(r, d, handles)
+        given = bytes_for(r, some)
+        if r.random() < 0.2:
+            group, given = r.choice((0xF006, 0xF006, 0xF003, 0x4025)), u32(r.choice((*handles, 1, 77)))[:r.choice((4, 4, 4, 3))]
+        payload = u32(group) + u32(at) + u32(len(given)) + given
+    elif command == 9:
+        payload = asked(r, d, handles, in_sum)
+    elif command == 6:
+        group, at, some = place(r, d, handles)
+        payload = u32(group) + u32(at) + u32(2049 if r.random() < 0.05 else some) + u32(1 if r.random() < 0.05 else r.choice((3, 4, 4, 4))) + u32(r.randrange(9)) + u32(r.choice((0, 0, 5, 100, 2 ** 32 - 1))) + bytes(16)
+    elif command == 5:
+        payload = model.u16(r.choice((5, 6, 6, 3))) + model.u16(r.randrange(9)) + u32(0)
+    elif command == 7:
+        payload = u32(r.randrange(1, 6))
+    else:
+        payload = b""
+    if r.random() < 0.02:
+        payload = payload[:-1] if payload else b"\0"
+    return command, payload
+
+
+def asked(r, d, handles, in_sum):
+    u32 = model.u32
+    if in_sum or r.random() < 0.75:
+        group, given = 0xF002 if r.random() < 0.03 else r.choice((0xF003, 0xF003, 0xF003, 0xF004, 0xF007, 0xF009)), a_path(r, d)
+        most = {0xF003: 4, 0xF004: r.choice((1, 2, 4, 8, 0)), 0xF007: 12, 0xF009: 400}.get(group, 9)
+        return u32(group) + u32(r.randrange(3)) + u32(most if r.random() < 0.8 else r.choice((3, 11, 13, 50, 2000))) + u32(len(given)) + given
+    group, heads, data, most = r.choice(model.SUMS), b"", b"", 0
+    some = r.choice((0, 1, 2, 5, 9))
+    for _ in range(some):
+        if group == 0xF080:
+            head = place(r, d, handles)
+            heads, most = heads + b"".join(map(u32, (head[0], head[1], min(head[2], 5000)))), most + 4 + min(head[2], 5000)
+        elif group == 0xF081:
+            payload = request(r, d, handles, True)
+            while payload[0] != 3 or len(payload[1]) < 12:
+                payload = request(r, d, handles, True)
+            given = payload[1][12:]
+            heads, data, most = heads + payload[1][:8] + u32(len(given)), data + given, most + 4
+        else:
+            payload = asked(r, d, handles, True)
+            heads, data, most = heads + payload[:16], data + payload[16:], most + 8 + int.from_bytes(payload[8:12], "little")
+    if r.random() < 0.05:
+        some = r.choice((some + 1, 501, 2 ** 32 - 1))
+    if r.random() < 0.05:
+        data += b"\0"
+    return u32(group) + u32(some) + u32(r.choice((most, most, most + 7, max(most - 1, 0)))) + u32(len(heads + data)) + heads + data
+
+
+def script(r, d):
+    """Events, and the lines that say them. Each client has a NetId and a port or two."""
+    events, live, opened, clock, now, seen = [], [], 0, 0, d, 0
+    nets, clients, server = [f"10.0.0.{k}.1.1" for k in range(1, 6)], {}, model.Server(d, SIGNALS)
+    for _ in range(r.choice((5, 20, 80, 200))):
+        # (the model goes along, so that requests name handles that there are)
+        for event in events[seen:]:
+            model.turn(server, event, [])
+        seen = len(events)
+        choice = r.random()
+        if not live or choice < 0.06:
+            opened += 1
+            live.append(opened)
+            clients[opened] = r.choice([route["net"] for route in now["route"]] or nets) if r.random() < 0.95 else r.choice(nets)
+            events.append(("open", opened))
+        elif choice < 0.75:
+            conn, stream = r.choice(live), b""
+            known = server.conns[conn].handles if conn in server.conns else {}
+            for _ in range(r.choice((1, 1, 1, 2, 5))):
+                command, payload = request(r, now, known)
+                stream += frame_of(r, now, clients[conn] if r.random() < 0.98 else r.choice(nets), r.choice((32905, 32905, 40000)), command, r.randrange(2 ** 32), payload)
+            while stream:
+                cut = len(stream) if r.random() < 0.6 else r.randint(1, len(stream))
+                events.append(("bytes", conn, stream[:cut]))
+                stream = stream[cut:]
+                if r.random() < 0.05:
+                    break
+        elif choice < 0.88:
+            clock = max(0, clock + r.choice((1, 5, 5, 100, 100000, -3, 2 ** 40)))
+            events.append(("tick", clock if r.random() < 0.99 else 2 ** 64 - 1))
+        elif choice < 0.91:
+            if r.random() < 0.3:
+                number, text = r.choice(((2, "schema = 2\n"), (0, "= 1\n"), (3, toml_of(dict(now, schema=3)) if "writers" not in str(now) and "base" not in str(now) else "schema = 2\n")))
+                events.append(("reload", 2 if text == "schema = 2\n" else number, text))
+            else:
+                now = changed(r, now)
+                events.append(("reload", now, toml_of(now)))
+        elif choice < 0.96:
+            events.append(("room", r.choice(live), r.choice((0, 10, 46, 200, 5000, 2 ** 64 - 1))))
+        elif choice < 0.975:
+            events.append(("fail", r.choice(live)))
+        else:
+            conn = r.choice(live)
+            live.remove(conn)
+            events.append(("close", conn))
+    return events
+
+
+def lines_of(r, events):
+    lines = []
+    for event in events:
+        if event[0] == "bytes":
+            text, words = event[2].hex(), []
+            while text:
+                cut = 2 * r.randint(1, len(text) // 2) if r.random() < 0.2 else len(text)
+                words.append(text[:cut])
+                text = text[cut:]
+            lines.append(f"bytes {event[1]} {' '.join(words)}")
+        elif event[0] == "reload":
+            lines += ["reload", *event[2].splitlines(), "."]
+        else:
+            lines.append(" ".join(map(str, event)))
+        if r.random() < 0.05:
+            lines.append(r.choice(("", "# a comment")))
+    return "\n".join(lines) + "\n"
+
+
+# Runs.
+
+
+def ran(program, words, folder):
+    try:
+        it = subprocess.run([program, *words], cwd=folder, capture_output=True, timeout=60)
+    except subprocess.TimeoutExpired:
+        return "hang", b"", b""
+    return it.returncode, it.stdout, it.stderr
+
+
+def write(folder, name, text):
+    with open(os.path.join(folder, name), "wb") as it:
+        it.write(text if isinstance(text, bytes) else text.encode())
+
+
+def one_replay(program, seed, folder):
+    """A whole script against the model; what differs, or None."""
+    r = random.Random(seed)
+    d = description(r)
+    events = script(r, d)
+    write(folder, "plant.toml", toml_of(d))
+    write(folder, "it.script", lines_of(r, events))
+    status, out, err = ran(program, ["replay", "plant.toml", "it.script"], folder)
+    wanted = model.play(d, SIGNALS, events)
+    write(folder, "came", out)
+    write(folder, "wanted", wanted)
+    if status != 0 or err or out.decode(errors="replace") != wanted:
+        return f"status {status}, {len(out)} bytes came, {len(wanted)} were wanted"
+    return None
+
+
+def damaged(r, text):
+    given = bytearray(text.encode())
+    for _ in range(r.randint(1, 4)):
+        if not given:
+            break
+        at = r.randrange(len(given))
+        choice = r.random()
+        if choice < 0.4:
+            given[at] = r.randrange(256)
+        elif choice < 0.6:
+            del given[at:at + r.choice((1, 2, 30))]
+        elif choice < 0.8:
+            given[at:at] = r.choice((b"-", b"9", b"18446744073709551616", b"[[port]]\n", b"\n", b"\"", b"0"))
+        else:
+            other = r.randrange(len(given))
+            given[at:at] = given[other:other + r.randrange(60)]
+    return bytes(given)
+
+
+def one_damaged(program, seed, folder):
+    """Damaged input: a status of its own and a line that says it, and of a script that is taken a summary."""
+    r = random.Random(seed)
+    d = description(r)
+    events = script(r, d)
+    write(folder, "plant.toml", damaged(r, toml_of(d)) if r.random() < 0.6 else toml_of(d))
+    write(folder, "it.script", damaged(r, lines_of(r, events)) if r.random() < 0.6 else lines_of(r, events))
+    words = r.choice((["check", "plant.toml"], ["replay", "plant.toml", "it.script"], ["selftest", "it.script"], ["replay", "it.script", "plant.toml"]))
+    status, out, err = ran(program, words, folder)
+    last = out.decode(errors="replace").splitlines()[-1:] or [""]
+    fits = {0: ("connections ", "ok ports "), 2: ("ads: description ",), 3: ("ads: script line ",)}
+    if status not in fits or err or not last[0].startswith(fits[status]):
+        return f"{' '.join(words)}: status {status}, last line {last[0]!r}, {len(err)} bytes on standard error"
+    if status and len(out.splitlines()) != 1:
+        return f"{' '.join(words)}: {len(out.splitlines())} lines at status {status}"
+    return None
+
+
+def main():
+    it = argparse.ArgumentParser(description=__doc__, formatter_class=argparse.RawDescriptionHelpFormatter)
+    it.add_argument("--seconds", type=float, default=60)
+    it.add_argument("--seed", type=int, default=1)
+    it.add_argument("--program", default=PROGRAM)
+    it.add_argument("--keep", default=os.path.join(tempfile.gettempdir(), "ads_random"))
+    given = it.parse_args()
+    program, begun, seed, counts, wrong = os.path.abspath(given.program), time.time(), given.seed, {"replays": 0, "damaged": 0}, 0
+    with tempfile.TemporaryDirectory() as folder:
+        while time.time() - begun < given.seconds and wrong < 10:
+            for name, one in (("replays", one_replay), ("damaged", one_damaged)):
+                said = one(program, seed, folder)
+                counts[name] += 1
+                if said:
+                    wrong += 1
+                    kept = f"{given.keep}/{name}_{seed}"
+                    os.makedirs(kept, exist_ok=True)
+                    for file in os.listdir(folder):
+                        with open(os.path.join(folder, file), "rb") as one_file:
+                            write(kept, file, one_file.read())
+                    print(f"{name}, seed {seed}: {said}; kept in {kept}")
+            seed += 1
+    print(f"{counts['replays']} scripts against the model, {counts['damaged']} damaged inputs, {wrong} wrong, seeds {given.seed} to {seed - 1}")
+    return 1 if wrong else 0
+
+
+if __name__ == "__main__":
+    sys.exit(main())
