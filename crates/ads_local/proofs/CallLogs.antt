@@ -12,11 +12,11 @@ use Rattle.ads_machine.proofs.Find.{test_same}
 use Rattle.ads_formats.specs.Header.{AmsAddress}
 use Rattle.ads_client.specs.Calls.{Call}
 use Rattle.ads_client.specs.Runner.{turns}
-use Rattle.ads_client.specs.Conversation.{LinkAnswer, Bytes, Quiet, Closed, Sent, LoopEnd, Budget, Conversation, MAX_ANSWERS, MAX_QUIET, moment_of, conversation_begun, conversation_after, conversation_after_turns, conversation_going_on, with_answer, ended_by, unless_ended, end_by_answer, end_by_count}
+use Rattle.ads_client.specs.Conversation.{LinkAnswer, Bytes, Quiet, Closed, Sent, LoopEnd, Budget, Conversation, MAX_ANSWERS, MAX_QUIET, moment_of, conversation_begun, conversation_after, conversation_after_turns, conversation_going_on, with_answer, unless_ended, end_by_answer, end_by_count}
 use Rattle.ads_client.specs.CallOver.{conversation_after_all, call_over}
 use Rattle.ads_talk.specs.CallLog.{event_of, sent_behind, log_up_to}
-use Rattle.ads_local.specs.Laws.{IsLocalCall, CallsAreLocal}
-use Rattle.ads_local.specs.LocalCall.{Cutting, LocalScene, local_answer, scene_after, scene_after_answers, scene_behind, scene_begun, machine_after_pieces}
+use Rattle.ads_local.specs.Laws.{CallsAreLocal}
+use Rattle.ads_local.specs.LocalCall.{Cutting, LocalScene, local_answer, scene_after, scene_after_answers, scene_behind, machine_after_pieces}
 use Rattle.ads_local.specs.LinkLog.{answer_of, most_of, answered_like, without_connection, machine_after_link_move, IsLogOf, cutting_of}
 use Rattle.ads_local.proofs.LinkLogs.{behind_sends}
 use Rattle.ads_local.proofs.Scenes.{all_over, going_on, one_more, scene_stays, scene_goes_on, CutsAs, cuts_as}
@@ -42,7 +42,7 @@ or_true false = refl
 counted_out : (d : Conversation) → end_by_count d ≡ None → d.answers ≢ MAX_ANSWERS + 1
 counted_out d none last =
     let test : ((d.quiet == MAX_QUIET) || (d.answers == MAX_ANSWERS + 1)) ≡ true =
-      ap (λ b. (d.quiet == MAX_QUIET) || b) (test_same d.answers (MAX_ANSWERS + 1) last) ∙ or_true (d.quiet == MAX_QUIET) in
+    ap (λ b. (d.quiet == MAX_QUIET) || b) (test_same d.answers (MAX_ANSWERS + 1) last) ∙ or_true (d.quiet == MAX_QUIET) in
     none_some (end_by_count d) Budget none (cond-true _ _ _ test)
 
 answered_out : (d : Conversation) (a : LinkAnswer) → end_by_answer d a ≡ None → d.answers ≢ MAX_ANSWERS + 1
@@ -95,9 +95,9 @@ walk {W} {C} step cutting (a ∷ answers) s pending c n at logs cuts =
     elim (end_cases c.end) [
       | inl on ↦
           ap conv (scene_goes_on step cutting (length answers) (scene_of step s pending c) on
-            ∙ ap (scene_after_answers step cutting (length answers)) (scene_step step cutting s pending c a n at cuts.0 l.0))
+          ∙ ap (scene_after_answers step cutting (length answers)) (scene_step step cutting s pending c a n at cuts.0 l.0))
           ∙ walk step cutting answers (machine_behind step s pending a) (sent_behind c a) (conversation_after c a) (n + 1)
-            (one_more c a on ∙ ap (λ m. m + 1) at) l.1 cuts.1
+          (one_more c a on ∙ ap (λ m. m + 1) at) l.1 cuts.1
       | inr over ↦
           ap conv (scene_stays step cutting (suc (length answers)) (scene_of step s pending c) over.0 over.1)
           ∙ sym (all_over c over.0 (a ∷ answers) over.1)
@@ -136,9 +136,9 @@ whole {W} {C} step cutting (suc m) (a ∷ answers) s pending c n e at fits logs 
     elim (end_cases c.end) [
       | inl on ↦
           ap conv (scene_goes_on step cutting m (scene_of step s pending c) on
-            ∙ ap (scene_after_answers step cutting m) (scene_step step cutting s pending c a n at cuts.0 l.0))
+          ∙ ap (scene_after_answers step cutting m) (scene_step step cutting s pending c a n at cuts.0 l.0))
           ∙ whole step cutting m answers (machine_behind step s pending a) (sent_behind c a) (conversation_after c a) (n + 1) e
-            (one_more c a on ∙ ap (λ k. k + 1) at) (fits_less c a n m at on fits) l.1 cuts.1 over
+          (one_more c a on ∙ ap (λ k. k + 1) at) (fits_less c a n m at on fits) l.1 cuts.1 over
       | inr over_ ↦
           ap conv (scene_stays step cutting (suc m) (scene_of step s pending c) over_.0 over_.1)
           ∙ sym (all_over c over_.0 (a ∷ answers) over_.1)
@@ -177,10 +177,10 @@ calls_are_local {W} {C} step s me peer call to now answers none logs =
     record {
       moment = moment;
       so_far = walk step (cutting_of answers) answers (step s (event.Opened 1)) c.sent c 1 one log cuts
-        ∙ ap (λ t. call_over me peer call t answers) (sym moment);
+          ∙ ap (λ t. call_over me peer call t answers) (sym moment);
       over = λ is.
-        let end = some_end (call_over me peer call now answers).end is in
-        let same = ap (λ t. (call_over me peer call t answers).end) (sym moment) in
-        whole step (cutting_of answers) MAX_ANSWERS answers (step s (event.Opened 1)) c.sent c 1 end.0 one (fits_begun c) log cuts (same ∙ end.1)
-        ∙ ap (λ t. call_over me peer call t answers) (sym moment);
+          let end = some_end (call_over me peer call now answers).end is in
+          let same = ap (λ t. (call_over me peer call t answers).end) (sym moment) in
+          whole step (cutting_of answers) MAX_ANSWERS answers (step s (event.Opened 1)) c.sent c 1 end.0 one (fits_begun c) log cuts (same ∙ end.1)
+          ∙ ap (λ t. call_over me peer call t answers) (sym moment);
     }

@@ -1,5 +1,5 @@
 -- What a machine gives next, by cases: what waits, the end, or what there is behind a tick.
-use Rattle.std.proofs.Common.{◌≡◌, ℕ, suc, ◌<◌, ◌-◌, List, [], ◌∷◌, length, take, true, false, refl, ap, ◌∙◌, arith}
+use Rattle.std.proofs.Common.{◌≡◌, ℕ, ◌<◌, ◌-◌, List, [], ◌∷◌, length, take, true, false, ap, ◌∙◌, arith}
 use Rattle.std.proofs.lemmas.Bool.{cond-true, cond-false}
 use Rattle.ads_outside.specs.declared.event.Event.TheVariants as event
 use Rattle.ads_machine.specs.Connection.{connection_of}

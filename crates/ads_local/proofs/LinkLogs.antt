@@ -1,11 +1,10 @@
 -- Logs of a machine: one that goes on by a move, and the first part of one.
-use Rattle.std.proofs.Common.{◌≡◌, ℕ, List, [], ◌∷◌, ◌++◌, refl}
+use Rattle.std.proofs.Common.{◌≡◌, List, [], ◌∷◌, ◌++◌, refl}
 use Rattle.ads_outside.specs.declared.link_move.LinkMove.{LinkMove}
 use Rattle.ads_machine.specs.MachineState.{MachineState}
 use Rattle.ads_machine.specs.Moves.{EventStep}
-use Rattle.ads_outside.specs.declared.link_move.LinkMove.TheVariants as link
 use Rattle.ads_client.specs.Conversation.{LinkAnswer, Sent, Conversation, conversation_begun, conversation_after}
-use Rattle.ads_talk.specs.CallLog.{event_of, sent_moves, sent_behind, log_behind, log_up_to, call_log, call_log_up_to}
+use Rattle.ads_talk.specs.CallLog.{sent_moves, sent_behind, log_behind, log_up_to}
 use Rattle.ads_local.specs.Laws.{FirstPartsAreLogs, CallLogsBegin}
 use Rattle.ads_local.specs.LocalCall.{machine_after_pieces}
 use Rattle.ads_local.specs.LinkLog.{machine_after_link_move, machine_after_log, IsMoveOf, IsLogOf}

@@ -1,14 +1,13 @@
 -- A scene of a local call, answer by answer, and a call that is over.
-use Rattle.std.proofs.Common.{◌≡◌, ◌≢◌, ℕ, zero, suc, ◌+◌, ◌<◌, ◌≤◌, ◌==◌, ◌⊎◌, inl, inr, List, [], ◌∷◌, ◌++◌, length, drop, Bool, true, false, refl, sym, ap, ◌∙◌, subst, arith}
-use Rattle.std.specs.Prelude.{is_some, Option, Some, None, if◌then◌else◌}
-use Rattle.std.proofs.lemmas.Bool.{cases_eq, cond-true, cond-false}
-use Rattle.ads_machine.specs.MachineState.{MachineState}
+use Rattle.std.proofs.Common.{◌≡◌, ℕ, zero, suc, ◌+◌, ◌≤◌, ◌==◌, List, [], ◌∷◌, refl, ap, ◌∙◌, arith}
+use Rattle.std.specs.Prelude.{is_some, Option, Some, None}
+use Rattle.std.proofs.lemmas.Bool.{cond-true, cond-false}
 use Rattle.ads_machine.specs.Moves.{EventStep}
 use Rattle.ads_machine.proofs.Find.{test_same, test_other}
-use Rattle.ads_client.specs.Conversation.{LinkAnswer, Bytes, Quiet, Closed, LoopEnd, Conversation, MAX_ANSWERS, MAX_QUIET, conversation_after, conversation_going_on, conversation_after_turns, with_answer, ended_by, unless_ended, end_by_answer, end_by_count}
+use Rattle.ads_client.specs.Conversation.{LinkAnswer, LoopEnd, Conversation, conversation_after, conversation_going_on, conversation_after_turns, unless_ended}
 use Rattle.ads_client.specs.CallOver.{conversation_after_all}
-use Rattle.ads_local.specs.LocalCall.{Cutting, LocalScene, Answered, local_answer, scene_after, scene_after_answers, scene_behind, machine_after_pieces}
-use Rattle.ads_local.specs.LinkLog.{most_of, answered_like, cutting_from}
+use Rattle.ads_local.specs.LocalCall.{Cutting, LocalScene, scene_after_answers, scene_behind}
+use Rattle.ads_local.specs.LinkLog.{most_of, cutting_from}
 
 -- a call that is over takes nothing more
 pub over_stays : (c : Conversation) (e : LoopEnd) (a : LinkAnswer) → c.end ≡ Some e → conversation_after c a ≡ c
@@ -58,6 +57,8 @@ cuts_like f g first (a ∷ answers) same cuts =
 pub cuts_as : (first : ℕ) (answers : List LinkAnswer) → CutsAs (cutting_from first answers) first answers
 cuts_as first [] = tt
 cuts_as first (a ∷ answers) =
-    let here : cutting_from first (a ∷ answers) first ≡ most_of a = cond-true (first == first) _ _ (test_same first first refl) in
-    (here, cuts_like _ (cutting_from (first + 1) answers) (first + 1) answers
-        (λ n le. cond-false (n == first) _ _ (test_other n first (λ e. absurd (omega (arith, le, e))))) (cuts_as (first + 1) answers))
+    let here : cutting_from first (a ∷ answers) first ≡ most_of a = cond-true (first == first) _ _ (test_same first first refl) in (
+      here,
+      cuts_like _ (cutting_from (first + 1) answers) (first + 1) answers
+          (λ n le. cond-false (n == first) _ _ (test_other n first (λ e. absurd (omega (arith, le, e))))) (cuts_as (first + 1) answers),
+    )

@@ -4,16 +4,17 @@ use Rattle.std.specs.Prelude.{Option, Some, None}
 use Rattle.std.proofs.lemmas.Bool.{cases_Bool, cases_eq}
 use Rattle.ads_outside.specs.declared.event.Event.TheVariants as event
 use Rattle.ads_outside.specs.declared.moves.Move.TheVariants as move
-use Rattle.ads_machine.specs.Connection.{connection_of}
-use Rattle.ads_machine.specs.Moves.{state_after_move}
+use Rattle.ads_machine.specs.Connection.{connection_of, put_back}
+use Rattle.ads_machine.specs.MachineState.{after_exchange, exchange_of, with_exchange}
+use Rattle.ads_machine.specs.MachineState.{without_gone as forgets_gone}
+use Rattle.ads_machine.specs.Moves.{state_after_move, with_gone}
 use Rattle.ads_machine.proofs.Find.{number_of_found}
 use Rattle.ads_local.specs.LinkLog.{without_connection}
 use Rattle.ads_served.specs.Opened.{AreApart}
 use Rattle.server_core.specs.CoreState.{CoreState, after_event, after_move, OpensNew}
 use Rattle.server_core.specs.Served.{ServedState, ServedConnection, served_step}
 use Rattle.server_core.specs.Serves.{CoreView, Serves, present, without_gone}
-use Rattle.server_core.proofs.StateLemmas.{present-gone, present-there, connection_of-same, connection_of-other, put_back-same, put_back-other, none_behind, number_differs}
-use Rattle.ads_machine.specs.Connection as machine
+use Rattle.server_core.proofs.StateLemmas.{present-gone, present-there, connection_of-other, put_back-same, put_back-other, none_behind, number_differs}
 use Rattle.local_link.specs.Link.{unblocked}
 
 none_present : (n : ℕ) (ks : List ServedConnection) → connection_of n ks ≡ None → connection_of n (present ks) ≡ None
@@ -26,7 +27,7 @@ none_present n (k ∷ ks) e =
     ]
 
 forgotten : (n : ℕ) (l k : ServedConnection) (ks : List ServedConnection) → AreApart ks → connection_of n ks ≡ Some k → l.number ≡ n → l.gone ≡ true
-    → connection_of n (present (machine.put_back l ks)) ≡ None
+    → connection_of n (present (put_back l ks)) ≡ None
 unfolding connection_of
 forgotten n l k [] apart found number gone = absurd cc
 forgotten n l k (j ∷ ks) apart found number gone =
@@ -37,11 +38,23 @@ forgotten n l k (j ∷ ks) apart found number gone =
       | inr q ↦
           let rest = forgotten n l k ks apart.1 (sym (connection_of-other n j ks q) ∙ found) number gone in
           subst P (sym (put_back-other l j ks (λ r. q (r ∙ number)))) (elim (cases_Bool j.gone) [
-            | inl u ↦ ap (λ (ps : List ServedConnection). connection_of n ps) (present-gone j (machine.put_back l ks) u) ∙ rest
-            | inr u ↦ ap (λ (ps : List ServedConnection). connection_of n ps) (present-there j (machine.put_back l ks) u)
-                ∙ connection_of-other n j (present (machine.put_back l ks)) q ∙ rest
+            | inl u ↦ ap (λ (ps : List ServedConnection). connection_of n ps) (present-gone j (put_back l ks) u) ∙ rest
+            | inr u ↦ ap (λ (ps : List ServedConnection). connection_of n ps) (present-there j (put_back l ks) u)
+                ∙ connection_of-other n j (present (put_back l ks)) q ∙ rest
           ])
     ]
+
+anew : (shut new : CoreView) (s : ServedState) (o : Option ServedConnection) → connection_of 1 s.connections ≡ o → AreApart s.connections
+    → Serves shut (unblocked (after_exchange o with_gone s))
+    → ((core : CoreView) (x : CoreState) → Serves core x → Serves core (without_gone x))
+    → ((x : CoreState) → Serves shut x → OpensNew x (event.Opened 1) → Serves new (after_event x (event.Opened 1)))
+    → Serves new (unblocked (served_step (without_connection o s) (event.Opened 1)))
+unfolding state_after_move
+anew shut new s None e apart serves forgets opens = opens (unblocked s) serves e
+anew shut new s (Some k) e apart serves forgets opens =
+    let t = with_exchange (with_gone (exchange_of s k)) s in
+    let kept = forgets shut (unblocked t) serves in
+    opens (unblocked (forgets_gone t)) kept (forgotten 1 (record k { gone = true }) k s.connections apart e (number_of_found 1 k s.connections e) refl)
 
 -- the core behind a removal and an opening stands for the machine whose connection 1 was opened anew
 pub opens_anew : (shut new : CoreView) (s : ServedState) → AreApart s.connections
@@ -50,7 +63,4 @@ pub opens_anew : (shut new : CoreView) (s : ServedState) → AreApart s.connecti
     → ((x : CoreState) → Serves shut x → OpensNew x (event.Opened 1) → Serves new (after_event x (event.Opened 1)))
     → Serves new (unblocked (served_step (without_connection (connection_of 1 s.connections) s) (event.Opened 1)))
 unfolding state_after_move
-opens_anew shut new s apart serves forgets opens = go (connection_of 1 s.connections) refl
-  where
-    go : (o : Option ServedConnection) → connection_of 1 s.connections ≡ o → Serves new (unblocked (served_step (without_connection o s) (event.Opened 1)))
-    go o e = ?
+opens_anew shut new s apart serves forgets opens = anew shut new s (connection_of 1 s.connections) refl apart serves forgets opens

@@ -1,5 +1,5 @@
 -- What a link to the server in the same process is, and the logs that it tells.
-use Rattle.std.specs.Prelude.{◌≡◌, ℕ, List, [], Bool, false}
+use Rattle.std.specs.Prelude.{◌≡◌, List, [], Bool, false}
 use Rattle.ads_outside.specs.LinkState.{LinkHistory, LinkState}
 use Rattle.ads_outside.specs.declared.link_move.LinkMove.{LinkMove}
 use Rattle.ads_local.specs.LinkLog.{IsLogOf, machine_after_log}

@@ -6,3 +6,4 @@ mod stepping;
 mod waiting;
 
 pub use local::LocalLink;
+pub use stepping::{OnThreads, Steps};

@@ -1,11 +1,12 @@
 //! The server in the client's own process.
 
 ghost use Rattle.std.specs.Prelude.{◌≡◌, ◌≢◌, ◌≤◌, ◌<◌, [], ◌∷◌, ◌++◌, List, length, IfOk, OnOk, OnErr};
-ghost use Rattle.ads_outside.specs.LinkState.{not_connected};
+ghost use Rattle.ads_outside.specs.LinkState.{not_connected, connected_at};
+ghost use Rattle.ads_local.specs.LocalCall.{LAST_MOMENT, next_tick};
 ghost use Rattle.server_core.specs.Served.{ServedState};
 ghost use Rattle.server_core.specs.Serves.{Serves};
 
-use crate::stepping::step;
+use crate::stepping::{OnThreads, Steps};
 use crate::waiting::take_waiting;
 use ads_base::{NoMemory, Octets};
 use ads_outside::{Connected, Event, Link, LinkCounts, Received, Sent};
@@ -21,8 +22,8 @@ const LOCAL_TICK: u64 = 100_000;
 /// connection comes. Where nothing waits, the machine's clock goes on by a hundredth of a second. No call fails; after
 /// want of memory each call answers so.
 #[derive(Drop)]
-pub struct LocalLink<'a, T: Threads + Sync, G: Sources> {
-    rt: &'a T,
+pub struct LocalLink<P: Steps, G: Sources> {
+    steps: P,
     alloc: Global,
     core: Core<G>,
     counts: LinkCounts,
@@ -30,32 +31,37 @@ pub struct LocalLink<'a, T: Threads + Sync, G: Sources> {
     wanting: bool,
 }
 
-impl<'a, T: Threads + Sync, G: Sources> Model for LocalLink<'a, T, G> {
+impl<P: Steps, G: Sources> Model for LocalLink<P, G> {
     ghost use Rattle.local_link.specs.Link.{LocalView};
 
     ghost Value = { LocalView };
 
     ghost view = { λ l. record { core = l.core; history = l.counts; wanting = l.wanting } };
+
+    ghost invariant = { λ l. P.can_step l.steps };
 }
 
-impl<'a, T: Threads + Sync, G: Sources> LocalLink<'a, T, G> {
-    ghost use Rattle.local_link.specs.Link.{unblocked, IsTold, StandsFor, state_of};
-    ghost use Rattle.local_link.specs.Giving.{Follows, Gives};
-    ghost use Rattle.ads_outside.specs.declared.link_move.LinkMove.TheVariants as link;
+impl<'a, T: Threads + Sync, G: Sources> LocalLink<OnThreads<'a, T>, G> {
+    ghost use Rattle.local_link.specs.Link.{unblocked, IsTold};
 
     /// A link to this core, which has no connection and no last moment. Nothing is allocated.
-    pub fn new(rt: &'a T, alloc: Global, core: Core<G>) -> LocalLink<'a, T, G>
+    pub fn new(rt: &'a T, alloc: Global, core: Core<G>) -> LocalLink<OnThreads<'a, T>, G>
         ensures told { (s : ServedState) → Serves core (unblocked s) → s.moment ≡ 0 → IsTold result s [] }
         ensures history { result.history ≡ not_connected }
     {
         LocalLink {
-            rt,
+            steps: OnThreads::new(rt),
             alloc,
             core,
             counts: LinkCounts::new(),
             wanting: false,
         }
     }
+}
+
+impl<P: Steps, G: Sources> LocalLink<P, G> {
+    ghost use Rattle.local_link.specs.Giving.{Follows, Gives};
+    ghost use Rattle.ads_outside.specs.declared.link_move.LinkMove.TheVariants as link;
 
     // Connection 1 is opened; one that is there is removed before.
     fn open(&mut self, to: &str) -> Result<u64, NoMemory>
@@ -66,7 +72,8 @@ impl<'a, T: Threads + Sync, G: Sources> LocalLink<'a, T, G> {
     {
         self.core.remove(1);
         gone_connections_are_forgotten();
-        step(self.rt, self.alloc, &mut self.core, Event::Opened(1))?;
+        self.steps
+            .step(self.alloc, &mut self.core, Event::Opened(1))?;
         let now = self.counts.moment();
         self.counts.connect(now);
         Ok(now)
@@ -78,7 +85,9 @@ impl<'a, T: Threads + Sync, G: Sources> LocalLink<'a, T, G> {
         ensures same { self.new.history ≡ self.old.history }
     {
         let copy = Octets::copy_of(self.alloc, bytes)?;
-        step(self.rt, self.alloc, &mut self.core, Event::Piece(1, copy))
+        self.steps
+            .step(self.alloc, &mut self.core, Event::Piece(1, copy))?;
+        Ok(())
     }
 
     // What waits is given; or else the end, where the connection is to be shut; or else a tick is made, and what waits
@@ -88,30 +97,39 @@ impl<'a, T: Threads + Sync, G: Sources> LocalLink<'a, T, G> {
         ensures gives { IfOk result (λ answer. Gives answer (length buf.old) buf.new self.old self.new) }
         ensures no_memory { OnErr result (self.new.history ≡ self.old.history) }
     {
-        let n = take_waiting(self.rt, self.alloc, &mut self.core, buf)?;
-        if n > 0 {
+        let waits = take_waiting(&self.steps, self.alloc, &mut self.core, buf)?;
+        if waits > 0 {
             let now = self.counts.moment();
             self.counts.bytes(now);
-            return Ok(Received::Bytes(n, now));
+            return Ok(Received::Bytes(waits, now));
         }
         if self.core.closing(1) {
             let now = self.counts.moment();
             self.counts.close(now);
             return Ok(Received::Closed(now));
         }
-        let now = self.counts.moment().saturating_add(LOCAL_TICK);
-        step(self.rt, self.alloc, &mut self.core, Event::Tick(now))?;
-        let n = take_waiting(self.rt, self.alloc, &mut self.core, buf)?;
-        if n > 0 {
+        let now = next_tick(self.counts.moment());
+        self.steps
+            .step(self.alloc, &mut self.core, Event::Tick(now))?;
+        let came = take_waiting(&self.steps, self.alloc, &mut self.core, buf)?;
+        if came > 0 {
             self.counts.bytes(now);
-            return Ok(Received::Bytes(n, now));
+            return Ok(Received::Bytes(came, now));
         }
         self.counts.quiet(now);
         Ok(Received::Quiet(now))
     }
 }
 
-impl<'a, T: Threads + Sync, G: Sources> Link for LocalLink<'a, T, G> {
+// The moment of the tick behind this one; the clock stands still at its type's end.
+fn next_tick(now: u64) -> u64
+    ensures is { result ≡ next_tick now }
+    ensures bound { now ≤ LAST_MOMENT }
+{
+    now.saturating_add(LOCAL_TICK)
+}
+
+impl<P: Steps, G: Sources> Link for LocalLink<P, G> {
     ghost use Rattle.ads_outside.specs.declared.link_move.LinkMove.{LinkMove as MoveOf};
     ghost use Rattle.ads_outside.specs.LinkAnswers.{Connects, Sends, Receives};
     ghost use Rattle.ads_outside.specs.LinkAnswers.{log_after_connect, TellsSent, log_after_recv};

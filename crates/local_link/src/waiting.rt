@@ -1,26 +1,27 @@
 //! What waits for connection 1.
 
-ghost use Rattle.std.specs.Prelude.{◌<◌, ◌≤◌, ◌^◌, length, IfOk};
+ghost use Rattle.std.specs.Prelude.{◌≡◌, ◌<◌, ◌≤◌, ◌^◌, length, IfOk};
+ghost use Rattle.server_core.specs.CoreState.{CoreState, offer_at};
 ghost use Rattle.server_core.specs.Served.{ServedState};
 ghost use Rattle.server_core.specs.Serves.{Serves, offer_in};
 ghost use Rattle.local_link.specs.Link.{unblocked};
-ghost use Rattle.local_link.specs.Giving.{CopiesOffer, Takes};
+ghost use Rattle.local_link.specs.Giving.{CopiesFirst, CopiesOffer, Takes};
 
-use crate::stepping::step;
+use crate::stepping::Steps;
 use ads_base::NoMemory;
 use ads_outside::Event;
 use server_core::{Core, Sources};
 use std::alloc::Global;
-use std::thread::Threads;
 
 /// What waits for connection 1 is taken, as far as a buffer takes it: so many bytes, none where nothing waits.
-pub(crate) fn take_waiting<T: Threads + Sync, G: Sources>(
-    rt: &T,
+pub(crate) fn take_waiting<S: Steps, G: Sources>(
+    steps: &S,
     alloc: Global,
     core: &mut Core<G>,
     buf: &mut [u8],
 ) -> Result<u32, NoMemory>
-    requires { 0 < length buf.old }
+    requires can { S.can_step steps.now }
+    requires some { 0 < length buf.old }
     ensures fits { IfOk result (λ n. n ≤ length buf.old) }
     ensures takes { IfOk result (λ n. (s : ServedState) → Serves core.old (unblocked s) → Takes n buf.new core.new s) }
 {
@@ -29,14 +30,15 @@ pub(crate) fn take_waiting<T: Threads + Sync, G: Sources>(
         return Ok(0);
     }
     core.took(1, n);
-    step(rt, alloc, core, Event::Writable(1))?;
+    steps.step(alloc, core, Event::Writable(1))?;
     Ok(n)
 }
 
 // What is offered to connection 1 is copied into a buffer, as far as it takes it.
 fn copy_offer<G: Sources>(core: &Core<G>, buf: &mut [u8]) -> u32
     requires { 0 < length buf.old }
-    ensures { CopiesOffer result (offer_in core.now 1) buf.new }
+    ensures copies { CopiesOffer result (offer_in core.now 1) buf.new }
+    ensures machine { (x : CoreState) → Serves core.now x → offer_in core.now 1 ≡ offer_at 1 x }
 {
     match core.offer_of(1) {
         Some(left) => copy_first(left, buf),

@@ -1,0 +1,5 @@
+pub mod Removed
+pub mod Waits
+pub mod Moves
+pub mod Gives
+pub mod Tells

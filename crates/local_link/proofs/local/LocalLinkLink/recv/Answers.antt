@@ -1,0 +1,8 @@
+use Rattle.std.proofs.Common.{sym, ap, ◌∙◌}
+use Rattle.local_link.specs.Link.{LocalView}
+use Rattle.local_link.proofs.Tells.{told_answer}
+use Rattle.local_link.proofs.local.LocalLinkLink.recv.Goals as goal
+
+pub returns-in-Ok-clause-told : goal.returns-in-Ok-clause-told
+returns-in-Ok-clause-told g c = λ o log told.
+    told_answer c.args.self.now _ o log _ _ (ap (λ (l : LocalView). l.wanting) (sym c.self.view_is) ∙ c.if-self.false) c.in-Ok.ensures.gives.follows told
