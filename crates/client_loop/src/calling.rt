@@ -1,21 +1,31 @@
 //! The whole call.
 
+ghost use Rattle.ads_formats.specs.Header.{AmsAddress};
+ghost use Rattle.ads_client.specs.Calls.{Call as CallSpec};
+ghost use Rattle.ads_client.specs.Runner.{new_runner};
+ghost use Rattle.client_calls.specs.Represents.{StandsFor, IsGoingOn};
+ghost use Rattle.ads_client.specs.Conversation.{conversation_begun};
 ghost use Rattle.ams_header.specs.Header.{address_of};
 ghost use Rattle.ads_outside.specs.LinkState.{LinkNeverFalls};
 ghost use Rattle.ads_outside.specs.SinkState.{NeverFalls};
 ghost use Rattle.client_replies.specs.Sound.{HasShortTexts};
 ghost use Rattle.client_replies.specs.Stages.{call_meant};
 ghost use Rattle.client_loop.specs.Called.{AfterCall, calling};
+ghost use Rattle.client_loop.specs.Hearing.{EndsFrom};
 
 use crate::LoopEnd;
+use crate::hearing::hear_all;
+use crate::turning::{Turned, take_turns};
 use ads_base::{AmsAddr, NoMemory};
-use ads_outside::{Link, Sink};
-use client_calls::Call;
+use ads_outside::{Connected, Link, Sink};
+use client_calls::{Call, Runner};
 use std::alloc::Global;
 
-/// Stand-in.
+/// A call over a link. It connects the link to `to`, and the moment of that answer is the first one. Then it sends each
+/// request and puts each text of the call, in order, and hears what the link gives next, until the call is over. It ends
+/// with the millionth `Quiet` in a row and the 10,000,000,000,000th answer, unless the call is over by it.
 pub fn run_call<L: Link, S: Sink>(
-    _alloc: Global,
+    alloc: Global,
     call: Call,
     me: AmsAddr,
     peer: AmsAddr,
@@ -29,6 +39,55 @@ pub fn run_call<L: Link, S: Sink>(
     ensures link_later { LinkNeverFalls (L.state link.old) (L.state link.new) }
     ensures out_later { NeverFalls (S.state out.old) (S.state out.new) }
 {
-    let _call = call;
-    Err(NoMemory)
+    match link.connect(to) {
+        Connected::Ready(now) => talk(alloc, call, me, peer, link, out, now),
+        Connected::Failed => Ok(LoopEnd::LinkFault),
+        Connected::Memory => Err(NoMemory),
+    }
+}
+
+// The call over a link that was connected at this moment.
+fn talk<L: Link, S: Sink>(
+    alloc: Global,
+    call: Call,
+    me: AmsAddr,
+    peer: AmsAddr,
+    link: &mut L,
+    out: &mut S,
+    now: u64,
+) -> Result<LoopEnd, NoMemory>
+    requires { HasShortTexts (call_meant call) }
+    ensures talks { EndsFrom result (conversation_begun (address_of me) (address_of peer) (call_meant call) now)
+        (L.tells link.old) (L.tells link.new) (L.state link.old) (L.state link.new) (S.state out.old) (S.state out.new) }
+    ensures link_later { LinkNeverFalls (L.state link.old) (L.state link.new) }
+    ensures out_later { NeverFalls (S.state out.old) (S.state out.new) }
+{
+    match Runner::new(alloc, call, me, peer) {
+        Ok(mut runner) => talk_by(alloc, &mut runner, link, out, now),
+        Err(e) => Err(e),
+    }
+}
+
+// The call of a new runner.
+fn talk_by<L: Link, S: Sink>(
+    alloc: Global,
+    runner: &mut Runner,
+    link: &mut L,
+    out: &mut S,
+    now: u64,
+) -> Result<LoopEnd, NoMemory>
+    requires { IsGoingOn runner.old }
+    ensures talks { (me peer : AmsAddress) (call : CallSpec) → StandsFor runner.old (new_runner me peer call)
+        → EndsFrom result (conversation_begun me peer call now)
+        (L.tells link.old) (L.tells link.new) (L.state link.old) (L.state link.new) (S.state out.old) (S.state out.new) }
+    ensures link_later { LinkNeverFalls (L.state link.old) (L.state link.new) }
+    ensures out_later { NeverFalls (S.state out.old) (S.state out.new) }
+{
+    match take_turns(alloc, runner, link, out, now) {
+        Ok(Turned::Waits) => hear_all(alloc, runner, link, out),
+        Ok(Turned::Over(end)) => Ok(LoopEnd::Call(end)),
+        Ok(Turned::LinkFault) => Ok(LoopEnd::LinkFault),
+        Ok(Turned::WriteFault) => Ok(LoopEnd::WriteFault),
+        Err(e) => Err(e),
+    }
 }

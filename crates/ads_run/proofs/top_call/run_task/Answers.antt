@@ -43,3 +43,35 @@ returns-in-Serve-clause-ends g c =
     (over_first held
     (λ files. EndsBy (verdict_of_file (verdict_of_serve waves c.in-Serve.description c.in-Serve.listen c.in-Serve.events) (bytes_of files c.in-Serve.description)) failed c.serve.result out out_new wire wire_new)
     c.serve.ensures.ends))
+
+pub returns-in-To-clause-ends : goal.returns-in-To-clause-ends
+returns-in-To-clause-ends g c =
+    let held = (g.F.Files.state c.args.files.now).held in
+    let waves = g.G.Sources.waves c.args.signals in
+    let failed = Rose (g.F.Files.state c.args.files.now).faults (g.F.Files.state c.args.files.now).faults in
+    let out = g.S.Sink.state c.args.out.now in
+    let out_new = g.S.Sink.state c.ask_over_link.new.out in
+    let wire = (g.W.Wire.state c.args.wire.now).history in
+    let what = c.in-Ask.what in
+    let client = c.in-Ask.client in
+    let link = used (g.L.Link.tells c.args.link.now) (g.L.Link.tells c.ask_over_link.new.link) (g.L.Link.state c.args.link.now) (g.L.Link.state c.ask_over_link.new.link) in
+    runs_of_task held waves c.args.task.now (task.Ask what client) failed c.ask_over_link.result out out_new wire wire link c.in-Ask.is
+    (runs_of_peer held waves what client (peer.To c.in-To.to c.in-To.net) failed c.ask_over_link.result out out_new wire wire link c.in-To.is
+    (call_as_run held (calling (own_address client) (asked_address c.in-To.net client) (call_asked what) c.in-To.to) failed c.ask_over_link.result out out_new wire link
+    c.ask_over_link.ensures.ends))
+
+pub returns-in-Local-clause-ends : goal.returns-in-Local-clause-ends
+returns-in-Local-clause-ends g c =
+    let held = (g.F.Files.state c.args.files.now).held in
+    let waves = g.G.Sources.waves c.args.signals in
+    let failed = Rose (g.F.Files.state c.args.files.now).faults (g.F.Files.state c.ask_locally.new.files).faults in
+    let out = g.S.Sink.state c.args.out.now in
+    let out_new = g.S.Sink.state c.ask_locally.new.out in
+    let wire = (g.W.Wire.state c.args.wire.now).history in
+    let what = c.in-Ask.what in
+    let client = c.in-Ask.client in
+    let link = used (g.L.Link.tells c.args.link.now) (g.L.Link.tells c.args.link.now) (g.L.Link.state c.args.link.now) (g.L.Link.state c.args.link.now) in
+    runs_of_task held waves c.args.task.now (task.Ask what client) failed c.ask_locally.result out out_new wire wire link c.in-Ask.is
+    (runs_of_peer held waves what client (peer.Local c.in-Local.description) failed c.ask_locally.result out out_new wire wire link c.in-Local.is
+    (asks_as_run held (λ first. verdict_of_file (verdict_of_local waves what client) (bytes_of first c.in-Local.description)) failed c.ask_locally.result out out_new wire link
+    c.ask_locally.ensures.ends))

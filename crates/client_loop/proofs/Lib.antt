@@ -1,0 +1,10 @@
+pub mod SaidLemmas
+pub mod RestLemmas
+pub mod LogLemmas
+pub mod GoingLemmas
+pub mod TurnLemmas
+pub mod RoundLemmas
+pub mod OverLemmas
+pub mod TalkLemmas
+pub mod LaterLemmas
+pub mod ComeLemmas

@@ -1,0 +1,203 @@
+-- The first turns of a call, and the whole call behind the connection.
+use Rattle.std.proofs.Common.{◌≡◌, ℕ, ◌≤◌, List, [], ◌∷◌, ◌++◌, Option, None, refl, sym, ap, ◌∙◌, subst, inl, inr, append_assoc}
+use Rattle.std.specs.Prelude.{Result, Ok, Err}
+use Rattle.std.proofs.lemmas.List.{append-nil}
+use Rattle.ads_base.specs.declared.no_memory.NoMemory.{NoMemory}
+use Rattle.ads_formats.specs.Header.{AmsAddress}
+use Rattle.ads_outside.specs.declared.link_move.LinkMove.{LinkMove}
+use Rattle.ads_outside.specs.declared.link_move.LinkMove.TheVariants as move
+use Rattle.ads_outside.specs.LinkState.{LinkState, connected_at}
+use Rattle.ads_outside.specs.SinkState.{SinkState}
+use Rattle.ads_client.specs.Calls.{Call}
+use Rattle.ads_client.specs.CallOver.{conversation_after_all}
+use Rattle.ads_client.specs.Conversation as conversation
+use Rattle.ads_client.specs.Conversation.{LinkAnswer, Conversation, Sent, CallEnded, printed_by, sent_by, conversation_begun, conversation_after_turns}
+use Rattle.ads_client.specs.Runner.{new_runner, turns}
+use Rattle.ads_talk.specs.CallLog.{sent_moves, sent_last, log_behind, log_up_to}
+use Rattle.client_replies.specs.declared.stage.CallEnd.{CallEnd}
+use Rattle.client_calls.specs.Kept.{RunnerKept}
+use Rattle.client_loop.specs.declared.loop_end.LoopEnd.{LoopEnd}
+use Rattle.client_loop.specs.declared.loop_end.LoopEnd.TheVariants as end
+use Rattle.client_loop.specs.declared.turning.Turned.TheVariants as turned
+use Rattle.client_loop.specs.LinkAfter.{history_after_answers}
+use Rattle.client_loop.specs.Said.{SentSome, Gives, GivesSome}
+use Rattle.client_loop.specs.Turning.{AfterTurns}
+use Rattle.client_loop.specs.Called.{Calling, Talks, BreaksOff, AfterCall}
+use Rattle.client_loop.specs.Hearing.{IsWhole, IsPart, EndsOver, EndsFrom, IsBegun}
+use Rattle.client_loop.proofs.LogLemmas.{log_pending}
+use Rattle.client_loop.proofs.OverLemmas.{told_whole}
+use Rattle.client_loop.proofs.SaidLemmas.{puts_nothing, puts_then, puts_part, puts_none, tells_more, tells_same, all_some}
+use Rattle.client_loop.proofs.TurnLemmas.{rose_later}
+
+-- the call waits behind its first turns
+pub begins : {O : Type 0} (me peer : AmsAddress) (call : Call) (now : ℕ) (k : RunnerKept) (first second : O → List LinkMove → Type 0) (link mid_link : LinkState) (out mid : SinkState)
+    → AfterTurns (Ok turned.Waits) now k first second link mid_link out mid 1 (new_runner me peer call) → IsBegun k (conversation_begun me peer call now)
+unfolding conversation_after_turns
+begins me peer call now k first second link mid_link out mid t = record { on = t.1; stands = t.0; quiet_is = refl; count_is = refl }
+
+-- what the first turns gave
+pub gives_begun : {O : Type 0} (me peer : AmsAddress) (call : Call) (now : ℕ) (k : RunnerKept) (first second : O → List LinkMove → Type 0) (link mid_link : LinkState) (out mid : SinkState)
+    → AfterTurns (Ok turned.Waits) now k first second link mid_link out mid 1 (new_runner me peer call)
+    → Gives (conversation_begun me peer call now).sent (conversation_begun me peer call now).text first second out.held mid.held
+unfolding conversation_after_turns
+gives_begun me peer call now k first second link mid_link out mid t = t.2
+
+whole_from : {O : Type 0} (c : Conversation) (ended : Option conversation.LoopEnd) (first second third : O → List LinkMove → Type 0) (link mid_link new_link : LinkState) (out mid new_out : SinkState)
+    → mid_link.history ≡ link.history → Gives c.sent c.text first second out.held mid.held → IsWhole c.text [] c ended second third mid_link new_link mid new_out
+    → IsWhole [] c.sent c ended first third link new_link out new_out
+whole_from c ended first second third link mid_link new_link out mid new_out same gives g = record {
+  answers = g.answers;
+  history = g.history ∙ ap (λ h. history_after_answers h g.answers) same;
+  awaited = g.awaited;
+  end_is = g.end_is;
+  text = λ base before. g.text base (puts_then base out.held mid.held [] c.text before gives.put);
+  told = λ o log told.
+      subst (λ ms. third o (log ++ ms)) (sym (log_pending c.sent c g.answers))
+      (tells_more third o log (sent_moves c.sent) (log_behind [] c g.answers) (g.told o (log ++ sent_moves c.sent) (gives.told o log told)));
+}
+
+part_with : {O : Type 0} (answers : List LinkAnswer) (c : Conversation) (tells : O → List LinkMove → Type 0) (o : O) (log : List LinkMove)
+    → SentSome (sent_last [] c answers) tells o (log ++ sent_moves c.sent ++ log_up_to [] c answers)
+    → SentSome (sent_last c.sent c answers) tells o (log ++ log_up_to c.sent c answers)
+unfolding log_up_to sent_last
+part_with [] c tells o log s =
+    let whole : tells o (log ++ sent_moves c.sent) = subst (tells o) (append-nil (log ++ sent_moves c.sent)) (told_whole tells o (log ++ sent_moves c.sent ++ []) s) in
+    record {
+      moves = sent_moves c.sent;
+      told = subst (λ ms. tells o (ms ++ sent_moves c.sent)) (sym (append-nil log)) whole;
+      some = all_some c.sent;
+    }
+part_with (b ∷ more) c tells o log s = subst (λ ms. SentSome (sent_last [] c (b ∷ more)) tells o ms) (append_assoc log (sent_moves c.sent) (log_up_to [] c (b ∷ more))) s
+
+part_from : {O : Type 0} (c : Conversation) (first second third : O → List LinkMove → Type 0) (link mid_link new_link : LinkState) (out mid new_out : SinkState)
+    → mid_link.history ≡ link.history → Gives c.sent c.text first second out.held mid.held → IsPart c.text [] c second third mid_link new_link mid new_out
+    → IsPart [] c.sent c first third link new_link out new_out
+part_from c first second third link mid_link new_link out mid new_out same gives g = record {
+  answers = g.answers;
+  history = g.history ∙ ap (λ h. history_after_answers h g.answers) same;
+  awaited = g.awaited;
+  text = λ base before. g.text base (puts_then base out.held mid.held [] c.text before gives.put);
+  told = λ o log told. part_with g.answers c third o log (g.told o (log ++ sent_moves c.sent) (gives.told o log told));
+}
+
+-- the answers behind the first turns
+pub ends_from : {O : Type 0} (result : Result LoopEnd NoMemory) (c : Conversation) (first second third : O → List LinkMove → Type 0) (link mid_link new_link : LinkState) (out mid new_out : SinkState)
+    → mid_link.history ≡ link.history → link.faults ≤ mid_link.faults → out.faults ≤ mid.faults → Gives c.sent c.text first second out.held mid.held
+    → EndsOver result c second third mid_link new_link mid new_out → EndsFrom result c first third link new_link out new_out
+ends_from (Ok (end.Call e)) c first second third link mid_link new_link out mid new_out same linked outed gives g = whole_from c _ first second third link mid_link new_link out mid new_out same gives g
+ends_from (Ok end.Budget) c first second third link mid_link new_link out mid new_out same linked outed gives g = whole_from c _ first second third link mid_link new_link out mid new_out same gives g
+ends_from (Ok end.LinkFault) c first second third link mid_link new_link out mid new_out same linked outed gives g = (
+  rose_later link.faults mid_link.faults new_link.faults linked g.0,
+  elim g.1 [
+    | inl w ↦ inl (whole_from c None first second third link mid_link new_link out mid new_out same gives w)
+    | inr w ↦ inr (part_from c first second third link mid_link new_link out mid new_out same gives w)
+  ],
+)
+ends_from (Ok end.WriteFault) c first second third link mid_link new_link out mid new_out same linked outed gives g =
+    (rose_later out.faults mid.faults new_out.faults outed g.0, part_from c first second third link mid_link new_link out mid new_out same gives g.1)
+ends_from (Err e) c first second third link mid_link new_link out mid new_out same linked outed gives g = part_from c first second third link mid_link new_link out mid new_out same gives g
+
+-- the call is over by its first turns
+pub over_first : {O : Type 0} (e : CallEnd) (me peer : AmsAddress) (call : Call) (now : ℕ) (k : RunnerKept) (first second : O → List LinkMove → Type 0) (link new_link : LinkState) (out new_out : SinkState)
+    → new_link.history ≡ link.history → AfterTurns (Ok (turned.Over e)) now k first second link new_link out new_out 1 (new_runner me peer call)
+    → EndsFrom (Ok (end.Call e)) (conversation_begun me peer call now) first second link new_link out new_out
+unfolding conversation_after_turns conversation_after_all log_behind
+over_first e me peer call now k first second link new_link out new_out same t = record {
+  answers = [];
+  history = same;
+  awaited = tt;
+  end_is = t.0;
+  text = λ base before. puts_then base out.held new_out.held [] (printed_by (turns now (new_runner me peer call)).steps) before t.1.put;
+  told = t.1.told;
+}
+
+part_first : {O : Type 0} (me peer : AmsAddress) (call : Call) (now : ℕ) (first second : O → List LinkMove → Type 0) (link new_link : LinkState) (out new_out : SinkState)
+    → new_link.history ≡ link.history
+    → GivesSome (sent_by 1 (turns now (new_runner me peer call)).steps) (printed_by (turns now (new_runner me peer call)).steps) first second out.held new_out.held
+    → let c = conversation_begun me peer call now in IsPart [] c.sent c first second link new_link out new_out
+unfolding conversation_after_turns conversation_after_all log_up_to sent_last
+part_first me peer call now first second link new_link out new_out same gives = record {
+  answers = [];
+  history = same;
+  awaited = tt;
+  text = λ base before. puts_part base out.held new_out.held [] (printed_by (turns now (new_runner me peer call)).steps) before gives.put;
+  told = λ o log told. subst (λ ms. SentSome (sent_by 1 (turns now (new_runner me peer call)).steps) second o ms) (sym (append-nil log)) (gives.told o log told);
+}
+
+pub link_first : {O : Type 0} (me peer : AmsAddress) (call : Call) (now : ℕ) (k : RunnerKept) (first second : O → List LinkMove → Type 0) (link new_link : LinkState) (out new_out : SinkState)
+    → new_link.history ≡ link.history → AfterTurns (Ok turned.LinkFault) now k first second link new_link out new_out 1 (new_runner me peer call)
+    → EndsFrom (Ok end.LinkFault) (conversation_begun me peer call now) first second link new_link out new_out
+link_first me peer call now k first second link new_link out new_out same t = (t.0, inr (part_first me peer call now first second link new_link out new_out same t.1))
+
+pub write_first : {O : Type 0} (me peer : AmsAddress) (call : Call) (now : ℕ) (k : RunnerKept) (first second : O → List LinkMove → Type 0) (link new_link : LinkState) (out new_out : SinkState)
+    → new_link.history ≡ link.history → AfterTurns (Ok turned.WriteFault) now k first second link new_link out new_out 1 (new_runner me peer call)
+    → EndsFrom (Ok end.WriteFault) (conversation_begun me peer call now) first second link new_link out new_out
+write_first me peer call now k first second link new_link out new_out same t = (t.0, part_first me peer call now first second link new_link out new_out same t.1)
+
+pub memory_first : {O : Type 0} (e : NoMemory) (me peer : AmsAddress) (call : Call) (now : ℕ) (k : RunnerKept) (first second : O → List LinkMove → Type 0) (link new_link : LinkState) (out new_out : SinkState)
+    → new_link.history ≡ link.history → AfterTurns (Err e) now k first second link new_link out new_out 1 (new_runner me peer call)
+    → EndsFrom (Err e) (conversation_begun me peer call now) first second link new_link out new_out
+memory_first e me peer call now k first second link new_link out new_out same t = part_first me peer call now first second link new_link out new_out same t
+
+-- memory was wanting before them
+pub never_first : {O : Type 0} (c : Conversation) (tells : O → List LinkMove → Type 0) (link : LinkState) (out : SinkState) → IsPart [] c.sent c tells tells link link out out
+unfolding conversation_after_all log_up_to sent_last
+never_first c tells link out = record {
+  answers = [];
+  history = refl;
+  awaited = tt;
+  text = λ base before. puts_part base out.held out.held [] c.text before (puts_none out.held c.text);
+  told = λ o log told. record { moves = []; told = tells_same tells o (log ++ []) (tells_same tells o log told); some = tt };
+}
+
+abbrev begun_by : Calling → ℕ → Conversation
+begun_by x now = conversation_begun x.me x.peer x.call now
+
+abbrev Joins : {O : Type 0} → Calling → ℕ → (O → List LinkMove → Type 0) → (O → List LinkMove → Type 0) → Type 0
+Joins {O} x now first second = (o : O) (log : List LinkMove) → first o log → second o (log ++ move.Connected x.to now ∷ [])
+
+talks_from : {O : Type 0} (x : Calling) (now : ℕ) (ended : Option conversation.LoopEnd) (first second third : O → List LinkMove → Type 0) (mid_link new_link : LinkState) (out new_out : SinkState)
+    → mid_link.history ≡ connected_at now → Joins x now first second → IsWhole [] (begun_by x now).sent (begun_by x now) ended second third mid_link new_link out new_out
+    → Talks x ended first third new_link out new_out
+talks_from x now ended first second third mid_link new_link out new_out at joins g = record {
+  moment = now;
+  answers = g.answers;
+  history = g.history ∙ ap (λ h. history_after_answers h g.answers) at;
+  awaited = g.awaited;
+  end_is = g.end_is;
+  text = g.text out.held (puts_nothing out.held);
+  told = λ o log told. tells_more third o log (move.Connected x.to now ∷ []) (log_behind (begun_by x now).sent (begun_by x now) g.answers) (g.told o (log ++ move.Connected x.to now ∷ []) (joins o log told));
+}
+
+breaks_from : {O : Type 0} (x : Calling) (now : ℕ) (first second third : O → List LinkMove → Type 0) (mid_link new_link : LinkState) (out new_out : SinkState)
+    → mid_link.history ≡ connected_at now → Joins x now first second → IsPart [] (begun_by x now).sent (begun_by x now) second third mid_link new_link out new_out
+    → BreaksOff x first third new_link out new_out
+breaks_from x now first second third mid_link new_link out new_out at joins g =
+    let c = begun_by x now in
+    record {
+      moment = now;
+      answers = g.answers;
+      history = g.history ∙ ap (λ h. history_after_answers h g.answers) at;
+      awaited = g.awaited;
+      text = g.text out.held (puts_nothing out.held);
+      told = λ o log told.
+          subst (λ ms. SentSome (sent_last c.sent c g.answers) third o ms) (append_assoc log (move.Connected x.to now ∷ []) (log_up_to c.sent c g.answers))
+          (g.told o (log ++ move.Connected x.to now ∷ []) (joins o log told));
+    }
+
+-- the whole call, behind its connection
+pub calls : {O : Type 0} (result : Result LoopEnd NoMemory) (x : Calling) (now : ℕ) (first second third : O → List LinkMove → Type 0) (link mid_link new_link : LinkState) (out new_out : SinkState)
+    → mid_link.history ≡ connected_at now → link.faults ≤ mid_link.faults → Joins x now first second
+    → EndsFrom result (begun_by x now) second third mid_link new_link out new_out → AfterCall result x first third link new_link out new_out
+calls (Ok (end.Call e)) x now first second third link mid_link new_link out new_out at later joins g = talks_from x now _ first second third mid_link new_link out new_out at joins g
+calls (Ok end.Budget) x now first second third link mid_link new_link out new_out at later joins g = talks_from x now _ first second third mid_link new_link out new_out at joins g
+calls (Ok end.LinkFault) x now first second third link mid_link new_link out new_out at later joins g = (
+  rose_later link.faults mid_link.faults new_link.faults later g.0,
+  elim g.1 [
+    | inl w ↦ inr (inl (talks_from x now None first second third mid_link new_link out new_out at joins w))
+    | inr w ↦ inr (inr (breaks_from x now first second third mid_link new_link out new_out at joins w))
+  ],
+)
+calls (Ok end.WriteFault) x now first second third link mid_link new_link out new_out at later joins g =
+    (g.0, breaks_from x now first second third mid_link new_link out new_out at joins g.1)
+calls (Err e) x now first second third link mid_link new_link out new_out at later joins g = inr (breaks_from x now first second third mid_link new_link out new_out at joins g)
