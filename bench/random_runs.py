@@ -1,6 +1,7 @@
 #!/usr/bin/env python3
-"""Random descriptions and scripts: what `ads replay` prints against a model of the protocol in plain Python (bench/model.py), byte for byte; and damaged
-descriptions, scripts and words, which must end with a status of their own and never crash or hang.
+"""Random descriptions and scripts: what `ads replay` prints against a model of the protocol in plain Python (bench/model.py), byte for byte; random clients of
+`ads serve` over loopback, each of whose bytes must be the model's; and damaged descriptions and scripts, which must end with a status of their own and never crash
+or hang.
 
     python3 bench/random_runs.py [--seconds N] [--seed N] [--program PATH] [--keep FOLDER]
 
@@ -10,6 +11,7 @@ seed, and its description, script and both texts are kept in the folder of --kee
 import argparse
 import os
 import random
+import socket
 import subprocess
 import sys
 import tempfile
@@ -243,9 +245,10 @@ def bytes_for(r, most):
     return r.randbytes(min(most, r.choice((most, 40)), 3000))
 
 
-def request(r, d, handles, in_sum=False):
-    """A command and its payload."""
+def request(r, d, handles, in_sum=False, notes=True):
+    """A command and its payload; without notes never an addition of a notification."""
     command = r.choice((2, 2, 3, 3, 9, 9, 9, 6, 6, 1, 4, 5, 7)) if not in_sum else r.choice((2, 3, 9))
+    command = 4 if command == 6 and not notes else command
     if not in_sum and r.random() < 0.02:
         return r.choice((0, 8, 10, 65535)), r.randbytes(r.randrange(9))
     u32 = model.u32
@@ -304,8 +307,8 @@ def asked(r, d, handles, in_sum):
     return u32(group) + u32(some) + u32(r.choice((most, most, most + 7, max(most - 1, 0)))) + u32(len(heads + data)) + heads + data
 
 
-def script(r, d):
-    """Events, and the lines that say them. Each client has a NetId and a port or two."""
+def script(r, d, notes=True):
+    """Events of clients, each with a NetId and a port or two, between ticks and reloads; with notifications or without."""
     events, live, opened, clock, now, seen = [], [], 0, 0, d, 0
     nets, clients, server = [f"10.0.0.{k}.1.1" for k in range(1, 6)], {}, model.Server(d, SIGNALS)
     for _ in range(r.choice((5, 20, 80, 200))):
@@ -323,7 +326,7 @@ def script(r, d):
             conn, stream = r.choice(live), b""
             known = server.conns[conn].handles if conn in server.conns else {}
             for _ in range(r.choice((1, 1, 1, 2, 5))):
-                command, payload = request(r, now, known)
+                command, payload = request(r, now, known, notes=notes)
                 stream += frame_of(r, now, clients[conn] if r.random() < 0.98 else r.choice(nets), r.choice((32905, 32905, 40000)), command, r.randrange(2 ** 32), payload)
             while stream:
                 cut = len(stream) if r.random() < 0.6 else r.randint(1, len(stream))
@@ -403,6 +406,72 @@ def one_replay(program, seed, folder):
     return None
 
 
+def received(conn, count):
+    given = b""
+    while len(given) < count:
+        piece = conn.recv(count - len(given))
+        if not piece:
+            break
+        given += piece
+    return given
+
+
+def talked(events, d, port):
+    """Plays events over sockets against the model; what differs, or None. A whole frame is sent before anything is waited for."""
+    server, conns = model.Server(d, SIGNALS), {}
+    try:
+        for event in events:
+            lines, conn = [], conns.get(event[1])
+            model.turn(server, event, lines)
+            if event[0] == "open":
+                conns[event[1]] = socket.create_connection(("127.0.0.1", port), timeout=20)
+            elif conn is None:
+                continue
+            elif event[0] == "close":
+                conns.pop(event[1]).close()
+            else:
+                conn.sendall(event[2])
+            wanted = b"".join(bytes.fromhex(line.split()[2]) for line in lines if line.startswith("out "))
+            came = received(conn, len(wanted)) if wanted else b""
+            if came != wanted:
+                return f"connection {event[1]}: {came.hex()} came, {wanted.hex()} was wanted"
+            if any(line.startswith("shut ") for line in lines):
+                rest = conn.recv(1)
+                conns.pop(event[1]).close()
+                if rest:
+                    return f"connection {event[1]} went on, which was to be shut"
+    except OSError as fault:
+        return f"{event[0]} {event[1]}: {fault}"
+    finally:
+        for conn in conns.values():
+            conn.close()
+    return None
+
+
+def one_served(program, seed, folder):
+    """Random clients over loopback, one event behind another."""
+    r = random.Random(seed)
+    d = description(r)
+    for port in d["port"]:
+        for symbol in port["symbol"]:
+            symbol.pop("signal", None)
+    # (samples, ticks and reloads come by the clock)
+    events = [event for event in script(r, d, notes=False) if event[0] in ("open", "bytes", "close")]
+    write(folder, "plant.toml", toml_of(d))
+    with socket.socket() as free:
+        free.bind(("127.0.0.1", 0))
+        port = free.getsockname()[1]
+    words = [program, "serve", "plant.toml", "--listen", f"127.0.0.1:{port}", "--events", "1000000000"]
+    with subprocess.Popen(words, cwd=folder, stdout=subprocess.PIPE, stderr=subprocess.PIPE) as it:
+        try:
+            if it.stdout.readline() != b"listening\n":
+                return "it does not listen"
+            said = talked(events, d, port)
+            return said or (f"it ended with {it.returncode}" if it.poll() is not None else None)
+        finally:
+            it.kill()
+
+
 def damaged(r, text):
     given = bytearray(text.encode())
     for _ in range(r.randint(1, 4)):
@@ -447,10 +516,10 @@ def main():
     it.add_argument("--program", default=PROGRAM)
     it.add_argument("--keep", default=os.path.join(tempfile.gettempdir(), "ads_random"))
     given = it.parse_args()
-    program, begun, seed, counts, wrong = os.path.abspath(given.program), time.time(), given.seed, {"replays": 0, "damaged": 0}, 0
+    program, begun, seed, counts, wrong = os.path.abspath(given.program), time.time(), given.seed, {"replays": 0, "served": 0, "damaged": 0}, 0
     with tempfile.TemporaryDirectory() as folder:
         while time.time() - begun < given.seconds and wrong < 10:
-            for name, one in (("replays", one_replay), ("damaged", one_damaged)):
+            for name, one in (("replays", one_replay), ("served", one_served), ("damaged", one_damaged)):
                 said = one(program, seed, folder)
                 counts[name] += 1
                 if said:
@@ -462,7 +531,7 @@ def main():
                             write(kept, file, one_file.read())
                     print(f"{name}, seed {seed}: {said}; kept in {kept}")
             seed += 1
-    print(f"{counts['replays']} scripts against the model, {counts['damaged']} damaged inputs, {wrong} wrong, seeds {given.seed} to {seed - 1}")
+    print(f"{counts['replays']} scripts and {counts['served']} plants over loopback against the model, {counts['damaged']} damaged inputs, {wrong} wrong, seeds {given.seed} to {seed - 1}")
     return 1 if wrong else 0
 
 

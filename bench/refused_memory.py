@@ -1,0 +1,120 @@
+#!/usr/bin/env python3
+"""Refused memory: each call for memory of a run fails in turn, alone and with all behind it, and the run must end as it does with memory, or with status 10; and
+then what it printed is a beginning of what it prints with memory, and behind it a beginning of `ads: memory`.
+
+    python3 bench/refused_memory.py [--program PATH] [--most N]
+
+Build the program first: in crates/ads, `rt run -- selftest ../../examples/state.script`. The runs are those below; of one with more than N calls for memory
+(2,000 unless told) every k-th fails. It prints a table, and ends with 1 where anything else came.
+"""
+import argparse
+import os
+import subprocess
+import sys
+import tempfile
+
+HERE = os.path.dirname(os.path.abspath(__file__))
+sys.path.insert(0, HERE)
+import hostile  # noqa: E402
+from hostile import add, ask, head, read, state, sum_of, write  # noqa: E402
+
+PROGRAM = os.path.join(HERE, "..", "crates", "ads", "out", "ads")
+LINE = b"ads: memory\n"
+NAME = b"Main.count"
+RUNS = {
+    "a panel, a rig, and a plant that is described anew": ["replay", "plant.toml", "plant.script"],
+    "the state over the built-in description": ["selftest", "state.script"],
+    "a notification over ticks and writes": ("plant", [
+        ("open", 1), ("bytes", 1, add(1, 0x4040, 0, 4)), ("tick", 1000), ("bytes", 1, write(2, 0x4040, 0, b"\5\0\0\0")), ("tick", 2000), ("tick", 3000)]),
+    "sums of each kind": ("plant", [
+        ("open", 1), ("bytes", 1, sum_of(1, 0xF080, 3, 26, head(0x4040, 0, 4) + head(0x4040, 200, 2) + head(0x4025, 0, 8))),
+        ("bytes", 1, sum_of(2, 0xF081, 2, 8, head(0x4040, 0, 1) + head(0x4040, 60, 1), b"\1\2")), ("bytes", 1, sum_of(3, 0xF082, 2, 24, head(0xF003, 0, 4, 10) * 2, NAME * 2))]),
+    "a reload under handles and notifications": ("plant", [
+        ("open", 1), ("bytes", 1, ask(1, 0xF003, 0, 4, NAME)), ("bytes", 1, add(2, 0x4040, 0, 4)), ("bytes", 1, add(3, 0x4040, 72, 8)), ("tick", 1000),
+        ("reload", hostile.PLANT2), ("tick", 2000), ("bytes", 1, read(4, 0xF005, 1, 4))]),
+    "two connections, and offers that are cut": ("plant", [
+        ("open", 1), ("open", 2), ("room", 1, 10), ("bytes", 1, state(1) + state(2)), ("bytes", 2, state(3)), ("fail", 2), ("bytes", 2, state(4)), ("room", 1, 1000)]),
+    "the report of a description": ["check", "plant.toml"],
+    "a description under schema 2": ["migrate", "plant.toml"],
+    "a load of 20 requests": ["load", "20"],
+    "a description that is refused": ["check", "overlap.toml"],
+    "words that are no command": ["replay"],
+}
+
+
+def built(folder):
+    shim = os.path.join(folder, "fail_nth.so")
+    subprocess.run(["cc", "-O2", "-shared", "-fPIC", "-o", shim, os.path.join(HERE, "fail_nth.c"), "-ldl"], check=True)
+    return shim
+
+
+def written(folder):
+    """The files of the runs, and the words of each."""
+    for name in ("plant.toml", "plant.script", "state.script", "overlap.toml"):
+        with open(os.path.join(HERE, "..", "examples", name), "rb") as one, open(os.path.join(folder, name), "wb") as it:
+            it.write(one.read())
+    for name in ("plant.toml", "plant2.toml"):
+        with open(os.path.join(hostile.DATA, name), "rb") as one, open(os.path.join(folder, "of_data_" + name), "wb") as it:
+            it.write(one.read())
+    words = {}
+    for number, (said, run) in enumerate(RUNS.items()):
+        if isinstance(run, tuple):
+            with open(os.path.join(hostile.DATA, "plant2.toml")) as one:
+                second = one.read()
+            lines = []
+            for event in run[1]:
+                lines += ["reload", *second.splitlines(), "."] if event[0] == "reload" else [line[2:] for line in hostile.lines_of(event, "")]
+            with open(os.path.join(folder, f"{number}.script"), "w") as it:
+                it.write("\n".join(lines) + "\n")
+            run = ["replay", "of_data_plant.toml", f"{number}.script"]
+        words[said] = run
+    return words
+
+
+def ran(program, words, folder, shim, nth, on):
+    """The status, what was printed, and how many calls for memory there were."""
+    tell = os.path.join(folder, "calls")
+    with open(tell, "wb") as it:
+        it.write(bytes(8))
+    given = {"LD_PRELOAD": shim, "FAIL_NTH": str(nth), "FAIL_TELL": tell, **({"FAIL_ON": "1"} if on else {})}
+    it = subprocess.run([program, *words], cwd=folder, env=given, stdout=subprocess.PIPE, stderr=subprocess.DEVNULL, timeout=60)
+    with open(tell, "rb") as one:
+        return it.returncode, it.stdout, int.from_bytes(one.read(8), "little")
+
+
+def fits(status, out, usual):
+    """Whether a run that lacked memory ended as it may."""
+    if (status, out) == usual:
+        return True
+    if status != 10:
+        return False
+    return any(out == usual[1][:cut] + LINE[:end] for cut in range(len(usual[1]) + 1) for end in (len(out) - cut,) if 0 <= end <= len(LINE))
+
+
+def main():
+    it = argparse.ArgumentParser(description=__doc__, formatter_class=argparse.RawDescriptionHelpFormatter)
+    it.add_argument("--program", default=PROGRAM)
+    it.add_argument("--most", type=int, default=2000)
+    given = it.parse_args()
+    program, wrong = os.path.abspath(given.program), 0
+    print("| run | calls for memory | failed in turn | as usual | status 10 | wrong |\n|---|---|---|---|---|---|")
+    with tempfile.TemporaryDirectory() as folder:
+        shim = built(folder)
+        for said, words in written(folder).items():
+            status, out, calls = ran(program, words, folder, shim, 0, False)
+            counts, bad, tried = {True: 0, False: 0}, 0, 0
+            for nth in range(1, calls + 1, -(-calls // given.most) or 1):
+                for on in (False, True):
+                    one, printed, _ = ran(program, words, folder, shim, nth, on)
+                    tried += 1
+                    counts[one == 10] += 1
+                    if not fits(one, printed, (status, out)):
+                        bad += 1
+                        print(f"  {' '.join(words)}, call {nth}{' and all behind it' if on else ''}: status {one}, {len(printed)} bytes", file=sys.stderr)
+            wrong += bad
+            print(f"| {said} | {calls} | {tried} | {counts[False]} | {counts[True]} | {bad} |", flush=True)
+    return 1 if wrong else 0
+
+
+if __name__ == "__main__":
+    sys.exit(main())

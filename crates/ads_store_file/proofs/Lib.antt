@@ -1,0 +1,8 @@
+mod StoreExamples
+pub mod DiskLemmas
+pub mod SlotLemmas
+pub mod StandingLemmas
+pub mod StepLemmas
+pub mod SaveLemmas
+pub mod BodyLemmas
+pub mod RunLemmas

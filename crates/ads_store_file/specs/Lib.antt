@@ -1,0 +1,7 @@
+pub mod Disk
+pub mod Stops
+pub mod BodyText
+pub mod Slots
+pub mod Saves
+pub mod Laws
+pub mod Runs
