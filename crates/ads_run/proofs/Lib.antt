@@ -6,6 +6,7 @@ pub mod ReadLemmas
 pub mod EndLemmas
 pub mod RunLemmas
 pub mod CallLemmas
+pub mod LocalLemmas
 pub mod ServiceLemmas
 pub mod TaskLemmas
 pub mod MigrationLemmas

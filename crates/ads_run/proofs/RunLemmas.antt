@@ -42,7 +42,7 @@ use Rattle.ads_run.proofs.ReadingLemmas.{map_file, map_files, at_bytes, decided_
 pub never_called : {O : Type 0} (x : Calling) (s : Status) (out out_new : SinkState) (told : O → List LinkMove → Type 0) (state : LinkState)
     → s ≡ status.Memory → PutsMemoryLine out out_new → EndsCall x s out out_new (used told told state state)
 never_called x s out out_new told state is line = record {
-  answer = Err (record { });
+  answer = Err (record {});
   between = out;
   called = inl (record { same = refl; silent = refl; told = λ o log h. h });
   later = record { faults = search rules; wants = search rules };
@@ -51,7 +51,7 @@ never_called x s out out_new told state is line = record {
 
 pub never_asked : (x : LocalCalling) (s : Status) (out out_new : SinkState) → s ≡ status.Memory → PutsMemoryLine out out_new → EndsLocalCall x s out out_new
 never_asked x s out out_new is line = record {
-  answer = Err (record { });
+  answer = Err (record {});
   between = out;
   called = inl refl;
   later = record { faults = search rules; wants = search rules };

@@ -1,11 +1,13 @@
 //! A client asks a server: over the link, or that of a description in the same process.
 
-ghost use Rattle.std.specs.Prelude.{◌<◌, ◌^◌, ◌≡◌, List, length};
+ghost use Rattle.std.specs.Prelude.{◌<◌, ◌^◌, ◌≡◌, [], List, length};
 ghost use Rattle.ads_outside.specs.Named.{bytes_of};
 ghost use Rattle.ads_outside.specs.Rose.{Rose};
 ghost use Rattle.ads_plant.specs.Description as plant;
+ghost use Rattle.ads_product.specs.Server.{server_start};
 ghost use Rattle.ams_header.specs.Header.{address_of};
 ghost use Rattle.client_loop.specs.Called.{calling};
+ghost use Rattle.local_link.specs.Link.{IsTold};
 ghost use Rattle.server_core.specs.CoreState.{started};
 ghost use Rattle.server_core.specs.Serves.{Serves};
 ghost use Rattle.signals.specs.Wave.{Wave};
@@ -28,10 +30,14 @@ use ads_base::{AmsAddr, NetId, NoMemory};
 use ads_outside::{Files, Link, Sink};
 use cli_words::{ClientWords, Text};
 use client_loop::run_call;
+use local_link::{LocalLink, OnThreads, Steps};
 use server_core::{Core, Sources};
 use std::alloc::Global;
 use std::thread::Threads;
 use symbol_file::read;
+
+/// What a link in the same process is connected to.
+const LOCAL_ADDRESS: &str = "";
 
 /// The AMS port of the client itself.
 const CLIENT_PORT: u16 = 32905;
@@ -140,8 +146,8 @@ fn ask_text<T: Threads + Sync, S: Sink, G: Sources>(
 
 // The server of a core is asked, whose description has this NetId.
 fn ask_core<T: Threads + Sync, S: Sink, G: Sources>(
-    _rt: &T,
-    _alloc: Global,
+    rt: &T,
+    alloc: Global,
     what: &ClientTask,
     client: &ClientWords,
     net: NetId,
@@ -154,6 +160,52 @@ fn ask_core<T: Threads + Sync, S: Sink, G: Sources>(
         → EndsLocalCall (local_calling d waves what.now client.now) result (S.state out.old) (S.state out.new) }
     ensures no_read_fault { IsNoReadFault result }
 {
-    let _core = core;
-    end_without_memory(out)
+    ask_by(OnThreads::new(rt), alloc, what, client, net, core, out)
+}
+
+// The same, by who makes the core's events.
+fn ask_by<P: Steps, S: Sink, G: Sources>(
+    steps: P,
+    alloc: Global,
+    what: &ClientTask,
+    client: &ClientWords,
+    net: NetId,
+    core: Core<G>,
+    out: &mut S,
+) -> Status
+    requires can { P.can_step steps }
+    requires what { FitsClientTask what.now }
+    requires client { FitsClient client.now }
+    ensures ends { (d : plant.Description) (waves : List Wave) → Serves core (started d waves) → net.bytes ≡ d.net
+        → EndsLocalCall (local_calling d waves what.now client.now) result (S.state out.old) (S.state out.new) }
+    ensures no_read_fault { IsNoReadFault result }
+{
+    let mut link = LocalLink::new(steps, alloc, core);
+    ask_link(alloc, what, client, net, &mut link, out)
+}
+
+// The server behind a link in the same process is asked, which has not been called.
+fn ask_link<P: Steps, S: Sink, G: Sources>(
+    alloc: Global,
+    what: &ClientTask,
+    client: &ClientWords,
+    net: NetId,
+    link: &mut LocalLink<P, G>,
+    out: &mut S,
+) -> Status
+    requires what { FitsClientTask what.now }
+    requires client { FitsClient client.now }
+    ensures ends { (d : plant.Description) (waves : List Wave) → IsTold link.old (server_start d waves) [] → net.bytes ≡ d.net
+        → EndsLocalCall (local_calling d waves what.now client.now) result (S.state out.old) (S.state out.new) }
+    ensures no_read_fault { IsNoReadFault result }
+{
+    match call_of(alloc, what) {
+        Err(NoMemory) => end_without_memory(out),
+        Ok(call) => {
+            let me = own_addr(client);
+            let peer = asked_addr(net, client);
+            let answer = run_call(alloc, call, me, peer, LOCAL_ADDRESS, link, out);
+            print_answer(alloc, answer, out)
+        }
+    }
 }

@@ -9,8 +9,8 @@ ghost use Rattle.ads_run.specs.Fits.{FitsClientTask};
 
 use crate::client_task::ClientTask;
 use ads_base::{NoMemory, Octets};
-use client_loop::{Call, Mode2};
 use cli_words::Text;
+use client_loop::{Call, Mode2};
 use std::alloc::Global;
 
 /// The call, with copies of its texts.

@@ -12,11 +12,19 @@ pub enum ClientTask {
     /// All symbols.
     List,
     /// It is to take these states, each of at most 65,535.
-    Control { ads: u64, device: u64 },
+    Control {
+        ads: u64,
+        device: u64,
+    },
     /// The value of a symbol.
-    Get { name: Text },
+    Get {
+        name: Text,
+    },
     /// A symbol is to have this value.
-    Set { name: Text, value: Text },
+    Set {
+        name: Text,
+        value: Text,
+    },
     /// So many samples of a symbol, 1 to 1,000,000, on a change or at each cycle, which has 32 bits and counts 100 ns.
     Watch {
         name: Text,

@@ -103,7 +103,5 @@ fn run_program<T: Threads + Sync, F: Files, W: Wire, L: Link, S: Sink>(
     signals.push(Box::new(alloc, ramp)?)?;
     signals.push(Box::new(alloc, square)?)?;
     signals.push(Box::new(alloc, table)?)?;
-    Ok(run(
-        threads, alloc, words, files, wire, link, out, signals,
-    ))
+    Ok(run(threads, alloc, words, files, wire, link, out, signals))
 }

@@ -48,7 +48,11 @@ pub fn take_link_line(
 
 // Nothing comes, so often.
 fn put_quiet(alloc: Global, link: &mut LinkCase, moment: u64, times: &str) -> Result<(), Fault> {
-    let times = if times.is_empty() { 1 } else { number_of(times)? };
+    let times = if times.is_empty() {
+        1
+    } else {
+        number_of(times)?
+    };
     for _ in 0..times {
         link.events.push(alloc, LinkEvent::Quiet(moment))?;
     }

@@ -111,7 +111,5 @@ fn run_with_signals<T: Threads + Sync, F: Files, W: Wire, L: Link, S: Sink>(
     signals.push(Box::new(alloc, ramp)?)?;
     signals.push(Box::new(alloc, square)?)?;
     signals.push(Box::new(alloc, table)?)?;
-    Ok(run(
-        threads, alloc, words, files, wire, link, sink, signals,
-    ))
+    Ok(run(threads, alloc, words, files, wire, link, sink, signals))
 }

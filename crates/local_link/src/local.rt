@@ -6,14 +6,13 @@ ghost use Rattle.ads_local.specs.LocalCall.{LAST_MOMENT, next_tick};
 ghost use Rattle.server_core.specs.Served.{ServedState};
 ghost use Rattle.server_core.specs.Serves.{Serves};
 
-use crate::stepping::{OnThreads, Steps};
+use crate::stepping::Steps;
 use crate::waiting::take_waiting;
 use ads_base::{NoMemory, Octets};
 use ads_outside::{Connected, Event, Link, LinkCounts, Received, Sent};
 use server_core::{Core, Sources, gone_connections_are_forgotten};
 use std::alloc::Global;
 use std::marker::Model;
-use std::thread::Threads;
 
 // A hundredth of a second, in 100 ns.
 const LOCAL_TICK: u64 = 100_000;
@@ -41,16 +40,17 @@ impl<P: Steps, G: Sources> Model for LocalLink<P, G> {
     ghost invariant = { λ l. P.can_step l.steps };
 }
 
-impl<'a, T: Threads + Sync, G: Sources> LocalLink<OnThreads<'a, T>, G> {
+impl<P: Steps, G: Sources> LocalLink<P, G> {
     ghost use Rattle.local_link.specs.Link.{unblocked, IsTold};
 
     /// A link to this core, which has no connection and no last moment. Nothing is allocated.
-    pub fn new(rt: &'a T, alloc: Global, core: Core<G>) -> LocalLink<OnThreads<'a, T>, G>
+    pub fn new(steps: P, alloc: Global, core: Core<G>) -> LocalLink<P, G>
+        requires can { P.can_step steps }
         ensures told { (s : ServedState) → Serves core (unblocked s) → s.moment ≡ 0 → IsTold result s [] }
         ensures history { result.history ≡ not_connected }
     {
         LocalLink {
-            steps: OnThreads::new(rt),
+            steps,
             alloc,
             core,
             counts: LinkCounts::new(),

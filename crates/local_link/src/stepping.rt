@@ -35,7 +35,7 @@ pub struct OnThreads<'a, T: Threads + Sync> {
 
 impl<'a, T: Threads + Sync> OnThreads<'a, T> {
     /// The threads of this runtime.
-    pub(crate) fn new(rt: &'a T) -> Self {
+    pub fn new(rt: &'a T) -> Self {
         OnThreads { rt }
     }
 }
