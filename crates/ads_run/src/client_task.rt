@@ -15,6 +15,8 @@ pub enum ClientTask {
     Control { ads: u64, device: u64 },
     /// The value of a symbol.
     Get { name: Text },
+    /// Its leaves: the plain types, texts and enumerations that its value is made of.
+    Show { name: Text },
     /// A symbol is to have this value.
     Set { name: Text, value: Text },
     /// So many samples of a symbol, 1 to 1,000,000, on a change or at each cycle, which has 32 bits and counts 100 ns.
