@@ -35,7 +35,7 @@ use Rattle.ads_run.specs.declared.client_task.ClientTask.{ClientTask}
 use Rattle.ads_run.specs.Asking.{local_calling, call_asked, own_address, asked_address}
 use Rattle.ads_run.specs.BuiltIn.{built_in}
 use Rattle.ads_run.specs.Calling.{LinkUse}
-use Rattle.ads_run.specs.Causes.{CauseOfAsking, IsNoLinkEnd, HasCause, CauseOfService, EndsOfWire, TakesAll, FailsOfWire, NothingFailed, IsOwnEnd}
+use Rattle.ads_run.specs.Causes.{CauseOfAsking, IsNoLinkEnd, HasCause, EndsOfWire, TakesAll, FailsOfWire, NothingFailed, IsOwnEnd}
 use Rattle.ads_run.specs.Ending.{Ending, line_alone}
 use Rattle.ads_run.specs.Ends.{RunsSo, RunsBy}
 use Rattle.ads_run.specs.Prints.{PrintsEnding}

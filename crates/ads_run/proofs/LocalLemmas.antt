@@ -1,26 +1,24 @@
 -- A call over the link to a server in the same process is the local call.
-use Rattle.std.proofs.Common.{◌≡◌, ℕ, List, [], ◌++◌, Option, Some, None, true, inl, inr, subst, ap, sym, ◌∙◌, refl, arith}
-use Rattle.std.specs.Prelude.{◌⊎◌, Result, Ok, Err, is_some, length}
+use Rattle.std.proofs.Common.{◌≡◌, ℕ, List, [], Some, inl, inr, subst, ap, sym, ◌∙◌, refl, arith}
+use Rattle.std.specs.Prelude.{Result, Ok, Err, is_some, length}
 use Rattle.ads_base.specs.declared.no_memory.NoMemory.{NoMemory}
-use Rattle.ads_outside.specs.declared.link_move.LinkMove.{LinkMove}
 use Rattle.ads_outside.specs.Puts.{Appends, AppendsPart}
 use Rattle.ads_outside.specs.Rose.{Rose}
 use Rattle.ads_outside.specs.SinkState.{SinkState, NeverFalls}
 use Rattle.ads_machine.specs.Connection.{connection_of}
 use Rattle.ads_client.specs.Conversation.{LinkAnswer, LoopEnd, CallEnded, Budget, Conversation}
-use Rattle.ads_talk.specs.CallLog.{call_log, call_log_up_to}
+use Rattle.ads_talk.specs.CallLog.{call_log_up_to}
 use Rattle.ads_local.specs.Laws.{IsLocalCall}
 use Rattle.ads_local.specs.LinkLog.{IsLogOf, cutting_of}
-use Rattle.ads_local.specs.LocalCall.{local_call, local_call_within}
 use Rattle.ads_local.proofs.CallLogs.{calls_are_local}
 use Rattle.ads_local.proofs.LinkLogs.{first_parts, call_logs_begin}
 use Rattle.ads_product.specs.Server.{server, server_start}
-use Rattle.client_loop.specs.Called.{Calling, calling, over, AfterCall, Talks, BreaksOff, NeverBegins}
+use Rattle.client_loop.specs.Called.{Calling, calling, over, AfterCall, Talks, BreaksOff}
 use Rattle.client_loop.specs.declared.loop_end.LoopEnd as loop
 use Rattle.client_loop.specs.declared.loop_end.LoopEnd.TheVariants as end
 use Rattle.client_replies.specs.Stages.{end_meant}
 use Rattle.local_link.specs.Link.{LocalView, IsTold, state_of}
-use Rattle.server_core.specs.Served.{World, Client, ServedState, served, served_step}
+use Rattle.server_core.specs.Served.{ServedState, served, served_step}
 use Rattle.ads_run.specs.declared.status.Status.{Status}
 use Rattle.ads_run.specs.Asking.{LocalCalling, peer_of_local}
 use Rattle.ads_run.specs.Calling.{AfterLocal, EndsLocalCall, PrintsAnswer, LocalTalks, LocalBreaksOff, local_conversation}

@@ -1,20 +1,17 @@
 -- How a run ends that called no link, or a link alone.
-use Rattle.std.proofs.Common.{◌≡◌, ℕ, List, [], Option, Some, None, inl, inr, subst, ap, sym, ◌∙◌, refl, length, Bool, true, false, rules}
-use Rattle.std.specs.Prelude.{◌⊎◌, Result, Ok, Err, nat_lt, if◌then◌else◌}
+use Rattle.std.proofs.Common.{◌≡◌, ℕ, List, [], Option, Some, None, inl, inr, subst, ap, sym, refl, length, Bool, true, false, rules}
+use Rattle.std.specs.Prelude.{Err, nat_lt, if◌then◌else◌}
 use Rattle.signals.specs.Wave.{Wave}
-use Rattle.ads_base.specs.declared.net_id.NetId.{NetId}
-use Rattle.ads_base.specs.declared.no_memory.NoMemory.{NoMemory}
-use Rattle.ads_outside.specs.declared.connected.Connected.TheVariants as connected
 use Rattle.ads_outside.specs.declared.link_move.LinkMove.{LinkMove}
 use Rattle.ads_outside.specs.declared.named_file.NamedFile.{NamedFile}
 use Rattle.ads_outside.specs.Limit.{file_limit}
 use Rattle.ads_outside.specs.LinkState.{LinkState}
 use Rattle.ads_outside.specs.Named.{bytes_of}
-use Rattle.ads_outside.specs.SinkState.{SinkState, NeverFalls}
+use Rattle.ads_outside.specs.SinkState.{SinkState}
 use Rattle.ads_outside.specs.WireState.{WireHistory}
 use Rattle.ads_plant.specs.Description.{Description}
 use Rattle.ads_rules.specs.TextVerdict.{TextVerdict, Described, Breaks, NoDocument, text_verdict}
-use Rattle.client_loop.specs.Called.{Calling, AfterCall, NeverBegins}
+use Rattle.client_loop.specs.Called.{Calling}
 use Rattle.symbol_file.specs.declared.fault.DescFault.{DescFault}
 use Rattle.symbol_file.specs.declared.fault.DescFault.TheVariants as fault
 use Rattle.symbol_file.specs.Reading.{answer_of}
@@ -28,7 +25,7 @@ use Rattle.ads_run.specs.declared.task.Task.{Task}
 use Rattle.ads_run.specs.declared.task.Task.TheVariants as task
 use Rattle.ads_run.specs.Asking.{LocalCalling, local_calling}
 use Rattle.ads_run.specs.Calling.{LinkUse, used, EndsCall, EndsLocalCall}
-use Rattle.ads_run.specs.Ending.{Ending, line_alone}
+use Rattle.ads_run.specs.Ending.{line_alone}
 use Rattle.ads_run.specs.Ends.{EndsSo, EndsBy, AsksSo, AsksBy, RunsSo, RunsBy}
 use Rattle.ads_run.specs.Outcomes.{IsOutcome, Decides, HasBytes, Finds, status_of_fault}
 use Rattle.ads_run.specs.Prints.{PutsMemoryLine, PrintsEnding}

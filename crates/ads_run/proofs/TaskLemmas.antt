@@ -11,7 +11,7 @@ use Rattle.ads_run.specs.declared.file_task.FileTask.TheVariants as file_task
 use Rattle.ads_run.specs.declared.task.Task.{Task}
 use Rattle.ads_run.specs.declared.task.Task.TheVariants as task
 use Rattle.ads_run.specs.Fits.{FitsClientTask, FitsTask}
-use Rattle.ads_run.specs.Tasks.{fits_what, is_text, task_of_ask, task_of_command, task_of_load}
+use Rattle.ads_run.specs.Tasks.{fits_what, is_text, task_of_command}
 
 load_fits : (n : ℕ) (b : Bool) → nat_le n 100000 ≡ b → FitsTask (if b then Some (task.OfFiles (file_task.Load n)) else None)
 load_fits n true is = leb-true n 100000 is

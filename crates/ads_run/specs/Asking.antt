@@ -1,5 +1,5 @@
 -- What a client asks, and of whom.
-use Rattle.std.specs.Prelude.{ℕ, Bool, true, false, List, Option, Some, None, if◌then◌else◌}
+use Rattle.std.specs.Prelude.{ℕ, List, if◌then◌else◌}
 use Rattle.ads_base.specs.declared.net_id.NetId.{NetId}
 use Rattle.ads_formats.specs.Header.{AmsAddress}
 use Rattle.ads_client.specs.Calls.{Call, Info, State, Control, Get, Set, Symbols, Watch, Show, SERVER_CYCLE, SERVER_ON_CHANGE}

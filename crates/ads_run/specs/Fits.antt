@@ -1,8 +1,6 @@
 -- The numbers and texts of a command are those that the grammar of words allows.
-use Rattle.std.specs.Prelude.{◌≤◌, ◌<◌, ◌^◌, ℕ, length, List, Option, Some, None}
+use Rattle.std.specs.Prelude.{◌≤◌, ℕ, length, List, Option, Some}
 use Rattle.cli_words.specs.declared.client_words.ClientWords.{ClientWords}
-use Rattle.cli_words.specs.declared.command.Command.{Command}
-use Rattle.cli_words.specs.declared.command.Command.TheVariants as command
 use Rattle.ads_run.specs.declared.client_task.ClientTask.{ClientTask}
 use Rattle.ads_run.specs.declared.client_task.ClientTask.TheVariants as ask
 use Rattle.ads_run.specs.declared.file_task.FileTask.{FileTask}

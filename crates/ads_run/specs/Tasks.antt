@@ -6,7 +6,6 @@ use Rattle.cli_words.specs.Commands.{command_of}
 use Rattle.cli_words.specs.declared.client_words.ClientWords.{ClientWords}
 use Rattle.ads_run.specs.declared.client_task.ClientTask.{ClientTask}
 use Rattle.ads_run.specs.declared.client_task.ClientTask.TheVariants as ask
-use Rattle.ads_run.specs.declared.file_task.FileTask.{FileTask}
 use Rattle.ads_run.specs.declared.file_task.FileTask.TheVariants as file_task
 use Rattle.ads_run.specs.declared.task.Task.{Task}
 use Rattle.ads_run.specs.declared.task.Task.TheVariants as task

@@ -73,10 +73,25 @@ impl Splitter {
         ensures passed { self.new.passed + length self.new.rest ≡ self.old.passed + length self.old.rest }
         ensures no_memory { OnErr result (self.new ≡ self.old) }
     {
+        self.next_in(alloc, Octets::new(alloc))
+    }
+
+    /// The same with the packet in the room of bytes that are no longer needed, which are let go. Who gives each packet back
+    /// for the next takes no memory once the room is as large as the packets.
+    pub fn next_in(&mut self, alloc: Global, room: Octets) -> Result<Cut, NoMemory>
+        ensures answer { IfOk result (λ cut. (h : History) → Represents self.old h → cut ≡ answer_of h) }
+        ensures stands { OnOk result ((h : History) → Represents self.old h → Represents self.new (after_next h)) }
+        ensures packet { IfOk result HoldsPacket }
+        ensures shorter { IfOk result (λ cut. IsFrameCut cut → length self.new.rest < length self.old.rest) }
+        ensures passed { self.new.passed + length self.new.rest ≡ self.old.passed + length self.old.rest }
+        ensures no_memory { OnErr result (self.new ≡ self.old) }
+    {
         let rest = self.rest();
         match front_at(rest) {
             Front::Whole(len) => {
-                let ams = Octets::copy_of(alloc, &rest[HEADER..HEADER + len])?;
+                let mut ams = room;
+                ams.cut(0);
+                ams.put(alloc, &rest[HEADER..HEADER + len])?;
                 self.start += HEADER + len;
                 Ok(Cut::Frame(ams))
             }

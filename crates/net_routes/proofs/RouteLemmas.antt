@@ -1,6 +1,6 @@
 -- Rights among routes: a further route counts exactly where its NetId has none.
-use Rattle.std.proofs.Common.{◌≡◌, ℕ, true, false, List, [], ◌∷◌, ◌++◌, map, refl, sym, ◌∙◌, ap, inl, inr}
-use Rattle.std.specs.Prelude.{Option, Some, None, is_some, option_map, bytes_eq, ◌==◌}
+use Rattle.std.proofs.Common.{zero, suc, drop, ◌≡◌, ℕ, true, false, List, [], ◌∷◌, ◌++◌, map, refl, sym, ◌∙◌, ap, inl, inr}
+use Rattle.std.specs.Prelude.{Option, Some, None, is_some, option_map, bytes_eq, ◌==◌, slice_get}
 use Rattle.std.specs.Global.{Vec}
 use Rattle.std.specs.Map.{lookup}
 use Rattle.std.proofs.lemmas.Bool.{cases_Bool, eqb-true, eq-eqb}
@@ -10,7 +10,7 @@ use Rattle.ads_plant.specs.Description as plain
 use Rattle.ads_plant.specs.Rights.{rights_of}
 use Rattle.type_layout.specs.Descriptions as seen
 use Rattle.type_layout.specs.declared.description.Rights.{Rights}
-use Rattle.net_routes.specs.Shown.{shown}
+use Rattle.net_routes.specs.Shown.{shown, rights_in}
 
 nat_eq-comm : (x y : ℕ) → (x == y) ≡ (y == x)
 nat_eq-comm x y =
@@ -100,3 +100,22 @@ is_some-option_map f (Some x) = refl
 pub option_map-none : {X Y : Type 0} (f : X → Y) (o : Option X) → is_some o ≡ false → option_map f o ≡ None
 option_map-none f None e = refl
 option_map-none f (Some x) e = cc
+
+-- a route of another machine is passed over in a walk
+pub walked-past : (net : List ℕ) (routes : List plain.Route) (i : ℕ) → rights_in net (slice_get routes i) ≡ None → rights_of net (drop (suc i) routes) ≡ rights_of net (drop i routes)
+walked-past net [] zero none = refl
+walked-past net [] (suc i) none = refl
+walked-past net (r ∷ rs) zero none = elim (cases_Bool (bytes_eq r.net net)) [
+  | inl t ↦ absurd (let there = rw t at none in cc)
+  | inr t ↦ rw t refl
+]
+walked-past net (r ∷ rs) (suc i) none = walked-past net rs i none
+
+-- the route where a walk ends
+pub walked-to : (net : List ℕ) (routes : List plain.Route) (i : ℕ) (x : plain.Rights) → rights_in net (slice_get routes i) ≡ Some x → rights_of net (drop i routes) ≡ Some x
+walked-to net [] i x there = absurd (let none : ◌≡◌ {A = Option plain.Rights} None (Some x) = there in cc)
+walked-to net (r ∷ rs) zero x there = elim (cases_Bool (bytes_eq r.net net)) [
+  | inl t ↦ rw t (rw t at there)
+  | inr t ↦ absurd (let none = rw t at there in cc)
+]
+walked-to net (r ∷ rs) (suc i) x there = walked-to net rs i x there

@@ -1,14 +1,18 @@
 //! The routes of a description, found by NetId.
 
-ghost use Rattle.std.specs.Prelude.{◌≡◌, ℕ, List, ◌++◌, ◌∷◌, [], OnOk, IfOk, option_map};
+ghost use Rattle.std.specs.Prelude.{◌≡◌, ℕ, List, ◌++◌, ◌∷◌, [], OnOk, IfOk, option_map, slice_get};
 ghost use Rattle.ads_plant.specs.Rights.{rights_of};
 ghost use Rattle.type_layout.specs.Descriptions as plain;
+ghost use Rattle.net_routes.specs.Shown.{rights_in};
 
 use ads_base::{NetId, NoMemory};
 use indexmap::IndexMap;
 use std::alloc::Global;
 use std::marker::Model;
 use type_layout::{Rights, Routes4};
+
+// So many routes are walked, which costs less than to find one among them by its NetId.
+const FEW: usize = 8;
 
 /// The rights of each machine that has a route, in a map from NetIds. Contracts see the routes as a list.
 #[derive(Drop)]
@@ -45,7 +49,38 @@ impl Routes {
     pub fn rights(&self, net: NetId) -> Option<Rights>
         ensures { option_map plain.rights_of result ≡ rights_of net.bytes self.now }
     {
+        if self.by_net.len() <= FEW {
+            return self.rights_among_few(net);
+        }
         self.by_net.get(net.bytes.as_slice()).copied()
+    }
+
+    // The same by a walk.
+    fn rights_among_few(&self, net: NetId) -> Option<Rights>
+        ensures { option_map plain.rights_of result ≡ rights_of net.bytes self.now }
+    {
+        for i in 0..self.by_net.len() {
+            if let Some(rights) = self.rights_at(i, net) {
+                return Some(rights);
+            }
+        }
+        None
+    }
+
+    // The rights at a place, where it is this machine's.
+    fn rights_at(&self, i: usize, net: NetId) -> Option<Rights>
+        ensures { option_map plain.rights_of result ≡ rights_in net.bytes (slice_get self.now i) }
+    {
+        match self.by_net.get_index(i) {
+            Some((there, rights)) => {
+                if there.as_slice() == net.bytes.as_slice() {
+                    Some(*rights)
+                } else {
+                    None
+                }
+            }
+            None => None,
+        }
     }
 
     // A further route, which counts where its NetId has none.

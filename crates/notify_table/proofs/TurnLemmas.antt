@@ -1,15 +1,16 @@
 -- Turns that are due stand in front of the others.
 use Rattle.std.proofs.Common.{◌≡◌, ℕ, ◌+◌, ◌<◌, ◌≤◌, ◌++◌, [], ◌∷◌, map, List, length, take, drop, get_or, false, sym}
-use Rattle.std.proofs.Common.{ap, ◌∙◌, arith, true, inl, inr}
+use Rattle.std.proofs.Common.{ap, ◌∙◌, arith, true, inl, inr, ◌-◌, nat_lt}
 use Rattle.std.specs.List.{All, filter}
 use Rattle.std.specs.List.Sorted.{IsPartitionedBy, IsPartitionPoint}
-use Rattle.std.proofs.lemmas.Bool.{cases_lt, lt-leb, le-leb, leb-true, leb-false}
+use Rattle.std.proofs.lemmas.Bool.{cases_lt, lt-leb, le-leb, leb-true, leb-false, ltb-true}
 use Rattle.std.proofs.lemmas.List.{append-nil, get_or_default, map_more, get_or-drop, get_or-take, length-drop, length-take-le}
 use Rattle.std.proofs.lemmas.List.{length-append, drop_all}
-use Rattle.std.proofs.lemmas.List.Elements.{All-get_or}
+use Rattle.std.proofs.lemmas.List.Elements.{All-get_or, All-push}
+use Rattle.std.proofs.lemmas.List.Sorted.{IsNonDecreasingBy-push}
 use Rattle.notify_table.proofs.Filtered.{filter_none, filter_behind}
 use Rattle.notify_table.specs.declared.turn.Turn.{Turn}
-use Rattle.notify_table.specs.Turns.{AreInTurn, AllDue, HasHandle, is_turn_due, handle_of_turn}
+use Rattle.notify_table.specs.Turns.{AreInTurn, AllDue, HasHandle, is_turn_due, handle_of_turn, turn_rank, IsPlaceOf}
 
 -- a turn that stands behind one that is not due is not due
 none_due_behind : (now : ℕ) (turns : List Turn) (i : ℕ) (d : Turn) → AreInTurn turns → i < length turns
@@ -75,3 +76,25 @@ pub handles_more : (turns : List Turn) (i : ℕ) (d : Turn) (handles : List ℕ)
     → handles ++ handle_of_turn (get_or turns i d) ∷ [] ≡ map handle_of_turn (take (i + 1) turns)
 handles_more turns i d handles within so_far =
     rw so_far (sym (map_more handle_of_turn turns i d within))
+
+-- a turn of a later rank than the last comes behind all
+pub behind_last : (turn : Turn) (turns : List Turn) (n : ℕ) (last : Turn) → AreInTurn turns → n ≡ length turns → last ≡ get_or turns (n - 1) last
+    → nat_lt (turn_rank last) (turn_rank turn) ≡ true → IsPlaceOf turn turns (length turns)
+behind_last turn turns n last in_turn is_len is_last later = record {
+  within = omega arith;
+  before = λ k d below.
+      let end : n - 1 < length turns = omega (arith, is_len, below) in
+      let rise = in_turn.rise k (n - 1) last (omega (arith, is_len, below)) end in
+      let same : get_or turns k d ≡ get_or turns k last = get_or_default turns k d last below in
+      let rank : turn_rank (get_or turns (n - 1) last) ≡ turn_rank last = ap turn_rank (sym is_last) in
+      let less = ltb-true _ _ later in
+      rw same (omega (arith, rise, rank, less));
+  behind = λ k d from below. absurd (omega (arith, from, below));
+}
+
+-- where a turn comes behind all, all are in turn once it stands there
+pub in_turn_behind : (turn : Turn) (turns : List Turn) → HasHandle turn → AreInTurn turns → IsPlaceOf turn turns (length turns) → AreInTurn (turns ++ turn ∷ [])
+in_turn_behind turn turns handle in_turn place = record {
+  handles = All-push HasHandle turns turn in_turn.handles handle;
+  rise = IsNonDecreasingBy-push turn_rank turns turn in_turn.rise (λ d some. place.before (length turns - 1) d (omega (arith, some)));
+}

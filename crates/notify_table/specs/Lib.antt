@@ -5,3 +5,4 @@ pub mod Turns
 pub mod Schedules
 pub mod Numbered
 pub mod Reloads
+pub mod Sent

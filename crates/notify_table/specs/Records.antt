@@ -21,10 +21,10 @@ watch_of r = record {
   mode = mode_meant r.spec.mode;
   cycle = r.spec.cycle;
   last = r.last;
-  sent = sent_bytes r.last r.sent.items;
+  sent = sent_bytes r.last r.sent;
 }
 
 -- there is room for the bytes of a check
 pub record IsSound (r : Inside) : Type 0 where
-  pub room : length r.sent.items ≡ watched_len (range_meant r.spec.reach)
+  pub room : length r.sent ≡ watched_len (range_meant r.spec.reach)
   pub watched : CanBeWatched (range_meant r.spec.reach)

@@ -4,6 +4,7 @@
 mod laws;
 mod record;
 mod schedule;
+mod sent;
 mod spec;
 mod turn;
 mod watches;

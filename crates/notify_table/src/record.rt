@@ -8,6 +8,7 @@ ghost use Rattle.notify_table.specs.Specs.{new_watch, before_checks};
 ghost use Rattle.notify_table.specs.Reloads.{range_after, bytes_at, bit_at, end_of, ended_meant};
 ghost use Rattle.notify_table.specs.Table.{watched_len, CanBeWatched};
 
+use crate::sent::SentBytes;
 use crate::{Ended, Mode, Spec};
 use ads_base::NoMemory;
 use index_groups::Reach;
@@ -23,7 +24,7 @@ pub(crate) struct Record {
     spec: Spec,
     last: Option<u64>,
     // As many bytes as are watched, from the addition on; sent where there was a check.
-    sent: Vec<u8>,
+    sent: SentBytes,
 }
 
 impl Model for Record {
@@ -47,7 +48,7 @@ impl Record {
         requires { CanBeWatched (range_meant spec.reach) }
         ensures { IfOk result (λ w. w ≡ new_watch handle spec) }
     {
-        let sent = Vec::from_elem(alloc, 0, len_of(spec.reach))?;
+        let sent = SentBytes::new(alloc, len_of(spec.reach))?;
         Ok(Record {
             handle,
             spec,
@@ -81,7 +82,7 @@ impl Record {
         let sent = self.sends(bytes);
         self.last = Some(now);
         if sent {
-            self.sent.as_mut_slice().copy_from_slice(bytes);
+            self.sent.put(bytes);
         }
         sent
     }

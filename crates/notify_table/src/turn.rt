@@ -1,6 +1,6 @@
 //! The order in which checks become due.
 
-ghost use Rattle.std.specs.Prelude.{◌≡◌, ℕ, ◌+◌, ◌<◌, ◌≤◌, map, filter, length, insert, nat_lt, IfOk};
+ghost use Rattle.std.specs.Prelude.{◌≡◌, ℕ, ◌+◌, ◌<◌, ◌≤◌, map, filter, length, insert, nat_lt, IfOk, IsTrue};
 ghost use Rattle.std.specs.Prelude.{OnOk, remove, slice_index_or};
 ghost use Rattle.std.specs.VecDeque.{deque_len, deque_capacity};
 ghost use Rattle.notify_table.specs.Turns.{AreInTurn, IsPlaceOf, turn_rank, is_turn_due, handle_of_turn};
@@ -37,6 +37,17 @@ fn place_of(turns: &VecDeque<Turn>, turn: Turn) -> usize
     turns.partition_point(|t| is_before(*t, turn))
 }
 
+// Whether a turn comes behind all, as mostly after a check.
+fn is_behind_all(turns: &VecDeque<Turn>, turn: Turn) -> bool
+    requires { AreInTurn turns.now.items }
+    ensures { IsTrue result → IsPlaceOf turn turns.now.items (length turns.now.items) }
+{
+    match turns.back() {
+        Some(last) => is_before(*last, turn),
+        None => true,
+    }
+}
+
 // Puts a turn where it belongs. There is room.
 pub(crate) fn put_turn(turns: &mut VecDeque<Turn>, turn: Turn)
     requires in_turn { AreInTurn turns.old.items }
@@ -45,9 +56,25 @@ pub(crate) fn put_turn(turns: &mut VecDeque<Turn>, turn: Turn)
         × (turns.new.items ≡ insert turns.old.items place turn) }
     ensures in_turn { AreInTurn turns.new.items }
 {
+    if is_behind_all(turns, turn) {
+        put_last(turns, turn);
+        return;
+    }
     let place = place_of(turns, turn);
     // There is room, so this cannot fail.
     let _ = turns.insert(place, turn);
+}
+
+// Puts a turn behind all others, where it belongs. There is room.
+fn put_last(turns: &mut VecDeque<Turn>, turn: Turn)
+    requires in_turn { AreInTurn turns.old.items }
+    requires room { deque_len turns.old < deque_capacity turns.old }
+    requires behind { IsPlaceOf turn turns.old.items (length turns.old.items) }
+    ensures put { (place : ℕ) × (place ≤ deque_len turns.old)
+        × (turns.new.items ≡ insert turns.old.items place turn) }
+    ensures in_turn { AreInTurn turns.new.items }
+{
+    turns.push_back_reserved(turn);
 }
 
 // Takes the turn at a place out. Its room stays.

@@ -11,6 +11,12 @@ use std::marker::Model;
 /// How many bytes may wait.
 pub const MAX_QUEUED: usize = 4_194_304;
 
+// As many frames keep their room once they are taken.
+const MOST_SPARE: usize = 64;
+
+// Frames of more bytes do not.
+const SHORT: usize = 1024;
+
 /// What became of a frame.
 #[derive(Clone, Copy, Debug, PartialEq, Eq)]
 pub enum Pushed {
@@ -24,6 +30,8 @@ pub enum Pushed {
 #[derive(Drop)]
 pub struct OutQueue {
     frames: VecDeque<Octets>,
+    // Short frames that were taken, whose room the next ones take.
+    spare: Vec<Octets>,
     // How many bytes of the first frame were taken.
     taken: usize,
     // How many bytes wait.
@@ -49,6 +57,7 @@ impl OutQueue {
     {
         Ok(OutQueue {
             frames: VecDeque::new(alloc),
+            spare: Vec::new(alloc),
             taken: 0,
             bytes: 0,
         })
@@ -65,7 +74,7 @@ impl OutQueue {
         if frame.len() > MAX_QUEUED - self.bytes {
             return Ok(Pushed::Over);
         }
-        let copy = Octets::copy_of(alloc, frame)?;
+        let copy = copy_into(alloc, &mut self.spare, frame)?;
         self.frames.push_back(copy)?;
         self.bytes += frame.len();
         Ok(Pushed::Done)
@@ -112,10 +121,33 @@ impl OutQueue {
         let left = frame.len() - self.taken;
         self.bytes -= n;
         if left == n {
-            let _ = self.frames.pop_front();
+            keep(&mut self.spare, self.frames.pop_front());
             self.taken = 0;
         } else {
             self.taken += n;
         }
+    }
+}
+
+// A copy of a frame, in the room of one that was taken where there is one.
+fn copy_into(alloc: Global, spare: &mut Vec<Octets>, frame: &[u8]) -> Result<Octets, NoMemory>
+    ensures { IfOk result (λ copy. copy ≡ frame.now) }
+{
+    let mut copy = match spare.pop() {
+        Some(taken) => taken,
+        None => Octets::new(alloc),
+    };
+    copy.cut(0);
+    copy.put(alloc, frame)?;
+    Ok(copy)
+}
+
+// The room of a short frame that was taken is kept, unless that of many is.
+fn keep(spare: &mut Vec<Octets>, taken: Option<Octets>) {
+    let Some(frame) = taken else {
+        return;
+    };
+    if frame.len() <= SHORT && spare.len() < MOST_SPARE {
+        let _ = spare.push(frame);
     }
 }

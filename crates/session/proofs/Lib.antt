@@ -27,3 +27,4 @@ pub mod SumLemmas
 pub mod OtherPorts
 pub mod ActPuts
 pub mod TakeLemmas
+pub mod NumberTests

@@ -10,30 +10,21 @@ use port_device::{Group, group_named};
 pub(crate) fn is_handle_by_name(number: u32) -> bool
     ensures { result ≡ groups.is_handle_by_name (group_of number) }
 {
-    match group_named(number) {
-        Some(Group::HandleByName) => true,
-        _ => false,
-    }
+    number == 0xF003
 }
 
 /// Whether the group of a number is that of values by their handles.
 pub(crate) fn is_value_by_handle(number: u32) -> bool
     ensures { result ≡ groups.is_value_by_handle (group_of number) }
 {
-    match group_named(number) {
-        Some(Group::ValueByHandle) => true,
-        _ => false,
-    }
+    number == 0xF005
 }
 
 /// Whether the group of a number releases a handle.
 pub(crate) fn is_release(number: u32) -> bool
     ensures { result ≡ groups.is_release (group_of number) }
 {
-    match group_named(number) {
-        Some(Group::ReleaseHandle) => true,
-        _ => false,
-    }
+    number == 0xF006
 }
 
 /// Whether the group of a number is that of a sum.

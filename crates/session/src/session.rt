@@ -5,7 +5,7 @@ ghost use Rattle.ads_plant.specs.World.{Plant};
 ghost use Rattle.ads_machine.specs.Client.{new_client};
 ghost use Rattle.ams_tcp.specs.History.{History, Represents, nothing_fed, after_feed, answer_of, after_next, IsFrameCut, HoldsPacket};
 
-use ads_base::NoMemory;
+use ads_base::{NoMemory, Octets};
 use ams_tcp::{Cut, Splitter};
 use notify_table::Watches;
 use std::alloc::Global;
@@ -70,5 +70,21 @@ impl Session {
         ensures no_memory { OnErr result (self.new ≡ self.old) }
     {
         self.splitter.next(alloc)
+    }
+
+    /// The same with the packet in the room of bytes that are no longer needed, which are let go.
+    pub fn next_in(&mut self, alloc: Global, room: Octets) -> Result<Cut, NoMemory>
+        ensures answer { IfOk result (λ cut. (h : History) → Represents self.old.stream h → cut ≡ answer_of h) }
+        ensures stands { OnOk result ((h : History) → Represents self.old.stream h
+            → Represents self.new.stream (after_next h)) }
+        ensures packet { IfOk result HoldsPacket }
+        ensures shorter { IfOk result (λ cut. IsFrameCut cut
+            → length self.new.stream.rest < length self.old.stream.rest) }
+        ensures passed { self.new.stream.passed + length self.new.stream.rest
+            ≡ self.old.stream.passed + length self.old.stream.rest }
+        ensures keeps { self.new ≡ record self.old { stream = self.new.stream } }
+        ensures no_memory { OnErr result (self.new ≡ self.old) }
+    {
+        self.splitter.next_in(alloc, room)
     }
 }

@@ -58,12 +58,37 @@ impl Session {
         ensures stream { self.new.stream ≡ self.old.stream }
         ensures keeps { KeepDescriptions ports.old ports.new }
     {
+        self.take_in(alloc, ports, routes, net, ams, Octets::new(alloc))
+    }
+
+    /// The same with the answer in the room of bytes that are no longer needed, which are let go. Who gives each answer back
+    /// for the next takes no memory once the room is as large as the answers.
+    pub fn take_in(
+        &mut self,
+        alloc: Global,
+        ports: &mut Ports,
+        routes: &Routes,
+        net: NetId,
+        ams: &[u8],
+        room: Octets,
+    ) -> Result<Taken, NoMemory>
+        requires packet { IsAmsPacket ams.now }
+        requires served { IsServed ports.old self.old }
+        ensures takes { IfOk result (λ taken. (w : World) (c : Client) → HoldsPorts w ports.old → StandsFor w.plant c self.old
+            → HasAddress w.plant net.bytes routes.now
+            → Takes (outcome_of_packet w c ams.now) taken ports.new self.new) }
+        ensures fits { IfOk result FitsFrame }
+        ensures stream { self.new.stream ≡ self.old.stream }
+        ensures keeps { KeepDescriptions ports.old ports.new }
+    {
         match examined(ams, ports, routes, net) {
             Examined::Silent => Ok(Taken::Silent),
             Examined::Close => Ok(Taken::Close),
             Examined::Error(h, code) => Ok(Taken::Answer(error_frame(alloc, &h, code)?)),
             Examined::Refused(h) => Ok(Taken::Answer(refused_frame(alloc, &h)?)),
-            Examined::Asked(h, rights, request) => self.answer(alloc, ports, &h, rights, request),
+            Examined::Asked(h, rights, request) => {
+                self.answer(alloc, ports, &h, rights, request, room)
+            }
         }
     }
 
@@ -75,6 +100,7 @@ impl Session {
         h: &Header,
         rights: Rights,
         request: Request<'_>,
+        room: Octets,
     ) -> Result<Taken, NoMemory>
         requires served { IsServed ports.old self.old }
         ensures answers { IfOk result (λ taken. (a : Asking) → HoldsPorts a.world ports.old
@@ -88,7 +114,8 @@ impl Session {
         let Some(port) = ports.find_mut(h.target.port) else {
             return Ok(Taken::Silent);
         };
-        let mut out = Octets::new(alloc);
+        let mut out = room;
+        out.cut(0);
         put_room(alloc, &mut out, HEADERS)?;
         self.run(
             alloc,

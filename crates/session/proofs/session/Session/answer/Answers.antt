@@ -30,7 +30,7 @@ returns-in_err-run-clause-keeps c =
 
 pub framed-requires : goal.framed-requires
 framed-requires c =
-    let long : length c.put_room.new.out ≡ 38 = omega (arith, c.in_ok-put_room.ensures.long, ap length c.new-out.ensures) in
+    let long : length c.put_room.new.out ≡ 38 = omega (arith, c.in_ok-put_room.ensures.long, ap length c.cut.ensures) in
     long-enough c.args.ports.now c.args.h.now.target.port c.in-Some.port.now c.run.new.port c.args.self.now c.run.new.self c.args.h.now.source c.args.rights
     (request_meant c.args.request) c.put_room.new.out c.run.new.out c.requires.served (sym c.in-Some.ensures.value) long c.in_ok-run.ensures.runs
 
@@ -40,7 +40,7 @@ returns-in_err-framed-clause-keeps c =
 
 pub returns-clause-answers : goal.returns-clause-answers
 returns-clause-answers c = λ a held stands from found.
-    let long : length c.put_room.new.out ≡ 38 = omega (arith, c.in_ok-put_room.ensures.long, ap length c.new-out.ensures) in
+    let long : length c.put_room.new.out ≡ 38 = omega (arith, c.in_ok-put_room.ensures.long, ap length c.cut.ensures) in
     let own = same-port a.world c.args.ports.now c.args.h.now.target.port c.in-Some.port.now a.asker.port held (sym c.in-Some.ensures.value) found in
     answers-asked a (ams_header_of c.args.h.now) (request_meant c.args.request) c.args.ports.now c.args.h.now.target.port c.in-Some.port.now c.run.new.port
     c.args.self.now c.run.new.self c.put_room.new.out c.run.new.out c.in_ok-framed.field-0 held found

@@ -1,22 +1,24 @@
-use Rattle.std.proofs.Common.{◌≡◌, ◌+◌, drop, sym, ap, ◌∙◌, refl}
+use Rattle.std.proofs.Common.{[], ◌≡◌, ◌+◌, drop, sym, ap, ◌∙◌, refl}
 use Rattle.std.proofs.lemmas.List.{drop-drop}
 use Rattle.ads_frames.specs.Division.{front_of, packet_of, ams_length_of}
 use Rattle.ams_tcp.specs.Held.{Held}
 use Rattle.ams_tcp.specs.declared.cut.Cut.TheVariants as cut
 use Rattle.ams_tcp.proofs.HistoryLemmas.{answer_of-frame, answer_not_yet, answer_broken, given_frame, given_not_yet, given_broken, packet_is, behind_is}
-use Rattle.ams_tcp.proofs.splitter.Splitter.next.Goals as goal
+use Rattle.ams_tcp.proofs.splitter.Splitter.next_in.Goals as goal
 
-pub returns-in_ok-ams-in-Whole-clause-answer : goal.returns-in_ok-ams-in-Whole-clause-answer
-returns-in_ok-ams-in-Whole-clause-answer c = λ h s.
+pub returns-in_ok-put-in-Whole-clause-answer : goal.returns-in_ok-put-in-Whole-clause-answer
+returns-in_ok-put-in-Whole-clause-answer c = λ h s.
     let held = c.args.self.now in
     let rest : c.rest-rest.result.now ≡ held.rest = c.rest-rest.ensures in
     let whole = ap (λ t. front_of t) (sym rest) ∙ c.in-Whole.ensures.front in
-    let ams : c.in_ok-ams-in-Whole.ams ≡ packet_of held.rest =
-    c.in_ok-ams-in-Whole.ensures ∙ packet_is c.rest-rest.result.now c.in-Whole.len c.in-Whole.ensures.size ∙ ap (λ t. packet_of t) rest in
+    let empty : c.cut.new.self ≡ [] = c.cut.ensures in
+    let put = c.in_ok-put-in-Whole.ensures.ok in
+    let ams : c.put.new.self ≡ packet_of held.rest =
+    rw empty at put ∙ packet_is c.rest-rest.result.now c.in-Whole.len c.in-Whole.ensures.size ∙ ap (λ t. packet_of t) rest in
     ap (λ x. cut.Frame x) ams ∙ sym (answer_of-frame held h whole s)
 
-pub returns-in_ok-ams-in-Whole-clause-stands : goal.returns-in_ok-ams-in-Whole-clause-stands
-returns-in_ok-ams-in-Whole-clause-stands c = λ h s.
+pub returns-in_ok-put-in-Whole-clause-stands : goal.returns-in_ok-put-in-Whole-clause-stands
+returns-in_ok-put-in-Whole-clause-stands c = λ h s.
     let held = c.args.self.now in
     let rest : c.rest-rest.result.now ≡ held.rest = c.rest-rest.ensures in
     let view : drop c.self.inside.start c.self.inside.bytes.items ≡ held.rest = ap (λ (k : Held). k.rest) c.self.view_is in
