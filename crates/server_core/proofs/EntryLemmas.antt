@@ -1,7 +1,7 @@
 -- Entries of a map by their numbers: where a number is found, and what an insertion adds.
-use Rattle.std.proofs.Common.{◌≡◌, ◌≢◌, ◌⊎◌, ℕ, zero, suc, ◌+◌, ◌<◌, ◌≤◌, List, [], ◌∷◌, ◌++◌, length, get_or, false, refl, sym, ap, ◌∙◌, inl, inr, nat_eq, arith}
+use Rattle.std.proofs.Common.{◌≡◌, ◌≢◌, ◌⊎◌, ℕ, zero, suc, ◌+◌, ◌<◌, ◌≤◌, List, [], ◌∷◌, ◌++◌, length, get_or, false, refl, sym, ap, ◌∙◌, inl, inr, nat_eq, true, arith}
 use Rattle.std.specs.Prelude.{◌==◌, not, nat_lt, take, slice_get, option_map, Option, Some, None, IfSome, IfNone, position}
-use Rattle.std.specs.List.{prefix_len}
+use Rattle.std.specs.List.{prefix_len, IsDistinct, AllByRecursion}
 use Rattle.std.specs.Map.{keys_of, values_of}
 use Rattle.std.proofs.lemmas.Bool.{cases_Bool, cond-true, cond-false, ltb-false, not_from_true, not_from_false, eqb-true}
 use Rattle.std.proofs.lemmas.List.{take_more, take_all}
@@ -144,3 +144,38 @@ key_is_there es i o read below none =
 pub key_there : (es : List (ℕ × Waiting)) (i : ℕ) (o : Option ℕ) → o ≡ option_map (λ (e : ℕ × Waiting). e.0) (slice_get es i) → i < length es → ((n : ℕ) → o ≡ Some n → ⊥) → ⊥
 key_there es i None read below not_some = key_is_there es i None read below refl
 key_there es i (Some n) read below not_some = not_some n refl
+
+-- among keys of which none is equal to one before it, the place of a number is the first
+none_before : (es : List (ℕ × Waiting)) (x n i : ℕ) → AllByRecursion (λ y. nat_eq x y ≡ false) (keys_of es) → option_map (λ (e : ℕ × Waiting). e.0) (slice_get es i) ≡ Some n → x ≢ n
+none_before [] x n i none there same = absurd (let e : ◌≡◌ {A = Option ℕ} None (Some n) = there in cc)
+none_before (e ∷ es) x n zero none there same =
+    let some : ◌≡◌ {A = Option ℕ} (Some e.0) (Some n) = there in
+    let at : e.0 ≡ n = cc in
+    let yes : nat_eq x e.0 ≡ true = test_same x e.0 (same ∙ sym at) in
+    let not_there : nat_eq x e.0 ≡ false = none.0 in
+    cc
+none_before (e ∷ es) x n (suc i) none there same = none_before es x n i none.1 there same
+
+first_or_later : (e : ℕ × Waiting) (es : List (ℕ × Waiting)) (n i : ℕ) → e.0 ≢ n → ((k d : ℕ) → k < i → get_or (keys_of es) k d ≢ n)
+    → (k d : ℕ) → k < suc i → get_or (keys_of (e ∷ es)) k d ≢ n
+first_or_later e es n i head rest zero d below same = head same
+first_or_later e es n i head rest (suc k) d below same = rest k d (omega (arith, below)) same
+
+pub entry_of_key : (es : List (ℕ × Waiting)) (n i : ℕ) → IsDistinct nat_eq (keys_of es) → option_map (λ (e : ℕ × Waiting). e.0) (slice_get es i) ≡ Some n → IsEntry es n i
+unfolding IsDistinct
+entry_of_key [] n i distinct there = absurd (let e : ◌≡◌ {A = Option ℕ} None (Some n) = there in cc)
+entry_of_key (e ∷ es) n zero distinct there =
+    let some : ◌≡◌ {A = Option ℕ} (Some e.0) (Some n) = there in
+    let at : e.0 ≡ n = cc in
+    record {
+      within = omega arith;
+      number = λ d. at;
+      first = λ k d below same. absurd (omega (arith, below));
+    }
+entry_of_key (e ∷ es) n (suc i) distinct there =
+    let rest = entry_of_key es n i distinct.1 there in
+    record {
+      within = omega (arith, rest.within);
+      number = λ d. rest.number d;
+      first = λ k d below. first_or_later e es n i (none_before es e.0 n i distinct.0 there) rest.first k d below;
+    }

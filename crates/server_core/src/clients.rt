@@ -1,6 +1,6 @@
 //! The connections that are there, found by their numbers.
 
-ghost use Rattle.std.specs.Prelude.{◌≡◌, ◌<◌, [], length, remove, slice_get, option_map, IfOk, OnOk, IfSome, IfNone};
+ghost use Rattle.std.specs.Prelude.{◌≡◌, ◌<◌, [], length, remove, slice_get, option_map, IfOk, OnOk, IfSome, IfNone, IsTrue};
 ghost use Rattle.indexmap.specs.IndexMap.{keys};
 ghost use Rattle.server_core.specs.Touched.{OthersIdle};
 
@@ -61,7 +61,26 @@ impl Clients {
         ensures found { IfSome result (IsEntry self.now.waiting.entries number) }
         ensures absent { IfNone result (IsNoEntry self.now.waiting.entries number) }
     {
+        // Mostly it is the first that was touched, which no look-up by the number has to find.
+        if let Touched::Stretch { first, last: _ } = self.touched {
+            if self.is_at(first, number) {
+                return Some(first);
+            }
+        }
         self.waiting.get_index_of(&number)
+    }
+
+    // Whether the connection of a number stands at a place.
+    fn is_at(&self, i: usize, number: u32) -> bool
+        ensures { IsTrue result → IsEntry self.now.waiting.entries number i }
+    {
+        if i >= self.waiting.len() {
+            return false;
+        }
+        match self.number(i) {
+            Some(there) => there == number,
+            None => false,
+        }
     }
 
     /// A connection is opened, whose number is not there.

@@ -20,6 +20,23 @@ use ams_tcp::Cut;
 use out_queue::Pushed;
 use session::Taken;
 use std::alloc::Global;
+use std::mem;
+
+// The room of the last packet and of the last answer, which the next ones take. What stands there is not looked at.
+#[derive(Drop)]
+struct Rooms {
+    packet: Octets,
+    reply: Octets,
+}
+
+impl Rooms {
+    fn new(alloc: Global) -> Rooms {
+        Rooms {
+            packet: Octets::new(alloc),
+            reply: Octets::new(alloc),
+        }
+    }
+}
 
 /// A piece comes in, and all frames that are whole by then are taken.
 pub(crate) fn take_piece(
@@ -41,7 +58,8 @@ pub(crate) fn take_piece(
         return Ok(());
     }
     turned.session.feed(alloc, bytes)?;
-    while take_next(alloc, turned, waiting, device, summary)? {}
+    let mut rooms = Rooms::new(alloc);
+    while take_next(alloc, turned, waiting, device, summary, &mut rooms)? {}
     Ok(())
 }
 
@@ -52,6 +70,7 @@ fn take_next(
     waiting: &mut Waiting,
     device: &mut Device,
     summary: &mut Summary,
+    rooms: &mut Rooms,
 ) -> Result<bool, NoMemory>
     requires { IsConnected device.old turned.old.session }
     ensures takes { IfOk result (λ more. (n : ℕ) (x : ServedExchange) → HoldsWorld device.old x.world
@@ -63,10 +82,20 @@ fn take_next(
     ensures marks { waiting.new.blocked ≡ waiting.old.blocked }
     ensures device { KeepsDevice device.old device.new }
 {
-    match turned.session.next(alloc)? {
+    let room = mem::replace(&mut rooms.packet, Octets::new(alloc));
+    match turned.session.next_in(alloc, room)? {
         Cut::Frame(packet) => {
             summary.count_request();
-            answer(alloc, turned, waiting, device, summary, packet.as_slice())?;
+            answer(
+                alloc,
+                turned,
+                waiting,
+                device,
+                summary,
+                packet.as_slice(),
+                &mut rooms.reply,
+            )?;
+            rooms.packet = packet;
             Ok(!turned.skip)
         }
         Cut::NotYet => Ok(false),
@@ -85,6 +114,7 @@ fn answer(
     device: &mut Device,
     summary: &mut Summary,
     packet: &[u8],
+    room: &mut Octets,
 ) -> Result<(), NoMemory>
     requires packet { IsAmsPacket packet.now }
     requires connected { IsConnected device.old turned.old.session }
@@ -96,8 +126,20 @@ fn answer(
     ensures marks { waiting.new.blocked ≡ waiting.old.blocked }
     ensures device { KeepsDevice device.old device.new }
 {
-    match turned.session.take(alloc, &mut device.ports, &device.routes, device.net, packet)? {
-        Taken::Answer(frame) => reply(alloc, turned, waiting, summary, frame),
+    let empty = mem::replace(room, Octets::new(alloc));
+    match turned.session.take_in(
+        alloc,
+        &mut device.ports,
+        &device.routes,
+        device.net,
+        packet,
+        empty,
+    )? {
+        Taken::Answer(frame) => {
+            reply(alloc, turned, waiting, summary, frame.as_slice())?;
+            *room = frame;
+            Ok(())
+        }
         Taken::Silent => Ok(()),
         Taken::Close => {
             turned.skip = true;
@@ -112,16 +154,16 @@ fn reply(
     turned: &mut Turned,
     waiting: &mut Waiting,
     summary: &mut Summary,
-    frame: Octets,
+    frame: &[u8],
 ) -> Result<(), NoMemory>
-    requires { 0 < length frame }
+    requires { 0 < length frame.now }
     ensures produces { OnOk result ((plant : Plant) (n : ℕ) (k : ServedConnection)
         → Stands plant (conn_of turned.old (n, waiting.old)) k → k.closing ≡ false
-        → Produces plant (conn_of turned.new (n, waiting.new)) summary.old summary.new (Reply frame) k) }
+        → Produces plant (conn_of turned.new (n, waiting.new)) summary.old summary.new (Reply frame.now) k) }
     ensures session { turned.new.session ≡ turned.old.session }
     ensures marks { waiting.new.blocked ≡ waiting.old.blocked }
 {
-    match waiting.out.push_owned(alloc, frame)? {
+    match waiting.out.push(alloc, frame)? {
         Pushed::Done => summary.count_reply(),
         Pushed::Over => turned.skip = true,
     }

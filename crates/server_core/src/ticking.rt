@@ -19,8 +19,8 @@ use std::thread::Threads;
 // A list is halved so often, so that at most eight threads check sessions at once.
 const LEVELS: u32 = 3;
 
-// From so many due notifications on. A thread costs tens of microseconds to start, a check a fraction of one.
-const THREADS_FROM: usize = 512;
+// From so many due notifications on: a millisecond of checks. Seven joins cost about as much.
+const THREADS_FROM: usize = 8_192;
 
 /// A tick: each signal steps, the due notifications of each connection that is not closing are checked, and the
 /// frames of their samples are produced, connection after connection.
