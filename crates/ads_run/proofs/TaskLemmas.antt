@@ -23,6 +23,7 @@ what_fits ask.State h = tt
 what_fits ask.List h = tt
 what_fits (ask.Control ads device) h = let both = and_parts (nat_le ads 65535) (nat_le device 65535) h in (leb-true ads 65535 both.0, leb-true device 65535 both.1)
 what_fits (ask.Get name) h = leb-true (length name) 65536 h
+what_fits (ask.Show name) h = leb-true (length name) 65536 h
 what_fits (ask.Set name value) h =
     let both = and_parts (is_text name) (is_text value) h in
     (leb-true (length name) 65536 both.0, leb-true (length value) 65536 both.1)
@@ -53,7 +54,7 @@ command_fits (Some (command.Get n c)) = ask_fits (ask.Get n) c (nat_le c.port 65
 command_fits (Some (command.Set n v c)) = ask_fits (ask.Set n v) c (nat_le c.port 65535) (fits_what (ask.Set n v)) refl refl
 command_fits (Some (command.Watch n m y k c)) = ask_fits (ask.Watch n m y k) c (nat_le c.port 65535) (fits_what (ask.Watch n m y k)) refl refl
 command_fits (Some (command.Migrate d)) = tt
-command_fits (Some (command.Show n c)) = tt
+command_fits (Some (command.Show n c)) = ask_fits (ask.Show n) c (nat_le c.port 65535) (fits_what (ask.Show n)) refl refl
 command_fits (Some (command.Relay d s)) = tt
 command_fits (Some (command.RelayServe d l n)) = tt
 command_fits (Some (command.Keep d s t)) = tt

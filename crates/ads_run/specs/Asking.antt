@@ -2,7 +2,7 @@
 use Rattle.std.specs.Prelude.{ℕ, List, if◌then◌else◌}
 use Rattle.ads_base.specs.declared.net_id.NetId.{NetId}
 use Rattle.ads_formats.specs.Header.{AmsAddress}
-use Rattle.ads_client.specs.Calls.{Call, Info, State, Control, Get, Set, Symbols, Watch, SERVER_CYCLE, SERVER_ON_CHANGE}
+use Rattle.ads_client.specs.Calls.{Call, Info, State, Control, Get, Set, Symbols, Watch, Show, SERVER_CYCLE, SERVER_ON_CHANGE}
 use Rattle.cli_words.specs.declared.client_words.ClientWords.{ClientWords}
 use Rattle.signals.specs.Wave.{Wave}
 use Rattle.ads_plant.specs.Description.{Description}
@@ -16,6 +16,7 @@ call_asked ask.State = State
 call_asked ask.List = Symbols
 call_asked (ask.Control ads device) = Control ads device
 call_asked (ask.Get name) = Get name
+call_asked (ask.Show name) = Show name
 call_asked (ask.Set name value) = Set name value
 call_asked (ask.Watch name change cycle count) =
     Watch name (record { mode = if change then SERVER_ON_CHANGE else SERVER_CYCLE; cycle = cycle; count = count })

@@ -17,6 +17,7 @@ FitsClientTask ask.State = Unit {0}
 FitsClientTask ask.List = Unit {0}
 FitsClientTask (ask.Control ads device) = (ads ≤ 65535) × (device ≤ 65535)
 FitsClientTask (ask.Get name) = IsTextOfWords name
+FitsClientTask (ask.Show name) = IsTextOfWords name
 FitsClientTask (ask.Set name value) = IsTextOfWords name × IsTextOfWords value
 FitsClientTask (ask.Watch name change cycle count) = IsTextOfWords name × (cycle ≤ 4294967295) × (count ≤ 1000000)
 

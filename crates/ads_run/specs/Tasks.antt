@@ -24,6 +24,7 @@ fits_what ask.State = true
 fits_what ask.List = true
 fits_what (ask.Control ads device) = nat_le ads 65535 && nat_le device 65535
 fits_what (ask.Get name) = is_text name
+fits_what (ask.Show name) = is_text name
 fits_what (ask.Set name value) = is_text name && is_text value
 fits_what (ask.Watch name change cycle count) = is_text name && nat_le cycle 4294967295 && nat_le count 1000000
 
@@ -46,6 +47,7 @@ task_of_command (Some (command.State client)) = task_of_ask ask.State client
 task_of_command (Some (command.List client)) = task_of_ask ask.List client
 task_of_command (Some (command.Control ads device client)) = task_of_ask (ask.Control ads device) client
 task_of_command (Some (command.Get name client)) = task_of_ask (ask.Get name) client
+task_of_command (Some (command.Show name client)) = task_of_ask (ask.Show name) client
 task_of_command (Some (command.Set name value client)) = task_of_ask (ask.Set name value) client
 task_of_command (Some (command.Watch name change cycle count client)) =
     task_of_ask (ask.Watch name change cycle count) client

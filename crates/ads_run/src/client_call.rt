@@ -28,6 +28,10 @@ pub fn call_of(alloc: Global, what: &ClientTask) -> Result<Call, NoMemory>
             let name = bytes_of(alloc, name)?;
             Ok(Call::Get(name))
         }
+        ClientTask::Show { name } => {
+            let name = bytes_of(alloc, name)?;
+            Ok(Call::Show(name))
+        }
         ClientTask::Set { name, value } => {
             let name = bytes_of(alloc, name)?;
             let value = bytes_of(alloc, value)?;

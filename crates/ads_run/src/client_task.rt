@@ -20,6 +20,10 @@ pub enum ClientTask {
     Get {
         name: Text,
     },
+    /// Its leaves: the plain types, texts and enumerations that its value is made of.
+    Show {
+        name: Text,
+    },
     /// A symbol is to have this value.
     Set {
         name: Text,

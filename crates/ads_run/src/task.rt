@@ -81,6 +81,7 @@ fn task_of(command: Option<Command>) -> Option<Task>
             },
         ) => task_of_ask(ClientTask::Control { ads, device }, client),
         Some(Command::Get { name, client }) => task_of_ask(ClientTask::Get { name }, client),
+        Some(Command::Show { name, client }) => task_of_ask(ClientTask::Show { name }, client),
         Some(
             Command::Set {
                 name,
@@ -136,6 +137,7 @@ fn fits_what(what: &ClientTask) -> bool
         ClientTask::Info | ClientTask::State | ClientTask::List => true,
         ClientTask::Control { ads, device } => *ads <= 65_535 && *device <= 65_535,
         ClientTask::Get { name } => is_text(name),
+        ClientTask::Show { name } => is_text(name),
         ClientTask::Set { name, value } => is_text(name) && is_text(value),
         ClientTask::Watch {
             name,

@@ -33,28 +33,35 @@ pub fn take_link_line(
     key: &str,
     rest: &str,
 ) -> Result<(), Fault> {
-    let (number, behind) = rest.split_once(' ').unwrap_or((rest, ""));
-    let number = number_of(number)?;
     match key {
-        "fail-link" => Ok(link.failing_calls.push(alloc, number)?),
+        "fail-link" => Ok(link.failing_calls.push(alloc, number_of(rest)?)?),
         "comes" => {
-            let bytes = bytes_of(alloc, behind)?;
-            Ok(link.events.push(alloc, LinkEvent::Bytes(bytes, number))?)
+            let event = coming_of(alloc, rest)?;
+            Ok(link.events.push(alloc, event)?)
         }
-        "quiet" => put_quiet(alloc, link, number, behind),
-        _ => Ok(link.events.push(alloc, LinkEvent::Closed(number))?),
+        "quiet" => put_quiet(alloc, &mut link.events, rest),
+        _ => {
+            let moment = number_of(rest)?;
+            Ok(link.events.push(alloc, LinkEvent::Closed(moment))?)
+        }
     }
 }
 
-// Nothing comes, so often.
-fn put_quiet(alloc: Global, link: &mut LinkCase, moment: u64, times: &str) -> Result<(), Fault> {
-    let times = if times.is_empty() {
-        1
-    } else {
-        number_of(times)?
-    };
+// `5 00002c000000 0501`: a moment, and bytes in hexadecimal, which blanks may part.
+fn coming_of(alloc: Global, rest: &str) -> Result<LinkEvent, Fault> {
+    let (moment, digits) = rest.split_once(' ').unwrap_or((rest, ""));
+    let moment = number_of(moment)?;
+    let bytes = bytes_of(alloc, digits)?;
+    Ok(LinkEvent::Bytes(bytes, moment))
+}
+
+// `5 3`: a moment, and how often nothing comes.
+fn put_quiet(alloc: Global, events: &mut LinkEvents, rest: &str) -> Result<(), Fault> {
+    let (moment, times) = rest.split_once(' ').unwrap_or((rest, "1"));
+    let moment = number_of(moment)?;
+    let times = number_of(times)?;
     for _ in 0..times {
-        link.events.push(alloc, LinkEvent::Quiet(moment))?;
+        events.push(alloc, LinkEvent::Quiet(moment))?;
     }
     Ok(())
 }

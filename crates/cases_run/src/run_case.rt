@@ -6,7 +6,9 @@ use crate::new_events::open_new;
 use crate::wire_case::WireCase;
 use crate::wire_log::log_text;
 use ads_base::{Calls, NoMemory, Octets};
-use ads_outside::{Files, Link, MemFiles, MemLink, MemSink, MemWire, NamedFiles, Sink, Wire};
+use ads_outside::{
+    Files, Link, LinkMove, MemFiles, MemLink, MemSink, MemWire, Move, NamedFiles, Sink, Wire,
+};
 use ads_run::{ProgramSignals, Status, run};
 use signals::Signal;
 use std::alloc::Global;
@@ -72,25 +74,54 @@ pub fn run_case<T: Threads + Sync>(threads: &T, alloc: Global, case: Case) -> Re
     let mut wire = MemWire::new(alloc, events, failing_calls, cuts);
     let mut link = MemLink::new(alloc, link_events, link_fails);
     let words = words.as_slice();
-    let status = if has_signals {
-        run_with_signals(
-            threads, alloc, words, &mut files, &mut wire, &mut link, &mut sink,
-        )?
-    } else {
-        let none: Vec<Box<dyn Signal>> = Vec::new(alloc);
-        run(
-            threads, alloc, words, &mut files, &mut wire, &mut link, &mut sink, none,
-        )
-    };
-    let out = Octets::copy_of(alloc, sink.bytes())?;
-    let log = log_text(alloc, wire.log())?;
-    let talk = talk_of(alloc, link.log())?;
+    let status = run_words(
+        threads,
+        alloc,
+        words,
+        has_signals,
+        &mut files,
+        &mut wire,
+        &mut link,
+        &mut sink,
+    )?;
+    came_of(alloc, status, sink.bytes(), wire.log(), link.log())
+}
+
+// What came, of what was printed and the two logs.
+fn came_of(
+    alloc: Global,
+    status: Status,
+    out: &[u8],
+    log: &[Move],
+    talk: &[LinkMove],
+) -> Result<Came, Fault> {
+    let out = Octets::copy_of(alloc, out)?;
+    let log = log_text(alloc, log)?;
+    let talk = talk_of(alloc, talk)?;
     Ok(Came {
         status: status.number(),
         out,
         log,
         talk,
     })
+}
+
+// The run with the program's signals, or with none.
+fn run_words<T: Threads + Sync, F: Files, W: Wire, L: Link, S: Sink>(
+    threads: &T,
+    alloc: Global,
+    words: &[String],
+    has_signals: bool,
+    files: &mut F,
+    wire: &mut W,
+    link: &mut L,
+    sink: &mut S,
+) -> Result<Status, NoMemory> {
+    if has_signals {
+        return run_with_signals(threads, alloc, words, files, wire, link, sink);
+    }
+    let none: Vec<Box<dyn Signal>> = Vec::new(alloc);
+    Ok(run(threads, alloc, words, files, wire, link, sink, none))
 }
 
 fn run_with_signals<T: Threads + Sync, F: Files, W: Wire, L: Link, S: Sink>(
