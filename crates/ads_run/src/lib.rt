@@ -1,4 +1,5 @@
-//! The server's commands as a library: `run` over any files, any wire and any sink, and the run over the real ones.
+//! The server's and the client's commands as a library: `run` over any files, any wire, any link and any sink, and the
+//! run over the real ones.
 #![tactic(auto)]
 
 mod ask;
@@ -31,7 +32,7 @@ mod task;
 mod top_call;
 
 pub use crate::laws::logs_in_turns_keep_promises;
-pub use crate::program::status_of;
+pub use crate::program::{run_program, status_of};
 pub use crate::program_signals::ProgramSignals;
 pub use crate::status::Status;
 pub use crate::top_call::run;

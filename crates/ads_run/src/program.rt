@@ -77,8 +77,9 @@ fn end_without_words<S: Sink>(kind: ErrorKind, out: &mut S) -> Status
     print_and_end(out, USAGE_LINE, Status::Usage)
 }
 
-// The run with the signals that the program has.
-fn run_program<T: Threads + Sync, F: Files, W: Wire, L: Link, S: Sink>(
+/// `run` with the signals that the program has: a ramp, a square and a table. Nothing is called where memory is wanting
+/// for them.
+pub fn run_program<T: Threads + Sync, F: Files, W: Wire, L: Link, S: Sink>(
     threads: &T,
     alloc: Global,
     words: &[String],

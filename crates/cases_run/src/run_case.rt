@@ -9,7 +9,7 @@ use ads_base::{Calls, NoMemory, Octets};
 use ads_outside::{
     Files, Link, LinkMove, MemFiles, MemLink, MemSink, MemWire, Move, NamedFiles, Sink, Wire,
 };
-use ads_run::{ProgramSignals, Status, run};
+use ads_run::{Status, run, run_program};
 use signals::Signal;
 use std::alloc::Global;
 use std::thread::Threads;
@@ -118,29 +118,8 @@ fn run_words<T: Threads + Sync, F: Files, W: Wire, L: Link, S: Sink>(
     sink: &mut S,
 ) -> Result<Status, NoMemory> {
     if has_signals {
-        return run_with_signals(threads, alloc, words, files, wire, link, sink);
+        return run_program(threads, alloc, words, files, wire, link, sink);
     }
     let none: Vec<Box<dyn Signal>> = Vec::new(alloc);
     Ok(run(threads, alloc, words, files, wire, link, sink, none))
-}
-
-fn run_with_signals<T: Threads + Sync, F: Files, W: Wire, L: Link, S: Sink>(
-    threads: &T,
-    alloc: Global,
-    words: &[String],
-    files: &mut F,
-    wire: &mut W,
-    link: &mut L,
-    sink: &mut S,
-) -> Result<Status, NoMemory> {
-    let ProgramSignals {
-        ramp,
-        square,
-        table,
-    } = ProgramSignals::new(alloc)?;
-    let mut signals: Vec<Box<dyn Signal>> = Vec::new(alloc);
-    signals.push(Box::new(alloc, ramp)?)?;
-    signals.push(Box::new(alloc, square)?)?;
-    signals.push(Box::new(alloc, table)?)?;
-    Ok(run(threads, alloc, words, files, wire, link, sink, signals))
 }
