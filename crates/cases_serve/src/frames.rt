@@ -31,14 +31,14 @@ pub fn state_told(alloc: Global) -> Result<Vec<u8>, AllocError> {
 /// A request for so many bytes of the data at an offset.
 pub fn read_asked(alloc: Global, at: u32, len: u32) -> Result<Vec<u8>, AllocError> {
     let mut payload = Vec::new(alloc);
-    put_place(alloc, at, len, &mut payload)?;
+    put_place(at, len, &mut payload)?;
     frame(alloc, &SERVER, &CLIENT, READ, 4, payload.as_slice())
 }
 
 /// Its reply: result 0, the number of bytes, and the bytes.
 pub fn read_told(alloc: Global, bytes: &[u8]) -> Result<Vec<u8>, AllocError> {
     let mut payload = Vec::from_slice(alloc, &[0, 0, 0, 0])?;
-    payload.extend_from_slice(&(bytes.len() as u32).to_le_bytes())?;
+    payload.extend_from_slice(&length(bytes).to_le_bytes())?;
     payload.extend_from_slice(bytes)?;
     frame(alloc, &CLIENT, &SERVER, READ, 5, payload.as_slice())
 }
@@ -46,7 +46,7 @@ pub fn read_told(alloc: Global, bytes: &[u8]) -> Result<Vec<u8>, AllocError> {
 /// A request to write bytes to the data at an offset.
 pub fn write_asked(alloc: Global, at: u32, bytes: &[u8]) -> Result<Vec<u8>, AllocError> {
     let mut payload = Vec::new(alloc);
-    put_place(alloc, at, bytes.len() as u32, &mut payload)?;
+    put_place(at, length(bytes), &mut payload)?;
     payload.extend_from_slice(bytes)?;
     frame(alloc, &SERVER, &CLIENT, WRITE, 4, payload.as_slice())
 }
@@ -56,7 +56,7 @@ pub fn write_told(alloc: Global) -> Result<Vec<u8>, AllocError> {
     frame(alloc, &CLIENT, &SERVER, WRITE, 5, &[0, 0, 0, 0])
 }
 
-fn put_place(alloc: Global, at: u32, len: u32, out: &mut Vec<u8>) -> Result<(), AllocError> {
+fn put_place(at: u32, len: u32, out: &mut Vec<u8>) -> Result<(), AllocError> {
     out.extend_from_slice(&DATA.to_le_bytes())?;
     out.extend_from_slice(&at.to_le_bytes())?;
     out.extend_from_slice(&len.to_le_bytes())
@@ -72,7 +72,7 @@ fn frame(
     flags: u16,
     payload: &[u8],
 ) -> Result<Vec<u8>, AllocError> {
-    let len = payload.len() as u32;
+    let len = length(payload);
     let mut frame = Vec::from_slice(alloc, &[0, 0])?;
     frame.extend_from_slice(&len.saturating_add(32).to_le_bytes())?;
     frame.extend_from_slice(target)?;
@@ -83,4 +83,9 @@ fn frame(
     frame.extend_from_slice(&[0, 0, 0, 0, 1, 0, 0, 0])?;
     frame.extend_from_slice(payload)?;
     Ok(frame)
+}
+
+// How many bytes there are. No frame here has 4 GiB.
+fn length(bytes: &[u8]) -> u32 {
+    bytes.len().min(u32::MAX as usize) as u32
 }

@@ -9,8 +9,10 @@ use std::io;
 /// How many events the server takes: more than are needed here, and no more than 30 s of ticks.
 const EVENTS: &str = "3000";
 
-/// Where the large symbol of plant.toml stands in the data, and its first number.
+/// Where the large symbol of plant.toml stands in the data, and how many bytes it has.
 const BLOCK_AT: u32 = 8;
+
+const BLOCK_LEN: u32 = 526_336;
 
 /// Tries all. Whether all came as wanted.
 pub fn all_as_wanted(rt: &HostRuntime) -> io::Result<bool> {
@@ -75,7 +77,7 @@ fn is_answered_beside(alloc: Global, large: &mut Peer, other: &mut Peer) -> io::
     let between = is_answered_in_parts(alloc, other)?;
     large.send(back)?;
     let written = large.brings(alloc, write_told(alloc)?.as_slice())?;
-    large.send(read_asked(alloc, BLOCK_AT, block.len() as u32)?.as_slice())?;
+    large.send(read_asked(alloc, BLOCK_AT, BLOCK_LEN)?.as_slice())?;
     let behind = is_answered_in_parts(alloc, other)?;
     let read = large.brings(alloc, read_told(alloc, block.as_slice())?.as_slice())?;
     Ok(between && written && behind && read)

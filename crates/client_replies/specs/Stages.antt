@@ -3,6 +3,7 @@ use Rattle.std.specs.Prelude.{ℕ, [], map}
 use Rattle.ads_client.specs.Calls as calls
 use Rattle.ads_client.specs.Printed.{ok_line}
 use Rattle.ads_client.specs.Stages as stages
+use Rattle.client_leaves.specs.Kept.{leaf_kept}
 use Rattle.client_replies.specs.Kept.{entry_kept, request_kept}
 use Rattle.client_replies.specs.declared.call.Call.{Call}
 use Rattle.client_replies.specs.declared.call.Call.TheVariants as call
@@ -34,6 +35,7 @@ call_meant (call.Get name) = calls.Get name
 call_meant (call.Set name text) = calls.Set name text
 call_meant call.List = calls.Symbols
 call_meant (call.Watch name m cycle count) = calls.Watch name (watching_of (mode_meant m) cycle count)
+call_meant (call.Show name) = calls.Show name
 
 abbrev pub watching_kept : Watching → calls.Watching
 watching_kept w = watching_of (mode_meant w.mode) w.cycle w.count
@@ -53,6 +55,7 @@ abbrev pub purpose_kept : Purpose → stages.Purpose
 purpose_kept purpose.ToGet = stages.ToGet
 purpose_kept (purpose.ToSet text) = stages.ToSet text
 purpose_kept (purpose.ToWatch w) = stages.ToWatch (watching_kept w)
+purpose_kept purpose.ToShow = stages.ToShow
 
 abbrev pub stage_kept : Stage → stages.Stage
 stage_kept stage.AwaitsFacts = stages.AwaitsFacts
@@ -67,6 +70,9 @@ stage_kept stage.AwaitsUploadInfo = stages.AwaitsUploadInfo
 stage_kept (stage.AwaitsUpload count) = stages.AwaitsUpload count
 stage_kept (stage.AwaitsNotification e w) = stages.AwaitsNotification (entry_kept e) (watching_kept w)
 stage_kept (stage.Watches e handle left) = stages.Watches (entry_kept e) handle left
+stage_kept (stage.AwaitsTypeInfo name e) = stages.AwaitsTypeInfo name (entry_kept e)
+stage_kept (stage.AwaitsTypes name e count) = stages.AwaitsTypes name (entry_kept e) count
+stage_kept (stage.AwaitsLeaves size leaves) = stages.AwaitsLeaves size (map leaf_kept leaves)
 stage_kept (stage.Finished e) = stages.Finished (end_meant e)
 
 abbrev pub progress_kept : Progress → stages.Progress

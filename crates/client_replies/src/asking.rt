@@ -154,6 +154,28 @@ pub(crate) fn upload_request(size: u32) -> Asked
     }
 }
 
+/// The numbers of symbols and types, and the sizes of their uploads.
+pub(crate) fn type_info_request() -> Asked
+    ensures { request_kept result ≡ calls.type_info_request }
+{
+    Asked::Read {
+        group: 0xF00F,
+        offset: 0,
+        len: 24,
+    }
+}
+
+/// The upload of the types.
+pub(crate) fn type_upload_request(size: u32) -> Asked
+    ensures { request_kept result ≡ calls.type_upload_request size }
+{
+    Asked::Read {
+        group: 0xF00E,
+        offset: 0,
+        len: size,
+    }
+}
+
 /// Samples of a symbol.
 pub(crate) fn addition_request(e: &OwnEntry, w: Watching) -> Asked
     ensures { request_kept result ≡ calls.addition_request (entry_kept e.now) (watching_kept w) }

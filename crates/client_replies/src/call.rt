@@ -35,4 +35,6 @@ pub enum Call {
         cycle: u32,
         count: u32,
     },
+    /// The leaves of the symbol with this name: the plain types, texts and enumerations that its value is made of.
+    Show(Octets),
 }

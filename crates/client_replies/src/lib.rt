@@ -8,6 +8,7 @@ mod own_entry;
 mod printed;
 mod progress;
 mod replies;
+mod showing;
 mod stage;
 mod steps;
 mod values;

@@ -1,14 +1,17 @@
 //! The lines that client commands print.
 
-ghost use Rattle.std.specs.Prelude.{◌≡◌, ◌∷◌, ◌++◌, [], codes, IfOk, OnOk};
+ghost use Rattle.std.specs.Prelude.{◌≡◌, ◌∷◌, ◌++◌, [], codes, take, drop, IfOk, OnOk};
 ghost use Rattle.std.specs.Fmt.{decimal};
 ghost use Rattle.ads_formats.specs.ValueText.{before_nul, value_text};
 ghost use Rattle.ads_commands.specs.Reply.{facts_meant};
 ghost use Rattle.symbol_info.specs.Entry.{entry_meant};
 ghost use Rattle.ads_client.specs.Printed as printed;
+ghost use Rattle.ads_client.specs.Leaves as leaves;
+ghost use Rattle.client_leaves.specs.Kept.{leaf_kept};
 
 use ads_base::{NoMemory, Octets};
 use ads_commands::DeviceFacts;
+use client_leaves::Leaf;
 use std::alloc::Global;
 use symbol_info::Entry;
 use value_text::to_text;
@@ -107,6 +110,33 @@ pub(crate) fn value_line(alloc: Global, type_id: u32, bytes: &[u8]) -> Result<Oc
     to_text(alloc, type_id, bytes, &mut text)?;
     text.push(alloc, b'\n')?;
     Ok(text)
+}
+
+/// A leaf's path, and the text of its value in the symbol's bytes.
+pub(crate) fn leaf_line(alloc: Global, leaf: &Leaf, bytes: &[u8]) -> Result<Octets, NoMemory>
+    ensures { IfOk result (λ text. text ≡ leaves.leaf_line bytes.now (leaf_kept leaf.now)) }
+{
+    let mut text = Octets::new(alloc);
+    put_escaped(alloc, &mut text, leaf.path.as_slice())?;
+    text.push(alloc, b' ')?;
+    let value = bytes_at(bytes, leaf.place as usize, leaf.size as usize);
+    to_text(alloc, leaf.type_id, value, &mut text)?;
+    text.push(alloc, b'\n')?;
+    Ok(text)
+}
+
+// So many bytes from a place on, as far as there are.
+fn bytes_at(bytes: &[u8], place: usize, size: usize) -> &[u8]
+    ensures { result.now ≡ take size (drop place bytes.now) }
+{
+    if place >= bytes.len() {
+        return &[];
+    }
+    let behind = &bytes[place..];
+    if size >= behind.len() {
+        return behind;
+    }
+    &behind[..size]
 }
 
 /// A sample's moment, and the text of its value.

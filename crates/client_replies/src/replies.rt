@@ -14,12 +14,14 @@ ghost use Rattle.client_replies.specs.Stages.{stage_kept, purpose_kept, progress
 ghost use Rattle.client_replies.specs.Parts.{told};
 
 use crate::asking::{
-    addition_request, handle_request, release_request, upload_request, value_request, write_request,
+    addition_request, handle_request, release_request, type_info_request, upload_request,
+    value_request, write_request,
 };
 use crate::entries::{entry_lines, one_entry};
 use crate::own_entry::OwnEntry;
 use crate::printed::{facts_line, ok_line, state_line, value_line};
 use crate::progress::{done_with, ended, sending, stay};
+use crate::showing::{after_leaves, after_type_info, after_types};
 use crate::stage::{CallEnd, Progress, Purpose, Stage};
 use crate::values::read_value;
 use ads_base::{NoMemory, Octets, Peer, get32};
@@ -122,6 +124,15 @@ fn after_reply(alloc: Global, stage: Stage, reply: &Reply<'_>) -> Result<Option<
         Stage::Watches(entry, handle, left) => {
             Ok(Some(stay(alloc, Stage::Watches(entry, handle, left))))
         }
+        Stage::AwaitsTypeInfo(name, entry) => {
+            after_type_info(alloc, name, entry, bytes_given(reply))
+        }
+        Stage::AwaitsTypes(name, entry, count) => {
+            after_types(alloc, name, &entry, count, bytes_given(reply))
+        }
+        Stage::AwaitsLeaves(size, leaves) => {
+            after_leaves(alloc, size, leaves.as_slice(), bytes_given(reply))
+        }
         Stage::Finished(end) => Ok(Some(stay(alloc, Stage::Finished(end)))),
     }
 }
@@ -197,6 +208,11 @@ fn after_entry(
             let asked = addition_request(&entry, watching);
             sending(alloc, Stage::AwaitsNotification(entry, watching), asked)
         }
+        Purpose::ToShow => sending(
+            alloc,
+            Stage::AwaitsTypeInfo(name, entry),
+            type_info_request(),
+        ),
     }
 }
 

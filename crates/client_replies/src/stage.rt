@@ -3,6 +3,7 @@
 use crate::own_entry::OwnEntry;
 use crate::watching::Watching;
 use ads_base::{ListOf, Octets, Peer};
+use client_leaves::Leaf;
 
 /// How a call ended. Moments count 100 ns from 1 January 1601.
 #[derive(Debug, Drop)]
@@ -72,6 +73,8 @@ pub enum Purpose {
     /// The value of this text is written.
     ToSet(Octets),
     ToWatch(Watching),
+    /// The leaves of its value are printed.
+    ToShow,
 }
 
 /// Where a call stands: what it waits for.
@@ -93,6 +96,12 @@ pub enum Stage {
     AwaitsNotification(OwnEntry, Watching),
     /// So many samples of the notification with this handle.
     Watches(OwnEntry, u32, u32),
+    /// The number of types, and the size of their upload.
+    AwaitsTypeInfo(Octets, OwnEntry),
+    /// The upload of so many types.
+    AwaitsTypes(Octets, OwnEntry, u32),
+    /// A value of this size, whose leaves are printed.
+    AwaitsLeaves(u32, ListOf<Leaf>),
     Finished(CallEnd),
 }
 

@@ -128,6 +128,7 @@ pub fn begun(alloc: Global, call: Call) -> Result<Progress, NoMemory>
             Purpose::ToWatch(Watching { mode, cycle, count }),
             name,
         ),
+        Call::Show(name) => asking_entry(alloc, Purpose::ToShow, name),
     }
 }
 

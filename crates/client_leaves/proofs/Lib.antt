@@ -1,0 +1,6 @@
+pub mod TypeLemmas
+pub mod MemberLemmas
+pub mod UploadLemmas
+pub mod PathLemmas
+pub mod WalkLemmas
+mod Examples
