@@ -16,6 +16,17 @@ const BLOCK_LEN: u32 = 526_336;
 
 /// Tries all. Whether all came as wanted.
 pub fn all_as_wanted(rt: &HostRuntime) -> io::Result<bool> {
+    let served = is_served(rt)?;
+    let missing = tell(
+        rt,
+        "a description that is not there is status 4",
+        is_read_fault(&run(rt, &["check", "missing.toml"])?),
+    )?;
+    Ok(served && missing)
+}
+
+// What a server answers from its first event to its last.
+fn is_served(rt: &HostRuntime) -> io::Result<bool> {
     let server = Server::start(rt, EVENTS)?;
     let mut first = Peer::connect(rt, server.port())?;
     let mut second = Peer::connect(rt, server.port())?;
@@ -29,18 +40,18 @@ pub fn all_as_wanted(rt: &HostRuntime) -> io::Result<bool> {
         "half a megabyte is written and read, and another stream is answered meanwhile",
         is_answered_beside(rt.alloc(), &mut first, &mut second)?,
     )?;
+    let got = tell(
+        rt,
+        "a client in a process of its own gets a value",
+        is_got(rt, server.port())?,
+    )?;
     use_up(rt.alloc(), &mut first)?;
     let ended = tell(
         rt,
         "when the events are used up, streams end, and the status is 7",
         second.is_over() && is_budget(&server.end(rt)?),
     )?;
-    let missing = tell(
-        rt,
-        "a description that is not there is status 4",
-        is_read_fault(&run(rt, &["check", "missing.toml"])?),
-    )?;
-    Ok(cut && large && ended && missing)
+    Ok(cut && large && got && ended)
 }
 
 fn tell(rt: &HostRuntime, what: &str, holds: bool) -> io::Result<bool> {
@@ -98,12 +109,28 @@ fn use_up(alloc: Global, peer: &mut Peer) -> Result<(), AllocError> {
     Ok(())
 }
 
+fn is_got(rt: &HostRuntime, port: u16) -> io::Result<bool> {
+    let to = format!(in rt.alloc(); "127.0.0.1:{port}")?;
+    let words = [
+        "get",
+        "Main.count",
+        "--to",
+        to.as_str(),
+        "--netid",
+        "5.1.2.3.1.1",
+        "--me",
+        "192.168.0.9.1.1",
+    ];
+    let ended = run(rt, &words)?;
+    Ok(ended.status == Some(0) && ended.text.as_slice() == b"42\n".as_slice())
+}
+
 fn is_budget(ended: &Ended) -> bool {
     ended.status == Some(7)
         && ended
             .text
             .as_slice()
-            .starts_with(b"connections 2 requests ")
+            .starts_with(b"connections 3 requests ")
         && ended.text.as_slice().ends_with(b"ads: budget\n")
 }
 
