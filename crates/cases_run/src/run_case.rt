@@ -120,6 +120,18 @@ fn run_words<T: Threads + Sync, F: Files, W: Wire, L: Link, S: Sink>(
     if has_signals {
         return run_program(threads, alloc, words, files, wire, link, sink);
     }
+    Ok(run_without_signals(threads, alloc, words, files, wire, link, sink))
+}
+
+fn run_without_signals<T: Threads + Sync, F: Files, W: Wire, L: Link, S: Sink>(
+    threads: &T,
+    alloc: Global,
+    words: &[String],
+    files: &mut F,
+    wire: &mut W,
+    link: &mut L,
+    sink: &mut S,
+) -> Status {
     let none: Vec<Box<dyn Signal>> = Vec::new(alloc);
-    Ok(run(threads, alloc, words, files, wire, link, sink, none))
+    run(threads, alloc, words, files, wire, link, sink, none)
 }
