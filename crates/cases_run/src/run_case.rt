@@ -1,5 +1,7 @@
 //! A run over files, a wire, a link and a sink in memory.
 
+ghost use Rattle.std.specs.Prelude.{◌<◌, ◌^◌, length};
+
 use crate::fault::Fault;
 use crate::link_case::{LinkCase, talk_of};
 use crate::new_events::open_new;
@@ -9,7 +11,7 @@ use ads_base::{Calls, NoMemory, Octets};
 use ads_outside::{
     Files, Link, LinkMove, MemFiles, MemLink, MemSink, MemWire, Move, NamedFiles, Sink, Wire,
 };
-use ads_run::{Status, run, run_program};
+use ads_run::{ProgramSignals, Sources, Status, run};
 use signals::Signal;
 use std::alloc::Global;
 use std::thread::Threads;
@@ -118,12 +120,13 @@ fn run_words<T: Threads + Sync, F: Files, W: Wire, L: Link, S: Sink>(
     sink: &mut S,
 ) -> Result<Status, NoMemory> {
     if has_signals {
-        return run_program(threads, alloc, words, files, wire, link, sink);
+        return run_with_signals(threads, alloc, words, files, wire, link, sink);
     }
-    Ok(run_without_signals(threads, alloc, words, files, wire, link, sink))
+    let none: Vec<Box<dyn Signal>> = Vec::new(alloc);
+    Ok(run_any(threads, alloc, words, files, wire, link, sink, none))
 }
 
-fn run_without_signals<T: Threads + Sync, F: Files, W: Wire, L: Link, S: Sink>(
+fn run_with_signals<T: Threads + Sync, F: Files, W: Wire, L: Link, S: Sink>(
     threads: &T,
     alloc: Global,
     words: &[String],
@@ -131,7 +134,31 @@ fn run_without_signals<T: Threads + Sync, F: Files, W: Wire, L: Link, S: Sink>(
     wire: &mut W,
     link: &mut L,
     sink: &mut S,
-) -> Status {
-    let none: Vec<Box<dyn Signal>> = Vec::new(alloc);
-    run(threads, alloc, words, files, wire, link, sink, none)
+) -> Result<Status, NoMemory> {
+    let ProgramSignals {
+        ramp,
+        square,
+        table,
+    } = ProgramSignals::new(alloc)?;
+    let mut signals: Vec<Box<dyn Signal>> = Vec::new(alloc);
+    signals.push(Box::new(alloc, ramp)?)?;
+    signals.push(Box::new(alloc, square)?)?;
+    signals.push(Box::new(alloc, table)?)?;
+    Ok(run_any(threads, alloc, words, files, wire, link, sink, signals))
+}
+
+// The run with any signals: what it promises is not asked here.
+fn run_any<T: Threads + Sync, F: Files, W: Wire, L: Link, S: Sink, G: Sources>(
+    threads: &T,
+    alloc: Global,
+    words: &[String],
+    files: &mut F,
+    wire: &mut W,
+    link: &mut L,
+    sink: &mut S,
+    signals: G,
+) -> Status
+    requires { length (G.waves signals) < 2 ^ 32 }
+{
+    run(threads, alloc, words, files, wire, link, sink, signals)
 }
