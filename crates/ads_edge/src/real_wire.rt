@@ -46,14 +46,6 @@ impl<R: Net + Clock + SystemFiles + Drop> RealWire<R> {
     }
 }
 
-#[cfg(test)]
-impl<R: Net + Clock + SystemFiles + Drop> RealWire<R> {
-    /// The port at which it listens.
-    pub(crate) fn port(&self) -> Option<u16> {
-        self.sockets.as_ref()?.port()
-    }
-}
-
 impl<R: Net + Clock + SystemFiles + Drop> Wire for RealWire<R> {
     ghost use Rattle.ads_edge.specs.Sockets.{state_of_sockets};
 

@@ -1,7 +1,5 @@
 //! A run over files, a wire, a link and a sink in memory.
 
-ghost use Rattle.std.specs.Prelude.{◌<◌, ◌^◌, length};
-
 use crate::fault::Fault;
 use crate::link_case::{LinkCase, talk_of};
 use crate::new_events::open_new;
@@ -11,7 +9,7 @@ use ads_base::{Calls, NoMemory, Octets};
 use ads_outside::{
     Files, Link, LinkMove, MemFiles, MemLink, MemSink, MemWire, Move, NamedFiles, Sink, Wire,
 };
-use ads_run::{ProgramSignals, Sources, Status, run};
+use ads_run::{Status, run, run_program};
 use signals::Signal;
 use std::alloc::Global;
 use std::thread::Threads;
@@ -75,17 +73,29 @@ pub fn run_case<T: Threads + Sync>(threads: &T, alloc: Global, case: Case) -> Re
     let mut sink = MemSink::with_parts(alloc, failing_puts, parts);
     let mut wire = MemWire::new(alloc, events, failing_calls, cuts);
     let mut link = MemLink::new(alloc, link_events, link_fails);
-    let words = words.as_slice();
-    let status = run_words(
+    run_in_memory(
         threads,
         alloc,
-        words,
+        words.as_slice(),
         has_signals,
         &mut files,
         &mut wire,
         &mut link,
         &mut sink,
-    )?;
+    )
+}
+
+fn run_in_memory<T: Threads + Sync>(
+    threads: &T,
+    alloc: Global,
+    words: &[String],
+    has_signals: bool,
+    files: &mut MemFiles,
+    wire: &mut MemWire,
+    link: &mut MemLink,
+    sink: &mut MemSink,
+) -> Result<Came, Fault> {
+    let status = run_words(threads, alloc, words, has_signals, files, wire, link, sink)?;
     came_of(alloc, status, sink.bytes(), wire.log(), link.log())
 }
 
@@ -120,45 +130,20 @@ fn run_words<T: Threads + Sync, F: Files, W: Wire, L: Link, S: Sink>(
     sink: &mut S,
 ) -> Result<Status, NoMemory> {
     if has_signals {
-        return run_with_signals(threads, alloc, words, files, wire, link, sink);
+        return run_program(threads, alloc, words, files, wire, link, sink);
     }
+    Ok(run_without_signals(threads, alloc, words, files, wire, link, sink))
+}
+
+fn run_without_signals<T: Threads + Sync, F: Files, W: Wire, L: Link, S: Sink>(
+    threads: &T,
+    alloc: Global,
+    words: &[String],
+    files: &mut F,
+    wire: &mut W,
+    link: &mut L,
+    sink: &mut S,
+) -> Status {
     let none: Vec<Box<dyn Signal>> = Vec::new(alloc);
-    Ok(run_any(threads, alloc, words, files, wire, link, sink, none))
-}
-
-fn run_with_signals<T: Threads + Sync, F: Files, W: Wire, L: Link, S: Sink>(
-    threads: &T,
-    alloc: Global,
-    words: &[String],
-    files: &mut F,
-    wire: &mut W,
-    link: &mut L,
-    sink: &mut S,
-) -> Result<Status, NoMemory> {
-    let ProgramSignals {
-        ramp,
-        square,
-        table,
-    } = ProgramSignals::new(alloc)?;
-    let mut signals: Vec<Box<dyn Signal>> = Vec::new(alloc);
-    signals.push(Box::new(alloc, ramp)?)?;
-    signals.push(Box::new(alloc, square)?)?;
-    signals.push(Box::new(alloc, table)?)?;
-    Ok(run_any(threads, alloc, words, files, wire, link, sink, signals))
-}
-
-// The run with any signals: what it promises is not asked here.
-fn run_any<T: Threads + Sync, F: Files, W: Wire, L: Link, S: Sink, G: Sources>(
-    threads: &T,
-    alloc: Global,
-    words: &[String],
-    files: &mut F,
-    wire: &mut W,
-    link: &mut L,
-    sink: &mut S,
-    signals: G,
-) -> Status
-    requires { length (G.waves signals) < 2 ^ 32 }
-{
-    run(threads, alloc, words, files, wire, link, sink, signals)
+    run(threads, alloc, words, files, wire, link, sink, none)
 }
