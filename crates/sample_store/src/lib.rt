@@ -1,7 +1,6 @@
 //! Where recorded samples are kept: the trait of a keeper, and one in memory.
 #![tactic(auto)]
 
-mod failing;
 mod keeper;
 mod keeper_open;
 mod kept;

@@ -2,11 +2,11 @@
 
 ghost use Rattle.std.specs.Prelude.{◌≡◌, ◌≤◌, [], true, Some, option_map};
 
-use crate::failing::Failing;
 use crate::places::put_row;
 use crate::totals::total_of;
 use crate::{Keeper, KeeperOpen, Kept, Row, Totalled};
 use ads_base::{Calls, NoMemory};
+use ads_outside::Failing;
 use std::alloc::Global;
 use std::marker::Model;
 
