@@ -2,6 +2,7 @@
 
 ghost use Rattle.std.specs.Prelude.{◌≡◌, ◌≤◌};
 ghost use Rattle.ads_outside.specs.FailingCalls.{none_made, fails_next, called, faulted};
+ghost use Rattle.ads_outside.specs.Rose.{raised};
 
 use ads_base::Calls;
 use std::marker::Model;
@@ -41,13 +42,18 @@ impl Failing {
         self.faults
     }
 
+    /// The number of the next call.
+    pub fn next_call(&self) -> u64
+        ensures { result ≡ raised self.now.calls }
+    {
+        self.calls.saturating_add(1)
+    }
+
     /// Whether the next call is to fail.
     pub fn fails_next(&self) -> bool
         ensures { result ≡ fails_next self.now }
     {
-        self.fails
-            .as_slice()
-            .contains(&self.calls.saturating_add(1))
+        self.fails.as_slice().contains(&self.next_call())
     }
 
     /// One more call was made.

@@ -6,7 +6,6 @@ ghost use Rattle.ads_client.specs.LeafTypes.{type_named, elem_size};
 ghost use Rattle.type_layout.specs.ReadTexts.{elem_text_of};
 ghost use Rattle.client_leaves.specs.Table.{IsTable, type_kept, types_kept};
 
-use crate::sizes::kind_size;
 use name_index::NameIndex;
 use type_layout::ElemText;
 use type_upload::TypeEntry;
@@ -43,7 +42,7 @@ impl<'a> ReadTypes<'a> {
         ensures { result ≡ elem_size (types_kept self.now) (elem_text_of elem.entry) }
     {
         match elem {
-            ElemText::Plain(kind) => kind_size(kind),
+            ElemText::Plain(kind) => kind.size(),
             ElemText::Text(n) => u32::from(n) + 1,
             ElemText::Named(name) => self.named_size(name),
         }

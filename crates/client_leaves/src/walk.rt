@@ -11,7 +11,7 @@ ghost use Rattle.client_leaves.specs.Walks.{Walked, is_sound_type, leaves_of_typ
 
 use crate::leaf::Leaf;
 use crate::paths::{element_paths, member_path};
-use crate::sizes::{kind_id, kind_size, stands_in};
+use crate::sizes::stands_in;
 use crate::table::{ReadType, ReadTypes};
 use ads_base::{ListOf, NoMemory, Octets};
 use std::alloc::Global;
@@ -103,7 +103,7 @@ fn elem_leaves(
 {
     match elem {
         ElemText::Plain(kind) => {
-            put_leaf(alloc, path, place, kind_id(kind), kind_size(kind), leaves)?;
+            put_leaf(alloc, path, place, kind.type_id(), kind.size(), leaves)?;
             Ok(true)
         }
         ElemText::Text(n) => {

@@ -3,7 +3,6 @@ ghost use Rattle.std.specs.Prelude.{◌≡◌, ◌≤◌, take, bytes_eq, slice_
 ghost use Rattle.std.specs.List.{list_any};
 ghost use Rattle.std.specs.Option.{option_map_or};
 ghost use Rattle.std.specs.Int.{to_le_bytes, w64};
-ghost use Rattle.ads_plant.specs.Plain.{kind_size};
 ghost use Rattle.ads_plant.specs.Accepted.{is_value_at, is_value_of, number_bytes};
 ghost use Rattle.type_layout.specs.Shapes.{kind_of};
 ghost use Rattle.type_layout.specs.NamedTypes.{types_of, named_type_of, enumeration_of};
@@ -48,7 +47,7 @@ fn has_bytes(base: Kind, number: i64, bytes: &[u8]) -> bool
     ensures { result ≡ bytes_eq (number_bytes (kind_of base) number) bytes.now }
 {
     let all = unsigned_of(number).to_le_bytes();
-    first_bytes(&all, size_of(base)) == bytes
+    first_bytes(&all, base.size() as usize) == bytes
 }
 
 pub fn first_bytes(all: &[u8; 8], size: usize) -> &[u8]
@@ -56,18 +55,6 @@ pub fn first_bytes(all: &[u8; 8], size: usize) -> &[u8]
     ensures { result.now ≡ take size all.now }
 {
     &all[..size]
-}
-
-pub fn size_of(kind: Kind) -> usize
-    ensures value { result ≡ kind_size (kind_of kind) }
-    ensures small { result ≤ 8 }
-{
-    match kind {
-        Kind::Bool | Kind::Sint | Kind::Usint | Kind::Byte => 1,
-        Kind::Int | Kind::Uint | Kind::Word => 2,
-        Kind::Dint | Kind::Udint | Kind::Dword | Kind::Time | Kind::Real => 4,
-        Kind::Lint | Kind::Ulint | Kind::Lword | Kind::Lreal => 8,
-    }
 }
 
 // A number in two's complement.

@@ -14,7 +14,7 @@ ghost use Rattle.description_rules.specs.KnownTypes.{IsKnown};
 ghost use Rattle.description_rules.specs.Known.{IsFair, IsFairArray};
 
 use crate::dimensions::{MAX_ELEMENTS, element_count};
-use crate::extents::{Extent, kind_size};
+use crate::extents::Extent;
 use crate::named_shapes::{described_shape, named_shape};
 use name_index::NameIndex;
 use type_layout::{Elem, Types};
@@ -101,7 +101,7 @@ fn elem_extent(known: &KnownTypes, elem: Elem) -> Extent
 {
     match elem {
         Elem::Plain(kind) => {
-            let size = kind_size(kind);
+            let size = u128::from(kind.size());
             Extent {
                 size,
                 align: size,

@@ -35,7 +35,7 @@ mod value_rules;
 mod verdict;
 mod words;
 
-pub use enum_values::{first_bytes, size_of, unsigned_of};
+pub use enum_values::{first_bytes, unsigned_of};
 pub use known_types::{KnownTypes, text_size};
 pub use nets::read_net;
 pub use numbers::natural_of;

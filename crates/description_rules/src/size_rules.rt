@@ -10,7 +10,7 @@ ghost use Rattle.description_rules.specs.Extents.{extent_view, extent_of};
 ghost use Rattle.description_rules.specs.KnownTypes.{IsKnown, IsKnownOrWrong, AddsType};
 ghost use Rattle.description_table.specs.Views.{type_view, value_view};
 
-use crate::extents::{Extent, kind_size};
+use crate::extents::Extent;
 use crate::known_types::KnownTypes;
 use crate::shapes::name_of;
 use crate::structure::struct_extent;
@@ -86,7 +86,7 @@ fn enumeration_extent(e: &WrittenEnumeration<'_>) -> Extent
         Some(base) => base,
         None => Kind::Sint,
     };
-    let size = kind_size(base);
+    let size = u128::from(base.size());
     Extent {
         size,
         align: size,

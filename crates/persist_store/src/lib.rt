@@ -5,7 +5,6 @@ mod disk;
 mod disk_open;
 mod disk_read;
 mod entries;
-mod failing;
 mod gate;
 mod mem_disk;
 mod opening;

@@ -9,11 +9,11 @@ ghost use Rattle.ads_store_file.specs.Disk.{written, Torn};
 ghost use Rattle.persist_store.specs.Disk.{bytes_at};
 ghost use Rattle.persist_store.specs.MemDisk.{stops_next, has_stopped, is_to_fail, are_made_by, some_of, put_next, after_call, after_put, after_sync};
 
-use crate::failing::Failing;
 use crate::past_write::{PastWrite, PastWrites};
 use crate::written::written_copy;
 use crate::{Disk, DiskOpen, DiskRead, Stop, Synced, Wrote};
 use ads_base::{Calls, ListOf, NoMemory, Octets};
+use ads_outside::Failing;
 use std::alloc::Global;
 use std::marker::Model;
 

@@ -1,14 +1,13 @@
 //! The id of a type, which its symbols' entries tell.
 
 ghost use Rattle.std.specs.Prelude.{◌≡◌, ◌<◌, length, IsTrue};
-ghost use Rattle.ads_plant.specs.Plain.{kind_id};
 ghost use Rattle.ads_plant.specs.Entries.{type_id};
 ghost use Rattle.ads_plant.specs.Trees.{elem_tree, tree_at, tree_of, trees_of};
 ghost use Rattle.ads_plant.specs.AcceptedTypes.{AreTypes, IsSized, is_elem};
-ghost use Rattle.type_layout.specs.Shapes.{kind_of, elem_of, shape_of_ref};
+ghost use Rattle.type_layout.specs.Shapes.{elem_of, shape_of_ref};
 ghost use Rattle.type_layout.specs.NamedTypes.{types_of};
 
-use type_layout::{Elem, Kind, NamedType, TypeRef, Types};
+use type_layout::{Elem, NamedType, TypeRef, Types};
 
 /// The id of a type. An array and a structure have 65, an enumeration has that of its base.
 pub(crate) fn type_id(types: &Types, t: TypeRef<'_>) -> u32
@@ -28,7 +27,7 @@ fn elem_id(types: &Types, elem: Elem) -> u32
     ensures { result ≡ type_id (elem_tree (trees_of (types_of types.now)) (elem_of elem)) }
 {
     match elem {
-        Elem::Plain(kind) => kind_id(kind),
+        Elem::Plain(kind) => kind.type_id(),
         Elem::Text(_) => 30,
         Elem::Struct(place) => named_id(types.as_slice(), place),
         Elem::Enum(place) => named_id(types.as_slice(), place),
@@ -42,24 +41,6 @@ fn named_id(types: &[NamedType], place: u16) -> u32
 {
     match &types[place as usize] {
         NamedType::Struct(_) => 65,
-        NamedType::Enum(e) => kind_id(e.base),
-    }
-}
-
-fn kind_id(kind: Kind) -> u32
-    ensures { result ≡ kind_id (kind_of kind) }
-{
-    match kind {
-        Kind::Bool => 33,
-        Kind::Sint => 16,
-        Kind::Usint | Kind::Byte => 17,
-        Kind::Int => 2,
-        Kind::Uint | Kind::Word => 18,
-        Kind::Dint => 3,
-        Kind::Udint | Kind::Dword | Kind::Time => 19,
-        Kind::Lint => 20,
-        Kind::Ulint | Kind::Lword => 21,
-        Kind::Real => 4,
-        Kind::Lreal => 5,
+        NamedType::Enum(e) => e.base.type_id(),
     }
 }

@@ -1,7 +1,6 @@
 //! Size, alignment and id of types, each found once in the order of the list.
 
 ghost use Rattle.std.specs.Prelude.{◌≡◌, ◌+◌, ◌<◌, ◌≤◌, ◌^◌, length, slice_get, Some};
-ghost use Rattle.ads_plant.specs.Plain.{kind_id};
 ghost use Rattle.ads_plant.specs.Sizes.{aligned, element_count};
 ghost use Rattle.ads_plant.specs.Trees.{PlainTree, elem_tree, tree_at, tree_of, trees_of};
 ghost use Rattle.ads_plant.specs.AcceptedTypes.{AreTypes, IsSized, LIMIT, elem_within};
@@ -84,26 +83,7 @@ pub(crate) fn plain_layout(types: &Types, kind: Kind) -> Layout
     Layout {
         size: bytes,
         align: bytes,
-        type_id: kind_id(kind),
-    }
-}
-
-// The type id of a plain type.
-fn kind_id(kind: Kind) -> u32
-    ensures { result ≡ kind_id (kind_of kind) }
-{
-    match kind {
-        Kind::Bool => 33,
-        Kind::Sint => 16,
-        Kind::Usint | Kind::Byte => 17,
-        Kind::Int => 2,
-        Kind::Uint | Kind::Word => 18,
-        Kind::Dint => 3,
-        Kind::Udint | Kind::Dword | Kind::Time => 19,
-        Kind::Lint => 20,
-        Kind::Ulint | Kind::Lword => 21,
-        Kind::Real => 4,
-        Kind::Lreal => 5,
+        type_id: kind.type_id(),
     }
 }
 

@@ -15,7 +15,7 @@ elem_leaves-returns-in_ok-put_leaf-in-Plain t c =
     let types = types_kept c.args.types.now in
     let kind = kind_of c.in-Plain.kind in
     let old : List Leaf = map leaf_kept c.args.leaves.now in
-    let put = rw (c.kind_id.ensures, c.kind_size.ensures) at c.in_ok-put_leaf-in-Plain.ensures in
+    let put = rw (c.type_id.ensures, c.size.ensures.value) at c.in_ok-put_leaf-in-Plain.ensures in
     rw c.in-Plain.is (walked_yes _ _ old (map leaf_kept c.put_leaf.new.leaves) (plain_sound c.args.depth types kind)
     (put ∙ ap (λ ls. old ++ ls) (plain_leaves c.args.depth types kind c.args.path.now c.args.place)))
 

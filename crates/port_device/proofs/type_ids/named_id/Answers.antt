@@ -17,5 +17,5 @@ pub returns-in-Enum : goal.returns-in-Enum
 returns-in-Enum c =
     let count = length-map c.args.types.now named_type_of in
     let there : c.args.place < length c.args.types.now = omega (arith, count, c.requires.there) in
-    c.kind_id.ensures ∙ sym (ap type_id (enumeration_at c.args.types.now c.args.place c.index-types-place.result c.in-Enum.e c.requires.types there
+    c.type_id.ensures ∙ sym (ap type_id (enumeration_at c.args.types.now c.args.place c.index-types-place.result c.in-Enum.e c.requires.types there
     c.index-types-place.is c.in-Enum.is).tree)
