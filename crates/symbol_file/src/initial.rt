@@ -11,7 +11,7 @@ ghost use Rattle.type_layout.specs.NamedTypes.{types_of, named_type_of, enumerat
 ghost use Rattle.description_table.specs.Views.{text_view};
 
 use ads_base::{NoMemory, Octets};
-use description_rules::{first_bytes, read_hex, size_of, unsigned_of};
+use description_rules::{first_bytes, read_hex, unsigned_of};
 use std::alloc::Global;
 use type_layout::{Elem, EnumType, EnumValue, Kind, NamedType, Shape};
 
@@ -117,5 +117,5 @@ fn number_bytes(alloc: Global, base: Kind, number: i64) -> Result<Octets, NoMemo
     ensures { IfOk result (λ bytes. bytes ≡ number_bytes (kind_of base) number) }
 {
     let all = unsigned_of(number).to_le_bytes();
-    Octets::copy_of(alloc, first_bytes(&all, size_of(base)))
+    Octets::copy_of(alloc, first_bytes(&all, base.size() as usize))
 }
