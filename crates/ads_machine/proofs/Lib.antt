@@ -25,7 +25,7 @@ mod PacketExamples
 mod EnumerationExamples
 mod BesideExamples
 pub mod HandleStatuses
-mod TablesAgreed
+pub mod TablesAgreed
 mod SumsInTurn
 pub mod DecisionCases
 mod RunExamples

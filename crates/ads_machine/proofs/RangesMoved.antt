@@ -42,7 +42,7 @@ same_addressed-refl : (a : Addressed) → is_same_addressed a a ≡ true
 same_addressed-refl (WholeByte n) = let d = tells_names_apart n n in d.1 refl
 same_addressed-refl (OneBit n bit) = let d = tells_names_apart n n in and_from _ (bit == bit) (d.1 refl) (eq-eqb bit bit refl)
 
-are_same-true : (as_ bs : List Addressed) → are_same_addressed as_ bs ≡ true → as_ ≡ bs
+pub are_same-true : (as_ bs : List Addressed) → are_same_addressed as_ bs ≡ true → as_ ≡ bs
 are_same-true [] [] t = refl
 are_same-true [] (b ∷ bs) t = absurd (false≢true t)
 are_same-true (a ∷ as_) [] t = absurd (false≢true t)
@@ -50,7 +50,7 @@ are_same-true (a ∷ as_) (b ∷ bs) t =
     let p = and_parts (is_same_addressed a b) (are_same_addressed as_ bs) t in
     ap (λ x. x ∷ as_) (same_addressed-true a b (p.0)) ∙ ap (λ xs. b ∷ xs) (are_same-true as_ bs (p.1))
 
-are_same-refl : (as_ : List Addressed) → are_same_addressed as_ as_ ≡ true
+pub are_same-refl : (as_ : List Addressed) → are_same_addressed as_ as_ ≡ true
 are_same-refl [] = refl
 are_same-refl (a ∷ as_) = and_from (is_same_addressed a a) (are_same_addressed as_ as_) (same_addressed-refl a) (are_same-refl as_)
 

@@ -15,13 +15,13 @@ use Rattle.index_groups.specs.Access.{range_meant}
 use Rattle.notify_table.specs.declared.spec.Spec.{Spec}
 use Rattle.notify_table.specs.Specs.{new_watch, before_checks}
 
-rises_tail : (x : ℕ) (xs : List ℕ) → IsStrictlyIncreasing (x ∷ xs) → IsStrictlyIncreasing xs
+pub rises_tail : (x : ℕ) (xs : List ℕ) → IsStrictlyIncreasing (x ∷ xs) → IsStrictlyIncreasing xs
 rises_tail x xs rises k below =
     let step = rises (suc k) (omega arith) in
     let next : suc k + 1 ≡ suc (k + 1) = omega arith in
     rw next at step
 
-above_first : (x : ℕ) (xs : List ℕ) → IsStrictlyIncreasing (x ∷ xs) → All (λ y. x < y) xs
+pub above_first : (x : ℕ) (xs : List ℕ) → IsStrictlyIncreasing (x ∷ xs) → All (λ y. x < y) xs
 above_first x [] rises = All-nil (λ y. x < y)
 above_first x (y ∷ ys) rises =
     let step : x < y = rises 0 (omega arith) in

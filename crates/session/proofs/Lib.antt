@@ -10,7 +10,6 @@ pub mod NotesHead
 pub mod NotesGrouped
 pub mod TickBytes
 pub mod TickChecks
-pub mod WatchedSame
 pub mod TickAgreed
 pub mod SingleLemmas
 pub mod WatchedReach
@@ -18,7 +17,6 @@ pub mod WatchingLemmas
 pub mod FrameLemmas
 pub mod CheckLemmas
 pub mod ReplyLemmas
-pub mod TablesAgreed
 pub mod ReloadedAgreed
 pub mod EffectLemmas
 pub mod SumGroups

@@ -38,7 +38,7 @@ use Rattle.session.specs.Reloading.{AreMoves, IsReloadable}
 use Rattle.session.specs.SessionState.{SessionState}
 use Rattle.session.specs.StandsFor.{StandsFor, KeptFor, is_place_of}
 use Rattle.session.proofs.HandleChanges.{handles_of-append}
-use Rattle.session.proofs.TablesAgreed.{tables_agree}
+use Rattle.ads_machine.proofs.TablesAgreed.{tables_agree}
 
 -- ---- ranges
 

@@ -26,7 +26,7 @@ use Rattle.session.specs.Served.{IsServed}
 use Rattle.session.specs.Checks.{AreReadable, bytes_found, found_in, IsInFound, IsInPort, samples_found, table_checked}
 use Rattle.session.specs.SessionState.{SessionState}
 use Rattle.session.specs.StandsFor.{StandsFor}
-use Rattle.session.proofs.WatchedSame.{are_same-true}
+use Rattle.ads_machine.proofs.RangesMoved.{are_same-true}
 
 -- what is found in a range is what stands under the names of its bytes
 found_by_names : (w : World) (o : Option PlantPort) (watched : List Addressed) (range : Range)

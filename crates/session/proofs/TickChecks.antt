@@ -17,7 +17,7 @@ use Rattle.notify_table.specs.declared.spec.Spec.{Spec}
 use Rattle.notify_table.specs.Specs.{new_watch, before_checks, address_of}
 use Rattle.notify_table.specs.Table.{WatchTable, IsTable, watched_len, watch_of_handle, is_numbered, table_after, Checked}
 use Rattle.notify_table.specs.Table.{handle_of, due_handles}
-use Rattle.notify_table.proofs.CallerLemmas.{due_is_live}
+use Rattle.notify_table.proofs.CallerLemmas.{due_is_live, rises_tail, above_first}
 use Rattle.notify_table.proofs.TickLemmas.{checked_among, checked_none, checked_one_more, found_among, checked_all, not_before}
 use Rattle.port_device.specs.Holds.{HoldsPorts}
 use Rattle.port_device.specs.PortMemory.{PortsMemory}
@@ -97,19 +97,6 @@ first_of_both P Q None both = both
 first_of_both P Q (Some x) both = both.0
 
 -- ---- handles rise
-
-rises_tail : (x : ℕ) (xs : List ℕ) → IsStrictlyIncreasing (x ∷ xs) → IsStrictlyIncreasing xs
-rises_tail x xs rises k below =
-    let step = rises (suc k) (omega arith) in
-    let next : suc k + 1 ≡ suc (k + 1) = omega arith in
-    rw next at step
-
-above_first : (x : ℕ) (xs : List ℕ) → IsStrictlyIncreasing (x ∷ xs) → All (λ y. x < y) xs
-above_first x [] rises = All-nil (λ y. x < y)
-above_first x (y ∷ ys) rises =
-    let step : x < y = rises 0 (omega arith) in
-    All-cons (λ z. x < z) y ys step
-    (All-weaker (λ z. y < z) (λ z. x < z) (λ z h. omega arith) ys (above_first y ys (rises_tail x (y ∷ ys) rises)))
 
 above_watches : (v : Watch Range) (vs : List (Watch Range)) → IsStrictlyIncreasing (map handle_of (v ∷ vs))
     → All (λ (u : Watch Range). v.handle < u.handle) vs

@@ -38,7 +38,7 @@ use Rattle.session.specs.Asks.{LooksUp}
 use Rattle.session.specs.HandleGroups.{is_value_by_handle}
 use Rattle.session.specs.StandsFor.{is_place_of}
 use Rattle.session.specs.Watching.{is_byte_or_bit, IsWatched}
-use Rattle.session.proofs.WatchedSame.{are_same-refl}
+use Rattle.ads_machine.proofs.RangesMoved.{are_same-refl}
 
 -- ---- bytes and bits
 
