@@ -42,7 +42,7 @@ served-settled c short blocked s (inl e) m (inl g) = inr (sym (not_taken-waiting
 served-settled c short blocked s (inr b) m r = inl (m b)
 served-settled c short blocked s (inl e) m (inr r) = r.0
 
-took-gone : {W C : Type 0} (step : EventStep W C) (c offered : ℕ) (bytes : List ℕ) (s : MachineState W C) → is_gone_at c (state_after_move step s (move.Took c offered bytes)) ≡ is_gone_at c s
+pub took-gone : {W C : Type 0} (step : EventStep W C) (c offered : ℕ) (bytes : List ℕ) (s : MachineState W C) → is_gone_at c (state_after_move step s (move.Took c offered bytes)) ≡ is_gone_at c s
 unfolding state_after_move
 took-gone {W} {C} step c offered bytes s = go (connection_of c s.connections) refl
   where

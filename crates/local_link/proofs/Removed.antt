@@ -15,16 +15,8 @@ use Rattle.server_core.specs.CoreState.{CoreState, after_event, after_move, Open
 use Rattle.server_core.specs.Served.{ServedState, ServedConnection, served_step}
 use Rattle.server_core.specs.Serves.{CoreView, Serves, present, without_gone}
 use Rattle.server_core.proofs.StateLemmas.{present-gone, present-there, connection_of-other, put_back-same, put_back-other, none_behind, number_differs}
+use Rattle.server_core.proofs.Forgotten.{none_present}
 use Rattle.local_link.specs.Link.{unblocked}
-
-none_present : (n : ℕ) (ks : List ServedConnection) → connection_of n ks ≡ None → connection_of n (present ks) ≡ None
-none_present n [] e = e
-none_present n (k ∷ ks) e =
-    let rest = none_present n ks (none_behind n k ks e) in
-    elim (cases_Bool k.gone) [
-      | inl gone ↦ ap (λ (ps : List ServedConnection). connection_of n ps) (present-gone k ks gone) ∙ rest
-      | inr there ↦ ap (λ (ps : List ServedConnection). connection_of n ps) (present-there k ks there) ∙ connection_of-other n k (present ks) (number_differs n k ks e) ∙ rest
-    ]
 
 forgotten : (n : ℕ) (l k : ServedConnection) (ks : List ServedConnection) → AreApart ks → connection_of n ks ≡ Some k → l.number ≡ n → l.gone ≡ true
     → connection_of n (present (put_back l ks)) ≡ None

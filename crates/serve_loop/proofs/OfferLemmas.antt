@@ -10,7 +10,8 @@ use Rattle.ads_machine.specs.Moves.{EventStep, with_took, state_after_move, stat
 use Rattle.ads_machine.specs.Offers.{waiting_at, is_gone, is_gone_at, is_among, blocked_after, blocked_after_move}
 use Rattle.ads_machine.specs.Running.{Running, offer_at, first_frame}
 use Rattle.ads_machine.specs.Turns.{IsOffer, IsServed, Serves}
-use Rattle.ads_machine.proofs.Changes.{exchange_own, exchange_none, with_took-number, state_after-append}
+use Rattle.ads_machine.proofs.Changes.{state_after-append}
+use Rattle.ads_machine.proofs.Emptied.{took-gone}
 use Rattle.std.proofs.lemmas.Bool.{cases_Bool}
 use Rattle.std.proofs.lemmas.List.{length-take-le}
 use Rattle.serve_loop.specs.Serving.{running_after_all, Begins, Ends, BeginsAll}
@@ -56,18 +57,6 @@ offer_of_first x c left n o fits =
     let is = take_short n left fits in
     let P : List (List ℕ) → Type 0 = λ fs. IsOffer fs (length left) (take n left) in
     subst P (sym o.waits) (refl, rw is fits, rw is refl)
-
--- an offer that is taken leaves a connection there
-took-gone : {W C : Type 0} (step : EventStep W C) (c offered : ℕ) (bytes : List ℕ) (s : MachineState W C) → is_gone_at c (state_after_move step s (move.Took c offered bytes)) ≡ is_gone_at c s
-unfolding state_after_move
-took-gone {W} {C} step c offered bytes s = go (connection_of c s.connections) refl
-  where
-    kept : (k : Connection C) → (with_took (length bytes) (exchange_of s k)).connection.gone ≡ k.gone
-    kept k = elim (cases_Bool k.gone) [ inl b ↦ rw b refl | inr b ↦ rw b refl ]
-
-    go : (o : Option (Connection C)) → connection_of c s.connections ≡ o → is_gone_at c (after_exchange (connection_of c s.connections) (with_took (length bytes)) s) ≡ is_gone_at c s
-    go None e = ap (is_gone_at c) (exchange_none c (with_took (length bytes)) s e)
-    go (Some k) e = ap is_gone (exchange_own c (with_took (length bytes)) (with_took-number (length bytes)) s k e) ∙ kept k ∙ sym (ap is_gone e)
 
 -- an offer of which so many bytes are taken
 pub begins_took : {W C : Type 0} (step : EventStep W C) (x : Running W C) (c : ℕ) (left : List ℕ) (n : ℕ) → offer_at c x ≡ Some left → n ≤ length left

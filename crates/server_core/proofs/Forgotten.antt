@@ -22,7 +22,7 @@ present-twice (k ∷ ks) = elim (cases_Bool k.gone) [
   | inr e ↦ ap present (present-there k ks e) ∙ present-there k (present ks) e ∙ ap (λ ps. k ∷ ps) (present-twice ks) ∙ sym (present-there k ks e)
 ]
 
-none_present : (n : ℕ) (ks : List ServedConnection) → connection_of n ks ≡ None → connection_of n (present ks) ≡ None
+pub none_present : (n : ℕ) (ks : List ServedConnection) → connection_of n ks ≡ None → connection_of n (present ks) ≡ None
 none_present n [] e = e
 none_present n (k ∷ ks) e =
     let rest = none_present n ks (none_behind n k ks e) in
