@@ -14,7 +14,7 @@ use Rattle.ads_served.specs.Opened.{AreApart}
 use Rattle.server_core.specs.CoreState.{CoreState, after_event, after_move, OpensNew}
 use Rattle.server_core.specs.Served.{ServedState, ServedConnection, served_step}
 use Rattle.server_core.specs.Serves.{CoreView, Serves, present, without_gone}
-use Rattle.server_core.proofs.StateLemmas.{present-gone, present-there, connection_of-other, put_back-same, put_back-other, none_behind, number_differs}
+use Rattle.server_core.proofs.StateLemmas.{present-gone, present-there, connection_of-other, put_back-same, put_back-other}
 use Rattle.server_core.proofs.Forgotten.{none_present}
 use Rattle.local_link.specs.Link.{unblocked}
 

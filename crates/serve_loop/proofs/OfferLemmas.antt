@@ -5,14 +5,13 @@ use Rattle.ads_outside.specs.declared.moves.Move.{Move}
 use Rattle.ads_outside.specs.declared.moves.Move.TheVariants as move
 use Rattle.ads_machine.specs.Connection.{Connection, connection_of}
 use Rattle.ads_machine.specs.Delivery.{AreOffers}
-use Rattle.ads_machine.specs.MachineState.{MachineState, exchange_of, after_exchange}
-use Rattle.ads_machine.specs.Moves.{EventStep, with_took, state_after_move, state_after}
-use Rattle.ads_machine.specs.Offers.{waiting_at, is_gone, is_gone_at, is_among, blocked_after, blocked_after_move}
+use Rattle.ads_machine.specs.MachineState.{MachineState}
+use Rattle.ads_machine.specs.Moves.{EventStep, state_after_move, state_after}
+use Rattle.ads_machine.specs.Offers.{waiting_at, is_gone_at, is_among, blocked_after, blocked_after_move}
 use Rattle.ads_machine.specs.Running.{Running, offer_at, first_frame}
 use Rattle.ads_machine.specs.Turns.{IsOffer, IsServed, Serves}
 use Rattle.ads_machine.proofs.Changes.{state_after-append}
 use Rattle.ads_machine.proofs.Emptied.{took-gone}
-use Rattle.std.proofs.lemmas.Bool.{cases_Bool}
 use Rattle.std.proofs.lemmas.List.{length-take-le}
 use Rattle.serve_loop.specs.Serving.{running_after_all, Begins, Ends, BeginsAll}
 
