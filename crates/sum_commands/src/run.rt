@@ -14,7 +14,7 @@ use crate::PartService;
 use crate::form::Form;
 use crate::heads::{Rest, behind_first, bytes_behind, first_part};
 use crate::refusals::refusal;
-use crate::room::{put_zeros, write_at};
+use crate::room::{put_zeros, with_room, write_at};
 use crate::running::run_part;
 use ads_base::{NoMemory, Octets};
 use return_codes::Code;
@@ -101,8 +101,9 @@ fn put_reply<P: PartService>(
     ensures no_memory { OnErr result (Extends out.old out.new) }
 {
     let start = out.len();
-    put_zeros(alloc, out, rest.form.fronts(n))?;
-    let mut fronts = Octets::new(alloc);
+    let len = rest.form.fronts(n);
+    put_zeros(alloc, out, len)?;
+    let mut fronts = with_room(alloc, len)?;
     run_parts(alloc, service, rest, n, &mut fronts, out)?;
     write_at(out, start, fronts.as_slice());
     Ok(())

@@ -7,6 +7,9 @@ use Rattle.sum_commands.proofs.run.put_reply.Goals as goal
 pub returns-in_err-put_zeros-clause-wants : goal.returns-in_err-put_zeros-clause-wants
 returns-in_err-put_zeros-clause-wants g c = on_err c.from_residual.result (λ s stands. Stops stands)
 
+pub returns-in_err-fronts-clause-wants : goal.returns-in_err-fronts-clause-wants
+returns-in_err-fronts-clause-wants g c = on_err c.from_residual-in_err-fronts.result (λ s stands. Stops stands)
+
 pub returns-in_err-run_parts-clause-no_memory : goal.returns-in_err-run_parts-clause-no_memory
 returns-in_err-run_parts-clause-no_memory g c =
     on_err c.from_residual-in_err-run_parts.result
