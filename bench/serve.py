@@ -1,0 +1,220 @@
+#!/usr/bin/env python3
+"""What `ads serve` does in a second, and what that costs, beside a server of the same plant that is written by hand in C (bench/limit.c).
+
+    python3 bench/serve.py PROGRAM [--quick] [--plot FILE.svg]     requests: a table (Markdown), and a drawing of the mixture
+    python3 bench/serve.py PROGRAM --notes [--quick]               notifications: 512 on each of 64 connections, of a symbol that changes at each tick of 10 ms
+    python3 bench/serve.py PROGRAM --minutes M                     the program's memory in M minutes of the mixture on 64 connections
+
+PROGRAM is crates/ads/out/ads, which `rt run -- selftest ../../examples/state.script` in crates/ads builds; gcc builds the C server and the load (bench/client.c).
+
+The plant has 6,400 symbols of four bytes. Each connection asks over loopback for 100 of its own. What it must be told comes from bench/model.py: a wrong byte, or five
+seconds of nothing, ends the run with the connection and the byte. Of 20 requests of the mixture 6 are reads by group, 5 reads by handle, 2 writes by group, 2 writes
+by handle, 4 states, and one a sum of 100 reads. Each figure is the median of three turns, in which both servers come one after the other; with --quick of one short
+turn. Processor time is that of all threads of the server. Other work on the machine spoils all figures, so its load average is told first.
+"""
+import argparse
+import contextlib
+import itertools
+import math
+import os
+import pathlib
+import random
+import signal
+import socket
+import statistics
+import subprocess
+import sys
+import tempfile
+import time
+
+sys.dont_write_bytecode = True
+import model  # noqa: E402
+from random_runs import toml_of  # noqa: E402
+
+HERE = os.path.dirname(os.path.abspath(__file__))
+NET, ME = "5.1.2.3.1.1", "192.168.0.9.1.1"
+SYMBOLS, OWN, CONNECTIONS, NOTES = 6400, 100, 64, 512
+RAMP = 4 * SYMBOLS
+LOADS = {"read of 4 bytes": "r" * 500, "sum of 100 reads": "S" * 50, "mixture": "rswhrhsWrhrwshrSWhrs" * 25}
+
+
+def plant(first, count):
+    """A description with so many of the symbols."""
+    symbols = [{"name": f"v{i}", "type": "DINT", "area": "data", "offset": 4 * i} for i in range(first, first + count)]
+    symbols.append({"name": "ramp", "type": "UINT", "area": "data", "offset": RAMP, "signal": 0})
+    port = {"port": 851, "name": "Bench", "major": 3, "minor": 1, "build": 1711, "data": 32768, "symbol": symbols}
+    return {"schema": 1, "net": NET, "route": [{"net": ME, "rights": "write"}], "port": [port]}
+
+
+def words(*numbers):
+    return b"".join(map(model.u32, numbers))
+
+
+def request(kind, first, r):
+    """The command and the payload of a request to the symbols from the first on."""
+    places = [4 * (first + r.randrange(OWN)) for _ in range(100 if kind == "S" else 1)]
+    by_group, by_handle, given = words(0x4040, places[0], 4), words(0xF005, 1 + r.randrange(OWN), 4), r.randbytes(4)
+    if kind == "S":
+        return 9, words(0xF080, 100, 800, 1200) + b"".join(words(0x4040, place, 4) for place in places)
+    return {"s": (4, b""), "r": (2, by_group), "h": (2, by_handle), "w": (3, by_group + given), "W": (3, by_handle + given)}[kind]
+
+
+def plan(k, once, again, ticks=0):
+    """The plan of connection k (see client.c). What is asked again and again is asked once before, so that each time finds what the last one left."""
+    server, asks = model.Server(plant(OWN * k, OWN), [range(1000)]), []
+    model.turn(server, ("open", 1), [])
+    client, head = server.conns[1], model.net_of(NET) + model.u16(851) + model.net_of(ME) + model.u16(32905 + k)
+    for number, (command, payload) in enumerate(once + again + again):
+        ams = head + model.u16(command) + model.u16(4) + words(len(payload), 0, number) + payload
+        asks.append(bytes(2) + words(len(ams)) + ams)
+        client.stream += asks[-1]
+        server.take(client)
+    for moment in range(ticks):
+        asks.append(b"")
+        server.tick(moment)
+    begins = zip(*(itertools.accumulate(map(len, it), initial=0) for it in (asks, client.queue)))
+    body = b"".join([words(*it) for it in begins] + asks + client.queue)
+    body += bytes(-len(body) % 4)
+    return words(12 + len(body), len(once + again), len(asks)) + body
+
+
+def plan_of_load(k, kinds):
+    r, first = random.Random(k), OWN * k
+    names = [f"v{first + i}".encode() for i in range(OWN)]
+    once = [(3, words(0x4040, 4 * first, 4 * OWN) + r.randbytes(4 * OWN))] + [(9, words(0xF003, 0, 4, len(name)) + name) for name in names]
+    return plan(k, once, [request(kind, first, r) for kind in kinds])
+
+
+def plan_all(plan_of):
+    pathlib.Path("plan").write_bytes(b"".join(map(plan_of, range(CONNECTIONS))))
+
+
+class Bench:
+    """Both servers, the C server last, and loads of them; all in a folder of their own, until the stack ends them."""
+
+    def __init__(self, stack, program, quick):
+        self.stack, self.quick = stack, quick
+        os.chdir(stack.enter_context(tempfile.TemporaryDirectory()))
+        for name in ("limit", "client"):
+            subprocess.run(["gcc", "-O2", "-pthread", "-o", name, f"{HERE}/{name}.c"], check=True)
+        pathlib.Path("plant.toml").write_text(toml_of(plant(0, SYMBOLS)))
+        self.servers = [self.serve([program, "serve", "plant.toml", "--events", str(2 ** 64 - 1), "--listen"], "127.0.0.1:"), self.serve(["./limit"], "")]
+
+    def start(self, command, **more):
+        process = subprocess.Popen(command, stdout=subprocess.PIPE, **more)
+        self.stack.callback(process.wait)
+        self.stack.callback(process.kill)
+        return process
+
+    def serve(self, command, address):
+        """The port and the process of a server whose last word is the address and a port."""
+        with socket.socket() as free:
+            free.bind(("127.0.0.1", 0))
+            port = str(free.getsockname()[1])
+        process = self.start(command + [address + port])
+        said = process.stdout.readline()
+        if said != b"listening\n":
+            sys.exit(f"{process.args} said {said!r}")
+        return port, process
+
+    def load(self, server, *numbers):
+        port, process = server
+        with open("plan", "rb") as it:
+            return self.start(["./client", port, str(process.pid), *map(str, numbers)], stdin=it)
+
+    def medians(self, *numbers):
+        """Of both servers: replies a second, processor ns of each, the longest gap in ms."""
+        turns = [[figures(server, self.load(server, *numbers)) for server in self.servers] for _ in range(1 if self.quick else 3)]
+        return [[statistics.median(it) for it in zip(*rows)] for rows in zip(*turns)]
+
+
+def figures(server, client):
+    said = client.stdout.read().split()
+    if client.wait():
+        sys.exit(f"{server[1].args[0]} under {' '.join(client.args)}: status {client.returncode}")
+    count, took, cost, gap = map(float, said)
+    return count / took, 1e9 * cost / max(count, 1), 1e3 * gap
+
+
+def requests(bench, plot):
+    print("| requests | connections | in flight on each | requests a second | C server | ratio | processor ns a request | C server |\n|---|---|---|---|---|---|---|---|")
+    for name, kinds in LOADS.items():
+        plan_all(lambda k: plan_of_load(k, kinds))
+        lines = {(server, depth): [] for server in ("ads", "C") for depth in (32, 1)}
+        for depth, count in itertools.product((32, 1), (64, 8, 1)):
+            (rate, cost, _), (c_rate, c_cost, _) = bench.medians(count, depth, 0.3 if bench.quick else 1)
+            print(f"| {name} | {count} | {depth} | {rate:,.0f} | {c_rate:,.0f} | {rate / c_rate:.2f} | {cost:,.0f} | {c_cost:,.0f} |", flush=True)
+            lines["ads", depth].append((count, rate))
+            lines["C", depth].append((count, c_rate))
+    if plot:
+        pathlib.Path(plot).write_text(drawing(f"requests a second, {name}", lines))
+
+
+def notes(bench):
+    plan_all(lambda k: plan(k, [(6, words(0x4040, RAMP, 2, 4, 0, 0) + bytes(16))] * NOTES, [], 1))
+    rows = bench.medians(CONNECTIONS, 0, 1 if bench.quick else 4)
+    print("| server | samples a second | longest gap between two frames, ms | processor ns a sample |\n|---|---|---|---|")
+    for name, (rate, cost, gap) in zip(("ads", "C"), rows):
+        print(f"| {name} | {rate:,.0f} | {gap:.1f} | {cost:.0f} |")
+    print(f"\nAll there are: {100 * CONNECTIONS * NOTES:,} samples a second. Processor time: {rows[0][1] / rows[1][1]:.2f} times that of the C server.")
+
+
+def memory(bench, minutes):
+    plan_all(lambda k: plan_of_load(k, LOADS["mixture"]))
+    server, held = bench.servers[0], []
+    client = bench.load(server, CONNECTIONS, 32, 60 * minutes + 2)
+    for second in range(0, int(60 * minutes) + 1, 30):
+        time.sleep(30 if second else 1)
+        if client.poll() is not None:
+            break
+        held.append(int(pathlib.Path(f"/proc/{server[1].pid}/status").read_text().partition("VmRSS:")[2].split()[0]))
+        print(f"{second:5} s: {held[-1]:,} KiB", flush=True)
+    print(f"{figures(server, client)[0]:,.0f} requests a second; grown by {held[-1] - held[0]} KiB, of these {held[-1] - held[len(held) // 2]} in the second half")
+
+
+def drawing(title, lines):
+    """An SVG of rates over connections; both axes are logarithmic."""
+    rates = [rate for points in lines.values() for _, rate in points]
+    marks = [digit * 10 ** power for power in range(9) for digit in (1, 2, 5)]
+    low, high = max(it for it in marks if it <= min(rates)), min(it for it in marks if it >= max(rates))
+    x = {1: 80, 8: 280, 64: 480}
+
+    def y(rate):
+        return round(310 - 270 * math.log(rate / low, high / low), 1)
+
+    parts = ['<svg xmlns="http://www.w3.org/2000/svg" width="640" height="360" font-family="sans-serif" font-size="12">',
+             f'<rect width="100%" height="100%" fill="white"/><text x="80" y="20">{title}</text><text x="280" y="350" text-anchor="middle">connections</text>']
+    parts += [f'<text x="{at}" y="330" text-anchor="middle">{count}</text>' for count, at in x.items()]
+    for mark in marks[marks.index(low):marks.index(high) + 1]:
+        parts.append(f'<line x1="80" x2="480" y1="{y(mark)}" y2="{y(mark)}" stroke="#ddd"/><text x="72" y="{y(mark) + 4}" text-anchor="end">{mark:,}</text>')
+    label = 0
+    for (server, depth), points in sorted(lines.items(), key=lambda it: -it[1][0][1]):
+        label = max(label + 16, y(points[0][1]) + 4)
+        style = f'fill="none" stroke-width="2" stroke="{"#1f6f43" if server == "ads" else "#777"}" stroke-dasharray="{"5 4" if depth == 1 else "none"}"'
+        parts.append(f'<polyline points="{" ".join(f"{x[count]},{y(rate)}" for count, rate in points)}" {style}/>')
+        parts.append(f'<text x="490" y="{label:.1f}">{server}, {depth} in flight on each</text>')
+    return "\n".join(parts + ["</svg>\n"])
+
+
+def main():
+    it = argparse.ArgumentParser(description=__doc__, formatter_class=argparse.RawDescriptionHelpFormatter)
+    it.add_argument("program", type=os.path.abspath)
+    it.add_argument("--quick", action="store_true")
+    it.add_argument("--plot", type=os.path.abspath)
+    it.add_argument("--notes", action="store_true")
+    it.add_argument("--minutes", type=float)
+    given = it.parse_args()
+    signal.signal(signal.SIGTERM, lambda *_: sys.exit("ended"))
+    print(f"{os.cpu_count()} processors, load average {os.getloadavg()[0]:.1f}\n")
+    with contextlib.ExitStack() as stack:
+        bench = Bench(stack, given.program, given.quick)
+        if given.notes:
+            notes(bench)
+        elif given.minutes:
+            memory(bench, given.minutes)
+        else:
+            requests(bench, given.plot)
+
+
+if __name__ == "__main__":
+    main()
