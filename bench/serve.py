@@ -1,11 +1,11 @@
 #!/usr/bin/env python3
-"""What `ads serve` does in a second, and what that costs, beside a server of the same plant that is written by hand in C (bench/limit.c).
+"""What `ads serve` does in a second, and what that costs, beside a server of the same plant that is written by hand in C (bench/serve_limit.c).
 
     python3 bench/serve.py PROGRAM [--quick] [--plot FILE.svg]     requests: a table (Markdown), and a drawing of the mixture
     python3 bench/serve.py PROGRAM --notes [--quick]               notifications: 512 on each of 64 connections, of a symbol that changes at each tick of 10 ms
     python3 bench/serve.py PROGRAM --minutes M                     the program's memory in M minutes of the mixture on 64 connections
 
-PROGRAM is crates/ads/out/ads, which `rt run -- selftest ../../examples/state.script` in crates/ads builds; gcc builds the C server and the load (bench/client.c).
+PROGRAM is crates/ads/out/ads, which `rt run -- selftest ../../examples/state.script` in crates/ads builds; gcc builds the C server and the load (bench/serve_client.c).
 
 The plant has 6,400 symbols of four bytes. Each connection asks over loopback for 100 of its own. What it must be told comes from bench/model.py: a wrong byte, or five
 seconds of nothing, ends the run with the connection and the byte. Of 20 requests of the mixture 6 are reads by group, 5 reads by handle, 2 writes by group, 2 writes
@@ -60,7 +60,7 @@ def request(kind, first, r):
 
 
 def plan(k, once, again, ticks=0):
-    """The plan of connection k (see client.c). What is asked again and again is asked once before, so that each time finds what the last one left."""
+    """The plan of connection k (see serve_client.c). What is asked again and again is asked once before, so that each time finds what the last one left."""
     server, asks = model.Server(plant(OWN * k, OWN), [range(1000)]), []
     model.turn(server, ("open", 1), [])
     client, head = server.conns[1], model.net_of(NET) + model.u16(851) + model.net_of(ME) + model.u16(32905 + k)
@@ -95,10 +95,10 @@ class Bench:
     def __init__(self, stack, program, quick):
         self.stack, self.quick = stack, quick
         os.chdir(stack.enter_context(tempfile.TemporaryDirectory()))
-        for name in ("limit", "client"):
+        for name in ("serve_limit", "serve_client"):
             subprocess.run(["gcc", "-O2", "-pthread", "-o", name, f"{HERE}/{name}.c"], check=True)
         pathlib.Path("plant.toml").write_text(toml_of(plant(0, SYMBOLS)))
-        self.servers = [self.serve([program, "serve", "plant.toml", "--events", str(2 ** 64 - 1), "--listen"], "127.0.0.1:"), self.serve(["./limit"], "")]
+        self.servers = [self.serve([program, "serve", "plant.toml", "--events", str(2 ** 64 - 1), "--listen"], "127.0.0.1:"), self.serve(["./serve_limit"], "")]
 
     def start(self, command, **more):
         process = subprocess.Popen(command, stdout=subprocess.PIPE, **more)
@@ -120,7 +120,7 @@ class Bench:
     def load(self, server, *numbers):
         port, process = server
         with open("plan", "rb") as it:
-            return self.start(["./client", port, str(process.pid), *map(str, numbers)], stdin=it)
+            return self.start(["./serve_client", port, str(process.pid), *map(str, numbers)], stdin=it)
 
     def medians(self, *numbers):
         """Of both servers: replies a second, processor ns of each, the longest gap in ms."""

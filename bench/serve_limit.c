@@ -2,7 +2,7 @@
 // serve.py describes and answers what the load asks: states, reads and writes by group and by handle, handles by name, sums of reads, notifications on change. It checks
 // what every server must check (lengths, flags, addresses, groups, offsets, handles); but the load asks nothing that is to be refused, so what is ends the server.
 //
-//     limit PORT      prints `listening`, and serves until it is killed
+//     serve_limit PORT      prints `listening`, and serves until it is killed
 #define _GNU_SOURCE
 #include <errno.h>
 #include <netinet/in.h>

@@ -1,6 +1,6 @@
 // The load of bench/serve.py: keeps so many requests in flight on each connection, and compares every byte that it is told.
 //
-//     client PORT PROCESS CONNECTIONS DEPTH SECONDS <PLAN
+//     serve_client PORT PROCESS CONNECTIONS DEPTH SECONDS <PLAN
 //
 // It prints how many replies came, in how many seconds, and the processor seconds of PROCESS meanwhile. With a DEPTH of 0 it asks for nothing, and prints so of samples
 // of notifications, and the longest time between two frames of a connection.
