@@ -20,7 +20,7 @@ use Rattle.ads_machine.specs.Reads.{fixed_reply, read_act, read_group}
 use Rattle.port_device.specs.PortMemory.{PortMemory}
 use Rattle.port_device.specs.Holds.{HoldsPort}
 use Rattle.port_device.specs.Answers.{AnswersAct, range_read_act}
-use Rattle.port_device.specs.Groups.{is_version_group, read_by_port}
+use Rattle.port_device.specs.Groups.{is_area_group, is_version_group, read_by_port, without_handles}
 use Rattle.port_device.proofs.GroupLemmas.{is_false}
 use Rattle.port_device.proofs.PortLemmas.{same_sizes}
 
@@ -67,6 +67,13 @@ read_by_range d c p (Some (AreaSize area)) offset len h = size_read p area len
 read_by_range d c p (Some SymbolVersion) offset len h = absurd (false≢true (sym h))
 read_by_range d c p g offset len h = refl
 
+pub read_of_area : (d : Setup) (c : client.Client) (p : PlantPort) (g : Option Group) (offset len : ℕ) → is_area_group g ≡ true
+    → read_group d c p (without_handles g) offset len ≡ range_read_act p (range_in g p.sizes offset len)
+read_of_area d c p (Some (AreaBytes area)) offset len h = read_by_range d c p (Some (AreaBytes area)) offset len refl
+read_of_area d c p (Some (AreaBit area)) offset len h = read_by_range d c p (Some (AreaBit area)) offset len refl
+read_of_area d c p (Some (AreaSize area)) offset len h = read_by_range d c p (Some (AreaSize area)) offset len refl
+read_of_area d c p g offset len h = absurd (false≢true h)
+
 pub read_of_version : (d : Setup) (c : client.Client) (p : PlantPort) (g : Option Group) (offset len : ℕ) → is_version_group g ≡ true
     → read_group d c p (read_by_port g) offset len ≡ fixed_reply len (d.version ∷ [])
 unfolding read_group
@@ -89,6 +96,13 @@ pub reads_as : (m : PortMemory) (r : Result (Result (Unit {0}) Code) NoMemory) (
     → IfOk r (λ answer. (w : World) (c : client.Client) (p : PlantPort) → HoldsPort w p m → AnswersAct w (other w c p) answer old new)
 reads_as m (Ok answer) act other old new e h = λ w c p held. answers_along w (act w p) (other w c p) answer old new (e w c p held) (h w p held)
 reads_as m (Err no_memory) act other old new e h = h
+
+pub range_reads_as : (m : PortMemory) (r : Result (Result (Unit {0}) Code) NoMemory) (act other : PlantPort → Act) (old new : List ℕ)
+    → ((w : World) (p : PlantPort) → HoldsPort w p m → other p ≡ act p)
+    → IfOk r (λ answer. (w : World) (p : PlantPort) → HoldsPort w p m → AnswersAct w (act p) answer old new)
+    → IfOk r (λ answer. (w : World) (p : PlantPort) → HoldsPort w p m → AnswersAct w (other p) answer old new)
+range_reads_as m (Ok answer) act other old new e h = λ w p held. answers_along w (act p) (other p) answer old new (e w p held) (h w p held)
+range_reads_as m (Err no_memory) act other old new e h = h
 
 pub range_at_port : (w : World) (p : PlantPort) (m : PortMemory) (sizes : Sizes) (group offset len : ℕ) (q : Result Range ℕ) → HoldsPort w p m
     → m.table.sizes ≡ sizes → q ≡ range_of sizes group offset len → range_in (group_of group) p.sizes offset len ≡ q

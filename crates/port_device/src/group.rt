@@ -2,7 +2,7 @@
 
 ghost use Rattle.std.specs.Prelude.{◌≡◌, option_map};
 ghost use Rattle.ads_formats.specs.Groups.{group_of};
-ghost use Rattle.port_device.specs.Groups.{group_meant, is_entry_by_name, is_info_by_name, is_value_by_name, is_version_group, is_written_by_port};
+ghost use Rattle.port_device.specs.Groups.{group_meant, is_area_group, is_entry_by_name, is_info_by_name, is_value_by_name, is_version_group, is_written_by_port};
 
 use type_layout::Area;
 
@@ -77,6 +77,18 @@ pub fn group_named(number: u32) -> Option<Group>
         0xF081 => Some(Group::SumWrite),
         0xF082 => Some(Group::SumReadWrite),
         _ => None,
+    }
+}
+
+/// Whether the group of a number names bytes, a bit or the size of an area.
+#[tactic(auto, unfolding(ads_formats::specs::Groups::group_in, ads_formats::specs::Groups::group_of))]
+pub(crate) fn is_area(number: u32) -> bool
+    ensures { result ≡ is_area_group (group_of number) }
+{
+    match number {
+        0x4020 | 0x4021 | 0x4025 | 0x4040 | 0x4045 => true,
+        0xF020 | 0xF021 | 0xF025 | 0xF030 | 0xF031 | 0xF035 => true,
+        _ => false,
     }
 }
 

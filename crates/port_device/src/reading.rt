@@ -3,6 +3,7 @@
 ghost use Rattle.std.specs.Prelude.{◌≡◌, [], ◌∷◌, length, IfOk, OnErr};
 ghost use Rattle.ads_plant.specs.World.{PlantPort};
 ghost use Rattle.ads_formats.specs.Groups.{group_of};
+ghost use Rattle.ads_formats.specs.Ranges.{range_in};
 ghost use Rattle.ads_machine.specs.World.{World, setup_of};
 ghost use Rattle.ads_machine.specs.Client as client;
 ghost use Rattle.ads_machine.specs.Reads.{fixed_reply, read_group};
@@ -13,7 +14,7 @@ ghost use Rattle.port_device.specs.Holds.{HoldsPort};
 
 use crate::areas::{byte_of, bytes_of, size_of};
 use crate::bits::bit_of;
-use crate::group::is_version;
+use crate::group::{is_area, is_version};
 use crate::port::Port;
 use crate::upload::upload_named;
 use ads_base::{NoMemory, Octets, put32};
@@ -45,13 +46,38 @@ impl Port {
             → AnswersAct w (read_group (setup_of w) c p (without_handles (group_of group)) offset len) answer out.old out.new) }
         ensures no_memory { OnErr result (out.new ≡ out.old) }
     {
+        // Most reads are of an area.
+        if is_area(group) {
+            return self.read_area(alloc, group, offset, len, out);
+        }
         match upload_named(group) {
             Some(upload) => self.read_upload(alloc, upload, len, out),
             None => self.read_range(alloc, group, offset, len, out),
         }
     }
 
+    // What stands at what a group and an offset name, where they name bytes, a bit or the size of an area.
+    #[inline(always)]
+    fn read_area(
+        &self,
+        alloc: Global,
+        group: u32,
+        offset: u32,
+        len: u32,
+        out: &mut Octets,
+    ) -> Result<Result<(), Code>, NoMemory>
+        ensures answer { IfOk result (λ answer. (w : World) (p : PlantPort) → HoldsPort w p self.now
+            → AnswersAct w (range_read_act p (range_in (group_of group) p.sizes offset len)) answer out.old out.new) }
+        ensures no_memory { OnErr result (out.new ≡ out.old) }
+    {
+        match reach(&self.sizes, group, offset, len) {
+            Ok(range) => self.read_reach(alloc, range, out),
+            Err(code) => Ok(Err(code)),
+        }
+    }
+
     // What Read gives of a group that gives no upload.
+    #[inline(never)]
     fn read_range(
         &self,
         alloc: Global,
@@ -67,10 +93,7 @@ impl Port {
         if is_version(group) {
             return self.read_version(alloc, len, out);
         }
-        match reach(&self.sizes, group, offset, len) {
-            Ok(range) => self.read_reach(alloc, range, out),
-            Err(code) => Ok(Err(code)),
-        }
+        self.read_area(alloc, group, offset, len, out)
     }
 
     /// Writes the bytes of a range, or the 0 or 1 of a bit, to `out`.

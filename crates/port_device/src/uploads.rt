@@ -24,6 +24,7 @@ const MOST: u32 = 2_000_000;
 
 impl Port {
     /// Appends an upload, or the sizes of uploads. 0x705 where it has more bytes than were asked for.
+    #[inline(never)]
     pub(crate) fn read_upload(
         &self,
         alloc: Global,

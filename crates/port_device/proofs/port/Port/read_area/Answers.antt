@@ -1,0 +1,38 @@
+use Rattle.std.proofs.Common.{sym, ap, subst}
+use Rattle.std.specs.Prelude.{Ok, Err}
+use Rattle.return_codes.specs.Code.{number_of}
+use Rattle.ads_plant.specs.Description as plant
+use Rattle.ads_formats.specs.Groups.{group_of}
+use Rattle.ads_formats.specs.Ranges.{range_in}
+use Rattle.index_groups.specs.Access.{IsWithin, range_meant}
+use Rattle.type_layout.specs.Descriptions.{sizes_of}
+use Rattle.port_device.specs.Answers.{range_read_act}
+use Rattle.port_device.specs.Holds.{HoldsPort}
+use Rattle.port_device.specs.PortMemory.{PortMemory}
+use Rattle.port_device.specs.Ports.{memory_in}
+use Rattle.port_device.proofs.ReadLemmas.{range_at_port, range_reads_as, refusal_answers}
+use Rattle.port_device.proofs.port.Port.read_area.Goals as goal
+
+pub read_reach-requires : goal.read_reach-requires
+read_reach-requires c =
+    let P : plant.Sizes → Type 0 = λ s. IsWithin s c.in-Ok.range in
+    let Q : PortMemory → Type 0 = λ x. IsWithin x.table.sizes c.in-Ok.range in
+    subst Q c.self.view_is (subst P (sym c.self.invariant.sizes_are) c.in-Ok.ensures.within)
+
+pub returns-in-Ok-clause-answer : goal.returns-in-Ok-clause-answer
+returns-in-Ok-clause-answer c =
+    let m : PortMemory = memory_in c.self.inside in
+    let g = group_of c.args.group in
+    range_reads_as c.args.self.now c.read_reach.result (λ p. range_read_act p (Ok (range_meant c.in-Ok.range)))
+    (λ p. range_read_act p (range_in g p.sizes c.args.offset c.args.len)) c.args.out.now c.read_reach.new.out
+    (λ w p h. ap (range_read_act p) (range_at_port w p m (sizes_of c.self.inside.sizes) c.args.group c.args.offset c.args.len (Ok (range_meant c.in-Ok.range))
+    (subst (HoldsPort w p) (sym c.self.view_is) h) c.self.invariant.sizes_are c.in-Ok.ensures.rule))
+    c.read_reach.ensures.answer
+
+pub returns-in-Err-clause-answer : goal.returns-in-Err-clause-answer
+returns-in-Err-clause-answer c = λ w p h.
+    let m : PortMemory = memory_in c.self.inside in
+    let g = group_of c.args.group in
+    refusal_answers w (range_read_act p (range_in g p.sizes c.args.offset c.args.len)) c.in-Err.code c.args.out.now
+    (ap (range_read_act p) (range_at_port w p m (sizes_of c.self.inside.sizes) c.args.group c.args.offset c.args.len (Err (number_of c.in-Err.code))
+    (subst (HoldsPort w p) (sym c.self.view_is) h) c.self.invariant.sizes_are c.in-Err.ensures.rule))
