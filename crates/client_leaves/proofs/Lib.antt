@@ -1,4 +1,5 @@
 pub mod TypeLemmas
+pub mod TableLemmas
 pub mod MemberLemmas
 pub mod UploadLemmas
 pub mod PathLemmas

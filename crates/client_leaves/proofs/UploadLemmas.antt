@@ -7,8 +7,9 @@ use Rattle.ads_formats.specs.TypeEntry.{TypeEntry}
 use Rattle.ads_formats.specs.TypeEntryReading.{type_entry_of}
 use Rattle.ads_client.specs.Entries.{types_in}
 use Rattle.name_index.specs.Numbered.{AreNumbered, NameNumbers}
-use Rattle.client_leaves.specs.declared.table.ReadType.{ReadType}
-use Rattle.client_leaves.specs.Table.{name_kept, type_kept}
+use Rattle.type_upload.specs.declared.entry.TypeEntry as upload
+use Rattle.type_upload.specs.Entry.{entry_meant}
+use Rattle.client_leaves.specs.Entries.{entry_name}
 
 abbrev behind_types : List TypeEntry → Option (List TypeEntry) → Option (List TypeEntry)
 behind_types before o = option_map (λ ts. before ++ ts) o
@@ -28,72 +29,71 @@ unfolding types_in
 types_none n before bytes is = rw is refl
 
 -- the types so far, and those that are left, are all
-pub record TypesSoFar (count i : ℕ) (types : List ReadType) (index : NameNumbers) (upload rest : List ℕ) : Type 0 where
-  pub table : AreNumbered (map name_kept types) index
-  pub many : length types ≡ i
-  pub same : behind_types (map type_kept types) (types_in (count - i) rest) ≡ types_in count upload
+pub record TypesSoFar (count i : ℕ) (entries : List upload.TypeEntry) (bytes rest : List ℕ) : Type 0 where
+  pub many : length entries ≡ i
+  pub same : behind_types (map entry_meant entries) (types_in (count - i) rest) ≡ types_in count bytes
 
 nothing_before : (o : Option (List TypeEntry)) → behind_types [] o ≡ o
 nothing_before None = refl
 nothing_before (Some ts) = refl
 
-pub types_begin : (count : ℕ) (types : List ReadType) (index : NameNumbers) (upload : List ℕ) → types ≡ [] → AreNumbered [] index
-    → TypesSoFar count 0 types index upload upload
-types_begin count types index upload is table =
+pub types_begin : (count : ℕ) (entries : List upload.TypeEntry) (bytes : List ℕ) → entries ≡ [] → TypesSoFar count 0 entries bytes bytes
+types_begin count entries bytes is =
     let n : count - 0 ≡ count = omega arith in
-    record { table = rw is table; many = rw is refl; same = rw (is, n) (nothing_before (types_in count upload)) }
+    record { many = rw is refl; same = rw (is, n) (nothing_before (types_in count bytes)) }
 
-pub types_go_on : (count i : ℕ) (old new : List ReadType) (before after : NameNumbers) (upload rest behind : List ℕ) (t : ReadType) → i < count
-    → TypesSoFar count i old before upload rest → Some (type_kept t, behind) ≡ type_entry_of rest → new ≡ old ++ t ∷ []
-    → AreNumbered (map name_kept new) after → TypesSoFar count (i + 1) new after upload behind
-types_go_on count i old new before after upload rest behind t less so_far is pushed table =
+pub types_go_on : (count i : ℕ) (old new : List upload.TypeEntry) (bytes rest behind : List ℕ) (e : upload.TypeEntry) → i < count
+    → TypesSoFar count i old bytes rest → Some (entry_meant e, behind) ≡ type_entry_of rest → new ≡ old ++ e ∷ []
+    → TypesSoFar count (i + 1) new bytes behind
+types_go_on count i old new bytes rest behind e less so_far is pushed =
     let left = count - (i + 1) in
     let n : count - i ≡ suc left = omega arith in
-    let kept : map type_kept new ≡ map type_kept old ++ type_kept t ∷ [] = ap (λ l. map type_kept l) pushed ∙ map-append type_kept old (t ∷ []) in
-    let same : behind_types (map type_kept old) (types_in (suc left) rest) ≡ types_in count upload = rw n at so_far.same in
-    let many : length new ≡ length old + 1 = ap (λ l. length l) pushed ∙ length-append old (t ∷ []) in
+    let kept : map entry_meant new ≡ map entry_meant old ++ entry_meant e ∷ [] = ap (λ l. map entry_meant l) pushed ∙ map-append entry_meant old (e ∷ []) in
+    let same : behind_types (map entry_meant old) (types_in (suc left) rest) ≡ types_in count bytes = rw n at so_far.same in
+    let many : length new ≡ length old + 1 = ap (λ l. length l) pushed ∙ length-append old (e ∷ []) in
     record {
-      table = table;
       many = omega (arith, many, so_far.many);
-      same = rw kept (sym (types_more left (map type_kept old) rest behind (type_kept t) (sym is)) ∙ same);
+      same = rw kept (sym (types_more left (map entry_meant old) rest behind (entry_meant e) (sym is)) ∙ same);
     }
 
-pub types_stop : (count i : ℕ) (types : List ReadType) (index : NameNumbers) (upload rest : List ℕ) → i < count
-    → TypesSoFar count i types index upload rest → None ≡ type_entry_of rest → None ≡ types_in count upload
-types_stop count i types index upload rest less so_far none =
+pub types_stop : (count i : ℕ) (entries : List upload.TypeEntry) (bytes rest : List ℕ) → i < count
+    → TypesSoFar count i entries bytes rest → None ≡ type_entry_of rest → None ≡ types_in count bytes
+types_stop count i entries bytes rest less so_far none =
     let left = count - (i + 1) in
     let n : count - i ≡ suc left = omega arith in
-    let same : behind_types (map type_kept types) (types_in (suc left) rest) ≡ types_in count upload = rw n at so_far.same in
-    sym (types_none left (map type_kept types) rest (sym none)) ∙ same
+    let same : behind_types (map entry_meant entries) (types_in (suc left) rest) ≡ types_in count bytes = rw n at so_far.same in
+    sym (types_none left (map entry_meant entries) rest (sym none)) ∙ same
 
-at_end : (count i : ℕ) (types : List ReadType) (index : NameNumbers) (upload rest : List ℕ) → count ≤ i → TypesSoFar count i types index upload rest
-    → behind_types (map type_kept types) (types_in 0 rest) ≡ types_in count upload
-at_end count i types index upload rest all so_far =
+at_end : (count i : ℕ) (entries : List upload.TypeEntry) (bytes rest : List ℕ) → count ≤ i → TypesSoFar count i entries bytes rest
+    → behind_types (map entry_meant entries) (types_in 0 rest) ≡ types_in count bytes
+at_end count i entries bytes rest all so_far =
     let n : count - i ≡ 0 = omega arith in
     rw n at so_far.same
 
-pub types_end : (count i : ℕ) (types : List ReadType) (index : NameNumbers) (upload rest : List ℕ) → count ≤ i → length rest ≡ 0
-    → TypesSoFar count i types index upload rest → Some (map type_kept types) ≡ types_in count upload
+pub types_end : (count i : ℕ) (entries : List upload.TypeEntry) (bytes rest : List ℕ) → count ≤ i → length rest ≡ 0
+    → TypesSoFar count i entries bytes rest → Some (map entry_meant entries) ≡ types_in count bytes
 unfolding types_in
-types_end count i types index upload rest all none so_far =
-    let e = at_end count i types index upload rest all so_far in
+types_end count i entries bytes rest all none so_far =
+    let e = at_end count i entries bytes rest all so_far in
     let empty = eq-eqb (length rest) 0 none in
-    ap Some (sym (append-nil (map type_kept types))) ∙ (rw empty at e)
+    ap Some (sym (append-nil (map entry_meant entries))) ∙ (rw empty at e)
 
-pub types_beyond : (count i : ℕ) (types : List ReadType) (index : NameNumbers) (upload rest : List ℕ) → count ≤ i → length rest ≢ 0
-    → TypesSoFar count i types index upload rest → None ≡ types_in count upload
+pub types_beyond : (count i : ℕ) (entries : List upload.TypeEntry) (bytes rest : List ℕ) → count ≤ i → length rest ≢ 0
+    → TypesSoFar count i entries bytes rest → None ≡ types_in count bytes
 unfolding types_in
-types_beyond count i types index upload rest all some so_far =
-    let e = at_end count i types index upload rest all so_far in
+types_beyond count i entries bytes rest all some so_far =
+    let e = at_end count i entries bytes rest all so_far in
     let full = ne_eqb (length rest) 0 some in
     rw full at e
 
 -- one more name
-pub named_more : (types new : List ReadType) (t : ReadType) (old after : NameNumbers) → AreNumbered (map name_kept types) old → new ≡ types ++ t ∷ []
-    → ((names : List (List ℕ)) → AreNumbered names old → AreNumbered (names ++ name_kept t ∷ []) after) → AreNumbered (map name_kept new) after
-named_more types new t old after table pushed more =
-    let e : map name_kept new ≡ map name_kept types ++ name_kept t ∷ [] = ap (λ l. map name_kept l) pushed ∙ map-append name_kept types (t ∷ []) in
-    rw e (more (map name_kept types) table)
+pub named_more : (entries new : List upload.TypeEntry) (e : upload.TypeEntry) (old after : NameNumbers) → AreNumbered (map entry_name entries) old
+    → new ≡ entries ++ e ∷ []
+    → ((names : List (List ℕ)) → AreNumbered names old → AreNumbered (names ++ entry_name e ∷ []) after) → AreNumbered (map entry_name new) after
+named_more entries new e old after names pushed more =
+    let is : map entry_name new ≡ map entry_name entries ++ entry_name e ∷ [] = ap (λ l. map entry_name l) pushed ∙ map-append entry_name entries (e ∷ []) in
+    rw is (more (map entry_name entries) names)
 
-pub few_names : (types : List ReadType) (index : NameNumbers) → AreNumbered (map name_kept types) index → length types + 1 < 2 ^ 32 → index.count + 1 < 2 ^ 32
-few_names types index table few = omega (arith, table.counted, length-map types name_kept, few)
+pub few_names : (entries : List upload.TypeEntry) (index : NameNumbers) → AreNumbered (map entry_name entries) index → length entries + 1 < 2 ^ 32
+    → index.count + 1 < 2 ^ 32
+few_names entries index names few = omega (arith, names.counted, length-map entries entry_name, few)

@@ -1,6 +1,7 @@
 -- What the parts of a walk find is what the whole finds.
 use Rattle.std.proofs.Common.{◌≡◌, ℕ, zero, suc, ◌+◌, ◌*◌, ◌^◌, ◌<◌, ◌≤◌, List, [], ◌∷◌, ◌++◌, map, length, drop, Bool, true, false, refl, sym, ap, ◌∙◌, append_assoc, arith}
 use Rattle.std.specs.Prelude.{Option, Some, None, not, ◌&&◌, ◌==◌, nat_le, flat_map, if◌then◌else◌}
+use Rattle.std.specs.List.{list_all}
 use Rattle.std.proofs.Math.Nat.{suc-mul, mul-le-mul_right}
 use Rattle.std.proofs.lemmas.Bool.{and_parts, leb-true, eqb-true, ne_eqb}
 use Rattle.std.proofs.lemmas.List.{append-nil}
@@ -29,6 +30,28 @@ walked_as sound a b xs ys old new same_sound same_leaves w = record {
   same = w.same ∙ same_sound;
   leaves_are = λ e. w.leaves_are e ∙ ap (λ zs. old ++ zs) same_leaves;
 }
+
+-- ---- a walk over parts one after another: elements of an array, or members of a structure
+
+-- all parts are sound where the others are, and what the parts so far have and what the others have is what all have
+pub record WalkedSoFar (is_sound others : Bool) (leaves left old new : List Leaf) : Type 0 where
+  pub sound : is_sound ≡ others
+  pub same : new ++ left ≡ old ++ leaves
+
+pub walk_begins : (is_sound : Bool) (leaves old : List Leaf) → WalkedSoFar is_sound is_sound leaves leaves old old
+walk_begins is_sound leaves old = record { sound = refl; same = refl }
+
+pub walk_stops : (is_sound here others : Bool) (leaves left first old now new : List Leaf) → WalkedSoFar is_sound (here && others) leaves left old now
+    → Walked false here first now new → Walked false is_sound leaves old new
+walk_stops is_sound here others leaves left first old now new so_far w = walked_no is_sound leaves old new (so_far.sound ∙ rw (sym w.same) refl)
+
+pub walk_goes_on : (is_sound here others : Bool) (leaves first left old now new : List Leaf) → WalkedSoFar is_sound (here && others) leaves (first ++ left) old now
+    → Walked true here first now new → WalkedSoFar is_sound others leaves left old new
+walk_goes_on is_sound here others leaves first left old now new so_far w =
+    record { sound = so_far.sound ∙ rw (sym w.same) refl; same = rw (w.leaves_are refl) (append_assoc now first left ∙ so_far.same) }
+
+pub walk_ends : (is_sound : Bool) (leaves old new : List Leaf) → WalkedSoFar is_sound true leaves [] old new → Walked true is_sound leaves old new
+walk_ends is_sound leaves old new so_far = walked_yes is_sound leaves old new so_far.sound (sym (append-nil new) ∙ so_far.same)
 
 -- ---- elements
 
@@ -119,14 +142,27 @@ array_leaves_are leaves_at size path place (e ∷ es) paths some are =
 
 -- ---- elements that stand one behind another
 
+-- each of them is sound where one is
+abbrev pub are_sound : Bool → List (List ℕ) → Bool
+are_sound is_sound paths = list_all (λ path. is_sound) paths
+
+all_true : (paths : List (List ℕ)) → are_sound true paths ≡ true
+all_true [] = refl
+all_true (path ∷ paths) = all_true paths
+
+pub all_sound : (is_sound : Bool) (paths : List (List ℕ)) → 0 < length paths → are_sound is_sound paths ≡ is_sound
+all_sound true paths some = all_true paths
+all_sound false [] some = absurd (omega arith)
+all_sound false (path ∷ paths) some = refl
+
 pub record ElementsSoFar (leaves_at : List ℕ → ℕ → List Leaf) (is_sound : Bool) (size place i at : ℕ) (paths : List (List ℕ)) (old new : List Leaf) : Type 0 where
   pub at_is : at ≡ place + i * size
-  pub sound : 0 < i → is_sound ≡ true
-  pub same : new ++ leaves_of_elements leaves_at at size (drop i paths) ≡ old ++ leaves_of_elements leaves_at place size paths
+  pub walked : WalkedSoFar (are_sound is_sound paths) (are_sound is_sound (drop i paths))
+      (leaves_of_elements leaves_at place size paths) (leaves_of_elements leaves_at at size (drop i paths)) old new
 
 pub elements_begin : (leaves_at : List ℕ → ℕ → List Leaf) (is_sound : Bool) (size place : ℕ) (paths : List (List ℕ)) (old : List Leaf)
     → ElementsSoFar leaves_at is_sound size place 0 place paths old old
-elements_begin leaves_at is_sound size place paths old = record { at_is = omega arith; sound = λ some. absurd (omega arith); same = refl }
+elements_begin leaves_at is_sound size place paths old = record { at_is = omega arith; walked = walk_begins _ _ old }
 
 pub elements_room : (i n size place at : ℕ) → i < n → at ≡ place + i * size → place + n * size < 2 ^ 32 → at + size < 2 ^ 32
 elements_room i n size place at less is room =
@@ -134,26 +170,28 @@ elements_room i n size place at less is room =
     let one = suc-mul i size in
     omega arith
 
+pub elements_stop : (leaves_at : List ℕ → ℕ → List Leaf) (is_sound : Bool) (size place i at : ℕ) (paths : List (List ℕ)) (path : List ℕ) (old now new : List Leaf)
+    → drop i paths ≡ path ∷ drop (i + 1) paths → ElementsSoFar leaves_at is_sound size place i at paths old now
+    → Walked false is_sound (leaves_at path at) now new
+    → Walked false (are_sound is_sound paths) (leaves_of_elements leaves_at place size paths) old new
+elements_stop leaves_at is_sound size place i at paths path old now new first so_far w =
+    walk_stops _ _ _ _ _ _ old now new (rw first at so_far.walked) w
+
 pub elements_more : (leaves_at : List ℕ → ℕ → List Leaf) (is_sound : Bool) (size place i at : ℕ) (paths : List (List ℕ)) (path : List ℕ) (old now new : List Leaf)
     → drop i paths ≡ path ∷ drop (i + 1) paths → ElementsSoFar leaves_at is_sound size place i at paths old now
     → Walked true is_sound (leaves_at path at) now new → ElementsSoFar leaves_at is_sound size place (i + 1) (at + size) paths old new
 elements_more leaves_at is_sound size place i at paths path old now new first so_far w =
     let one = suc-mul i size in
     let i1 : (i + 1) * size ≡ i * size + size = let e : i + 1 ≡ suc i = omega arith in rw e one in
-    let left : now ++ (leaves_at path at ++ leaves_of_elements leaves_at (at + size) size (drop (i + 1) paths)) ≡ old ++ leaves_of_elements leaves_at place size paths
-    = rw first at so_far.same in
     record {
       at_is = omega (arith, so_far.at_is, i1);
-      sound = λ some. sym w.same;
-      same = rw (w.leaves_are refl) (append_assoc now (leaves_at path at) (leaves_of_elements leaves_at (at + size) size (drop (i + 1) paths)) ∙ left);
+      walked = walk_goes_on _ _ _ _ _ _ old now new (rw first at so_far.walked) w;
     }
 
 pub elements_end : (leaves_at : List ℕ → ℕ → List Leaf) (is_sound : Bool) (size place i at : ℕ) (paths : List (List ℕ)) (old new : List Leaf)
-    → 0 < length paths → length paths ≤ i → drop i paths ≡ [] → ElementsSoFar leaves_at is_sound size place i at paths old new
-    → Walked true is_sound (leaves_of_elements leaves_at place size paths) old new
-elements_end leaves_at is_sound size place i at paths old new some all none so_far =
-    let left : new ++ [] ≡ old ++ leaves_of_elements leaves_at place size paths = rw none at so_far.same in
-    walked_yes is_sound _ old new (so_far.sound (omega arith)) (sym (append-nil new) ∙ left)
+    → drop i paths ≡ [] → ElementsSoFar leaves_at is_sound size place i at paths old new
+    → Walked true (are_sound is_sound paths) (leaves_of_elements leaves_at place size paths) old new
+elements_end leaves_at is_sound size place i at paths old new none so_far = walk_ends _ _ old new (rw none at so_far.walked)
 
 -- ---- named types
 
@@ -176,13 +214,13 @@ pub enumeration_leaves : (depth : ℕ) (types : List TypeEntry) (path : List ℕ
 enumeration_leaves zero types path place t none = rw none refl
 enumeration_leaves (suc depth) types path place t none = rw none refl
 
-both_no : (b : Bool) → b && false ≡ false
-both_no true = refl
-both_no false = refl
+never_both : (b : Bool) → b && false ≡ false
+never_both true = refl
+never_both false = refl
 
 no_enumeration : (n : ℕ) (fs : List TypeFields) → (fs ≡ [] → ⊥) → not (n == 0) && is_enumeration fs ≡ false
 no_enumeration n [] some = absurd (some refl)
-no_enumeration n (f ∷ fs) some = both_no (not (n == 0))
+no_enumeration n (f ∷ fs) some = never_both (not (n == 0))
 
 -- structures are nested too deep
 pub too_deep : (depth : ℕ) (types : List TypeEntry) (t : TypeEntry) → depth ≡ 0 → (t.subs ≡ [] → ⊥) → is_sound_type depth types t ≡ false
@@ -208,39 +246,10 @@ structure_leaves_are depth less types path place t is some =
 
 -- ---- members
 
-pub record MembersWalked (is_sound : ElemText → Bool) (leaves_at : TypeFields → List Leaf) (types : List TypeEntry) (size end : ℕ) (all left : List TypeFields)
-    (old new : List Leaf) : Type 0 where
-  pub sound : are_members is_sound types 0 size all ≡ are_members is_sound types end size left
-  pub same : new ++ flat_map leaves_at left ≡ old ++ flat_map leaves_at all
-
-pub members_walked : (is_sound : ElemText → Bool) (leaves_at : TypeFields → List Leaf) (types : List TypeEntry) (size : ℕ) (all : List TypeFields) (old : List Leaf)
-    → MembersWalked is_sound leaves_at types size 0 all all old old
-members_walked is_sound leaves_at types size all old = record { sound = refl; same = refl }
-
-pub members_stop : (is_sound : ElemText → Bool) (leaves_at : TypeFields → List Leaf) (types : List TypeEntry) (size end : ℕ) (all left others : List TypeFields) (f : TypeFields)
-    (o : Option TypeText) (old now : List Leaf) → left ≡ f ∷ others → MembersWalked is_sound leaves_at types size end all left old now
-    → o ≡ type_text_of f.type_name → false ≡ is_member is_sound types end size f o → are_members is_sound types 0 size all ≡ false
-members_stop is_sound leaves_at types size end all left others f o old now first so_far text never =
-    let here : false ≡ is_member is_sound types end size f (type_text_of f.type_name) = rw text at never in
-    so_far.sound ∙ rw (first, sym here) refl
-
-pub members_on : (is_sound : ElemText → Bool) (leaves_at : TypeFields → List Leaf) (types : List TypeEntry) (size end : ℕ) (all left others : List TypeFields) (f : TypeFields)
-    (old now new : List Leaf) → left ≡ f ∷ others → MembersWalked is_sound leaves_at types size end all left old now
-    → Walked true (is_member is_sound types end size f (type_text_of f.type_name)) (leaves_at f) now new
-    → MembersWalked is_sound leaves_at types size (f.offset + f.size) all others old new
-members_on is_sound leaves_at types size end all left others f old now new first so_far w =
-    let same : now ++ (leaves_at f ++ flat_map leaves_at others) ≡ old ++ flat_map leaves_at all = rw first at so_far.same in
-    record {
-      sound = so_far.sound ∙ rw (first, sym w.same) refl;
-      same = rw (w.leaves_are refl) (append_assoc now (leaves_at f) (flat_map leaves_at others) ∙ same);
-    }
-
-pub members_all : (is_sound : ElemText → Bool) (leaves_at : TypeFields → List Leaf) (types : List TypeEntry) (size end : ℕ) (all left : List TypeFields) (old new : List Leaf)
-    → left ≡ [] → MembersWalked is_sound leaves_at types size end all left old new
-    → Walked true (are_members is_sound types 0 size all) (flat_map leaves_at all) old new
-members_all is_sound leaves_at types size end all left old new none so_far =
-    let same : new ++ [] ≡ old ++ flat_map leaves_at all = rw none at so_far.same in
-    walked_yes _ _ old new (so_far.sound ∙ rw none refl) (sym (append-nil new) ∙ same)
+-- the members so far and the others, when those so far end here
+abbrev pub MembersWalked : (ElemText → Bool) → (TypeFields → List Leaf) → List TypeEntry → ℕ → ℕ → List TypeFields → List TypeFields → List Leaf → List Leaf → Type 0
+MembersWalked is_sound leaves_at types size end all others old new =
+    WalkedSoFar (are_members is_sound types 0 size all) (are_members is_sound types end size others) (flat_map leaves_at all) (flat_map leaves_at others) old new
 
 -- a member that does not stand in its structure
 pub member_off : (is_sound : ElemText → Bool) (types : List TypeEntry) (end size : ℕ) (f : TypeFields) (t : TypeText) → stands_in types end size f t ≡ false

@@ -1,5 +1,6 @@
 pub mod Kept
 pub mod Found
+pub mod Entries
 pub mod Table
 pub mod Paths
 pub mod Walks

@@ -1,29 +1,42 @@
--- The types of an upload as they are kept.
-use Rattle.std.specs.Prelude.{ℕ, List, map, is_some, true, ◌≡◌}
-use Rattle.ads_formats.specs.TypeEntry as formats
-use Rattle.ads_formats.specs.TypeEntryReading.{after_subs_in}
-use Rattle.name_index.specs.Numbered.{AreNumbered}
-use Rattle.type_upload.specs.declared.entry.TypeEntry.{TypeEntry}
+-- The types of an upload as they are kept, with their members.
+use Rattle.std.specs.Prelude.{◌≡◌, List, map, Option, None, option_map, option_and_then, slice_get, IfSome}
+use Rattle.std.specs.List.{All}
+use Rattle.ads_plant.specs.TypeTexts.{ElemText, PlainText, StringText, NamedText, type_text_of}
+use Rattle.ads_formats.specs.TypeEntry.{TypeEntry, TypeFields}
+use Rattle.ads_client.specs.LeafTypes.{type_named}
+use Rattle.type_layout.specs.ReadTexts.{elem_text_of, text_of}
 use Rattle.type_upload.specs.Entry.{entry_meant}
+use Rattle.client_leaves.specs.declared.table.FoundText.{FoundText}
+use Rattle.client_leaves.specs.declared.table.Member.{Member}
 use Rattle.client_leaves.specs.declared.table.ReadType.{ReadType}
-use Rattle.client_leaves.specs.declared.table.ReadTypes.{ReadTypes}
 
-abbrev pub member_kept : TypeEntry → formats.TypeFields
-member_kept e = (entry_meant e).fields
+abbrev pub member_kept : Member → TypeFields
+member_kept m = (entry_meant m.entry).fields
 
-abbrev pub type_kept : ReadType → formats.TypeEntry
-type_kept t = record { fields = member_kept t.entry; subs = map member_kept t.members.items }
+abbrev pub type_kept : ReadType → TypeEntry
+type_kept t = record { fields = (entry_meant t.entry).fields; subs = map member_kept t.members.items }
 
-abbrev pub types_kept : ReadTypes → List formats.TypeEntry
-types_kept ts = map type_kept ts.list.items
+abbrev pub types_kept : List ReadType → List TypeEntry
+types_kept ts = map type_kept ts
 
-abbrev pub name_kept : ReadType → List ℕ
-name_kept t = t.entry.name.now
+-- the type that an element names
+abbrev pub type_meant : List TypeEntry → ElemText → Option TypeEntry
+type_meant types (PlainText kind) = None
+type_meant types (StringText n) = None
+type_meant types (NamedText name) = type_named types name
 
--- the index has the places of the types' names
-abbrev pub IsTable : ReadTypes → Type 0
-IsTable ts = AreNumbered (map name_kept ts.list.items) ts.index
+-- the type that the text's element names stands at its place
+abbrev pub IsFound : List TypeEntry → FoundText → Type 0
+IsFound types f = option_and_then (λ k. slice_get types k) f.type_place ≡ type_meant types (elem_text_of f.text.elem)
 
--- the entry's sub entries stand whole in its bytes
-abbrev pub HasSubs : TypeEntry → Type 0
-HasSubs e = is_some (after_subs_in e.subs e.sub_bytes.now) ≡ true
+-- a member's text is that of its sub entry, and its type is found
+pub record IsMemberFound (types : List TypeEntry) (m : Member) : Type 0 where
+  pub text : option_map (λ (f : FoundText). text_of f.text) m.text ≡ type_text_of m.entry.kind.now
+  pub found : IfSome m.text (IsFound types)
+
+abbrev pub AreFound : List TypeEntry → List Member → Type 0
+AreFound types ms = All (IsMemberFound types) ms
+
+-- the members of all types are found
+abbrev pub IsTable : List ReadType → Type 0
+IsTable ts = All (λ (t : ReadType). AreFound (types_kept ts) t.members.items) ts

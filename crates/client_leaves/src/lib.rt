@@ -3,6 +3,7 @@
 #![tactic(auto)]
 
 mod dimensions;
+mod entries;
 mod leaf;
 mod paths;
 mod reading;

@@ -1,60 +1,45 @@
-//! The types of an upload, found by name.
+//! The types of an upload with their members, whose type texts are read and whose types are found.
 
-ghost use Rattle.std.specs.Prelude.{◌≡◌, option_map};
-ghost use Rattle.ads_plant.specs.TypeTexts as texts;
-ghost use Rattle.ads_client.specs.LeafTypes.{type_named, elem_size};
-ghost use Rattle.type_layout.specs.ReadTexts.{elem_text_of};
-ghost use Rattle.client_leaves.specs.Table.{IsTable, type_kept, types_kept};
+ghost use Rattle.std.specs.Prelude.{◌≡◌, slice_get, option_map, option_and_then, IfSome};
+ghost use Rattle.client_leaves.specs.Table.{AreFound, IsTable, type_kept, types_kept};
 
-use name_index::NameIndex;
-use type_layout::ElemText;
+use type_layout::TypeText;
 use type_upload::TypeEntry;
 
-/// A type of an upload, with the sub entries of its members.
+/// A type text that was read, and where the type that its element names stands among those of the upload.
+#[derive(Clone, Copy)]
+pub(crate) struct FoundText<'a> {
+    pub text: TypeText<'a>,
+    // None where the element names no type, or one that is not there.
+    pub type_place: Option<u32>,
+}
+
+/// A sub entry, and its type where its text writes one.
+#[derive(Clone, Copy)]
+pub(crate) struct Member<'a> {
+    pub entry: TypeEntry<'a>,
+    pub text: Option<FoundText<'a>>,
+}
+
+/// A type of an upload, with its members.
 #[derive(Drop)]
 pub(crate) struct ReadType<'a> {
     pub entry: TypeEntry<'a>,
-    pub members: Vec<TypeEntry<'a>>,
+    pub members: Vec<Member<'a>>,
 }
 
-/// The types of an upload, and the places of their names.
-#[derive(Drop)]
-pub(crate) struct ReadTypes<'a> {
-    pub list: Vec<ReadType<'a>>,
-    pub index: NameIndex,
-}
-
-impl<'a> ReadTypes<'a> {
-    // The first type of a name, ASCII case aside.
-    pub(crate) fn named(&self, name: &[u8]) -> Option<&ReadType<'a>>
-        requires { IsTable self.now }
-        ensures { option_map (λ t. type_kept t.now) result ≡ type_named (types_kept self.now) name.now }
-    {
-        match self.index.find(name) {
-            None => None,
-            Some(place) => self.list.get(place as usize),
-        }
-    }
-
-    // The size of an element, 0 where its type is not there.
-    pub(crate) fn elem_size(&self, elem: ElemText<'_>) -> u32
-        requires { IsTable self.now }
-        ensures { result ≡ elem_size (types_kept self.now) (elem_text_of elem.entry) }
-    {
-        match elem {
-            ElemText::Plain(kind) => kind.size(),
-            ElemText::Text(n) => u32::from(n) + 1,
-            ElemText::Named(name) => self.named_size(name),
-        }
-    }
-
-    fn named_size(&self, name: &[u8]) -> u32
-        requires { IsTable self.now }
-        ensures { result ≡ elem_size (types_kept self.now) (texts.NamedText name.now) }
-    {
-        match self.named(name) {
-            None => 0,
-            Some(t) => t.entry.size,
-        }
+/// The type that stands at a place.
+pub(crate) fn type_at<'a, 'b>(
+    types: &'b [ReadType<'a>],
+    place: Option<u32>,
+) -> Option<&'b ReadType<'a>>
+    requires { IsTable types.now }
+    ensures value { option_map (λ t. type_kept t.now) result
+        ≡ option_and_then (λ k. slice_get (types_kept types.now) k) place }
+    ensures found { IfSome result (λ t. AreFound (types_kept types.now) t.now.members.items) }
+{
+    match place {
+        None => None,
+        Some(k) => types.get(k as usize),
     }
 }

@@ -1,29 +1,18 @@
--- The types so far, and those that are left, are all.
-use Rattle.std.proofs.Common.{◌≡◌, ◌≢◌, sym, ◌∙◌, length}
-use Rattle.std.specs.Prelude.{Some}
-use Rattle.std.proofs.lemmas.Bool.{eqb-true, eq-eqb, false≢true}
-use Rattle.ads_formats.specs.TypeEntryReading.{type_entry_of}
-use Rattle.client_leaves.specs.Table.{type_kept}
-use Rattle.client_leaves.proofs.UploadLemmas.{types_stop, types_go_on, types_end, types_beyond}
+-- The types so far are those of the entries so far.
+use Rattle.std.proofs.Common.{◌<◌, ◌≤◌, length}
+use Rattle.client_leaves.proofs.TableLemmas.{table_goes_on, table_same, table_found}
 use Rattle.client_leaves.proofs.reading.read_types.Goals as goal
 
-pub returns-in-None-clause-types : goal.returns-in-None-clause-types
-returns-in-None-clause-types c =
-    types_stop c.args.count c.types.i c.types.types.list.items c.types.types.index c.args.upload.now c.types.rest.now c.types-test.true c.types.invariant
-    (rw c.in-None.is at c.in_ok-first_type.ensures)
+pub loop-entry-preserved : goal.loop-entry-preserved
+loop-entry-preserved c =
+    let es = c.args.entries.now.list.items in
+    let less : c.loop-entry.entry-index < length es = rw c.as_slice-entry-items.ensures.value at c.loop-entry-test.true in
+    let same = rw c.as_slice-entry-items.ensures.value at c.in_ok-t.ensures.same in
+    table_goes_on es c.loop-entry.entry-index c.loop-entry.types.items c.push.new.self.items _ c.in_ok-t.t less c.loop-entry.invariant same c.in_ok-t.ensures.found
+    c.in_ok-push.ensures.items
 
-pub types-preserved : goal.types-preserved
-types-preserved c =
-    let read : Some (type_kept c.in-Some.t, c.in-Some.behind.now) ≡ type_entry_of c.types.rest.now = rw c.in-Some.is at c.in_ok-first_type.ensures in
-    types_go_on c.args.count c.types.i c.types.types.list.items c.add_type.new.types.list.items c.types.types.index c.add_type.new.types.index c.args.upload.now
-    c.types.rest.now c.in-Some.behind.now c.in-Some.t c.types-test.true c.types.invariant read c.in_ok-add_type-in-Some.ensures.list c.in_ok-add_type-in-Some.ensures.table
-
-pub returns-then-is_empty-clause-types : goal.returns-then-is_empty-clause-types
-returns-then-is_empty-clause-types c =
-    let none : length c.types.rest.now ≡ 0 = eqb-true (length c.types.rest.now) 0 (sym c.is_empty.ensures ∙ c.if-is_empty.true) in
-    types_end c.args.count c.types.i c.types.types.list.items c.types.types.index c.args.upload.now c.types.rest.now c.types-test.false none c.types.invariant
-
-pub returns-clause-types : goal.returns-clause-types
-returns-clause-types c =
-    let some : length c.types.rest.now ≢ 0 = λ e. false≢true (sym c.if-is_empty.false ∙ (c.is_empty.ensures ∙ eq-eqb (length c.types.rest.now) 0 e)) in
-    types_beyond c.args.count c.types.i c.types.types.list.items c.types.types.index c.args.upload.now c.types.rest.now c.types-test.false some c.types.invariant
+pub returns-clause-table : goal.returns-clause-table
+returns-clause-table c =
+    let es = c.args.entries.now.list.items in
+    let all : length es ≤ c.loop-entry.entry-index = rw c.as_slice-entry-items.ensures.value at c.loop-entry-test.false in
+    table_found es c.loop-entry.types.items (table_same es c.loop-entry.entry-index c.loop-entry.types.items all c.loop-entry.invariant) c.loop-entry.invariant.found

@@ -1,13 +1,14 @@
 -- What the parts of a walk find is what the whole finds.
 use Rattle.std.proofs.Common.{◌≡◌, ◌≢◌, ◌-◌, ◌++◌, suc, List, map, length, refl, sym, ap, ◌∙◌, arith}
+use Rattle.std.specs.Prelude.{Some, None}
 use Rattle.std.proofs.lemmas.Bool.{eq-eqb, false≢true}
-use Rattle.ads_client.specs.LeafTypes.{elem_size}
+use Rattle.ads_client.specs.LeafTypes.{type_named, elem_size, is_sound_elem}
 use Rattle.ads_client.specs.Leaves.{Leaf, leaves_of_elem}
 use Rattle.type_layout.specs.Shapes.{kind_of}
 use Rattle.type_layout.specs.ReadTexts.{elem_text_of, text_of}
 use Rattle.client_leaves.specs.Kept.{leaf_kept}
 use Rattle.client_leaves.specs.Table.{member_kept, type_kept, types_kept}
-use Rattle.client_leaves.proofs.WalkLemmas.{walked_no, walked_yes, walked_as, plain_sound, plain_leaves, string_sound, string_leaves, no_type, named_sound, named_leaves, array_some, array_room, array_leaves_are, some_ends, some_subs, structure_sound, structure_leaves_are}
+use Rattle.client_leaves.proofs.WalkLemmas.{walked_no, walked_yes, walked_as, plain_sound, plain_leaves, string_sound, string_leaves, no_type, named_sound, named_leaves, array_some, array_room, array_leaves_are, all_sound, some_ends, some_subs, structure_sound, structure_leaves_are}
 use Rattle.client_leaves.proofs.walk.+walk.Goals as goal
 
 pub elem_leaves-returns-in_ok-put_leaf-in-Plain : goal.elem_leaves-returns-in_ok-put_leaf-in-Plain
@@ -29,25 +30,29 @@ elem_leaves-returns-in_ok-put_leaf-in-Text t c =
 
 pub elem_leaves-returns-in-None : goal.elem_leaves-returns-in-None
 elem_leaves-returns-in-None t c =
-    rw c.in-Named.is (walked_no _ _ _ _ (no_type c.args.depth (types_kept c.args.types.now) c.in-Named.name.now (sym c.in-None.ensures)))
+    let types = types_kept c.args.types.now in
+    let name = c.in-Named.field-0.now in
+    let none : type_named types name ≡ None = rw c.in-Named.is at (sym c.requires.found ∙ sym c.in-None.ensures.value) in
+    rw c.in-Named.is (walked_no _ _ _ _ (no_type c.args.depth types name none))
 
 pub elem_leaves-returns-in_ok-sound-in-Some : goal.elem_leaves-returns-in_ok-sound-in-Some
 elem_leaves-returns-in_ok-sound-in-Some t c =
     let types = types_kept c.args.types.now in
-    let name = c.in-Named.name.now in
-    let found = sym c.in-Some.ensures in
-    rw c.in-Named.is (walked_as c.in_ok-sound-in-Some.sound _ _ _ _ _ _ (named_sound c.args.depth types name (type_kept c.in-Some.t.now) found)
-    (named_leaves c.args.depth types name (type_kept c.in-Some.t.now) c.args.path.now c.args.place found) c.in_ok-sound-in-Some.ensures)
+    let name = c.in-Named.field-0.now in
+    let whole = type_kept c.in-Some.t.now in
+    let found : type_named types name ≡ Some whole = rw c.in-Named.is at (sym c.requires.found ∙ sym c.in-Some.ensures.value) in
+    rw c.in-Named.is (walked_as c.in_ok-sound-in-Some.sound _ _ _ _ _ _ (named_sound c.args.depth types name whole found)
+    (named_leaves c.args.depth types name whole c.args.path.now c.args.place found) c.in_ok-sound-in-Some.ensures)
 
 pub text_leaves-array_leaves-requires : goal.text_leaves-array_leaves-requires
 text_leaves-array_leaves-requires t c =
-    let t = text_of c.args.text.now in
+    let t = text_of c.args.text.now.text in
     let are = c.as_slice.ensures ∙ c.in_ok-paths.ensures in (
       omega (arith, c.decreases),
       (
         c.requires.table,
         (
-          array_some c.args.path.now c.as_slice.result.now t.ends are,
+          c.requires.found,
           array_room (types_kept c.args.types.now) t c.args.place c.args.path.now c.as_slice.result.now are c.requires.room,
         ),
       ),
@@ -56,11 +61,12 @@ text_leaves-array_leaves-requires t c =
 pub text_leaves-returns : goal.text_leaves-returns
 text_leaves-returns t c =
     let types = types_kept c.args.types.now in
-    let elem = elem_text_of c.args.text.now.elem in
-    let text = c.args.text.now in
+    let text = c.args.text.now.text in
+    let elem = elem_text_of text.elem in
+    let paths = c.as_slice.result.now in
     let are = c.as_slice.ensures ∙ c.in_ok-paths.ensures in
-    walked_as c.in_ok-sound-2.sound _ _ _ _ _ _ refl
-    (array_leaves_are (leaves_of_elem c.args.depth types elem) (elem_size types elem) c.args.path.now c.args.place (text_of text).ends c.as_slice.result.now
+    walked_as c.in_ok-sound-2.sound _ _ _ _ _ _ (all_sound (is_sound_elem c.args.depth types elem) paths (array_some c.args.path.now paths (text_of text).ends are))
+    (array_leaves_are (leaves_of_elem c.args.depth types elem) (elem_size types elem) c.args.path.now c.args.place (text_of text).ends paths
     (some_ends text.count text.first text.second text.third c.if-text-eq0.false) are)
     c.in_ok-sound-2.ensures
 

@@ -29,7 +29,7 @@ decreases-type_leaves l = 6 * l.depth
 abbrev pub invariant-array_leaves-elements : goal.invariant-array_leaves-elements
 invariant-array_leaves-elements l =
     let types = types_kept l.types in
-    let elem = elem_text_of l.elem in
+    let elem = elem_text_of l.text.text.elem in
     ElementsSoFar (leaves_of_elem l.depth types elem) (is_sound_elem l.depth types elem) l.size l.place l.path-index l.at l.paths
     (map leaf_kept l.initial.leaves) (map leaf_kept l.leaves)
 
