@@ -48,6 +48,8 @@ impl Keeper for SqliteKeeper {
     }
 
     fn open(&mut self, name: &str) -> KeeperOpen {
+        // The file is locked while it is open.
+        self.conn = None;
         match open_tables(&self.rt, name) {
             Ok((conn, rows)) => {
                 self.conn = Some(conn);

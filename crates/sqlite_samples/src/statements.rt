@@ -1,6 +1,7 @@
 //! The statements over the tables of samples. Numbers and moments are eight bytes, the high byte first, so that their order
-//! is that of the bytes.
+//! is that of the bytes. Each call of the library stands in a function of its own, since each is dear to prove.
 
+use sqlite::types::ValueRef;
 use sqlite::{Alter, Connection, Error, Row, Transaction, params};
 
 /// Makes the tables where they are not there.
@@ -11,10 +12,13 @@ pub fn make_tables<S: Alter>(conn: &mut Connection<S>) -> Result<(), Error> {
     )
 }
 
-/// The number of samples.
-pub fn count_rows<S: Alter>(conn: &mut Connection<S>) -> Result<u64, Error> {
-    let count: i64 = conn.query_row("SELECT count(*) FROM sample", &[])?.get(0)?;
-    Ok(count.unsigned_abs())
+/// The rows of a query with these values.
+pub fn rows_of<S: Alter>(
+    conn: &mut Connection<S>,
+    text: &str,
+    values: &[ValueRef<'_>],
+) -> Result<Vec<Row>, Error> {
+    conn.query_all(text, values)
 }
 
 /// Adds a sample, and tells whether its number is new.
@@ -25,7 +29,8 @@ pub fn add_row<'a, S: Alter>(
     time: &'a [u8],
     bytes: &'a [u8],
 ) -> Result<bool, Error> {
-    let added = change.execute(
+    let added = run(
+        change,
         "INSERT OR IGNORE INTO sample (number, name, time, bytes) VALUES (?1, ?2, ?3, ?4)",
         params![number, name, time, bytes],
     )?;
@@ -40,25 +45,29 @@ pub fn add_to_total<'a, S: Alter>(
     time: &'a [u8],
     bytes: &'a [u8],
 ) -> Result<(), Error> {
-    change.execute(
+    run(
+        change,
         "INSERT OR IGNORE INTO total (name, count, last, time, bytes) VALUES (?1, 0, ?2, ?3, ?4)",
         params![name, number, time, bytes],
     )?;
-    change.execute(
+    run(
+        change,
         "UPDATE total SET count = count + 1 WHERE name = ?1",
         params![name],
     )?;
-    change.execute(
+    run(
+        change,
         "UPDATE total SET last = ?2, time = ?3, bytes = ?4 WHERE name = ?1 AND last < ?2",
         params![name, number, time, bytes],
     )?;
     Ok(())
 }
 
-/// The row of a name's total: count, moment and bytes.
-pub fn rows_of_total<S: Alter>(conn: &mut Connection<S>, name: &[u8]) -> Result<Vec<Row>, Error> {
-    conn.query_all(
-        "SELECT count, time, bytes FROM total WHERE name = ?1",
-        params![name],
-    )
+// Runs a statement with these values, and tells how many rows it changed.
+fn run<S: Alter>(
+    change: &mut Transaction<'_, S>,
+    text: &str,
+    values: &[ValueRef<'_>],
+) -> Result<usize, Error> {
+    change.execute(text, values)
 }
