@@ -387,6 +387,13 @@ def main():
         with open(os.path.join(DATA, f"hostile_{name}.runs"), "w") as it:
             it.write("----\n".join(made))
         print(f"hostile_{name}.runs: {len(made)} runs")
+    import hostile_peers  # noqa: PLC0415 (it uses this file)
+
+    for name, runs in hostile_peers.SUBJECTS.items():
+        made = list(runs())
+        with open(os.path.join(DATA, f"peer_{name}.runs"), "w") as it:
+            it.write("----\n".join(made))
+        print(f"peer_{name}.runs: {len(made)} runs")
     return 0
 
 
