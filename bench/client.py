@@ -359,7 +359,7 @@ def show(name):
 
 def call_of(words):
     """The call of a client command's own words."""
-    name = words[1].encode() if len(words) > 1 else b""
+    name = str(words[1]).encode() if len(words) > 1 else b""
     calls = {"info": info, "state": state, "list": listed, "get": lambda: get(name), "show": lambda: show(name)}
     if words[0] in calls:
         return calls[words[0]]()
