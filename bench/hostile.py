@@ -1,10 +1,11 @@
 #!/usr/bin/env python3
-"""Writes the hostile runs of the program `cases_run`: what no well-behaved client sends, with what the model of the protocol (bench/model.py) says must come;
-and runs over the two descriptions that docs/FORMATS.md shows.
+"""Writes the hostile runs of the program `cases_run`: what no well-behaved client sends, with what the model of the protocol (bench/model.py) says must come; what no
+well-behaved server says to a client (bench/hostile_peers.py), with what the model of a client (bench/client.py) says; and runs over the two descriptions that
+docs/FORMATS.md shows.
 
-    python3 bench/hostile.py        writes crates/cases_run/data/hostile_*.runs, shown.runs and shown_*.toml, and says how many runs each has
+    python3 bench/hostile.py        writes hostile_*.runs, peer_*.runs, shown.runs and shown_*.toml of crates/cases_run/data, and says how many runs each has
 
-What must come is computed from the protocol alone, never from what the program prints.
+What must come is computed from the protocol alone, never from what the program prints. The counts in crates/cases_run/stdout are all runs of that program.
 """
 import itertools
 import os

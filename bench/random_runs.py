@@ -495,12 +495,17 @@ def call(r, d):
     """A client's call, as the model of a client has it, and the words of its own."""
     name = a_path(r, d)
     name = name.decode("ascii") if name.isascii() and b"\0" not in name else "Main.count"
-    kind = r.choice(("info", "state", "control", "get", "get", "set", "list", "watch", "watch", "show", "show"))
+    kind, value = r.choice(("info", "state", "control", "get", "get", "set", "set", "list", "watch", "watch", "show", "show")), None
+    symbols, types = [it for port in d["port"] for it in port["symbol"]], model.Types(d.get("type", []))
+    if symbols and r.random() < 0.7:
+        it = r.choice(symbols)
+        name, own = any_case(r, it["name"]), model.type_of(it["type"])
+        value = client.value_text(types.number(own), r.randbytes(types.size(own)))
     if kind == "control":
         states = [r.choice((5, 6, 6, 7)), r.randrange(65536)]
         return [kind, *states], [*map(str, states)]
     if kind == "set":
-        value = r.choice(("0", "1", "-1", "TRUE", "''", "'a$0A'", "16#00", "255", client.value_text(r.choice((2, 3, 17, 20, 30, 33, 65)), r.randbytes(r.choice((1, 2, 4, 8))))))
+        value = value if value and r.random() < 0.8 else r.choice(("0", "1", "-1", "TRUE", "''", "'a$0A'", "16#00", "255"))
         return [kind, name, value], [name, value]
     if kind == "watch":
         mode, cycle, some = r.choice(("cycle", "change")), r.choice((0, 0, 200000)), r.randint(1, 4)
