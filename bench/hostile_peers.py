@@ -547,6 +547,34 @@ def calls():
     yield linked("The link fails behind the first sample, and that can't be told.", COMMANDS["watch"], in_turn(STEPS["watch"]), fail=7, fail_put=2)
 
 
+def local_words(name):
+    """The words of a call of the server of a description in the same process."""
+    return words_of(COMMANDS[name])[0].replace(f"--to {TO} --netid {NET}", "--local plant.toml")
+
+
+def local(said, name, lines, status, out):
+    head = [f"# `{name}` in the same process: {said}", local_words(name)]
+    return "\n".join([*head, *lines, f"status {status}", "out", *text_lines(out)]) + "\n"
+
+
+def locals_():
+    plant = ["file plant.toml", "from plant.toml"]
+    for name, steps in STEPS.items():
+        status, out, _ = client.run(COMMANDS[name], in_turn(steps), me=ME, peer=NET)
+        yield local("as it should be; a second reading and a piece behind the last would fail.", name, [*plant, "fail-read 2", "fail-put 20"], status, out)
+        yield local("its description can't be read.", name, [*plant, "fail-read 1"], 4, "ads: read fault\n")
+        yield local("its description is not there, which can't be told.", name, ["fail-put 1", "leave 7"], 5, "ads: re")
+        yield local("its description breaks a rule.", name, [*plant, "change offset = 8 => offset = 2"], 2, "ads: description rule 12 item 1\n")
+        yield local("its description is no TOML.", name, [*plant, "change schema = 1 => schema == 1"], 2, "ads: description syntax\n")
+        yield local("its description is too long.", name, ["file plant.toml", "repeat 1048577 0123456789abcdef"], 12, "ads: file too long\n")
+        yield local("no route names it.", name, [*plant, f"change {ME} => 9.9.9.9.1.1"], 9, "ads: bad peer\n")
+        yield local("no route names it, which can't be told.", name, [*plant, f"change {ME} => 9.9.9.9.1.1", "fail-put 1"], 5, "")
+        yield local("the port is another.", name, [*plant, "change port = 851 => port = 852"], 8, "ads: refused 0x6 target port not found\n")
+        for put in range(1, len(out.splitlines()) + 1):
+            stopped = client.run(COMMANDS[name], in_turn(steps), me=ME, peer=NET, fail_put=put, leave=3)
+            yield local(f"piece {put} of the output can't be written; three bytes of it are.", name, [*plant, f"fail-put {put}", "leave 3"], stopped[0], stopped[1])
+
+
 def talker_of(name):
     talker = client.Client(COMMANDS[name], ME, NET, 851)
     talker.begin(FIRST)
@@ -555,4 +583,4 @@ def talker_of(name):
     return talker
 
 
-SUBJECTS = {"pieces": pieces, "frames": frames, "entries": entries, "values": values, "lists": lists, "samples": samples, "types": types, "calls": calls}
+SUBJECTS = {"pieces": pieces, "frames": frames, "entries": entries, "values": values, "lists": lists, "samples": samples, "types": types, "calls": calls, "local": locals_}
