@@ -2,7 +2,7 @@
 """Refused memory: each call for memory of a run fails in turn, alone and with all behind it, and the run must end as it does with memory, or with status 10; and
 then what it printed is a beginning of what it prints with memory, and behind it a beginning of `ads: memory`.
 
-    python3 bench/refused_memory.py [--program PATH] [--most N]
+    python3 bench/refused_memory.py [--program PATH] [--most N] [--run WORD]
 
 Build the program first: in crates/ads, `rt run -- selftest ../../examples/state.script`. The runs are those below; of one with more than N calls for memory
 (2,000 unless told) every k-th fails. It prints a table, and ends with 1 where anything else came.
@@ -54,7 +54,7 @@ RUNS = {
 
 
 class Peer(threading.Thread):
-    """A server by the model, on a port of its own: a device anew for each connection, which ticks where nothing is asked for a while."""
+    """A server by the model, on a port of its own: a device anew for each connection, which ticks where something is watched and nothing is asked for a while."""
 
     def __init__(self):
         super().__init__(daemon=True)
@@ -82,7 +82,8 @@ class Peer(threading.Thread):
                     return
                 model.turn(server, ("bytes", 1, given), lines)
             except TimeoutError:
-                model.turn(server, ("tick", server.moment + 100000), lines)
+                if server.conns[1].watches:
+                    model.turn(server, ("tick", server.moment + 100000), lines)
             conn.sendall(b"".join(bytes.fromhex(line.split()[2]) for line in lines if line.startswith("out ")))
 
 
@@ -139,6 +140,7 @@ def main():
     it = argparse.ArgumentParser(description=__doc__, formatter_class=argparse.RawDescriptionHelpFormatter)
     it.add_argument("--program", default=PROGRAM)
     it.add_argument("--most", type=int, default=2000)
+    it.add_argument("--run", default="", help="only the runs whose name has this word")
     given = it.parse_args()
     program, wrong = os.path.abspath(given.program), 0
     print("| run | calls for memory | failed in turn | as usual | status 10 | wrong |\n|---|---|---|---|---|---|")
@@ -147,6 +149,8 @@ def main():
     with tempfile.TemporaryDirectory() as folder:
         shim = built(folder)
         for said, words in written(folder).items():
+            if given.run not in said:
+                continue
             words = [peer.where if word == "PEER" else word for word in words]
             status, out, calls = ran(program, words, folder, shim, 0, False)
             counts, bad, tried = {True: 0, False: 0}, 0, 0
