@@ -1,10 +1,11 @@
 #!/usr/bin/env python3
-"""Writes the hostile runs of the program `cases_run`: what no well-behaved client sends, with what the model of the protocol (bench/model.py) says must come;
-and runs over the two descriptions that docs/FORMATS.md shows.
+"""Writes the hostile runs of the program `cases_run`: what no well-behaved client sends, with what the model of the protocol (bench/model.py) says must come; what no
+well-behaved server says to a client (bench/hostile_peers.py), with what the model of a client (bench/client.py) says; and runs over the two descriptions that
+docs/FORMATS.md shows.
 
-    python3 bench/hostile.py        writes crates/cases_run/data/hostile_*.runs, shown.runs and shown_*.toml, and says how many runs each has
+    python3 bench/hostile.py        writes hostile_*.runs, peer_*.runs, shown.runs and shown_*.toml of crates/cases_run/data, and says how many runs each has
 
-What must come is computed from the protocol alone, never from what the program prints.
+What must come is computed from the protocol alone, never from what the program prints. The counts in crates/cases_run/stdout are all runs of that program.
 """
 import itertools
 import os
@@ -63,7 +64,7 @@ def lines_of(event, plants):
     if event[0] == "bytes":
         return [f"| bytes {event[1]} {event[2].hex()}"]
     if event[0] == "reload":
-        return ["| reload", f"from {plants}", "| ."]
+        return ["| reload", *(["| schema = 2"] if event[1] == 2 else [f"from {plants}"]), "| ."]
     return ["| " + " ".join(map(str, event))]
 
 
@@ -162,6 +163,24 @@ def head(*numbers):
     return b"".join(map(u32, numbers))
 
 
+def lying_sums():
+    """Sums of two parts in which one number lies by one."""
+    name = b"Main.count"
+    for group, heads, data, most in ((0xF080, [[0x4040, 0, 4], [0x4040, 60, 2]], b"", 14), (0xF081, [[0x4040, 124, 2], [0x4040, 126, 1]], b"\1\2\3", 8),
+                                     (0xF082, [[0xF003, 0, 4, 10], [0xF004, 0, 4, 10]], name * 2, 24)):
+        for lie in (1, -1):
+            yield asked(f"A sum {group:#06x} of two parts that says that it has {2 + lie}.", sum_of(7, group, 2 + lie, most, head(*heads[0], *heads[1]), data))
+            yield asked(f"A sum {group:#06x} of two parts with room for {lie:+} of what they may give.", sum_of(7, group, 2, most + lie, head(*heads[0], *heads[1]), data))
+            yield asked(f"A sum {group:#06x} of two parts with {'a byte too many' if lie > 0 else 'a byte too few'}.",
+                        sum_of(7, group, 2, most, (head(*heads[0], *heads[1]) + data + b"\0")[:None if lie > 0 else -2]))
+            for part in (0, 1):
+                for field in range(1, len(heads[0])):
+                    lying = [list(it) for it in heads]
+                    lying[part][field] = (lying[part][field] + lie) % 2 ** 32
+                    yield asked(f"A sum {group:#06x} of two parts: number {field + 1} of part {part + 1} is {lie:+} of what it should be.",
+                                sum_of(7, group, 2, most, head(*lying[0], *lying[1]), data), read(8, 0x4040, 120, 8))
+
+
 def sums():
     four = head(0x4040, 0, 4)
     for group in model.SUMS:
@@ -197,6 +216,7 @@ def sums():
                 sum_of(7, 0xF082, 3, 36, head(0xF003, 0, 4, 10) + head(0xF003, 0, 4, 1) + head(0xF004, 0, 4, 10), name + b"x" + name))
     for group in model.SUMS:
         yield asked(f"A sum {group:#06x} as a part of a sum by name.", sum_of(7, 0xF082, 1, 8, head(group, 0, 0, 0)))
+    yield from lying_sums()
     yield asked("A sum by name with room for one byte less than its parts may give.", sum_of(7, 0xF082, 1, 11, head(0xF003, 0, 4, 10), name))
     yield asked("A sum by name that says less data than it has.", sum_of(7, 0xF082, 1, 12, head(0xF003, 0, 4, 9), name))
 
@@ -250,7 +270,7 @@ def limits():
 
 def reloads():
     whole = ask(1, 0xF003, 0, 4, b"Main.count")
-    for cut in range(0, len(whole) + 1, 2):
+    for cut in range(len(whole) + 1):
         yield replay(f"A reload behind {cut} of the {len(whole)} bytes of a request for a handle; then a read by it.",
                      [("open", 1)] + ([("bytes", 1, whole[:cut])] if cut else []) + [("reload", PLANT2)] + ([("bytes", 1, whole[cut:])] if cut < len(whole) else [])
                      + [("bytes", 1, read(2, 0xF005, 1, 4))])
@@ -260,8 +280,18 @@ def reloads():
                       ("bytes", 1, write(3, 0x4040, 100, b"\1\2\3\4")), ("tick", 6), ("bytes", 1, read(4, 0xF005, 1, 4)), ("bytes", 1, frame(7, 5, u32(1)))])
 
 
+    both = write(1, 0x4040, 0, b"\7\7\7\7") + read(2, 0x4040, 100, 4) + add(3, 0x4040, 72, 8)
+    for cut in range(0, len(both) + 1, 3):
+        yield replay(f"A refused and then an accepted reload behind {cut} of the {len(both)} bytes of a write, a read and an addition; then a tick.",
+                     [("open", 1)] + ([("bytes", 1, both[:cut])] if cut else []) + [("reload", 2), ("reload", PLANT2)] + ([("bytes", 1, both[cut:])] if cut < len(both) else [])
+                     + [("tick", 5), ("bytes", 1, read(4, 0x4040, 100, 4))])
+
+
 def offers():
-    reply = 46
+    reply, note = 46, 70
+    for room in range(note + 1):
+        yield replay(f"A notification of {note} bytes for which there is room for {room}, the next one behind it, and then room for all.",
+                     [("open", 1), ("bytes", 1, add(1, 0x4040, 0, 4, 3)), ("room", 1, room), ("tick", 1), ("tick", 2), ("room", 1, 2 ** 64 - 1)])
     for room in range(reply + 1):
         yield replay(f"A reply of {reply} bytes for which there is room for {room}, and then for all.",
                      [("open", 1), ("room", 1, room), ("bytes", 1, state(1)), ("bytes", 1, state(2)), ("room", 1, 2 ** 64 - 1)])
@@ -275,8 +305,7 @@ def offers():
 # Failing calls.
 
 
-class Stopped(Exception):
-    pass
+EVENTS = {"open": "opened", "bytes": "piece", "close": "closed", "tick": "tick", "writable": "writable"}
 
 
 def served(fails, cuts, events):
@@ -293,7 +322,7 @@ def served(fails, cuts, events):
     for event in events:
         if not call():
             return 6, "listening\nads: link fault\n", log
-        log.append({"open": "opened", "bytes": "piece", "close": "closed", "tick": "tick"}[event[0]] + f" {event[1]}")
+        log.append(f"{EVENTS[event[0]]} {event[1]}")
         conn = server.conns.get(event[1])
         if event[0] == "open":
             server.conns[event[1]], server.opened = model.Connection(), server.opened + 1
@@ -301,6 +330,9 @@ def served(fails, cuts, events):
             server.tick(event[1])
         elif event[0] == "close":
             server.conns.pop(event[1], None)
+        elif event[0] == "writable":
+            if conn:
+                conn.blocked = False
         elif conn and not conn.closing:
             conn.stream += event[2]
             server.take(conn)
@@ -334,7 +366,7 @@ def serve(said, fails, cuts, events, puts=None, leave=None):
     lines += [f"fail-wire {fails}"] if fails else []
     lines += [f"cut {it}" for it in cuts]
     for event in events:
-        lines.append({"open": "opened", "bytes": "piece", "close": "closed", "tick": "tick"}[event[0]] + " " + " ".join(it if isinstance(it, str) else it.hex() if isinstance(it, bytes) else str(it) for it in event[1:]))
+        lines.append(EVENTS[event[0]] + " " + " ".join(it if isinstance(it, str) else it.hex() if isinstance(it, bytes) else str(it) for it in event[1:]))
     if puts:
         pieces = [line + "\n" for line in out.splitlines()]
         out, status = "".join(pieces[:puts - 1]), 5
@@ -350,8 +382,49 @@ def faults():
         yield serve(f"Call {number} of the wire fails: a start or an event ends the run, an offer loses its connection alone.", number, [], talk)
     for cut in range(0, 47, 5):
         yield serve(f"The first offer takes {cut} bytes: that connection waits, and the other is served.", 0, [cut], talk)
+    for cut in range(47):
+        yield serve(f"Of a reply of 46 bytes the first offer takes {cut}, the second at most three, and the third what is left.", 0, [cut, 3],
+                    [("open", 1), ("bytes", 1, state(1)), ("writable", 1), ("writable", 1), ("writable", 1)])
     for number in (1, 2):
         yield serve(f"Piece {number} of the output can't be written.", 0, [], talk, number)
+
+
+# Each command, each of whose calls of the files and of the output fails.
+
+
+def calls():
+    script, count = [("open", 1), ("bytes", 1, state(1) + read(2, 0x4040, 0, 4)), ("tick", 5)], "port 851 name Plc30 App image 192 symbols 6 upload 300\nok ports 1 symbols 6 types 1\n"
+    it = ["file it.script", *(line for event in script for line in lines_of(event, ""))]
+    plant = ["file plant.toml", "from plant.toml"]
+    summary = "connections 0 requests 0 replies 0 samples 0 reloads 0 0\n"
+    commands = {
+        "check plant.toml": (plant, 1, count), "replay plant.toml it.script": (plant + it, 2, model.play(PLANT, SIGNALS, script)),
+        "selftest it.script": (it[:1], 1, summary), "migrate plant.toml": (plant, 1, None), "load 3": ([], 0, None),
+        "serve plant.toml --listen 127.0.0.1:48898 --events 9": (plant, 1, None),
+    }
+    for words, (files, readings, text) in commands.items():
+        for number in range(1, readings + 1):
+            yield run(f"Reading {number} fails.", words, [*files, f"fail-read {number}"], 4, "ads: read fault\n")
+            yield run(f"Reading {number} fails, which can't be told.", words, [*files, f"fail-read {number}", "fail-put 1"], 5, "")
+        if readings:
+            yield run("No file is there.", words, [], 4, "ads: read fault\n")
+        yield run("Not a byte of the output can be written.", words, [*files, "fail-put 1"], 5, "")
+        if text:
+            yield run("Readings beyond those of the command fail, and pieces of output beyond the first.", words, [*files, f"fail-read {readings + 1}", "fail-put 2"], 0, text)
+            for leave in (1, len(text) - 1, len(text), len(text) + 1):
+                yield run(f"The output fails behind {leave} of its {len(text)} bytes.", words, [*files, "fail-put 1", f"leave {leave}"], 5, text[:leave])
+        if plant[0] in files:
+            for said, change, line in (("breaks a rule", "change offset = 8 => offset = 2", "ads: description rule 12 item 1\n"), ("is no TOML", "change schema = 1 => schema = = 1", "ads: description syntax\n")):
+                yield run(f"The description {said}.", words, [*plant, change, *it], 2, line)
+                yield run(f"The description {said}, which can't be told.", words, [*plant, change, *it, "fail-put 1", "leave 5"], 5, line[:5])
+            yield run("The description is too long.", words, ["file plant.toml", "repeat 1048577 0123456789abcdef", *it], 12, "ads: file too long\n")
+        if "it.script" in words:
+            yield run("The third line of the script is off the grammar.", words, [*(plant if "plant" in words else []), "file it.script", "| open 1", "| tick 1", "| tick x"], 3, "ads: script line 3\n")
+            yield run("The script is too long.", words, [*(plant if "plant" in words else []), "file it.script", "repeat 1048577 0123456789abcdef"], 12, "ads: file too long\n")
+
+
+def run(said, words, lines, status, out):
+    return "\n".join([f"# `{words}`: {said}", f"words {words}", *lines, f"status {status}", "out", *[f"{'|' if line.endswith(chr(10)) else '+'} {line.rstrip(chr(10))}" for line in out.splitlines(True)]]) + "\n"
 
 
 # The descriptions that the documents show.
@@ -382,11 +455,18 @@ def main():
     with open(os.path.join(DATA, "shown.runs"), "w") as it:
         it.write("----\n".join(made))
     print(f"shown.runs: {len(made)} runs")
-    for name, runs in (("frames", frames), ("lengths", lengths), ("sums", sums), ("edges", edges), ("limits", limits), ("reloads", reloads), ("offers", offers), ("faults", faults)):
+    for name, runs in (("frames", frames), ("lengths", lengths), ("sums", sums), ("edges", edges), ("limits", limits), ("reloads", reloads), ("offers", offers), ("faults", faults), ("calls", calls)):
         made = list(runs())
         with open(os.path.join(DATA, f"hostile_{name}.runs"), "w") as it:
             it.write("----\n".join(made))
         print(f"hostile_{name}.runs: {len(made)} runs")
+    import hostile_peers  # noqa: PLC0415 (it uses this file)
+
+    for name, runs in hostile_peers.SUBJECTS.items():
+        made = list(runs())
+        with open(os.path.join(DATA, f"peer_{name}.runs"), "w") as it:
+            it.write("----\n".join(made))
+        print(f"peer_{name}.runs: {len(made)} runs")
     return 0
 
 

@@ -1,7 +1,8 @@
 #!/usr/bin/env python3
 """Random descriptions and scripts: what `ads replay` prints against a model of the protocol in plain Python (bench/model.py), byte for byte; random clients of
-`ads serve` over loopback, each of whose bytes must be the model's; and damaged descriptions and scripts, which must end with a status of their own and never crash
-or hang.
+`ads serve` over loopback, each of whose bytes must be the model's; client commands over loopback to peers that answer by the model and then damage, repeat, cut or
+leave out what they say: each byte that is sent, what is printed and the status must be those of the model of a client (bench/client.py); and damaged descriptions and
+scripts, which must end with a status of their own and never crash or hang.
 
     python3 bench/random_runs.py [--seconds N] [--seed N] [--program PATH] [--keep FOLDER]
 
@@ -11,6 +12,7 @@ seed, and its description, script and both texts are kept in the folder of --kee
 import argparse
 import os
 import random
+import re
 import socket
 import subprocess
 import sys
@@ -19,6 +21,7 @@ import time
 
 HERE = os.path.dirname(os.path.abspath(__file__))
 sys.path.insert(0, HERE)
+import client  # noqa: E402
 import model  # noqa: E402
 
 PROGRAM = os.path.join(HERE, "..", "crates", "ads", "out", "ads")
@@ -472,6 +475,180 @@ def one_served(program, seed, folder):
             it.kill()
 
 
+# Peers of client commands.
+
+
+class Device:
+    """A server that one client talks to: what it gives, until it closes the connection."""
+
+    def __init__(self, d):
+        self.server, self.closed = model.Server(d, SIGNALS), False
+        model.turn(self.server, ("open", 1), [])
+
+    def after(self, event):
+        lines = []
+        model.turn(self.server, event, lines)
+        self.closed = self.closed or any(line.startswith("shut ") for line in lines)
+        return b"".join(bytes.fromhex(line.split()[2]) for line in lines if line.startswith("out "))
+
+
+def call(r, d):
+    """A client's call, as the model of a client has it, and the words of its own."""
+    name = a_path(r, d)
+    name = name.decode("ascii") if name.isascii() and b"\0" not in name else "Main.count"
+    kind, value = r.choice(("info", "state", "control", "get", "get", "set", "set", "list", "watch", "watch", "show", "show")), None
+    symbols, types = [it for port in d["port"] for it in port["symbol"]], model.Types(d.get("type", []))
+    if symbols and r.random() < 0.7:
+        it = r.choice(symbols)
+        name, own = any_case(r, it["name"]), model.type_of(it["type"])
+        value = client.value_text(types.number(own), r.randbytes(types.size(own)))
+    if kind == "control":
+        states = [r.choice((5, 6, 6, 7)), r.randrange(65536)]
+        return [kind, *states], [*map(str, states)]
+    if kind == "set":
+        value = value if value and r.random() < 0.8 else r.choice(("0", "1", "-1", "TRUE", "''", "'a$0A'", "16#00", "255"))
+        return [kind, name, value], [name, value]
+    if kind == "watch":
+        mode, cycle, some = r.choice(("cycle", "change")), r.choice((0, 0, 200000)), r.randint(1, 4)
+        return [kind, name, mode, cycle, some], ["--mode", mode, "--cycle", str(cycle), "--count", str(some), "--", name]
+    return [kind, *([name] if kind in ("get", "show") else [])], ["--", name] if kind in ("get", "show") else []
+
+
+def note_frame(r, talker):
+    samples = b"".join(u32_of(r.choice((1, 1, 2, 77))) + u32_of(len(given)) + given for given in (r.randbytes(r.choice((0, 1, 2, 4, 9))) for _ in range(r.randrange(4))))
+    stamp = r.randbytes(8) + u32_of(r.choice((samples.count(b""), 0, 1, 2, 3))) + samples
+    payload = u32_of(r.choice((4, 4, 8, 0)) + len(stamp)) + u32_of(r.choice((1, 1, 1, 0, 2))) + stamp
+    ams = talker.me + talker.peer + model.u16(8) + model.u16(4) + u32_of(len(payload)) + bytes(8) + payload
+    return b"\0\0" + u32_of(len(ams)) + ams
+
+
+def u32_of(n):
+    return model.u32(n % 2 ** 32)
+
+
+def spoiled(r, given, talker):
+    """What a bad peer makes of an answer."""
+    it, choice = bytearray(given), r.random()
+    at = r.randrange(len(it)) if it else 0
+    if choice < 0.15:
+        for _ in range(r.randint(1, 3)):
+            it[r.randrange(len(it))] = r.randrange(256)
+    elif choice < 0.25:
+        del it[at:at + r.choice((1, 2, 30))]
+    elif choice < 0.35:
+        it[at:at] = r.randbytes(r.choice((1, 2, 30)))
+    elif choice < 0.5:
+        at = 38 + 4 * r.randrange(max((len(it) - 38) // 4, 1)) if r.random() < 0.7 else 2 * r.randrange(19)
+        own = int.from_bytes(it[at:at + 4], "little")
+        it[at:at + 4] = u32_of(r.choice((own + 1, own - 1, own * 2, 0, 1, 2 ** 31, 2 ** 32 - 1)))
+    elif choice < 0.6:
+        it = it * 2
+    elif choice < 0.7:
+        other = bytearray(it)
+        other[r.choice((6, 12, 14, 20, 22, 24, 34, 36))] ^= r.choice((1, 2, 128))
+        it = other + it
+    elif choice < 0.75:
+        it[30:34] = u32_of(r.choice((6, 7, 0x745, r.randrange(2 ** 32))))
+    elif choice < 0.8:
+        it[38:42] = u32_of(r.choice((0x710, 0x704, r.randrange(2 ** 32))))
+    elif choice < 0.9:
+        it = note_frame(r, talker) + it
+    elif choice < 0.95:
+        it = it[:at]
+    else:
+        it = bytearray()
+    return bytes(it)
+
+
+def heard(conn, count):
+    """So many bytes of a client; fewer where it ended."""
+    try:
+        return received(conn, count)
+    except OSError:
+        return b""
+
+
+def told(conn, r, given):
+    """Sends bytes in pieces. A client that is done with the call may be gone."""
+    while given:
+        cut = len(given) if r.random() < 0.5 else r.randint(1, len(given))
+        try:
+            conn.sendall(given[:cut])
+        except OSError:
+            return
+        given = given[cut:]
+        if r.random() < 0.1:
+            time.sleep(r.random() / 50)
+
+
+def conversed(conn, r, d, talker, is_good):
+    """Answers a client until the model says that its call is over; what differs, or None."""
+    device, at = Device(d), 0
+    talker.begin(0)
+    while talker.over is None:
+        frames = [part[1] for part in talker.parts[at:] if part[0] == "sent"]
+        at = len(talker.parts)
+        for frame in frames:
+            came = heard(conn, len(frame))
+            if came != frame:
+                return f"{came.hex()} was sent, {frame.hex()} was wanted"
+        if not frames and talker.wants != "hear":
+            # (an answer is waited for that will not come)
+            if r.random() < 0.03:
+                talker.over = client.Over(11, "ads: timed out ")
+                break
+            conn.shutdown(socket.SHUT_WR)
+            talker.take("closed", 0)
+            break
+        given = b"".join(device.after(("bytes", 1, frame)) for frame in frames) if frames else device.after(("tick", device.server.moment + 100000))
+        if given and not is_good and r.random() < 0.4:
+            given = spoiled(r, given, talker)
+        told(conn, r, given)
+        talker.take("bytes", 0, given)
+        if device.closed or (not frames and not given and r.random() < 0.2):
+            conn.shutdown(socket.SHUT_WR)
+            talker.take("closed", 0)
+    return None
+
+
+def one_peer(program, seed, folder):
+    """A client command over loopback to a peer that answers by the model, or not quite."""
+    r = random.Random(seed)
+    d = description(r)
+    own, words = call(r, d)
+    me = r.choice([route["net"] for route in d["route"]]) if r.random() < 0.97 else "9.9.9.9.1.1"
+    port = r.choice(d["port"])["port"] if r.random() < 0.97 else 77
+    talker = client.Client(own, me, d["net"], port)
+    with socket.socket() as listener:
+        listener.bind(("127.0.0.1", 0))
+        listener.listen(1)
+        listener.settimeout(20)
+        where = f"127.0.0.1:{listener.getsockname()[1]}"
+        command = [program, own[0], "--to", where, "--netid", d["net"], "--me", me, "--port", str(port), *(["--"] if own[0] == "set" else []), *words]
+        write(folder, "command", " ".join(command[1:]))
+        write(folder, "plant.toml", toml_of(d))
+        with subprocess.Popen(command, cwd=folder, stdout=subprocess.PIPE, stderr=subprocess.PIPE) as it:
+            try:
+                conn = listener.accept()[0]
+                with conn:
+                    conn.settimeout(20)
+                    said = conversed(conn, r, d, talker, r.random() < 0.2)
+                    out, err = it.communicate(timeout=60)
+            except (subprocess.TimeoutExpired, OSError) as fault:
+                it.kill()
+                return f"{own}: {fault}"
+    wanted = "".join(part[1] for part in talker.parts if part[0] == "put") + (talker.over.line if talker.over else "")
+    late = re.search(rb"(?<=ads: timed out )(\d+) (\d+)\n$", out)
+    if late and 50000000 <= int(late[2]) - int(late[1]) < 100000000:
+        # (by the clock)
+        out = out[:late.start()]
+    write(folder, "came", out)
+    write(folder, "wanted", wanted)
+    if said or not talker.over or it.returncode != talker.over.status or err or out.decode(errors="replace") != wanted:
+        return f"{own}: {said or ''} status {it.returncode}, {talker.over and talker.over.status} was wanted; {len(out)} bytes came, {len(wanted)} were wanted"
+    return None
+
+
 def damaged(r, text):
     given = bytearray(text.encode())
     for _ in range(r.randint(1, 4)):
@@ -516,22 +693,22 @@ def main():
     it.add_argument("--program", default=PROGRAM)
     it.add_argument("--keep", default=os.path.join(tempfile.gettempdir(), "ads_random"))
     given = it.parse_args()
-    program, begun, seed, counts, wrong = os.path.abspath(given.program), time.time(), given.seed, {"replays": 0, "served": 0, "damaged": 0}, 0
+    program, begun, seed, counts, wrong = os.path.abspath(given.program), time.time(), given.seed, {"replays": 0, "served": 0, "peers": 0, "damaged": 0}, 0
     with tempfile.TemporaryDirectory() as folder:
         while time.time() - begun < given.seconds and wrong < 10:
-            for name, one in (("replays", one_replay), ("served", one_served), ("damaged", one_damaged)):
-                said = one(program, seed, folder)
+            for name, one, own in (("replays", one_replay, seed), ("served", one_served, seed), *(("peers", one_peer, 8 * seed + k) for k in range(8)), ("damaged", one_damaged, seed)):
+                said = one(program, own, folder)
                 counts[name] += 1
                 if said:
                     wrong += 1
-                    kept = f"{given.keep}/{name}_{seed}"
+                    kept = f"{given.keep}/{name}_{own}"
                     os.makedirs(kept, exist_ok=True)
                     for file in os.listdir(folder):
                         with open(os.path.join(folder, file), "rb") as one_file:
                             write(kept, file, one_file.read())
-                    print(f"{name}, seed {seed}: {said}; kept in {kept}")
+                    print(f"{name}, seed {own}: {said}; kept in {kept}")
             seed += 1
-    print(f"{counts['replays']} scripts and {counts['served']} plants over loopback against the model, {counts['damaged']} damaged inputs, {wrong} wrong, seeds {given.seed} to {seed - 1}")
+    print(f"{counts['replays']} scripts, {counts['served']} plants and {counts['peers']} client commands over loopback against the models, {counts['damaged']} damaged inputs, {wrong} wrong, seeds {given.seed} to {seed - 1}")
     return 1 if wrong else 0
 
 

@@ -2,25 +2,29 @@
 """Refused memory: each call for memory of a run fails in turn, alone and with all behind it, and the run must end as it does with memory, or with status 10; and
 then what it printed is a beginning of what it prints with memory, and behind it a beginning of `ads: memory`.
 
-    python3 bench/refused_memory.py [--program PATH] [--most N]
+    python3 bench/refused_memory.py [--program PATH] [--most N] [--run WORD]
 
 Build the program first: in crates/ads, `rt run -- selftest ../../examples/state.script`. The runs are those below; of one with more than N calls for memory
 (2,000 unless told) every k-th fails. It prints a table, and ends with 1 where anything else came.
 """
 import argparse
 import os
+import socket
 import subprocess
 import sys
 import tempfile
+import threading
 
 HERE = os.path.dirname(os.path.abspath(__file__))
 sys.path.insert(0, HERE)
 import hostile  # noqa: E402
+import model  # noqa: E402
 from hostile import add, ask, head, read, state, sum_of, write  # noqa: E402
 
 PROGRAM = os.path.join(HERE, "..", "crates", "ads", "out", "ads")
 LINE = b"ads: memory\n"
 NAME = b"Main.count"
+WATCH = ["watch", "Main.wave", "--mode", "change", "--cycle", "0", "--count", "3"]
 RUNS = {
     "a panel, a rig, and a plant that is described anew": ["replay", "plant.toml", "plant.script"],
     "the state over the built-in description": ["selftest", "state.script"],
@@ -38,11 +42,49 @@ RUNS = {
     "a description under schema 2": ["migrate", "plant.toml"],
     "a load of 20 requests": ["load", "20"],
     **{f"a client in the same process: {said}": [*words, "--local", "plant.toml", "--me", "192.168.0.9.1.1"] for said, words in {
-        "a value": ["get", "Main.title"], "a value that is set": ["set", "Main.count", "7"], "a list": ["list"],
-        "three samples": ["watch", "Main.wave", "--mode", "change", "--cycle", "0", "--count", "3"], "a refusal": ["get", "Main.nope"]}.items()},
+        "name and version": ["info"], "the states": ["state"], "other states": ["control", "6", "0"],
+        "a value": ["get", "Main.title"], "a value that is set": ["set", "Main.count", "7"], "a list": ["list"], "the leaves of an array": ["show", "Main.axis"],
+        "three samples": WATCH, "a refusal": ["get", "Main.nope"], "a text that is no value": ["set", "Main.count", "x"]}.items()},
+    **{f"a client over a socket: {said}": [*words, "--to", "PEER", "--netid", "5.1.2.3.1.1", "--me", "192.168.0.9.1.1"] for said, words in {
+        "the states": ["state"], "a value": ["get", "Main.title"], "a value that is set": ["set", "Main.count", "7"], "a list": ["list"], "the leaves of an array": ["show", "Main.axis"],
+        "three samples": WATCH, "a refusal": ["get", "Main.nope"]}.items()},
     "a description that is refused": ["check", "overlap.toml"],
     "words that are no command": ["replay"],
 }
+
+
+class Peer(threading.Thread):
+    """A server by the model, on a port of its own: a device anew for each connection, which ticks where something is watched and nothing is asked for a while."""
+
+    def __init__(self):
+        super().__init__(daemon=True)
+        self.listener = socket.create_server(("127.0.0.1", 0))
+        self.where = f"127.0.0.1:{self.listener.getsockname()[1]}"
+
+    def run(self):
+        while True:
+            with self.listener.accept()[0] as conn:
+                conn.settimeout(0.002)
+                try:
+                    self.talk(conn)
+                except OSError:
+                    pass
+
+    @staticmethod
+    def talk(conn):
+        server = model.Server(hostile.PLANT, hostile.SIGNALS)
+        model.turn(server, ("open", 1), [])
+        while True:
+            lines = []
+            try:
+                given = conn.recv(65536)
+                if not given:
+                    return
+                model.turn(server, ("bytes", 1, given), lines)
+            except TimeoutError:
+                if server.conns[1].watches:
+                    model.turn(server, ("tick", server.moment + 100000), lines)
+            conn.sendall(b"".join(bytes.fromhex(line.split()[2]) for line in lines if line.startswith("out ")))
 
 
 def built(folder):
@@ -98,12 +140,18 @@ def main():
     it = argparse.ArgumentParser(description=__doc__, formatter_class=argparse.RawDescriptionHelpFormatter)
     it.add_argument("--program", default=PROGRAM)
     it.add_argument("--most", type=int, default=2000)
+    it.add_argument("--run", default="", help="only the runs whose name has this word")
     given = it.parse_args()
     program, wrong = os.path.abspath(given.program), 0
     print("| run | calls for memory | failed in turn | as usual | status 10 | wrong |\n|---|---|---|---|---|---|")
+    peer = Peer()
+    peer.start()
     with tempfile.TemporaryDirectory() as folder:
         shim = built(folder)
         for said, words in written(folder).items():
+            if given.run not in said:
+                continue
+            words = [peer.where if word == "PEER" else word for word in words]
             status, out, calls = ran(program, words, folder, shim, 0, False)
             counts, bad, tried = {True: 0, False: 0}, 0, 0
             for nth in range(1, calls + 1, -(-calls // given.most) or 1):
