@@ -156,6 +156,7 @@ impl Port {
     }
 
     // What stands at a range, or the size of an area.
+    #[inline(always)]
     fn read_reach(
         &self,
         alloc: Global,
