@@ -16,6 +16,7 @@ use sym_handles::Handles;
 
 /// Appends what Read gives: a value by its handle, or what the port gives of the group.
 /// Beckhoff Information System, "ADS Read".
+#[inline(always)]
 pub(crate) fn read(
     alloc: Global,
     handles: &Handles,
