@@ -9,8 +9,8 @@ PROGRAM is crates/ads/out/ads, which `rt run -- selftest ../../examples/state.sc
 
 The plant has 6,400 symbols of four bytes. Each connection asks over loopback for 100 of its own. What it must be told comes from bench/model.py: a wrong byte, or five
 seconds of nothing, ends the run with the connection and the byte. Of 20 requests of the mixture 6 are reads by group, 5 reads by handle, 2 writes by group, 2 writes
-by handle, 4 states, and one a sum of 100 reads. Each figure is the median of three turns, in which both servers come one after the other; with --quick of one short
-turn. Processor time is that of all threads of the server. Other work on the machine spoils all figures, so its load average is told first.
+by handle, 4 states, and one a sum of 100 reads. Each figure is the median of five turns, in which both servers come one after the other, and each ratio the median of the turns'
+ratios; with --quick of one short turn. Processor time is that of all threads of the server. Other work on the machine spoils all figures, so its load average is told first.
 """
 import argparse
 import contextlib
@@ -123,9 +123,16 @@ class Bench:
             return self.start(["./serve_client", port, str(process.pid), *map(str, numbers)], stdin=it)
 
     def medians(self, *numbers):
-        """Of both servers: replies a second, processor ns of each, the longest gap in ms."""
-        turns = [[figures(server, self.load(server, *numbers)) for server in self.servers] for _ in range(1 if self.quick else 3)]
-        return [[statistics.median(it) for it in zip(*rows)] for rows in zip(*turns)]
+        """Of both servers: replies a second, processor ns of each, the longest gap in ms. And the ratios of the first two to the C server's, each the median of what the turns gave."""
+        turns = [self.turn(number, numbers) for number in range(1 if self.quick else 5)]
+        ratios = [statistics.median(ads[it] / c[it] for ads, c in turns) for it in (0, 1)]
+        return [[statistics.median(it) for it in zip(*rows)] for rows in zip(*turns)], ratios
+
+    def turn(self, number, numbers):
+        """The figures of both servers, loaded one after the other, the C server first each second time."""
+        order = self.servers[:: -1 if number % 2 else 1]
+        told = [figures(server, self.load(server, *numbers)) for server in order]
+        return told[:: -1 if number % 2 else 1]
 
 
 def figures(server, client):
@@ -142,8 +149,8 @@ def requests(bench, plot):
         plan_all(lambda k: plan_of_load(k, kinds))
         lines = {(server, depth): [] for server in ("ads", "C") for depth in (32, 1)}
         for depth, count in itertools.product((32, 1), (64, 8, 1)):
-            (rate, cost, _), (c_rate, c_cost, _) = bench.medians(count, depth, 0.3 if bench.quick else 1)
-            print(f"| {name} | {count} | {depth} | {rate:,.0f} | {c_rate:,.0f} | {rate / c_rate:.2f} | {cost:,.0f} | {c_cost:,.0f} |", flush=True)
+            ((rate, cost, _), (c_rate, c_cost, _)), (ratio, _) = bench.medians(count, depth, 0.3 if bench.quick else 0.6)
+            print(f"| {name} | {count} | {depth} | {rate:,.0f} | {c_rate:,.0f} | {ratio:.2f} | {cost:,.0f} | {c_cost:,.0f} |", flush=True)
             lines["ads", depth].append((count, rate))
             lines["C", depth].append((count, c_rate))
     if plot:
@@ -152,11 +159,11 @@ def requests(bench, plot):
 
 def notes(bench):
     plan_all(lambda k: plan(k, [(6, words(0x4040, RAMP, 2, 4, 0, 0) + bytes(16))] * NOTES, [], 1))
-    rows = bench.medians(CONNECTIONS, 0, 1 if bench.quick else 4)
+    rows, (_, ratio) = bench.medians(CONNECTIONS, 0, 1 if bench.quick else 4)
     print("| server | samples a second | longest gap between two frames, ms | processor ns a sample |\n|---|---|---|---|")
     for name, (rate, cost, gap) in zip(("ads", "C"), rows):
         print(f"| {name} | {rate:,.0f} | {gap:.1f} | {cost:.0f} |")
-    print(f"\nAll there are: {100 * CONNECTIONS * NOTES:,} samples a second. Processor time: {rows[0][1] / rows[1][1]:.2f} times that of the C server.")
+    print(f"\nAll there are: {100 * CONNECTIONS * NOTES:,} samples a second. Processor time: {ratio:.2f} times that of the C server.")
 
 
 def memory(bench, minutes):
