@@ -2,8 +2,8 @@
 use Rattle.std.proofs.Common.{◌≡◌, ℕ, List, [], ◌++◌, length, sym, ap, subst, ◌∙◌}
 use Rattle.std.specs.Prelude.{replicate}
 use Rattle.std.proofs.lemmas.List.{append-nil}
-use Rattle.ads_formats.specs.Request.{Request, Write, AddDeviceNotification, access_bytes, request_fields, request_bytes}
-use Rattle.ads_formats.proofs.Appends.{two_parts, three_parts}
+use Rattle.spec_formats.specs.Request.{Request, Write, AddDeviceNotification, access_bytes, request_fields, request_bytes}
+use Rattle.spec_formats.proofs.Appends.{two_parts, three_parts}
 
 -- the payload of a Write: the access, and its data
 pub write_parts : (r : Request) (old : List ℕ) (group offset : ℕ) (bytes first second : List ℕ) → r ≡ Write group offset bytes

@@ -3,10 +3,10 @@ use Rattle.std.proofs.Common.{◌≡◌, ◌≢◌, ℕ, ◌<◌, ◌^◌, Bool,
 use Rattle.std.specs.Prelude.{replicate}
 use Rattle.std.proofs.lemmas.List.{length-replicate}
 use Rattle.std.proofs.lemmas.Bool.Decides.{eqb_tells}
-use Rattle.ads_formats.specs.Request as request
-use Rattle.ads_formats.specs.Reply as reply
-use Rattle.ads_formats.proofs.RequestLemmas.{request_of-of_text}
-use Rattle.ads_formats.proofs.ReplyLemmas.{reply_of-of_text, written_bytes-done, written_bytes-refused}
+use Rattle.spec_formats.specs.Request as request
+use Rattle.spec_formats.specs.Reply as reply
+use Rattle.spec_formats.proofs.RequestLemmas.{request_of-of_text}
+use Rattle.spec_formats.proofs.ReplyLemmas.{reply_of-of_text, written_bytes-done, written_bytes-refused}
 use Rattle.ads_commands.specs.Laws.{RequestsComeBack, RepliesComeBack, refusal_of}
 
 pub requests : RequestsComeBack

@@ -3,11 +3,11 @@ use Rattle.std.proofs.Common.{◌≡◌, ◌≢◌, ℕ, List, ◌++◌, Option,
 use Rattle.std.specs.Prelude.{◌↔◌, IfSome, option_map, replicate}
 use Rattle.std.specs.Int.{w32, to_le_bytes}
 use Rattle.ads_commands.specs.declared.reply.Reply.{Reply}
-use Rattle.ads_formats.specs.Numbers.{AreBytes}
-use Rattle.ads_formats.specs.Reply as reply
-use Rattle.ads_formats.proofs.ReplyLemmas.{reply_of-of_text, text_of-reply_of, written_bytes-done, written_bytes-refused}
+use Rattle.spec_formats.specs.Numbers.{AreBytes}
+use Rattle.spec_formats.specs.Reply as reply
+use Rattle.spec_formats.proofs.ReplyLemmas.{reply_of-of_text, text_of-reply_of, written_bytes-done, written_bytes-refused}
 use Rattle.ads_commands.specs.Reply.{IsNoReply, reply_meant}
-use Rattle.ads_formats.proofs.Appends.{two_parts}
+use Rattle.spec_formats.proofs.Appends.{two_parts}
 
 pub text_read : (o : Option Reply) (command : ℕ) (p : List ℕ) → AreBytes p → option_map reply_meant o ≡ reply.reply_of command p
     → IfSome o (λ r. reply.IsReplyPayload command p (reply_meant r))

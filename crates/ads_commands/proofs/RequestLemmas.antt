@@ -3,9 +3,9 @@ use Rattle.std.proofs.Common.{◌≡◌, ℕ, List, Option, Some, None, Err, ref
 use Rattle.std.specs.Prelude.{◌↔◌, IfOk, option_map, ok_or}
 use Rattle.ads_commands.specs.declared.request.Request.{Request}
 use Rattle.ads_commands.specs.declared.fault.ReadFault.TheVariants.{BadSize}
-use Rattle.ads_formats.specs.Numbers.{AreBytes}
-use Rattle.ads_formats.specs.Request.{IsRequestPayload, request_of}
-use Rattle.ads_formats.proofs.RequestLemmas.{request_of-of_text, text_of-request_of}
+use Rattle.spec_formats.specs.Numbers.{AreBytes}
+use Rattle.spec_formats.specs.Request.{IsRequestPayload, request_of}
+use Rattle.spec_formats.proofs.RequestLemmas.{request_of-of_text, text_of-request_of}
 use Rattle.ads_commands.specs.Request.{IsCommand, IsNoRequest, request_meant}
 
 pub text_read : (o : Option Request) (command : ℕ) (p : List ℕ) → AreBytes p → option_map request_meant o ≡ request_of command p

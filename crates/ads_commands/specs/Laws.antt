@@ -1,7 +1,7 @@
 -- What is written is read again.
 use Rattle.std.specs.Prelude.{◌≡◌, ◌<◌, ◌^◌, [], replicate, Some, ◌==◌, if◌then◌else◌}
-use Rattle.ads_formats.specs.Request as request
-use Rattle.ads_formats.specs.Reply as reply
+use Rattle.spec_formats.specs.Request as request
+use Rattle.spec_formats.specs.Reply as reply
 
 -- a request's payload is read as the request
 abbrev pub RequestsComeBack : Type 0

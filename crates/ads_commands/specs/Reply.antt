@@ -1,10 +1,10 @@
 -- Which reply of the protocol a value of `Reply` is.
 use Rattle.std.specs.Prelude.{ℕ, ◌≤◌, List, length}
-use Rattle.ads_plant.specs.Description.{Facts}
+use Rattle.spec_plant.specs.Description.{Facts}
 use Rattle.ads_commands.specs.declared.reply.DeviceFacts.{DeviceFacts}
 use Rattle.ads_commands.specs.declared.reply.Reply.{Reply}
 use Rattle.ads_commands.specs.declared.reply.Reply.TheVariants as value
-use Rattle.ads_formats.specs.Reply as reply
+use Rattle.spec_formats.specs.Reply as reply
 use Rattle.ads_commands.specs.Request.{greatest_data}
 
 abbrev pub facts_meant : DeviceFacts → Facts

@@ -2,7 +2,7 @@
 use Rattle.std.specs.Prelude.{ℕ, ◌≤◌, List, length}
 use Rattle.ads_commands.specs.declared.request.Request.{Request}
 use Rattle.ads_commands.specs.declared.request.Request.TheVariants as value
-use Rattle.ads_formats.specs.Request as request
+use Rattle.spec_formats.specs.Request as request
 
 abbrev pub request_meant : Request → request.Request
 request_meant value.DeviceInfo = request.ReadDeviceInfo

@@ -1,7 +1,7 @@
 //! Lengths of payloads: fields alone, or fields with data whose length stands in them.
 
 ghost use Rattle.std.specs.Prelude.{◌≡◌, ◌≢◌, ◌+◌, ◌≤◌, length, drop, IsTrue, ◌↔◌, MatchOption};
-ghost use Rattle.ads_formats.specs.Numbers.{number32};
+ghost use Rattle.spec_formats.specs.Numbers.{number32};
 
 use ads_base::get32;
 

@@ -1,7 +1,7 @@
 //! Replies are read.
 
 ghost use Rattle.std.specs.Prelude.{◌≡◌, ℕ, ◌<◌, ◌≤◌, ◌↔◌, length, drop, IsNone, IfSome, option_map};
-ghost use Rattle.ads_formats.specs.Reply.{IsReplyPayload, reply_of, facts_at};
+ghost use Rattle.spec_formats.specs.Reply.{IsReplyPayload, reply_of, facts_at};
 ghost use Rattle.ads_commands.specs.Reply.{IsNoReply, facts_meant, reply_meant};
 
 use crate::lengths::data_behind;
@@ -35,7 +35,7 @@ fn reply_in(command: u16, bytes: &[u8]) -> Option<Reply<'_>>
     }
 }
 
-#[tactic(auto, unfolding(ads_formats::specs::Reply::reply_of, ads_formats::specs::Reply::reply_in))]
+#[tactic(auto, unfolding(spec_formats::specs::Reply::reply_of, spec_formats::specs::Reply::reply_in))]
 fn info_in(bytes: &[u8]) -> Option<Reply<'_>>
     ensures { option_map reply_meant result ≡ reply_of 1 bytes.now }
 {
@@ -60,7 +60,7 @@ fn facts_in(bytes: &[u8]) -> DeviceFacts
     }
 }
 
-#[tactic(auto, unfolding(ads_formats::specs::Reply::reply_of, ads_formats::specs::Reply::reply_in))]
+#[tactic(auto, unfolding(spec_formats::specs::Reply::reply_of, spec_formats::specs::Reply::reply_in))]
 fn read_in(bytes: &[u8]) -> Option<Reply<'_>>
     ensures { option_map reply_meant result ≡ reply_of 2 bytes.now }
 {
@@ -68,7 +68,7 @@ fn read_in(bytes: &[u8]) -> Option<Reply<'_>>
     Some(Reply::Read(get32(bytes, 0), data))
 }
 
-#[tactic(auto, unfolding(ads_formats::specs::Reply::reply_of, ads_formats::specs::Reply::reply_in))]
+#[tactic(auto, unfolding(spec_formats::specs::Reply::reply_of, spec_formats::specs::Reply::reply_in))]
 fn write_in(bytes: &[u8]) -> Option<Reply<'_>>
     ensures { option_map reply_meant result ≡ reply_of 3 bytes.now }
 {
@@ -78,7 +78,7 @@ fn write_in(bytes: &[u8]) -> Option<Reply<'_>>
     Some(Reply::Write(get32(bytes, 0)))
 }
 
-#[tactic(auto, unfolding(ads_formats::specs::Reply::reply_of, ads_formats::specs::Reply::reply_in))]
+#[tactic(auto, unfolding(spec_formats::specs::Reply::reply_of, spec_formats::specs::Reply::reply_in))]
 fn state_in(bytes: &[u8]) -> Option<Reply<'_>>
     ensures { option_map reply_meant result ≡ reply_of 4 bytes.now }
 {
@@ -88,7 +88,7 @@ fn state_in(bytes: &[u8]) -> Option<Reply<'_>>
     Some(Reply::State(get32(bytes, 0), get16(bytes, 4), get16(bytes, 6)))
 }
 
-#[tactic(auto, unfolding(ads_formats::specs::Reply::reply_of, ads_formats::specs::Reply::reply_in))]
+#[tactic(auto, unfolding(spec_formats::specs::Reply::reply_of, spec_formats::specs::Reply::reply_in))]
 fn control_in(bytes: &[u8]) -> Option<Reply<'_>>
     ensures { option_map reply_meant result ≡ reply_of 5 bytes.now }
 {
@@ -98,7 +98,7 @@ fn control_in(bytes: &[u8]) -> Option<Reply<'_>>
     Some(Reply::Control(get32(bytes, 0)))
 }
 
-#[tactic(auto, unfolding(ads_formats::specs::Reply::reply_of, ads_formats::specs::Reply::reply_in))]
+#[tactic(auto, unfolding(spec_formats::specs::Reply::reply_of, spec_formats::specs::Reply::reply_in))]
 fn addition_in(bytes: &[u8]) -> Option<Reply<'_>>
     ensures { option_map reply_meant result ≡ reply_of 6 bytes.now }
 {
@@ -108,7 +108,7 @@ fn addition_in(bytes: &[u8]) -> Option<Reply<'_>>
     Some(Reply::Add(get32(bytes, 0), get32(bytes, 4)))
 }
 
-#[tactic(auto, unfolding(ads_formats::specs::Reply::reply_of, ads_formats::specs::Reply::reply_in))]
+#[tactic(auto, unfolding(spec_formats::specs::Reply::reply_of, spec_formats::specs::Reply::reply_in))]
 fn deletion_in(bytes: &[u8]) -> Option<Reply<'_>>
     ensures { option_map reply_meant result ≡ reply_of 7 bytes.now }
 {
@@ -118,7 +118,7 @@ fn deletion_in(bytes: &[u8]) -> Option<Reply<'_>>
     Some(Reply::Delete(get32(bytes, 0)))
 }
 
-#[tactic(auto, unfolding(ads_formats::specs::Reply::reply_of, ads_formats::specs::Reply::reply_in))]
+#[tactic(auto, unfolding(spec_formats::specs::Reply::reply_of, spec_formats::specs::Reply::reply_in))]
 fn read_write_in(bytes: &[u8]) -> Option<Reply<'_>>
     ensures { option_map reply_meant result ≡ reply_of 9 bytes.now }
 {

@@ -2,8 +2,8 @@
 
 ghost use Rattle.std.specs.Prelude.{◌≡◌, ◌≤◌, ◌++◌, length, replicate, OnOk, OnErr};
 ghost use Rattle.ads_base.specs.Octets.{Extends};
-ghost use Rattle.ads_formats.specs.Request.{data_bytes};
-ghost use Rattle.ads_formats.specs.Reply.{facts_bytes, refused_len, reply_fields, result_of, written_bytes};
+ghost use Rattle.spec_formats.specs.Request.{data_bytes};
+ghost use Rattle.spec_formats.specs.Reply.{facts_bytes, refused_len, reply_fields, result_of, written_bytes};
 ghost use Rattle.ads_commands.specs.Reply.{IsWritableReply, facts_meant, reply_meant};
 
 use crate::request_writing::append_data;

@@ -2,7 +2,7 @@
 
 ghost use Rattle.std.specs.Prelude.{◌≡◌, ℕ, ◌<◌, ◌≤◌, ◌⊎◌, ◌↔◌, IfOk, option_map};
 ghost use Rattle.std.specs.Result.{result_ok};
-ghost use Rattle.ads_formats.specs.Request.{IsRequestPayload, request_of};
+ghost use Rattle.spec_formats.specs.Request.{IsRequestPayload, request_of};
 ghost use Rattle.ads_commands.specs.Request.{IsCommand, IsNoRequest, request_meant};
 
 use crate::lengths::data_behind;
@@ -40,7 +40,7 @@ fn request_in(command: u16, bytes: &[u8]) -> Option<Request<'_>>
     }
 }
 
-#[tactic(auto, unfolding(ads_formats::specs::Request::request_of, ads_formats::specs::Request::request_in))]
+#[tactic(auto, unfolding(spec_formats::specs::Request::request_of, spec_formats::specs::Request::request_in))]
 fn info_in(bytes: &[u8]) -> Option<Request<'_>>
     ensures { option_map request_meant result ≡ request_of 1 bytes.now }
 {
@@ -50,7 +50,7 @@ fn info_in(bytes: &[u8]) -> Option<Request<'_>>
     Some(Request::DeviceInfo)
 }
 
-#[tactic(auto, unfolding(ads_formats::specs::Request::request_of, ads_formats::specs::Request::request_in))]
+#[tactic(auto, unfolding(spec_formats::specs::Request::request_of, spec_formats::specs::Request::request_in))]
 fn read_in(bytes: &[u8]) -> Option<Request<'_>>
     ensures { option_map request_meant result ≡ request_of 2 bytes.now }
 {
@@ -64,7 +64,7 @@ fn read_in(bytes: &[u8]) -> Option<Request<'_>>
     })
 }
 
-#[tactic(auto, unfolding(ads_formats::specs::Request::request_of, ads_formats::specs::Request::request_in))]
+#[tactic(auto, unfolding(spec_formats::specs::Request::request_of, spec_formats::specs::Request::request_in))]
 fn write_in(bytes: &[u8]) -> Option<Request<'_>>
     ensures { option_map request_meant result ≡ request_of 3 bytes.now }
 {
@@ -76,7 +76,7 @@ fn write_in(bytes: &[u8]) -> Option<Request<'_>>
     })
 }
 
-#[tactic(auto, unfolding(ads_formats::specs::Request::request_of, ads_formats::specs::Request::request_in))]
+#[tactic(auto, unfolding(spec_formats::specs::Request::request_of, spec_formats::specs::Request::request_in))]
 fn state_in(bytes: &[u8]) -> Option<Request<'_>>
     ensures { option_map request_meant result ≡ request_of 4 bytes.now }
 {
@@ -86,7 +86,7 @@ fn state_in(bytes: &[u8]) -> Option<Request<'_>>
     Some(Request::State)
 }
 
-#[tactic(auto, unfolding(ads_formats::specs::Request::request_of, ads_formats::specs::Request::request_in))]
+#[tactic(auto, unfolding(spec_formats::specs::Request::request_of, spec_formats::specs::Request::request_in))]
 fn control_in(bytes: &[u8]) -> Option<Request<'_>>
     ensures { option_map request_meant result ≡ request_of 5 bytes.now }
 {
@@ -98,7 +98,7 @@ fn control_in(bytes: &[u8]) -> Option<Request<'_>>
     })
 }
 
-#[tactic(auto, unfolding(ads_formats::specs::Request::request_of, ads_formats::specs::Request::request_in))]
+#[tactic(auto, unfolding(spec_formats::specs::Request::request_of, spec_formats::specs::Request::request_in))]
 fn addition_in(bytes: &[u8]) -> Option<Request<'_>>
     ensures { option_map request_meant result ≡ request_of 6 bytes.now }
 {
@@ -115,7 +115,7 @@ fn addition_in(bytes: &[u8]) -> Option<Request<'_>>
     })
 }
 
-#[tactic(auto, unfolding(ads_formats::specs::Request::request_of, ads_formats::specs::Request::request_in))]
+#[tactic(auto, unfolding(spec_formats::specs::Request::request_of, spec_formats::specs::Request::request_in))]
 fn deletion_in(bytes: &[u8]) -> Option<Request<'_>>
     ensures { option_map request_meant result ≡ request_of 7 bytes.now }
 {
@@ -127,14 +127,14 @@ fn deletion_in(bytes: &[u8]) -> Option<Request<'_>>
     })
 }
 
-#[tactic(auto, unfolding(ads_formats::specs::Request::request_of, ads_formats::specs::Request::request_in))]
+#[tactic(auto, unfolding(spec_formats::specs::Request::request_of, spec_formats::specs::Request::request_in))]
 fn note_in(bytes: &[u8]) -> Option<Request<'_>>
     ensures { option_map request_meant result ≡ request_of 8 bytes.now }
 {
     Some(Request::Note(bytes))
 }
 
-#[tactic(auto, unfolding(ads_formats::specs::Request::request_of, ads_formats::specs::Request::request_in))]
+#[tactic(auto, unfolding(spec_formats::specs::Request::request_of, spec_formats::specs::Request::request_in))]
 fn read_write_in(bytes: &[u8]) -> Option<Request<'_>>
     ensures { option_map request_meant result ≡ request_of 9 bytes.now }
 {

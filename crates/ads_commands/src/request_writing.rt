@@ -3,7 +3,7 @@
 ghost use Rattle.std.specs.Prelude.{◌≡◌, ◌≤◌, ◌++◌, length, OnOk, OnErr};
 ghost use Rattle.std.specs.Int.{w16, w32, to_le_bytes};
 ghost use Rattle.ads_base.specs.Octets.{Extends};
-ghost use Rattle.ads_formats.specs.Request.{access_bytes, data_bytes, request_bytes};
+ghost use Rattle.spec_formats.specs.Request.{access_bytes, data_bytes, request_bytes};
 ghost use Rattle.ads_commands.specs.Request.{IsWritable, request_meant};
 
 use crate::Request;

@@ -6,10 +6,10 @@ use Rattle.ads_outside.specs.declared.link_move.LinkMove.{LinkMove}
 use Rattle.ads_outside.specs.LinkState.{LinkState}
 use Rattle.ads_outside.specs.Rose.{Rose}
 use Rattle.ads_outside.specs.SinkState.{SinkState, NeverFalls}
-use Rattle.ads_client.specs.Conversation.{LoopEnd, CallEnded, Budget}
-use Rattle.ads_client.specs.Stages.{CallEnd, Done, Refused, BadPeer, BadValue, TimedOut}
-use Rattle.ads_formats.specs.Header.{AmsAddress}
-use Rattle.ads_client.specs.Calls.{Call}
+use Rattle.spec_client.specs.Conversation.{LoopEnd, CallEnded, Budget}
+use Rattle.spec_client.specs.Stages.{CallEnd, Done, Refused, BadPeer, BadValue, TimedOut}
+use Rattle.spec_formats.specs.Header.{AmsAddress}
+use Rattle.spec_client.specs.Calls.{Call}
 use Rattle.client_loop.specs.Called.{Calling, calling, AfterCall, Talks}
 use Rattle.client_loop.specs.declared.loop_end.LoopEnd as loop
 use Rattle.client_loop.specs.declared.loop_end.LoopEnd.TheVariants as end

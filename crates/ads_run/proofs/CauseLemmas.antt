@@ -13,10 +13,10 @@ use Rattle.ads_outside.specs.Named.{bytes_of}
 use Rattle.ads_outside.specs.Rose.{Rose, raised}
 use Rattle.ads_outside.specs.SinkState.{SinkState}
 use Rattle.ads_outside.specs.WireState.{WireHistory, listened}
-use Rattle.ads_plant.specs.Description.{Description}
-use Rattle.ads_machine.specs.ScriptLine.{ScriptLine}
-use Rattle.ads_rules.specs.TextVerdict.{TextVerdict, Described, Breaks, NoDocument, text_verdict}
-use Rattle.ads_product.specs.Server.{server_script}
+use Rattle.spec_plant.specs.Description.{Description}
+use Rattle.spec_machine.specs.ScriptLine.{ScriptLine}
+use Rattle.spec_rules.specs.TextVerdict.{TextVerdict, Described, Breaks, NoDocument, text_verdict}
+use Rattle.spec_server.specs.Server.{server_script}
 use Rattle.serve_loop.specs.Leads.{events_in}
 use Rattle.serve_loop.specs.TurnTaken.{raised_by}
 use Rattle.serve_loop.proofs.EndLemmas.{events-after}

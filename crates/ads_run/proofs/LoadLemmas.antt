@@ -3,9 +3,9 @@ use Rattle.std.proofs.Common.{◌≡◌, ℕ, List, ap, ◌∙◌}
 use Rattle.std.specs.Prelude.{Result, Ok, Err, IfOk}
 use Rattle.ads_base.specs.declared.no_memory.NoMemory.{NoMemory}
 use Rattle.signals.specs.Wave.{Wave}
-use Rattle.ads_machine.specs.ScriptLine.{ScriptLine}
-use Rattle.ads_plant.specs.Description.{Description}
-use Rattle.ads_rules.specs.TextVerdict.{Described}
+use Rattle.spec_machine.specs.ScriptLine.{ScriptLine}
+use Rattle.spec_plant.specs.Description.{Description}
+use Rattle.spec_rules.specs.TextVerdict.{Described}
 use Rattle.load_maker.specs.LoadDescription.{load_description}
 use Rattle.load_maker.specs.LoadScript.{load_lines}
 use Rattle.load_maker.specs.MadeLines.{script_said}

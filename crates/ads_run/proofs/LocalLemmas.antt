@@ -5,14 +5,14 @@ use Rattle.ads_base.specs.declared.no_memory.NoMemory.{NoMemory}
 use Rattle.ads_outside.specs.Puts.{Appends, AppendsPart}
 use Rattle.ads_outside.specs.Rose.{Rose}
 use Rattle.ads_outside.specs.SinkState.{SinkState, NeverFalls}
-use Rattle.ads_machine.specs.Connection.{connection_of}
-use Rattle.ads_client.specs.Conversation.{LinkAnswer, LoopEnd, CallEnded, Budget, Conversation}
-use Rattle.ads_talk.specs.CallLog.{call_log_up_to}
-use Rattle.ads_local.specs.Laws.{IsLocalCall}
-use Rattle.ads_local.specs.LinkLog.{IsLogOf, cutting_of}
-use Rattle.ads_local.proofs.CallLogs.{calls_are_local}
-use Rattle.ads_local.proofs.LinkLogs.{first_parts, call_logs_begin}
-use Rattle.ads_product.specs.Server.{server, server_start}
+use Rattle.spec_machine.specs.Connection.{connection_of}
+use Rattle.spec_client.specs.Conversation.{LinkAnswer, LoopEnd, CallEnded, Budget, Conversation}
+use Rattle.spec_client.specs.CallLog.{call_log_up_to}
+use Rattle.spec_local.specs.Laws.{IsLocalCall}
+use Rattle.spec_local.specs.LinkLog.{IsLogOf, cutting_of}
+use Rattle.spec_local.proofs.CallLogs.{calls_are_local}
+use Rattle.spec_local.proofs.LinkLogs.{first_parts, call_logs_begin}
+use Rattle.spec_server.specs.Server.{server, server_start}
 use Rattle.client_loop.specs.Called.{Calling, calling, over, AfterCall, Talks, BreaksOff}
 use Rattle.client_loop.specs.declared.loop_end.LoopEnd as loop
 use Rattle.client_loop.specs.declared.loop_end.LoopEnd.TheVariants as end

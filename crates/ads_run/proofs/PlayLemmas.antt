@@ -3,15 +3,15 @@ use Rattle.std.proofs.Common.{◌≡◌, List, [], ◌++◌, refl, ap, ◌∙◌
 use Rattle.signals.specs.Wave.{Wave}
 use Rattle.ads_outside.specs.declared.moves.Move.{Move}
 use Rattle.ads_outside.specs.declared.reload_note.ReloadNote.{ReloadNote}
-use Rattle.ads_plant.specs.Description.{Description}
-use Rattle.ads_machine.specs.LogText.{log_text_of}
-use Rattle.ads_machine.specs.MachineState.{MachineState}
-use Rattle.ads_machine.specs.Moves.{state_after}
-use Rattle.ads_machine.specs.RunText.{notes_of_event, notes_of, text_of_log}
-use Rattle.ads_machine.specs.ScriptLine.{ScriptLine}
-use Rattle.ads_machine.specs.Summary.{summary_of}
-use Rattle.ads_machine.specs.SummaryText.{summary_text_of}
-use Rattle.ads_product.specs.Server.{server_start, server_text}
+use Rattle.spec_plant.specs.Description.{Description}
+use Rattle.spec_machine.specs.LogText.{log_text_of}
+use Rattle.spec_machine.specs.MachineState.{MachineState}
+use Rattle.spec_machine.specs.Moves.{state_after}
+use Rattle.spec_machine.specs.RunText.{notes_of_event, notes_of, text_of_log}
+use Rattle.spec_machine.specs.ScriptLine.{ScriptLine}
+use Rattle.spec_machine.specs.Summary.{summary_of}
+use Rattle.spec_machine.specs.SummaryText.{summary_text_of}
+use Rattle.spec_server.specs.Server.{server_start, server_text}
 use Rattle.ads_run.specs.Load.{counts_of_play}
 use Rattle.ads_served.specs.Standing.{Standing, standing_after_all}
 use Rattle.replay_script.specs.Playing.{IsUnused, IsPlay}

@@ -2,23 +2,23 @@
 use Rattle.std.proofs.Common.{◌≡◌, ℕ, List, [], ◌∷◌, ◌++◌, refl, sym, ap, ◌∙◌, append-nil, subst}
 use Rattle.signals.specs.Wave.{Wave}
 use Rattle.ads_outside.specs.declared.moves.Move.{Move}
-use Rattle.ads_plant.specs.Description.{Description}
-use Rattle.ads_plant.specs.World.{byte_at}
-use Rattle.ads_machine.specs.MachineState.{MachineState}
-use Rattle.ads_machine.specs.Moves.{state_after_move, state_after}
-use Rattle.ads_machine.specs.World.{World, world_of}
-use Rattle.ads_machine.specs.Client.{Client}
-use Rattle.ads_machine.specs.ScriptLine.{ScriptLine}
-use Rattle.ads_machine.specs.Turns.{KeepsTurns}
-use Rattle.ads_machine.specs.Delivery.{AreOffers}
-use Rattle.ads_machine.specs.Answers.{all_answered}
-use Rattle.ads_machine.proofs.Changes.{state_after-append}
-use Rattle.ads_machine.proofs.TurnsKept.{offers_whole, takes_output}
-use Rattle.ads_machine.proofs.ServerDelivers.{server_only_adds, server_takes_output, server_takes_all}
-use Rattle.ads_laws.proofs.Exact.{changes_only_by_writes}
-use Rattle.ads_product.specs.Server.{read_description, server_device, server, server_start, server_after, server_play}
-use Rattle.ads_product.specs.ServerLaws.{IsUntouchedHere}
-use Rattle.ads_product.proofs.ServerProofs.{server_plays_in_turns, server_is_isolated, server_takes_as_alone, server_refuses_dead_handles}
+use Rattle.spec_plant.specs.Description.{Description}
+use Rattle.spec_plant.specs.World.{byte_at}
+use Rattle.spec_machine.specs.MachineState.{MachineState}
+use Rattle.spec_machine.specs.Moves.{state_after_move, state_after}
+use Rattle.spec_machine.specs.World.{World, world_of}
+use Rattle.spec_machine.specs.Client.{Client}
+use Rattle.spec_machine.specs.ScriptLine.{ScriptLine}
+use Rattle.spec_machine.specs.Turns.{KeepsTurns}
+use Rattle.spec_machine.specs.Delivery.{AreOffers}
+use Rattle.spec_machine.specs.Answers.{all_answered}
+use Rattle.spec_machine.proofs.Changes.{state_after-append}
+use Rattle.spec_machine.proofs.TurnsKept.{offers_whole, takes_output}
+use Rattle.spec_machine.proofs.ServerDelivers.{server_only_adds, server_takes_output, server_takes_all}
+use Rattle.spec_laws.proofs.Exact.{changes_only_by_writes}
+use Rattle.spec_server.specs.Server.{read_description, server_device, server, server_start, server_after, server_play}
+use Rattle.spec_server.specs.ServerLaws.{IsUntouchedHere}
+use Rattle.spec_server.proofs.ServerProofs.{server_plays_in_turns, server_is_isolated, server_takes_as_alone, server_refuses_dead_handles}
 use Rattle.ads_run.specs.Promises.{GivesFramesInOrder, ChangesByWrites, IsServedAsAlone, BeginsAsAlone, KeepsPromises, KeepsPromisesSoFar, PlayKeepsPromises}
 
 frames_in_order : (d : Description) (waves : List Wave) (log : List Move) → KeepsTurns server (server_start d waves) log

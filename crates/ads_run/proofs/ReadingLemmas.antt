@@ -11,7 +11,7 @@ use Rattle.ads_outside.specs.Named.{bytes_of}
 use Rattle.ads_outside.specs.Reads.{Reads}
 use Rattle.ads_outside.specs.Rose.{Rose}
 use Rattle.signals.specs.Wave.{Wave}
-use Rattle.ads_rules.specs.TextVerdict.{text_verdict}
+use Rattle.spec_rules.specs.TextVerdict.{text_verdict}
 use Rattle.ads_base.specs.declared.no_memory.NoMemory.{NoMemory}
 use Rattle.ads_run.specs.declared.file_task.FileTask.{FileTask}
 use Rattle.ads_run.specs.declared.file_task.FileTask.TheVariants as file_task

@@ -9,8 +9,8 @@ use Rattle.ads_outside.specs.LinkState.{LinkState}
 use Rattle.ads_outside.specs.Named.{bytes_of}
 use Rattle.ads_outside.specs.SinkState.{SinkState}
 use Rattle.ads_outside.specs.WireState.{WireHistory}
-use Rattle.ads_plant.specs.Description.{Description}
-use Rattle.ads_rules.specs.TextVerdict.{TextVerdict, Described, Breaks, NoDocument, text_verdict}
+use Rattle.spec_plant.specs.Description.{Description}
+use Rattle.spec_rules.specs.TextVerdict.{TextVerdict, Described, Breaks, NoDocument, text_verdict}
 use Rattle.client_loop.specs.Called.{Calling}
 use Rattle.symbol_file.specs.declared.fault.DescFault.{DescFault}
 use Rattle.symbol_file.specs.declared.fault.DescFault.TheVariants as fault

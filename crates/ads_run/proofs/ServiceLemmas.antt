@@ -10,18 +10,18 @@ use Rattle.ads_outside.specs.Rose.{Rose}
 use Rattle.ads_outside.specs.SinkState.{SinkState}
 use Rattle.ads_outside.specs.WireAnswers.{Stops}
 use Rattle.ads_outside.specs.WireState.{WireState, WireHistory, history_after, end_answered, listened}
-use Rattle.ads_plant.specs.Description.{Description}
-use Rattle.ads_machine.specs.Connection.{connection_of}
-use Rattle.ads_machine.specs.Delivery.{AreOffers}
-use Rattle.ads_machine.specs.MachineState.{MachineState}
-use Rattle.ads_machine.specs.RunText.{notes_of_event}
-use Rattle.ads_machine.specs.Turns.{KeepsTurns}
-use Rattle.ads_rules.specs.TextVerdict.{TextVerdict, Described, text_verdict}
+use Rattle.spec_plant.specs.Description.{Description}
+use Rattle.spec_machine.specs.Connection.{connection_of}
+use Rattle.spec_machine.specs.Delivery.{AreOffers}
+use Rattle.spec_machine.specs.MachineState.{MachineState}
+use Rattle.spec_machine.specs.RunText.{notes_of_event}
+use Rattle.spec_machine.specs.Turns.{KeepsTurns}
+use Rattle.spec_rules.specs.TextVerdict.{TextVerdict, Described, text_verdict}
 use Rattle.symbol_file.specs.declared.fault.DescFault.{DescFault}
 use Rattle.symbol_file.specs.declared.fault.DescFault.TheVariants as fault
 use Rattle.symbol_file.specs.Reading.{answer_of, IsVerdict}
 use Rattle.type_layout.specs.declared.description.Description as layout
-use Rattle.ads_product.specs.Server.{server, server_start, server_after}
+use Rattle.spec_server.specs.Server.{server, server_start, server_after}
 use Rattle.ads_served.specs.Standing.{Standing, standing_after_all}
 use Rattle.replay_script.proofs.StandingPlayed.{state_played}
 use Rattle.serve_loop.specs.Leads.{events_in}

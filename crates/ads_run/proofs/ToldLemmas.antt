@@ -8,10 +8,10 @@ use Rattle.std.proofs.lemmas.Option.{slice_get_within}
 use Rattle.std.proofs.lemmas.List.{length-map}
 use Rattle.std.proofs.lemmas.List.Folds.{list_all-map}
 use Rattle.std.proofs.lemmas.List.Sums.{AllPass-from_list_all}
-use Rattle.ads_plant.specs.Listed.{NamedType, Elem, Plain, Text, Struct, Enum, Shape, One, Array}
-use Rattle.ads_plant.specs.Description.{Sizes}
-use Rattle.ads_plant.specs.AcceptedTypes.{all_pairs, is_elem, is_shape, are_bounds}
-use Rattle.ads_plant.specs.Accepted.{IsAccepted, are_facts, are_two_names, are_apart, is_symbol, is_port}
+use Rattle.spec_plant.specs.Listed.{NamedType, Elem, Plain, Text, Struct, Enum, Shape, One, Array}
+use Rattle.spec_plant.specs.Description.{Sizes}
+use Rattle.spec_plant.specs.AcceptedTypes.{all_pairs, is_elem, is_shape, are_bounds}
+use Rattle.spec_plant.specs.Accepted.{IsAccepted, are_facts, are_two_names, are_apart, is_symbol, is_port}
 use Rattle.type_layout.specs.Shapes.{shape_of}
 use Rattle.type_layout.specs.Spelled.{IsThere, NamesThere}
 use Rattle.type_layout.specs.NamedTypes.{types_of}

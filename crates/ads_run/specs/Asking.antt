@@ -1,11 +1,11 @@
 -- What a client asks, and of whom.
 use Rattle.std.specs.Prelude.{ℕ, List, if◌then◌else◌}
 use Rattle.ads_base.specs.declared.net_id.NetId.{NetId}
-use Rattle.ads_formats.specs.Header.{AmsAddress}
-use Rattle.ads_client.specs.Calls.{Call, Info, State, Control, Get, Set, Symbols, Watch, Show, SERVER_CYCLE, SERVER_ON_CHANGE}
+use Rattle.spec_formats.specs.Header.{AmsAddress}
+use Rattle.spec_client.specs.Calls.{Call, Info, State, Control, Get, Set, Symbols, Watch, Show, SERVER_CYCLE, SERVER_ON_CHANGE}
 use Rattle.cli_words.specs.declared.client_words.ClientWords.{ClientWords}
 use Rattle.signals.specs.Wave.{Wave}
-use Rattle.ads_plant.specs.Description.{Description}
+use Rattle.spec_plant.specs.Description.{Description}
 use Rattle.ads_run.specs.declared.client_task.ClientTask.{ClientTask}
 use Rattle.ads_run.specs.declared.client_task.ClientTask.TheVariants as ask
 

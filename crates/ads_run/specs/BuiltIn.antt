@@ -1,7 +1,7 @@
 -- The description that `selftest` plays on: one machine that may do everything, and one port without symbols.
 -- This project's own choice.
 use Rattle.std.specs.Prelude.{[], ◌∷◌, ◌++◌, codes}
-use Rattle.ads_plant.specs.Description.{Control, Description}
+use Rattle.spec_plant.specs.Description.{Control, Description}
 
 abbrev pub built_in : Description
 built_in = record {

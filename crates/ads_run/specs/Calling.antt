@@ -6,10 +6,10 @@ use Rattle.ads_outside.specs.LinkState.{LinkState}
 use Rattle.ads_outside.specs.Puts.{Appends, AppendsPart}
 use Rattle.ads_outside.specs.Rose.{Rose}
 use Rattle.ads_outside.specs.SinkState.{SinkState, NeverFalls}
-use Rattle.ads_client.specs.Conversation.{LoopEnd, CallEnded, Budget, Conversation}
-use Rattle.ads_client.specs.Stages.{CallEnd, Done, Refused, BadPeer, BadValue, TimedOut}
-use Rattle.ads_local.specs.LocalCall.{Cutting, local_call, local_call_within}
-use Rattle.ads_product.specs.Server.{server, server_start}
+use Rattle.spec_client.specs.Conversation.{LoopEnd, CallEnded, Budget, Conversation}
+use Rattle.spec_client.specs.Stages.{CallEnd, Done, Refused, BadPeer, BadValue, TimedOut}
+use Rattle.spec_local.specs.LocalCall.{Cutting, local_call, local_call_within}
+use Rattle.spec_server.specs.Server.{server, server_start}
 use Rattle.client_loop.specs.Called.{Calling, AfterCall}
 use Rattle.client_loop.specs.declared.loop_end.LoopEnd as loop
 use Rattle.client_loop.specs.declared.loop_end.LoopEnd.TheVariants as end

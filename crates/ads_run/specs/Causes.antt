@@ -6,8 +6,8 @@ use Rattle.ads_outside.specs.Rose.{Rose, raised}
 use Rattle.ads_outside.specs.SinkState.{SinkState}
 use Rattle.ads_outside.specs.WireState.{WireHistory}
 use Rattle.serve_loop.specs.TurnTaken.{raised_by}
-use Rattle.ads_client.specs.Conversation.{LinkAnswer, LoopEnd}
-use Rattle.ads_local.specs.LocalCall.{Cutting}
+use Rattle.spec_client.specs.Conversation.{LinkAnswer, LoopEnd}
+use Rattle.spec_local.specs.LocalCall.{Cutting}
 use Rattle.cli_words.specs.declared.client_words.ClientWords.{ClientWords}
 use Rattle.cli_words.specs.declared.client_words.PeerWords.{PeerWords}
 use Rattle.cli_words.specs.declared.client_words.PeerWords.TheVariants as peer

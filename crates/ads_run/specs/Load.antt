@@ -1,11 +1,11 @@
 -- What `load N` prints: the counts of the play of the made script over the made description.
 use Rattle.std.specs.Prelude.{ℕ, List}
 use Rattle.signals.specs.Wave.{Wave}
-use Rattle.ads_plant.specs.Description.{Description}
-use Rattle.ads_machine.specs.ScriptLine.{ScriptLine}
-use Rattle.ads_machine.specs.Summary.{summary_of}
-use Rattle.ads_machine.specs.SummaryText.{summary_text_of}
-use Rattle.ads_product.specs.Server.{server_after, server_play}
+use Rattle.spec_plant.specs.Description.{Description}
+use Rattle.spec_machine.specs.ScriptLine.{ScriptLine}
+use Rattle.spec_machine.specs.Summary.{summary_of}
+use Rattle.spec_machine.specs.SummaryText.{summary_text_of}
+use Rattle.spec_server.specs.Server.{server_after, server_play}
 use Rattle.load_maker.specs.MadeLines.{script_said}
 use Rattle.load_maker.specs.LoadScript.{load_lines}
 use Rattle.load_maker.specs.LoadDescription.{load_description}

@@ -4,7 +4,7 @@ use Rattle.ads_outside.specs.declared.named_file.NamedFile.{NamedFile}
 use Rattle.ads_outside.specs.Limit.{file_limit}
 use Rattle.ads_outside.specs.Named.{bytes_of}
 use Rattle.signals.specs.Wave.{Wave}
-use Rattle.ads_plant.specs.Description.{Description}
+use Rattle.spec_plant.specs.Description.{Description}
 use Rattle.ads_served.specs.Standing.{Standing}
 use Rattle.server_core.specs.CoreState.{started}
 use Rattle.server_core.specs.Served.{World, Client}

@@ -4,18 +4,18 @@ use Rattle.signals.specs.Wave.{Wave}
 use Rattle.ads_outside.specs.declared.end.End.{End}
 use Rattle.ads_outside.specs.declared.end.End.TheVariants as end
 use Rattle.ads_outside.specs.declared.moves.Move.{Move}
-use Rattle.ads_plant.specs.Description.{Description}
-use Rattle.ads_plant.specs.World.{ByteName, byte_at}
-use Rattle.ads_machine.specs.Offers.{taken_of}
-use Rattle.ads_machine.specs.Turns.{KeepsTurns}
-use Rattle.ads_machine.specs.Projection.{projection_of}
-use Rattle.ads_machine.specs.Answers.{all_answered}
-use Rattle.ads_machine.specs.ScriptLine.{ScriptLine}
-use Rattle.ads_machine.specs.Delivery.{IsPrefix, is_short, is_cut_off}
-use Rattle.ads_laws.specs.Isolation.{IsAmong}
-use Rattle.ads_laws.specs.ExactWrites.{writes_of_move, is_accepted_reload}
-use Rattle.ads_product.specs.Server.{read_description, server, server_start, server_after, server_output, server_play}
-use Rattle.ads_product.specs.ServerLaws.{IsUntouchedHere, ServerRefusesDeadHandles}
+use Rattle.spec_plant.specs.Description.{Description}
+use Rattle.spec_plant.specs.World.{ByteName, byte_at}
+use Rattle.spec_machine.specs.Offers.{taken_of}
+use Rattle.spec_machine.specs.Turns.{KeepsTurns}
+use Rattle.spec_machine.specs.Projection.{projection_of}
+use Rattle.spec_machine.specs.Answers.{all_answered}
+use Rattle.spec_machine.specs.ScriptLine.{ScriptLine}
+use Rattle.spec_machine.specs.Delivery.{IsPrefix, is_short, is_cut_off}
+use Rattle.spec_laws.specs.Isolation.{IsAmong}
+use Rattle.spec_laws.specs.ExactWrites.{writes_of_move, is_accepted_reload}
+use Rattle.spec_server.specs.Server.{read_description, server, server_start, server_after, server_output, server_play}
+use Rattle.spec_server.specs.ServerLaws.{IsUntouchedHere, ServerRefusesDeadHandles}
 
 -- each connection takes the machine's frames in their order
 pub record GivesFramesInOrder (d : Description) (waves : List Wave) (log : List Move) : Type 0 where

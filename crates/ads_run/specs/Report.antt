@@ -1,11 +1,11 @@
 -- What `check` prints of a description: a line a port, and a line of counts. This project's own format; 10 is the line
 -- feed.
 use Rattle.std.specs.Prelude.{ℕ, List, [], ◌∷◌, ◌++◌, length, flat_map, sum_by, take_while, not, ◌==◌, codes}
-use Rattle.ads_plant.specs.Listed.{NamedType}
-use Rattle.ads_plant.specs.Description.{Port, Description}
-use Rattle.ads_plant.specs.Entries.{upload_size}
-use Rattle.ads_plant.specs.Accepted.{image_size}
-use Rattle.ads_machine.specs.SummaryText.{counted}
+use Rattle.spec_plant.specs.Listed.{NamedType}
+use Rattle.spec_plant.specs.Description.{Port, Description}
+use Rattle.spec_plant.specs.Entries.{upload_size}
+use Rattle.spec_plant.specs.Accepted.{image_size}
+use Rattle.spec_machine.specs.SummaryText.{counted}
 
 -- the bytes before the first NUL
 abbrev pub before_nul : List ℕ → List ℕ

@@ -5,13 +5,13 @@ use Rattle.ads_outside.specs.declared.end.End.{End}
 use Rattle.ads_outside.specs.declared.end.End.TheVariants as end
 use Rattle.ads_outside.specs.declared.listening.Listening.{Listening}
 use Rattle.ads_outside.specs.declared.moves.Move.{Move}
-use Rattle.ads_plant.specs.Description.{Description}
-use Rattle.ads_machine.specs.Client.{Client}
-use Rattle.ads_machine.specs.MachineState.{MachineState}
-use Rattle.ads_machine.specs.Summary.{summary_of}
-use Rattle.ads_machine.specs.SummaryText.{summary_text_of}
-use Rattle.ads_machine.specs.World.{World}
-use Rattle.ads_product.specs.Server.{server_after}
+use Rattle.spec_plant.specs.Description.{Description}
+use Rattle.spec_machine.specs.Client.{Client}
+use Rattle.spec_machine.specs.MachineState.{MachineState}
+use Rattle.spec_machine.specs.Summary.{summary_of}
+use Rattle.spec_machine.specs.SummaryText.{summary_text_of}
+use Rattle.spec_machine.specs.World.{World}
+use Rattle.spec_server.specs.Server.{server_after}
 use Rattle.ads_run.specs.declared.status.Status.{Status}
 use Rattle.ads_run.specs.declared.status.Status.TheVariants as status
 use Rattle.ads_run.specs.Ending.{Ending, line_alone}

@@ -2,9 +2,9 @@
 use Rattle.std.specs.Prelude.{ℕ, List, [], ◌∷◌, ◌++◌, ◌==◌, if◌then◌else◌, codes}
 use Rattle.std.specs.Fmt.{decimal}
 use Rattle.ads_base.specs.declared.peer.Peer.TheVariants as peer
-use Rattle.ads_client.specs.EndLines.{status_of_end, last_line_of_end}
-use Rattle.ads_client.specs.Stages.{CallEnd, Refused, BadPeer, TimedOut, BadValue}
-use Rattle.ads_machine.specs.SummaryText.{counted}
+use Rattle.spec_client.specs.EndLines.{status_of_end, last_line_of_end}
+use Rattle.spec_client.specs.Stages.{CallEnd, Refused, BadPeer, TimedOut, BadValue}
+use Rattle.spec_machine.specs.SummaryText.{counted}
 use Rattle.ads_run.specs.declared.status.Status.{Status}
 use Rattle.ads_run.specs.declared.status.Status.TheVariants as status
 

@@ -1,8 +1,8 @@
 -- What is needed of a port to tell of it; no public clause cites this.
 use Rattle.std.specs.Prelude.{◌≤◌, List, length, All}
-use Rattle.ads_plant.specs.Listed.{NamedType}
-use Rattle.ads_plant.specs.Entries.{upload_size}
-use Rattle.ads_plant.specs.Accepted.{image_size, IMAGE_LIMIT}
+use Rattle.spec_plant.specs.Listed.{NamedType}
+use Rattle.spec_plant.specs.Entries.{upload_size}
+use Rattle.spec_plant.specs.Accepted.{image_size, IMAGE_LIMIT}
 use Rattle.type_layout.specs.Shapes.{shape_of}
 use Rattle.type_layout.specs.Spelled.{NamesThere}
 use Rattle.type_layout.specs.Descriptions.{sizes_of, symbols_of}

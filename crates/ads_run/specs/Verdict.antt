@@ -5,10 +5,10 @@ use Rattle.ads_outside.specs.declared.named_file.NamedFile.{NamedFile}
 use Rattle.ads_outside.specs.Limit.{file_limit}
 use Rattle.ads_outside.specs.Named.{bytes_of}
 use Rattle.signals.specs.Wave.{Wave}
-use Rattle.ads_plant.specs.Description.{Description}
-use Rattle.ads_machine.specs.ScriptLine.{ScriptLine}
-use Rattle.ads_rules.specs.TextVerdict.{TextVerdict, Described, Breaks, NoDocument, text_verdict}
-use Rattle.ads_product.specs.Server.{server_script, server_text}
+use Rattle.spec_plant.specs.Description.{Description}
+use Rattle.spec_machine.specs.ScriptLine.{ScriptLine}
+use Rattle.spec_rules.specs.TextVerdict.{TextVerdict, Described, Breaks, NoDocument, text_verdict}
+use Rattle.spec_server.specs.Server.{server_script, server_text}
 use Rattle.description_migration.specs.Migration.{migrated_text}
 use Rattle.cli_words.specs.declared.client_words.ClientWords.{ClientWords}
 use Rattle.cli_words.specs.declared.client_words.PeerWords.{PeerWords}

@@ -3,8 +3,8 @@
 ghost use Rattle.std.specs.Prelude.{◌<◌, ◌^◌, ◌≡◌, [], List, length};
 ghost use Rattle.ads_outside.specs.Named.{bytes_of};
 ghost use Rattle.ads_outside.specs.Rose.{Rose};
-ghost use Rattle.ads_plant.specs.Description as plant;
-ghost use Rattle.ads_product.specs.Server.{server_start};
+ghost use Rattle.spec_plant.specs.Description as plant;
+ghost use Rattle.spec_server.specs.Server.{server_start};
 ghost use Rattle.ams_header.specs.Header.{address_of};
 ghost use Rattle.client_loop.specs.Called.{calling};
 ghost use Rattle.local_link.specs.Link.{IsTold};

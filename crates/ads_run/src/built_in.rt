@@ -1,7 +1,7 @@
 //! The description that `selftest` plays on.
 
 ghost use Rattle.std.specs.Prelude.{◌≡◌, ℕ, [], ◌∷◌, IfOk};
-ghost use Rattle.ads_plant.specs.Accepted.{IsAccepted};
+ghost use Rattle.spec_plant.specs.Accepted.{IsAccepted};
 ghost use Rattle.type_layout.specs.Descriptions.{description_of, port_of};
 ghost use Rattle.ads_run.specs.BuiltIn.{built_in};
 

@@ -1,7 +1,7 @@
 //! `check`: a description is read, and told of.
 
 ghost use Rattle.std.specs.Prelude.{IfOk};
-ghost use Rattle.ads_rules.specs.TextVerdict.{text_verdict};
+ghost use Rattle.spec_rules.specs.TextVerdict.{text_verdict};
 ghost use Rattle.ads_run.specs.Verdict.{verdict_of_check, ended as verdict_ended};
 ghost use Rattle.ads_run.specs.Outcomes.{IsOutcome, IsOfBytes, status_of_fault};
 
@@ -13,7 +13,7 @@ use std::alloc::Global;
 use symbol_file::{DescFault, read};
 
 /// The outcome of `check` over the bytes of a description, for this number of signals.
-#[tactic(auto, unfolding(ads_rules::specs::TextVerdict::text_verdict))]
+#[tactic(auto, unfolding(spec_rules::specs::TextVerdict::text_verdict))]
 pub fn check(alloc: Global, bytes: &[u8], signals: u32) -> Result<Outcome, NoMemory>
     ensures is { IfOk result (IsOutcome (verdict_of_check signals bytes.now)) }
     ensures status { IfOk result (λ o. IsOfBytes o.status) }

@@ -1,7 +1,7 @@
 //! The call that a client's words ask for.
 
 ghost use Rattle.std.specs.Prelude.{◌≡◌, IfOk, if◌then◌else◌};
-ghost use Rattle.ads_client.specs.Calls.{SERVER_CYCLE, SERVER_ON_CHANGE};
+ghost use Rattle.spec_client.specs.Calls.{SERVER_CYCLE, SERVER_ON_CHANGE};
 ghost use Rattle.client_replies.specs.Sound.{HasShortTexts};
 ghost use Rattle.client_replies.specs.Stages.{call_meant, mode_meant};
 ghost use Rattle.ads_run.specs.Asking.{call_asked};

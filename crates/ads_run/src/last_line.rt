@@ -1,10 +1,10 @@
 //! The line that tells how a run ended.
 
 ghost use Rattle.std.specs.Prelude.{◌≡◌, ◌++◌, ◌∷◌, [], codes, IfOk, OnOk};
-ghost use Rattle.ads_client.specs.EndLines.{behind_number};
-ghost use Rattle.ads_client.specs.Printed.{hexadecimal};
-ghost use Rattle.ads_formats.specs.Codes.{text_of_code};
-ghost use Rattle.ads_machine.specs.SummaryText.{counted};
+ghost use Rattle.spec_client.specs.EndLines.{behind_number};
+ghost use Rattle.spec_client.specs.Printed.{hexadecimal};
+ghost use Rattle.spec_formats.specs.Codes.{text_of_code};
+ghost use Rattle.spec_machine.specs.SummaryText.{counted};
 ghost use Rattle.ads_run.specs.StatusTable.{last_line_of, description_line};
 
 use crate::status::Status;

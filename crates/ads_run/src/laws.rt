@@ -1,10 +1,10 @@
 //! What holds of every log in turns, whatever wire it was kept over.
 
 ghost use Rattle.std.specs.Prelude.{List};
-ghost use Rattle.ads_machine.specs.Turns.{KeepsTurns};
+ghost use Rattle.spec_machine.specs.Turns.{KeepsTurns};
 ghost use Rattle.ads_outside.specs.declared.moves.Move.{Move};
-ghost use Rattle.ads_plant.specs.Description.{Description};
-ghost use Rattle.ads_product.specs.Server.{server, server_start};
+ghost use Rattle.spec_plant.specs.Description.{Description};
+ghost use Rattle.spec_server.specs.Server.{server, server_start};
 ghost use Rattle.ads_run.specs.Promises.{KeepsPromises};
 ghost use Rattle.signals.specs.Wave.{Wave};
 

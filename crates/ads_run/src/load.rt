@@ -1,8 +1,8 @@
 //! `load`: a made script is played on a made description.
 
 ghost use Rattle.std.specs.Prelude.{◌<◌, ◌^◌, ◌≡◌, ◌≤◌, IfOk, length};
-ghost use Rattle.ads_product.specs.Server.{server_script};
-ghost use Rattle.ads_rules.specs.TextVerdict.{Described, text_verdict};
+ghost use Rattle.spec_server.specs.Server.{server_script};
+ghost use Rattle.spec_rules.specs.TextVerdict.{Described, text_verdict};
 ghost use Rattle.load_maker.specs.LoadDescription.{load_description};
 ghost use Rattle.load_maker.specs.LoadScript.{load_lines};
 ghost use Rattle.load_maker.specs.MadeLines.{script_said};

@@ -1,12 +1,12 @@
 //! The play of a script on a description: what is printed of it.
 
 ghost use Rattle.std.specs.Prelude.{◌≡◌, ◌<◌, ◌^◌, ◌++◌, [], IfOk, length};
-ghost use Rattle.ads_plant.specs.Accepted.{IsAccepted};
-ghost use Rattle.ads_machine.specs.LogText.{log_text_of};
-ghost use Rattle.ads_machine.specs.Summary.{summary_of};
-ghost use Rattle.ads_machine.specs.SummaryText.{summary_text_of};
+ghost use Rattle.spec_plant.specs.Accepted.{IsAccepted};
+ghost use Rattle.spec_machine.specs.LogText.{log_text_of};
+ghost use Rattle.spec_machine.specs.Summary.{summary_of};
+ghost use Rattle.spec_machine.specs.SummaryText.{summary_text_of};
 ghost use Rattle.type_layout.specs.Descriptions.{description_of};
-ghost use Rattle.ads_product.specs.Server.{server_text};
+ghost use Rattle.spec_server.specs.Server.{server_text};
 ghost use Rattle.ads_run.specs.Load.{counts_of_play};
 ghost use Rattle.ads_served.specs.Standing.{Standing};
 ghost use Rattle.replay_script.specs.Fresh.{OpenNew};

@@ -4,8 +4,8 @@ ghost use Rattle.std.specs.Prelude.{◌<◌, ◌^◌, ◌≡◌, ◌≤◌, ◌�
 ghost use Rattle.ads_outside.specs.FilesState.{ReadsAll, ReadsSome};
 ghost use Rattle.ads_outside.specs.Named.{bytes_of};
 ghost use Rattle.ads_outside.specs.Rose.{Rose};
-ghost use Rattle.ads_plant.specs.Accepted.{IsAccepted};
-ghost use Rattle.ads_rules.specs.TextVerdict.{text_verdict};
+ghost use Rattle.spec_plant.specs.Accepted.{IsAccepted};
+ghost use Rattle.spec_rules.specs.TextVerdict.{text_verdict};
 ghost use Rattle.type_layout.specs.Descriptions.{description_of};
 ghost use Rattle.ads_run.specs.Verdict.{verdict_of_file, verdict_of_script, verdict_of_replay, verdict_of_file_task};
 ghost use Rattle.ads_run.specs.Outcomes.{Decides, IsOfScriptFile, IsOfFileTask};

@@ -1,7 +1,7 @@
 //! A script is played on a description.
 
 ghost use Rattle.std.specs.Prelude.{◌<◌, ◌^◌, ◌≤◌, IfOk, length};
-ghost use Rattle.ads_plant.specs.Accepted.{IsAccepted};
+ghost use Rattle.spec_plant.specs.Accepted.{IsAccepted};
 ghost use Rattle.type_layout.specs.Descriptions.{description_of};
 ghost use Rattle.ads_run.specs.Verdict.{verdict_of_script};
 ghost use Rattle.ads_run.specs.Outcomes.{IsOutcome, IsOfScript};

@@ -1,8 +1,8 @@
 //! The counts of a server, as they are printed.
 
 ghost use Rattle.std.specs.Prelude.{◌≡◌, ◌++◌, IfOk, OnOk, OnErr};
-ghost use Rattle.ads_machine.specs.Summary.{summary_of};
-ghost use Rattle.ads_machine.specs.SummaryText.{summary_text_of};
+ghost use Rattle.spec_machine.specs.Summary.{summary_of};
+ghost use Rattle.spec_machine.specs.SummaryText.{summary_text_of};
 ghost use Rattle.ads_served.specs.Standing.{Standing};
 ghost use Rattle.replay_script.specs.Shown.{summary_from};
 ghost use Rattle.server_core.specs.Counts.{counts_in};

@@ -2,8 +2,8 @@
 
 ghost use Rattle.std.specs.Prelude.{◌<◌, ◌^◌, ◌≡◌, ◌≢◌, length, List, ℕ, None, Some, true, false, map, string_bytes};
 ghost use Rattle.ads_outside.specs.Rose.{Rose};
-ghost use Rattle.ads_plant.specs.Description as plant;
-ghost use Rattle.ads_machine.specs.ScriptLine.{ScriptLine};
+ghost use Rattle.spec_plant.specs.Description as plant;
+ghost use Rattle.spec_machine.specs.ScriptLine.{ScriptLine};
 ghost use Rattle.ads_run.specs.Calling.{used};
 ghost use Rattle.ads_run.specs.Causes.{HasCause, IsBeforeRun, IsOwnEnd, NothingFailed, is_service};
 ghost use Rattle.ads_run.specs.Ending.{line_alone};

@@ -4,14 +4,14 @@ use Rattle.std.specs.Prelude.{◌==◌, Option, Some, None, option_map}
 use Rattle.std.proofs.lemmas.Bool.{cases_eq, cond-true, cond-false}
 use Rattle.std.proofs.lemmas.Bool.Decides.{nat_tests}
 use Rattle.ads_outside.specs.declared.event.Event.TheVariants as event
-use Rattle.ads_machine.specs.Connection.{Connection, connection_of, put_back, fresh_connection}
-use Rattle.ads_machine.specs.Device.{Device, Reloading, Accepted, Refused}
-use Rattle.ads_machine.specs.Events.{state_after_event, after_reload, connection_after_tick, connection_after_reload, moment_of_tick}
-use Rattle.ads_machine.specs.MachineState.{MachineState, Exchange, exchange_of, after_exchange}
-use Rattle.ads_machine.specs.Moves.{with_gone}
-use Rattle.ads_machine.specs.Piece.{after_piece}
-use Rattle.ads_machine.proofs.Find.{test_same, test_other, or_else, connection_of-append, connection_of-map}
-use Rattle.ads_machine.proofs.Growth.{connection_after_tick-grows, connection_after_reload-grows}
+use Rattle.spec_machine.specs.Connection.{Connection, connection_of, put_back, fresh_connection}
+use Rattle.spec_machine.specs.Device.{Device, Reloading, Accepted, Refused}
+use Rattle.spec_machine.specs.Events.{state_after_event, after_reload, connection_after_tick, connection_after_reload, moment_of_tick}
+use Rattle.spec_machine.specs.MachineState.{MachineState, Exchange, exchange_of, after_exchange}
+use Rattle.spec_machine.specs.Moves.{with_gone}
+use Rattle.spec_machine.specs.Piece.{after_piece}
+use Rattle.spec_machine.proofs.Find.{test_same, test_other, or_else, connection_of-append, connection_of-map}
+use Rattle.spec_machine.proofs.Growth.{connection_after_tick-grows, connection_after_reload-grows}
 use Rattle.ads_served.specs.Opened.{OpensAlone, is_opened}
 
 same_found : {C : Type 0} (n : ℕ) (k : Connection C) (ks : List (Connection C)) → k.number ≡ n → connection_of n (k ∷ ks) ≡ Some k

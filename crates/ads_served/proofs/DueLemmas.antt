@@ -1,8 +1,8 @@
 -- Which lists of numbers leave out idle connections alone.
 use Rattle.std.proofs.Common.{◌≡◌, ℕ, List, [], ◌∷◌, true, false, refl, ap}
 use Rattle.std.specs.Prelude.{filter, Bool, ◌||◌, Option, Some, None, is_some}
-use Rattle.ads_machine.specs.MachineState.{present_numbers}
-use Rattle.ads_machine.specs.Running.{Running, offer_at, is_to_be_shut_at}
+use Rattle.spec_machine.specs.MachineState.{present_numbers}
+use Rattle.spec_machine.specs.Running.{Running, offer_at, is_to_be_shut_at}
 use Rattle.ads_served.specs.Due.{LeavesOutIdle, is_due}
 
 filter_all : (ns : List ℕ) → ns ≡ filter (λ n. true) ns

@@ -1,7 +1,7 @@
 -- Which connections of a running machine have something to be offered, or are to be shut.
 use Rattle.std.specs.Prelude.{◌≡◌, ℕ, ◌≤◌, List, length, filter, Bool, false, ◌||◌, is_some, Option, Some, None}
-use Rattle.ads_machine.specs.MachineState.{present_numbers}
-use Rattle.ads_machine.specs.Running.{Running, offer_at, is_to_be_shut_at}
+use Rattle.spec_machine.specs.MachineState.{present_numbers}
+use Rattle.spec_machine.specs.Running.{Running, offer_at, is_to_be_shut_at}
 
 -- at most as many bytes as are offered
 abbrev pub FitsOffer : ℕ → Option (List ℕ) → Type 0

@@ -2,9 +2,9 @@
 use Rattle.std.specs.Prelude.{◌≡◌, ℕ, List, [], ◌∷◌, false, None}
 use Rattle.ads_outside.specs.declared.event.Event.{Event}
 pub use Rattle.ads_outside.specs.Opened.{opened_by, is_opened}
-use Rattle.ads_machine.specs.Connection.{Connection, connection_of}
-use Rattle.ads_machine.specs.MachineState.{MachineState}
-use Rattle.ads_machine.specs.Moves.{EventStep}
+use Rattle.spec_machine.specs.Connection.{Connection, connection_of}
+use Rattle.spec_machine.specs.MachineState.{MachineState}
+use Rattle.spec_machine.specs.Moves.{EventStep}
 
 -- no two connections have one number
 abbrev pub AreApart : {C : Type 0} → List (Connection C) → Type 0

@@ -1,8 +1,8 @@
 -- A header's fields, read and written.
 use Rattle.std.proofs.Common.{◌≡◌, ℕ, List, [], ◌∷◌, ◌++◌, length, get_or, refl, sym, ap, subst, ◌∙◌, arith}
-use Rattle.ads_formats.specs.Numbers.{number16, number32}
-use Rattle.ads_formats.specs.Header.{AmsAddress, AmsHeader, address_at, header_bytes, payload_of}
-use Rattle.ads_formats.proofs.HeaderLemmas.{header_at}
+use Rattle.spec_formats.specs.Numbers.{number16, number32}
+use Rattle.spec_formats.specs.Header.{AmsAddress, AmsHeader, address_at, header_bytes, payload_of}
+use Rattle.spec_formats.proofs.HeaderLemmas.{header_at}
 
 -- the header whose fields were read
 pub header_at-is : (ams : List ℕ) (t s : AmsAddress) (c f l e i : ℕ) → t ≡ address_at 0 ams → s ≡ address_at 8 ams

@@ -1,6 +1,6 @@
 -- Which AMS header a value of `Header` is. Beckhoff Information System, "AMS Header".
 use Rattle.ads_base.specs.declared.ams_addr.AmsAddr.{AmsAddr}
-use Rattle.ads_formats.specs.Header.{AmsAddress, AmsHeader}
+use Rattle.spec_formats.specs.Header.{AmsAddress, AmsHeader}
 use Rattle.ams_header.specs.declared.header.Header.{Header}
 
 abbrev pub address_of : AmsAddr → AmsAddress

@@ -1,7 +1,7 @@
 //! The AMS header of 32 bytes.
 
 ghost use Rattle.std.specs.Prelude.{◌≡◌, ◌+◌, ◌<◌, ◌≤◌, ◌++◌, ◌↔◌, length, drop, IsNone, IfSome, Some};
-ghost use Rattle.ads_formats.specs.Header.{address_bytes, address_at, header_bytes, header_of, payload_of, response_header};
+ghost use Rattle.spec_formats.specs.Header.{address_bytes, address_at, header_bytes, header_of, payload_of, response_header};
 ghost use Rattle.ams_header.specs.Header.{address_of, ams_header_of};
 
 use ads_base::{AmsAddr, NetId, get16, get32};

@@ -1,8 +1,8 @@
 -- What the six tests of a header show of the front of a text.
 use Rattle.std.proofs.Common.{◌≡◌, ◌≢◌, ℕ, ◌<◌, ◌≤◌, List, length, get_or, true, false}
 use Rattle.std.proofs.lemmas.Bool.{and_from, and_left, and_right, eq-eqb, ne_eqb, le-leb, lt-leb}
-use Rattle.ads_frames.specs.Division.{Broken, front_of, is_header, ams_length_of}
-use Rattle.ads_frames.proofs.FrontLemmas.{front_of-broken}
+use Rattle.spec_frames.specs.Division.{Broken, front_of, is_header, ams_length_of}
+use Rattle.spec_frames.proofs.FrontLemmas.{front_of-broken}
 
 pub is_header-true : (text : List ℕ) → get_or text 0 0 ≡ 0 → get_or text 1 0 ≡ 0 → 32 ≤ ams_length_of text → ams_length_of text ≤ 2097152 → is_header text ≡ true
 unfolding is_header

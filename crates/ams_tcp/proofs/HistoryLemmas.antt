@@ -4,8 +4,8 @@ use Rattle.std.specs.Prelude.{Some, None}
 use Rattle.std.proofs.lemmas.Bool.{cases_lt}
 use Rattle.std.proofs.lemmas.List.{length-append}
 use Rattle.std.proofs.lemmas.Option.{slice_get-get_or, slice_get_past}
-use Rattle.ads_frames.specs.Division.{Whole, Open, Broken, front_of, frames_of, left_behind, rest_of, packet_of, behind_frame, ams_length_of}
-use Rattle.ads_frames.proofs.DivisionLemmas.{frames_of-append, left_behind-append, left_behind-more, next_frame, is_next, is_rest}
+use Rattle.spec_frames.specs.Division.{Whole, Open, Broken, front_of, frames_of, left_behind, rest_of, packet_of, behind_frame, ams_length_of}
+use Rattle.spec_frames.proofs.DivisionLemmas.{frames_of-append, left_behind-append, left_behind-more, next_frame, is_next, is_rest}
 use Rattle.ams_tcp.specs.Held.{Held}
 use Rattle.ams_tcp.specs.History.{History, Represents, after_feed, answer_of, answer_for, answer_for_rest, after_next, after_answer, broken_of}
 use Rattle.ams_tcp.specs.declared.cut.Cut.TheVariants as cut

@@ -1,6 +1,6 @@
 -- What stands at the front of a text, as the code tells it. No public clause cites this file.
 use Rattle.std.specs.Prelude.{◌≡◌, ℕ, ◌+◌, ◌≤◌, List, length}
-use Rattle.ads_frames.specs.Division.{Whole, Open, Broken, front_of, ams_length_of}
+use Rattle.spec_frames.specs.Division.{Whole, Open, Broken, front_of, ams_length_of}
 use Rattle.ams_tcp.specs.declared.front.Front.{Front}
 use Rattle.ams_tcp.specs.declared.front.Front.TheVariants as front
 

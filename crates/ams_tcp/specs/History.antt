@@ -1,8 +1,8 @@
 -- The framing law: what a splitter answers is a function of all bytes that it was fed.
 use Rattle.std.specs.Prelude.{◌≡◌, ℕ, ◌+◌, ◌≤◌, List, [], ◌++◌, length, take, slice_get}
 use Rattle.std.specs.Prelude.{Bool, true, false, if◌then◌else◌, Option, Some, None}
-use Rattle.ads_frames.specs.Frame.{IsAmsPacket}
-use Rattle.ads_frames.specs.Division.{Front, Whole, Open, Broken, front_of, frames_of, left_behind, rest_of}
+use Rattle.spec_frames.specs.Frame.{IsAmsPacket}
+use Rattle.spec_frames.specs.Division.{Front, Whole, Open, Broken, front_of, frames_of, left_behind, rest_of}
 use Rattle.ams_tcp.specs.Held.{Held}
 use Rattle.ams_tcp.specs.declared.cut.Cut.{Cut}
 use Rattle.ams_tcp.specs.declared.cut.Cut.TheVariants as cut

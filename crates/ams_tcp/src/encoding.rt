@@ -1,7 +1,7 @@
 //! The frame of an AMS packet.
 
 ghost use Rattle.std.specs.Prelude.{◌≡◌, ◌++◌, OnOk, OnErr};
-ghost use Rattle.ads_frames.specs.Frame.{IsAmsPacket, frame_bytes};
+ghost use Rattle.spec_frames.specs.Frame.{IsAmsPacket, frame_bytes};
 
 use ads_base::{NoMemory, Octets};
 use std::alloc::Global;

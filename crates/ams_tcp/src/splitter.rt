@@ -21,7 +21,7 @@ pub struct Splitter {
 
 impl Model for Splitter {
     ghost use Rattle.std.specs.Prelude.{◌≡◌, ◌≤◌, length, drop, IsTrue};
-    ghost use Rattle.ads_frames.specs.Division.{front_of, Broken};
+    ghost use Rattle.spec_frames.specs.Division.{front_of, Broken};
     ghost use Rattle.ams_tcp.specs.Held.{Held};
 
     ghost Value = { Held };

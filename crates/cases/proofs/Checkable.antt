@@ -3,8 +3,8 @@ use Rattle.std.proofs.Common.{◌≡◌, ℕ, true, false, nat_eq, List, length,
 use Rattle.std.specs.List.{list_any}
 use Rattle.std.specs.Option.{option_map_or}
 use Rattle.std.proofs.lemmas.Bool.{eqb-true, false≢true}
-use Rattle.ads_formats.specs.Ranges.{Range}
-use Rattle.ads_machine.specs.Watches.{Watch, is_due}
+use Rattle.spec_formats.specs.Ranges.{Range}
+use Rattle.spec_machine.specs.Watches.{Watch, is_due}
 use Rattle.index_groups.specs.Access.{range_meant}
 use Rattle.notify_table.specs.declared.spec.Spec.{Spec}
 use Rattle.notify_table.specs.Specs.{new_watch, before_checks}

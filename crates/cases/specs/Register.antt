@@ -2,10 +2,10 @@
 -- and has no bytes.
 use Rattle.std.specs.Prelude.{ℕ, List, [], length, nat_lt, not, ◌||◌, ◌==◌, if◌then◌else◌}
 use Rattle.std.specs.Int.{w32, to_le_bytes}
-use Rattle.ads_formats.specs.Codes.{no_error, invalid_group, invalid_size}
-use Rattle.ads_formats.specs.Numbers.{number32}
-use Rattle.ads_formats.specs.Request.{Request, Read, Write, ReadWrite}
-use Rattle.ads_machine.specs.Acts.{Outcome}
+use Rattle.spec_formats.specs.Codes.{no_error, invalid_group, invalid_size}
+use Rattle.spec_formats.specs.Numbers.{number32}
+use Rattle.spec_formats.specs.Request.{Request, Read, Write, ReadWrite}
+use Rattle.spec_machine.specs.Acts.{Outcome}
 
 abbrev pub gives : List ℕ → Outcome
 gives bytes = record { code = no_error; bytes = bytes }

@@ -2,10 +2,10 @@
 use Rattle.std.proofs.Common.{◌≡◌, ℕ, zero, suc, ◌<◌, List, [], ◌∷◌, length, get_or, false, arith}
 use Rattle.std.specs.Prelude.{All}
 use Rattle.signals.specs.Wave.{Wave}
-use Rattle.ads_plant.specs.Description.{Description}
-use Rattle.ads_plant.specs.World.{Plant}
-use Rattle.ads_machine.specs.Client.{new_client}
-use Rattle.ads_machine.specs.World.{world_of}
+use Rattle.spec_plant.specs.Description.{Description}
+use Rattle.spec_plant.specs.World.{Plant}
+use Rattle.spec_machine.specs.Client.{new_client}
+use Rattle.spec_machine.specs.World.{world_of}
 use Rattle.port_device.specs.Holds.{HoldsPorts}
 use Rattle.port_device.specs.PortMemory.{PortsMemory}
 use Rattle.session.specs.Served.{IsServed}

@@ -2,8 +2,8 @@
 
 ghost use Rattle.std.specs.Prelude.{◌≡◌, IfOk, false};
 ghost use Rattle.type_layout.specs.Descriptions.{description_of};
-ghost use Rattle.ads_plant.specs.World.{Plant};
-ghost use Rattle.ads_machine.specs.Client.{new_client};
+ghost use Rattle.spec_plant.specs.World.{Plant};
+ghost use Rattle.spec_machine.specs.Client.{new_client};
 ghost use Rattle.port_device.specs.Holds.{WasAccepted};
 ghost use Rattle.session.specs.StandsFor.{StandsFor};
 

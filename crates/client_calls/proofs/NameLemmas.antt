@@ -1,9 +1,9 @@
 -- The parts of a sum, one behind another.
 use Rattle.std.proofs.Common.{◌≡◌, ℕ, suc, ◌+◌, ◌<◌, ◌≤◌, List, [], ◌∷◌, ◌++◌, length, get_or, drop, refl, sym, ap, ◌∙◌, append_assoc, arith, add-one, drop-cons}
 use Rattle.std.proofs.lemmas.List.{append-nil, drop_all}
-use Rattle.ads_formats.specs.Groups.{value_by_handle}
-use Rattle.ads_formats.specs.Request.{access_bytes}
-use Rattle.ads_client.specs.ReadNames.{handle_parts}
+use Rattle.spec_formats.specs.Groups.{value_by_handle}
+use Rattle.spec_formats.specs.Request.{access_bytes}
+use Rattle.spec_client.specs.ReadNames.{handle_parts}
 
 abbrev pub Along : List ℕ → List ℕ → ℕ → List ℕ → Type 0
 Along hs ss i parts = parts ++ handle_parts (drop i hs) (drop i ss) ≡ handle_parts hs ss

@@ -5,12 +5,12 @@ use Rattle.std.proofs.lemmas.List.{append-nil, take-append-drop}
 use Rattle.std.proofs.lemmas.List.Elements.{filter-append}
 use Rattle.std.proofs.lemmas.Option.{slice_get_within, get_or_from_slice_get}
 use Rattle.ads_base.specs.declared.peer.Peer.{Peer}
-use Rattle.ads_frames.specs.Division.{frames_of}
-use Rattle.ads_frames.proofs.DivisionLemmas.{frames_of-left_behind}
-use Rattle.ads_formats.specs.Header.{AmsAddress}
-use Rattle.ads_formats.specs.Request.{Request, command_of}
-use Rattle.ads_client.specs.Heard as spec
-use Rattle.ads_client.specs.Unanswered.{Unanswered, is_timed_out, outstanding_count}
+use Rattle.spec_frames.specs.Division.{frames_of}
+use Rattle.spec_frames.proofs.DivisionLemmas.{frames_of-left_behind}
+use Rattle.spec_formats.specs.Header.{AmsAddress}
+use Rattle.spec_formats.specs.Request.{Request, command_of}
+use Rattle.spec_client.specs.Heard as spec
+use Rattle.spec_client.specs.Unanswered.{Unanswered, is_timed_out, outstanding_count}
 use Rattle.ads_commands.specs.Request.{request_meant, IsWritable}
 use Rattle.ads_commands.specs.declared.request.Request as asked
 use Rattle.ads_commands.specs.declared.request.Request.TheVariants as asking
@@ -19,18 +19,18 @@ use Rattle.client_core.specs.declared.heard.Heard as heard
 use Rattle.client_core.specs.declared.heard.Heard.TheVariants as told
 use Rattle.client_core.specs.declared.heard.Issued as issued
 use Rattle.client_core.specs.declared.heard.Outstanding.{Outstanding}
-use Rattle.ads_client.specs.Client.{Client, new_client, Issued, issued_by, client_after_issue, packets_left, is_full, request_frame, next_id}
-use Rattle.ads_client.specs.PassedOver.{says_something}
-use Rattle.ads_client.specs.Hearing.{next_hearing, samples_in, hearings_left}
-use Rattle.ads_client.specs.History.{ClientMove, Issue, Fed, Tick, Next, ClientHistory, client_after, client_after_move, heard_after, issued_after}
-use Rattle.ads_client.specs.Calls.{Call}
-use Rattle.ads_client.specs.Stages as stages
-use Rattle.ads_client.specs.Stages.{ToSend, ToPrint}
-use Rattle.ads_client.specs.Steps.{begun, after_heard}
-use Rattle.ads_client.specs.Runner as runner
-use Rattle.ads_client.specs.Runner.{Runner, Turned, turned, given, turn, is_over, is_not_yet, new_runner, runner_after_feed, runner_after_tick, runner_after_hearing}
-use Rattle.ads_client.specs.Laws.{goes_on}
-use Rattle.ads_client.proofs.Hearings.{hearings_fall}
+use Rattle.spec_client.specs.Client.{Client, new_client, Issued, issued_by, client_after_issue, packets_left, is_full, request_frame, next_id}
+use Rattle.spec_client.specs.PassedOver.{says_something}
+use Rattle.spec_client.specs.Hearing.{next_hearing, samples_in, hearings_left}
+use Rattle.spec_client.specs.History.{ClientMove, Issue, Fed, Tick, Next, ClientHistory, client_after, client_after_move, heard_after, issued_after}
+use Rattle.spec_client.specs.Calls.{Call}
+use Rattle.spec_client.specs.Stages as stages
+use Rattle.spec_client.specs.Stages.{ToSend, ToPrint}
+use Rattle.spec_client.specs.Steps.{begun, after_heard}
+use Rattle.spec_client.specs.Runner as runner
+use Rattle.spec_client.specs.Runner.{Runner, Turned, turned, given, turn, is_over, is_not_yet, new_runner, runner_after_feed, runner_after_tick, runner_after_hearing}
+use Rattle.spec_client.specs.Laws.{goes_on}
+use Rattle.spec_client.proofs.Hearings.{hearings_fall}
 use Rattle.client_core.specs.Kept.{Kept, waiting_count}
 use Rattle.client_core.specs.Represents.{StandsFor as CoreStands, Represents as CoreRepresents, Streams, IsNextFrame}
 use Rattle.client_replies.specs.Sound.{HasShortTexts, HasShortData, IsSound}

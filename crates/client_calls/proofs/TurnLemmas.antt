@@ -1,14 +1,14 @@
 -- Turns of a runner that gives nothing, and what is left to be heard.
 use Rattle.std.proofs.Common.{◌≡◌, ℕ, ◌+◌, ◌≤◌, ◌<◌, List, [], ◌∷◌, ◌++◌, length, drop, Bool, true, false, refl, sym, ap, ◌∙◌, arith}
 use Rattle.ads_base.specs.declared.peer.Peer.{Peer}
-use Rattle.ads_client.specs.Heard.{Heard, Answered, Sampled, Ended, Stray, TimedOut, NotYet, Broken}
-use Rattle.ads_client.specs.Client.{Client}
-use Rattle.ads_client.specs.Hearing.{Hearing, next_hearing}
-use Rattle.ads_client.specs.Stages.{CallEnd, BadPeer, Output, Stage, Finished}
-use Rattle.ads_client.specs.Steps.{after_heard}
-use Rattle.ads_client.specs.Runner.{Runner, CallStep, Wait, Over, Turned, turned, given, is_not_yet, is_over, runner_after_hearing, turn}
-use Rattle.ads_client.specs.Laws.{turn_hearing, turn_of_stage, turn_by_cases, goes_on}
-use Rattle.ads_client.proofs.TurnCases.{turn_cases}
+use Rattle.spec_client.specs.Heard.{Heard, Answered, Sampled, Ended, Stray, TimedOut, NotYet, Broken}
+use Rattle.spec_client.specs.Client.{Client}
+use Rattle.spec_client.specs.Hearing.{Hearing, next_hearing}
+use Rattle.spec_client.specs.Stages.{CallEnd, BadPeer, Output, Stage, Finished}
+use Rattle.spec_client.specs.Steps.{after_heard}
+use Rattle.spec_client.specs.Runner.{Runner, CallStep, Wait, Over, Turned, turned, given, is_not_yet, is_over, runner_after_hearing, turn}
+use Rattle.spec_client.specs.Laws.{turn_hearing, turn_of_stage, turn_by_cases, goes_on}
+use Rattle.spec_client.proofs.TurnCases.{turn_cases}
 
 pub turn_given : (now : ℕ) (r : Runner) (output : Output) (outputs : List Output) → r.pending ≡ output ∷ outputs
     → turn now r ≡ given now output (record r { pending = outputs })

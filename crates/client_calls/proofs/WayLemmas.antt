@@ -1,7 +1,7 @@
 -- A turn on its way.
 use Rattle.std.proofs.Common.{◌≡◌, ℕ, ◌+◌, ◌*◌, ◌^◌, ◌≤◌, ◌<◌, List, [], ◌∷◌, length, refl, sym, ap, ◌∙◌, subst, arith, lit≤}
-use Rattle.ads_client.specs.Stages.{Output}
-use Rattle.ads_client.specs.Runner.{Runner, Turned, turn}
+use Rattle.spec_client.specs.Stages.{Output}
+use Rattle.spec_client.specs.Runner.{Runner, Turned, turn}
 use Rattle.client_calls.specs.Kept.{RunnerKept, hearings_kept, turns_left, with_first}
 use Rattle.client_calls.specs.Represents.{StandsFor, IsGoingOn}
 use Rattle.client_calls.specs.Steps.{step_meant, UnlessOver, IfGives}

@@ -1,10 +1,10 @@
 -- What a runner keeps, as contracts see it: less than its history.
 use Rattle.std.specs.Prelude.{ℕ, ◌+◌, ◌*◌, ◌^◌, List, [], ◌∷◌, ◌++◌, length, filter, sum_by, Option, Some, None}
-use Rattle.ads_frames.specs.Division.{frames_of}
-use Rattle.ads_client.specs.Unanswered.{is_timed_out}
-use Rattle.ads_client.specs.PassedOver.{says_something}
-use Rattle.ads_client.specs.Hearing.{samples_in}
-use Rattle.ads_client.specs.Stages.{Output, Stage}
+use Rattle.spec_frames.specs.Division.{frames_of}
+use Rattle.spec_client.specs.Unanswered.{is_timed_out}
+use Rattle.spec_client.specs.PassedOver.{says_something}
+use Rattle.spec_client.specs.Hearing.{samples_in}
+use Rattle.spec_client.specs.Stages.{Output, Stage}
 use Rattle.client_core.specs.Kept.{Kept}
 
 pub record RunnerKept : Type 0 where

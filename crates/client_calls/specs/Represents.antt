@@ -1,9 +1,9 @@
 -- What a runner keeps stands for a runner of the definitions: whatever turn it has then, it gives what that one gives.
 use Rattle.std.specs.Prelude.{◌≡◌}
-use Rattle.ads_formats.specs.Header.{AmsAddress}
-use Rattle.ads_client.specs.Client.{new_client}
-use Rattle.ads_client.specs.History.{ClientHistory, client_after}
-use Rattle.ads_client.specs.Runner.{Runner}
+use Rattle.spec_formats.specs.Header.{AmsAddress}
+use Rattle.spec_client.specs.Client.{new_client}
+use Rattle.spec_client.specs.History.{ClientHistory, client_after}
+use Rattle.spec_client.specs.Runner.{Runner}
 use Rattle.client_core.specs.Represents.{Represents}
 use Rattle.client_replies.specs.Sound.{IsSound}
 use Rattle.client_calls.specs.Kept.{RunnerKept}

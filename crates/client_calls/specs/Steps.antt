@@ -1,6 +1,6 @@
 -- Which step of the definitions a step is.
 use Rattle.std.specs.Prelude.{ℕ}
-use Rattle.ads_client.specs.Runner as runner
+use Rattle.spec_client.specs.Runner as runner
 use Rattle.client_replies.specs.Stages.{end_meant}
 use Rattle.client_calls.specs.declared.call_step.CallStep.{CallStep}
 use Rattle.client_calls.specs.declared.call_step.CallStep.TheVariants as step

@@ -1,8 +1,8 @@
 -- What the parts of a turn do, over every runner that is stood for. No public clause cites this file.
 use Rattle.std.specs.Prelude.{◌≡◌, ℕ, ◌<◌, ◌≤◌, ◌^◌, [], length, Option, Some, None}
-use Rattle.ads_client.specs.Heard.{Heard}
-use Rattle.ads_client.specs.Steps.{after_heard}
-use Rattle.ads_client.specs.Runner.{Runner, turn}
+use Rattle.spec_client.specs.Heard.{Heard}
+use Rattle.spec_client.specs.Steps.{after_heard}
+use Rattle.spec_client.specs.Runner.{Runner, turn}
 use Rattle.client_calls.specs.Kept.{RunnerKept, hearings_kept, turns_left}
 use Rattle.client_calls.specs.Represents.{StandsFor, IsGoingOn}
 use Rattle.client_calls.specs.Steps.{step_meant, UnlessOver, IfGives}

@@ -1,7 +1,7 @@
 //! What a call does when something is heard.
 
 ghost use Rattle.std.specs.Prelude.{◌≡◌, IfOk};
-ghost use Rattle.ads_client.specs.Steps as steps;
+ghost use Rattle.spec_client.specs.Steps as steps;
 ghost use Rattle.client_core.specs.Heard.{heard_meant};
 ghost use Rattle.client_replies.specs.Stages.{stage_kept, progress_kept};
 
@@ -13,7 +13,7 @@ use client_replies::{
 use std::alloc::Global;
 
 /// What is heard is taken in.
-#[tactic(auto, unfolding(ads_client::specs::Steps::after_heard))]
+#[tactic(auto, unfolding(spec_client::specs::Steps::after_heard))]
 pub(crate) fn after_heard(alloc: Global, stage: Stage, heard: Heard) -> Result<Progress, NoMemory>
     ensures { IfOk result (λ p. progress_kept p ≡ steps.after_heard (stage_kept stage) (heard_meant heard)) }
 {

@@ -1,11 +1,11 @@
 //! One sum command that reads several symbols by their handles.
 
 ghost use Rattle.std.specs.Prelude.{◌≡◌, ◌≤◌, ◌<◌, ◌+◌, ◌*◌, ◌^◌, ◌++◌, [], ◌∷◌, length, sum, IfOk, OnOk, OnErr, IsErr, ◌↔◌};
-ghost use Rattle.ads_formats.specs.Header.{AmsAddress};
-ghost use Rattle.ads_formats.specs.Request.{access_bytes};
-ghost use Rattle.ads_client.specs.History.{ClientHistory, Issue, issued_after};
-ghost use Rattle.ads_client.specs.ReadNames.{handle_parts, read_names_request};
-ghost use Rattle.ads_client.specs.Unanswered.{MAX_OUTSTANDING, outstanding_count};
+ghost use Rattle.spec_formats.specs.Header.{AmsAddress};
+ghost use Rattle.spec_formats.specs.Request.{access_bytes};
+ghost use Rattle.spec_client.specs.History.{ClientHistory, Issue, issued_after};
+ghost use Rattle.spec_client.specs.ReadNames.{handle_parts, read_names_request};
+ghost use Rattle.spec_client.specs.Unanswered.{MAX_OUTSTANDING, outstanding_count};
 ghost use Rattle.client_core.specs.Heard.{issued_meant};
 ghost use Rattle.client_core.specs.Represents.{Represents};
 

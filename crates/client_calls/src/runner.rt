@@ -2,9 +2,9 @@
 
 ghost use Rattle.std.specs.Prelude.{◌≡◌, ◌<◌, [], false, IfOk, OnOk, OnErr, MatchOption};
 ghost use Rattle.ams_header.specs.Header.{address_of};
-ghost use Rattle.ads_client.specs.Runner.{new_runner, runner_after_feed, runner_after_tick, turn, is_over};
-ghost use Rattle.ads_client.specs.Runner.{Runner as Spec};
-ghost use Rattle.ads_client.specs.Stages as stages;
+ghost use Rattle.spec_client.specs.Runner.{new_runner, runner_after_feed, runner_after_tick, turn, is_over};
+ghost use Rattle.spec_client.specs.Runner.{Runner as Spec};
+ghost use Rattle.spec_client.specs.Stages as stages;
 ghost use Rattle.client_core.specs.Heard.{heard_meant};
 ghost use Rattle.client_replies.specs.Kept.{request_kept};
 ghost use Rattle.client_replies.specs.Sound.{HasShortTexts};

@@ -2,14 +2,14 @@
 use Rattle.std.proofs.Common.{◌≡◌, ◌≢◌, ℕ, ◌+◌, ◌%◌, ◌<◌, List, length, Bool, true, false, refl, sym, ap, ◌∙◌, subst, arith}
 use Rattle.std.specs.Prelude.{Option, Some, None, Result, Ok, Err, IfOk, ◌==◌}
 use Rattle.std.proofs.lemmas.Bool.{eq-eqb, ne_eqb, lt-ltb}
-use Rattle.ads_formats.specs.Commands.{DEVICE_NOTIFICATION}
-use Rattle.ads_formats.specs.Header.{AmsAddress, AmsHeader, header_of, payload_of}
-use Rattle.ads_formats.specs.NotificationReading.{notification_of}
-use Rattle.ads_client.specs.PassedOver.{is_response}
+use Rattle.spec_formats.specs.Commands.{DEVICE_NOTIFICATION}
+use Rattle.spec_formats.specs.Header.{AmsAddress, AmsHeader, header_of, payload_of}
+use Rattle.spec_formats.specs.NotificationReading.{notification_of}
+use Rattle.spec_client.specs.PassedOver.{is_response}
 use Rattle.ads_base.specs.declared.no_memory.NoMemory.{NoMemory}
-use Rattle.ads_client.specs.Unanswered.{Unanswered}
-use Rattle.ads_client.specs.Client.{Client}
-use Rattle.ads_client.specs.Hearing.{Hearing, response_hearing, notification_hearing, header_hearing, packet_hearing}
+use Rattle.spec_client.specs.Unanswered.{Unanswered}
+use Rattle.spec_client.specs.Client.{Client}
+use Rattle.spec_client.specs.Hearing.{Hearing, response_hearing, notification_hearing, header_hearing, packet_hearing}
 use Rattle.client_core.specs.declared.verdict.Verdict.{Verdict}
 use Rattle.client_core.specs.declared.verdict.Verdict.TheVariants as verdict
 use Rattle.client_core.specs.Hears.{HasRequests, IsVerdictOf, IsVerdict, Breaks}

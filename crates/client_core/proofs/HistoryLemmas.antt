@@ -2,17 +2,17 @@
 use Rattle.std.proofs.Common.{◌≡◌, ℕ, ◌+◌, ◌<◌, ◌≤◌, zero, suc, Bool, true, false, List, [], ◌∷◌, ◌++◌, length, take, drop, refl, sym, ap, ◌∙◌, subst, arith}
 use Rattle.std.specs.Prelude.{Option, Some, None, Result, Ok, Err, OnOk, slice_get, map, filter, is_err, OnErr, MatchResult}
 use Rattle.std.proofs.lemmas.List.{take-append-le}
-use Rattle.ads_frames.specs.Division.{frames_of, rest_of}
-use Rattle.ads_frames.proofs.DivisionLemmas.{frames_of-append}
-use Rattle.ads_formats.specs.Header.{AmsAddress}
+use Rattle.spec_frames.specs.Division.{frames_of, rest_of}
+use Rattle.spec_frames.proofs.DivisionLemmas.{frames_of-append}
+use Rattle.spec_formats.specs.Header.{AmsAddress}
 use Rattle.ams_tcp.specs.Held.{Held}
 use Rattle.ams_tcp.specs.History as stream
-use Rattle.ads_client.specs.Client.{Client, new_client, client_after_feed, client_after_tick}
-use Rattle.ads_client.specs.Unanswered.{Unanswered, after_tick_of}
-use Rattle.ads_client.specs.Heard.{StampedSample}
-use Rattle.ads_client.specs.PassedOver.{says_something}
-use Rattle.ads_client.specs.Hearing.{next_hearing}
-use Rattle.ads_client.specs.History.{ClientMove, ClientHistory, Fed, Tick, Next, client_after_move, client_after, heard_after}
+use Rattle.spec_client.specs.Client.{Client, new_client, client_after_feed, client_after_tick}
+use Rattle.spec_client.specs.Unanswered.{Unanswered, after_tick_of}
+use Rattle.spec_client.specs.Heard.{StampedSample}
+use Rattle.spec_client.specs.PassedOver.{says_something}
+use Rattle.spec_client.specs.Hearing.{next_hearing}
+use Rattle.spec_client.specs.History.{ClientMove, ClientHistory, Fed, Tick, Next, client_after_move, client_after, heard_after}
 use Rattle.client_core.specs.Kept.{Kept, waiting_count}
 use Rattle.client_core.specs.Represents.{IsNextFrame, Streams, StandsFor, Represents}
 use Rattle.client_core.specs.Heard.{heard_meant}

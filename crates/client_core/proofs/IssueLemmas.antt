@@ -2,12 +2,12 @@
 use Rattle.std.proofs.Common.{◌≡◌, ℕ, ◌<◌, ◌≤◌, List, [], ◌∷◌, ◌++◌, length, Bool, true, false, refl, sym, ap, ◌∙◌, subst, arith}
 use Rattle.std.specs.Prelude.{Option, Some, None, nat_le}
 use Rattle.std.proofs.lemmas.Bool.Decides.{nat_tests}
-use Rattle.ads_formats.specs.Header.{AmsAddress}
-use Rattle.ads_formats.specs.Request.{Request, command_of}
-use Rattle.ads_frames.specs.Frame.{frame_bytes}
-use Rattle.ads_client.specs.Unanswered.{Unanswered, outstanding_count, id_after, free_id}
-use Rattle.ads_client.specs.Client.{Client, Issued, new_client, is_full, next_id, request_packet, request_frame, issued_by, with_request, client_after_issue}
-use Rattle.ads_client.specs.History.{ClientHistory, Issue, client_after, client_after_move, issued_after}
+use Rattle.spec_formats.specs.Header.{AmsAddress}
+use Rattle.spec_formats.specs.Request.{Request, command_of}
+use Rattle.spec_frames.specs.Frame.{frame_bytes}
+use Rattle.spec_client.specs.Unanswered.{Unanswered, outstanding_count, id_after, free_id}
+use Rattle.spec_client.specs.Client.{Client, Issued, new_client, is_full, next_id, request_packet, request_frame, issued_by, with_request, client_after_issue}
+use Rattle.spec_client.specs.History.{ClientHistory, Issue, client_after, client_after_move, issued_after}
 use Rattle.client_core.specs.Kept.{Kept}
 use Rattle.client_core.specs.Represents.{StandsFor, Represents}
 use Rattle.client_core.proofs.HistoryLemmas.{moved}

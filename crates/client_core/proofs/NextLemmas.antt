@@ -3,11 +3,11 @@ use Rattle.std.proofs.Common.{◌≡◌, ℕ, suc, List, [], ◌∷◌, length, 
 use Rattle.std.specs.Prelude.{Option, Some, None, Result, Ok, Err, MatchResult, unwrap_or, ◌++◌}
 use Rattle.ads_base.specs.declared.no_memory.NoMemory.{NoMemory}
 use Rattle.ads_base.specs.declared.peer.Peer.{Peer}
-use Rattle.ads_client.specs.Heard as spec
-use Rattle.ads_client.specs.Heard.{StampedSample, heard_of_sample}
-use Rattle.ads_client.specs.Unanswered.{Unanswered, is_timed_out_at, next_timeout, without_first}
-use Rattle.ads_client.specs.Client.{Client}
-use Rattle.ads_client.specs.Hearing.{Hearing, hearing, hearing_of_samples, hearing_unless_broken, hearing_of_timeout, next_hearing}
+use Rattle.spec_client.specs.Heard as spec
+use Rattle.spec_client.specs.Heard.{StampedSample, heard_of_sample}
+use Rattle.spec_client.specs.Unanswered.{Unanswered, is_timed_out_at, next_timeout, without_first}
+use Rattle.spec_client.specs.Client.{Client}
+use Rattle.spec_client.specs.Hearing.{Hearing, hearing, hearing_of_samples, hearing_unless_broken, hearing_of_timeout, next_hearing}
 use Rattle.client_core.specs.Kept.{Kept}
 use Rattle.client_core.specs.Represents.{StandsFor}
 use Rattle.client_core.specs.Heard.{heard_meant}

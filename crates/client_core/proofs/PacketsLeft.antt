@@ -5,16 +5,16 @@ use Rattle.std.proofs.Math.Seq.{drop-cons}
 use Rattle.std.proofs.lemmas.List.{length-append, take_more}
 use Rattle.std.proofs.lemmas.List.Elements.{filter-append}
 use Rattle.ads_base.specs.declared.no_memory.NoMemory.{NoMemory}
-use Rattle.ads_frames.specs.Division.{Front, Whole, Open, Broken, frames_of, front_of, left_behind, rest_of}
+use Rattle.spec_frames.specs.Division.{Front, Whole, Open, Broken, frames_of, front_of, left_behind, rest_of}
 use Rattle.ams_tcp.specs.Held.{Held}
 use Rattle.ams_tcp.specs.History as stream
 use Rattle.ams_tcp.specs.History.{answer_of}
 use Rattle.ams_tcp.specs.declared.cut.Cut.{Cut}
 use Rattle.ams_tcp.specs.declared.cut.Cut.TheVariants as cut
-use Rattle.ads_client.specs.Heard as spec
-use Rattle.ads_client.specs.PassedOver.{says_something}
-use Rattle.ads_client.specs.Client.{Client, packets_left}
-use Rattle.ads_client.specs.Hearing.{Hearing, hearing, rest_hearing, with_one_taken, packets_hearing}
+use Rattle.spec_client.specs.Heard as spec
+use Rattle.spec_client.specs.PassedOver.{says_something}
+use Rattle.spec_client.specs.Client.{Client, packets_left}
+use Rattle.spec_client.specs.Hearing.{Hearing, hearing, rest_hearing, with_one_taken, packets_hearing}
 use Rattle.client_core.specs.Kept.{Kept, waiting_count}
 use Rattle.client_core.specs.Represents.{IsNextFrame, Streams, StandsFor}
 use Rattle.client_core.specs.Hears.{hearing_in_frames, with_waiting, IsQuiet, IsAtBroken, CutFor, Cuts}

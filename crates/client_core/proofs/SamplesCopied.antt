@@ -2,9 +2,9 @@
 use Rattle.std.proofs.Common.{◌≡◌, ℕ, List, [], ◌∷◌, ◌++◌, refl, sym, ap, ◌∙◌, append_assoc}
 use Rattle.std.specs.Prelude.{map, Option, Some, None, option_map}
 use Rattle.std.proofs.lemmas.List.{map-append}
-use Rattle.ads_formats.specs.Notification.{Sample, Stamp}
+use Rattle.spec_formats.specs.Notification.{Sample, Stamp}
 use Rattle.notify_frames.specs.Notes.{timed, samples_in}
-use Rattle.ads_client.specs.Heard.{StampedSample, samples_of_stamp, samples_of_stamps}
+use Rattle.spec_client.specs.Heard.{StampedSample, samples_of_stamp, samples_of_stamps}
 use Rattle.client_core.specs.Samples.{stamped}
 
 abbrev no_notes : Option (List (ℕ × Sample))

@@ -4,7 +4,7 @@ use Rattle.std.specs.Prelude.{map, find, ◌==◌, Option, Some, None, if◌then
 use Rattle.std.proofs.Math.Seq.{drop-cons, drop-length}
 use Rattle.std.proofs.lemmas.Bool.{and_parts, eqb-true}
 use Rattle.std.proofs.lemmas.List.{take_more, take_all, drop_all, get_or_default, append-nil}
-use Rattle.ads_client.specs.Unanswered.{Unanswered, is_timed_out, is_timed_out_at, least_id, free_id, has_outstanding, id_after, next_timeout, without_first}
+use Rattle.spec_client.specs.Unanswered.{Unanswered, is_timed_out, is_timed_out_at, least_id, free_id, has_outstanding, id_after, next_timeout, without_first}
 use Rattle.client_core.specs.Unanswered.{least_with, FirstAt, IsNowhere, TakesTimeout}
 
 pub least_id_drop : (us : List Unanswered) (i : ℕ) (u : Unanswered) → i < length us → least_id (drop i us) ≡ least_with (get_or us i u) (least_id (drop (i + 1) us))

@@ -6,19 +6,19 @@ use Rattle.std.proofs.lemmas.Bool.{cases_Bool, eq-eqb, ne_eqb, lt-ltb}
 use Rattle.ads_base.specs.declared.no_memory.NoMemory.{NoMemory}
 use Rattle.ads_base.specs.declared.peer.Peer.{Peer}
 use Rattle.ads_base.specs.declared.peer.Peer.TheVariants as peer
-use Rattle.ads_frames.specs.Division.{rest_of}
-use Rattle.ads_formats.specs.Commands.{DEVICE_NOTIFICATION}
-use Rattle.ads_formats.specs.Header.{AmsAddress, AmsHeader, is_same_address, header_of, payload_of}
-use Rattle.ads_formats.specs.Notification.{Stamp}
-use Rattle.ads_formats.specs.NotificationReading.{notification_of}
+use Rattle.spec_frames.specs.Division.{rest_of}
+use Rattle.spec_formats.specs.Commands.{DEVICE_NOTIFICATION}
+use Rattle.spec_formats.specs.Header.{AmsAddress, AmsHeader, is_same_address, header_of, payload_of}
+use Rattle.spec_formats.specs.Notification.{Stamp}
+use Rattle.spec_formats.specs.NotificationReading.{notification_of}
 use Rattle.ams_tcp.specs.History as stream
 use Rattle.ams_tcp.specs.declared.cut.Cut.{Cut}
-use Rattle.ads_client.specs.Heard as spec
-use Rattle.ads_client.specs.Heard.{StampedSample, samples_of_stamps, heard_of_sample}
-use Rattle.ads_client.specs.PassedOver.{is_any, notification_says, header_says, says_something, is_response}
-use Rattle.ads_client.specs.Unanswered.{Unanswered, is_outstanding_at, without_first}
-use Rattle.ads_client.specs.Client.{Client, packets_left}
-use Rattle.ads_client.specs.Hearing.{Hearing, hearing, broken_hearing, response_hearing, samples_hearing, notification_hearing, header_hearing, packet_hearing, packets_hearing, with_one_taken}
+use Rattle.spec_client.specs.Heard as spec
+use Rattle.spec_client.specs.Heard.{StampedSample, samples_of_stamps, heard_of_sample}
+use Rattle.spec_client.specs.PassedOver.{is_any, notification_says, header_says, says_something, is_response}
+use Rattle.spec_client.specs.Unanswered.{Unanswered, is_outstanding_at, without_first}
+use Rattle.spec_client.specs.Client.{Client, packets_left}
+use Rattle.spec_client.specs.Hearing.{Hearing, hearing, broken_hearing, response_hearing, samples_hearing, notification_hearing, header_hearing, packet_hearing, packets_hearing, with_one_taken}
 use Rattle.client_core.specs.Kept.{Kept, waiting_count}
 use Rattle.client_core.specs.Represents.{Streams, StandsFor}
 use Rattle.client_core.specs.Heard.{heard_meant}

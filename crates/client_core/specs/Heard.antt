@@ -1,7 +1,7 @@
 -- What a client's answers mean in the definitions.
 use Rattle.std.specs.Prelude.{Option, Some, None, Result, Ok, Err}
-use Rattle.ads_client.specs.Heard as spec
-use Rattle.ads_client.specs.Client as client
+use Rattle.spec_client.specs.Heard as spec
+use Rattle.spec_client.specs.Client as client
 use Rattle.client_core.specs.declared.heard.Heard.{Heard}
 use Rattle.client_core.specs.declared.heard.Heard.TheVariants as value
 use Rattle.client_core.specs.declared.heard.Issued.{Issued}

@@ -1,13 +1,13 @@
 -- What the steps of a client do, over every client that is stood for. No public clause cites this file.
 use Rattle.std.specs.Prelude.{◌≡◌, ℕ, ◌+◌, List, [], ◌∷◌, take, Bool, true, Option, Some, None, Result, Ok, Err}
 use Rattle.ads_base.specs.declared.peer.Peer.TheVariants as peer
-use Rattle.ads_frames.specs.Division.{rest_of}
-use Rattle.ads_formats.specs.Header.{AmsAddress}
-use Rattle.ads_client.specs.Heard as spec
-use Rattle.ads_client.specs.Client.{Client, packets_left}
-use Rattle.ads_client.specs.Hearing.{Hearing, hearing, broken_hearing, next_hearing, with_one_taken, packet_hearing, packets_hearing, samples_hearing}
-use Rattle.ads_client.specs.Heard.{StampedSample, heard_of_sample}
-use Rattle.ads_client.specs.Unanswered.{Unanswered, is_outstanding_at, without_first}
+use Rattle.spec_frames.specs.Division.{rest_of}
+use Rattle.spec_formats.specs.Header.{AmsAddress}
+use Rattle.spec_client.specs.Heard as spec
+use Rattle.spec_client.specs.Client.{Client, packets_left}
+use Rattle.spec_client.specs.Hearing.{Hearing, hearing, broken_hearing, next_hearing, with_one_taken, packet_hearing, packets_hearing, samples_hearing}
+use Rattle.spec_client.specs.Heard.{StampedSample, heard_of_sample}
+use Rattle.spec_client.specs.Unanswered.{Unanswered, is_outstanding_at, without_first}
 use Rattle.ams_tcp.specs.declared.cut.Cut.{Cut}
 use Rattle.ams_tcp.specs.declared.cut.Cut.TheVariants as cut
 use Rattle.client_core.specs.Kept.{Kept}

@@ -2,9 +2,9 @@
 use Rattle.std.specs.Prelude.{ℕ, ◌+◌, List, length, Option, Some, None}
 use Rattle.ads_base.specs.declared.peer.Peer.{Peer}
 use Rattle.ams_tcp.specs.Held.{Held}
-use Rattle.ads_formats.specs.Header.{AmsAddress}
-use Rattle.ads_client.specs.Heard.{StampedSample}
-use Rattle.ads_client.specs.Unanswered.{Unanswered}
+use Rattle.spec_formats.specs.Header.{AmsAddress}
+use Rattle.spec_client.specs.Heard.{StampedSample}
+use Rattle.spec_client.specs.Unanswered.{Unanswered}
 
 pub record Kept : Type 0 where
   pub me : AmsAddress

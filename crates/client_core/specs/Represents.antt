@@ -1,11 +1,11 @@
 -- What a client keeps stands for a history: whatever it is asked then, it answers as that history says.
 use Rattle.std.specs.Prelude.{◌≡◌, ℕ, ◌+◌, List, ◌++◌, length, take, filter, slice_get, Option, Some, None}
-use Rattle.ads_frames.specs.Division.{frames_of}
-use Rattle.ads_formats.specs.Header.{AmsAddress}
+use Rattle.spec_frames.specs.Division.{frames_of}
+use Rattle.spec_formats.specs.Header.{AmsAddress}
 use Rattle.ams_tcp.specs.History as stream
-use Rattle.ads_client.specs.PassedOver.{says_something}
-use Rattle.ads_client.specs.Client.{Client, new_client}
-use Rattle.ads_client.specs.History.{ClientHistory, client_after}
+use Rattle.spec_client.specs.PassedOver.{says_something}
+use Rattle.spec_client.specs.Client.{Client, new_client}
+use Rattle.spec_client.specs.History.{ClientHistory, client_after}
 use Rattle.client_core.specs.Kept.{Kept, waiting_count}
 
 -- the packet that waits is the one behind so many frames

@@ -1,16 +1,16 @@
 //! The client.
 
 ghost use Rattle.std.specs.Prelude.{◌≡◌, [], ◌∷◌, ◌++◌, ◌<◌, ◌≤◌, ◌↔◌, IfOk, OnOk, OnErr, IsErr, IfNone, Some, None, MatchResult};
-ghost use Rattle.ads_formats.specs.Header.{AmsAddress};
-ghost use Rattle.ads_client.specs.Unanswered.{MAX_OUTSTANDING, outstanding_count};
-ghost use Rattle.ads_client.specs.History.{ClientHistory, Issue, Fed, Tick, Next, heard_after, issued_after};
+ghost use Rattle.spec_formats.specs.Header.{AmsAddress};
+ghost use Rattle.spec_client.specs.Unanswered.{MAX_OUTSTANDING, outstanding_count};
+ghost use Rattle.spec_client.specs.History.{ClientHistory, Issue, Fed, Tick, Next, heard_after, issued_after};
 ghost use Rattle.ads_commands.specs.Request.{IsWritable, request_meant};
 ghost use Rattle.ams_header.specs.Header.{address_of};
 ghost use Rattle.client_core.specs.Heard.{heard_meant, issued_meant};
 ghost use Rattle.client_core.specs.Kept.{bytes_left};
 ghost use Rattle.client_core.specs.Represents.{Represents, StandsFor};
 ghost use Rattle.client_core.specs.Hears.{StandsStill, Hears, HearsFrames, Turns, HeardAt, Cuts, Applies, Holds, IsAtBroken, IsHearing, hearing_in_frames, with_waiting};
-ghost use Rattle.ads_client.specs.Client.{Client as Spec};
+ghost use Rattle.spec_client.specs.Client.{Client as Spec};
 ghost use Rattle.ams_tcp.specs.History.{IsFrameCut};
 
 use crate::issuing::{command_of, frame_of};

@@ -1,9 +1,9 @@
 //! The frames of requests.
 
 ghost use Rattle.std.specs.Prelude.{◌≡◌, ◌≤◌, IfOk, length};
-ghost use Rattle.ads_frames.specs.Frame.{IsAmsPacket, frame_bytes};
-ghost use Rattle.ads_formats.specs.Request.{command_of, request_bytes};
-ghost use Rattle.ads_client.specs.Client.{request_packet};
+ghost use Rattle.spec_frames.specs.Frame.{IsAmsPacket, frame_bytes};
+ghost use Rattle.spec_formats.specs.Request.{command_of, request_bytes};
+ghost use Rattle.spec_client.specs.Client.{request_packet};
 ghost use Rattle.ams_header.specs.Header.{address_of};
 ghost use Rattle.ads_commands.specs.Request.{IsWritable, request_meant};
 

@@ -1,8 +1,8 @@
 //! The samples of a notification that are not told yet.
 
 ghost use Rattle.std.specs.Prelude.{◌≡◌, map, option_map, IfOk};
-ghost use Rattle.ads_formats.specs.NotificationReading.{notification_of};
-ghost use Rattle.ads_client.specs.Heard.{heard_of_sample, samples_of_stamps};
+ghost use Rattle.spec_formats.specs.NotificationReading.{notification_of};
+ghost use Rattle.spec_client.specs.Heard.{heard_of_sample, samples_of_stamps};
 ghost use Rattle.client_core.specs.Heard.{heard_meant};
 ghost use Rattle.client_core.specs.Samples.{stamped};
 
@@ -22,7 +22,7 @@ pub(crate) struct StampedSample {
 }
 
 impl Model for StampedSample {
-    ghost use Rattle.ads_client.specs.Heard as spec;
+    ghost use Rattle.spec_client.specs.Heard as spec;
 
     ghost Value = { spec.StampedSample };
 

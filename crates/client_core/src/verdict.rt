@@ -1,10 +1,10 @@
 //! What one AMS packet says to a client.
 
 ghost use Rattle.std.specs.Prelude.{◌≡◌, IfOk, Some};
-ghost use Rattle.ads_formats.specs.Header.{is_same_address, payload_of};
-ghost use Rattle.ads_formats.specs.NotificationReading.{notification_of};
-ghost use Rattle.ads_client.specs.Client.{Client};
-ghost use Rattle.ads_client.specs.Hearing.{response_hearing, notification_hearing};
+ghost use Rattle.spec_formats.specs.Header.{is_same_address, payload_of};
+ghost use Rattle.spec_formats.specs.NotificationReading.{notification_of};
+ghost use Rattle.spec_client.specs.Client.{Client};
+ghost use Rattle.spec_client.specs.Hearing.{response_hearing, notification_hearing};
 ghost use Rattle.ams_header.specs.Header.{address_of, ams_header_of};
 ghost use Rattle.client_core.specs.Hears.{HasRequests, IsVerdict, IsVerdictOf, Breaks};
 

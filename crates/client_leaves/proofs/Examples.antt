@@ -2,9 +2,9 @@
 use Rattle.std.proofs.Common.{◌≡◌, ℕ, List, [], ◌∷◌, refl}
 use Rattle.std.specs.Prelude.{codes, Some, None}
 use Rattle.std.specs.Fmt.{digits}
-use Rattle.ads_formats.specs.TypeEntry.{TypeEntry, TypeFields}
-use Rattle.ads_client.specs.Leaves.{leaf, leaves_of_elem}
-use Rattle.ads_client.specs.LeafTypes.{type_named, is_sound_elem}
+use Rattle.spec_formats.specs.TypeEntry.{TypeEntry, TypeFields}
+use Rattle.spec_client.specs.Leaves.{leaf, leaves_of_elem}
+use Rattle.spec_client.specs.LeafTypes.{type_named, is_sound_elem}
 use Rattle.client_leaves.specs.Found.{leaves_found}
 
 abbrev field : List ℕ → List ℕ → ℕ → ℕ → ℕ → TypeFields

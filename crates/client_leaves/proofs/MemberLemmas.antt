@@ -5,9 +5,9 @@ use Rattle.std.specs.Option.{option_and_then}
 use Rattle.std.proofs.lemmas.Bool.{and_parts, eqb-true}
 use Rattle.std.proofs.lemmas.List.{append-nil, map-append}
 use Rattle.std.proofs.lemmas.List.Elements.{All-nil, All-push}
-use Rattle.ads_formats.specs.Numbers.{number16}
-use Rattle.ads_formats.specs.TypeEntry as formats
-use Rattle.ads_formats.specs.TypeEntryReading.{is_fields, fields_at, entry_at, after_entry, after_sub_in, after_subs_in, subs_in, is_entry, type_entry_of}
+use Rattle.spec_formats.specs.Numbers.{number16}
+use Rattle.spec_formats.specs.TypeEntry as formats
+use Rattle.spec_formats.specs.TypeEntryReading.{is_fields, fields_at, entry_at, after_entry, after_sub_in, after_subs_in, subs_in, is_entry, type_entry_of}
 use Rattle.type_upload.specs.declared.entry.TypeEntry.{TypeEntry}
 use Rattle.type_upload.specs.Entry.{IsRead, entry_meant}
 use Rattle.type_upload.proofs.SubLemmas.{subs_found}

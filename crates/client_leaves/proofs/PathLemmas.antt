@@ -5,10 +5,10 @@ use Rattle.std.specs.List.{range_with_len}
 use Rattle.std.proofs.Math.Nat.{suc-mul, one-le-mul}
 use Rattle.std.proofs.lemmas.List.{length-append, append-nil, map-append, take_all}
 use Rattle.std.proofs.lemmas.List.FromFn.{length-map-range_with_len}
-use Rattle.ads_plant.specs.Spelling.{integer_text}
-use Rattle.ads_plant.specs.TypeTexts.{Ends}
-use Rattle.ads_client.specs.Leaves.{indexes_in, indexes_of, element_path}
-use Rattle.ads_client.specs.LeafTypes.{elements_of, element_count}
+use Rattle.spec_plant.specs.Spelling.{integer_text}
+use Rattle.spec_plant.specs.TypeTexts.{Ends}
+use Rattle.spec_client.specs.Leaves.{indexes_in, indexes_of, element_path}
+use Rattle.spec_client.specs.LeafTypes.{elements_of, element_count}
 use Rattle.client_leaves.specs.Paths.{paths_from}
 
 -- each index behind a separator, which is a comma from the second on

@@ -7,8 +7,8 @@ use Rattle.std.proofs.lemmas.List.Elements.{All-get_or}
 use Rattle.std.proofs.lemmas.List.Folds.{find_at}
 use Rattle.std.proofs.lemmas.Option.{slice_get_past, slice_get_read, slice_get_within, get_or_from_slice_get}
 use Rattle.name_paths.specs.Identifier.{lower}
-use Rattle.ads_formats.specs.TypeEntry as formats
-use Rattle.ads_client.specs.LeafTypes.{type_named}
+use Rattle.spec_formats.specs.TypeEntry as formats
+use Rattle.spec_client.specs.LeafTypes.{type_named}
 use Rattle.name_index.specs.Numbered.{first_called}
 use Rattle.name_index.proofs.CallerLemmas.{first_called-map, position-map}
 use Rattle.type_upload.specs.declared.entry.TypeEntry.{TypeEntry}

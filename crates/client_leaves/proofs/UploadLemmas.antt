@@ -3,9 +3,9 @@ use Rattle.std.proofs.Common.{◌≡◌, ◌≢◌, ℕ, suc, ◌+◌, ◌-◌, 
 use Rattle.std.specs.Prelude.{Option, Some, None, option_map}
 use Rattle.std.proofs.lemmas.Bool.{eq-eqb, ne_eqb}
 use Rattle.std.proofs.lemmas.List.{append-nil, map-append, length-map, length-append}
-use Rattle.ads_formats.specs.TypeEntry.{TypeEntry}
-use Rattle.ads_formats.specs.TypeEntryReading.{type_entry_of}
-use Rattle.ads_client.specs.Entries.{types_in}
+use Rattle.spec_formats.specs.TypeEntry.{TypeEntry}
+use Rattle.spec_formats.specs.TypeEntryReading.{type_entry_of}
+use Rattle.spec_client.specs.Entries.{types_in}
 use Rattle.name_index.specs.Numbered.{AreNumbered, NameNumbers}
 use Rattle.type_upload.specs.declared.entry.TypeEntry as upload
 use Rattle.type_upload.specs.Entry.{entry_meant}

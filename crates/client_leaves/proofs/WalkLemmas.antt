@@ -5,11 +5,11 @@ use Rattle.std.specs.List.{list_all}
 use Rattle.std.proofs.Math.Nat.{suc-mul, mul-le-mul_right}
 use Rattle.std.proofs.lemmas.Bool.{and_parts, leb-true, eqb-true, ne_eqb}
 use Rattle.std.proofs.lemmas.List.{append-nil}
-use Rattle.ads_plant.specs.Plain.{Kind, kind_id, kind_size}
-use Rattle.ads_plant.specs.TypeTexts.{Ends, ElemText, PlainText, StringText, NamedText, TypeText, type_text_of}
-use Rattle.ads_formats.specs.TypeEntry.{TypeEntry, TypeFields}
-use Rattle.ads_client.specs.Leaves.{Leaf, leaf, leaves_of_elements, leaves_of_text, leaves_of_member, leaves_of_elem}
-use Rattle.ads_client.specs.LeafTypes.{type_named, element_count, elem_size, text_size, stands_in, is_member, are_members, is_enumeration, is_sound_elem}
+use Rattle.spec_plant.specs.Plain.{Kind, kind_id, kind_size}
+use Rattle.spec_plant.specs.TypeTexts.{Ends, ElemText, PlainText, StringText, NamedText, TypeText, type_text_of}
+use Rattle.spec_formats.specs.TypeEntry.{TypeEntry, TypeFields}
+use Rattle.spec_client.specs.Leaves.{Leaf, leaf, leaves_of_elements, leaves_of_text, leaves_of_member, leaves_of_elem}
+use Rattle.spec_client.specs.LeafTypes.{type_named, element_count, elem_size, text_size, stands_in, is_member, are_members, is_enumeration, is_sound_elem}
 use Rattle.type_layout.specs.declared.read_texts.Ends as code
 use Rattle.type_layout.specs.ReadTexts.{ends_of, ends_among}
 use Rattle.client_leaves.specs.Paths.{paths_from}

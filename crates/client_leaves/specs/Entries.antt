@@ -1,8 +1,8 @@
 -- The entries of an upload's types as they are kept.
 use Rattle.std.specs.Prelude.{ℕ, List, map, is_some, true, ◌≡◌}
 use Rattle.std.specs.List.{All}
-use Rattle.ads_formats.specs.TypeEntry as formats
-use Rattle.ads_formats.specs.TypeEntryReading.{after_subs_in}
+use Rattle.spec_formats.specs.TypeEntry as formats
+use Rattle.spec_formats.specs.TypeEntryReading.{after_subs_in}
 use Rattle.name_index.specs.Numbered.{AreNumbered}
 use Rattle.type_upload.specs.declared.entry.TypeEntry.{TypeEntry}
 use Rattle.type_upload.specs.Entry.{entry_meant}

@@ -1,5 +1,5 @@
 -- Which leaf a kept value is.
-use Rattle.ads_client.specs.Leaves as leaves
+use Rattle.spec_client.specs.Leaves as leaves
 use Rattle.client_leaves.specs.declared.leaf.Leaf.{Leaf}
 
 abbrev pub leaf_kept : Leaf → leaves.Leaf

@@ -1,9 +1,9 @@
 -- The types of an upload as they are kept, with their members.
 use Rattle.std.specs.Prelude.{◌≡◌, List, map, Option, None, option_map, option_and_then, slice_get, IfSome}
 use Rattle.std.specs.List.{All}
-use Rattle.ads_plant.specs.TypeTexts.{ElemText, PlainText, StringText, NamedText, type_text_of}
-use Rattle.ads_formats.specs.TypeEntry.{TypeEntry, TypeFields}
-use Rattle.ads_client.specs.LeafTypes.{type_named}
+use Rattle.spec_plant.specs.TypeTexts.{ElemText, PlainText, StringText, NamedText, type_text_of}
+use Rattle.spec_formats.specs.TypeEntry.{TypeEntry, TypeFields}
+use Rattle.spec_client.specs.LeafTypes.{type_named}
 use Rattle.type_layout.specs.ReadTexts.{elem_text_of, text_of}
 use Rattle.type_upload.specs.Entry.{entry_meant}
 use Rattle.client_leaves.specs.declared.table.FoundText.{FoundText}

@@ -1,8 +1,8 @@
 -- What the parts of a walk over a type find.
 use Rattle.std.specs.Prelude.{ℕ, zero, suc, ◌≡◌, List, [], ◌++◌, Bool, true, Some}
-use Rattle.ads_formats.specs.TypeEntry.{TypeEntry}
-use Rattle.ads_client.specs.Leaves.{Leaf, leaves_of_named, leaves_of_member, leaves_of_elem}
-use Rattle.ads_client.specs.LeafTypes.{is_enumeration, is_named_type, are_members, is_sound_elem}
+use Rattle.spec_formats.specs.TypeEntry.{TypeEntry}
+use Rattle.spec_client.specs.Leaves.{Leaf, leaves_of_named, leaves_of_member, leaves_of_elem}
+use Rattle.spec_client.specs.LeafTypes.{is_enumeration, is_named_type, are_members, is_sound_elem}
 
 -- a walk says whether the type's leaves can be taken, and where they can it has put them behind the others
 pub record Walked (sound is_sound : Bool) (leaves old new : List Leaf) : Type 0 where

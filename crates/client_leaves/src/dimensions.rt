@@ -1,7 +1,7 @@
 //! The dimensions of type texts.
 
 ghost use Rattle.std.specs.Prelude.{◌≡◌, ◌≤◌, ◌<◌, ◌^◌, IfOk, codes};
-ghost use Rattle.ads_client.specs.LeafTypes.{elements_of, element_count};
+ghost use Rattle.spec_client.specs.LeafTypes.{elements_of, element_count};
 ghost use Rattle.type_layout.specs.ReadTexts.{ends_of, text_of};
 
 use type_layout::{Ends, TypeText};

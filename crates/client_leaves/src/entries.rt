@@ -1,7 +1,7 @@
 //! The entries of an upload's types, found by name.
 
 ghost use Rattle.std.specs.Prelude.{◌≡◌, ◌+◌, ◌^◌, ◌<◌, ◌++◌, ◌∷◌, [], length, slice_get, option_map, option_and_then, IfSome, OnOk};
-ghost use Rattle.ads_plant.specs.TypeTexts as texts;
+ghost use Rattle.spec_plant.specs.TypeTexts as texts;
 ghost use Rattle.type_layout.specs.ReadTexts.{elem_text_of, text_of};
 ghost use Rattle.client_leaves.specs.Entries.{HasSubs, IsIndexed, entries_meant};
 ghost use Rattle.client_leaves.specs.Table.{IsFound, type_meant};

@@ -1,8 +1,8 @@
 //! The paths of an array's elements.
 
 ghost use Rattle.std.specs.Prelude.{◌≡◌, ◌^◌, ◌<◌, ◌++◌, ◌∷◌, [], map, pos, codes, ◌+ℤ◌, IfOk, OnOk};
-ghost use Rattle.ads_plant.specs.Spelling.{integer_text};
-ghost use Rattle.ads_client.specs.LeafTypes.{elements_of};
+ghost use Rattle.spec_plant.specs.Spelling.{integer_text};
+ghost use Rattle.spec_client.specs.LeafTypes.{elements_of};
 ghost use Rattle.type_layout.specs.ReadTexts.{ends_of, text_of};
 ghost use Rattle.client_leaves.specs.Paths.{paths_from};
 

@@ -1,7 +1,7 @@
 //! The types of an upload are read: first the entries, and when all their names are known their members.
 
 ghost use Rattle.std.specs.Prelude.{◌≡◌, map, option_map, IfOk, IfSome};
-ghost use Rattle.ads_client.specs.Entries.{types_in};
+ghost use Rattle.spec_client.specs.Entries.{types_in};
 ghost use Rattle.type_upload.specs.Entry.{entry_meant};
 ghost use Rattle.client_leaves.specs.Entries.{HasSubs, IsIndexed, entries_meant};
 ghost use Rattle.client_leaves.specs.Table.{AreFound, IsMemberFound, IsTable, type_kept, types_kept};

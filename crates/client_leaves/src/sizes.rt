@@ -1,7 +1,7 @@
 //! Sizes and type ids.
 
 ghost use Rattle.std.specs.Prelude.{◌≡◌, ◌≤◌, ◌^◌, ◌*◌};
-ghost use Rattle.ads_client.specs.LeafTypes.{elem_size, text_size, stands_in};
+ghost use Rattle.spec_client.specs.LeafTypes.{elem_size, text_size, stands_in};
 ghost use Rattle.type_layout.specs.ReadTexts.{elem_text_of, text_of};
 ghost use Rattle.client_leaves.specs.Table.{IsFound, IsTable, member_kept, types_kept};
 

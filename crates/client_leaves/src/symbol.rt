@@ -2,7 +2,7 @@
 
 ghost use Rattle.std.specs.Prelude.{◌≡◌, map, option_map, IfOk};
 ghost use Rattle.std.specs.Option.{option_and_then};
-ghost use Rattle.ads_client.specs.Entries.{types_in};
+ghost use Rattle.spec_client.specs.Entries.{types_in};
 ghost use Rattle.client_leaves.specs.Entries.{IsIndexed, entries_meant};
 ghost use Rattle.client_leaves.specs.Found.{leaves_found};
 ghost use Rattle.client_leaves.specs.Kept.{leaf_kept};

@@ -2,9 +2,9 @@
 
 ghost use Rattle.std.specs.Prelude.{◌≡◌, ◌^◌, ◌+◌, ◌*◌, ◌<◌, ◌≤◌, ◌++◌, ◌∷◌, [], flat_map, length, map, IfOk, OnOk};
 ghost use Rattle.std.specs.List.{list_all};
-ghost use Rattle.ads_plant.specs.TypeTexts.{type_text_of};
-ghost use Rattle.ads_client.specs.LeafTypes.{elem_size, text_size, is_sound_elem, is_member, are_members};
-ghost use Rattle.ads_client.specs.Leaves.{leaf, leaves_of_elem, leaves_of_member, leaves_of_text, leaves_of_elements};
+ghost use Rattle.spec_plant.specs.TypeTexts.{type_text_of};
+ghost use Rattle.spec_client.specs.LeafTypes.{elem_size, text_size, is_sound_elem, is_member, are_members};
+ghost use Rattle.spec_client.specs.Leaves.{leaf, leaves_of_elem, leaves_of_member, leaves_of_text, leaves_of_elements};
 ghost use Rattle.type_layout.specs.ReadTexts.{elem_text_of, text_of};
 ghost use Rattle.client_leaves.specs.Kept.{leaf_kept};
 ghost use Rattle.client_leaves.specs.Table.{AreFound, IsFound, IsMemberFound, IsTable, member_kept, type_kept, types_kept};

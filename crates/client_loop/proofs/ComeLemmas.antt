@@ -5,8 +5,8 @@ use Rattle.ads_outside.specs.declared.link_move.LinkMove.{LinkMove}
 use Rattle.ads_outside.specs.declared.received.Received.TheVariants as received
 use Rattle.ads_outside.specs.LinkAnswers.{BringsBytes, log_after_recv}
 use Rattle.ads_outside.specs.LinkState.{LinkState, quiet_came, closed_came}
-use Rattle.ads_client.specs.Conversation as conversation
-use Rattle.ads_client.specs.Runner.{Runner, runner_after_feed, runner_after_tick}
+use Rattle.spec_client.specs.Conversation as conversation
+use Rattle.spec_client.specs.Runner.{Runner, runner_after_feed, runner_after_tick}
 use Rattle.client_calls.specs.Kept.{RunnerKept}
 use Rattle.client_calls.specs.Represents.{StandsFor}
 use Rattle.client_loop.specs.declared.answers.Came.TheVariants as came

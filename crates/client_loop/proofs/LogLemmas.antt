@@ -3,9 +3,9 @@ use Rattle.std.proofs.Common.{◌≡◌, List, [], ◌∷◌, ◌++◌, refl, sy
 use Rattle.std.proofs.lemmas.List.{append-nil}
 use Rattle.ads_outside.specs.declared.link_move.LinkMove.TheVariants as move
 use Rattle.ads_outside.specs.LinkState.{LinkHistory}
-use Rattle.ads_client.specs.CallOver.{conversation_after_all}
-use Rattle.ads_client.specs.Conversation.{LinkAnswer, Conversation, Sent, conversation_after}
-use Rattle.ads_talk.specs.CallLog.{event_of, sent_moves, sent_behind, sent_last, log_behind, log_up_to}
+use Rattle.spec_client.specs.CallOver.{conversation_after_all}
+use Rattle.spec_client.specs.Conversation.{LinkAnswer, Conversation, Sent, conversation_after}
+use Rattle.spec_client.specs.CallLog.{event_of, sent_moves, sent_behind, sent_last, log_behind, log_up_to}
 use Rattle.client_loop.specs.Called.{AreAwaited}
 use Rattle.client_loop.specs.LinkAfter.{history_after_answer, history_after_answers}
 

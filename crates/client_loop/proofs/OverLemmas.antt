@@ -8,10 +8,10 @@ use Rattle.ads_outside.specs.declared.link_move.LinkMove.{LinkMove}
 use Rattle.ads_outside.specs.LinkState.{LinkState}
 use Rattle.ads_outside.specs.Puts.{Appends, AppendsPart}
 use Rattle.ads_outside.specs.SinkState.{SinkState}
-use Rattle.ads_client.specs.CallOver.{conversation_after_all}
-use Rattle.ads_client.specs.Conversation as conversation
-use Rattle.ads_client.specs.Conversation.{LinkAnswer, Conversation, MAX_ANSWERS, conversation_after}
-use Rattle.ads_talk.specs.CallLog.{sent_moves, sent_last, log_behind, log_up_to}
+use Rattle.spec_client.specs.CallOver.{conversation_after_all}
+use Rattle.spec_client.specs.Conversation as conversation
+use Rattle.spec_client.specs.Conversation.{LinkAnswer, Conversation, MAX_ANSWERS, conversation_after}
+use Rattle.spec_client.specs.CallLog.{sent_moves, sent_last, log_behind, log_up_to}
 use Rattle.client_calls.specs.Kept.{RunnerKept}
 use Rattle.client_calls.specs.Represents.{StandsFor}
 use Rattle.client_loop.specs.declared.loop_end.LoopEnd.{LoopEnd}

@@ -1,15 +1,15 @@
 -- Where a turn rests, the stage of its runner tells whether the call is over; and steps one after another.
 use Rattle.std.proofs.Common.{◌≡◌, ℕ, zero, suc, List, [], ◌∷◌, ◌++◌, Bool, true, false, Some, None, refl, sym, ap, ◌∙◌, subst, append_assoc}
 use Rattle.std.specs.Prelude.{if◌then◌else◌}
-use Rattle.ads_client.specs.Client.{Client}
-use Rattle.ads_client.specs.Heard.{Heard, NotYet}
-use Rattle.ads_client.specs.Hearing.{next_hearing}
-use Rattle.ads_client.specs.Stages.{CallEnd, Output, ToSend, ToPrint, Stage, Finished}
-use Rattle.ads_client.specs.Steps.{after_heard}
-use Rattle.ads_client.specs.Runner.{Runner, CallStep, Send, Print, Wait, Over, Turned, turned, given, resting, is_over, is_not_yet, runner_after_hearing, turn_within, turn, Turns, turns, after_step, joined}
-use Rattle.ads_client.specs.Laws.{turns_behind}
-use Rattle.ads_client.specs.Conversation.{Sent, CallEnded, end_of_stage, sent_by, printed_by}
-use Rattle.ads_client.proofs.TurnsUnfolded.{at, turns_unfold}
+use Rattle.spec_client.specs.Client.{Client}
+use Rattle.spec_client.specs.Heard.{Heard, NotYet}
+use Rattle.spec_client.specs.Hearing.{next_hearing}
+use Rattle.spec_client.specs.Stages.{CallEnd, Output, ToSend, ToPrint, Stage, Finished}
+use Rattle.spec_client.specs.Steps.{after_heard}
+use Rattle.spec_client.specs.Runner.{Runner, CallStep, Send, Print, Wait, Over, Turned, turned, given, resting, is_over, is_not_yet, runner_after_hearing, turn_within, turn, Turns, turns, after_step, joined}
+use Rattle.spec_client.specs.Laws.{turns_behind}
+use Rattle.spec_client.specs.Conversation.{Sent, CallEnded, end_of_stage, sent_by, printed_by}
+use Rattle.spec_client.proofs.TurnsUnfolded.{at, turns_unfold}
 
 -- the stage behind a step by which a turn rests
 abbrev pub RestsBy : CallStep → Stage → Type 0

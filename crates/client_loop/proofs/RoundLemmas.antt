@@ -3,7 +3,7 @@ use Rattle.std.proofs.Common.{◌≡◌, ℕ, ◌+◌, ◌≤◌, ◌<◌, List,
 use Rattle.std.proofs.lemmas.Bool.{eqb-false}
 use Rattle.std.specs.Prelude.{Result, Ok, Err, ◌==◌, ◌||◌, if◌then◌else◌}
 use Rattle.ads_base.specs.declared.peer.Peer.TheVariants as peer
-use Rattle.ads_client.specs.Stages.{BadPeer}
+use Rattle.spec_client.specs.Stages.{BadPeer}
 use Rattle.client_replies.specs.declared.stage.CallEnd.{CallEnd}
 use Rattle.ads_base.specs.declared.no_memory.NoMemory.{NoMemory}
 use Rattle.ads_outside.specs.declared.link_move.LinkMove.{LinkMove}
@@ -11,11 +11,11 @@ use Rattle.ads_outside.specs.declared.link_move.LinkMove.TheVariants as move
 use Rattle.ads_outside.specs.LinkState.{LinkState, LinkHistory}
 use Rattle.ads_outside.specs.Puts.{Appends, AppendsPart}
 use Rattle.ads_outside.specs.SinkState.{SinkState}
-use Rattle.ads_client.specs.CallOver.{conversation_after_all}
-use Rattle.ads_client.specs.Conversation as conversation
-use Rattle.ads_client.specs.Conversation.{LinkAnswer, Conversation, CallEnded, MAX_QUIET, MAX_ANSWERS, moment_of, sent_by, printed_by, quiet_after, end_by_answer, runner_after_answer, conversation_after}
-use Rattle.ads_client.specs.Runner.{Runner, turns}
-use Rattle.ads_talk.specs.CallLog.{event_of, sent_moves, sent_last, log_behind, log_up_to}
+use Rattle.spec_client.specs.CallOver.{conversation_after_all}
+use Rattle.spec_client.specs.Conversation as conversation
+use Rattle.spec_client.specs.Conversation.{LinkAnswer, Conversation, CallEnded, MAX_QUIET, MAX_ANSWERS, moment_of, sent_by, printed_by, quiet_after, end_by_answer, runner_after_answer, conversation_after}
+use Rattle.spec_client.specs.Runner.{Runner, turns}
+use Rattle.spec_client.specs.CallLog.{event_of, sent_moves, sent_last, log_behind, log_up_to}
 use Rattle.client_replies.specs.Stages.{end_meant}
 use Rattle.client_calls.specs.Kept.{RunnerKept}
 use Rattle.client_calls.specs.Represents.{StandsFor}

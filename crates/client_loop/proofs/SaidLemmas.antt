@@ -6,8 +6,8 @@ use Rattle.ads_outside.specs.declared.link_move.LinkMove.{LinkMove}
 use Rattle.ads_outside.specs.declared.link_move.LinkMove.TheVariants as move
 use Rattle.ads_outside.specs.LinkAnswers.{with_part}
 use Rattle.ads_outside.specs.Puts.{Appends, AppendsPart}
-use Rattle.ads_client.specs.Conversation.{Sent}
-use Rattle.ads_talk.specs.CallLog.{sent_moves}
+use Rattle.spec_client.specs.Conversation.{Sent}
+use Rattle.spec_client.specs.CallLog.{sent_moves}
 use Rattle.client_loop.specs.Said.{SendsSome, SentSome, Gives, GivesSome}
 
 pub puts_nothing : (held : Option (List ℕ)) → Appends held held []

@@ -3,17 +3,17 @@ use Rattle.std.proofs.Common.{◌≡◌, ℕ, ◌≤◌, List, [], ◌∷◌, �
 use Rattle.std.specs.Prelude.{Result, Ok, Err}
 use Rattle.std.proofs.lemmas.List.{append-nil}
 use Rattle.ads_base.specs.declared.no_memory.NoMemory.{NoMemory}
-use Rattle.ads_formats.specs.Header.{AmsAddress}
+use Rattle.spec_formats.specs.Header.{AmsAddress}
 use Rattle.ads_outside.specs.declared.link_move.LinkMove.{LinkMove}
 use Rattle.ads_outside.specs.declared.link_move.LinkMove.TheVariants as move
 use Rattle.ads_outside.specs.LinkState.{LinkState, connected_at}
 use Rattle.ads_outside.specs.SinkState.{SinkState}
-use Rattle.ads_client.specs.Calls.{Call}
-use Rattle.ads_client.specs.CallOver.{conversation_after_all}
-use Rattle.ads_client.specs.Conversation as conversation
-use Rattle.ads_client.specs.Conversation.{LinkAnswer, Conversation, Sent, CallEnded, printed_by, sent_by, conversation_begun, conversation_after_turns}
-use Rattle.ads_client.specs.Runner.{new_runner, turns}
-use Rattle.ads_talk.specs.CallLog.{sent_moves, sent_last, log_behind, log_up_to}
+use Rattle.spec_client.specs.Calls.{Call}
+use Rattle.spec_client.specs.CallOver.{conversation_after_all}
+use Rattle.spec_client.specs.Conversation as conversation
+use Rattle.spec_client.specs.Conversation.{LinkAnswer, Conversation, Sent, CallEnded, printed_by, sent_by, conversation_begun, conversation_after_turns}
+use Rattle.spec_client.specs.Runner.{new_runner, turns}
+use Rattle.spec_client.specs.CallLog.{sent_moves, sent_last, log_behind, log_up_to}
 use Rattle.client_replies.specs.declared.stage.CallEnd.{CallEnd}
 use Rattle.client_calls.specs.Kept.{RunnerKept}
 use Rattle.client_loop.specs.declared.loop_end.LoopEnd.{LoopEnd}

@@ -8,8 +8,8 @@ use Rattle.ads_outside.specs.LinkState.{LinkState}
 use Rattle.ads_outside.specs.Puts.{Appends}
 use Rattle.ads_outside.specs.Rose.{Rose}
 use Rattle.ads_outside.specs.SinkState.{SinkState}
-use Rattle.ads_client.specs.Conversation.{CallEnded, sent_by, printed_by, end_of_stage}
-use Rattle.ads_client.specs.Runner.{Runner, CallStep, Send, Print, Wait, Over, turn, Turns, turns, after_step, joined}
+use Rattle.spec_client.specs.Conversation.{CallEnded, sent_by, printed_by, end_of_stage}
+use Rattle.spec_client.specs.Runner.{Runner, CallStep, Send, Print, Wait, Over, turn, Turns, turns, after_step, joined}
 use Rattle.client_replies.specs.Stages.{end_meant}
 use Rattle.client_calls.specs.Kept.{RunnerKept}
 use Rattle.client_calls.specs.Represents.{StandsFor}

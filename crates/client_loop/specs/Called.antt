@@ -1,7 +1,7 @@
 -- What a call over a link leaves in the link and in the sink.
 use Rattle.std.specs.Prelude.{◌≡◌, ◌⊎◌, ℕ, List, [], ◌∷◌, ◌++◌, Option, Some, None, Result, Ok, Err}
 use Rattle.ads_base.specs.declared.no_memory.NoMemory.{NoMemory}
-use Rattle.ads_formats.specs.Header.{AmsAddress}
+use Rattle.spec_formats.specs.Header.{AmsAddress}
 use Rattle.ads_outside.specs.declared.connected.Connected.{Connected}
 use Rattle.ads_outside.specs.declared.connected.Connected.TheVariants as connected
 use Rattle.ads_outside.specs.declared.link_move.LinkMove.{LinkMove}
@@ -10,11 +10,11 @@ use Rattle.ads_outside.specs.LinkState.{LinkState}
 use Rattle.ads_outside.specs.Puts.{Appends, AppendsPart}
 use Rattle.ads_outside.specs.Rose.{Rose}
 use Rattle.ads_outside.specs.SinkState.{SinkState}
-use Rattle.ads_client.specs.Calls.{Call}
-use Rattle.ads_client.specs.CallOver.{call_over}
-use Rattle.ads_client.specs.Conversation as conversation
-use Rattle.ads_client.specs.Conversation.{LinkAnswer, Conversation, conversation_begun, conversation_after}
-use Rattle.ads_talk.specs.CallLog.{call_log, call_log_up_to, call_sent_last}
+use Rattle.spec_client.specs.Calls.{Call}
+use Rattle.spec_client.specs.CallOver.{call_over}
+use Rattle.spec_client.specs.Conversation as conversation
+use Rattle.spec_client.specs.Conversation.{LinkAnswer, Conversation, conversation_begun, conversation_after}
+use Rattle.spec_client.specs.CallLog.{call_log, call_log_up_to, call_sent_last}
 use Rattle.client_replies.specs.Stages.{end_meant}
 use Rattle.client_loop.specs.declared.loop_end.LoopEnd.{LoopEnd}
 use Rattle.client_loop.specs.declared.loop_end.LoopEnd.TheVariants as end

@@ -8,11 +8,11 @@ use Rattle.ads_outside.specs.LinkState.{LinkState, LinkHistory}
 use Rattle.ads_outside.specs.Puts.{Appends, AppendsPart}
 use Rattle.ads_outside.specs.Rose.{Rose}
 use Rattle.ads_outside.specs.SinkState.{SinkState}
-use Rattle.ads_client.specs.CallOver.{conversation_after_all}
-use Rattle.ads_client.specs.Conversation as conversation
-use Rattle.ads_client.specs.Conversation.{LinkAnswer, Conversation, Sent, MAX_QUIET, MAX_ANSWERS, moment_of, runner_after_answer, conversation_after}
-use Rattle.ads_client.specs.Runner.{Runner}
-use Rattle.ads_talk.specs.CallLog.{event_of, sent_last, log_behind, log_up_to}
+use Rattle.spec_client.specs.CallOver.{conversation_after_all}
+use Rattle.spec_client.specs.Conversation as conversation
+use Rattle.spec_client.specs.Conversation.{LinkAnswer, Conversation, Sent, MAX_QUIET, MAX_ANSWERS, moment_of, runner_after_answer, conversation_after}
+use Rattle.spec_client.specs.Runner.{Runner}
+use Rattle.spec_client.specs.CallLog.{event_of, sent_last, log_behind, log_up_to}
 use Rattle.client_replies.specs.Stages.{end_meant}
 use Rattle.client_calls.specs.Kept.{RunnerKept}
 use Rattle.client_calls.specs.Represents.{StandsFor}

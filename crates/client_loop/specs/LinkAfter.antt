@@ -1,7 +1,7 @@
 -- What a link's answers make of its history.
 use Rattle.std.specs.Prelude.{ℕ, List, [], ◌∷◌}
 use Rattle.ads_outside.specs.LinkState.{LinkHistory, connected_at, bytes_came, quiet_came, closed_came}
-use Rattle.ads_client.specs.Conversation.{LinkAnswer, Bytes, Quiet, Closed}
+use Rattle.spec_client.specs.Conversation.{LinkAnswer, Bytes, Quiet, Closed}
 
 abbrev pub history_after_answer : LinkHistory → LinkAnswer → LinkHistory
 history_after_answer h (Bytes bytes now) = bytes_came now h

@@ -3,8 +3,8 @@ use Rattle.std.specs.Prelude.{◌≡◌, ◌⊎◌, ℕ, List, [], ◌∷◌, �
 use Rattle.ads_outside.specs.declared.link_move.LinkMove.{LinkMove}
 use Rattle.ads_outside.specs.declared.link_move.LinkMove.TheVariants as move
 use Rattle.ads_outside.specs.Puts.{Appends, AppendsPart}
-use Rattle.ads_client.specs.Conversation.{Sent}
-use Rattle.ads_talk.specs.CallLog.{sent_moves}
+use Rattle.spec_client.specs.Conversation.{Sent}
+use Rattle.spec_client.specs.CallLog.{sent_moves}
 
 -- These moves send some of this, from the first on: each whole, but perhaps the last of them, of which some first bytes are sent.
 abbrev pub SendsSome : List Sent → List LinkMove → Type 0

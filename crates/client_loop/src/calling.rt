@@ -1,10 +1,10 @@
 //! The whole call.
 
-ghost use Rattle.ads_formats.specs.Header.{AmsAddress};
-ghost use Rattle.ads_client.specs.Calls.{Call as CallSpec};
-ghost use Rattle.ads_client.specs.Runner.{new_runner};
+ghost use Rattle.spec_formats.specs.Header.{AmsAddress};
+ghost use Rattle.spec_client.specs.Calls.{Call as CallSpec};
+ghost use Rattle.spec_client.specs.Runner.{new_runner};
 ghost use Rattle.client_calls.specs.Represents.{StandsFor, IsGoingOn};
-ghost use Rattle.ads_client.specs.Conversation.{conversation_begun};
+ghost use Rattle.spec_client.specs.Conversation.{conversation_begun};
 ghost use Rattle.ams_header.specs.Header.{address_of};
 ghost use Rattle.ads_outside.specs.LinkState.{LinkNeverFalls};
 ghost use Rattle.ads_outside.specs.SinkState.{NeverFalls};

@@ -3,7 +3,7 @@
 ghost use Rattle.std.specs.Prelude.{◌≡◌, ◌<◌, length, IfOk};
 ghost use Rattle.ads_outside.specs.LinkState.{LinkNeverFalls};
 ghost use Rattle.ads_outside.specs.SinkState.{NeverFalls};
-ghost use Rattle.ads_client.specs.Conversation.{Conversation, MAX_QUIET};
+ghost use Rattle.spec_client.specs.Conversation.{Conversation, MAX_QUIET};
 ghost use Rattle.client_calls.specs.Represents.{IsGoingOn};
 ghost use Rattle.client_loop.specs.Hearing.{AfterRound, EndsOver, TurnsBehind, IsAt, IsBegun, IfGoes, moment_in, waits_behind};
 

@@ -3,7 +3,7 @@
 ghost use Rattle.std.specs.Prelude.{◌≡◌, ◌<◌, ℕ, List, IfOk, MatchOption};
 ghost use Rattle.ads_outside.specs.LinkState.{LinkNeverFalls};
 ghost use Rattle.ads_outside.specs.SinkState.{NeverFalls};
-ghost use Rattle.ads_client.specs.Runner.{Runner as Spec};
+ghost use Rattle.spec_client.specs.Runner.{Runner as Spec};
 ghost use Rattle.client_calls.specs.Kept.{turns_left};
 ghost use Rattle.client_calls.specs.Represents.{StandsFor, IsGoingOn};
 ghost use Rattle.client_loop.specs.Turning.{AfterTurn, AfterTurns, AfterSend, AfterPut};

@@ -5,16 +5,16 @@ use Rattle.std.specs.List.{list_any}
 use Rattle.std.proofs.lemmas.Bool.{and_parts, cases_Bool}
 use Rattle.std.proofs.lemmas.List.Sums.{sum_by-cons}
 use Rattle.ads_base.specs.declared.peer.Peer.{Peer}
-use Rattle.ads_frames.specs.Division.{Front, Whole, Open, Broken, front_of, rest_of}
-use Rattle.ads_formats.specs.Header.{AmsHeader, header_of, payload_of}
-use Rattle.ads_formats.specs.Notification.{Stamp}
-use Rattle.ads_formats.specs.NotificationReading.{notification_of}
-use Rattle.ads_formats.specs.Commands.{DEVICE_NOTIFICATION}
-use Rattle.ads_client.specs.Heard.{Heard, Answered, Sampled, Ended, Stray, StampedSample, samples_of_stamps, heard_of_sample}
-use Rattle.ads_client.specs.Unanswered.{Unanswered, is_outstanding, is_outstanding_at, is_timed_out_at, is_overdue, outstanding_count, after_tick_of, next_timeout, without_first}
-use Rattle.ads_client.specs.PassedOver.{is_response}
-use Rattle.ads_client.specs.Client.{Client, packets_left}
-use Rattle.ads_client.specs.Hearing.{Hearing, hearing, is_answer, is_off_its_text, answer_hearing, samples_hearing, notification_hearing, header_hearing, packet_hearing, rest_hearing, with_one_taken, packets_hearing, hearing_of_samples, hearing_unless_broken, hearing_of_timeout, next_hearing}
+use Rattle.spec_frames.specs.Division.{Front, Whole, Open, Broken, front_of, rest_of}
+use Rattle.spec_formats.specs.Header.{AmsHeader, header_of, payload_of}
+use Rattle.spec_formats.specs.Notification.{Stamp}
+use Rattle.spec_formats.specs.NotificationReading.{notification_of}
+use Rattle.spec_formats.specs.Commands.{DEVICE_NOTIFICATION}
+use Rattle.spec_client.specs.Heard.{Heard, Answered, Sampled, Ended, Stray, StampedSample, samples_of_stamps, heard_of_sample}
+use Rattle.spec_client.specs.Unanswered.{Unanswered, is_outstanding, is_outstanding_at, is_timed_out_at, is_overdue, outstanding_count, after_tick_of, next_timeout, without_first}
+use Rattle.spec_client.specs.PassedOver.{is_response}
+use Rattle.spec_client.specs.Client.{Client, packets_left}
+use Rattle.spec_client.specs.Hearing.{Hearing, hearing, is_answer, is_off_its_text, answer_hearing, samples_hearing, notification_hearing, header_hearing, packet_hearing, rest_hearing, with_one_taken, packets_hearing, hearing_of_samples, hearing_unless_broken, hearing_of_timeout, next_hearing}
 
 either : {X : Type 0} (P : X → Type 0) (b : Bool) (x y : X) → P x → P y → P (if b then x else y)
 either P true x y first second = first

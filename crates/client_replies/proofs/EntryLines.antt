@@ -3,10 +3,10 @@ use Rattle.std.proofs.Common.{◌≡◌, ◌≢◌, ℕ, suc, ◌+◌, ◌-◌, 
 use Rattle.std.proofs.lemmas.Bool.{eq-eqb, ne_eqb}
 use Rattle.std.proofs.lemmas.List.{append-nil, map-append}
 use Rattle.std.specs.Prelude.{Option, Some, None, option_map, option_and_then, ◌==◌, if◌then◌else◌}
-use Rattle.ads_formats.specs.SymbolEntry.{SymbolEntry, entry_of}
-use Rattle.ads_client.specs.Entries.{entries_in, is_taken, first_of, one_entry_in}
-use Rattle.ads_client.specs.Printed.{entry_line}
-use Rattle.ads_client.specs.Stages as stages
+use Rattle.spec_formats.specs.SymbolEntry.{SymbolEntry, entry_of}
+use Rattle.spec_client.specs.Entries.{entries_in, is_taken, first_of, one_entry_in}
+use Rattle.spec_client.specs.Printed.{entry_line}
+use Rattle.spec_client.specs.Stages as stages
 use Rattle.client_replies.specs.Stages.{output_kept}
 use Rattle.client_replies.specs.declared.stage.Output.{Output}
 use Rattle.client_replies.specs.declared.stage.Output.TheVariants as output

@@ -2,21 +2,21 @@
 use Rattle.std.proofs.Common.{◌≡◌, ℕ, zero, suc, ◌+◌, ◌≤◌, List, [], ◌∷◌, map, length, Bool, true, false, refl, ap, arith, lit≤}
 use Rattle.std.specs.Prelude.{Option, Some, None, ◌==◌, if◌then◌else◌, option_and_then, option_map}
 use Rattle.std.proofs.lemmas.Bool.{leb-true}
-use Rattle.ads_formats.specs.SymbolEntry.{SymbolEntry, entry_of}
-use Rattle.ads_formats.specs.TypeEntry.{TypeEntry}
-use Rattle.ads_formats.specs.Reply.{Reply, reply_of, result_of}
-use Rattle.ads_formats.specs.Numbers.{number32}
-use Rattle.ads_formats.specs.Request.{Request}
-use Rattle.ads_formats.specs.ValueText.{value_text}
-use Rattle.ads_client.specs.Heard.{Heard, Answered, Sampled, Ended, Stray, TimedOut, NotYet, Broken}
-use Rattle.ads_client.specs.Calls.{MAX_SIZE, value_request, write_request, upload_request, type_upload_request}
-use Rattle.ads_client.specs.Entries.{one_entry_in, entries_in, first_of, is_taken, types_in}
-use Rattle.ads_client.specs.Leaves.{leaves_of, leaf_line}
-use Rattle.ads_client.specs.Printed.{line, entry_line, sample_line, ended_line}
-use Rattle.ads_client.specs.Stages.{ToSend, ToPrint, Purpose, ToGet, ToSet, ToWatch, ToShow, Stage, AwaitsFacts, AwaitsState, AwaitsLast, AwaitsEntry, AwaitsValue, AwaitsHandle, AwaitsWrite, AwaitsUploadInfo, AwaitsUpload, AwaitsNotification, Watches, AwaitsTypeInfo, AwaitsTypes, AwaitsLeaves, Finished, CallEnd, Refused, Progress, progress, stay, ended, done_with, bad_text}
-use Rattle.ads_client.specs.Replies.{bytes_given, after_entry, after_entry_read, after_value_read, after_upload, after_types, after_reply, after_reply_read, after_answer}
-use Rattle.ads_client.specs.Steps.{with_samples_left, after_watched_sample, after_sample, after_end, after_heard}
-use Rattle.ads_client.specs.ValueReading.{value_of_text}
+use Rattle.spec_formats.specs.SymbolEntry.{SymbolEntry, entry_of}
+use Rattle.spec_formats.specs.TypeEntry.{TypeEntry}
+use Rattle.spec_formats.specs.Reply.{Reply, reply_of, result_of}
+use Rattle.spec_formats.specs.Numbers.{number32}
+use Rattle.spec_formats.specs.Request.{Request}
+use Rattle.spec_formats.specs.ValueText.{value_text}
+use Rattle.spec_client.specs.Heard.{Heard, Answered, Sampled, Ended, Stray, TimedOut, NotYet, Broken}
+use Rattle.spec_client.specs.Calls.{MAX_SIZE, value_request, write_request, upload_request, type_upload_request}
+use Rattle.spec_client.specs.Entries.{one_entry_in, entries_in, first_of, is_taken, types_in}
+use Rattle.spec_client.specs.Leaves.{leaves_of, leaf_line}
+use Rattle.spec_client.specs.Printed.{line, entry_line, sample_line, ended_line}
+use Rattle.spec_client.specs.Stages.{ToSend, ToPrint, Purpose, ToGet, ToSet, ToWatch, ToShow, Stage, AwaitsFacts, AwaitsState, AwaitsLast, AwaitsEntry, AwaitsValue, AwaitsHandle, AwaitsWrite, AwaitsUploadInfo, AwaitsUpload, AwaitsNotification, Watches, AwaitsTypeInfo, AwaitsTypes, AwaitsLeaves, Finished, CallEnd, Refused, Progress, progress, stay, ended, done_with, bad_text}
+use Rattle.spec_client.specs.Replies.{bytes_given, after_entry, after_entry_read, after_value_read, after_upload, after_types, after_reply, after_reply_read, after_answer}
+use Rattle.spec_client.specs.Steps.{with_samples_left, after_watched_sample, after_sample, after_end, after_heard}
+use Rattle.spec_client.specs.ValueReading.{value_of_text}
 use Rattle.value_text.proofs.ValuesFound.{values_found}
 use Rattle.client_replies.specs.Sound.{AreSendable, HasShortData, HasShortNames, asked_count, most_asked}
 use Rattle.client_replies.proofs.Answering.{answers}

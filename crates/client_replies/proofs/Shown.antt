@@ -1,14 +1,14 @@
 -- The leaves that are found of a symbol are those that are printed, and where none are found the peer is bad.
 use Rattle.std.proofs.Common.{◌≡◌, ℕ, List, [], ◌∷◌, Bool, true, false, refl, ap}
 use Rattle.std.specs.Prelude.{Option, Some, None, if◌then◌else◌, option_and_then}
-use Rattle.ads_plant.specs.TypeTexts.{type_text_of}
-use Rattle.ads_formats.specs.SymbolEntry.{SymbolEntry}
-use Rattle.ads_formats.specs.TypeEntry.{TypeEntry}
-use Rattle.ads_client.specs.Calls.{value_request}
-use Rattle.ads_client.specs.Leaves.{Leaf, leaves_of}
-use Rattle.ads_client.specs.LeafTypes.{is_sound_text}
-use Rattle.ads_client.specs.Replies.{after_types}
-use Rattle.ads_client.specs.Stages.{ToSend, AwaitsLeaves, Progress, progress, ended, bad_text}
+use Rattle.spec_plant.specs.TypeTexts.{type_text_of}
+use Rattle.spec_formats.specs.SymbolEntry.{SymbolEntry}
+use Rattle.spec_formats.specs.TypeEntry.{TypeEntry}
+use Rattle.spec_client.specs.Calls.{value_request}
+use Rattle.spec_client.specs.Leaves.{Leaf, leaves_of}
+use Rattle.spec_client.specs.LeafTypes.{is_sound_text}
+use Rattle.spec_client.specs.Replies.{after_types}
+use Rattle.spec_client.specs.Stages.{ToSend, AwaitsLeaves, Progress, progress, ended, bad_text}
 use Rattle.client_leaves.specs.Found.{leaves_found}
 
 none_by : (b : Bool) (found : List Leaf) (bad shown : Progress) → None ≡ (if b then Some found else None) → bad ≡ (if b then shown else bad)

@@ -3,15 +3,15 @@ use Rattle.std.proofs.Common.{◌≡◌, ℕ, ◌+◌, ◌<◌, List, [], ◌∷
 use Rattle.std.specs.Prelude.{None}
 use Rattle.std.proofs.lemmas.Bool.{lt-leb}
 use Rattle.std.proofs.lemmas.List.Sums.{sum_by-append}
-use Rattle.ads_formats.specs.Header.{AmsAddress}
-use Rattle.ads_formats.specs.Request.{Request, command_of}
-use Rattle.ads_client.specs.Unanswered.{Unanswered, MAX_OUTSTANDING, outstanding_count}
-use Rattle.ads_client.specs.Client.{Client, next_id, is_full, client_after_issue, client_after_tick}
-use Rattle.ads_client.specs.Hearing.{next_hearing}
-use Rattle.ads_client.specs.Calls.{Call, Info, State, Control, Get, Set, Symbols, Watch, Show}
-use Rattle.ads_client.specs.Stages.{Output, ToSend, ToPrint}
-use Rattle.ads_client.specs.Steps.{begun}
-use Rattle.ads_client.specs.Runner.{Runner, new_runner, runner_after_feed, runner_after_tick, runner_after_hearing}
+use Rattle.spec_formats.specs.Header.{AmsAddress}
+use Rattle.spec_formats.specs.Request.{Request, command_of}
+use Rattle.spec_client.specs.Unanswered.{Unanswered, MAX_OUTSTANDING, outstanding_count}
+use Rattle.spec_client.specs.Client.{Client, next_id, is_full, client_after_issue, client_after_tick}
+use Rattle.spec_client.specs.Hearing.{next_hearing}
+use Rattle.spec_client.specs.Calls.{Call, Info, State, Control, Get, Set, Symbols, Watch, Show}
+use Rattle.spec_client.specs.Stages.{Output, ToSend, ToPrint}
+use Rattle.spec_client.specs.Steps.{begun}
+use Rattle.spec_client.specs.Runner.{Runner, new_runner, runner_after_feed, runner_after_tick, runner_after_hearing}
 use Rattle.client_replies.specs.Sound.{HasShortTexts, IsSendable, AreSendable, IsSound, asked_count}
 use Rattle.client_replies.proofs.Answering.{count-tick, asked_falls}
 use Rattle.client_replies.proofs.Keeping.{keeps_heard, at_most_one}

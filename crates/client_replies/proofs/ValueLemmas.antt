@@ -1,9 +1,9 @@
 -- The value that a text is read as, or that there is none.
 use Rattle.std.proofs.Common.{◌≡◌, ℕ, List, refl, sym}
 use Rattle.std.specs.Prelude.{Option, Some, None}
-use Rattle.ads_frames.specs.Number.{AreBytes}
-use Rattle.ads_formats.specs.ValueText.{IsValueOf}
-use Rattle.ads_client.specs.ValueReading.{value_of_text}
+use Rattle.spec_frames.specs.Number.{AreBytes}
+use Rattle.spec_formats.specs.ValueText.{IsValueOf}
+use Rattle.spec_client.specs.ValueReading.{value_of_text}
 use Rattle.value_text.proofs.ValuesFound.{values_found}
 
 none_of : (o : Option (List ℕ)) → ((value : List ℕ) → o ≡ Some value → ⊥) → None ≡ o

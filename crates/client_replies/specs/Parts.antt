@@ -1,9 +1,9 @@
 -- The parts of what a reply leads to, as the code has them. No public clause cites this file.
 use Rattle.std.specs.Prelude.{ℕ, List, ◌++◌, map, length, ◌==◌, if◌then◌else◌, Option, Some, None, option_map, option_and_then}
-use Rattle.ads_formats.specs.SymbolEntry.{SymbolEntry, entry_of}
-use Rattle.ads_client.specs.Entries.{is_taken}
-use Rattle.ads_client.specs.Printed.{entry_line}
-use Rattle.ads_client.specs.Stages as stages
+use Rattle.spec_formats.specs.SymbolEntry.{SymbolEntry, entry_of}
+use Rattle.spec_client.specs.Entries.{is_taken}
+use Rattle.spec_client.specs.Printed.{entry_line}
+use Rattle.spec_client.specs.Stages as stages
 use Rattle.client_replies.specs.Stages.{progress_kept}
 use Rattle.client_replies.specs.declared.stage.Progress.{Progress}
 

@@ -1,10 +1,10 @@
 -- Runners whose requests can be sent, one after another.
 use Rattle.std.specs.Prelude.{ℕ, ◌+◌, ◌≤◌, List, [], ◌∷◌, length}
-use Rattle.ads_formats.specs.Request as request
-use Rattle.ads_client.specs.Unanswered.{outstanding_count}
-use Rattle.ads_client.specs.Calls.{Call, Info, State, Control, Get, Set, Symbols, Watch, Show, MAX_SIZE}
-use Rattle.ads_client.specs.Stages.{Output, ToSend, ToPrint, Stage, AwaitsEntry, AwaitsHandle, AwaitsTypeInfo, AwaitsTypes, Watches}
-use Rattle.ads_client.specs.Runner.{Runner}
+use Rattle.spec_formats.specs.Request as request
+use Rattle.spec_client.specs.Unanswered.{outstanding_count}
+use Rattle.spec_client.specs.Calls.{Call, Info, State, Control, Get, Set, Symbols, Watch, Show, MAX_SIZE}
+use Rattle.spec_client.specs.Stages.{Output, ToSend, ToPrint, Stage, AwaitsEntry, AwaitsHandle, AwaitsTypeInfo, AwaitsTypes, Watches}
+use Rattle.spec_client.specs.Runner.{Runner}
 
 -- the greatest length of a text of a call
 abbrev pub MAX_TEXT : ℕ

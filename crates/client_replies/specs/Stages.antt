@@ -1,8 +1,8 @@
 -- Which call, stage, output and end of a call a kept value is.
 use Rattle.std.specs.Prelude.{ℕ, [], map}
-use Rattle.ads_client.specs.Calls as calls
-use Rattle.ads_client.specs.Printed.{ok_line}
-use Rattle.ads_client.specs.Stages as stages
+use Rattle.spec_client.specs.Calls as calls
+use Rattle.spec_client.specs.Printed.{ok_line}
+use Rattle.spec_client.specs.Stages as stages
 use Rattle.client_leaves.specs.Kept.{leaf_kept}
 use Rattle.client_replies.specs.Kept.{entry_kept, request_kept}
 use Rattle.client_replies.specs.declared.call.Call.{Call}

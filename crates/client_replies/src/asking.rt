@@ -2,7 +2,7 @@
 
 ghost use Rattle.std.specs.Prelude.{◌≡◌, IfOk, OnOk, [], ◌∷◌};
 ghost use Rattle.ads_commands.specs.Request.{request_meant};
-ghost use Rattle.ads_client.specs.Calls as calls;
+ghost use Rattle.spec_client.specs.Calls as calls;
 ghost use Rattle.client_replies.specs.Kept.{entry_kept, request_kept};
 ghost use Rattle.client_replies.specs.Stages.{mode_meant, watching_kept};
 

@@ -2,7 +2,7 @@
 
 ghost use Rattle.std.specs.Prelude.{◌≡◌, ◌≤◌, [], map, option_map, IfOk, IfSome};
 ghost use Rattle.symbol_info.specs.Entry.{entry_meant};
-ghost use Rattle.ads_client.specs.Entries.{entries_in, one_entry_in};
+ghost use Rattle.spec_client.specs.Entries.{entries_in, one_entry_in};
 ghost use Rattle.client_replies.specs.Kept.{entry_kept};
 ghost use Rattle.client_replies.specs.Stages.{output_kept};
 ghost use Rattle.client_replies.specs.Parts.{taken_entry_in, only_entry_in, outputs_behind};

@@ -2,11 +2,11 @@
 
 ghost use Rattle.std.specs.Prelude.{◌≡◌, ◌∷◌, ◌++◌, [], codes, take, drop, IfOk, OnOk};
 ghost use Rattle.std.specs.Fmt.{decimal};
-ghost use Rattle.ads_formats.specs.ValueText.{before_nul, value_text};
+ghost use Rattle.spec_formats.specs.ValueText.{before_nul, value_text};
 ghost use Rattle.ads_commands.specs.Reply.{facts_meant};
 ghost use Rattle.symbol_info.specs.Entry.{entry_meant};
-ghost use Rattle.ads_client.specs.Printed as printed;
-ghost use Rattle.ads_client.specs.Leaves as leaves;
+ghost use Rattle.spec_client.specs.Printed as printed;
+ghost use Rattle.spec_client.specs.Leaves as leaves;
 ghost use Rattle.client_leaves.specs.Kept.{leaf_kept};
 
 use ads_base::{NoMemory, Octets};
@@ -175,7 +175,7 @@ fn part_before_nul(bytes: &[u8]) -> &[u8]
 }
 
 /// Appends bytes, each that can't be printed as `\x` and two digits.
-#[tactic(auto, unfolding(ads_client::specs::Printed::escaped))]
+#[tactic(auto, unfolding(spec_client::specs::Printed::escaped))]
 pub(crate) fn put_escaped(alloc: Global, text: &mut Octets, bytes: &[u8]) -> Result<(), NoMemory>
     ensures { OnOk result (text.new ≡ text.old ++ printed.escaped bytes.now) }
 {

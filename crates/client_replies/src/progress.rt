@@ -1,7 +1,7 @@
 //! What is to be done next.
 
 ghost use Rattle.std.specs.Prelude.{◌≡◌, ◌∷◌, [], IfOk};
-ghost use Rattle.ads_client.specs.Stages as stages;
+ghost use Rattle.spec_client.specs.Stages as stages;
 ghost use Rattle.client_replies.specs.Kept.{request_kept};
 ghost use Rattle.client_replies.specs.Stages.{end_meant, stage_kept, output_kept, progress_kept};
 

@@ -1,14 +1,14 @@
 //! What the answer to a call's request leads to.
 
 ghost use Rattle.std.specs.Prelude.{◌≡◌, ◌≤◌, ◌∷◌, [], ℕ, List, IfOk};
-ghost use Rattle.ads_formats.specs.Reply.{reply_of, result_of};
+ghost use Rattle.spec_formats.specs.Reply.{reply_of, result_of};
 ghost use Rattle.ads_commands.specs.Reply.{reply_meant};
-ghost use Rattle.ads_client.specs.Calls.{release_request};
-ghost use Rattle.ads_client.specs.Printed.{ok_line};
-ghost use Rattle.ads_client.specs.Replies as replies;
-ghost use Rattle.ads_client.specs.Stages as stages;
-ghost use Rattle.ads_client.specs.Entries.{one_entry_in, entries_in};
-ghost use Rattle.ads_client.specs.ValueReading.{value_of_text};
+ghost use Rattle.spec_client.specs.Calls.{release_request};
+ghost use Rattle.spec_client.specs.Printed.{ok_line};
+ghost use Rattle.spec_client.specs.Replies as replies;
+ghost use Rattle.spec_client.specs.Stages as stages;
+ghost use Rattle.spec_client.specs.Entries.{one_entry_in, entries_in};
+ghost use Rattle.spec_client.specs.ValueReading.{value_of_text};
 ghost use Rattle.client_replies.specs.Kept.{entry_kept};
 ghost use Rattle.client_replies.specs.Stages.{stage_kept, purpose_kept, progress_kept};
 ghost use Rattle.client_replies.specs.Parts.{told};
@@ -29,7 +29,7 @@ use ads_commands::{Reply, read_reply};
 use std::alloc::Global;
 
 /// What an answer leads to: its AMS error, its command, and its bytes behind the AMS header.
-#[tactic(auto, unfolding(ads_client::specs::Replies::after_answer))]
+#[tactic(auto, unfolding(spec_client::specs::Replies::after_answer))]
 pub fn after_answer(
     alloc: Global,
     stage: Stage,
@@ -99,7 +99,7 @@ fn handle_given(r: &Reply<'_>) -> u32
 }
 
 // What a reply with the result 0 leads to.
-#[tactic(auto, unfolding(ads_client::specs::Replies::after_reply))]
+#[tactic(auto, unfolding(spec_client::specs::Replies::after_reply))]
 fn after_reply(alloc: Global, stage: Stage, reply: &Reply<'_>) -> Result<Option<Progress>, NoMemory>
     ensures { IfOk result (λ found. (payload : List ℕ) → told found payload
         ≡ replies.after_reply (stage_kept stage) (reply_meant reply.now) payload) }

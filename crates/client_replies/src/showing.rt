@@ -1,10 +1,10 @@
 //! What the answers lead to by which the leaves of a value are printed.
 
 ghost use Rattle.std.specs.Prelude.{◌≡◌, ℕ, List, map, take, drop, IfOk};
-ghost use Rattle.ads_client.specs.Entries.{types_in};
-ghost use Rattle.ads_client.specs.Leaves.{leaf_line};
-ghost use Rattle.ads_client.specs.Replies as replies;
-ghost use Rattle.ads_client.specs.Stages as stages;
+ghost use Rattle.spec_client.specs.Entries.{types_in};
+ghost use Rattle.spec_client.specs.Leaves.{leaf_line};
+ghost use Rattle.spec_client.specs.Replies as replies;
+ghost use Rattle.spec_client.specs.Stages as stages;
 ghost use Rattle.client_leaves.specs.Kept.{leaf_kept};
 ghost use Rattle.client_replies.specs.Kept.{entry_kept};
 ghost use Rattle.client_replies.specs.Stages.{output_kept};

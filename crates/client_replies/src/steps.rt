@@ -1,9 +1,9 @@
 //! What a call does when something else than an answer is heard, and how it begins.
 
 ghost use Rattle.std.specs.Prelude.{◌≡◌, ◌∷◌, [], IfOk};
-ghost use Rattle.ads_client.specs.Calls as calls;
-ghost use Rattle.ads_client.specs.Stages as stages;
-ghost use Rattle.ads_client.specs.Steps as steps;
+ghost use Rattle.spec_client.specs.Calls as calls;
+ghost use Rattle.spec_client.specs.Stages as stages;
+ghost use Rattle.spec_client.specs.Steps as steps;
 ghost use Rattle.client_replies.specs.Kept.{entry_kept};
 ghost use Rattle.client_replies.specs.Stages.{call_meant, purpose_kept, stage_kept, progress_kept};
 
@@ -18,7 +18,7 @@ use ads_base::{ListOf, NoMemory, Octets};
 use std::alloc::Global;
 
 /// What a sample leads to: those of other notifications, and those that nobody waits for, are passed over.
-#[tactic(auto, unfolding(ads_client::specs::Steps::after_sample))]
+#[tactic(auto, unfolding(spec_client::specs::Steps::after_sample))]
 pub fn after_sample(
     alloc: Global,
     stage: Stage,
@@ -85,7 +85,7 @@ fn with_samples_left(
 }
 
 /// What the end of a notification leads to: a call that watches it is done.
-#[tactic(auto, unfolding(ads_client::specs::Steps::after_end))]
+#[tactic(auto, unfolding(spec_client::specs::Steps::after_end))]
 pub fn after_end(alloc: Global, stage: Stage, handle: u32) -> Result<Progress, NoMemory>
     ensures { IfOk result (λ p. progress_kept p ≡ steps.after_end (stage_kept stage) handle) }
 {
@@ -103,7 +103,7 @@ pub fn after_end(alloc: Global, stage: Stage, handle: u32) -> Result<Progress, N
 }
 
 /// The first request of a call.
-#[tactic(auto, unfolding(ads_client::specs::Steps::begun))]
+#[tactic(auto, unfolding(spec_client::specs::Steps::begun))]
 pub fn begun(alloc: Global, call: Call) -> Result<Progress, NoMemory>
     ensures { IfOk result (λ p. progress_kept p ≡ steps.begun (call_meant call)) }
 {

@@ -1,8 +1,8 @@
 //! The value that a text is read as.
 
 ghost use Rattle.std.specs.Prelude.{◌≡◌, ◌≤◌, IfOk};
-ghost use Rattle.ads_frames.specs.Number.{AreBytes};
-ghost use Rattle.ads_client.specs.ValueReading.{value_of_text};
+ghost use Rattle.spec_frames.specs.Number.{AreBytes};
+ghost use Rattle.spec_client.specs.ValueReading.{value_of_text};
 
 use ads_base::{NoMemory, Octets};
 use std::alloc::Global;

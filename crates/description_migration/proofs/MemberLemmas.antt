@@ -10,7 +10,7 @@ use Rattle.std.proofs.lemmas.Cmp.{nat_list_cmp_total}
 use Rattle.std.proofs.lemmas.Map.Text.{is_eq-slice_cmp}
 use Rattle.std.proofs.lemmas.Slice.Eq.{bytes_eq-Decides}
 use Rattle.toml.specs.Data.{Data, Members, no_members, member, get_member}
-use Rattle.ads_rules.specs.Fields.{only_keys}
+use Rattle.spec_rules.specs.Fields.{only_keys}
 use Rattle.table_text.specs.SetMember.{set_member}
 
 -- what is found at one of three places

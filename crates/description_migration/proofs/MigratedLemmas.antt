@@ -4,10 +4,10 @@ use Rattle.std.specs.Prelude.{Ok, Err, Result, nat_lt, pos}
 use Rattle.std.specs.Option.{option_map_or}
 use Rattle.std.proofs.lemmas.Bool.{cases_Bool}
 use Rattle.toml.specs.Data.{integer, Members, members_are_sorted}
-use Rattle.ads_plant.specs.Description.{Description}
-use Rattle.ads_rules.specs.Tables.{document_in}
-use Rattle.ads_rules.specs.Verdict.{BrokenRule, table_verdict}
-use Rattle.ads_rules.specs.TextVerdict.{Described, DESCRIPTION_LIMIT, text_verdict, document_of, verdict_of_rules, verdict_of_document}
+use Rattle.spec_plant.specs.Description.{Description}
+use Rattle.spec_rules.specs.Tables.{document_in}
+use Rattle.spec_rules.specs.Verdict.{BrokenRule, table_verdict}
+use Rattle.spec_rules.specs.TextVerdict.{Described, DESCRIPTION_LIMIT, text_verdict, document_of, verdict_of_rules, verdict_of_document}
 use Rattle.table_text.specs.TableText.{document_text}
 use Rattle.std.specs.Result.{result_err}
 use Rattle.type_layout.specs.Descriptions.{description_of}

@@ -9,9 +9,9 @@ use Rattle.std.proofs.lemmas.Slice.Eq.{bytes_eq-Decides}
 use Rattle.toml.specs.Data.{Data, string, integer, float, boolean, datetime, array, table, Items, no_items, item, Members, no_members, member, get_member, as_str, as_integer, as_bool, is_before, is_sorted, items_are_sorted, members_are_sorted, depth, items_depth, members_depth}
 use Rattle.toml.proofs.Blanks.{below, below_from, greater_from}
 use Rattle.toml.proofs.Filled.{AllAbove}
-use Rattle.ads_rules.specs.Fields.{only_keys, required, or_absent, optional, maybe, items_in, array_of, table_of, tables_of}
-use Rattle.ads_rules.specs.Written.{WrittenRoute, WrittenMember, WrittenValue, WrittenType, WrittenSymbol, WrittenPort, Document}
-use Rattle.ads_rules.specs.Tables.{route_in, member_in, value_in, structure_in, enumeration_in, type_in, symbol_keys, symbol_in, port_keys, port_in, is_two, document_keys, document_in}
+use Rattle.spec_rules.specs.Fields.{only_keys, required, or_absent, optional, maybe, items_in, array_of, table_of, tables_of}
+use Rattle.spec_rules.specs.Written.{WrittenRoute, WrittenMember, WrittenValue, WrittenType, WrittenSymbol, WrittenPort, Document}
+use Rattle.spec_rules.specs.Tables.{route_in, member_in, value_in, structure_in, enumeration_in, type_in, symbol_keys, symbol_in, port_keys, port_in, is_two, document_keys, document_in}
 use Rattle.table_text.specs.PlainTable.{is_plain, are_plain, is_plain_table}
 use Rattle.description_migration.proofs.ReadLemmas.{bind_some, so_some, map_some, document_read, port_read}
 

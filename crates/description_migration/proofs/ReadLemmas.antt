@@ -3,9 +3,9 @@ use Rattle.std.proofs.Common.{◌≡◌, Bool, true, false, [], Option, Some, No
 use Rattle.std.specs.Prelude.{codes, pos, option_and_then}
 use Rattle.std.proofs.lemmas.Option.{same_Some}
 use Rattle.toml.specs.Data.{Members, as_str, as_integer}
-use Rattle.ads_rules.specs.Fields.{only_keys, required, optional, tables_of, if_so}
-use Rattle.ads_rules.specs.Written.{WrittenPort, Document}
-use Rattle.ads_rules.specs.Tables.{route_in, type_in, symbol_in, port_in, port_keys, is_two, document_keys, document_in}
+use Rattle.spec_rules.specs.Fields.{only_keys, required, optional, tables_of, if_so}
+use Rattle.spec_rules.specs.Written.{WrittenPort, Document}
+use Rattle.spec_rules.specs.Tables.{route_in, type_in, symbol_in, port_in, port_keys, is_two, document_keys, document_in}
 
 pub bind_some : {A B : Type 0} (f : A → Option B) (o : Option A) (y : B) → option_and_then f o ≡ Some y → (x : A) × (o ≡ Some x) × (f x ≡ Some y)
 bind_some f None y h = cc

@@ -2,9 +2,9 @@
 use Rattle.std.proofs.Common.{◌≡◌, Bool, true, false, List, [], ◌∷◌, Option, Some, None, option_map, refl, ap, ◌∙◌}
 use Rattle.std.specs.Prelude.{codes, pos, option_and_then}
 use Rattle.toml.specs.Data.{Data, integer, Items, no_items, item, Members, get_member, as_integer, as_str, as_array, as_table}
-use Rattle.ads_rules.specs.Fields.{only_keys, or_absent, items_in, array_of, table_of, tables_of}
-use Rattle.ads_rules.specs.Written.{WrittenType, WrittenSymbol, WrittenPort, Document}
-use Rattle.ads_rules.specs.Tables.{route_in, structure_in, type_in, symbol_keys_of_schema_1, symbol_in, port_in, is_two, document_keys, document_in}
+use Rattle.spec_rules.specs.Fields.{only_keys, or_absent, items_in, array_of, table_of, tables_of}
+use Rattle.spec_rules.specs.Written.{WrittenType, WrittenSymbol, WrittenPort, Document}
+use Rattle.spec_rules.specs.Tables.{route_in, structure_in, type_in, symbol_keys_of_schema_1, symbol_in, port_in, is_two, document_keys, document_in}
 use Rattle.table_text.specs.SetMember.{set_member}
 use Rattle.description_migration.specs.Migration.{SCHEMA, second_schema}
 use Rattle.description_migration.proofs.MemberLemmas.{get_member-set, get_member-other, only_keys-set, get_member-unknown, only_keys-more}

@@ -4,18 +4,18 @@ use Rattle.std.specs.Prelude.{Ok, ℤ, pos, nat_lt, nat_le, not, if◌then◌els
 use Rattle.std.specs.List.{list_all}
 use Rattle.std.proofs.lemmas.Bool.{and_parts, leb-true, le-leb}
 use Rattle.toml.specs.Data.{Members}
-use Rattle.ads_plant.specs.Accepted.{image_size, IMAGE_LIMIT}
-use Rattle.ads_plant.specs.AcceptedTypes.{is_same_number}
-use Rattle.ads_plant.specs.Description.{Description}
-use Rattle.ads_rules.specs.Written.{WrittenPort, Document}
-use Rattle.ads_rules.specs.Tables.{is_two, document_in}
-use Rattle.ads_rules.specs.Places.{first_wrong}
-use Rattle.ads_rules.specs.Described.{sizes_described, types_described, description_of}
-use Rattle.ads_rules.specs.RouteRules.{wrong_schema}
-use Rattle.ads_rules.specs.PortRules.{is_between, is_natural, is_port_name, image_limit, has_right_sizes, is_right_port, wrong_port}
-use Rattle.ads_rules.specs.Verdict.{BrokenRule, first_broken, rules_of, judged, document_verdict, verdict_behind, table_verdict}
-use Rattle.ads_rules.proofs.FirstWrong.{both_true, first_right}
-use Rattle.ads_rules.proofs.TypesAccepted.{lesser-none}
+use Rattle.spec_plant.specs.Accepted.{image_size, IMAGE_LIMIT}
+use Rattle.spec_plant.specs.AcceptedTypes.{is_same_number}
+use Rattle.spec_plant.specs.Description.{Description}
+use Rattle.spec_rules.specs.Written.{WrittenPort, Document}
+use Rattle.spec_rules.specs.Tables.{is_two, document_in}
+use Rattle.spec_rules.specs.Places.{first_wrong}
+use Rattle.spec_rules.specs.Described.{sizes_described, types_described, description_of}
+use Rattle.spec_rules.specs.RouteRules.{wrong_schema}
+use Rattle.spec_rules.specs.PortRules.{is_between, is_natural, is_port_name, image_limit, has_right_sizes, is_right_port, wrong_port}
+use Rattle.spec_rules.specs.Verdict.{BrokenRule, first_broken, rules_of, judged, document_verdict, verdict_behind, table_verdict}
+use Rattle.spec_rules.proofs.FirstWrong.{both_true, first_right}
+use Rattle.spec_rules.proofs.TypesAccepted.{lesser-none}
 use Rattle.description_migration.specs.Migration.{second_schema}
 use Rattle.description_migration.proofs.SecondLemmas.{under_second, document_up}
 

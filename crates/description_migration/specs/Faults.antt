@@ -1,7 +1,7 @@
 -- Why a text is no description, or that it is one; no public clause cites this.
 use Rattle.std.specs.Prelude.{◌≡◌, ℕ, List, Option, Some, None, Err}
-use Rattle.ads_plant.specs.Description.{Description}
-use Rattle.ads_rules.specs.TextVerdict.{Described, text_verdict}
+use Rattle.spec_plant.specs.Description.{Description}
+use Rattle.spec_rules.specs.TextVerdict.{Described, text_verdict}
 use Rattle.symbol_file.specs.declared.fault.DescFault.{DescFault}
 use Rattle.symbol_file.specs.Reading.{answer_of}
 

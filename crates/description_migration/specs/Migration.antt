@@ -4,10 +4,10 @@ use Rattle.std.specs.Option.{option_map_or}
 use Rattle.std.specs.Ordering.{nat_cmp, is_eq}
 use Rattle.std.specs.Cmp.Lexicographic.{slice_cmp}
 use Rattle.toml.specs.Data.{integer, Members, get_member}
-use Rattle.ads_plant.specs.Description.{Description}
-use Rattle.ads_rules.specs.Written.{Document}
-use Rattle.ads_rules.specs.Tables.{document_in}
-use Rattle.ads_rules.specs.TextVerdict.{Described, text_verdict, document_of, verdict_of_document}
+use Rattle.spec_plant.specs.Description.{Description}
+use Rattle.spec_rules.specs.Written.{Document}
+use Rattle.spec_rules.specs.Tables.{document_in}
+use Rattle.spec_rules.specs.TextVerdict.{Described, text_verdict, document_of, verdict_of_document}
 use Rattle.table_text.specs.SetMember.{set_member}
 use Rattle.table_text.specs.TableText.{document_text}
 

@@ -2,7 +2,7 @@
 
 ghost use Rattle.std.specs.Prelude.{◌≡◌, Some, Err, option_map, IfOk, IfErr};
 ghost use Rattle.toml.specs.View.{table_view};
-ghost use Rattle.ads_rules.specs.TextVerdict.{document_of, text_verdict};
+ghost use Rattle.spec_rules.specs.TextVerdict.{document_of, text_verdict};
 ghost use Rattle.symbol_file.specs.Reading.{answer_of};
 ghost use Rattle.description_migration.specs.Faults.{IsFault};
 ghost use Rattle.description_migration.specs.Migration.{IsDocument, IsMigrated, migrated_text, second_schema};

@@ -3,9 +3,9 @@ use Rattle.std.proofs.Common.{◌≡◌, ℕ, true, ◌&&◌, nat_le, List, [], 
 use Rattle.std.specs.List.{list_all}
 use Rattle.std.proofs.lemmas.Bool.{and_parts, leb-true}
 use Rattle.std.proofs.lemmas.Option.{slice_get-map}
-use Rattle.ads_plant.proofs.TypeLemmas.{list_all-get}
-use Rattle.ads_plant.specs.Trees.{TypeTree, StructTree, NoMember, tree_at}
-use Rattle.ads_plant.specs.Sizes.{type_size, type_align, type_depth, greatest_align, greatest_depth, members_end}
+use Rattle.spec_plant.proofs.TypeLemmas.{list_all-get}
+use Rattle.spec_plant.specs.Trees.{TypeTree, StructTree, NoMember, tree_at}
+use Rattle.spec_plant.specs.Sizes.{type_size, type_align, type_depth, greatest_align, greatest_depth, members_end}
 use Rattle.description_rules.specs.Extents.{TypeExtent, extent_view, extent_of}
 use Rattle.description_rules.specs.Known.{IsFair, is_fair}
 use Rattle.description_rules.specs.declared.extents.Extent.{Extent}

@@ -2,7 +2,7 @@
 use Rattle.std.proofs.Common.{◌≡◌, ℕ, suc, ◌+◌, ◌≤◌, ◌<◌, Bool, true, false, cond, List, [], ◌∷◌, ◌++◌, length, get_or, take, drop, map, refl, ap, sym, ◌∙◌, arith, add-one, drop-cons, Option, Some, None, option_map}
 use Rattle.std.proofs.Math.Seq.{take-suc}
 use Rattle.std.proofs.lemmas.List.{map-append, drop_all}
-use Rattle.ads_rules.specs.Places.{first_wrong}
+use Rattle.spec_rules.specs.Places.{first_wrong}
 
 abbrev pub place_from : ℕ → Option ℕ → Option ℕ
 place_from i place = option_map (λ j. i + j) place

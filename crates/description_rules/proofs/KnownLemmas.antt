@@ -4,13 +4,13 @@ use Rattle.std.specs.List.{list_all}
 use Rattle.std.proofs.lemmas.Bool.{and_from, le-leb}
 use Rattle.std.proofs.lemmas.List.{map-append}
 use Rattle.std.proofs.lemmas.List.Folds.{list_all-append}
-use Rattle.ads_plant.specs.Listed.{NamedType}
-use Rattle.ads_plant.specs.Trees.{TypeTree, trees_of, trees_behind, named_tree}
-use Rattle.ads_plant.specs.Sizes.{type_size, type_depth}
-use Rattle.ads_rules.specs.Written.{WrittenType}
-use Rattle.ads_rules.specs.Places.{first_wrong}
-use Rattle.ads_rules.specs.SizeRules.{wrong_size, is_right_size, members_of}
-use Rattle.ads_rules.specs.Described.{type_described, types_behind, types_described}
+use Rattle.spec_plant.specs.Listed.{NamedType}
+use Rattle.spec_plant.specs.Trees.{TypeTree, trees_of, trees_behind, named_tree}
+use Rattle.spec_plant.specs.Sizes.{type_size, type_depth}
+use Rattle.spec_rules.specs.Written.{WrittenType}
+use Rattle.spec_rules.specs.Places.{first_wrong}
+use Rattle.spec_rules.specs.SizeRules.{wrong_size, is_right_size, members_of}
+use Rattle.spec_rules.specs.Described.{type_described, types_behind, types_described}
 use Rattle.description_rules.specs.TypesLeft.{types_left}
 use Rattle.description_rules.specs.Built.{are_small_members}
 use Rattle.description_rules.specs.Extents.{TypeExtent, extent_view, extent_of}

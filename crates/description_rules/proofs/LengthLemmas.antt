@@ -3,8 +3,8 @@ use Rattle.std.proofs.Common.{◌≡◌, ℕ, ◌+◌, ◌/◌, ◌%◌, ◌^◌
 use Rattle.std.specs.Prelude.{decimal, codes}
 use Rattle.std.specs.Fmt.{signed_decimal}
 use Rattle.std.proofs.lemmas.Fmt.{decimal_digit, decimal_step}
-use Rattle.ads_plant.specs.Listed.{Bound}
-use Rattle.ads_plant.specs.Spelling.{bound_text, high_of, joined_by_comma}
+use Rattle.spec_plant.specs.Listed.{Bound}
+use Rattle.spec_plant.specs.Spelling.{bound_text, high_of, joined_by_comma}
 
 pub length-digit : (n : ℕ) → n < 10 → length (decimal n) ≡ 1
 length-digit n h = ap length (decimal_digit n h)

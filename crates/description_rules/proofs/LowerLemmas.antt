@@ -4,7 +4,7 @@ use Rattle.std.specs.Prelude.{bytes_eq}
 use Rattle.std.specs.List.{list_all}
 use Rattle.std.proofs.lemmas.List.Folds.{list_all-map}
 use Rattle.name_paths.specs.Identifier.{lower}
-use Rattle.ads_plant.specs.AcceptedTypes.{differ}
+use Rattle.spec_plant.specs.AcceptedTypes.{differ}
 use Rattle.description_rules.specs.Next.{IsNext}
 use Rattle.description_rules.specs.NameStarts.{is_none_of}
 use Rattle.description_rules.proofs.FirstLemmas.{take-more}

@@ -5,13 +5,13 @@ use Rattle.std.specs.Option.{option_map_or}
 use Rattle.std.specs.List.{list_all, list_any}
 use Rattle.std.proofs.lemmas.List.Folds.{list_all-append}
 use Rattle.name_paths.specs.Identifier.{lower}
-use Rattle.ads_plant.specs.AcceptedTypes.{differ, is_short_identifier, is_comment}
-use Rattle.ads_plant.specs.TypeTexts.{ElemText, PlainText, StringText, NamedText, TypeText, type_text_of, is_same_word}
-use Rattle.ads_rules.specs.Written.{WrittenMember, WrittenType, written_name, written_members}
-use Rattle.ads_rules.specs.Places.{first_wrong}
-use Rattle.ads_rules.specs.Shapes.{shape_of_text}
-use Rattle.ads_rules.specs.Described.{types_described}
-use Rattle.ads_rules.specs.TypeRules.{is_right_member, wrong_member_of}
+use Rattle.spec_plant.specs.AcceptedTypes.{differ, is_short_identifier, is_comment}
+use Rattle.spec_plant.specs.TypeTexts.{ElemText, PlainText, StringText, NamedText, TypeText, type_text_of, is_same_word}
+use Rattle.spec_rules.specs.Written.{WrittenMember, WrittenType, written_name, written_members}
+use Rattle.spec_rules.specs.Places.{first_wrong}
+use Rattle.spec_rules.specs.Shapes.{shape_of_text}
+use Rattle.spec_rules.specs.Described.{types_described}
+use Rattle.spec_rules.specs.TypeRules.{is_right_member, wrong_member_of}
 use Rattle.description_rules.specs.NameStarts.{IsAdded}
 use Rattle.description_rules.specs.NextMember.{names_only_in, is_type_in, is_right_named, wrong_member_in, AreTypeNames}
 use Rattle.description_rules.specs.TypeNames.{names_only}

@@ -6,11 +6,11 @@ use Rattle.std.specs.Prelude.{position}
 use Rattle.std.specs.List.{list_any, position_or_len}
 use Rattle.std.proofs.lemmas.Bool.{cases_Bool, cases_lt, lt-ltb, le-ltb}
 use Rattle.std.proofs.lemmas.List.{map-append}
-use Rattle.ads_plant.specs.Listed.{NamedType, type_name}
-use Rattle.ads_plant.specs.TypeTexts.{Ends, ElemText, PlainText, StringText, NamedText, TypeText, type_text_of, is_same_word}
-use Rattle.ads_rules.specs.Written.{WrittenType, WrittenStructure, WrittenEnumeration, written_name}
-use Rattle.ads_rules.specs.Described.{type_described, types_described, types_behind}
-use Rattle.ads_rules.specs.Shapes.{place_named, elem_at, elem_named, shape_with, shape_named, shape_of_text}
+use Rattle.spec_plant.specs.Listed.{NamedType, type_name}
+use Rattle.spec_plant.specs.TypeTexts.{Ends, ElemText, PlainText, StringText, NamedText, TypeText, type_text_of, is_same_word}
+use Rattle.spec_rules.specs.Written.{WrittenType, WrittenStructure, WrittenEnumeration, written_name}
+use Rattle.spec_rules.specs.Described.{type_described, types_described, types_behind}
+use Rattle.spec_rules.specs.Shapes.{place_named, elem_at, elem_named, shape_with, shape_named, shape_of_text}
 use Rattle.description_rules.specs.TypeNames.{names_only, is_type_among}
 use Rattle.description_rules.proofs.Mapped.{list_any-map}
 

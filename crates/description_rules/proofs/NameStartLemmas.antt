@@ -9,8 +9,8 @@ use Rattle.std.proofs.lemmas.List.Folds.{list_all-map, list_all-append}
 use Rattle.std.proofs.lemmas.Slice.Eq.{bytes_eq-Decides}
 use Rattle.name_paths.specs.Identifier.{lower}
 use Rattle.name_paths.specs.Name.{is_full_stop, lower_identifiers, is_symbol_name}
-use Rattle.ads_rules.specs.Written.{WrittenSymbol}
-use Rattle.ads_rules.specs.SymbolRules.{neither_begins, is_right_name}
+use Rattle.spec_rules.specs.Written.{WrittenSymbol}
+use Rattle.spec_rules.specs.SymbolRules.{neither_begins, is_right_name}
 use Rattle.description_table.specs.declared.written.WrittenSymbol as code
 use Rattle.description_table.specs.Views.{symbol_view}
 use Rattle.description_rules.specs.NextName.{IsNextName, name_view}

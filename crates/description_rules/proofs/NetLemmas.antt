@@ -13,7 +13,7 @@ use Rattle.std.proofs.lemmas.Slice.Eq.{bytes_eq-Decides}
 use Rattle.ads_base.specs.NetId.{IsNetId, net_text}
 use Rattle.ads_base.proofs.DecimalLemmas.{decimal-free}
 use Rattle.name_paths.specs.Name.{is_full_stop}
-use Rattle.ads_rules.specs.Nets.{net_of, numbers_in, is_net}
+use Rattle.spec_rules.specs.Nets.{net_of, numbers_in, is_net}
 
 abbrev are_bytes : List ℕ → Bool
 are_bytes = list_all (λ n. nat_le n 255)

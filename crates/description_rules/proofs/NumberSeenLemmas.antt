@@ -9,7 +9,7 @@ use Rattle.std.proofs.lemmas.Bool.{and_parts, not-true, eqb-true, eq-eqb}
 use Rattle.std.proofs.lemmas.Bool.Decides.{Decides-int_eq, same_from_decides}
 use Rattle.std.proofs.lemmas.List.Folds.{list_all-append}
 use Rattle.indexmap.specs.IndexMap.{insert_entry}
-use Rattle.ads_plant.specs.AcceptedTypes.{is_same_number}
+use Rattle.spec_plant.specs.AcceptedTypes.{is_same_number}
 use Rattle.description_rules.specs.Placed.{SignalPlace, names_other, is_right_use}
 use Rattle.description_rules.specs.NextNumber.{is_no_number_of, IsNextNumber, IsNextUse, AreNamed}
 use Rattle.description_rules.proofs.TextLemmas.{absent}

@@ -5,12 +5,12 @@ use Rattle.std.specs.Option.{option_map_or}
 use Rattle.std.specs.List.{list_all}
 use Rattle.std.proofs.lemmas.List.{map-append}
 use Rattle.std.proofs.lemmas.List.Folds.{list_all-map}
-use Rattle.ads_plant.specs.Listed.{NamedType}
-use Rattle.ads_rules.specs.Written.{WrittenSymbol, WrittenPort}
-use Rattle.ads_rules.specs.Places.{first_wrong}
-use Rattle.ads_rules.specs.SymbolRules.{is_right_place, is_right_signal, has_other_signal, is_signal}
-use Rattle.ads_plant.specs.Accepted.{may_have_signal}
-use Rattle.ads_rules.specs.Described.{sizes_described, shape_described}
+use Rattle.spec_plant.specs.Listed.{NamedType}
+use Rattle.spec_rules.specs.Written.{WrittenSymbol, WrittenPort}
+use Rattle.spec_rules.specs.Places.{first_wrong}
+use Rattle.spec_rules.specs.SymbolRules.{is_right_place, is_right_signal, has_other_signal, is_signal}
+use Rattle.spec_plant.specs.Accepted.{may_have_signal}
+use Rattle.spec_rules.specs.Described.{sizes_described, shape_described}
 use Rattle.description_rules.specs.Placed.{place_of, are_apart_places, is_placed, is_right_behind, use_of, is_right_use, is_right_number, names_other}
 
 -- a test of mapped elements beside a test of the elements

@@ -2,9 +2,9 @@
 use Rattle.std.proofs.Common.{◌≡◌, ℕ, Bool, true, false, not, ◌&&◌, nat_le, List, [], ◌∷◌, ◌++◌, length, map, refl, ap, sym, ◌∙◌, ℤ}
 use Rattle.std.specs.List.{list_all}
 use Rattle.std.proofs.lemmas.List.Folds.{list_all-map}
-use Rattle.ads_plant.specs.AcceptedTypes.{is_same_number}
-use Rattle.ads_rules.specs.Written as rules
-use Rattle.ads_rules.specs.PortRules.{is_right_port, is_between, is_port_name, has_right_sizes}
+use Rattle.spec_plant.specs.AcceptedTypes.{is_same_number}
+use Rattle.spec_rules.specs.Written as rules
+use Rattle.spec_rules.specs.PortRules.{is_right_port, is_between, is_port_name, has_right_sizes}
 use Rattle.description_table.specs.Views.{port_view}
 use Rattle.description_table.specs.declared.written.WrittenPort.{WrittenPort}
 use Rattle.description_rules.specs.NextNumber.{is_no_number_of, IsNextNumber}

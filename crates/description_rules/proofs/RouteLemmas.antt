@@ -5,9 +5,9 @@ use Rattle.std.specs.Prelude.{bytes_eq}
 use Rattle.std.specs.List.{list_all}
 use Rattle.std.proofs.lemmas.List.{map-append}
 use Rattle.std.proofs.lemmas.List.Folds.{list_all-map}
-use Rattle.ads_rules.specs.Nets.{net_of}
-use Rattle.ads_rules.specs.Written.{WrittenRoute}
-use Rattle.ads_rules.specs.RouteRules.{is_right_route}
+use Rattle.spec_rules.specs.Nets.{net_of}
+use Rattle.spec_rules.specs.Written.{WrittenRoute}
+use Rattle.spec_rules.specs.RouteRules.{is_right_route}
 
 abbrev net_in : WrittenRoute → List ℕ
 net_in r = r.net

@@ -1,8 +1,8 @@
 -- How a structure lies in memory, member by member.
 use Rattle.std.proofs.Common.{◌≡◌, ℕ, suc, ◌+◌, ◌<◌, min, max, List, ◌∷◌, length, get_or, drop, ap, sym, ◌∙◌, arith, add-one, drop-cons}
-use Rattle.ads_plant.specs.Listed.{Member}
-use Rattle.ads_plant.specs.Trees.{TypeTree, MemberTrees, NoMember, MemberTree, shape_tree, member_trees}
-use Rattle.ads_plant.specs.Sizes.{aligned, type_size, type_align, type_depth, members_end, greatest_align, greatest_depth}
+use Rattle.spec_plant.specs.Listed.{Member}
+use Rattle.spec_plant.specs.Trees.{TypeTree, MemberTrees, NoMember, MemberTree, shape_tree, member_trees}
+use Rattle.spec_plant.specs.Sizes.{aligned, type_size, type_align, type_depth, members_end, greatest_align, greatest_depth}
 use Rattle.description_rules.specs.Extents.{TypeExtent, extent_view, extent_of}
 use Rattle.description_rules.specs.Known.{extent_behind, IsStructExtent}
 use Rattle.description_rules.specs.declared.extents.Extent.{Extent}

@@ -2,7 +2,7 @@
 use Rattle.std.proofs.Common.{◌≡◌, ℕ, suc, ◌+◌, ◌≤◌, ◌<◌, List, [], ◌∷◌, ◌++◌, length, get_or, take, drop, map, refl, ap, sym, ◌∙◌, arith, add-one, drop-cons, Option, Some, None}
 use Rattle.std.proofs.Math.Seq.{take-suc}
 use Rattle.std.proofs.lemmas.List.{map-append, drop_all}
-use Rattle.ads_rules.specs.Places.{first_through, or_else}
+use Rattle.spec_rules.specs.Places.{first_through, or_else}
 use Rattle.description_rules.proofs.FirstLemmas.{place_from, from_zero}
 
 place_from-place_from : (n m : ℕ) (place : Option ℕ) → place_from n (place_from m place) ≡ place_from (n + m) place

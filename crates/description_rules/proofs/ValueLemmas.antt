@@ -5,10 +5,10 @@ use Rattle.std.specs.List.{list_all}
 use Rattle.std.proofs.lemmas.Bool.{and_parts}
 use Rattle.std.proofs.lemmas.List.Folds.{list_all-map}
 use Rattle.name_paths.specs.Identifier.{lower}
-use Rattle.ads_plant.specs.Plain.{Kind}
-use Rattle.ads_plant.specs.AcceptedTypes.{differ, is_same_number}
-use Rattle.ads_rules.specs.Written as rules
-use Rattle.ads_rules.specs.TypeRules.{is_right_value}
+use Rattle.spec_plant.specs.Plain.{Kind}
+use Rattle.spec_plant.specs.AcceptedTypes.{differ, is_same_number}
+use Rattle.spec_rules.specs.Written as rules
+use Rattle.spec_rules.specs.TypeRules.{is_right_value}
 use Rattle.description_table.specs.Views.{value_view}
 use Rattle.description_table.specs.declared.written.WrittenValue.{WrittenValue}
 use Rattle.description_rules.specs.Next.{IsNext}

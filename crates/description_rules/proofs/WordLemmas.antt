@@ -4,9 +4,9 @@ use Rattle.std.specs.Prelude.{codes, find}
 use Rattle.std.specs.List.{list_all}
 use Rattle.std.proofs.lemmas.List.Folds.{list_all-append}
 use Rattle.name_paths.specs.Identifier.{lower}
-use Rattle.ads_plant.specs.Plain.{Kind, kind_name, all_kinds}
-use Rattle.ads_plant.specs.AcceptedTypes.{differ, type_words}
-use Rattle.ads_plant.specs.TypeTexts.{is_same_word, kind_named}
+use Rattle.spec_plant.specs.Plain.{Kind, kind_name, all_kinds}
+use Rattle.spec_plant.specs.AcceptedTypes.{differ, type_words}
+use Rattle.spec_plant.specs.TypeTexts.{is_same_word, kind_named}
 use Rattle.description_rules.proofs.TextLemmas.{bytes_eq-comm}
 
 not_found : (b : Bool) (k : Kind) (r : Option Kind) → is_none (cond b (Some k) r) ≡ (not b && is_none r)

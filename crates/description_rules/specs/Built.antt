@@ -1,9 +1,9 @@
 -- What is built of a document's types, where no array in it has too many elements.
 use Rattle.std.specs.Prelude.{◌≡◌, Bool, true, false, Option, Some, None, List, map}
 use Rattle.std.specs.List.{list_all}
-use Rattle.ads_plant.specs.Listed as listed
-use Rattle.ads_plant.specs.AcceptedTypes.{is_small_shape}
-use Rattle.ads_rules.specs.SizeRules.{members_of}
+use Rattle.spec_plant.specs.Listed as listed
+use Rattle.spec_plant.specs.AcceptedTypes.{is_small_shape}
+use Rattle.spec_rules.specs.SizeRules.{members_of}
 use Rattle.type_layout.specs.Shapes.{shape_of}
 use Rattle.type_layout.specs.NamedTypes.{member_of, named_type_of}
 use Rattle.type_layout.specs.declared.shape.Shape.{Shape}

@@ -1,7 +1,7 @@
 -- For private contracts, and cited by no public clause: the extents of types, as the code keeps them.
 use Rattle.std.specs.Prelude.{ℕ}
-use Rattle.ads_plant.specs.Trees.{TypeTree}
-use Rattle.ads_plant.specs.Sizes.{type_size, type_align, type_depth}
+use Rattle.spec_plant.specs.Trees.{TypeTree}
+use Rattle.spec_plant.specs.Sizes.{type_size, type_align, type_depth}
 use Rattle.description_rules.specs.declared.extents.Extent.{Extent}
 
 -- size, alignment and depth

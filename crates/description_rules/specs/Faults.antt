@@ -1,5 +1,5 @@
 -- The broken rule that the code answers.
-use Rattle.ads_rules.specs.Verdict as rules
+use Rattle.spec_rules.specs.Verdict as rules
 use Rattle.description_rules.specs.declared.verdict.BrokenRule.{BrokenRule}
 
 abbrev pub fault_view : BrokenRule → rules.BrokenRule

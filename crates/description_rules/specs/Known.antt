@@ -1,9 +1,9 @@
 -- Types with the extents that the code keeps of them; callers cite `KnownTypes` alone.
 use Rattle.std.specs.Prelude.{◌≡◌, ◌+◌, ◌^◌, ◌≤◌, ◌<◌, max, Bool, true, ◌&&◌, nat_le, List, map}
 use Rattle.std.specs.List.{list_all}
-use Rattle.ads_plant.specs.Listed.{NamedType}
-use Rattle.ads_plant.specs.Trees.{trees_of, MemberTrees}
-use Rattle.ads_plant.specs.Sizes.{aligned, members_end, greatest_align, greatest_depth}
+use Rattle.spec_plant.specs.Listed.{NamedType}
+use Rattle.spec_plant.specs.Trees.{trees_of, MemberTrees}
+use Rattle.spec_plant.specs.Sizes.{aligned, members_end, greatest_align, greatest_depth}
 use Rattle.description_rules.specs.Extents.{TypeExtent, extent_view, extent_of}
 use Rattle.description_rules.specs.declared.extents.Extent.{Extent}
 

@@ -1,11 +1,11 @@
 -- Types that are found right one after another, as the code keeps them: what callers hand on from `read_types`.
 use Rattle.std.specs.Prelude.{◌≡◌, ◌≤◌, length, map, ℕ, ◌++◌, ◌∷◌, [], Bool, true, List, None, Some, Result, Ok, Err}
-use Rattle.ads_plant.specs.Listed as listed
-use Rattle.ads_plant.specs.Listed.{type_name}
+use Rattle.spec_plant.specs.Listed as listed
+use Rattle.spec_plant.specs.Listed.{type_name}
 use Rattle.name_index.specs.Numbered.{AreNumbered}
-use Rattle.ads_rules.specs.Written.{WrittenType}
-use Rattle.ads_rules.specs.SizeRules.{wrong_size, is_right_size}
-use Rattle.ads_rules.specs.Described.{types_described}
+use Rattle.spec_rules.specs.Written.{WrittenType}
+use Rattle.spec_rules.specs.SizeRules.{wrong_size, is_right_size}
+use Rattle.spec_rules.specs.Described.{types_described}
 use Rattle.type_layout.specs.NamedTypes.{types_of}
 use Rattle.description_rules.specs.Known.{AreKnown}
 use Rattle.description_rules.specs.declared.known_types.KnownTypes.{KnownTypes}

@@ -1,8 +1,8 @@
 -- For private contracts, and cited by no public clause: the shape that a text names, as the code reads it.
 use Rattle.std.specs.Prelude.{List}
-use Rattle.ads_plant.specs.Listed.{Shape}
-use Rattle.ads_plant.specs.TypeTexts.{Ends}
-use Rattle.ads_rules.specs.Shapes.{shape_with}
+use Rattle.spec_plant.specs.Listed.{Shape}
+use Rattle.spec_plant.specs.TypeTexts.{Ends}
+use Rattle.spec_rules.specs.Shapes.{shape_with}
 use Rattle.type_layout.specs.Shapes.{elem_of}
 use Rattle.type_layout.specs.ReadTexts.{ends_among}
 use Rattle.description_rules.specs.declared.named_shapes.NamedShape.{NamedShape}

@@ -3,10 +3,10 @@ use Rattle.std.specs.Prelude.{◌≡◌, ℕ, List, [], Bool, true, false, not, 
 use Rattle.std.specs.Option.{option_map_or}
 use Rattle.std.specs.List.{list_all}
 use Rattle.name_paths.specs.Identifier.{lower}
-use Rattle.ads_plant.specs.AcceptedTypes.{differ, is_short_identifier, is_comment}
-use Rattle.ads_plant.specs.TypeTexts.{ElemText, PlainText, StringText, NamedText, TypeText, type_text_of}
-use Rattle.ads_rules.specs.Written.{WrittenMember, WrittenType, written_name, written_members}
-use Rattle.ads_rules.specs.Places.{first_wrong}
+use Rattle.spec_plant.specs.AcceptedTypes.{differ, is_short_identifier, is_comment}
+use Rattle.spec_plant.specs.TypeTexts.{ElemText, PlainText, StringText, NamedText, TypeText, type_text_of}
+use Rattle.spec_rules.specs.Written.{WrittenMember, WrittenType, written_name, written_members}
+use Rattle.spec_rules.specs.Places.{first_wrong}
 use Rattle.description_rules.specs.NameStarts.{is_none_of}
 
 -- whether an element names only types of these names, which are in lower case

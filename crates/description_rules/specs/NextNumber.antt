@@ -2,7 +2,7 @@
 use Rattle.std.specs.Prelude.{◌≡◌, List, [], ◌∷◌, ◌++◌, Bool, true, not, ◌&&◌, ℤ}
 use Rattle.std.specs.List.{list_all}
 use Rattle.std.specs.Option.{option_map_or}
-use Rattle.ads_plant.specs.AcceptedTypes.{is_same_number}
+use Rattle.spec_plant.specs.AcceptedTypes.{is_same_number}
 use Rattle.description_rules.specs.Placed.{SignalPlace, names_other}
 
 -- none of these is the number

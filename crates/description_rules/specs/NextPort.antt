@@ -1,7 +1,7 @@
 -- For private contracts, and cited by no public clause: a port is looked at behind those that came before.
 use Rattle.std.specs.Prelude.{ℕ, length, Bool, ◌&&◌, nat_le, ℤ}
-use Rattle.ads_rules.specs.Written as rules
-use Rattle.ads_rules.specs.PortRules.{is_between, is_port_name, has_right_sizes}
+use Rattle.spec_rules.specs.Written as rules
+use Rattle.spec_rules.specs.PortRules.{is_between, is_port_name, has_right_sizes}
 use Rattle.description_table.specs.declared.written.WrittenPort.{WrittenPort}
 
 -- a port that is right but for the numbers of those before

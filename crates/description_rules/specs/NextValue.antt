@@ -1,9 +1,9 @@
 -- For private contracts, and cited by no public clause: a value of an enumeration is looked at behind those before.
 use Rattle.std.specs.Prelude.{◌≡◌, ℕ, List, [], ◌∷◌, ◌++◌, Bool, true, ◌&&◌, ℤ}
 use Rattle.name_paths.specs.Identifier.{lower}
-use Rattle.ads_plant.specs.Plain.{Kind}
-use Rattle.ads_plant.specs.AcceptedTypes.{is_short_identifier, is_in_range}
-use Rattle.ads_rules.specs.Written as rules
+use Rattle.spec_plant.specs.Plain.{Kind}
+use Rattle.spec_plant.specs.AcceptedTypes.{is_short_identifier, is_in_range}
+use Rattle.spec_rules.specs.Written as rules
 use Rattle.description_rules.specs.NameStarts.{is_none_of}
 use Rattle.description_rules.specs.NextNumber.{is_no_number_of}
 

@@ -1,17 +1,17 @@
 -- For private contracts, and cited by no public clause: where symbols stand, and which signals they name.
 use Rattle.std.specs.Prelude.{ℕ, ◌+◌, List, Bool, not, ◌&&◌, ◌||◌, nat_le, is_some, true, Option, ℤ}
 use Rattle.std.specs.List.{list_all}
-use Rattle.ads_plant.specs.Description as plant
-use Rattle.ads_plant.specs.Listed.{NamedType}
-use Rattle.ads_plant.specs.World.{is_same_area}
-use Rattle.ads_plant.specs.Accepted.{size_of_symbol}
-use Rattle.ads_rules.specs.Written as rules
-use Rattle.ads_rules.specs.PortRules.{is_natural}
+use Rattle.spec_plant.specs.Description as plant
+use Rattle.spec_plant.specs.Listed.{NamedType}
+use Rattle.spec_plant.specs.World.{is_same_area}
+use Rattle.spec_plant.specs.Accepted.{size_of_symbol}
+use Rattle.spec_rules.specs.Written as rules
+use Rattle.spec_rules.specs.PortRules.{is_natural}
 use Rattle.std.specs.Option.{option_map_or}
-use Rattle.ads_plant.specs.Accepted.{may_have_signal}
-use Rattle.ads_plant.specs.AcceptedTypes.{is_same_number}
-use Rattle.ads_rules.specs.SymbolRules.{fits_area, is_signal}
-use Rattle.ads_rules.specs.Described.{area_of, symbol_described, shape_described}
+use Rattle.spec_plant.specs.Accepted.{may_have_signal}
+use Rattle.spec_plant.specs.AcceptedTypes.{is_same_number}
+use Rattle.spec_rules.specs.SymbolRules.{fits_area, is_signal}
+use Rattle.spec_rules.specs.Described.{area_of, symbol_described, shape_described}
 use Rattle.type_layout.specs.Descriptions as layout
 use Rattle.description_rules.specs.declared.symbol_places.Placed.{Placed}
 use Rattle.description_rules.specs.declared.symbol_signals.SignalUse.{SignalUse}

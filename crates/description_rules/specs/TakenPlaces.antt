@@ -1,9 +1,9 @@
 -- For private contracts, and cited by no public clause: the bytes of symbols among those that are taken.
 use Rattle.std.specs.Prelude.{◌≡◌, ◌+◌, ◌*◌, ◌^◌, ◌<◌, List, Bool, true, ◌&&◌}
 use Rattle.std.specs.List.{list_all}
-use Rattle.ads_plant.specs.Listed.{NamedType}
-use Rattle.ads_plant.specs.Description.{Sizes}
-use Rattle.ads_plant.specs.World.{area_number}
+use Rattle.spec_plant.specs.Listed.{NamedType}
+use Rattle.spec_plant.specs.Description.{Sizes}
+use Rattle.spec_plant.specs.World.{area_number}
 use Rattle.description_table.specs.Views.{symbol_view}
 use Rattle.description_table.specs.declared.written.WrittenSymbol.{WrittenSymbol}
 use Rattle.description_rules.specs.Placed.{SymbolPlace, place_of, are_apart_places}

@@ -2,8 +2,8 @@
 use Rattle.std.specs.Prelude.{ℕ, List, Bool, true, false}
 use Rattle.std.specs.Option.{option_map_or}
 use Rattle.std.specs.List.{list_any}
-use Rattle.ads_plant.specs.TypeTexts.{ElemText, PlainText, StringText, NamedText, TypeText, type_text_of, is_same_word}
-use Rattle.ads_rules.specs.Written.{WrittenType, written_name}
+use Rattle.spec_plant.specs.TypeTexts.{ElemText, PlainText, StringText, NamedText, TypeText, type_text_of, is_same_word}
+use Rattle.spec_rules.specs.Written.{WrittenType, written_name}
 
 -- whether an element names only these types
 abbrev pub names_only : List WrittenType → ElemText → Bool

@@ -1,9 +1,9 @@
 -- For private contracts, and cited by no public clause: the types that are still to be built.
 use Rattle.std.specs.Prelude.{ℕ, List, [], ◌∷◌, ◌++◌, map, unwrap_or}
-use Rattle.ads_plant.specs.Plain.{SINT}
-use Rattle.ads_plant.specs.Listed.{NamedType, Enumeration}
-use Rattle.ads_rules.specs.Written.{WrittenType, WrittenValue}
-use Rattle.ads_rules.specs.Described.{base_of, type_described, value_described}
+use Rattle.spec_plant.specs.Plain.{SINT}
+use Rattle.spec_plant.specs.Listed.{NamedType, Enumeration}
+use Rattle.spec_rules.specs.Written.{WrittenType, WrittenValue}
+use Rattle.spec_rules.specs.Described.{base_of, type_described, value_described}
 
 abbrev pub enumeration_described : List ℕ → List ℕ → List WrittenValue → NamedType
 enumeration_described name base values =

@@ -1,6 +1,6 @@
 //! Members and enumerations, built from what a document writes.
 ghost use Rattle.std.specs.Prelude.{◌≡◌, ◌≤◌, length, map, option_map, unwrap_or, IfOk, IsSome};
-ghost use Rattle.ads_rules.specs.Described as described;
+ghost use Rattle.spec_rules.specs.Described as described;
 ghost use Rattle.type_layout.specs.Shapes.{kind_of};
 ghost use Rattle.type_layout.specs.NamedTypes.{value_of, enumeration_of};
 ghost use Rattle.description_rules.specs.TypesLeft.{enumeration_described};

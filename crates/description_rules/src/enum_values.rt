@@ -3,7 +3,7 @@ ghost use Rattle.std.specs.Prelude.{◌≡◌, ◌≤◌, take, bytes_eq, slice_
 ghost use Rattle.std.specs.List.{list_any};
 ghost use Rattle.std.specs.Option.{option_map_or};
 ghost use Rattle.std.specs.Int.{to_le_bytes, w64};
-ghost use Rattle.ads_plant.specs.Accepted.{is_value_at, is_value_of, number_bytes};
+ghost use Rattle.spec_plant.specs.Accepted.{is_value_at, is_value_of, number_bytes};
 ghost use Rattle.type_layout.specs.Shapes.{kind_of};
 ghost use Rattle.type_layout.specs.NamedTypes.{types_of, named_type_of, enumeration_of};
 ghost use Rattle.description_rules.specs.Numbers.{unsigned_of};

@@ -1,7 +1,7 @@
 //! Size, alignment and depth of types, found once in the order of the list.
 ghost use Rattle.std.specs.Prelude.{◌≡◌, ◌≤◌, ◌+◌, ◌-◌, ◌%◌, ◌*◌, ◌<◌, ◌^◌, length, map, max, slice_get, unwrap_or};
-ghost use Rattle.ads_plant.specs.Sizes.{aligned, element_count};
-ghost use Rattle.ads_plant.specs.Trees as trees;
+ghost use Rattle.spec_plant.specs.Sizes.{aligned, element_count};
+ghost use Rattle.spec_plant.specs.Trees as trees;
 ghost use Rattle.type_layout.specs.Shapes.{elem_of, shape_of, bounds_of};
 ghost use Rattle.description_rules.specs.Extents.{extent_view, extent_of};
 

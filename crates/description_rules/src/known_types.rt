@@ -1,12 +1,12 @@
 //! The types of a description, and how each lies in memory.
 ghost use Rattle.std.specs.Prelude.{◌≡◌, ◌≤◌, ◌<◌, ◌*◌, ◌^◌, slice_get, true, false};
-ghost use Rattle.ads_plant.specs.Trees.{trees_of, elem_tree, tree_at, tree_of};
-ghost use Rattle.ads_plant.specs.AcceptedTypes.{is_small_shape};
-ghost use Rattle.ads_plant.specs.Sizes.{type_size};
+ghost use Rattle.spec_plant.specs.Trees.{trees_of, elem_tree, tree_at, tree_of};
+ghost use Rattle.spec_plant.specs.AcceptedTypes.{is_small_shape};
+ghost use Rattle.spec_plant.specs.Sizes.{type_size};
 ghost use Rattle.std.specs.Option.{option_map_or};
-ghost use Rattle.ads_rules.specs.Shapes.{shape_of_text};
-ghost use Rattle.ads_rules.specs.SymbolRules.{is_small};
-ghost use Rattle.ads_rules.specs.Described.{shape_described};
+ghost use Rattle.spec_rules.specs.Shapes.{shape_of_text};
+ghost use Rattle.spec_rules.specs.SymbolRules.{is_small};
+ghost use Rattle.spec_rules.specs.Described.{shape_described};
 ghost use Rattle.type_layout.specs.Shapes.{elem_of};
 ghost use Rattle.type_layout.specs.NamedTypes.{types_of};
 ghost use Rattle.description_rules.specs.Extents.{extent_view, extent_of};
@@ -28,7 +28,7 @@ pub struct KnownTypes {
 }
 
 /// How the type that a text names lies in memory.
-#[tactic(auto, unfolding(ads_plant::specs::Sizes::type_size, ads_plant::specs::Sizes::type_align, ads_plant::specs::Sizes::type_depth))]
+#[tactic(auto, unfolding(spec_plant::specs::Sizes::type_size, spec_plant::specs::Sizes::type_align, spec_plant::specs::Sizes::type_depth))]
 pub fn text_extent(known: &KnownTypes, text: &[u8]) -> Extent
     requires known { IsKnown known.now }
     requires small { is_small_shape (shape_described (types_of known.now.types) text.now) ≡ true }
@@ -50,7 +50,7 @@ pub fn text_extent(known: &KnownTypes, text: &[u8]) -> Extent
 }
 
 /// The number of bytes of the type that a text names.
-#[tactic(auto, unfolding(ads_plant::specs::Sizes::type_size))]
+#[tactic(auto, unfolding(spec_plant::specs::Sizes::type_size))]
 pub fn text_size(known: &KnownTypes, text: &[u8]) -> u128
     requires known { IsKnown known.now }
     ensures size { result ≡ type_size (tree_of (types_of known.now.types) (shape_described (types_of known.now.types) text.now)) }
@@ -93,7 +93,7 @@ fn product(elements: u128, size: u128) -> u128
     elements * size
 }
 
-#[tactic(auto, unfolding(ads_plant::specs::Sizes::type_size, ads_plant::specs::Sizes::type_align, ads_plant::specs::Sizes::type_depth))]
+#[tactic(auto, unfolding(spec_plant::specs::Sizes::type_size, spec_plant::specs::Sizes::type_align, spec_plant::specs::Sizes::type_depth))]
 fn elem_extent(known: &KnownTypes, elem: Elem) -> Extent
     requires { IsKnown known.now }
     ensures extent { extent_view result ≡ extent_of (elem_tree (trees_of (types_of known.now.types)) (elem_of elem)) }

@@ -1,8 +1,8 @@
 //! Description rule 7: members of structures.
 ghost use Rattle.std.specs.Prelude.{◌≡◌, ◌&&◌, [], map, IfOk};
 ghost use Rattle.name_paths.specs.Identifier.{lower};
-ghost use Rattle.ads_plant.specs.AcceptedTypes.{is_short_identifier, is_comment};
-ghost use Rattle.ads_rules.specs.Places.{first_wrong};
+ghost use Rattle.spec_plant.specs.AcceptedTypes.{is_short_identifier, is_comment};
+ghost use Rattle.spec_rules.specs.Places.{first_wrong};
 ghost use Rattle.type_layout.specs.ReadTexts.{elem_text_of};
 ghost use Rattle.description_rules.specs.Next.{IsNext};
 ghost use Rattle.description_rules.specs.NextMember.{is_type_in, names_only_in, is_right_named, is_member_alone, wrong_member_in};

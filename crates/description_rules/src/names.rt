@@ -1,9 +1,9 @@
 //! Names, words and comments of a document.
 ghost use Rattle.std.specs.Prelude.{◌≡◌, ◌&&◌, [], ◌∷◌, codes, is_none, nat_le};
 ghost use Rattle.std.specs.List.{list_all};
-ghost use Rattle.ads_plant.specs.TypeTexts.{is_same_word, kind_named};
-ghost use Rattle.ads_plant.specs.AcceptedTypes.{differ, is_short_identifier, is_comment, is_type_name, is_count, type_words};
-ghost use Rattle.ads_rules.specs.PortRules.{is_port_name};
+ghost use Rattle.spec_plant.specs.TypeTexts.{is_same_word, kind_named};
+ghost use Rattle.spec_plant.specs.AcceptedTypes.{differ, is_short_identifier, is_comment, is_type_name, is_count, type_words};
+ghost use Rattle.spec_rules.specs.PortRules.{is_port_name};
 
 use name_paths::is_identifier;
 use type_layout::Kind;

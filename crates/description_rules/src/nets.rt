@@ -1,6 +1,6 @@
 //! NetIds of a document.
 ghost use Rattle.std.specs.Prelude.{◌≡◌, option_map};
-ghost use Rattle.ads_rules.specs.Nets.{net_of};
+ghost use Rattle.spec_rules.specs.Nets.{net_of};
 ghost use Rattle.ads_base.specs.NetId.{IsNetId};
 
 use ads_base::NetId;

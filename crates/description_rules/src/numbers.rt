@@ -1,10 +1,10 @@
 //! Numbers of a document.
 ghost use Rattle.std.specs.Prelude.{◌≡◌};
 ghost use Rattle.type_layout.specs.Shapes.{kind_of};
-ghost use Rattle.ads_plant.specs.AcceptedTypes.{is_in_range};
-ghost use Rattle.ads_rules.specs.PortRules.{is_between, is_natural};
-ghost use Rattle.ads_rules.specs.SymbolRules.{is_signal};
-ghost use Rattle.ads_rules.specs.Described.{natural_of};
+ghost use Rattle.spec_plant.specs.AcceptedTypes.{is_in_range};
+ghost use Rattle.spec_rules.specs.PortRules.{is_between, is_natural};
+ghost use Rattle.spec_rules.specs.SymbolRules.{is_signal};
+ghost use Rattle.spec_rules.specs.Described.{natural_of};
 
 use type_layout::Kind;
 

@@ -1,6 +1,6 @@
 //! Places at which a rule is broken.
 ghost use Rattle.std.specs.Prelude.{◌≡◌, IsNone};
-ghost use Rattle.ads_rules.specs.Places.{lesser};
+ghost use Rattle.spec_rules.specs.Places.{lesser};
 
 /// The lesser of two places, where both are there.
 pub fn lesser(a: Option<usize>, b: Option<usize>) -> Option<usize>

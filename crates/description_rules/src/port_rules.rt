@@ -1,9 +1,9 @@
 //! Description rule 9: ports.
 ghost use Rattle.std.specs.Prelude.{◌≡◌, ◌&&◌, [], length, map, nat_le, IfOk};
-ghost use Rattle.ads_rules.specs.Places.{first_wrong};
-ghost use Rattle.ads_rules.specs.PortRules.{wrong_port, is_right_port, image_limit, has_right_sizes, is_between, is_natural};
-ghost use Rattle.ads_rules.specs.Described.{sizes_described};
-ghost use Rattle.ads_plant.specs.Accepted.{image_size};
+ghost use Rattle.spec_rules.specs.Places.{first_wrong};
+ghost use Rattle.spec_rules.specs.PortRules.{wrong_port, is_right_port, image_limit, has_right_sizes, is_between, is_natural};
+ghost use Rattle.spec_rules.specs.Described.{sizes_described};
+ghost use Rattle.spec_plant.specs.Accepted.{image_size};
 ghost use Rattle.description_rules.specs.NextNumber.{IsNextNumber};
 ghost use Rattle.description_rules.specs.NextPort.{is_right_alone};
 ghost use Rattle.description_table.specs.Views.{port_view};
@@ -17,7 +17,7 @@ use description_table::WrittenPort;
 use std::alloc::Global;
 
 /// Rule 9: each port; there are 1 to 16 (item 16).
-#[tactic(auto, unfolding(ads_rules::specs::PortRules::wrong_port))]
+#[tactic(auto, unfolding(spec_rules::specs::PortRules::wrong_port))]
 pub fn wrong_port(
     alloc: Global,
     schema: i64,

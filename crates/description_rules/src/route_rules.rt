@@ -1,8 +1,8 @@
 //! Description rules 3 to 5: the schema, NetIds, and the rights of routes.
 ghost use Rattle.std.specs.Prelude.{◌≡◌, ◌<◌, [], length, map, is_some, IfOk, IfSome};
-ghost use Rattle.ads_rules.specs.Places.{first_wrong};
-ghost use Rattle.ads_rules.specs.RouteRules.{wrong_schema, wrong_net, wrong_rights, is_right_route};
-ghost use Rattle.ads_rules.specs.Nets.{net_of};
+ghost use Rattle.spec_rules.specs.Places.{first_wrong};
+ghost use Rattle.spec_rules.specs.RouteRules.{wrong_schema, wrong_net, wrong_rights, is_right_route};
+ghost use Rattle.spec_rules.specs.Nets.{net_of};
 ghost use Rattle.description_rules.specs.Next.{IsNext};
 ghost use Rattle.description_table.specs.Views.{route_view};
 
@@ -14,7 +14,7 @@ use description_table::WrittenRoute;
 use std::alloc::Global;
 
 /// Rule 3: the schema is 1 or 2.
-#[tactic(auto, unfolding(ads_rules::specs::RouteRules::wrong_schema))]
+#[tactic(auto, unfolding(spec_rules::specs::RouteRules::wrong_schema))]
 pub fn wrong_schema(schema: i64) -> Option<usize>
     ensures { result ≡ wrong_schema schema }
 {
@@ -26,7 +26,7 @@ pub fn wrong_schema(schema: i64) -> Option<usize>
 }
 
 /// Rule 4: NetIds, item 0 for the machine's own and 1 plus the place for a route's.
-#[tactic(auto, unfolding(ads_rules::specs::RouteRules::wrong_net))]
+#[tactic(auto, unfolding(spec_rules::specs::RouteRules::wrong_net))]
 pub fn wrong_net(
     alloc: Global,
     net: &[u8],
@@ -82,7 +82,7 @@ fn is_right_route(
 }
 
 /// Rule 5: the rights of each route.
-#[tactic(auto, unfolding(ads_rules::specs::RouteRules::wrong_rights))]
+#[tactic(auto, unfolding(spec_rules::specs::RouteRules::wrong_rights))]
 pub fn wrong_rights(routes: &[WrittenRoute<'_>]) -> Option<usize>
     ensures { result ≡ wrong_rights (map route_view routes.now) }
 {

@@ -1,7 +1,7 @@
 //! Numbers that came before.
 ghost use Rattle.std.specs.Prelude.{◌≡◌, ◌∷◌, ◌++◌, [], not, IfOk, if◌then◌else◌};
 ghost use Rattle.std.specs.List.{list_all};
-ghost use Rattle.ads_plant.specs.AcceptedTypes.{is_same_number};
+ghost use Rattle.spec_plant.specs.AcceptedTypes.{is_same_number};
 ghost use Rattle.description_rules.specs.NextNumber.{IsNextNumber};
 
 use ads_base::NoMemory;

@@ -1,7 +1,7 @@
 //! Types of members and symbols, built where they have not too many elements.
 ghost use Rattle.std.specs.Prelude.{◌≡◌, nat_le, true, false, MatchOption, IfOk};
-ghost use Rattle.ads_plant.specs.AcceptedTypes.{is_small_shape};
-ghost use Rattle.ads_rules.specs.Described.{shape_described};
+ghost use Rattle.spec_plant.specs.AcceptedTypes.{is_small_shape};
+ghost use Rattle.spec_rules.specs.Described.{shape_described};
 ghost use Rattle.type_layout.specs.Shapes.{shape_of};
 ghost use Rattle.type_layout.specs.NamedTypes.{types_of};
 ghost use Rattle.description_rules.specs.Built.{IsShapeOrLarge};

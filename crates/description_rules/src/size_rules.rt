@@ -1,9 +1,9 @@
 //! Description rule 8: the size of types.
 ghost use Rattle.std.specs.Prelude.{◌≡◌, ◌≤◌, ◌<◌, length, map, true, IfOk, List};
-ghost use Rattle.ads_plant.specs.Trees.{TypeTree, trees_of, named_tree};
-ghost use Rattle.ads_rules.specs.Described.{type_described};
+ghost use Rattle.spec_plant.specs.Trees.{TypeTree, trees_of, named_tree};
+ghost use Rattle.spec_rules.specs.Described.{type_described};
 ghost use Rattle.description_rules.specs.TypesLeft.{enumeration_described};
-ghost use Rattle.ads_rules.specs.SizeRules.{members_of};
+ghost use Rattle.spec_rules.specs.SizeRules.{members_of};
 ghost use Rattle.type_layout.specs.NamedTypes.{types_of};
 ghost use Rattle.description_rules.specs.Built.{are_small_members};
 ghost use Rattle.description_rules.specs.Extents.{extent_view, extent_of};
@@ -63,7 +63,7 @@ fn add_type(alloc: Global, known: &mut KnownTypes, kind: &WrittenType<'_>) -> Re
 }
 
 // How the type that a document writes lies in memory.
-#[tactic(auto, unfolding(ads_plant::specs::Sizes::type_size, ads_plant::specs::Sizes::type_align, ads_plant::specs::Sizes::type_depth))]
+#[tactic(auto, unfolding(spec_plant::specs::Sizes::type_size, spec_plant::specs::Sizes::type_align, spec_plant::specs::Sizes::type_depth))]
 fn type_extent(known: &KnownTypes, kind: &WrittenType<'_>) -> Extent
     requires known { IsKnown known.now }
     requires small { are_small_members (members_of (type_described (types_of known.now.types) (type_view kind.now))) ≡ true }
@@ -77,7 +77,7 @@ fn type_extent(known: &KnownTypes, kind: &WrittenType<'_>) -> Extent
     }
 }
 
-#[tactic(auto, unfolding(ads_plant::specs::Sizes::type_size, ads_plant::specs::Sizes::type_align, ads_plant::specs::Sizes::type_depth))]
+#[tactic(auto, unfolding(spec_plant::specs::Sizes::type_size, spec_plant::specs::Sizes::type_align, spec_plant::specs::Sizes::type_depth))]
 fn enumeration_extent(e: &WrittenEnumeration<'_>) -> Extent
     ensures extent { (known : List TypeTree) → extent_view result ≡ extent_of (named_tree known (enumeration_described e.now.name.now e.now.base.now (map value_view e.now.values.items))) }
     ensures fair { (0 < result.align) × (result.align ≤ 8) }

@@ -1,8 +1,8 @@
 //! How a structure lies in memory.
 ghost use Rattle.std.specs.Prelude.{◌≡◌, ◌≤◌, ◌<◌, ◌+◌, ◌^◌, min, max, map, true};
-ghost use Rattle.ads_plant.specs.Trees.{trees_of, member_trees};
-ghost use Rattle.ads_plant.specs.Sizes.{aligned};
-ghost use Rattle.ads_rules.specs.Described.{member_described};
+ghost use Rattle.spec_plant.specs.Trees.{trees_of, member_trees};
+ghost use Rattle.spec_plant.specs.Sizes.{aligned};
+ghost use Rattle.spec_rules.specs.Described.{member_described};
 ghost use Rattle.type_layout.specs.NamedTypes.{types_of};
 ghost use Rattle.description_rules.specs.Built.{are_small_members};
 ghost use Rattle.description_rules.specs.KnownTypes.{IsKnown};

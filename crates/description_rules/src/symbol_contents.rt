@@ -1,13 +1,13 @@
 //! Description rule 13: initial bytes, comments and writers of symbols.
 ghost use Rattle.std.specs.Prelude.{◌≡◌, [], length, map, not, bytes_eq, true, false, option_map, is_none, nat_lt, nat_le, ◌&&◌, IfOk};
 ghost use Rattle.std.specs.List.{list_all};
-ghost use Rattle.ads_plant.specs.Accepted.{begins_with_value};
-ghost use Rattle.ads_plant.specs.AcceptedTypes.{is_comment};
-ghost use Rattle.ads_plant.specs.Listed as listed;
-ghost use Rattle.ads_rules.specs.Written as rules;
-ghost use Rattle.ads_rules.specs.Places.{first_wrong};
-ghost use Rattle.ads_rules.specs.SymbolRules.{wrong_content, is_right_content, is_right_initial, are_right_bytes, are_right_writers, is_right_writer};
-ghost use Rattle.ads_rules.specs.Described.{shape_described, bytes_of_hex};
+ghost use Rattle.spec_plant.specs.Accepted.{begins_with_value};
+ghost use Rattle.spec_plant.specs.AcceptedTypes.{is_comment};
+ghost use Rattle.spec_plant.specs.Listed as listed;
+ghost use Rattle.spec_rules.specs.Written as rules;
+ghost use Rattle.spec_rules.specs.Places.{first_wrong};
+ghost use Rattle.spec_rules.specs.SymbolRules.{wrong_content, is_right_content, is_right_initial, are_right_bytes, are_right_writers, is_right_writer};
+ghost use Rattle.spec_rules.specs.Described.{shape_described, bytes_of_hex};
 ghost use Rattle.type_layout.specs.Shapes.{elem_of};
 ghost use Rattle.type_layout.specs.NamedTypes.{types_of};
 ghost use Rattle.description_rules.specs.KnownTypes.{IsKnown};
@@ -25,7 +25,7 @@ use std::alloc::Global;
 use type_layout::Elem;
 
 /// Rule 13: initial bytes, comments and writers.
-#[tactic(auto, unfolding(ads_rules::specs::SymbolRules::wrong_content))]
+#[tactic(auto, unfolding(spec_rules::specs::SymbolRules::wrong_content))]
 pub fn wrong_content(
     alloc: Global,
     known: &KnownTypes,

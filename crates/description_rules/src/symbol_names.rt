@@ -1,7 +1,7 @@
 //! Description rule 10: names of symbols.
 ghost use Rattle.std.specs.Prelude.{◌≡◌, ◌<◌, ◌&&◌, ◌∷◌, [], length, map, IfOk, OnOk};
-ghost use Rattle.ads_rules.specs.Places.{first_wrong};
-ghost use Rattle.ads_rules.specs.SymbolRules.{wrong_name, is_right_name};
+ghost use Rattle.spec_rules.specs.Places.{first_wrong};
+ghost use Rattle.spec_rules.specs.SymbolRules.{wrong_name, is_right_name};
 ghost use Rattle.description_rules.specs.NameStarts.{starts_of, start_at, is_none_of, share_none, IsAdded};
 ghost use Rattle.description_rules.specs.NextName.{IsNextName, NotesText};
 ghost use Rattle.description_table.specs.Views.{port_view, symbol_view};
@@ -14,7 +14,7 @@ use name_paths::is_symbol_name;
 use std::alloc::Global;
 
 /// Rule 10: names of symbols.
-#[tactic(auto, unfolding(ads_rules::specs::SymbolRules::wrong_name))]
+#[tactic(auto, unfolding(spec_rules::specs::SymbolRules::wrong_name))]
 pub fn wrong_name(alloc: Global, ports: &[WrittenPort<'_>]) -> Result<Option<u128>, NoMemory>
     ensures { IfOk result (λ place. place ≡ wrong_name (map port_view ports.now)) }
 {

@@ -1,10 +1,10 @@
 //! Description rule 12: places of symbols.
 ghost use Rattle.std.specs.Prelude.{◌≡◌, ◌<◌, ◌+◌, ◌^◌, [], map, true, IfOk};
-ghost use Rattle.ads_plant.specs.Description.{size_in};
-ghost use Rattle.ads_plant.specs.World.{area_number};
-ghost use Rattle.ads_rules.specs.Places.{first_wrong};
-ghost use Rattle.ads_rules.specs.SymbolRules.{wrong_place, is_right_place};
-ghost use Rattle.ads_rules.specs.Described.{sizes_described};
+ghost use Rattle.spec_plant.specs.Description.{size_in};
+ghost use Rattle.spec_plant.specs.World.{area_number};
+ghost use Rattle.spec_rules.specs.Places.{first_wrong};
+ghost use Rattle.spec_rules.specs.SymbolRules.{wrong_place, is_right_place};
+ghost use Rattle.spec_rules.specs.Described.{sizes_described};
 ghost use Rattle.type_layout.specs.Descriptions.{area_of};
 ghost use Rattle.type_layout.specs.NamedTypes.{types_of};
 ghost use Rattle.description_rules.specs.KnownTypes.{IsKnown};
@@ -32,7 +32,7 @@ pub struct Placed {
 }
 
 /// Rule 12: places of symbols.
-#[tactic(auto, unfolding(ads_rules::specs::SymbolRules::wrong_place))]
+#[tactic(auto, unfolding(spec_rules::specs::SymbolRules::wrong_place))]
 pub fn wrong_place(
     alloc: Global,
     known: &KnownTypes,

@@ -1,11 +1,11 @@
 //! Description rule 14: signals of symbols.
 ghost use Rattle.std.specs.Prelude.{◌≡◌, ◌++◌, [], map, flat_map, IfOk, OnOk};
-ghost use Rattle.ads_plant.specs.Accepted.{may_have_signal};
-ghost use Rattle.ads_rules.specs.Written as rules;
-ghost use Rattle.ads_rules.specs.Places.{first_wrong};
-ghost use Rattle.ads_rules.specs.SymbolRules.{wrong_signal};
-ghost use Rattle.ads_rules.specs.Described.{shape_described};
-ghost use Rattle.ads_plant.specs.Listed as listed;
+ghost use Rattle.spec_plant.specs.Accepted.{may_have_signal};
+ghost use Rattle.spec_rules.specs.Written as rules;
+ghost use Rattle.spec_rules.specs.Places.{first_wrong};
+ghost use Rattle.spec_rules.specs.SymbolRules.{wrong_signal};
+ghost use Rattle.spec_rules.specs.Described.{shape_described};
+ghost use Rattle.spec_plant.specs.Listed as listed;
 ghost use Rattle.type_layout.specs.Shapes.{elem_of};
 ghost use Rattle.type_layout.specs.NamedTypes.{types_of};
 ghost use Rattle.description_rules.specs.KnownTypes.{IsKnown};

@@ -1,10 +1,10 @@
 //! Description rule 11: types of symbols.
 ghost use Rattle.std.specs.Prelude.{◌≡◌, [], map, false};
 ghost use Rattle.std.specs.Option.{option_map_or};
-ghost use Rattle.ads_rules.specs.Written as rules;
-ghost use Rattle.ads_rules.specs.Places.{first_wrong};
-ghost use Rattle.ads_rules.specs.Shapes.{shape_of_text};
-ghost use Rattle.ads_rules.specs.SymbolRules.{wrong_type, is_small};
+ghost use Rattle.spec_rules.specs.Written as rules;
+ghost use Rattle.spec_rules.specs.Places.{first_wrong};
+ghost use Rattle.spec_rules.specs.Shapes.{shape_of_text};
+ghost use Rattle.spec_rules.specs.SymbolRules.{wrong_type, is_small};
 ghost use Rattle.type_layout.specs.NamedTypes.{types_of};
 ghost use Rattle.description_rules.specs.KnownTypes.{IsKnown};
 ghost use Rattle.description_table.specs.Views.{port_view, symbol_view};
@@ -13,7 +13,7 @@ use crate::known_types::{KnownTypes, is_small_type};
 use description_table::{WrittenPort, WrittenSymbol};
 
 /// Rule 11: types of symbols.
-#[tactic(auto, unfolding(ads_rules::specs::SymbolRules::wrong_type))]
+#[tactic(auto, unfolding(spec_rules::specs::SymbolRules::wrong_type))]
 pub fn wrong_type(known: &KnownTypes, ports: &[WrittenPort<'_>]) -> Option<u128>
     requires known { IsKnown known.now }
     ensures { result ≡ wrong_type (types_of known.now.types) (map port_view ports.now) }

@@ -1,6 +1,6 @@
 //! Structures and enumerations, built where their arrays have not too many elements.
 ghost use Rattle.std.specs.Prelude.{◌≡◌, map, IfOk};
-ghost use Rattle.ads_rules.specs.Described.{member_described, type_described};
+ghost use Rattle.spec_rules.specs.Described.{member_described, type_described};
 ghost use Rattle.type_layout.specs.NamedTypes.{types_of};
 ghost use Rattle.description_rules.specs.Built.{IsMemberOrLarge, AreMembersOrLarge, IsTypeOrLarge};
 ghost use Rattle.description_rules.specs.KnownTypes.{IsKnown};

@@ -2,10 +2,10 @@
 ghost use Rattle.std.specs.Prelude.{◌≡◌, ◌≤◌, ◌∷◌, [], length, map, IfOk, OnOk, IsNone};
 ghost use Rattle.std.specs.List.{list_all};
 ghost use Rattle.name_paths.specs.Identifier.{lower};
-ghost use Rattle.ads_plant.specs.AcceptedTypes.{is_type_name};
-ghost use Rattle.ads_rules.specs.Places.{first_wrong, first_through};
-ghost use Rattle.ads_rules.specs.TypeRules.{wrong_type_name, is_right_type_name, wrong_part, has_right_parts, wrong_member_of};
-ghost use Rattle.ads_rules.specs.Written.{written_name, written_members};
+ghost use Rattle.spec_plant.specs.AcceptedTypes.{is_type_name};
+ghost use Rattle.spec_rules.specs.Places.{first_wrong, first_through};
+ghost use Rattle.spec_rules.specs.TypeRules.{wrong_type_name, is_right_type_name, wrong_part, has_right_parts, wrong_member_of};
+ghost use Rattle.spec_rules.specs.Written.{written_name, written_members};
 ghost use Rattle.description_rules.specs.Next.{IsNext};
 ghost use Rattle.description_rules.specs.NameStarts.{IsAdded};
 ghost use Rattle.description_table.specs.Views.{type_view};
@@ -21,7 +21,7 @@ use name_index::lower_copy;
 use std::alloc::Global;
 
 /// Rule 6: the names of types; there are at most 1,000 (item 1,000).
-#[tactic(auto, unfolding(ads_rules::specs::TypeRules::wrong_type_name))]
+#[tactic(auto, unfolding(spec_rules::specs::TypeRules::wrong_type_name))]
 pub fn wrong_type_name(alloc: Global, types: &[WrittenType<'_>]) -> Result<Option<usize>, NoMemory>
     ensures place { IfOk result (λ place. place ≡ wrong_type_name (map type_view types.now)) }
     ensures few { IfOk result (λ place. IsNone place → length types.now ≤ 1000) }
@@ -68,7 +68,7 @@ fn is_right_type_name(
 
 /// Rule 7: the number of members, and all of enumerations (item 0); then each member through all
 /// structures.
-#[tactic(auto, unfolding(ads_rules::specs::TypeRules::wrong_part))]
+#[tactic(auto, unfolding(spec_rules::specs::TypeRules::wrong_part))]
 pub fn wrong_part(alloc: Global, types: &[WrittenType<'_>]) -> Result<Option<u128>, NoMemory>
     ensures { IfOk result (λ place. place ≡ wrong_part (map type_view types.now)) }
 {

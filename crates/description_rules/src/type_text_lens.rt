@@ -1,11 +1,11 @@
 //! How long canonical texts of types are.
 ghost use Rattle.std.specs.Prelude.{◌≡◌, ◌≤◌, ◌<◌, ◌+◌, ◌^◌, length, map};
 ghost use Rattle.std.specs.Fmt.{signed_decimal};
-ghost use Rattle.ads_plant.specs.Plain.{kind_name};
-ghost use Rattle.ads_plant.specs.Spelling.{type_text, bound_text, high_of, joined_by_comma};
-ghost use Rattle.ads_plant.specs.Trees.{trees_of, elem_tree, tree_at, tree_of};
-ghost use Rattle.ads_rules.specs.Shapes.{bound_between};
-ghost use Rattle.ads_rules.specs.Described.{shape_described};
+ghost use Rattle.spec_plant.specs.Plain.{kind_name};
+ghost use Rattle.spec_plant.specs.Spelling.{type_text, bound_text, high_of, joined_by_comma};
+ghost use Rattle.spec_plant.specs.Trees.{trees_of, elem_tree, tree_at, tree_of};
+ghost use Rattle.spec_rules.specs.Shapes.{bound_between};
+ghost use Rattle.spec_rules.specs.Described.{shape_described};
 ghost use Rattle.type_layout.specs.Shapes.{kind_of, elem_of};
 ghost use Rattle.type_layout.specs.ReadTexts.{ends_of};
 ghost use Rattle.type_layout.specs.NamedTypes.{types_of};
@@ -21,7 +21,7 @@ use crate::shapes::name_of;
 use type_layout::{Elem, Ends, Kind, NamedType};
 
 /// The length of the canonical text of the type that a text names.
-#[tactic(auto, using(crate::proofs::LengthLemmas::lengths), unfolding(ads_plant::specs::Spelling::type_text))]
+#[tactic(auto, using(crate::proofs::LengthLemmas::lengths), unfolding(spec_plant::specs::Spelling::type_text))]
 pub fn type_text_len(known: &KnownTypes, text: &[u8]) -> u128
     requires { IsKnown known.now }
     ensures value { result ≡ length (type_text (tree_of (types_of known.now.types) (shape_described (types_of known.now.types) text.now))) }
@@ -81,7 +81,7 @@ fn high_of(e: Ends) -> i64
     e.low as i64 + index_count(e) as i64 - 1
 }
 
-#[tactic(auto, using(crate::proofs::LengthLemmas::lengths), unfolding(ads_plant::specs::Spelling::type_text))]
+#[tactic(auto, using(crate::proofs::LengthLemmas::lengths), unfolding(spec_plant::specs::Spelling::type_text))]
 fn elem_text_len(types: &[NamedType], elem: Elem) -> u128
     requires { IsWithin (length types.now) elem }
     ensures value { result ≡ length (type_text (elem_tree (trees_of (types_of types.now)) (elem_of elem))) }

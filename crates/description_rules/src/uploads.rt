@@ -1,7 +1,7 @@
 //! Description rule 15: the uploads of ports.
 ghost use Rattle.std.specs.Prelude.{◌≡◌, ◌^◌, [], length, map, nat_le, sum_by};
-ghost use Rattle.ads_rules.specs.Places.{first_wrong};
-ghost use Rattle.ads_rules.specs.PortRules.{wrong_upload, has_right_upload};
+ghost use Rattle.spec_rules.specs.Places.{first_wrong};
+ghost use Rattle.spec_rules.specs.PortRules.{wrong_upload, has_right_upload};
 ghost use Rattle.type_layout.specs.NamedTypes.{types_of};
 ghost use Rattle.description_rules.specs.KnownTypes.{IsKnown};
 ghost use Rattle.description_rules.specs.Uploads.{written_length};
@@ -12,7 +12,7 @@ use crate::type_text_lens::type_text_len;
 use description_table::{WrittenPort, WrittenSymbol};
 
 /// Rule 15: the upload of each port has at most 2,000,000 bytes.
-#[tactic(auto, unfolding(ads_rules::specs::PortRules::wrong_upload))]
+#[tactic(auto, unfolding(spec_rules::specs::PortRules::wrong_upload))]
 pub fn wrong_upload(known: &KnownTypes, ports: &[WrittenPort<'_>]) -> Option<usize>
     requires { IsKnown known.now }
     ensures { result ≡ wrong_upload (types_of known.now.types) (map port_view ports.now) }

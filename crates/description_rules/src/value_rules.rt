@@ -1,10 +1,10 @@
 //! Description rule 7: values of enumerations.
 ghost use Rattle.std.specs.Prelude.{◌≡◌, ◌&&◌, [], length, map, is_none, false, IfOk};
 ghost use Rattle.std.specs.Option.{option_map_or};
-ghost use Rattle.ads_plant.specs.AcceptedTypes.{is_short_identifier, is_in_range, is_count};
-ghost use Rattle.ads_rules.specs.Places.{first_wrong};
-ghost use Rattle.ads_rules.specs.TypeRules.{is_right_value, are_right_values};
-ghost use Rattle.ads_rules.specs.Described as described;
+ghost use Rattle.spec_plant.specs.AcceptedTypes.{is_short_identifier, is_in_range, is_count};
+ghost use Rattle.spec_rules.specs.Places.{first_wrong};
+ghost use Rattle.spec_rules.specs.TypeRules.{is_right_value, are_right_values};
+ghost use Rattle.spec_rules.specs.Described as described;
 ghost use Rattle.type_layout.specs.Shapes.{kind_of};
 ghost use Rattle.description_rules.specs.NextValue.{IsNextValue};
 ghost use Rattle.description_table.specs.Views.{value_view};

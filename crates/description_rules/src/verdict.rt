@@ -1,12 +1,12 @@
 //! The least broken rule of a document, for the rules that are decided here.
 ghost use Rattle.std.specs.Prelude.{◌≡◌, ◌≤◌, ◌∷◌, [], length, map, option_map, IfOk, IsNone};
-ghost use Rattle.ads_rules.specs.RouteRules as route_rules;
-ghost use Rattle.ads_rules.specs.TypeRules as type_rules;
-ghost use Rattle.ads_rules.specs.PortRules as port_rules;
-ghost use Rattle.ads_rules.specs.SymbolRules as symbol_rules;
+ghost use Rattle.spec_rules.specs.RouteRules as route_rules;
+ghost use Rattle.spec_rules.specs.TypeRules as type_rules;
+ghost use Rattle.spec_rules.specs.PortRules as port_rules;
+ghost use Rattle.spec_rules.specs.SymbolRules as symbol_rules;
 ghost use Rattle.type_layout.specs.NamedTypes.{types_of};
 ghost use Rattle.description_rules.specs.KnownTypes.{IsKnown};
-ghost use Rattle.ads_rules.specs.Verdict.{first_broken, broken_at};
+ghost use Rattle.spec_rules.specs.Verdict.{first_broken, broken_at};
 ghost use Rattle.description_table.specs.Views.{document_view, port_view, type_view};
 ghost use Rattle.description_rules.specs.Faults.{fault_view};
 

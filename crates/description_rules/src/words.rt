@@ -1,7 +1,7 @@
 //! Words of a document: rights and areas.
 ghost use Rattle.std.specs.Prelude.{◌≡◌, option_map, bytes_eq};
-ghost use Rattle.ads_rules.specs.Described as described;
-ghost use Rattle.ads_plant.specs.Plain.{is_base};
+ghost use Rattle.spec_rules.specs.Described as described;
+ghost use Rattle.spec_plant.specs.Plain.{is_base};
 ghost use Rattle.type_layout.specs.Shapes.{kind_of};
 ghost use Rattle.type_layout.specs.Descriptions.{rights_of, area_of};
 

@@ -1,6 +1,6 @@
 -- What stands behind a part that was read: each of its values was.
 use Rattle.std.proofs.Common.{◌≡◌, ap, Option, Some, None}
-use Rattle.ads_rules.specs.Fields.{◌>>=◌}
+use Rattle.spec_rules.specs.Fields.{◌>>=◌}
 
 pub three_read : {A B C : Type 0} (a : Option A) (b : Option B) (c : Option C) (v : A) (w : B) (x : C)
     → ◌≡◌ {A = Option (A × B × C)} (Some (v, w, x)) (a >>= λ q. b >>= λ r. c >>= λ s. Some (q, r, s)) → (a ≡ Some v) × (b ≡ Some w) × (c ≡ Some x)

@@ -1,7 +1,7 @@
 -- For private contracts, and cited by no public clause: parts of a symbol's and of a port's table.
 use Rattle.std.specs.Prelude.{ℕ, List, [], Bool, false, Option, Some, codes, ℤ, pos}
 use Rattle.toml.specs.Data.{Members, as_str, as_integer, as_bool}
-use Rattle.ads_rules.specs.Fields.{◌>>=◌, required, optional}
+use Rattle.spec_rules.specs.Fields.{◌>>=◌, required, optional}
 
 -- name, type, area and offset of a symbol
 abbrev pub place_in : Members → Option (List ℕ × List ℕ × List ℕ × ℤ)

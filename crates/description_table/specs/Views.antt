@@ -1,6 +1,6 @@
 -- What the code's borrowed records are: a document as the rules have it.
 use Rattle.std.specs.Prelude.{ℕ, List, map, option_map}
-use Rattle.ads_rules.specs.Written as rules
+use Rattle.spec_rules.specs.Written as rules
 use Rattle.description_table.specs.declared.written.WrittenRoute.{WrittenRoute}
 use Rattle.description_table.specs.declared.written.WrittenMember.{WrittenMember}
 use Rattle.description_table.specs.declared.written.WrittenValue.{WrittenValue}

@@ -1,7 +1,7 @@
 //! A TOML table as the document of a description. Description rule 2.
 ghost use Rattle.std.specs.Prelude.{◌≡◌, option_map, IfOk};
 ghost use Rattle.toml.specs.View.{table_view};
-ghost use Rattle.ads_rules.specs.Tables.{document_in, is_two};
+ghost use Rattle.spec_rules.specs.Tables.{document_in, is_two};
 ghost use Rattle.description_table.specs.Views.{document_view};
 
 use crate::fields::{required_integer, required_text};
@@ -13,7 +13,7 @@ use std::alloc::Global;
 use toml::Table;
 
 /// The document that a table is. None exactly where description rule 2 is broken.
-#[tactic(auto, unfolding(ads_rules::specs::Tables::document_in))]
+#[tactic(auto, unfolding(spec_rules::specs::Tables::document_in))]
 pub fn document_in<'a>(alloc: Global, table: &'a Table) -> Result<Option<Document<'a>>, NoMemory>
     ensures { IfOk result (λ found. option_map document_view found ≡ document_in (table_view table.now)) }
 {

@@ -2,7 +2,7 @@
 ghost use Rattle.std.specs.Prelude.{◌≡◌, [], pos, false, option_map};
 ghost use Rattle.toml.specs.Data.{get_member, as_str, as_integer, as_bool, as_array};
 ghost use Rattle.toml.specs.View.{view, items_view, table_view};
-ghost use Rattle.ads_rules.specs.Fields.{required, optional, maybe};
+ghost use Rattle.spec_rules.specs.Fields.{required, optional, maybe};
 
 use toml::{Table, Value};
 

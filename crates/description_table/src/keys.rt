@@ -3,7 +3,7 @@ ghost use Rattle.std.specs.Prelude.{◌≡◌, bytes_eq, map, string_bytes};
 ghost use Rattle.std.specs.List.{list_any, list_all};
 ghost use Rattle.std.specs.BTreeMap.{keys};
 ghost use Rattle.toml.specs.View.{table_view};
-ghost use Rattle.ads_rules.specs.Fields.{only_keys};
+ghost use Rattle.spec_rules.specs.Fields.{only_keys};
 ghost use Rattle.description_table.specs.Views.{text_view};
 
 use toml::Table;

@@ -1,8 +1,8 @@
 //! The members of structures.
 ghost use Rattle.std.specs.Prelude.{◌≡◌, option_map};
 ghost use Rattle.toml.specs.View.{table_view};
-ghost use Rattle.ads_rules.specs.Written as rules;
-ghost use Rattle.ads_rules.specs.Tables.{member_in};
+ghost use Rattle.spec_rules.specs.Written as rules;
+ghost use Rattle.spec_rules.specs.Tables.{member_in};
 ghost use Rattle.description_table.specs.Views.{member_view};
 
 use crate::fields::{optional_text, required_text};
@@ -29,7 +29,7 @@ impl<'a> FromTable<'a> for WrittenMember<'a> {
     }
 }
 
-#[tactic(auto, unfolding(ads_rules::specs::Tables::member_in))]
+#[tactic(auto, unfolding(spec_rules::specs::Tables::member_in))]
 fn member_in(table: &Table) -> Option<WrittenMember<'_>>
     ensures { option_map member_view result ≡ member_in (table_view table.now) }
 {

@@ -1,8 +1,8 @@
 //! The ports of a document.
 ghost use Rattle.std.specs.Prelude.{◌≡◌, option_map, IfOk};
 ghost use Rattle.toml.specs.View.{table_view};
-ghost use Rattle.ads_rules.specs.Written as rules;
-ghost use Rattle.ads_rules.specs.Tables.{port_in};
+ghost use Rattle.spec_rules.specs.Written as rules;
+ghost use Rattle.spec_rules.specs.Tables.{port_in};
 ghost use Rattle.description_table.specs.Views.{port_view};
 
 use crate::keys::only_keys;
@@ -30,7 +30,7 @@ impl<'a> FromTable<'a> for WrittenPort<'a> {
     }
 }
 
-#[tactic(auto, unfolding(ads_rules::specs::Tables::port_in))]
+#[tactic(auto, unfolding(spec_rules::specs::Tables::port_in))]
 fn port_in<'a>(
     alloc: Global,
     table: &'a Table,

@@ -1,8 +1,8 @@
 //! The routes of a document.
 ghost use Rattle.std.specs.Prelude.{◌≡◌, option_map};
 ghost use Rattle.toml.specs.View.{table_view};
-ghost use Rattle.ads_rules.specs.Written as rules;
-ghost use Rattle.ads_rules.specs.Tables.{route_in};
+ghost use Rattle.spec_rules.specs.Written as rules;
+ghost use Rattle.spec_rules.specs.Tables.{route_in};
 ghost use Rattle.description_table.specs.Views.{route_view};
 
 use crate::fields::required_text;
@@ -29,7 +29,7 @@ impl<'a> FromTable<'a> for WrittenRoute<'a> {
     }
 }
 
-#[tactic(auto, unfolding(ads_rules::specs::Tables::route_in))]
+#[tactic(auto, unfolding(spec_rules::specs::Tables::route_in))]
 fn route_in(table: &Table) -> Option<WrittenRoute<'_>>
     ensures { option_map route_view result ≡ route_in (table_view table.now) }
 {

@@ -1,9 +1,9 @@
 //! The symbols of a port.
 ghost use Rattle.std.specs.Prelude.{◌≡◌, option_map, IfOk};
 ghost use Rattle.toml.specs.View.{table_view};
-ghost use Rattle.ads_rules.specs.Fields.{only_keys};
-ghost use Rattle.ads_rules.specs.Written as rules;
-ghost use Rattle.ads_rules.specs.Tables.{symbol_in, symbol_keys};
+ghost use Rattle.spec_rules.specs.Fields.{only_keys};
+ghost use Rattle.spec_rules.specs.Written as rules;
+ghost use Rattle.spec_rules.specs.Tables.{symbol_in, symbol_keys};
 ghost use Rattle.description_table.specs.Views.{symbol_view};
 
 use crate::fields::{maybe_integer, maybe_text};
@@ -55,7 +55,7 @@ impl<'a> FromTable<'a> for WrittenSymbol<'a> {
     }
 }
 
-#[tactic(auto, unfolding(ads_rules::specs::Tables::symbol_in))]
+#[tactic(auto, unfolding(spec_rules::specs::Tables::symbol_in))]
 fn symbol_in<'a>(
     alloc: Global,
     table: &'a Table,

@@ -2,7 +2,7 @@
 ghost use Rattle.std.specs.Prelude.{◌≡◌, [], map, Bool, Option, option_map, IfOk};
 ghost use Rattle.toml.specs.Data.{Members};
 ghost use Rattle.toml.specs.View.{view, items_view, table_view};
-ghost use Rattle.ads_rules.specs.Fields.{required, optional, items_in, table_of, tables_of};
+ghost use Rattle.spec_rules.specs.Fields.{required, optional, items_in, table_of, tables_of};
 
 use crate::fields::{items_in, value_at};
 use ads_base::NoMemory;

@@ -1,8 +1,8 @@
 //! The types of a document.
 ghost use Rattle.std.specs.Prelude.{◌≡◌, option_map, IfOk};
 ghost use Rattle.toml.specs.View.{table_view};
-ghost use Rattle.ads_rules.specs.Written as rules;
-ghost use Rattle.ads_rules.specs.Tables.{type_in, structure_in, enumeration_in};
+ghost use Rattle.spec_rules.specs.Written as rules;
+ghost use Rattle.spec_rules.specs.Tables.{type_in, structure_in, enumeration_in};
 ghost use Rattle.description_table.specs.Views.{type_view, structure_view, enumeration_view};
 
 use crate::fields::{required_text, value_at};
@@ -25,7 +25,7 @@ impl<'a> FromTable<'a> for WrittenType<'a> {
     }
 }
 
-#[tactic(auto, unfolding(ads_rules::specs::Tables::type_in))]
+#[tactic(auto, unfolding(spec_rules::specs::Tables::type_in))]
 fn kind_in<'a>(
     alloc: Global,
     table: &'a Table,
@@ -64,7 +64,7 @@ fn enumeration_type_in<'a>(
     }
 }
 
-#[tactic(auto, unfolding(ads_rules::specs::Tables::structure_in))]
+#[tactic(auto, unfolding(spec_rules::specs::Tables::structure_in))]
 fn structure_in<'a>(
     alloc: Global,
     table: &'a Table,
@@ -83,7 +83,7 @@ fn structure_in<'a>(
     Ok(Some(WrittenStructure { name, members }))
 }
 
-#[tactic(auto, unfolding(ads_rules::specs::Tables::enumeration_in))]
+#[tactic(auto, unfolding(spec_rules::specs::Tables::enumeration_in))]
 fn enumeration_in<'a>(
     alloc: Global,
     table: &'a Table,

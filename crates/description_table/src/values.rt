@@ -1,8 +1,8 @@
 //! The values of enumerations.
 ghost use Rattle.std.specs.Prelude.{◌≡◌, option_map};
 ghost use Rattle.toml.specs.View.{table_view};
-ghost use Rattle.ads_rules.specs.Written as rules;
-ghost use Rattle.ads_rules.specs.Tables.{value_in};
+ghost use Rattle.spec_rules.specs.Written as rules;
+ghost use Rattle.spec_rules.specs.Tables.{value_in};
 ghost use Rattle.description_table.specs.Views.{value_view};
 
 use crate::fields::{required_integer, required_text};
@@ -29,7 +29,7 @@ impl<'a> FromTable<'a> for WrittenValue<'a> {
     }
 }
 
-#[tactic(auto, unfolding(ads_rules::specs::Tables::value_in))]
+#[tactic(auto, unfolding(spec_rules::specs::Tables::value_in))]
 fn value_in(table: &Table) -> Option<WrittenValue<'_>>
     ensures { option_map value_view result ≡ value_in (table_view table.now) }
 {

@@ -2,7 +2,7 @@
 ghost use Rattle.std.specs.Prelude.{◌≡◌, codes, map, option_map, IfOk};
 ghost use Rattle.toml.specs.Data.{as_str};
 ghost use Rattle.toml.specs.View.{view, items_view, table_view};
-ghost use Rattle.ads_rules.specs.Fields.{maybe, items_in, array_of};
+ghost use Rattle.spec_rules.specs.Fields.{maybe, items_in, array_of};
 ghost use Rattle.description_table.specs.Views.{text_view};
 
 use crate::fields::{items_in, text_in, value_at};

@@ -87,7 +87,7 @@ pub struct Document<'a> {
 
 impl WrittenType<'_> {
     ghost use Rattle.std.specs.Prelude.{◌≡◌, length};
-    ghost use Rattle.ads_rules.specs.Written.{written_name, written_members};
+    ghost use Rattle.spec_rules.specs.Written.{written_name, written_members};
     ghost use Rattle.description_table.specs.Views.{type_view};
 
     /// The name of the type.

@@ -1,7 +1,7 @@
 -- Which range of the protocol a value of `Reach` is, and where it lies.
 use Rattle.std.specs.Prelude.{ℕ, ◌+◌, ◌<◌, ◌≤◌, ◌^◌, Result, Ok, Err}
-use Rattle.ads_plant.specs.Description as plant
-use Rattle.ads_formats.specs.Ranges as range
+use Rattle.spec_plant.specs.Description as plant
+use Rattle.spec_formats.specs.Ranges as range
 use Rattle.type_layout.specs.Descriptions.{area_of}
 use Rattle.return_codes.specs.declared.code.Code.{Code}
 use Rattle.return_codes.specs.Code.{number_of}

@@ -1,7 +1,7 @@
 -- Which groups name bytes, bits or the size of an area.
 use Rattle.std.specs.Prelude.{ℕ, Option, Some, None}
-use Rattle.ads_plant.specs.Description.{Area, Inputs, Outputs, Memory, Process}
-use Rattle.ads_formats.specs.Groups as group
+use Rattle.spec_plant.specs.Description.{Area, Inputs, Outputs, Memory, Process}
+use Rattle.spec_formats.specs.Groups as group
 use Rattle.type_layout.specs.Descriptions.{area_of}
 use Rattle.index_groups.specs.declared.groups.AreaGroup.{AreaGroup}
 use Rattle.index_groups.specs.declared.groups.AreaGroup.TheVariants as value

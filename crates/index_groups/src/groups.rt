@@ -1,7 +1,7 @@
 //! The index groups of areas. Beckhoff Information System, "Index Group/Offset Specification".
 
 ghost use Rattle.std.specs.Prelude.{◌≡◌, option_map, Some};
-ghost use Rattle.ads_formats.specs.Groups.{AreaBytes, group_of};
+ghost use Rattle.spec_formats.specs.Groups.{AreaBytes, group_of};
 ghost use Rattle.type_layout.specs.Descriptions.{area_of};
 ghost use Rattle.index_groups.specs.AreaGroups.{group_meant, area_group_in, byte_number};
 
@@ -19,7 +19,7 @@ pub enum AreaGroup {
 }
 
 /// What a group names, where it is one of an area. None exactly for every other group.
-#[tactic(auto, unfolding(ads_formats::specs::Groups::group_in, ads_formats::specs::Groups::group_of))]
+#[tactic(auto, unfolding(spec_formats::specs::Groups::group_in, spec_formats::specs::Groups::group_of))]
 pub fn area_group(group: u32) -> Option<AreaGroup>
     ensures { option_map group_meant result ≡ area_group_in (group_of group) }
 {
@@ -40,7 +40,7 @@ pub fn area_group(group: u32) -> Option<AreaGroup>
 }
 
 /// The group that names an area's bytes.
-#[tactic(auto, unfolding(ads_formats::specs::Groups::group_in, ads_formats::specs::Groups::group_of))]
+#[tactic(auto, unfolding(spec_formats::specs::Groups::group_in, spec_formats::specs::Groups::group_of))]
 pub fn byte_group(area: Area) -> u32
     ensures number { result ≡ byte_number (area_of area) }
     ensures group { group_of result ≡ Some (AreaBytes (area_of area)) }

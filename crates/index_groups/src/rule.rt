@@ -1,8 +1,8 @@
 //! What an access names, or the code that refuses it.
 
 ghost use Rattle.std.specs.Prelude.{◌≡◌, IfOk};
-ghost use Rattle.ads_plant.specs.Description.{size_in};
-ghost use Rattle.ads_formats.specs.Ranges.{range_of, byte_range, bit_range, size_range};
+ghost use Rattle.spec_plant.specs.Description.{size_in};
+ghost use Rattle.spec_formats.specs.Ranges.{range_of, byte_range, bit_range, size_range};
 ghost use Rattle.type_layout.specs.Descriptions.{area_of, sizes_of};
 ghost use Rattle.index_groups.specs.Access.{answer_meant, IsWithin};
 
@@ -24,7 +24,7 @@ const MAX_LEN: u32 = 2_000_000;
 /// | any other | | 0x702 |
 ///
 /// Beckhoff Information System, "Index Group/Offset Specification".
-#[tactic(auto, unfolding(ads_formats::specs::Ranges::range_of, ads_formats::specs::Ranges::range_in))]
+#[tactic(auto, unfolding(spec_formats::specs::Ranges::range_of, spec_formats::specs::Ranges::range_in))]
 pub fn reach(sizes: &Sizes, group: u32, offset: u32, len: u32) -> Result<Reach, Code>
     ensures rule { answer_meant result ≡ range_of (sizes_of sizes.now) group offset len }
     ensures within { IfOk result (IsWithin (sizes_of sizes.now)) }
@@ -37,7 +37,7 @@ pub fn reach(sizes: &Sizes, group: u32, offset: u32, len: u32) -> Result<Reach, 
     }
 }
 
-#[tactic(auto, unfolding(ads_formats::specs::Ranges::byte_range))]
+#[tactic(auto, unfolding(spec_formats::specs::Ranges::byte_range))]
 fn byte_reach(sizes: &Sizes, area: Area, offset: u32, len: u32) -> Result<Reach, Code>
     ensures rule { answer_meant result
         ≡ byte_range (area_of area) (size_in (sizes_of sizes.now) (area_of area)) offset len }
@@ -57,7 +57,7 @@ fn byte_reach(sizes: &Sizes, area: Area, offset: u32, len: u32) -> Result<Reach,
     })
 }
 
-#[tactic(auto, unfolding(ads_formats::specs::Ranges::bit_range))]
+#[tactic(auto, unfolding(spec_formats::specs::Ranges::bit_range))]
 fn bit_reach(sizes: &Sizes, area: Area, offset: u32, len: u32) -> Result<Reach, Code>
     ensures rule { answer_meant result
         ≡ bit_range (area_of area) (size_in (sizes_of sizes.now) (area_of area)) offset len }
@@ -77,7 +77,7 @@ fn bit_reach(sizes: &Sizes, area: Area, offset: u32, len: u32) -> Result<Reach, 
     })
 }
 
-#[tactic(auto, unfolding(ads_formats::specs::Ranges::size_range))]
+#[tactic(auto, unfolding(spec_formats::specs::Ranges::size_range))]
 fn size_reach(area: Area, len: u32) -> Result<Reach, Code>
     ensures rule { answer_meant result ≡ size_range (area_of area) len }
     ensures size { IfOk result (λ reach. reach ≡ Reach.Size area) }

@@ -2,20 +2,20 @@
 use Rattle.std.proofs.Common.{◌≡◌, ℕ, refl, ap, ◌∙◌, true, false, List, length, Some}
 use Rattle.std.specs.Prelude.{Ok, nat_lt}
 use Rattle.std.specs.Fmt.{digits}
-use Rattle.ads_plant.specs.Trees.{trees_behind, trees_of}
-use Rattle.ads_plant.specs.Sizes.{type_align, greatest_align, type_size, members_end, type_depth, greatest_depth}
-use Rattle.ads_plant.specs.Spelling.{type_text}
+use Rattle.spec_plant.specs.Trees.{trees_behind, trees_of}
+use Rattle.spec_plant.specs.Sizes.{type_align, greatest_align, type_size, members_end, type_depth, greatest_depth}
+use Rattle.spec_plant.specs.Spelling.{type_text}
 use Rattle.hex.specs.Hex.{decode_pairs}
-use Rattle.ads_rules.specs.Tables.{route_in, member_in, value_in, structure_in, enumeration_in, type_in, symbol_in, port_in, document_in}
-use Rattle.ads_rules.specs.Shapes.{shape_of_text}
-use Rattle.ads_rules.specs.Described.{types_behind}
-use Rattle.ads_rules.specs.RouteRules.{wrong_schema, wrong_net, wrong_rights}
-use Rattle.ads_rules.specs.TypeRules.{wrong_type_name, wrong_part}
-use Rattle.ads_rules.specs.SizeRules.{wrong_size}
-use Rattle.ads_rules.specs.PortRules.{wrong_port, wrong_upload}
-use Rattle.ads_rules.specs.SymbolRules.{wrong_name, wrong_type, wrong_place, wrong_content, wrong_signal}
-use Rattle.ads_rules.specs.Verdict.{table_verdict}
-use Rattle.ads_rules.specs.TextVerdict.{Described, text_verdict, document_of}
+use Rattle.spec_rules.specs.Tables.{route_in, member_in, value_in, structure_in, enumeration_in, type_in, symbol_in, port_in, document_in}
+use Rattle.spec_rules.specs.Shapes.{shape_of_text}
+use Rattle.spec_rules.specs.Described.{types_behind}
+use Rattle.spec_rules.specs.RouteRules.{wrong_schema, wrong_net, wrong_rights}
+use Rattle.spec_rules.specs.TypeRules.{wrong_type_name, wrong_part}
+use Rattle.spec_rules.specs.SizeRules.{wrong_size}
+use Rattle.spec_rules.specs.PortRules.{wrong_port, wrong_upload}
+use Rattle.spec_rules.specs.SymbolRules.{wrong_name, wrong_type, wrong_place, wrong_content, wrong_signal}
+use Rattle.spec_rules.specs.Verdict.{table_verdict}
+use Rattle.spec_rules.specs.TextVerdict.{Described, text_verdict, document_of}
 use Rattle.toml_writer.specs.Text.{needs_escape, quotes_after, escaped, encoding_of, string_text, key_text}
 use Rattle.table_text.specs.PlainTable.{is_plain_table}
 use Rattle.table_text.specs.TableText.{document_text}

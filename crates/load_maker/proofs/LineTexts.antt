@@ -11,9 +11,9 @@ use Rattle.std.proofs.lemmas.Bool.{and_parts, ltb-true, lt-ltb, leb-true, ne_eqb
 use Rattle.hex.specs.Hex.{lower_digits, encode_with, encode_lower, IsBytes}
 use Rattle.hex.proofs.HexLemmas.{length-encode_with, decode_of-encode_lower}
 use Rattle.name_paths.specs.Number.{number_of_digits}
-use Rattle.ads_plant.proofs.NumberTexts.{decimal-digits, is_decimal-decimal}
-use Rattle.ads_machine.specs.ScriptLines.{lines_of, text_of, words_of}
-use Rattle.ads_machine.specs.ScriptWords.{number_of_word, connection_from, connection_of_word, behind, bytes_of_word, bytes_of_words}
+use Rattle.spec_plant.proofs.NumberTexts.{decimal-digits, is_decimal-decimal}
+use Rattle.spec_machine.specs.ScriptLines.{lines_of, text_of, words_of}
+use Rattle.spec_machine.specs.ScriptWords.{number_of_word, connection_from, connection_of_word, behind, bytes_of_word, bytes_of_words}
 
 -- above the space
 abbrev pub is_solid : ℕ → Bool

@@ -11,12 +11,12 @@ use Rattle.std.proofs.lemmas.List.Folds.{list_all-append}
 use Rattle.std.proofs.lemmas.List.FromFn.{map-range_with_len_more}
 use Rattle.hex.specs.Hex.{lower_digits, encode_with, encode_lower}
 use Rattle.hex.proofs.HexLemmas.{length-encode_with}
-use Rattle.ads_frames.specs.Frame.{IsAmsPacket, frame_bytes}
-use Rattle.ads_frames.specs.Frame as frame
-use Rattle.ads_formats.specs.Header.{header_bytes, request_flags}
-use Rattle.ads_formats.specs.Request.{Request, Read, Write, AddDeviceNotification, command_of, request_bytes}
-use Rattle.ads_machine.specs.Reading.{is_among}
-use Rattle.ads_product.specs.Server.{server_script}
+use Rattle.spec_frames.specs.Frame.{IsAmsPacket, frame_bytes}
+use Rattle.spec_frames.specs.Frame as frame
+use Rattle.spec_formats.specs.Header.{header_bytes, request_flags}
+use Rattle.spec_formats.specs.Request.{Request, Read, Write, AddDeviceNotification, command_of, request_bytes}
+use Rattle.spec_machine.specs.Reading.{is_among}
+use Rattle.spec_server.specs.Server.{server_script}
 use Rattle.load_maker.specs.MadeLines.{MadeLine, Opens, Sends, Ticks, line_text, script_text, script_said}
 use Rattle.load_maker.specs.LoadScript.{client_address, plant_address, request_packet, DATA, watch_line, watch_lines, load_number, turn_request, tick_lines, turn_of, turn_lines, clients, first_turns, load_lines}
 use Rattle.load_maker.proofs.LineTexts.{is_byte}

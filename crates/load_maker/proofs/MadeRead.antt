@@ -7,12 +7,12 @@ use Rattle.std.specs.Option.{option_map, option_map_or, option_and_then}
 use Rattle.std.proofs.lemmas.List.Folds.{list_all-append}
 use Rattle.hex.specs.Hex.{encode_lower}
 use Rattle.ads_outside.specs.declared.event.Event.TheVariants as event
-use Rattle.ads_machine.specs.BuiltLines.{all_lines}
-use Rattle.ads_machine.specs.Reading.{Reading, nothing_read, is_among, is_open, line_said}
-use Rattle.ads_machine.specs.ScriptLine.{ScriptLine, Happens}
-use Rattle.ads_machine.specs.ScriptLines.{lines_of, words_of}
-use Rattle.ads_machine.specs.ScriptWords.{bytes_of_words}
-use Rattle.ads_machine.specs.Script.{open_connection, kind_of, after_line_of_words, after_plain_line, after_line, script_after, script_of}
+use Rattle.spec_machine.specs.BuiltLines.{all_lines}
+use Rattle.spec_machine.specs.Reading.{Reading, nothing_read, is_among, is_open, line_said}
+use Rattle.spec_machine.specs.ScriptLine.{ScriptLine, Happens}
+use Rattle.spec_machine.specs.ScriptLines.{lines_of, words_of}
+use Rattle.spec_machine.specs.ScriptWords.{bytes_of_words}
+use Rattle.spec_machine.specs.Script.{open_connection, kind_of, after_line_of_words, after_plain_line, after_line, script_after, script_of}
 use Rattle.load_maker.specs.MadeLines.{MadeLine, Opens, Sends, Ticks, line_text, script_text, script_said}
 use Rattle.load_maker.specs.MadeLines as made
 use Rattle.load_maker.specs.LoadScript.{clients}

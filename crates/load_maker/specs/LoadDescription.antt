@@ -5,9 +5,9 @@ use Rattle.std.specs.List.{range_with_len}
 use Rattle.std.specs.Fmt.{decimal}
 use Rattle.toml.specs.Data.{Data, string, integer, array, table, Items, Members, no_members, member}
 use Rattle.toml.specs.View.{items_of}
-use Rattle.ads_plant.specs.Plain.{DINT}
-use Rattle.ads_plant.specs.Listed.{Plain, One}
-use Rattle.ads_plant.specs.Description.{Control, Process, Route, Symbol, Description}
+use Rattle.spec_plant.specs.Plain.{DINT}
+use Rattle.spec_plant.specs.Listed.{Plain, One}
+use Rattle.spec_plant.specs.Description.{Control, Process, Route, Symbol, Description}
 
 -- the i-th symbol
 abbrev pub symbol_name : ℕ → List ℕ

@@ -3,9 +3,9 @@
 use Rattle.std.specs.Prelude.{ℕ, zero, suc, ◌+◌, ◌-◌, ◌*◌, ◌/◌, ◌%◌, ◌==◌, ◌++◌, List, [], ◌∷◌, length, map, flat_map, if◌then◌else◌}
 use Rattle.std.specs.List.{range_with_len}
 use Rattle.std.specs.Int.{w32, to_le_bytes}
-use Rattle.ads_frames.specs.Frame.{frame_bytes}
-use Rattle.ads_formats.specs.Header.{AmsAddress, header_bytes, request_flags}
-use Rattle.ads_formats.specs.Request.{Request, Read, Write, AddDeviceNotification, command_of, request_bytes}
+use Rattle.spec_frames.specs.Frame.{frame_bytes}
+use Rattle.spec_formats.specs.Header.{AmsAddress, header_bytes, request_flags}
+use Rattle.spec_formats.specs.Request.{Request, Read, Write, AddDeviceNotification, command_of, request_bytes}
 use Rattle.load_maker.specs.MadeLines.{MadeLine, Opens, Sends, Ticks}
 
 -- client c, from 1 to 4

@@ -3,7 +3,7 @@ use Rattle.std.specs.Prelude.{ℕ, ◌++◌, List, [], ◌∷◌, codes, map, fl
 use Rattle.std.specs.Fmt.{decimal}
 use Rattle.hex.specs.Hex.{encode_lower}
 use Rattle.ads_outside.specs.declared.event.Event.TheVariants as event
-use Rattle.ads_machine.specs.ScriptLine.{ScriptLine, Happens}
+use Rattle.spec_machine.specs.ScriptLine.{ScriptLine, Happens}
 
 -- a connection begins, bytes come on one, or the clock says a moment
 pub data MadeLine : Type 0 where

@@ -1,8 +1,8 @@
 //! The two texts of a load.
 
 ghost use Rattle.std.specs.Prelude.{◌≡◌, ◌≤◌, ◌++◌, ◌*◌, ◌+◌, ℕ, map, length, Ok, OnOk, IfOk};
-ghost use Rattle.ads_rules.specs.TextVerdict.{text_verdict, Described};
-ghost use Rattle.ads_product.specs.Server.{server_script};
+ghost use Rattle.spec_rules.specs.TextVerdict.{text_verdict, Described};
+ghost use Rattle.spec_server.specs.Server.{server_script};
 ghost use Rattle.table_text.specs.TableText.{document_text};
 ghost use Rattle.load_maker.specs.MadeLines.{Opens, script_text, script_said};
 ghost use Rattle.load_maker.specs.LoadScript.{clients, load_lines};

@@ -1,8 +1,8 @@
 //! Requests of the clients, each in a frame of its own on a line of its own.
 
 ghost use Rattle.std.specs.Prelude.{◌≡◌, ◌≤◌, ◌<◌, ◌++◌, length, OnOk, IfOk};
-ghost use Rattle.ads_formats.specs.Header.{request_flags};
-ghost use Rattle.ads_formats.specs.Request.{command_of, request_bytes};
+ghost use Rattle.spec_formats.specs.Header.{request_flags};
+ghost use Rattle.spec_formats.specs.Request.{command_of, request_bytes};
 ghost use Rattle.ads_commands.specs.Request.{IsWritable, request_meant};
 ghost use Rattle.ams_header.specs.Header.{ams_header_of};
 ghost use Rattle.load_maker.specs.MadeLines.{line_text};

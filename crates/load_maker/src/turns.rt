@@ -2,7 +2,7 @@
 
 ghost use Rattle.std.specs.Prelude.{◌≡◌, ◌≤◌, ◌<◌, ◌+◌, ◌*◌, ◌/◌, ◌%◌, ◌==◌, ◌++◌, OnOk, if◌then◌else◌};
 ghost use Rattle.std.specs.Int.{w32, to_le_bytes};
-ghost use Rattle.ads_formats.specs.Request.{Read, Write};
+ghost use Rattle.spec_formats.specs.Request.{Read, Write};
 ghost use Rattle.load_maker.specs.MadeLines.{line_text, script_text};
 ghost use Rattle.load_maker.specs.LoadScript.{DATA, request_line, turn_request, tick_lines, turn_of, first_turns};
 

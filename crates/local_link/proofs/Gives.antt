@@ -3,9 +3,9 @@ use Rattle.std.proofs.Common.{◌≡◌, ℕ, ◌<◌, ◌≤◌, List, take, le
 use Rattle.ads_outside.specs.declared.event.Event.TheVariants as event
 use Rattle.ads_outside.specs.declared.received.Received.TheVariants as received
 use Rattle.ads_outside.specs.LinkState.{LinkHistory, bytes_came, quiet_came, closed_came}
-use Rattle.ads_machine.specs.Running.{is_to_be_shut_at}
-use Rattle.ads_local.specs.LocalCall.{LAST_MOMENT, next_tick}
-use Rattle.ads_local.proofs.Came.{ticked}
+use Rattle.spec_machine.specs.Running.{is_to_be_shut_at}
+use Rattle.spec_local.specs.LocalCall.{LAST_MOMENT, next_tick}
+use Rattle.spec_local.proofs.Came.{ticked}
 use Rattle.server_core.specs.CoreState.{CoreState, after_event}
 use Rattle.server_core.specs.Served.{ServedState, served_step}
 use Rattle.server_core.specs.Serves.{CoreView, Serves}

@@ -6,15 +6,15 @@ use Rattle.ads_outside.specs.declared.link_event.LinkEvent.{LinkEvent}
 use Rattle.ads_outside.specs.declared.link_event.LinkEvent.TheVariants as come
 use Rattle.ads_outside.specs.declared.link_move.LinkMove.TheVariants as link
 use Rattle.ads_outside.specs.declared.moves.Move.TheVariants as move
-use Rattle.ads_machine.specs.Connection.{connection_of}
-use Rattle.ads_machine.specs.Events.{state_after_event}
-use Rattle.ads_machine.specs.MachineState.{after_exchange}
-use Rattle.ads_machine.specs.Moves.{state_after_move}
-use Rattle.ads_machine.specs.Running.{is_to_be_shut, is_to_be_shut_at}
-use Rattle.ads_client.specs.Conversation.{Bytes, Quiet, Closed}
-use Rattle.ads_local.specs.LocalCall.{Answered, answered, bytes_taken, LAST_MOMENT, next_tick}
-use Rattle.ads_local.specs.LinkLog.{answer_of, answered_like, without_connection, machine_after_link_move, IsMoveOf}
-use Rattle.ads_local.proofs.Came.{ticked, came_waiting, came_closed, came_later, came_quiet}
+use Rattle.spec_machine.specs.Connection.{connection_of}
+use Rattle.spec_machine.specs.Events.{state_after_event}
+use Rattle.spec_machine.specs.MachineState.{after_exchange}
+use Rattle.spec_machine.specs.Moves.{state_after_move}
+use Rattle.spec_machine.specs.Running.{is_to_be_shut, is_to_be_shut_at}
+use Rattle.spec_client.specs.Conversation.{Bytes, Quiet, Closed}
+use Rattle.spec_local.specs.LocalCall.{Answered, answered, bytes_taken, LAST_MOMENT, next_tick}
+use Rattle.spec_local.specs.LinkLog.{answer_of, answered_like, without_connection, machine_after_link_move, IsMoveOf}
+use Rattle.spec_local.proofs.Came.{ticked, came_waiting, came_closed, came_later, came_quiet}
 use Rattle.server_core.specs.CoreState.{CoreState, after_event}
 use Rattle.server_core.specs.Served.{World, Client, ServedState, ServedConnection, ServedExchange, served_step}
 use Rattle.server_core.specs.Serves.{CoreView, Serves}

@@ -4,12 +4,12 @@ use Rattle.std.specs.Prelude.{Option, Some, None}
 use Rattle.std.proofs.lemmas.Bool.{cases_Bool, cases_eq}
 use Rattle.ads_outside.specs.declared.event.Event.TheVariants as event
 use Rattle.ads_outside.specs.declared.moves.Move.TheVariants as move
-use Rattle.ads_machine.specs.Connection.{connection_of, put_back}
-use Rattle.ads_machine.specs.MachineState.{after_exchange, exchange_of, with_exchange}
-use Rattle.ads_machine.specs.MachineState.{without_gone as forgets_gone}
-use Rattle.ads_machine.specs.Moves.{state_after_move, with_gone}
-use Rattle.ads_machine.proofs.Find.{number_of_found}
-use Rattle.ads_local.specs.LinkLog.{without_connection}
+use Rattle.spec_machine.specs.Connection.{connection_of, put_back}
+use Rattle.spec_machine.specs.MachineState.{after_exchange, exchange_of, with_exchange}
+use Rattle.spec_machine.specs.MachineState.{without_gone as forgets_gone}
+use Rattle.spec_machine.specs.Moves.{state_after_move, with_gone}
+use Rattle.spec_machine.proofs.Find.{number_of_found}
+use Rattle.spec_local.specs.LinkLog.{without_connection}
 use Rattle.ads_served.specs.Opened.{AreApart}
 use Rattle.server_core.specs.CoreState.{CoreState, after_event, after_move, OpensNew}
 use Rattle.server_core.specs.Served.{ServedState, ServedConnection, served_step}

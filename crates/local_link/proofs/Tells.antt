@@ -5,8 +5,8 @@ use Rattle.ads_outside.specs.declared.link_move.LinkMove.{LinkMove}
 use Rattle.ads_outside.specs.declared.received.Received.{Received}
 use Rattle.ads_outside.specs.declared.received.Received.TheVariants as received
 use Rattle.ads_outside.specs.LinkAnswers.{log_after_recv}
-use Rattle.ads_local.specs.LinkLog.{machine_after_log}
-use Rattle.ads_local.proofs.LinkLogs.{machine_after_log-more, is_log-more}
+use Rattle.spec_local.specs.LinkLog.{machine_after_log}
+use Rattle.spec_local.proofs.LinkLogs.{machine_after_log-more, is_log-more}
 use Rattle.server_core.specs.Served.{ServedState, served_step}
 use Rattle.local_link.specs.Link.{LocalView, StandsFor, IsTold}
 use Rattle.local_link.specs.Giving.{Follows, FollowsAnswer}

@@ -6,12 +6,12 @@ use Rattle.std.proofs.lemmas.Bool.Decides.{nat_tests}
 use Rattle.std.proofs.lemmas.List.{take-append-le}
 use Rattle.ads_outside.specs.declared.event.Event.TheVariants as event
 use Rattle.ads_outside.specs.declared.moves.Move.TheVariants as move
-use Rattle.ads_machine.specs.Connection.{Connection, connection_of}
-use Rattle.ads_machine.specs.Events.{state_after_event}
-use Rattle.ads_machine.specs.Moves.{state_after_move}
-use Rattle.ads_machine.specs.Offers.{left_after, waiting_of, waiting_at}
-use Rattle.ads_machine.specs.Running.{first_frame, offer_at}
-use Rattle.ads_local.specs.LocalCall.{waiting_bytes}
+use Rattle.spec_machine.specs.Connection.{Connection, connection_of}
+use Rattle.spec_machine.specs.Events.{state_after_event}
+use Rattle.spec_machine.specs.Moves.{state_after_move}
+use Rattle.spec_machine.specs.Offers.{left_after, waiting_of, waiting_at}
+use Rattle.spec_machine.specs.Running.{first_frame, offer_at}
+use Rattle.spec_local.specs.LocalCall.{waiting_bytes}
 use Rattle.server_core.specs.CoreState.{CoreState, after_event, after_move, OpensNew}
 use Rattle.server_core.specs.Served.{Client, ServedState, served_step}
 use Rattle.server_core.specs.Serves.{CoreView, Serves, Follows, offer_in}

@@ -7,9 +7,9 @@ use Rattle.ads_outside.specs.declared.moves.Move.TheVariants as move
 use Rattle.ads_outside.specs.declared.received.Received.{Received}
 use Rattle.ads_outside.specs.declared.received.Received.TheVariants as received
 use Rattle.ads_outside.specs.LinkAnswers.{Receives}
-use Rattle.ads_machine.specs.Moves.{state_after_move}
-use Rattle.ads_local.specs.LocalCall.{waiting_bytes}
-use Rattle.ads_local.specs.LinkLog.{IsMoveOf, machine_after_link_move}
+use Rattle.spec_machine.specs.Moves.{state_after_move}
+use Rattle.spec_local.specs.LocalCall.{waiting_bytes}
+use Rattle.spec_local.specs.LinkLog.{IsMoveOf, machine_after_link_move}
 use Rattle.server_core.specs.Served.{ServedState, served_step}
 use Rattle.server_core.specs.Serves.{CoreView, Serves}
 use Rattle.local_link.specs.Link.{LocalView, state_of, unblocked, StandsFor}

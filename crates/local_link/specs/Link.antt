@@ -2,7 +2,7 @@
 use Rattle.std.specs.Prelude.{◌≡◌, List, [], Bool, false}
 use Rattle.ads_outside.specs.LinkState.{LinkHistory, LinkState}
 use Rattle.ads_outside.specs.declared.link_move.LinkMove.{LinkMove}
-use Rattle.ads_local.specs.LinkLog.{IsLogOf, machine_after_log}
+use Rattle.spec_local.specs.LinkLog.{IsLogOf, machine_after_log}
 use Rattle.server_core.specs.CoreState.{CoreState}
 use Rattle.server_core.specs.Served.{ServedState, served_step}
 use Rattle.server_core.specs.Serves.{CoreView, Serves}

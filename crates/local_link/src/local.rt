@@ -2,7 +2,7 @@
 
 ghost use Rattle.std.specs.Prelude.{◌≡◌, ◌≢◌, ◌≤◌, ◌<◌, [], ◌∷◌, ◌++◌, List, length, IfOk, OnOk, OnErr};
 ghost use Rattle.ads_outside.specs.LinkState.{not_connected, connected_at};
-ghost use Rattle.ads_local.specs.LocalCall.{LAST_MOMENT, next_tick};
+ghost use Rattle.spec_local.specs.LocalCall.{LAST_MOMENT, next_tick};
 ghost use Rattle.server_core.specs.Served.{ServedState};
 ghost use Rattle.server_core.specs.Serves.{Serves};
 

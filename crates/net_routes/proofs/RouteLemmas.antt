@@ -6,8 +6,8 @@ use Rattle.std.specs.Map.{lookup}
 use Rattle.std.proofs.lemmas.Bool.{cases_Bool, eqb-true, eq-eqb}
 use Rattle.std.proofs.lemmas.Slice.Eq.{bytes_eq-Decides}
 use Rattle.indexmap.specs.IndexMap.{insert_entry}
-use Rattle.ads_plant.specs.Description as plain
-use Rattle.ads_plant.specs.Rights.{rights_of}
+use Rattle.spec_plant.specs.Description as plain
+use Rattle.spec_plant.specs.Rights.{rights_of}
 use Rattle.type_layout.specs.Descriptions as seen
 use Rattle.type_layout.specs.declared.description.Rights.{Rights}
 use Rattle.net_routes.specs.Shown.{shown, rights_in}

@@ -1,8 +1,8 @@
 -- The route that an entry of the map is.
 use Rattle.std.specs.Prelude.{ℕ, List, Option, Some, None, bytes_eq, if◌then◌else◌}
 use Rattle.std.specs.Global.{Vec}
-use Rattle.ads_plant.specs.Description as plain
-use Rattle.ads_plant.specs.Description.{Route}
+use Rattle.spec_plant.specs.Description as plain
+use Rattle.spec_plant.specs.Description.{Route}
 use Rattle.type_layout.specs.Descriptions.{rights_of}
 use Rattle.type_layout.specs.declared.description.Rights.{Rights}
 

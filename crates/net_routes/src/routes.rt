@@ -1,7 +1,7 @@
 //! The routes of a description, found by NetId.
 
 ghost use Rattle.std.specs.Prelude.{◌≡◌, ℕ, List, ◌++◌, ◌∷◌, [], OnOk, IfOk, option_map, slice_get};
-ghost use Rattle.ads_plant.specs.Rights.{rights_of};
+ghost use Rattle.spec_plant.specs.Rights.{rights_of};
 ghost use Rattle.type_layout.specs.Descriptions as plain;
 ghost use Rattle.net_routes.specs.Shown.{rights_in};
 
@@ -22,7 +22,7 @@ pub struct Routes {
 
 impl Model for Routes {
     ghost use Rattle.std.specs.Prelude.{List, map};
-    ghost use Rattle.ads_plant.specs.Description.{Route};
+    ghost use Rattle.spec_plant.specs.Description.{Route};
     ghost use Rattle.net_routes.specs.Shown.{shown};
 
     ghost Value = { List Route };

@@ -3,8 +3,8 @@ use Rattle.std.proofs.Common.{◌≡◌, ℕ, ◌+◌, List, [], ◌∷◌, ◌+
 use Rattle.std.specs.List.{flat_map}
 use Rattle.std.specs.Int.{w32, w64, to_le_bytes}
 use Rattle.std.proofs.lemmas.List.{append-nil, length-map}
-use Rattle.ads_formats.specs.Notification.{sample_bytes, stamps_bytes, notification_bytes}
-use Rattle.ads_formats.proofs.Appends.{two_parts}
+use Rattle.spec_formats.specs.Notification.{sample_bytes, stamps_bytes, notification_bytes}
+use Rattle.spec_formats.proofs.Appends.{two_parts}
 use Rattle.notify_frames.specs.declared.samples.OwnSample.{OwnSample}
 use Rattle.notify_frames.specs.Samples.{sample_of, samples_of, stamp_of}
 

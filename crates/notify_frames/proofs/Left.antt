@@ -3,9 +3,9 @@ use Rattle.std.proofs.Common.{◌≡◌, ℕ, zero, suc, ◌≤◌, ◌<◌, Lis
 use Rattle.std.specs.Prelude.{option_map}
 use Rattle.std.specs.Option.{option_and_then}
 use Rattle.std.proofs.lemmas.Bool.{le-ltb, lt-ltb}
-use Rattle.ads_formats.specs.Numbers.{number32, number64}
-use Rattle.ads_formats.specs.Notification.{Sample, Stamp}
-use Rattle.ads_formats.specs.NotificationReading.{sample_of, samples_of, stamp_of, stamps_of}
+use Rattle.spec_formats.specs.Numbers.{number32, number64}
+use Rattle.spec_formats.specs.Notification.{Sample, Stamp}
+use Rattle.spec_formats.specs.NotificationReading.{sample_of, samples_of, stamp_of, stamps_of}
 use Rattle.notify_frames.specs.Notes.{timed, samples_in, left_in}
 use Rattle.notify_frames.proofs.Rests.{made}
 

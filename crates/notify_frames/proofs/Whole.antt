@@ -5,10 +5,10 @@ use Rattle.std.specs.Option.{option_and_then}
 use Rattle.std.proofs.Math.Bool.{or-true}
 use Rattle.std.proofs.lemmas.Bool.{le-ltb, lt-ltb, eq-eqb}
 use Rattle.std.proofs.lemmas.Bool.Decides.{eqb_tells}
-use Rattle.ads_formats.specs.Numbers.{AreBytes, number32}
-use Rattle.ads_formats.specs.Notification.{Sample, Stamp, IsNotificationPayload}
-use Rattle.ads_formats.specs.NotificationReading.{samples_of, stamps_of, notification_of}
-use Rattle.ads_formats.proofs.NotificationLemmas.{text_of-notification_of, notification_of-of_text}
+use Rattle.spec_formats.specs.Numbers.{AreBytes, number32}
+use Rattle.spec_formats.specs.Notification.{Sample, Stamp, IsNotificationPayload}
+use Rattle.spec_formats.specs.NotificationReading.{samples_of, stamps_of, notification_of}
+use Rattle.spec_formats.proofs.NotificationLemmas.{text_of-notification_of, notification_of-of_text}
 use Rattle.notify_frames.specs.Notes.{samples_in, left_in, IsNoNotification}
 use Rattle.notify_frames.specs.Whole.{IsWhole}
 

@@ -1,8 +1,8 @@
 -- The samples of a notification in order, and what is left of them while they are given.
 use Rattle.std.specs.Prelude.{ℕ, List, ◌++◌, map, Option, option_map, option_and_then}
 use Rattle.std.specs.List.{flat_map}
-use Rattle.ads_formats.specs.Notification.{Sample, Stamp, IsNotificationPayload}
-use Rattle.ads_formats.specs.NotificationReading.{samples_of, stamps_of}
+use Rattle.spec_formats.specs.Notification.{Sample, Stamp, IsNotificationPayload}
+use Rattle.spec_formats.specs.NotificationReading.{samples_of, stamps_of}
 
 -- each sample with the moment of its stamp
 abbrev pub timed : ℕ → List Sample → List (ℕ × Sample)

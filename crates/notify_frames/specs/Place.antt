@@ -2,7 +2,7 @@
 use Rattle.std.specs.Prelude.{ℕ, List, [], ◌∷◌, Option, Some, None, option_map}
 use Rattle.notify_frames.specs.declared.place.Place.{Place}
 use Rattle.notify_frames.specs.declared.samples.Sample.{Sample}
-use Rattle.ads_formats.specs.Notification as notification
+use Rattle.spec_formats.specs.Notification as notification
 use Rattle.notify_frames.specs.Samples.{sample_meant}
 use Rattle.notify_frames.specs.Notes.{left_in}
 

@@ -2,7 +2,7 @@
 use Rattle.std.specs.Prelude.{ℕ, ◌≤◌, List, length, map, All}
 use Rattle.notify_frames.specs.declared.samples.OwnSample.{OwnSample}
 use Rattle.notify_frames.specs.declared.samples.Sample.{Sample}
-use Rattle.ads_formats.specs.Notification as notification
+use Rattle.spec_formats.specs.Notification as notification
 
 abbrev pub sample_of : OwnSample → notification.Sample
 sample_of s = record { handle = s.handle; bytes = s.bytes }

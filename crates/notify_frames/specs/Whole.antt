@@ -1,6 +1,6 @@
 -- A payload that was seen to be whole. No public clause cites this.
 use Rattle.std.specs.Prelude.{◌≡◌, ◌≤◌, ℕ, List, length, drop, IsSome, option_map}
-use Rattle.ads_formats.specs.NotificationReading.{notification_of}
+use Rattle.spec_formats.specs.NotificationReading.{notification_of}
 use Rattle.notify_frames.specs.Notes.{left_in, samples_in}
 
 -- the payload is a notification, whose samples are those of so many stamps behind its first eight bytes

@@ -16,7 +16,7 @@ pub struct Notes<'a> {
 
 impl<'a> Model for Notes<'a> {
     ghost use Rattle.std.specs.Prelude.{ℕ, List, [], IsSome, unwrap_or};
-    ghost use Rattle.ads_formats.specs.Notification as notification;
+    ghost use Rattle.spec_formats.specs.Notification as notification;
     ghost use Rattle.notify_frames.specs.Place.{left_of};
 
     ghost Value = { List (ℕ × notification.Sample) };

@@ -2,7 +2,7 @@
 
 ghost use Rattle.std.specs.Prelude.{◌≡◌, ◌+◌, ◌<◌, ◌≤◌, IsSome, IfSome, MatchOption, None, option_map};
 ghost use Rattle.std.specs.Option.{option_and_then};
-ghost use Rattle.ads_formats.specs.NotificationReading.{sample_of};
+ghost use Rattle.spec_formats.specs.NotificationReading.{sample_of};
 ghost use Rattle.notify_frames.specs.Samples.{sample_meant};
 ghost use Rattle.notify_frames.specs.Place.{left_of, left_behind, left_before};
 
@@ -68,7 +68,7 @@ fn take_sample(place: Place<'_>) -> Option<(u64, Sample<'_>, Place<'_>)>
 }
 
 /// The first sample, and the bytes after it.
-#[tactic(auto, unfolding(ads_formats::specs::NotificationReading::sample_of))]
+#[tactic(auto, unfolding(spec_formats::specs::NotificationReading::sample_of))]
 pub fn first_sample(bytes: &[u8]) -> Option<(Sample<'_>, &[u8])>
     ensures { option_map (λ (s, rest). (sample_meant s, rest.now)) result ≡ sample_of bytes.now }
 {

@@ -1,8 +1,8 @@
 //! A notification is read.
 
 ghost use Rattle.std.specs.Prelude.{◌≡◌, ◌≤◌, ℕ, List, length, drop, IfSome, IsNone, IsSome, None, MatchOption, ◌↔◌, option_map};
-ghost use Rattle.ads_formats.specs.Notification.{Stamp, IsNotificationPayload};
-ghost use Rattle.ads_formats.specs.NotificationReading.{notification_of};
+ghost use Rattle.spec_formats.specs.Notification.{Stamp, IsNotificationPayload};
+ghost use Rattle.spec_formats.specs.NotificationReading.{notification_of};
 ghost use Rattle.notify_frames.specs.Notes.{IsNoNotification, samples_in};
 ghost use Rattle.notify_frames.specs.Whole.{IsWhole};
 

@@ -1,8 +1,8 @@
 //! A payload is walked over to see that it is whole.
 
 ghost use Rattle.std.specs.Prelude.{◌≡◌, ℕ, List, option_map};
-ghost use Rattle.ads_formats.specs.Notification.{Sample, Stamp};
-ghost use Rattle.ads_formats.specs.NotificationReading.{samples_of, stamp_of, stamps_of};
+ghost use Rattle.spec_formats.specs.Notification.{Sample, Stamp};
+ghost use Rattle.spec_formats.specs.NotificationReading.{samples_of, stamp_of, stamps_of};
 
 use crate::place::first_sample;
 use ads_base::get32;

@@ -3,7 +3,7 @@
 ghost use Rattle.std.specs.Prelude.{◌≡◌, ◌+◌, ◌≤◌, [], ◌∷◌, ◌++◌, length, sum_by, OnOk, OnErr};
 ghost use Rattle.std.specs.List.{flat_map};
 ghost use Rattle.ads_base.specs.Octets.{Extends};
-ghost use Rattle.ads_formats.specs.Notification.{notification_bytes, sample_bytes};
+ghost use Rattle.spec_formats.specs.Notification.{notification_bytes, sample_bytes};
 ghost use Rattle.notify_frames.specs.Samples.{IsWritable, sample_of, samples_of, stamp_of};
 
 use crate::{OwnSample, Samples};

@@ -10,8 +10,8 @@ use Rattle.std.proofs.Math.Seq.{drop-cons}
 use Rattle.std.proofs.lemmas.List.Elements.{All-head, All-tail, All-get_or}
 use Rattle.std.proofs.lemmas.List.Edits.{get_or-remove_below, get_or-remove_above, length-remove, length-insert}
 use Rattle.slab.specs.Slab.{Slab, get, slab_len, Updates}
-use Rattle.ads_formats.specs.Ranges.{Range}
-use Rattle.ads_machine.specs.Watches.{Watch, is_due, is_due_after, is_sent, after_check}
+use Rattle.spec_formats.specs.Ranges.{Range}
+use Rattle.spec_machine.specs.Watches.{Watch, is_due, is_due_after, is_sent, after_check}
 use Rattle.notify_table.specs.declared.turn.Turn.{Turn}
 use Rattle.notify_table.specs.Table.{handle_of, is_numbered}
 use Rattle.notify_table.specs.Turns.{AreInTurn, HasHandle, moment_after, next_moment, is_turn_due, handle_of_turn}

@@ -11,9 +11,9 @@ use Rattle.std.proofs.lemmas.List.Elements.{All-head, All-tail, All-get_or, All-
 use Rattle.std.proofs.lemmas.List.Elements.{filter_passes, filter_agree}
 use Rattle.std.proofs.lemmas.List.Quantifiers.{position-Some}
 use Rattle.std.proofs.lemmas.List.Sums.{fails_before_first, length-filter, count_by-le-length}
-use Rattle.ads_formats.specs.Ranges.{Range, Bytes, Bit, Size}
-use Rattle.ads_machine.specs.Watches.{Watch, is_due, is_due_after, is_sent, after_check, watch_after_reload}
-use Rattle.ads_machine.specs.Watches.{watches_after_reload}
+use Rattle.spec_formats.specs.Ranges.{Range, Bytes, Bit, Size}
+use Rattle.spec_machine.specs.Watches.{Watch, is_due, is_due_after, is_sent, after_check, watch_after_reload}
+use Rattle.spec_machine.specs.Watches.{watches_after_reload}
 use Rattle.notify_table.specs.Table.{handle_of, watched_len, IsWatchable, IsTable, is_numbered, is_live, is_full}
 use Rattle.notify_table.specs.Table.{watch_of_handle, due_handles, table_after, checked_where, Added, Deleted, Checked}
 use Rattle.notify_table.specs.Table.{Reloaded, WatchTable}

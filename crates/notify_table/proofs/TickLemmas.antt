@@ -7,8 +7,8 @@ use Rattle.std.proofs.lemmas.Bool.{cases_Bool, cases_eq, or_right, eq-eqb, ne_eq
 use Rattle.std.proofs.lemmas.List.{map-id, length-take-le, get_or-take, get_or_default}
 use Rattle.std.proofs.lemmas.List.Elements.{All-head, All-tail}
 use Rattle.std.proofs.lemmas.List.Folds.{list_any-append, list_any_none}
-use Rattle.ads_formats.specs.Ranges.{Range}
-use Rattle.ads_machine.specs.Watches.{Watch, is_due, is_sent, checked_watch}
+use Rattle.spec_formats.specs.Ranges.{Range}
+use Rattle.spec_machine.specs.Watches.{Watch, is_due, is_sent, checked_watch}
 use Rattle.notify_table.specs.Table.{WatchTable, handle_of, is_numbered, due_handles, checked_where}
 
 or_false : (b : Bool) → (b || false) ≡ b

@@ -1,9 +1,9 @@
 -- Notifications by rising handle. Private: no public clause cites this file.
 use Rattle.std.specs.Prelude.{ℕ, zero, suc, ◌<◌, ◌≤◌, List, [], ◌++◌, ◌==◌, length, filter, All, IsSome}
-use Rattle.ads_formats.specs.Ranges.{Range}
-use Rattle.ads_machine.specs.Watches.{Watch}
+use Rattle.spec_formats.specs.Ranges.{Range}
+use Rattle.spec_machine.specs.Watches.{Watch}
 use Rattle.notify_table.specs.Table.{WatchTable, handle_of, watch_of_handle, IsWatchable}
-use Rattle.ads_machine.specs.Requests.{MAX_WATCHES}
+use Rattle.spec_machine.specs.Requests.{MAX_WATCHES}
 use Rattle.notify_table.specs.Schedules.{OncePer, watch_in}
 use Rattle.notify_table.specs.Reloads.{EndedWatch, end_of}
 

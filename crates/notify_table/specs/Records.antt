@@ -1,7 +1,7 @@
 -- Which notification a value of `Record` is. Private: no public clause cites this file.
 use Rattle.std.specs.Prelude.{◌≡◌, ℕ, List, [], length, Option, None, Some}
-use Rattle.ads_formats.specs.Ranges.{Range}
-use Rattle.ads_machine.specs.Watches.{Watch}
+use Rattle.spec_formats.specs.Ranges.{Range}
+use Rattle.spec_machine.specs.Watches.{Watch}
 use Rattle.index_groups.specs.Access.{range_meant}
 use Rattle.notify_table.specs.Specs.{address_of, mode_meant}
 use Rattle.notify_table.specs.Table.{watched_len, CanBeWatched}

@@ -1,9 +1,9 @@
 -- What a reload makes of what is watched, where the whole places of the kept symbols are known.
 use Rattle.std.specs.Prelude.{ℕ, List, Bool, not, is_some, Option, None, option_map}
-use Rattle.ads_plant.specs.Description as plant
-use Rattle.ads_formats.specs.Header.{AmsAddress}
-use Rattle.ads_formats.specs.Ranges.{Range, Bytes, Bit, Size}
-use Rattle.ads_machine.specs.Watches.{Watch}
+use Rattle.spec_plant.specs.Description as plant
+use Rattle.spec_formats.specs.Header.{AmsAddress}
+use Rattle.spec_formats.specs.Ranges.{Range, Bytes, Bit, Size}
+use Rattle.spec_machine.specs.Watches.{Watch}
 use Rattle.type_layout.specs.Descriptions.{area_of}
 use Rattle.type_layout.specs.declared.port.Area.{Area}
 use Rattle.type_layout.specs.declared.port.Area.TheVariants as area

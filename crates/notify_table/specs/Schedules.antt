@@ -2,9 +2,9 @@
 use Rattle.std.specs.Prelude.{◌≡◌, ℕ, ◌+◌, ◌≤◌, List, [], length, insert, remove, ◌==◌}
 use Rattle.std.specs.Prelude.{Option, None, Some, IsSome, unwrap_or, All, count_by, slice_index_or}
 use Rattle.slab.specs.Slab.{Slab, get, slab_len}
-use Rattle.ads_plant.specs.Description.{Process}
-use Rattle.ads_formats.specs.Ranges.{Range, Bytes}
-use Rattle.ads_machine.specs.Watches.{Watch, Cyclic}
+use Rattle.spec_plant.specs.Description.{Process}
+use Rattle.spec_formats.specs.Ranges.{Range, Bytes}
+use Rattle.spec_machine.specs.Watches.{Watch, Cyclic}
 use Rattle.notify_table.specs.declared.turn.Turn.{Turn}
 use Rattle.notify_table.specs.Turns.{AreInTurn, next_moment}
 

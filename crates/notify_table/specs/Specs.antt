@@ -1,8 +1,8 @@
 -- Which notification a `Spec` asks for. Beckhoff Information System, "ADS Add Device Notification".
 use Rattle.std.specs.Prelude.{ℕ, [], None}
-use Rattle.ads_formats.specs.Header.{AmsAddress}
-use Rattle.ads_formats.specs.Ranges.{Range}
-use Rattle.ads_machine.specs.Watches as machine
+use Rattle.spec_formats.specs.Header.{AmsAddress}
+use Rattle.spec_formats.specs.Ranges.{Range}
+use Rattle.spec_machine.specs.Watches as machine
 use Rattle.ads_base.specs.declared.ams_addr.AmsAddr.{AmsAddr}
 use Rattle.index_groups.specs.Access.{range_meant}
 use Rattle.notify_table.specs.declared.spec.Mode.{Mode}

@@ -4,10 +4,10 @@ use Rattle.std.specs.Prelude.{ℕ, ◌+◌, ◌<◌, ◌≤◌, List, [], ◌∷
 use Rattle.std.specs.Prelude.{Bool, ◌||◌, ◌&&◌, not, ◌==◌, nat_le, if◌then◌else◌, Option}
 use Rattle.std.specs.List.{list_any}
 use Rattle.std.specs.List.Sorted.{IsStrictlyIncreasing}
-use Rattle.ads_formats.specs.Ranges.{Range, Bytes, Bit, Size}
-use Rattle.ads_machine.specs.Watches.{Watch, is_due, checked_watch, watches_after_reload}
-use Rattle.ads_machine.specs.Requests.{MAX_WATCHED, MAX_WATCHES}
-use Rattle.ads_machine.specs.ByName.{MAX_NUMBER}
+use Rattle.spec_formats.specs.Ranges.{Range, Bytes, Bit, Size}
+use Rattle.spec_machine.specs.Watches.{Watch, is_due, checked_watch, watches_after_reload}
+use Rattle.spec_machine.specs.Requests.{MAX_WATCHED, MAX_WATCHES}
+use Rattle.spec_machine.specs.ByName.{MAX_NUMBER}
 
 -- how many bytes a check takes: one for a bit
 abbrev pub watched_len : Range → ℕ

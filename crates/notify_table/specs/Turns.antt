@@ -2,8 +2,8 @@
 use Rattle.std.specs.Prelude.{◌≡◌, ℕ, ◌+◌, ◌*◌, ◌<◌, ◌≤◌, max, List, length, slice_index_or, Bool, true, nat_le, Option}
 use Rattle.std.specs.Prelude.{None, Some, All}
 use Rattle.std.specs.List.Sorted.{IsNonDecreasingBy}
-use Rattle.ads_formats.specs.Ranges.{Range}
-use Rattle.ads_machine.specs.Watches.{Watch}
+use Rattle.spec_formats.specs.Ranges.{Range}
+use Rattle.spec_machine.specs.Watches.{Watch}
 use Rattle.notify_table.specs.declared.turn.Turn.{Turn}
 
 -- 0 before the first check, then the last check and the cycle

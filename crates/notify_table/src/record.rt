@@ -2,7 +2,7 @@
 
 ghost use Rattle.std.specs.Prelude.{◌≡◌, ◌<◌, length, IfOk, IfSome, option_map};
 ghost use Rattle.symbol_table.specs.Moves.{moved_span};
-ghost use Rattle.ads_machine.specs.Watches.{is_sent, after_check};
+ghost use Rattle.spec_machine.specs.Watches.{is_sent, after_check};
 ghost use Rattle.index_groups.specs.Access.{range_meant};
 ghost use Rattle.notify_table.specs.Specs.{new_watch, before_checks};
 ghost use Rattle.notify_table.specs.Reloads.{range_after, bytes_at, bit_at, end_of, ended_meant};
@@ -28,8 +28,8 @@ pub(crate) struct Record {
 }
 
 impl Model for Record {
-    ghost use Rattle.ads_formats.specs.Ranges.{Range};
-    ghost use Rattle.ads_machine.specs.Watches.{Watch};
+    ghost use Rattle.spec_formats.specs.Ranges.{Range};
+    ghost use Rattle.spec_machine.specs.Watches.{Watch};
 
     ghost Value = { Watch Range };
 

@@ -3,7 +3,7 @@
 ghost use Rattle.std.specs.Prelude.{◌≡◌, ℕ, ◌+◌, ◌<◌, ◌≤◌, [], map, filter, length, insert, remove, position};
 ghost use Rattle.std.specs.Prelude.{nat_eq, IsSome, IfSome, Some, All, option_map, IfOk, OnOk, OnErr};
 ghost use Rattle.slab.specs.Slab.{get, slab_len, Updates};
-ghost use Rattle.ads_machine.specs.Watches.{is_due, is_sent, after_check, watch_after_reload, watches_after_reload};
+ghost use Rattle.spec_machine.specs.Watches.{is_due, is_sent, after_check, watch_after_reload, watches_after_reload};
 ghost use Rattle.index_groups.specs.Access.{range_meant};
 ghost use Rattle.notify_table.specs.Specs.{new_watch, before_checks};
 ghost use Rattle.notify_table.specs.Table.{watched_len, CanBeWatched, handle_of, is_numbered};
@@ -34,8 +34,8 @@ pub(crate) struct Schedule {
 
 impl Model for Schedule {
     ghost use Rattle.std.specs.Prelude.{List, map};
-    ghost use Rattle.ads_formats.specs.Ranges.{Range};
-    ghost use Rattle.ads_machine.specs.Watches.{Watch};
+    ghost use Rattle.spec_formats.specs.Ranges.{Range};
+    ghost use Rattle.spec_machine.specs.Watches.{Watch};
     ghost use Rattle.notify_table.specs.Schedules.{watch_at, AreScheduled};
 
     ghost Value = { List (Watch Range) };

@@ -3,7 +3,7 @@
 ghost use Rattle.std.specs.Prelude.{◌≡◌, ◌+◌, ◌<◌, ◌≤◌, ◌↔◌, ◌==◌, not, false, filter, map, All, length};
 ghost use Rattle.std.specs.Prelude.{option_map, IsTrue, IsOk, IsErr, IsSomeAnd, IfSome, IfOk, IfErr, OnOk, OnErr};
 ghost use Rattle.std.specs.List.Sorted.{IsStrictlyIncreasing};
-ghost use Rattle.ads_machine.specs.Watches.{is_due, is_sent, ended_watches};
+ghost use Rattle.spec_machine.specs.Watches.{is_due, is_sent, ended_watches};
 ghost use Rattle.index_groups.specs.Access.{range_meant};
 ghost use Rattle.notify_table.specs.Specs.{new_watch, before_checks};
 ghost use Rattle.notify_table.specs.Table.{watched_len, CanBeWatched, no_watches, is_full, is_live};

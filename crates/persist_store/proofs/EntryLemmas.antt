@@ -1,7 +1,7 @@
 -- Entries that are read one after another.
 use Rattle.std.proofs.Common.{◌≡◌, ◌≢◌, ℕ, zero, suc, ◌-◌, ◌<◌, List, [], ◌∷◌, length, refl, sym, ◌∙◌, ap, subst, true≢false, arith}
 use Rattle.std.specs.Prelude.{Bool, Option, Some, None, IsSome, IfSome, IfNone, is_some, option_map, option_and_then, unwrap_or, nat_eq}
-use Rattle.ads_store_file.specs.BodyText.{StoredEntry, EntryRead, entry_of, entries_in}
+use Rattle.spec_store.specs.BodyText.{StoredEntry, EntryRead, entry_of, entries_in}
 
 -- what the entry in front and the entries behind it are
 abbrev pub with_entry : ℕ → EntryRead → Option (List StoredEntry)

@@ -1,6 +1,6 @@
 -- How a run of calls of a disk goes on.
 use Rattle.std.proofs.Common.{◌≡◌, ◌⊎◌, inl, inr, ⊎_elim, ℕ, ◌+◌, ◌≤◌, List, arith}
-use Rattle.ads_store_file.specs.Disk.{Elapses, LeavesOnly}
+use Rattle.spec_store.specs.Disk.{Elapses, LeavesOnly}
 
 module _ {D : Type 0} (moment : D → ℕ) (left_since : D → ℕ → List ℕ → Type 0) where
   -- before the first call

@@ -3,9 +3,9 @@ use Rattle.std.proofs.Common.{◌≡◌, ℕ, ◌≤◌, List, length, take, dro
 use Rattle.std.specs.Prelude.{Bool, true, false, Option, Some, None, option_map}
 use Rattle.std.proofs.lemmas.Bool.{cases_Bool}
 use Rattle.std.proofs.lemmas.List.{take-take}
-use Rattle.ads_store_file.specs.Slots.{slot_of, counts, Standing, standing_of, standing_of_slots}
-use Rattle.ads_store_file.specs.Saves.{place_of}
-use Rattle.ads_store_file.proofs.SlotLemmas.{counted, slot_of-not, same_slot}
+use Rattle.spec_store.specs.Slots.{slot_of, counts, Standing, standing_of, standing_of_slots}
+use Rattle.spec_store.specs.Saves.{place_of}
+use Rattle.spec_store.proofs.SlotLemmas.{counted, slot_of-not, same_slot}
 use Rattle.persist_store.specs.Disk.{Reads}
 use Rattle.persist_store.specs.Steps.{IsAt, Passes}
 use Rattle.persist_store.specs.declared.disk_read.DiskRead.TheVariants as read

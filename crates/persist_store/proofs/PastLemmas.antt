@@ -6,8 +6,8 @@ use Rattle.std.proofs.lemmas.Bool.{cases_lt, and_parts, and_from, cases_Bool, le
 use Rattle.std.proofs.lemmas.List.{take_all}
 use Rattle.std.proofs.lemmas.List.Elements.{filter-append}
 use Rattle.std.proofs.lemmas.List.Folds.{list_all-append}
-use Rattle.ads_store_file.specs.Disk.{written, Torn, Follows, Only, IsSynced, Elapses}
-use Rattle.ads_store_file.proofs.DiskLemmas.{torn-written, torn_behind}
+use Rattle.spec_store.specs.Disk.{written, Torn, Follows, Only, IsSynced, Elapses}
+use Rattle.spec_store.proofs.DiskLemmas.{torn-written, torn_behind}
 use Rattle.persist_store.specs.Past.{LeftByWrite, LeftBy, LeftIn, of_period, LeftInPast}
 use Rattle.persist_store.specs.MemDisk.{HeldFile, leaves_now, leaves_since, are_made_by, is_to_fail, after_call, after_put, after_sync}
 use Rattle.persist_store.specs.declared.past_write.PastWrite.{PastWrite}

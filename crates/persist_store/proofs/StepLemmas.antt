@@ -1,11 +1,11 @@
 -- The three steps of a save over a disk that tells its file.
 use Rattle.std.proofs.Common.{◌≡◌, ◌⊎◌, inl, inr, ℕ, ◌+◌, ◌^◌, ◌<◌, ◌≤◌, List, [], ◌∷◌, length, true, false, refl, sym, subst, ◌∙◌, ap}
 use Rattle.std.specs.Prelude.{Bool, Option, Some, None, unwrap_or}
-use Rattle.ads_store_file.specs.Disk.{written, Torn, Only, WhereTold, Elapses, LeavesOnly}
-use Rattle.ads_store_file.specs.Slots.{MAX_BODY, Slot, behind_gate, Standing, standing_of}
-use Rattle.ads_store_file.specs.Saves.{goes_second, next_place, next_sequence, next_slot, standing_after, has_closed_gate}
-use Rattle.ads_store_file.specs.Laws.{MaySave, IsBeforeOrAfter, ClosesGate, IsFilled, FillsSlot, OpensGate}
-use Rattle.ads_store_file.proofs.StepLemmas.{closes_gate, fills_slot, opens_gate}
+use Rattle.spec_store.specs.Disk.{written, Torn, Only, WhereTold, Elapses, LeavesOnly}
+use Rattle.spec_store.specs.Slots.{MAX_BODY, Slot, behind_gate, Standing, standing_of}
+use Rattle.spec_store.specs.Saves.{goes_second, next_place, next_sequence, next_slot, standing_after, has_closed_gate}
+use Rattle.spec_store.specs.Laws.{MaySave, IsBeforeOrAfter, ClosesGate, IsFilled, FillsSlot, OpensGate}
+use Rattle.spec_store.proofs.StepLemmas.{closes_gate, fills_slot, opens_gate}
 use Rattle.persist_store.specs.Steps.{IsAt, Stays, IsShut, IsFull, StandsFor, IsSaving}
 use Rattle.persist_store.proofs.Moments.{started, goes_on, weaker, joins}
 

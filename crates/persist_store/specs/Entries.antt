@@ -1,6 +1,6 @@
 -- Which entry of a body text a value of `StoredEntry` is.
 use Rattle.std.specs.Prelude.{ℕ, List}
-use Rattle.ads_store_file.specs.BodyText as body
+use Rattle.spec_store.specs.BodyText as body
 use Rattle.persist_store.specs.declared.stored_entry.StoredEntry.{StoredEntry}
 
 abbrev pub entry_meant : StoredEntry → body.StoredEntry

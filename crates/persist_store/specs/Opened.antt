@@ -1,6 +1,6 @@
 -- How the opening of a store ends.
 use Rattle.std.specs.Prelude.{◌≡◌, List, ℕ, false, Option, Some}
-use Rattle.ads_store_file.specs.Slots.{standing_of}
+use Rattle.spec_store.specs.Slots.{standing_of}
 use Rattle.persist_store.specs.Store.{IsReady}
 use Rattle.persist_store.specs.declared.store_open.StoreOpen.{StoreOpen}
 use Rattle.persist_store.specs.declared.store_open.StoreOpen.TheVariants as open_

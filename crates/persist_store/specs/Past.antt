@@ -1,6 +1,6 @@
 -- What writes may have left of a file in memory: each of them may have been cut short by a stop before the next sync.
 use Rattle.std.specs.Prelude.{◌≡◌, ◌⊎◌, ◌≤◌, ◌<◌, ℕ, List, [], ◌∷◌, filter, ◌==◌}
-use Rattle.ads_store_file.specs.Disk.{Torn}
+use Rattle.spec_store.specs.Disk.{Torn}
 use Rattle.persist_store.specs.declared.past_write.PastWrite.{PastWrite}
 
 -- a write of what might have been left before, or of what a read gave before it

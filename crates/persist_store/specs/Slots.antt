@@ -1,6 +1,6 @@
 -- Which slot of a file a value of `SlotText` or `StandingSlot` is.
 use Rattle.std.specs.Prelude.{ℕ, Bool}
-use Rattle.ads_store_file.specs.Slots.{Slot, Standing}
+use Rattle.spec_store.specs.Slots.{Slot, Standing}
 use Rattle.persist_store.specs.declared.slot_text.SlotText.{SlotText}
 use Rattle.persist_store.specs.declared.standing_slot.StandingSlot.{StandingSlot}
 

@@ -1,10 +1,10 @@
 -- The steps of a save over a disk that tells its file. No public clause cites this but `IsAt` and `HasCause`.
 use Rattle.std.specs.Prelude.{◌≡◌, ◌≤◌, ℕ, List, length, true, Result, Option, Some, IsErrOf}
 use Rattle.ads_outside.specs.Rose.{Rose}
-use Rattle.ads_store_file.specs.Disk.{Only, LeavesOnly}
-use Rattle.ads_store_file.specs.Slots.{Slot, behind_gate, Standing, standing_of}
-use Rattle.ads_store_file.specs.Saves.{next_place, next_slot, standing_after, has_closed_gate}
-use Rattle.ads_store_file.specs.Laws.{MaySave, IsFilled}
+use Rattle.spec_store.specs.Disk.{Only, LeavesOnly}
+use Rattle.spec_store.specs.Slots.{Slot, behind_gate, Standing, standing_of}
+use Rattle.spec_store.specs.Saves.{next_place, next_slot, standing_after, has_closed_gate}
+use Rattle.spec_store.specs.Laws.{MaySave, IsFilled}
 use Rattle.persist_store.specs.declared.step_fault.StepFault.{StepFault}
 use Rattle.persist_store.specs.declared.step_fault.StepFault.TheVariants as fault
 

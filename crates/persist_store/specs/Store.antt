@@ -2,9 +2,9 @@
 use Rattle.std.specs.Prelude.{◌≡◌, ◌≤◌, ◌^◌, ℕ, ◌-◌, List, Bool, true, false, ◌==◌, ◌||◌, nat_lt, length, Option, Some, None, option_map}
 use Rattle.std.specs.Option.{option_map_or}
 use Rattle.ads_outside.specs.Rose.{Rose}
-use Rattle.ads_store_file.specs.Disk.{Only, IsSynced}
-use Rattle.ads_store_file.specs.Slots.{Standing, standing_of}
-use Rattle.ads_store_file.specs.Saves.{is_over_limit, standing_after}
+use Rattle.spec_store.specs.Disk.{Only, IsSynced}
+use Rattle.spec_store.specs.Slots.{Standing, standing_of}
+use Rattle.spec_store.specs.Saves.{is_over_limit, standing_after}
 use Rattle.persist_store.specs.declared.saved.Saved.{Saved}
 use Rattle.persist_store.specs.declared.saved.Saved.TheVariants as saved
 

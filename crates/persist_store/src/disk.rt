@@ -6,7 +6,7 @@ use crate::{DiskOpen, DiskRead, Synced, Wrote};
 
 /// A file on a disk. It may tell what it holds; a real disk does not.
 pub trait Disk {
-    ghost use Rattle.ads_store_file.specs.Disk.{written, Torn, Follows, IsSynced, WhereTold, Elapses};
+    ghost use Rattle.spec_store.specs.Disk.{written, Torn, Follows, IsSynced, WhereTold, Elapses};
     ghost use Rattle.ads_outside.specs.Rose.{Rose};
     ghost use Rattle.persist_store.specs.Disk.{Opens, Reads};
 

@@ -1,7 +1,7 @@
 //! The entries of a body, given one by one.
 
 ghost use Rattle.std.specs.Prelude.{◌≡◌, ◌↔◌, ◌<◌, ◌-◌, ◌∷◌, [], length, is_some, Some, IsNone, IsSome, IfSome, IfNone, unwrap_or, option_map};
-ghost use Rattle.ads_store_file.specs.BodyText.{split_at, entry_of, entries_in, entries_of};
+ghost use Rattle.spec_store.specs.BodyText.{split_at, entry_of, entries_in, entries_of};
 ghost use Rattle.persist_store.specs.Entries.{entry_meant, split_meant, entry_read};
 
 use crate::StoredEntry;
@@ -17,7 +17,7 @@ pub struct Entries<'a> {
 
 impl<'a> Model for Entries<'a> {
     ghost use Rattle.std.specs.Prelude.{List, [], IsSome, unwrap_or};
-    ghost use Rattle.ads_store_file.specs.BodyText.{StoredEntry, entries_in};
+    ghost use Rattle.spec_store.specs.BodyText.{StoredEntry, entries_in};
 
     ghost Value = { List StoredEntry };
 
@@ -29,7 +29,7 @@ impl<'a> Model for Entries<'a> {
 impl<'a> Entries<'a> {
     /// The entries of a body text. `None` where the bytes are no body text: a number of entries of 4 bytes, and just these
     /// entries, whatever they hold.
-    #[tactic(auto, unfolding(ads_store_file::specs::BodyText::entries_of))]
+    #[tactic(auto, unfolding(spec_store::specs::BodyText::entries_of))]
     pub fn read(body: &'a [u8]) -> Option<Entries<'a>>
         ensures { result ≡ entries_of body.now }
     {
@@ -92,7 +92,7 @@ fn are_entries(bytes: &[u8], count: u32) -> bool
 }
 
 // The entry in front, and what stands behind it.
-#[tactic(auto, unfolding(ads_store_file::specs::BodyText::entry_of))]
+#[tactic(auto, unfolding(spec_store::specs::BodyText::entry_of))]
 fn first_entry(bytes: &[u8]) -> Option<(StoredEntry<'_>, &[u8])>
     ensures { option_map (λ (e, rest). entry_read (entry_meant e) rest.now) result ≡ entry_of bytes.now }
 {

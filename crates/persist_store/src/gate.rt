@@ -1,8 +1,8 @@
 //! The gate of a slot is looked at.
 
 ghost use Rattle.std.specs.Prelude.{◌≡◌, List, ℕ, Some, IfOk};
-ghost use Rattle.ads_store_file.specs.Disk.{Elapses};
-ghost use Rattle.ads_store_file.specs.Saves.{has_closed_gate};
+ghost use Rattle.spec_store.specs.Disk.{Elapses};
+ghost use Rattle.spec_store.specs.Saves.{has_closed_gate};
 ghost use Rattle.persist_store.specs.Steps.{Stays, HasCause};
 
 use crate::step_fault::StepFault;

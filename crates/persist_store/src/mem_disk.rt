@@ -5,7 +5,7 @@ ghost use Rattle.std.specs.Option.{option_map_or};
 ghost use Rattle.std.proofs.Common.{inl};
 ghost use Rattle.ads_outside.specs.Rose.{Rose};
 ghost use Rattle.ads_outside.specs.FailingCalls.{none_made};
-ghost use Rattle.ads_store_file.specs.Disk.{written, Torn};
+ghost use Rattle.spec_store.specs.Disk.{written, Torn};
 ghost use Rattle.persist_store.specs.Disk.{bytes_at};
 ghost use Rattle.persist_store.specs.MemDisk.{stops_next, has_stopped, is_to_fail, are_made_by, some_of, put_next, after_call, after_put, after_sync};
 

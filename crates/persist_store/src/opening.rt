@@ -1,8 +1,8 @@
 //! The slot that a file stands for is read.
 
 ghost use Rattle.std.specs.Prelude.{◌≡◌, ◌≤◌, List, ℕ, false, true, Option, Some, option_map, length, take, drop, IfOk, OnOk};
-ghost use Rattle.ads_store_file.specs.Slots.{Slot, Standing, slot_of, standing_of, standing_of_slots};
-ghost use Rattle.ads_store_file.specs.Saves.{place_of};
+ghost use Rattle.spec_store.specs.Slots.{Slot, Standing, slot_of, standing_of, standing_of_slots};
+ghost use Rattle.spec_store.specs.Saves.{place_of};
 ghost use Rattle.persist_store.specs.Slots.{MAX_SLOT, standing_kept, placed};
 ghost use Rattle.persist_store.specs.Steps.{IsAt, HasCause, Passes};
 

@@ -1,12 +1,12 @@
 //! A body is saved in the slot that does not stand.
 
 ghost use Rattle.std.specs.Prelude.{◌≡◌, ◌≤◌, ◌<◌, ◌^◌, ◌++◌, List, ℕ, true, length, None, option_map, IfOk, OnOk};
-ghost use Rattle.ads_store_file.specs.BodyText.{is_body_text};
-ghost use Rattle.ads_store_file.specs.Disk.{LeavesOnly};
-ghost use Rattle.ads_store_file.specs.Slots as slots;
-ghost use Rattle.ads_store_file.specs.Slots.{standing_of, behind_gate};
-ghost use Rattle.ads_store_file.specs.Saves.{goes_second, next_sequence, next_slot, standing_after};
-ghost use Rattle.ads_store_file.specs.Laws.{IsBeforeOrAfter};
+ghost use Rattle.spec_store.specs.BodyText.{is_body_text};
+ghost use Rattle.spec_store.specs.Disk.{LeavesOnly};
+ghost use Rattle.spec_store.specs.Slots as slots;
+ghost use Rattle.spec_store.specs.Slots.{standing_of, behind_gate};
+ghost use Rattle.spec_store.specs.Saves.{goes_second, next_sequence, next_slot, standing_after};
+ghost use Rattle.spec_store.specs.Laws.{IsBeforeOrAfter};
 ghost use Rattle.persist_store.specs.Slots.{standing_kept};
 ghost use Rattle.persist_store.specs.Steps.{IsAt, HasCause, StandsFor};
 

@@ -1,10 +1,10 @@
 //! The three steps of a save: the gate is closed, the slot is filled, the gate is opened.
 
 ghost use Rattle.std.specs.Prelude.{◌≡◌, ◌+◌, ◌≤◌, ◌<◌, ◌^◌, List, ℕ, [], ◌∷◌, length, true, None, Some, OnOk};
-ghost use Rattle.ads_store_file.specs.Disk.{written, Torn, LeavesOnly};
-ghost use Rattle.ads_store_file.specs.Slots.{MAX_BODY, Slot, behind_gate, standing_of};
-ghost use Rattle.ads_store_file.specs.Saves.{next_place, next_slot, standing_after, has_closed_gate};
-ghost use Rattle.ads_store_file.specs.Laws.{MaySave, IsFilled, IsBeforeOrAfter};
+ghost use Rattle.spec_store.specs.Disk.{written, Torn, LeavesOnly};
+ghost use Rattle.spec_store.specs.Slots.{MAX_BODY, Slot, behind_gate, standing_of};
+ghost use Rattle.spec_store.specs.Saves.{next_place, next_slot, standing_after, has_closed_gate};
+ghost use Rattle.spec_store.specs.Laws.{MaySave, IsFilled, IsBeforeOrAfter};
 ghost use Rattle.persist_store.specs.Steps.{IsAt, HasCause, IsShut, IsFull, StandsFor, IsSaving};
 
 use crate::gate::is_gate_closed;

@@ -1,7 +1,7 @@
 //! A slot is read.
 
 ghost use Rattle.std.specs.Prelude.{◌≡◌, ◌+◌, ◌≤◌, true, length, option_map};
-ghost use Rattle.ads_store_file.specs.Slots.{slot_of, counts, body_length};
+ghost use Rattle.spec_store.specs.Slots.{slot_of, counts, body_length};
 ghost use Rattle.persist_store.specs.Slots.{slot_meant};
 
 use crate::Entries;
@@ -30,7 +30,7 @@ pub struct SlotText<'a> {
 }
 
 /// The slot at the front of these bytes, where it counts.
-#[tactic(auto, unfolding(ads_store_file::specs::Slots::slot_of))]
+#[tactic(auto, unfolding(spec_store::specs::Slots::slot_of))]
 pub fn read_slot(bytes: &[u8]) -> Option<SlotText<'_>>
     ensures { option_map slot_meant result ≡ slot_of bytes.now }
 {

@@ -2,11 +2,11 @@
 
 ghost use Rattle.std.specs.Prelude.{◌≡◌, ◌≤◌, ◌<◌, ◌^◌, List, ℕ, true, false, None, Some, option_map, IfOk, OnErr};
 ghost use Rattle.ads_outside.specs.Rose.{Rose};
-ghost use Rattle.ads_store_file.specs.BodyText.{is_body_text};
-ghost use Rattle.ads_store_file.specs.Disk.{LeavesOnly};
-ghost use Rattle.ads_store_file.specs.Slots.{standing_of};
-ghost use Rattle.ads_store_file.specs.Saves.{standing_after, next_sequence, is_over_limit};
-ghost use Rattle.ads_store_file.specs.Laws.{IsBeforeOrAfter};
+ghost use Rattle.spec_store.specs.BodyText.{is_body_text};
+ghost use Rattle.spec_store.specs.Disk.{LeavesOnly};
+ghost use Rattle.spec_store.specs.Slots.{standing_of};
+ghost use Rattle.spec_store.specs.Saves.{standing_after, next_sequence, is_over_limit};
+ghost use Rattle.spec_store.specs.Laws.{IsBeforeOrAfter};
 ghost use Rattle.persist_store.specs.Opened.{IsOpened};
 ghost use Rattle.persist_store.specs.Slots.{standing_kept};
 ghost use Rattle.persist_store.specs.Steps.{StandsFor};

@@ -1,7 +1,7 @@
 //! A file with bytes written into it.
 
 ghost use Rattle.std.specs.Prelude.{◌≡◌, ◌+◌, ◌≤◌, ◌++◌, length, take, drop, replicate, IfOk, OnOk};
-ghost use Rattle.ads_store_file.specs.Disk.{written, filled_to};
+ghost use Rattle.spec_store.specs.Disk.{written, filled_to};
 
 use ads_base::{NoMemory, Octets};
 use std::alloc::Global;

@@ -5,12 +5,12 @@ use Rattle.std.specs.List.{list_all}
 use Rattle.std.proofs.lemmas.Bool.{and_parts, leb-true, le-leb}
 use Rattle.name_paths.specs.Identifier.{is_identifier}
 use Rattle.name_paths.specs.Name.{identifiers_of, is_symbol_name}
-use Rattle.ads_plant.specs.Listed.{NamedType}
-use Rattle.ads_plant.specs.Description.{Symbol, Port, Sizes}
-use Rattle.ads_plant.specs.Entries.{upload_size}
-use Rattle.ads_plant.specs.AcceptedTypes.{LIMIT, all_pairs, is_comment, is_shape, is_small_shape}
-use Rattle.ads_plant.specs.Accepted.{is_port, is_symbol, are_facts, size_of_symbol, are_two_names, are_apart}
-use Rattle.ads_plant.proofs.TextLengths.{short_comment}
+use Rattle.spec_plant.specs.Listed.{NamedType}
+use Rattle.spec_plant.specs.Description.{Symbol, Port, Sizes}
+use Rattle.spec_plant.specs.Entries.{upload_size}
+use Rattle.spec_plant.specs.AcceptedTypes.{LIMIT, all_pairs, is_comment, is_shape, is_small_shape}
+use Rattle.spec_plant.specs.Accepted.{is_port, is_symbol, are_facts, size_of_symbol, are_two_names, are_apart}
+use Rattle.spec_plant.proofs.TextLengths.{short_comment}
 use Rattle.symbol_table.specs.Tables.{table_symbol, table_of}
 use Rattle.port_device.specs.Uploads.{has_short_texts}
 

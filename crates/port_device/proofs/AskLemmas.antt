@@ -9,23 +9,23 @@ use Rattle.return_codes.specs.declared.code.Code.TheVariants.{C705, C710}
 use Rattle.return_codes.specs.Code.{number_of}
 use Rattle.type_layout.specs.Descriptions.{area_of}
 use Rattle.index_groups.specs.AreaGroups.{byte_number}
-use Rattle.ads_plant.specs.Listed.{NamedType}
-use Rattle.ads_plant.specs.Description.{Area, Inputs, Outputs, Memory, Process}
-use Rattle.ads_plant.specs.World.{PlantPort}
-use Rattle.ads_plant.specs.Finding as plant
-use Rattle.ads_plant.specs.Finding.{found_of}
-use Rattle.ads_formats.specs.Codes.{invalid_group, invalid_size}
-use Rattle.ads_formats.specs.Groups.{Group, HandleByName, ValueByName, ValueByHandle, InfoByName, ExtendedInfoByName}
-use Rattle.ads_machine.specs.World.{World}
-use Rattle.ads_machine.specs.Access.{Addressed, WholeByte}
-use Rattle.ads_machine.specs.Client as client
-use Rattle.ads_machine.specs.Client.{names_of_place}
-use Rattle.ads_machine.specs.Acts.{Act, Refusal, fixed_data, reading}
-use Rattle.ads_machine.specs.ByName.{place_of, value_act, info_of, if_found, read_write_group}
-use Rattle.ads_machine.specs.Entries.{group_of_area, entry_of_part}
-use Rattle.ads_formats.specs.SymbolEntry.{entry_bytes}
+use Rattle.spec_plant.specs.Listed.{NamedType}
+use Rattle.spec_plant.specs.Description.{Area, Inputs, Outputs, Memory, Process}
+use Rattle.spec_plant.specs.World.{PlantPort}
+use Rattle.spec_plant.specs.Finding as plant
+use Rattle.spec_plant.specs.Finding.{found_of}
+use Rattle.spec_formats.specs.Codes.{invalid_group, invalid_size}
+use Rattle.spec_formats.specs.Groups.{Group, HandleByName, ValueByName, ValueByHandle, InfoByName, ExtendedInfoByName}
+use Rattle.spec_machine.specs.World.{World}
+use Rattle.spec_machine.specs.Access.{Addressed, WholeByte}
+use Rattle.spec_machine.specs.Client as client
+use Rattle.spec_machine.specs.Client.{names_of_place}
+use Rattle.spec_machine.specs.Acts.{Act, Refusal, fixed_data, reading}
+use Rattle.spec_machine.specs.ByName.{place_of, value_act, info_of, if_found, read_write_group}
+use Rattle.spec_machine.specs.Entries.{group_of_area, entry_of_part}
+use Rattle.spec_formats.specs.SymbolEntry.{entry_bytes}
 use Rattle.name_paths.specs.Path.{Step, steps_of}
-use Rattle.ads_machine.specs.Reads.{fixed_reply, read_act}
+use Rattle.spec_machine.specs.Reads.{fixed_reply, read_act}
 use Rattle.symbol_table.specs.declared.found.Found.{Found}
 use Rattle.symbol_table.specs.declared.place.Place.{Place}
 use Rattle.symbol_table.specs.FoundPlaces.{Finds}

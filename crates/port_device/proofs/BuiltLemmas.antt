@@ -2,14 +2,14 @@
 use Rattle.std.proofs.Common.{◌≡◌, ℕ, zero, suc, ◌<◌, List, [], ◌∷◌, length, map, refl, sym, ◌∙◌, ap, subst, arith}
 use Rattle.std.specs.Prelude.{Some, slice_get, slice_index_or, All}
 use Rattle.signals.specs.Wave.{Wave}
-use Rattle.ads_plant.specs.Listed.{NamedType}
-use Rattle.ads_plant.specs.Description.{Port, Description}
-use Rattle.ads_plant.specs.World.{plant_port, plant_of}
-use Rattle.ads_plant.specs.Sound.{Each, IsSoundPort, IsSoundPlant}
-use Rattle.ads_plant.proofs.SoundLemmas.{accepted_are_sound, accepted_are_numbered_apart}
-use Rattle.ads_machine.specs.World.{RUN, first_memory, world_of}
-use Rattle.ads_machine.specs.PortBytes.{PortBytes, Holds}
-use Rattle.ads_machine.proofs.Reloaded.{begins_with_first_image}
+use Rattle.spec_plant.specs.Listed.{NamedType}
+use Rattle.spec_plant.specs.Description.{Port, Description}
+use Rattle.spec_plant.specs.World.{plant_port, plant_of}
+use Rattle.spec_plant.specs.Sound.{Each, IsSoundPort, IsSoundPlant}
+use Rattle.spec_plant.proofs.SoundLemmas.{accepted_are_sound, accepted_are_numbered_apart}
+use Rattle.spec_machine.specs.World.{RUN, first_memory, world_of}
+use Rattle.spec_machine.specs.PortBytes.{PortBytes, Holds}
+use Rattle.spec_machine.proofs.Reloaded.{begins_with_first_image}
 use Rattle.symbol_table.specs.Tables.{IsTableOf}
 use Rattle.type_layout.specs.Descriptions.{port_of, ports_of, description_of}
 use Rattle.type_layout.specs.declared.port.PortDesc.{PortDesc}

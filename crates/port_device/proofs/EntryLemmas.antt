@@ -4,9 +4,9 @@ use Rattle.std.specs.Prelude.{Bool, Some, None, slice_get, ◌==◌, if◌then�
 use Rattle.std.specs.List.{All}
 use Rattle.std.proofs.lemmas.Bool.{cases_Bool}
 use Rattle.std.proofs.lemmas.Option.{slice_get-get_or}
-use Rattle.ads_plant.specs.Listed.{NamedType}
-use Rattle.ads_plant.specs.Accepted.{image_size, IMAGE_LIMIT}
-use Rattle.ads_machine.proofs.ImageLemmas.{area_within}
+use Rattle.spec_plant.specs.Listed.{NamedType}
+use Rattle.spec_plant.specs.Accepted.{image_size, IMAGE_LIMIT}
+use Rattle.spec_machine.proofs.ImageLemmas.{area_within}
 use Rattle.symbol_table.specs.Tables.{TableSymbol, SymbolTable, IsTableWith, number_called}
 use Rattle.symbol_table.specs.Rows.{symbol_of_row, symbols_of_rows}
 use Rattle.symbol_table.specs.declared.row.SymbolRow.{SymbolRow}

@@ -5,14 +5,14 @@ use Rattle.std.specs.List.{All, list_all}
 use Rattle.std.proofs.lemmas.Bool.{and_parts, leb-true}
 use Rattle.std.proofs.lemmas.Option.{slice_get-get_or, slice_get-map}
 use Rattle.ads_base.specs.declared.no_memory.NoMemory.{NoMemory}
-use Rattle.ads_plant.specs.Listed.{NamedType}
-use Rattle.ads_plant.specs.Description.{Symbol, size_in}
-use Rattle.ads_plant.specs.World.{plant_symbol}
-use Rattle.ads_plant.specs.AcceptedTypes.{is_shape, is_small_shape, LIMIT}
-use Rattle.ads_plant.specs.Accepted.{size_of_symbol}
-use Rattle.ads_plant.proofs.TypeLemmas.{list_all-get}
-use Rattle.ads_formats.specs.SymbolEntry.{upload_bytes}
-use Rattle.ads_machine.specs.Entries.{entry_of_symbol}
+use Rattle.spec_plant.specs.Listed.{NamedType}
+use Rattle.spec_plant.specs.Description.{Symbol, size_in}
+use Rattle.spec_plant.specs.World.{plant_symbol}
+use Rattle.spec_plant.specs.AcceptedTypes.{is_shape, is_small_shape, LIMIT}
+use Rattle.spec_plant.specs.Accepted.{size_of_symbol}
+use Rattle.spec_plant.proofs.TypeLemmas.{list_all-get}
+use Rattle.spec_formats.specs.SymbolEntry.{upload_bytes}
+use Rattle.spec_machine.specs.Entries.{entry_of_symbol}
 use Rattle.type_upload.proofs.TextLengths.{text-short}
 use Rattle.symbol_table.specs.Tables.{TableSymbol, SymbolTable, declared, is_placed, is_typed, IsTableWith}
 use Rattle.symbol_table.specs.Rows.{symbol_of_row, symbols_of_rows, IsSizedRow}

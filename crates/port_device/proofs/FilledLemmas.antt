@@ -3,16 +3,16 @@ use Rattle.std.proofs.Common.{◌≡◌, ℕ, zero, suc, ◌+◌, ◌<◌, List,
 use Rattle.std.specs.Prelude.{Some, slice_get, option_map}
 use Rattle.std.specs.List.{list_any}
 use Rattle.std.proofs.lemmas.Option.{slice_get-map}
-use Rattle.ads_plant.specs.Listed.{NamedType}
-use Rattle.ads_plant.specs.Description.{Area, Symbol, size_in}
-use Rattle.ads_plant.specs.World.{PlantPort, PlantSymbol, plant_symbol, symbol_size}
-use Rattle.ads_plant.specs.Accepted.{image_size}
-use Rattle.ads_plant.specs.Covering.{covers, is_byte_of}
-use Rattle.ads_plant.specs.Sound.{Each, IsSoundSymbol, IsSoundPort, HaveNoByteInCommon, AreApart}
-use Rattle.ads_plant.proofs.SoundLemmas.{each-get}
-use Rattle.ads_machine.specs.AreaNames.{is_covered}
-use Rattle.ads_machine.specs.PortBytes.{start_in, image_byte}
-use Rattle.ads_machine.proofs.ImageLemmas.{area_within}
+use Rattle.spec_plant.specs.Listed.{NamedType}
+use Rattle.spec_plant.specs.Description.{Area, Symbol, size_in}
+use Rattle.spec_plant.specs.World.{PlantPort, PlantSymbol, plant_symbol, symbol_size}
+use Rattle.spec_plant.specs.Accepted.{image_size}
+use Rattle.spec_plant.specs.Covering.{covers, is_byte_of}
+use Rattle.spec_plant.specs.Sound.{Each, IsSoundSymbol, IsSoundPort, HaveNoByteInCommon, AreApart}
+use Rattle.spec_plant.proofs.SoundLemmas.{each-get}
+use Rattle.spec_machine.specs.AreaNames.{is_covered}
+use Rattle.spec_machine.specs.PortBytes.{start_in, image_byte}
+use Rattle.spec_machine.proofs.ImageLemmas.{area_within}
 use Rattle.symbol_table.specs.Tables.{TableSymbol, table_symbol}
 use Rattle.port_device.specs.PlacedBytes.{PlacedBytes, placed_symbol, with_all_bytes, is_put_at, FitsArea, PutNoByteTwice, ArePutApart}
 use Rattle.port_device.proofs.PutLemmas.{all_put}

@@ -5,20 +5,20 @@ use Rattle.std.specs.List.{list_all}
 use Rattle.std.proofs.lemmas.Bool.{and_parts, leb-true}
 use Rattle.std.proofs.lemmas.Option.{slice_get-map}
 use Rattle.std.proofs.lemmas.List.{length-map}
-use Rattle.ads_plant.specs.Listed.{NamedType}
-use Rattle.ads_plant.specs.Description.{Symbol, Port}
-use Rattle.ads_plant.specs.World.{PlantPort, PlantSymbol, plant_symbol, plant_port, plant_of}
-use Rattle.ads_plant.specs.Accepted.{is_port, are_facts, image_size, IMAGE_LIMIT}
-use Rattle.ads_plant.specs.AcceptedTypes.{AreTypes}
-use Rattle.ads_plant.specs.Sound.{Each, IsSoundSymbol, IsSoundPort}
-use Rattle.ads_plant.proofs.SoundLemmas.{each-get, accepted_are_sound}
-use Rattle.ads_plant.proofs.TypeLemmas.{list_all-get}
-use Rattle.ads_machine.specs.PortLaws.{IsFirstImage}
+use Rattle.spec_plant.specs.Listed.{NamedType}
+use Rattle.spec_plant.specs.Description.{Symbol, Port}
+use Rattle.spec_plant.specs.World.{PlantPort, PlantSymbol, plant_symbol, plant_port, plant_of}
+use Rattle.spec_plant.specs.Accepted.{is_port, are_facts, image_size, IMAGE_LIMIT}
+use Rattle.spec_plant.specs.AcceptedTypes.{AreTypes}
+use Rattle.spec_plant.specs.Sound.{Each, IsSoundSymbol, IsSoundPort}
+use Rattle.spec_plant.proofs.SoundLemmas.{each-get, accepted_are_sound}
+use Rattle.spec_plant.proofs.TypeLemmas.{list_all-get}
+use Rattle.spec_machine.specs.PortLaws.{IsFirstImage}
 use Rattle.symbol_table.specs.Rows.{symbol_of_row, symbols_of_rows}
 use Rattle.symbol_table.specs.Tables.{TableSymbol, SymbolTable, table_symbol, table_of, IsPlaced, IsTableOf}
 use Rattle.symbol_table.specs.declared.row.SymbolRow.{SymbolRow}
 use Rattle.symbol_table.proofs.PlacedSymbols.{accepted_is_placed}
-use Rattle.ads_plant.specs.Entries.{upload_size}
+use Rattle.spec_plant.specs.Entries.{upload_size}
 use Rattle.port_device.specs.PortMemory.{PortMemory}
 use Rattle.port_device.specs.Uploads.{described, has_short_texts}
 use Rattle.port_device.specs.PlacedBytes.{with_all_bytes, placed_symbol}

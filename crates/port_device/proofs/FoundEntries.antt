@@ -6,20 +6,20 @@ use Rattle.std.proofs.lemmas.Option.{slice_get-map}
 use Rattle.ads_base.specs.declared.no_memory.NoMemory.{NoMemory}
 use Rattle.return_codes.specs.declared.code.Code.{Code}
 use Rattle.name_paths.specs.Path.{Step}
-use Rattle.ads_plant.specs.Listed.{NamedType}
-use Rattle.ads_plant.specs.Description.{Port}
-use Rattle.ads_plant.specs.Entries.{type_id}
-use Rattle.ads_plant.specs.Spelling.{type_text}
-use Rattle.ads_plant.specs.Trees.{tree_of}
-use Rattle.ads_plant.specs.World.{PlantPort, PlantSymbol, plant_symbol}
-use Rattle.ads_plant.specs.Finding as plant
-use Rattle.ads_plant.specs.Finding.{found_of_steps}
-use Rattle.ads_formats.specs.SymbolEntry.{SymbolEntry, entry_bytes}
-use Rattle.ads_formats.proofs.EntryLemmas.{same_entry}
-use Rattle.ads_machine.specs.World.{World}
-use Rattle.ads_machine.specs.ByName.{if_found}
-use Rattle.ads_machine.specs.Entries.{group_of_area, symbol_flags, entry_of_part}
-use Rattle.ads_machine.specs.Reads.{fixed_reply}
+use Rattle.spec_plant.specs.Listed.{NamedType}
+use Rattle.spec_plant.specs.Description.{Port}
+use Rattle.spec_plant.specs.Entries.{type_id}
+use Rattle.spec_plant.specs.Spelling.{type_text}
+use Rattle.spec_plant.specs.Trees.{tree_of}
+use Rattle.spec_plant.specs.World.{PlantPort, PlantSymbol, plant_symbol}
+use Rattle.spec_plant.specs.Finding as plant
+use Rattle.spec_plant.specs.Finding.{found_of_steps}
+use Rattle.spec_formats.specs.SymbolEntry.{SymbolEntry, entry_bytes}
+use Rattle.spec_formats.proofs.EntryLemmas.{same_entry}
+use Rattle.spec_machine.specs.World.{World}
+use Rattle.spec_machine.specs.ByName.{if_found}
+use Rattle.spec_machine.specs.Entries.{group_of_area, symbol_flags, entry_of_part}
+use Rattle.spec_machine.specs.Reads.{fixed_reply}
 use Rattle.symbol_info.specs.declared.entry.Entry.{Entry}
 use Rattle.symbol_info.specs.Entry.{entry_meant, HasShortTexts}
 use Rattle.symbol_table.specs.declared.found.Found.{Found}

@@ -2,15 +2,15 @@
 use Rattle.std.proofs.Common.{◌≡◌, ℕ, ◌+◌, ◌<◌, List, length, true, false, refl, sym, ◌∙◌, ap, subst, inl, inr, arith}
 use Rattle.std.specs.Prelude.{Bool, ◌/◌, ◌%◌, Option, Some, None, Ok, Err, Result, min, nat_lt, nat_le, ◌==◌, ◌||◌, not, if◌then◌else◌}
 use Rattle.std.proofs.lemmas.Bool.{cases_Bool, false≢true, eqb-true, lt-ltb, ltb-true, leb-true, leb-false}
-use Rattle.ads_plant.specs.Description.{Area, Sizes, size_in}
-use Rattle.ads_formats.specs.Codes.{invalid_group, invalid_offset, invalid_size, not_permitted}
-use Rattle.ads_formats.specs.Groups.{Group, AreaBytes, AreaBit, AreaSize, group_of}
-use Rattle.ads_formats.specs.Ranges.{Range, Bytes, Bit, Size, greatest_len, byte_range, bit_range, size_range, range_in, range_of}
-use Rattle.ads_machine.specs.Client as client
-use Rattle.ads_machine.specs.Acts.{Refusal}
-use Rattle.ads_machine.specs.Reach.{addressed_by_range, reach_of}
-use Rattle.ads_machine.specs.Writes.{Asker, may_write, write_act, write_group}
-use Rattle.ads_machine.proofs.Find.{test_other}
+use Rattle.spec_plant.specs.Description.{Area, Sizes, size_in}
+use Rattle.spec_formats.specs.Codes.{invalid_group, invalid_offset, invalid_size, not_permitted}
+use Rattle.spec_formats.specs.Groups.{Group, AreaBytes, AreaBit, AreaSize, group_of}
+use Rattle.spec_formats.specs.Ranges.{Range, Bytes, Bit, Size, greatest_len, byte_range, bit_range, size_range, range_in, range_of}
+use Rattle.spec_machine.specs.Client as client
+use Rattle.spec_machine.specs.Acts.{Refusal}
+use Rattle.spec_machine.specs.Reach.{addressed_by_range, reach_of}
+use Rattle.spec_machine.specs.Writes.{Asker, may_write, write_act, write_group}
+use Rattle.spec_machine.proofs.Find.{test_other}
 use Rattle.port_device.specs.Groups.{is_written_by_port, written_by_port}
 use Rattle.port_device.specs.Endings.{range_write_act}
 

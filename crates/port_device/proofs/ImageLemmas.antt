@@ -1,7 +1,7 @@
 -- A byte of an image that is read and written anew.
 use Rattle.std.proofs.Common.{◌≡◌, ℕ, zero, suc, ◌+◌, ◌<◌, List, [], ◌∷◌, ◌++◌, length, take, drop, get_or, set, refl, ◌∙◌, ap, arith}
 use Rattle.std.specs.Prelude.{Some, slice_get}
-use Rattle.ads_plant.specs.World.{with_nth_byte}
+use Rattle.spec_plant.specs.World.{with_nth_byte}
 
 pub first_byte : (image : List ℕ) (k : ℕ) → k < length image → slice_get image k ≡ Some (get_or (take 1 (drop k image)) 0 0)
 first_byte [] k h = absurd (omega (arith, h))

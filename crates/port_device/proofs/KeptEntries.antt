@@ -2,19 +2,19 @@
 use Rattle.std.proofs.Common.{◌≡◌, ℕ, zero, suc, ◌+◌, List, [], ◌∷◌, ◌++◌, length, true, refl, sym, ◌∙◌, ap, subst, inl, inr, arith}
 use Rattle.std.specs.Prelude.{Bool, Option, Some, None, IsSome, slice_get, find, All, ◌==◌}
 use Rattle.std.proofs.lemmas.Bool.{cases_Bool, and_from, eq-eqb, false≢true}
-use Rattle.ads_plant.specs.Listed.{NamedType}
-use Rattle.ads_plant.specs.Trees.{tree_of}
-use Rattle.ads_plant.specs.World.{PlantPort, PlantSymbol, SymbolPart, lower_name}
-use Rattle.ads_plant.specs.SameTypes.{is_same_type}
-use Rattle.ads_plant.specs.Named.{port_numbered, symbol_named}
-use Rattle.ads_plant.specs.Sound.{Each, IsSoundSymbol}
-use Rattle.ads_plant.proofs.SoundLemmas.{each-get}
-use Rattle.ads_machine.specs.World.{World}
-use Rattle.ads_machine.specs.Reloads.{is_kept_symbol, is_kept}
-use Rattle.ads_machine.specs.NumberedPlaces.{KeptSymbol, IsEntryOf, is_entry_of_symbol, entry_of_symbol, AreKeptSymbols}
-use Rattle.ads_machine.proofs.Reloaded.{part-kept}
+use Rattle.spec_plant.specs.Listed.{NamedType}
+use Rattle.spec_plant.specs.Trees.{tree_of}
+use Rattle.spec_plant.specs.World.{PlantPort, PlantSymbol, SymbolPart, lower_name}
+use Rattle.spec_plant.specs.SameTypes.{is_same_type}
+use Rattle.spec_plant.specs.Named.{port_numbered, symbol_named}
+use Rattle.spec_plant.specs.Sound.{Each, IsSoundSymbol}
+use Rattle.spec_plant.proofs.SoundLemmas.{each-get}
+use Rattle.spec_machine.specs.World.{World}
+use Rattle.spec_machine.specs.Reloads.{is_kept_symbol, is_kept}
+use Rattle.spec_machine.specs.NumberedPlaces.{KeptSymbol, IsEntryOf, is_entry_of_symbol, entry_of_symbol, AreKeptSymbols}
+use Rattle.spec_machine.proofs.Reloaded.{part-kept}
 use Rattle.symbol_table.specs.Tables.{TableSymbol}
-use Rattle.ads_plant.specs.AcceptedTypes.{AreTypes}
+use Rattle.spec_plant.specs.AcceptedTypes.{AreTypes}
 use Rattle.type_layout.specs.SameShapes.{ArePartners}
 use Rattle.port_device.specs.Reloaded.{AreCompared}
 use Rattle.port_device.specs.PortMemory.{PortMemory, PortsMemory, memory_numbered}

@@ -7,16 +7,16 @@ use Rattle.std.proofs.lemmas.List.Elements.{All-nil, All-cons}
 use Rattle.std.proofs.lemmas.List.Folds.{find_at}
 use Rattle.std.proofs.lemmas.Option.{slice_get-map, slice_get_past}
 use Rattle.name_paths.specs.Identifier.{lower}
-use Rattle.ads_plant.specs.Listed.{NamedType}
-use Rattle.ads_plant.specs.Description.{Symbol}
-use Rattle.ads_plant.specs.Trees.{tree_of}
-use Rattle.ads_plant.specs.World.{PlantPort, PlantSymbol, plant_symbol, lower_name}
-use Rattle.ads_plant.specs.SameTypes.{is_same_type}
-use Rattle.ads_plant.specs.Named.{port_numbered, symbol_named, NotNumbered, AreNumberedApart}
-use Rattle.ads_plant.specs.Sound.{Each}
-use Rattle.ads_plant.proofs.BlockLemmas.{same_bytes}
-use Rattle.ads_machine.specs.World.{World}
-use Rattle.ads_machine.specs.NumberedPlaces.{KeptSymbol, whole_place, IsEntryOf}
+use Rattle.spec_plant.specs.Listed.{NamedType}
+use Rattle.spec_plant.specs.Description.{Symbol}
+use Rattle.spec_plant.specs.Trees.{tree_of}
+use Rattle.spec_plant.specs.World.{PlantPort, PlantSymbol, plant_symbol, lower_name}
+use Rattle.spec_plant.specs.SameTypes.{is_same_type}
+use Rattle.spec_plant.specs.Named.{port_numbered, symbol_named, NotNumbered, AreNumberedApart}
+use Rattle.spec_plant.specs.Sound.{Each}
+use Rattle.spec_plant.proofs.BlockLemmas.{same_bytes}
+use Rattle.spec_machine.specs.World.{World}
+use Rattle.spec_machine.specs.NumberedPlaces.{KeptSymbol, whole_place, IsEntryOf}
 use Rattle.symbol_table.specs.Tables.{TableSymbol, SymbolTable, table_symbol, is_called, number_called}
 use Rattle.symbol_table.proofs.PlacesInOrder.{mapped_at}
 use Rattle.symbol_table.proofs.PlacedSymbols.{apart_placed}

@@ -5,13 +5,13 @@ use Rattle.std.specs.List.{list_all}
 use Rattle.std.proofs.lemmas.Bool.{cases_Bool, and_parts, leb-true}
 use Rattle.std.proofs.lemmas.List.Elements.{All-nil, All-cons}
 use Rattle.std.proofs.lemmas.List.Kept.{AllPairs-cons}
-use Rattle.ads_plant.specs.Listed.{NamedType}
-use Rattle.ads_plant.specs.World.{is_same_area}
-use Rattle.ads_plant.specs.AcceptedTypes.{all_pairs}
-use Rattle.ads_plant.specs.Sound.{Each}
-use Rattle.ads_plant.proofs.BlockLemmas.{same_area-refl}
-use Rattle.ads_plant.proofs.TypeLemmas.{list_all-get}
-use Rattle.ads_machine.specs.NumberedPlaces.{NumberedPlace, KeptSymbol}
+use Rattle.spec_plant.specs.Listed.{NamedType}
+use Rattle.spec_plant.specs.World.{is_same_area}
+use Rattle.spec_plant.specs.AcceptedTypes.{all_pairs}
+use Rattle.spec_plant.specs.Sound.{Each}
+use Rattle.spec_plant.proofs.BlockLemmas.{same_area-refl}
+use Rattle.spec_plant.proofs.TypeLemmas.{list_all-get}
+use Rattle.spec_machine.specs.NumberedPlaces.{NumberedPlace, KeptSymbol}
 use Rattle.symbol_table.specs.Tables.{TableSymbol, number_called}
 use Rattle.symbol_table.specs.PlaceOrders.{lie_apart}
 use Rattle.symbol_table.specs.Moves.{IsSameSymbol, Overlap, IsKeptPlace, AreKept}

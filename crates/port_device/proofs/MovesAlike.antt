@@ -3,19 +3,19 @@ use Rattle.std.proofs.Common.{◌≡◌, ℕ, ◌+◌, ◌-◌, ◌≤◌, List,
 use Rattle.std.specs.Prelude.{Bool, Option, Some, None, option_map, find, slice_get, bytes_eq, ◌==◌, ◌&&◌, nat_le}
 use Rattle.std.specs.Option.{option_map_or}
 use Rattle.std.proofs.lemmas.Bool.{cases_Bool, and_parts, eqb-true, leb-true, false≢true}
-use Rattle.ads_plant.specs.World.{Plant, PlantPort, PlantSymbol, symbol_size, lower_name, is_same_area}
-use Rattle.ads_plant.specs.Named.{port_numbered}
-use Rattle.ads_plant.specs.Sound.{IsSoundPlant}
-use Rattle.ads_plant.proofs.BlockLemmas.{same_area-true}
-use Rattle.ads_formats.specs.Ranges.{Range, Bytes, Bit}
-use Rattle.ads_machine.specs.Client as client
-use Rattle.ads_machine.specs.Client.{kept_place}
-use Rattle.ads_machine.specs.Reloads.{is_kept}
-use Rattle.ads_machine.specs.HandleLaws.{AgreeingPlaces, AgreeingMoves}
-use Rattle.ads_machine.specs.NumberedPlaces.{NumberedPlace, KeptSymbol, IsEntryOf, AreKeptSymbols, is_place_in, is_place_at, is_same_place, entry_of_symbol}
-use Rattle.ads_machine.specs.NumberedPlaces as machine
-use Rattle.ads_machine.specs.WatchedRanges.{moved_range, bytes_of_entry, bit_of_entry, entry_of_bytes}
-use Rattle.ads_machine.proofs.PlacesMoved.{places_move_alike, IsFoundEntry, found_entry}
+use Rattle.spec_plant.specs.World.{Plant, PlantPort, PlantSymbol, symbol_size, lower_name, is_same_area}
+use Rattle.spec_plant.specs.Named.{port_numbered}
+use Rattle.spec_plant.specs.Sound.{IsSoundPlant}
+use Rattle.spec_plant.proofs.BlockLemmas.{same_area-true}
+use Rattle.spec_formats.specs.Ranges.{Range, Bytes, Bit}
+use Rattle.spec_machine.specs.Client as client
+use Rattle.spec_machine.specs.Client.{kept_place}
+use Rattle.spec_machine.specs.Reloads.{is_kept}
+use Rattle.spec_machine.specs.HandleLaws.{AgreeingPlaces, AgreeingMoves}
+use Rattle.spec_machine.specs.NumberedPlaces.{NumberedPlace, KeptSymbol, IsEntryOf, AreKeptSymbols, is_place_in, is_place_at, is_same_place, entry_of_symbol}
+use Rattle.spec_machine.specs.NumberedPlaces as machine
+use Rattle.spec_machine.specs.WatchedRanges.{moved_range, bytes_of_entry, bit_of_entry, entry_of_bytes}
+use Rattle.spec_machine.proofs.PlacesMoved.{places_move_alike, IsFoundEntry, found_entry}
 use Rattle.type_layout.specs.Descriptions.{area_of}
 use Rattle.type_layout.specs.declared.port.Area.{Area}
 use Rattle.type_layout.specs.declared.port.Area.TheVariants as area

@@ -5,17 +5,17 @@ use Rattle.name_paths.specs.Path.{Step, steps_of}
 use Rattle.std.proofs.lemmas.Option.{slice_get-map}
 use Rattle.return_codes.specs.declared.code.Code.TheVariants.{C710}
 use Rattle.type_layout.specs.Descriptions.{area_of}
-use Rattle.ads_plant.specs.Listed.{NamedType}
-use Rattle.ads_plant.specs.Description.{Area, Symbol, Port}
-use Rattle.ads_plant.specs.World.{PlantPort, PlantSymbol, plant_symbol, symbol_size}
-use Rattle.ads_plant.specs.Finding as plant
-use Rattle.ads_plant.specs.Finding.{found_of, without_nul}
-use Rattle.ads_plant.proofs.FoundLemmas.{found_lie_in_symbols}
-use Rattle.ads_machine.specs.World.{World}
-use Rattle.ads_machine.specs.ByName.{place_of}
-use Rattle.ads_machine.specs.NumberedPlaces.{is_same_place}
-use Rattle.ads_machine.proofs.Find.{test_other}
-use Rattle.ads_machine.proofs.PlacesMoved.{found_places_are_same}
+use Rattle.spec_plant.specs.Listed.{NamedType}
+use Rattle.spec_plant.specs.Description.{Area, Symbol, Port}
+use Rattle.spec_plant.specs.World.{PlantPort, PlantSymbol, plant_symbol, symbol_size}
+use Rattle.spec_plant.specs.Finding as plant
+use Rattle.spec_plant.specs.Finding.{found_of, without_nul}
+use Rattle.spec_plant.proofs.FoundLemmas.{found_lie_in_symbols}
+use Rattle.spec_machine.specs.World.{World}
+use Rattle.spec_machine.specs.ByName.{place_of}
+use Rattle.spec_machine.specs.NumberedPlaces.{is_same_place}
+use Rattle.spec_machine.proofs.Find.{test_other}
+use Rattle.spec_machine.proofs.PlacesMoved.{found_places_are_same}
 use Rattle.symbol_table.specs.declared.found.Found.{Found}
 use Rattle.symbol_table.specs.FoundPlaces.{IsFound, Finds}
 use Rattle.symbol_table.specs.Tables.{SymbolTable, table_symbol, IsTableOf}

@@ -6,21 +6,21 @@ use Rattle.std.proofs.Math.Nat.{max-le, le-max_left, le-max_right}
 use Rattle.std.proofs.lemmas.Bool.{and_parts, leb-true}
 use Rattle.std.proofs.lemmas.Option.{slice_get-map}
 use Rattle.name_paths.specs.Path.{Step}
-use Rattle.ads_plant.specs.Listed.{Elem, Plain, Text, Struct, Enum, Shape, One, Array, Member, NamedType, Structure, Enumeration}
-use Rattle.ads_plant.specs.Trees.{TypeTree, tree_at, elem_tree, shape_tree, member_trees, named_tree, trees_behind, trees_of, tree_of}
-use Rattle.ads_plant.specs.Sizes.{type_size, type_depth, greatest_depth}
-use Rattle.ads_plant.specs.Sound.{Each}
-use Rattle.ads_plant.specs.Parts.{TypePart, part_behind}
-use Rattle.ads_plant.specs.PartTexts.{name_of_found, comment_of_found}
-use Rattle.ads_plant.specs.Spelling.{type_text}
-use Rattle.ads_plant.specs.Description.{Port}
-use Rattle.ads_plant.specs.World.{PlantSymbol, plant_symbol}
-use Rattle.ads_plant.specs.Finding.{Found, whole_of, is_named_by, steps_behind_name, found_in_symbol, found_of_steps}
-use Rattle.ads_plant.specs.AcceptedTypes.{AreTypes, are_types_behind, is_next_type, is_small_type, is_shape, LIMIT}
-use Rattle.ads_plant.proofs.FoundLemmas.{find-place}
-use Rattle.ads_laws.proofs.Footprints.{each_both}
-use Rattle.ads_laws.proofs.TameTypes.{IsTame, path_len, members_path, text-short, tame-steps}
-use Rattle.ads_laws.proofs.TameTrees.{trees-tame, shape-tame}
+use Rattle.spec_plant.specs.Listed.{Elem, Plain, Text, Struct, Enum, Shape, One, Array, Member, NamedType, Structure, Enumeration}
+use Rattle.spec_plant.specs.Trees.{TypeTree, tree_at, elem_tree, shape_tree, member_trees, named_tree, trees_behind, trees_of, tree_of}
+use Rattle.spec_plant.specs.Sizes.{type_size, type_depth, greatest_depth}
+use Rattle.spec_plant.specs.Sound.{Each}
+use Rattle.spec_plant.specs.Parts.{TypePart, part_behind}
+use Rattle.spec_plant.specs.PartTexts.{name_of_found, comment_of_found}
+use Rattle.spec_plant.specs.Spelling.{type_text}
+use Rattle.spec_plant.specs.Description.{Port}
+use Rattle.spec_plant.specs.World.{PlantSymbol, plant_symbol}
+use Rattle.spec_plant.specs.Finding.{Found, whole_of, is_named_by, steps_behind_name, found_in_symbol, found_of_steps}
+use Rattle.spec_plant.specs.AcceptedTypes.{AreTypes, are_types_behind, is_next_type, is_small_type, is_shape, LIMIT}
+use Rattle.spec_plant.proofs.FoundLemmas.{find-place}
+use Rattle.spec_laws.proofs.Footprints.{each_both}
+use Rattle.spec_laws.proofs.TameTypes.{IsTame, path_len, members_path, text-short, tame-steps}
+use Rattle.spec_laws.proofs.TameTrees.{trees-tame, shape-tame}
 use Rattle.symbol_table.specs.Tables.{TableSymbol, SymbolTable, table_symbol, IsTableOf, IsTableWith}
 use Rattle.symbol_table.proofs.PlacesInOrder.{mapped_at}
 use Rattle.port_device.specs.Uploads.{has_short_texts}

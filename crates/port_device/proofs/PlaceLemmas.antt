@@ -5,21 +5,21 @@ use Rattle.std.specs.Option.{option_map_or}
 use Rattle.std.proofs.lemmas.Bool.{and_parts, eqb-true, ltb-true, false≢true}
 use Rattle.type_layout.specs.Descriptions.{area_of}
 use Rattle.type_layout.specs.declared.port.Sizes.{Sizes}
-use Rattle.ads_plant.specs.Description.{size_in}
-use Rattle.ads_plant.specs.Description as plant
-use Rattle.ads_plant.specs.World.{PlantPort, PlantSymbol, symbol_size, lower_name, is_same_area}
-use Rattle.ads_plant.specs.Named.{port_numbered}
-use Rattle.ads_formats.specs.Codes.{invalid_size}
-use Rattle.ads_machine.specs.World.{World, names_at}
-use Rattle.ads_machine.specs.Access.{Addressed, WholeByte}
-use Rattle.ads_machine.specs.Acts.{Act, reading}
-use Rattle.ads_machine.specs.PortBytes.{image_bytes}
-use Rattle.ads_machine.specs.Reads.{read_act}
-use Rattle.ads_machine.specs.Client as client
-use Rattle.ads_machine.specs.Client.{names_of_place}
-use Rattle.ads_machine.specs.NumberedPlaces.{NumberedPlace, is_place_in, is_place_at}
-use Rattle.ads_machine.specs.Reach.{addressed_in_place}
-use Rattle.ads_machine.proofs.PlacesMoved.{same_places_have_same_bytes}
+use Rattle.spec_plant.specs.Description.{size_in}
+use Rattle.spec_plant.specs.Description as plant
+use Rattle.spec_plant.specs.World.{PlantPort, PlantSymbol, symbol_size, lower_name, is_same_area}
+use Rattle.spec_plant.specs.Named.{port_numbered}
+use Rattle.spec_formats.specs.Codes.{invalid_size}
+use Rattle.spec_machine.specs.World.{World, names_at}
+use Rattle.spec_machine.specs.Access.{Addressed, WholeByte}
+use Rattle.spec_machine.specs.Acts.{Act, reading}
+use Rattle.spec_machine.specs.PortBytes.{image_bytes}
+use Rattle.spec_machine.specs.Reads.{read_act}
+use Rattle.spec_machine.specs.Client as client
+use Rattle.spec_machine.specs.Client.{names_of_place}
+use Rattle.spec_machine.specs.NumberedPlaces.{NumberedPlace, is_place_in, is_place_at}
+use Rattle.spec_machine.specs.Reach.{addressed_in_place}
+use Rattle.spec_machine.proofs.PlacesMoved.{same_places_have_same_bytes}
 use Rattle.symbol_table.specs.declared.place.Place.{Place}
 use Rattle.symbol_table.specs.Tables.{IsTableWith}
 use Rattle.symbol_table.proofs.PlacedSymbols.{sound_symbol}

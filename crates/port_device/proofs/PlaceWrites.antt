@@ -2,13 +2,13 @@
 use Rattle.std.proofs.Common.{◌≡◌, ℕ, ◌≤◌, List, map, length, true, false, ◌∙◌, ap}
 use Rattle.std.specs.Prelude.{Ok, nat_lt, not, if◌then◌else◌}
 use Rattle.type_layout.specs.Descriptions.{area_of}
-use Rattle.ads_formats.specs.Codes.{invalid_size, not_permitted}
-use Rattle.ads_machine.specs.World.{World, names_at}
-use Rattle.ads_machine.specs.Access.{WholeByte}
-use Rattle.ads_machine.specs.Acts.{Refusal}
-use Rattle.ads_machine.specs.Client as client
-use Rattle.ads_machine.specs.Reach.{addressed_in_place}
-use Rattle.ads_machine.specs.Writes.{Asker, may_write, write_act}
+use Rattle.spec_formats.specs.Codes.{invalid_size, not_permitted}
+use Rattle.spec_machine.specs.World.{World, names_at}
+use Rattle.spec_machine.specs.Access.{WholeByte}
+use Rattle.spec_machine.specs.Acts.{Refusal}
+use Rattle.spec_machine.specs.Client as client
+use Rattle.spec_machine.specs.Reach.{addressed_in_place}
+use Rattle.spec_machine.specs.Writes.{Asker, may_write, write_act}
 use Rattle.symbol_table.specs.declared.place.Place.{Place}
 use Rattle.port_device.specs.PortMemory.{PortMemory}
 use Rattle.port_device.specs.Holds.{HoldsPort}

@@ -1,13 +1,13 @@
 -- A port that holds a world: its sizes, and what is read of its image.
 use Rattle.std.proofs.Common.{◌≡◌, ℕ, ◌+◌, ◌<◌, ◌≤◌, map, sym, ◌∙◌, ap, subst}
 use Rattle.std.specs.Prelude.{Some, unwrap_or, ◌/◌, ◌%◌, ◌^◌}
-use Rattle.ads_plant.specs.Description.{Area, size_in}
-use Rattle.ads_plant.specs.Description as plant
-use Rattle.ads_plant.specs.World.{PlantPort}
-use Rattle.ads_machine.specs.World.{World, name_at, names_at}
-use Rattle.ads_machine.specs.Access.{WholeByte, OneBit, value_at, values_at}
-use Rattle.ads_machine.specs.PortBytes.{image_byte, image_bytes}
-use Rattle.ads_machine.proofs.PortBytesLemmas.{reads_image, reads_bit}
+use Rattle.spec_plant.specs.Description.{Area, size_in}
+use Rattle.spec_plant.specs.Description as plant
+use Rattle.spec_plant.specs.World.{PlantPort}
+use Rattle.spec_machine.specs.World.{World, name_at, names_at}
+use Rattle.spec_machine.specs.Access.{WholeByte, OneBit, value_at, values_at}
+use Rattle.spec_machine.specs.PortBytes.{image_byte, image_bytes}
+use Rattle.spec_machine.proofs.PortBytesLemmas.{reads_image, reads_bit}
 use Rattle.port_device.specs.PortMemory.{PortMemory}
 use Rattle.port_device.specs.Holds.{HoldsPort}
 

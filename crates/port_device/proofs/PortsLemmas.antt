@@ -2,9 +2,9 @@
 use Rattle.std.proofs.Common.{◌≡◌, ℕ, zero, suc, ◌<◌, ◌≤◌, List, [], ◌∷◌, length, get_or, cond, refl, sym, ◌∙◌, ap, subst, true, false, arith}
 use Rattle.std.specs.Prelude.{Bool, ◌==◌, Option, Some, None, IsSome, IfSome, MatchOption, option_map, slice_get, slice_set}
 use Rattle.std.proofs.lemmas.Option.{slice_get_read, slice_get_past}
-use Rattle.ads_plant.specs.World.{PlantPort}
-use Rattle.ads_plant.specs.Named.{port_numbered}
-use Rattle.ads_machine.specs.World.{World}
+use Rattle.spec_plant.specs.World.{PlantPort}
+use Rattle.spec_plant.specs.Named.{port_numbered}
+use Rattle.spec_machine.specs.World.{World}
 use Rattle.port_device.specs.PortMemory.{PortMemory, PortsMemory, memory_numbered, with_numbered, with_port}
 use Rattle.port_device.specs.PlaceOfPort.{place_numbered}
 use Rattle.port_device.specs.Holds.{HoldsPort, HoldEach, HoldsPorts, HoldsFound}

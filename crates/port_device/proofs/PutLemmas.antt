@@ -5,13 +5,13 @@ use Rattle.std.proofs.lemmas.List.{length-take-le}
 use Rattle.std.specs.Prelude.{Bool, ◌||◌, ◌&&◌, Some, slice_get, nat_le, nat_lt}
 use Rattle.std.specs.List.{list_any}
 use Rattle.std.proofs.lemmas.Bool.{cases_lt, and_from, le-leb, lt-ltb, false≢true}
-use Rattle.ads_plant.specs.Description.{Area, Sizes, size_in}
-use Rattle.ads_plant.specs.World.{is_same_area}
-use Rattle.ads_plant.specs.Accepted.{image_size}
-use Rattle.ads_plant.specs.Sound.{Each}
-use Rattle.ads_plant.proofs.BlockLemmas.{same_area-refl}
-use Rattle.ads_machine.specs.PortBytes.{start_in, image_byte, with_image_bytes}
-use Rattle.ads_machine.proofs.ImageLemmas.{written, one_place, area_within}
+use Rattle.spec_plant.specs.Description.{Area, Sizes, size_in}
+use Rattle.spec_plant.specs.World.{is_same_area}
+use Rattle.spec_plant.specs.Accepted.{image_size}
+use Rattle.spec_plant.specs.Sound.{Each}
+use Rattle.spec_plant.proofs.BlockLemmas.{same_area-refl}
+use Rattle.spec_machine.specs.PortBytes.{start_in, image_byte, with_image_bytes}
+use Rattle.spec_machine.proofs.ImageLemmas.{written, one_place, area_within}
 use Rattle.port_device.specs.PlacedBytes.{PlacedBytes, with_all_bytes, is_put_at, FitsArea, PutNoByteTwice, ArePutApart}
 
 -- one list of bytes in the place of as many

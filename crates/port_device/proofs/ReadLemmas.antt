@@ -7,16 +7,16 @@ use Rattle.std.proofs.lemmas.Bool.{false≢true, ltb-true}
 use Rattle.return_codes.specs.declared.code.Code.{Code}
 use Rattle.return_codes.specs.declared.code.Code.TheVariants.{C705}
 use Rattle.return_codes.specs.Code.{number_of}
-use Rattle.ads_plant.specs.Description.{Area, Sizes, size_in}
-use Rattle.ads_plant.specs.World.{PlantPort}
-use Rattle.ads_formats.specs.Codes.{invalid_offset, invalid_size}
-use Rattle.ads_formats.specs.Groups.{Group, AreaBytes, AreaBit, AreaSize, SymbolVersion, group_of}
-use Rattle.ads_formats.specs.Ranges.{Range, Bytes, Bit, Size, greatest_len, byte_range, bit_range, size_range, range_in, range_of}
-use Rattle.ads_machine.specs.World.{World, Setup}
-use Rattle.ads_machine.specs.Client as client
-use Rattle.ads_machine.specs.Acts.{Act, Refusal, fixed_data}
-use Rattle.ads_machine.specs.Reach.{addressed_by_range, reach_of}
-use Rattle.ads_machine.specs.Reads.{fixed_reply, read_act, read_group}
+use Rattle.spec_plant.specs.Description.{Area, Sizes, size_in}
+use Rattle.spec_plant.specs.World.{PlantPort}
+use Rattle.spec_formats.specs.Codes.{invalid_offset, invalid_size}
+use Rattle.spec_formats.specs.Groups.{Group, AreaBytes, AreaBit, AreaSize, SymbolVersion, group_of}
+use Rattle.spec_formats.specs.Ranges.{Range, Bytes, Bit, Size, greatest_len, byte_range, bit_range, size_range, range_in, range_of}
+use Rattle.spec_machine.specs.World.{World, Setup}
+use Rattle.spec_machine.specs.Client as client
+use Rattle.spec_machine.specs.Acts.{Act, Refusal, fixed_data}
+use Rattle.spec_machine.specs.Reach.{addressed_by_range, reach_of}
+use Rattle.spec_machine.specs.Reads.{fixed_reply, read_act, read_group}
 use Rattle.port_device.specs.PortMemory.{PortMemory}
 use Rattle.port_device.specs.Holds.{HoldsPort}
 use Rattle.port_device.specs.Answers.{AnswersAct, range_read_act}

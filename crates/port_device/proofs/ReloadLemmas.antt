@@ -7,16 +7,16 @@ use Rattle.std.proofs.lemmas.List.Quantifiers.{position-Some}
 use Rattle.std.proofs.lemmas.List.{length-take-le, length-map}
 use Rattle.std.proofs.lemmas.List.Folds.{find_at}
 use Rattle.std.proofs.lemmas.Option.{slice_get-map, slice_get-get_or, slice_get_past, slice_get_within, get_or_from_slice_get}
-use Rattle.ads_plant.specs.Listed.{NamedType}
-use Rattle.ads_plant.specs.Description.{Area, Sizes, Symbol, Port, size_in}
-use Rattle.ads_plant.specs.Trees.{tree_of}
-use Rattle.ads_plant.specs.Sizes.{type_size}
-use Rattle.ads_plant.specs.AcceptedTypes.{LIMIT, is_shape, is_small_shape}
-use Rattle.ads_plant.specs.Accepted.{size_of_symbol, image_size}
-use Rattle.ads_plant.proofs.SameSizes.{same_type-size}
-use Rattle.ads_plant.proofs.TypeLemmas.{list_all-get}
-use Rattle.ads_machine.specs.PortBytes.{start_in, image_bytes}
-use Rattle.ads_machine.proofs.ImageLemmas.{area_within}
+use Rattle.spec_plant.specs.Listed.{NamedType}
+use Rattle.spec_plant.specs.Description.{Area, Sizes, Symbol, Port, size_in}
+use Rattle.spec_plant.specs.Trees.{tree_of}
+use Rattle.spec_plant.specs.Sizes.{type_size}
+use Rattle.spec_plant.specs.AcceptedTypes.{LIMIT, is_shape, is_small_shape}
+use Rattle.spec_plant.specs.Accepted.{size_of_symbol, image_size}
+use Rattle.spec_plant.proofs.SameSizes.{same_type-size}
+use Rattle.spec_plant.proofs.TypeLemmas.{list_all-get}
+use Rattle.spec_machine.specs.PortBytes.{start_in, image_bytes}
+use Rattle.spec_machine.proofs.ImageLemmas.{area_within}
 use Rattle.symbol_table.specs.Tables.{TableSymbol, SymbolTable, table_symbol, is_typed, is_placed, IsPlaced, IsTableWith, is_called, number_called}
 use Rattle.symbol_table.specs.Rows.{symbol_of_row, symbols_of_rows}
 use Rattle.symbol_table.specs.declared.row.SymbolRow.{SymbolRow}

@@ -3,19 +3,19 @@ use Rattle.std.proofs.Common.{◌≡◌, ℕ, zero, suc, ◌+◌, ◌<◌, List,
 use Rattle.std.specs.Prelude.{Bool, Option, Some, None, slice_get, option_map, find, bytes_eq, if◌then◌else◌}
 use Rattle.std.proofs.lemmas.Bool.{cases_Bool}
 use Rattle.name_paths.specs.Identifier.{lower}
-use Rattle.ads_plant.specs.Listed.{NamedType}
-use Rattle.ads_plant.specs.Description.{Symbol, Port}
-use Rattle.ads_plant.specs.Trees.{tree_of}
-use Rattle.ads_plant.specs.World.{PlantPort, PlantSymbol, plant_symbol, plant_port, symbol_size, lower_name}
-use Rattle.ads_plant.specs.SameTypes.{is_same_type}
-use Rattle.ads_plant.specs.Named.{symbol_named}
-use Rattle.ads_plant.specs.Sound.{Each, IsSoundSymbol, IsSoundPort}
-use Rattle.ads_plant.specs.Accepted.{image_size}
-use Rattle.ads_plant.proofs.SameSizes.{same_type-size}
-use Rattle.ads_plant.proofs.SoundLemmas.{symbol_sound}
-use Rattle.ads_machine.specs.Reloads.{is_kept_symbol}
-use Rattle.ads_machine.specs.PortBytes.{start_in, image_byte, image_bytes}
-use Rattle.ads_machine.specs.PortLaws.{IsFirstImage, IsReloadedImage}
+use Rattle.spec_plant.specs.Listed.{NamedType}
+use Rattle.spec_plant.specs.Description.{Symbol, Port}
+use Rattle.spec_plant.specs.Trees.{tree_of}
+use Rattle.spec_plant.specs.World.{PlantPort, PlantSymbol, plant_symbol, plant_port, symbol_size, lower_name}
+use Rattle.spec_plant.specs.SameTypes.{is_same_type}
+use Rattle.spec_plant.specs.Named.{symbol_named}
+use Rattle.spec_plant.specs.Sound.{Each, IsSoundSymbol, IsSoundPort}
+use Rattle.spec_plant.specs.Accepted.{image_size}
+use Rattle.spec_plant.proofs.SameSizes.{same_type-size}
+use Rattle.spec_plant.proofs.SoundLemmas.{symbol_sound}
+use Rattle.spec_machine.specs.Reloads.{is_kept_symbol}
+use Rattle.spec_machine.specs.PortBytes.{start_in, image_byte, image_bytes}
+use Rattle.spec_machine.specs.PortLaws.{IsFirstImage, IsReloadedImage}
 use Rattle.symbol_table.specs.Tables.{SymbolTable, table_symbol, IsTableOf}
 use Rattle.port_device.specs.PortMemory.{PortMemory}
 use Rattle.port_device.specs.PlacedBytes.{placed_symbol, with_all_bytes}

@@ -2,18 +2,18 @@
 use Rattle.std.proofs.Common.{◌≡◌, ℕ, ◌+◌, List, [], ◌∷◌, ◌++◌, length, map, refl, sym, ◌∙◌, ap, subst}
 use Rattle.std.specs.Prelude.{Option, Some, None, ◌%◌, All}
 use Rattle.std.proofs.lemmas.List.Elements.{All-nil, All-cons}
-use Rattle.ads_plant.specs.Listed.{NamedType}
-use Rattle.ads_plant.specs.Description.{Symbol, Port, Description}
-use Rattle.ads_plant.specs.World.{PlantPort, Block, plant_symbol, plant_port, plant_of}
-use Rattle.ads_plant.specs.Accepted.{image_size}
-use Rattle.ads_plant.specs.Named.{port_numbered}
-use Rattle.ads_plant.specs.Sound.{Each, IsSoundSymbol, IsSoundPort, IsSoundPlant}
-use Rattle.ads_plant.proofs.SoundLemmas.{accepted_are_sound, accepted_are_numbered_apart}
-use Rattle.ads_machine.specs.World.{World, RUN, first_memory}
-use Rattle.ads_machine.specs.PortBytes.{PortBytes, Holds}
-use Rattle.ads_machine.specs.PortLaws.{IsReloadedImage}
-use Rattle.ads_machine.specs.Reloads.{is_kept, memory_after_reload, world_after_reload}
-use Rattle.ads_machine.proofs.Reloaded.{reloads_image, reloads_new_port}
+use Rattle.spec_plant.specs.Listed.{NamedType}
+use Rattle.spec_plant.specs.Description.{Symbol, Port, Description}
+use Rattle.spec_plant.specs.World.{PlantPort, Block, plant_symbol, plant_port, plant_of}
+use Rattle.spec_plant.specs.Accepted.{image_size}
+use Rattle.spec_plant.specs.Named.{port_numbered}
+use Rattle.spec_plant.specs.Sound.{Each, IsSoundSymbol, IsSoundPort, IsSoundPlant}
+use Rattle.spec_plant.proofs.SoundLemmas.{accepted_are_sound, accepted_are_numbered_apart}
+use Rattle.spec_machine.specs.World.{World, RUN, first_memory}
+use Rattle.spec_machine.specs.PortBytes.{PortBytes, Holds}
+use Rattle.spec_machine.specs.PortLaws.{IsReloadedImage}
+use Rattle.spec_machine.specs.Reloads.{is_kept, memory_after_reload, world_after_reload}
+use Rattle.spec_machine.proofs.Reloaded.{reloads_image, reloads_new_port}
 use Rattle.symbol_table.specs.Tables.{SymbolTable, table_symbol, IsTableOf}
 use Rattle.port_device.specs.PortMemory.{PortMemory, PortsMemory, memory_numbered}
 use Rattle.port_device.specs.Holds.{HoldsPort, HoldEach, HoldsPorts, HoldsFound, WasAccepted}

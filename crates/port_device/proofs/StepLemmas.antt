@@ -5,14 +5,14 @@ use Rattle.std.specs.Prelude.{Option, Some, None, option_map, slice_get, slice_s
 use Rattle.std.proofs.lemmas.List.{length-map}
 use Rattle.std.proofs.lemmas.Option.{slice_get-map, slice_get_read}
 use Rattle.signals.specs.Wave.{Wave, value_of, wave_after_step, waves_after_step}
-use Rattle.ads_plant.specs.Listed.{NamedType}
-use Rattle.ads_plant.specs.Description.{Sizes, Symbol, Port}
-use Rattle.ads_plant.specs.World.{PlantPort, plant_symbol, plant_port}
-use Rattle.ads_plant.specs.Named.{AreNumberedApart}
-use Rattle.ads_machine.specs.World.{World}
-use Rattle.ads_machine.specs.Ticks.{world_after_tick}
-use Rattle.ads_machine.specs.PortBytes.{image_after_signal, image_after_signals}
-use Rattle.ads_machine.proofs.SignalsStepped.{steps_signals}
+use Rattle.spec_plant.specs.Listed.{NamedType}
+use Rattle.spec_plant.specs.Description.{Sizes, Symbol, Port}
+use Rattle.spec_plant.specs.World.{PlantPort, plant_symbol, plant_port}
+use Rattle.spec_plant.specs.Named.{AreNumberedApart}
+use Rattle.spec_machine.specs.World.{World}
+use Rattle.spec_machine.specs.Ticks.{world_after_tick}
+use Rattle.spec_machine.specs.PortBytes.{image_after_signal, image_after_signals}
+use Rattle.spec_machine.proofs.SignalsStepped.{steps_signals}
 use Rattle.symbol_table.specs.Tables.{TableSymbol, SymbolTable, table_symbol, IsTableOf}
 use Rattle.symbol_table.specs.Rows.{symbol_of_row, symbols_of_rows}
 use Rattle.symbol_table.specs.declared.row.SymbolRow.{SymbolRow}

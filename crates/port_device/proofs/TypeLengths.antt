@@ -4,18 +4,18 @@ use Rattle.std.specs.Prelude.{flat_map, ◌^◌}
 use Rattle.std.specs.Int.{w32, to_le_bytes}
 use Rattle.std.proofs.lemmas.Bool.{and_parts}
 use Rattle.std.proofs.lemmas.List.{length-append, length-map}
-use Rattle.ads_plant.specs.Listed.{NamedType, Structure, Enumeration}
-use Rattle.ads_plant.specs.Plain.{kind_name}
-use Rattle.ads_plant.specs.Trees.{TypeTree, PlainTree, TextTree, EnumTree, ArrayTree, StructTree, MemberTrees, NoMember, MemberTree, named_tree, trees_behind, trees_of}
-use Rattle.ads_plant.specs.Sizes.{type_size, member_start}
-use Rattle.ads_plant.specs.Sound.{Each}
-use Rattle.ads_plant.specs.AcceptedTypes.{AreTypes, are_types_behind, is_next_type, has_parts}
-use Rattle.ads_plant.proofs.TextLengths.{three_bounds, kind-short}
-use Rattle.ads_formats.specs.TypeEntry.{TypeEntry, written_stamps, fields_len, fields_bytes, sub_bytes, type_bytes}
-use Rattle.ads_formats.specs.TypeUpload.{dimension_of, dimensions_of, member_fields, members_fields, named_fields}
-use Rattle.ads_laws.proofs.Footprints.{each_both}
-use Rattle.ads_laws.proofs.TameTypes.{IsTame, AreTame, text-short}
-use Rattle.ads_laws.proofs.TameTrees.{IsTameTree, trees-tame}
+use Rattle.spec_plant.specs.Listed.{NamedType, Structure, Enumeration}
+use Rattle.spec_plant.specs.Plain.{kind_name}
+use Rattle.spec_plant.specs.Trees.{TypeTree, PlainTree, TextTree, EnumTree, ArrayTree, StructTree, MemberTrees, NoMember, MemberTree, named_tree, trees_behind, trees_of}
+use Rattle.spec_plant.specs.Sizes.{type_size, member_start}
+use Rattle.spec_plant.specs.Sound.{Each}
+use Rattle.spec_plant.specs.AcceptedTypes.{AreTypes, are_types_behind, is_next_type, has_parts}
+use Rattle.spec_plant.proofs.TextLengths.{three_bounds, kind-short}
+use Rattle.spec_formats.specs.TypeEntry.{TypeEntry, written_stamps, fields_len, fields_bytes, sub_bytes, type_bytes}
+use Rattle.spec_formats.specs.TypeUpload.{dimension_of, dimensions_of, member_fields, members_fields, named_fields}
+use Rattle.spec_laws.proofs.Footprints.{each_both}
+use Rattle.spec_laws.proofs.TameTypes.{IsTame, AreTame, text-short}
+use Rattle.spec_laws.proofs.TameTrees.{IsTameTree, trees-tame}
 use Rattle.type_upload.specs.NextMembers.{tree_bytes}
 use Rattle.type_upload.proofs.FieldLemmas.{length-fields}
 use Rattle.type_upload.proofs.MemberLemmas.{few_members, length-members_fields}

@@ -2,16 +2,16 @@
 use Rattle.std.proofs.Common.{◌≡◌, ℕ, List, [], ◌∷◌, map, length, refl, sym, ◌∙◌, ap, arith}
 use Rattle.std.proofs.lemmas.List.{length-append}
 use Rattle.std.proofs.lemmas.List.Sums.{sum_by-cons}
-use Rattle.ads_plant.specs.Listed.{NamedType}
-use Rattle.ads_plant.specs.Description.{Symbol}
-use Rattle.ads_plant.specs.World.{plant_symbol}
-use Rattle.ads_plant.specs.Entries.{symbol_entry_length, upload_size}
-use Rattle.ads_formats.specs.SymbolEntry.{SymbolEntry, entry_len, entry_bytes, upload_bytes}
-use Rattle.ads_formats.proofs.EntryLemmas.{length-entry_fields}
-use Rattle.ads_machine.specs.Entries.{entry_of_symbol}
+use Rattle.spec_plant.specs.Listed.{NamedType}
+use Rattle.spec_plant.specs.Description.{Symbol}
+use Rattle.spec_plant.specs.World.{plant_symbol}
+use Rattle.spec_plant.specs.Entries.{symbol_entry_length, upload_size}
+use Rattle.spec_formats.specs.SymbolEntry.{SymbolEntry, entry_len, entry_bytes, upload_bytes}
+use Rattle.spec_formats.proofs.EntryLemmas.{length-entry_fields}
+use Rattle.spec_machine.specs.Entries.{entry_of_symbol}
 use Rattle.std.specs.Prelude.{Result, Ok, Err, IfOk}
 use Rattle.ads_base.specs.declared.no_memory.NoMemory.{NoMemory}
-use Rattle.ads_plant.specs.Description.{Port}
+use Rattle.spec_plant.specs.Description.{Port}
 use Rattle.symbol_table.specs.Tables.{SymbolTable, table_symbol, table_of, declared}
 use Rattle.symbol_table.specs.Rows.{symbol_of_row, symbols_of_rows, declared_by_rows}
 use Rattle.symbol_table.specs.declared.row.SymbolRow.{SymbolRow}

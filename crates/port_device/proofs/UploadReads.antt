@@ -5,21 +5,21 @@ use Rattle.std.specs.Int.{w32, to_le_bytes}
 use Rattle.std.proofs.lemmas.Bool.{lt-ltb, ltb-true}
 use Rattle.std.proofs.lemmas.List.{append-nil, length-map}
 use Rattle.return_codes.specs.declared.code.Code.TheVariants.{C705}
-use Rattle.ads_plant.specs.Description.{Symbol}
-use Rattle.ads_plant.specs.Listed.{NamedType}
-use Rattle.ads_plant.specs.World.{plant_symbol}
-use Rattle.ads_formats.specs.Codes.{invalid_size}
-use Rattle.ads_formats.specs.SymbolEntry.{upload_bytes}
-use Rattle.ads_machine.specs.Acts.{Refusal, fixed_data}
-use Rattle.ads_machine.specs.Entries.{entry_of_symbol, symbol_upload_of, upload_info_of, upload_info_with_types_of}
-use Rattle.ads_plant.specs.World.{PlantPort}
-use Rattle.ads_formats.specs.Groups.{Group, AreaBytes, AreaBit, AreaSize}
-use Rattle.ads_formats.specs.Groups.{SymbolVersion, SymbolUpload, UploadInfo}
-use Rattle.ads_formats.specs.Groups.{TypeUpload, UploadInfoWithTypes}
-use Rattle.ads_machine.specs.World.{World, Setup}
-use Rattle.ads_machine.specs.Client as client
-use Rattle.ads_machine.specs.Reach.{reach_of}
-use Rattle.ads_machine.specs.Reads.{fixed_reply, read_group}
+use Rattle.spec_plant.specs.Description.{Symbol}
+use Rattle.spec_plant.specs.Listed.{NamedType}
+use Rattle.spec_plant.specs.World.{plant_symbol}
+use Rattle.spec_formats.specs.Codes.{invalid_size}
+use Rattle.spec_formats.specs.SymbolEntry.{upload_bytes}
+use Rattle.spec_machine.specs.Acts.{Refusal, fixed_data}
+use Rattle.spec_machine.specs.Entries.{entry_of_symbol, symbol_upload_of, upload_info_of, upload_info_with_types_of}
+use Rattle.spec_plant.specs.World.{PlantPort}
+use Rattle.spec_formats.specs.Groups.{Group, AreaBytes, AreaBit, AreaSize}
+use Rattle.spec_formats.specs.Groups.{SymbolVersion, SymbolUpload, UploadInfo}
+use Rattle.spec_formats.specs.Groups.{TypeUpload, UploadInfoWithTypes}
+use Rattle.spec_machine.specs.World.{World, Setup}
+use Rattle.spec_machine.specs.Client as client
+use Rattle.spec_machine.specs.Reach.{reach_of}
+use Rattle.spec_machine.specs.Reads.{fixed_reply, read_group}
 use Rattle.port_device.specs.Groups.{read_by_port, uploads_alone, without_handles}
 use Rattle.symbol_table.specs.Tables.{SymbolTable, table_symbol}
 use Rattle.port_device.specs.PortMemory.{PortMemory}

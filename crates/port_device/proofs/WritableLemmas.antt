@@ -9,12 +9,12 @@ use Rattle.std.proofs.lemmas.List.Sums.{AllPass-from_list_all, list_all-from_All
 use Rattle.std.proofs.lemmas.Option.{slice_get-map, slice_get_read}
 use Rattle.ads_base.specs.declared.net_id.NetId.{NetId}
 use Rattle.type_layout.specs.Descriptions.{nets_of}
-use Rattle.ads_plant.specs.Listed.{NamedType}
-use Rattle.ads_plant.specs.Description.{Area, Symbol}
-use Rattle.ads_plant.specs.World.{PlantPort, plant_symbol}
-use Rattle.ads_machine.specs.World.{World}
-use Rattle.ads_machine.specs.Writes.{is_writable_symbol}
-use Rattle.ads_machine.specs.WritableBytes.{MayWriteSymbolsAt}
+use Rattle.spec_plant.specs.Listed.{NamedType}
+use Rattle.spec_plant.specs.Description.{Area, Symbol}
+use Rattle.spec_plant.specs.World.{PlantPort, plant_symbol}
+use Rattle.spec_machine.specs.World.{World}
+use Rattle.spec_machine.specs.Writes.{is_writable_symbol}
+use Rattle.spec_machine.specs.WritableBytes.{MayWriteSymbolsAt}
 use Rattle.symbol_table.specs.Ranges.{StandsIn, AllStandIn}
 use Rattle.symbol_table.specs.Tables.{TableSymbol, SymbolTable, table_symbol}
 use Rattle.symbol_table.specs.Rows.{symbol_of_row, symbols_of_rows}

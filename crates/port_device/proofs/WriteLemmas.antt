@@ -4,19 +4,19 @@ use Rattle.std.specs.Prelude.{Ok, Err, min, ◌||◌, ◌==◌, if◌then◌else
 use Rattle.return_codes.specs.declared.code.Code.{Code}
 use Rattle.return_codes.specs.declared.code.Code.TheVariants.{C704}
 use Rattle.return_codes.specs.Code.{number_of}
-use Rattle.ads_plant.specs.Description.{Area, size_in}
-use Rattle.ads_plant.specs.Description as plant
-use Rattle.ads_plant.specs.World.{PlantPort, with_nth_byte}
-use Rattle.ads_formats.specs.Codes.{not_permitted, invalid_value}
-use Rattle.ads_machine.specs.World.{World, name_at, names_at, state_names, state_bytes, RUN, STOP}
-use Rattle.ads_machine.specs.Access.{Addressed, WholeByte, OneBit, with_bit, puts_of}
-use Rattle.ads_machine.specs.Acts.{Act, Refusal, writing, memory_after}
-use Rattle.ads_machine.specs.PortBytes.{PortBytes, Holds, start_in, with_image_bytes}
-use Rattle.ads_machine.specs.Writes.{Asker, are_writable, write_act, may_control, control_act}
-use Rattle.ads_machine.specs.WritableBytes.{MayWriteSymbolsAt}
-use Rattle.ads_machine.proofs.PortBytesLemmas.{writes_image, writes_bit}
-use Rattle.ads_machine.proofs.StatesSet.{sets_states}
-use Rattle.ads_machine.proofs.WritableBytes.{writes_by_symbols}
+use Rattle.spec_plant.specs.Description.{Area, size_in}
+use Rattle.spec_plant.specs.Description as plant
+use Rattle.spec_plant.specs.World.{PlantPort, with_nth_byte}
+use Rattle.spec_formats.specs.Codes.{not_permitted, invalid_value}
+use Rattle.spec_machine.specs.World.{World, name_at, names_at, state_names, state_bytes, RUN, STOP}
+use Rattle.spec_machine.specs.Access.{Addressed, WholeByte, OneBit, with_bit, puts_of}
+use Rattle.spec_machine.specs.Acts.{Act, Refusal, writing, memory_after}
+use Rattle.spec_machine.specs.PortBytes.{PortBytes, Holds, start_in, with_image_bytes}
+use Rattle.spec_machine.specs.Writes.{Asker, are_writable, write_act, may_control, control_act}
+use Rattle.spec_machine.specs.WritableBytes.{MayWriteSymbolsAt}
+use Rattle.spec_machine.proofs.PortBytesLemmas.{writes_image, writes_bit}
+use Rattle.spec_machine.proofs.StatesSet.{sets_states}
+use Rattle.spec_machine.proofs.WritableBytes.{writes_by_symbols}
 use Rattle.port_device.specs.PortMemory.{PortMemory}
 use Rattle.port_device.specs.Holds.{HoldsPort}
 use Rattle.port_device.specs.Endings.{EndsAs, world_after_act}

@@ -4,28 +4,28 @@ use Rattle.std.specs.Int.{w32, to_le_bytes}
 use Rattle.return_codes.specs.declared.code.Code.{Code}
 use Rattle.return_codes.specs.declared.code.Code.TheVariants.{C710}
 use Rattle.return_codes.specs.Code.{number_of}
-use Rattle.ads_plant.specs.Description.{size_in}
-use Rattle.ads_plant.specs.Finding.{Found, found_of_steps}
+use Rattle.spec_plant.specs.Description.{size_in}
+use Rattle.spec_plant.specs.Finding.{Found, found_of_steps}
 use Rattle.name_paths.specs.Path.{Step}
-use Rattle.ads_plant.specs.World.{PlantPort}
+use Rattle.spec_plant.specs.World.{PlantPort}
 use Rattle.type_layout.specs.Descriptions.{area_of}
 use Rattle.symbol_table.specs.Tables.{SymbolTable, TableSymbol}
 use Rattle.symbol_table.specs.declared.place.Place.{Place}
 use Rattle.index_groups.specs.declared.access.Reach.{Reach}
 use Rattle.index_groups.specs.declared.access.Reach.TheVariants as reach
 use Rattle.index_groups.specs.Access.{range_meant}
-use Rattle.ads_formats.specs.Codes.{no_error}
-use Rattle.ads_formats.specs.Ranges.{Range, Size}
-use Rattle.ads_machine.specs.World.{World}
-use Rattle.ads_machine.specs.Access.{values_at}
-use Rattle.ads_machine.specs.Client as client
-use Rattle.ads_machine.specs.NumberedPlaces.{NumberedPlace, is_same_place}
-use Rattle.ads_machine.specs.Acts.{Act, Outcome, fixed_data, outcome_of}
-use Rattle.ads_machine.specs.ByName.{place_of, if_found}
-use Rattle.ads_machine.specs.Entries.{entry_of_part}
-use Rattle.ads_formats.specs.SymbolEntry.{entry_bytes}
-use Rattle.ads_machine.specs.Reach.{addressed_by_range, addressed_in_place}
-use Rattle.ads_machine.specs.Reads.{fixed_reply, read_act}
+use Rattle.spec_formats.specs.Codes.{no_error}
+use Rattle.spec_formats.specs.Ranges.{Range, Size}
+use Rattle.spec_machine.specs.World.{World}
+use Rattle.spec_machine.specs.Access.{values_at}
+use Rattle.spec_machine.specs.Client as client
+use Rattle.spec_machine.specs.NumberedPlaces.{NumberedPlace, is_same_place}
+use Rattle.spec_machine.specs.Acts.{Act, Outcome, fixed_data, outcome_of}
+use Rattle.spec_machine.specs.ByName.{place_of, if_found}
+use Rattle.spec_machine.specs.Entries.{entry_of_part}
+use Rattle.spec_formats.specs.SymbolEntry.{entry_bytes}
+use Rattle.spec_machine.specs.Reach.{addressed_by_range, addressed_in_place}
+use Rattle.spec_machine.specs.Reads.{fixed_reply, read_act}
 
 -- data behind what stood there, or the code, and then nothing
 abbrev pub Answers : Outcome → Result (Unit {0}) Code → List ℕ → List ℕ → Type 0

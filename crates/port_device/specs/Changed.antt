@@ -2,10 +2,10 @@
 use Rattle.std.specs.Prelude.{ℕ, ◌+◌, List, length, min, Bool, true, not, ◌&&◌, ◌||◌, ◌==◌, bytes_eq, slice_get}
 use Rattle.std.specs.List.{list_any}
 use Rattle.std.specs.Option.{option_map_or}
-use Rattle.ads_plant.specs.Description.{Area}
-use Rattle.ads_plant.specs.World.{with_nth_byte}
-use Rattle.ads_machine.specs.Access.{with_bit}
-use Rattle.ads_machine.specs.PortBytes.{start_in, with_image_bytes}
+use Rattle.spec_plant.specs.Description.{Area}
+use Rattle.spec_plant.specs.World.{with_nth_byte}
+use Rattle.spec_machine.specs.Access.{with_bit}
+use Rattle.spec_machine.specs.PortBytes.{start_in, with_image_bytes}
 use Rattle.symbol_table.specs.Tables.{TableSymbol}
 use Rattle.port_device.specs.PortMemory.{PortMemory}
 

@@ -2,15 +2,15 @@
 use Rattle.std.specs.Prelude.{◌≡◌, ℕ, List, length, not, if◌then◌else◌, Result, Ok, Err}
 use Rattle.return_codes.specs.declared.code.Code.{Code}
 use Rattle.return_codes.specs.Code.{number_of}
-use Rattle.ads_plant.specs.Description.{Rights}
-use Rattle.ads_plant.specs.World.{PlantPort}
-use Rattle.ads_formats.specs.Codes.{no_error, not_permitted}
-use Rattle.ads_formats.specs.Ranges.{Range}
-use Rattle.ads_machine.specs.World.{World}
-use Rattle.ads_machine.specs.Client as client
-use Rattle.ads_machine.specs.Acts.{Act, Refusal, outcome_of, memory_after}
-use Rattle.ads_machine.specs.Reach.{addressed_by_range, addressed_in_place}
-use Rattle.ads_machine.specs.Writes.{Asker, may_write, write_act}
+use Rattle.spec_plant.specs.Description.{Rights}
+use Rattle.spec_plant.specs.World.{PlantPort}
+use Rattle.spec_formats.specs.Codes.{no_error, not_permitted}
+use Rattle.spec_formats.specs.Ranges.{Range}
+use Rattle.spec_machine.specs.World.{World}
+use Rattle.spec_machine.specs.Client as client
+use Rattle.spec_machine.specs.Acts.{Act, Refusal, outcome_of, memory_after}
+use Rattle.spec_machine.specs.Reach.{addressed_by_range, addressed_in_place}
+use Rattle.spec_machine.specs.Writes.{Asker, may_write, write_act}
 use Rattle.port_device.specs.PortMemory.{PortMemory}
 use Rattle.port_device.specs.Holds.{HoldsPort}
 

@@ -1,14 +1,14 @@
 -- For private contracts, and cited by no public clause: the ports of an accepted description as they begin.
 use Rattle.std.specs.Prelude.{◌≡◌, ℕ, ◌+◌, ◌≤◌, List, [], ◌∷◌, length, slice_get, Some}
-use Rattle.ads_plant.specs.Listed.{NamedType}
-use Rattle.ads_plant.specs.Description.{Sizes, size_in, Port, Description}
-use Rattle.ads_plant.specs.Accepted.{IsAccepted}
-use Rattle.ads_plant.specs.World.{plant_port}
+use Rattle.spec_plant.specs.Listed.{NamedType}
+use Rattle.spec_plant.specs.Description.{Sizes, size_in, Port, Description}
+use Rattle.spec_plant.specs.Accepted.{IsAccepted}
+use Rattle.spec_plant.specs.World.{plant_port}
 use Rattle.symbol_table.specs.Rows.{symbol_of_row}
 use Rattle.symbol_table.specs.Tables.{TableSymbol, IsTableOf}
 use Rattle.symbol_table.specs.declared.row.SymbolRow.{SymbolRow}
-use Rattle.ads_machine.specs.World.{RUN}
-use Rattle.ads_machine.specs.PortLaws.{IsFirstImage}
+use Rattle.spec_machine.specs.World.{RUN}
+use Rattle.spec_machine.specs.PortLaws.{IsFirstImage}
 use Rattle.port_device.specs.PortMemory.{PortMemory}
 
 -- a port of an accepted description with these types

@@ -1,9 +1,9 @@
 -- The groups that the code tells apart, against the machine's.
 use Rattle.std.specs.Prelude.{Bool, true, false, Option, Some, None, if◌then◌else◌}
 use Rattle.type_layout.specs.Descriptions.{area_of}
-use Rattle.ads_formats.specs.Groups.{Group, AreaBytes, AreaBit, AreaSize, HandleByName, ValueByName, ValueByHandle, ReleaseHandle}
-use Rattle.ads_formats.specs.Groups.{InfoByName, SymbolVersion, ExtendedInfoByName, SymbolUpload, UploadInfo}
-use Rattle.ads_formats.specs.Groups.{TypeUpload, UploadInfoWithTypes, SumRead, SumWrite, SumReadWrite}
+use Rattle.spec_formats.specs.Groups.{Group, AreaBytes, AreaBit, AreaSize, HandleByName, ValueByName, ValueByHandle, ReleaseHandle}
+use Rattle.spec_formats.specs.Groups.{InfoByName, SymbolVersion, ExtendedInfoByName, SymbolUpload, UploadInfo}
+use Rattle.spec_formats.specs.Groups.{TypeUpload, UploadInfoWithTypes, SumRead, SumWrite, SumReadWrite}
 use Rattle.port_device.specs.declared.group.Group.TheVariants as value
 use Rattle.port_device.specs.declared.group.Group as declared
 

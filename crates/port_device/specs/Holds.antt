@@ -1,13 +1,13 @@
 -- Which ports hold a world: the description and the version are the world's, and so are the bytes.
 use Rattle.std.specs.Prelude.{◌≡◌, ℕ, List, [], ◌∷◌, Option, Some, None}
-use Rattle.ads_plant.specs.Description.{Port, Description}
-use Rattle.ads_plant.specs.Accepted.{IsAccepted}
-use Rattle.ads_plant.specs.World.{PlantPort, plant_port}
-use Rattle.ads_plant.specs.Named.{AreNumberedApart}
-use Rattle.ads_plant.specs.Sound.{IsSoundPlant, IsSoundPort}
+use Rattle.spec_plant.specs.Description.{Port, Description}
+use Rattle.spec_plant.specs.Accepted.{IsAccepted}
+use Rattle.spec_plant.specs.World.{PlantPort, plant_port}
+use Rattle.spec_plant.specs.Named.{AreNumberedApart}
+use Rattle.spec_plant.specs.Sound.{IsSoundPlant, IsSoundPort}
 use Rattle.symbol_table.specs.Tables.{IsTableOf}
-use Rattle.ads_machine.specs.World.{World}
-use Rattle.ads_machine.specs.PortBytes as bytes
+use Rattle.spec_machine.specs.World.{World}
+use Rattle.spec_machine.specs.PortBytes as bytes
 use Rattle.port_device.specs.PortMemory.{PortMemory, PortsMemory}
 
 -- the port of the plant that is held

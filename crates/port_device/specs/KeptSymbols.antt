@@ -1,7 +1,7 @@
 -- The symbols that a reload keeps, told by numbers: what the code's entries mean.
 use Rattle.std.specs.Prelude.{List, map}
 use Rattle.symbol_table.specs.declared.kept.KeptPlace.{KeptPlace}
-use Rattle.ads_machine.specs.NumberedPlaces.{KeptSymbol}
+use Rattle.spec_machine.specs.NumberedPlaces.{KeptSymbol}
 use Rattle.port_device.specs.Answers.{numbered}
 
 abbrev pub kept_symbol_of : KeptPlace → KeptSymbol

@@ -1,7 +1,7 @@
 -- For private contracts, and cited by no public clause: the symbols that new ports keep of old ones, as their tables tell.
 use Rattle.std.specs.Prelude.{◌≡◌, ℕ, ◌+◌, ◌≤◌, List, [], ◌∷◌, ◌++◌, slice_get, Option, Some, None, if◌then◌else◌}
-use Rattle.ads_plant.specs.Listed.{NamedType}
-use Rattle.ads_machine.specs.NumberedPlaces.{NumberedPlace, KeptSymbol}
+use Rattle.spec_plant.specs.Listed.{NamedType}
+use Rattle.spec_machine.specs.NumberedPlaces.{NumberedPlace, KeptSymbol}
 use Rattle.symbol_table.specs.Tables.{TableSymbol, number_called}
 use Rattle.symbol_table.specs.declared.row.SymbolRow.{SymbolRow}
 use Rattle.port_device.specs.PortMemory.{PortMemory, memory_numbered}

@@ -1,9 +1,9 @@
 -- For private contracts, and cited by no public clause: bytes that are put into an image one list after another.
 use Rattle.std.specs.Prelude.{◌≡◌, ℕ, ◌+◌, ◌≤◌, List, [], ◌∷◌, length, Bool, true, false}
-use Rattle.ads_plant.specs.Description.{Area, Sizes, size_in}
-use Rattle.ads_plant.specs.Covering.{is_byte_of}
-use Rattle.ads_plant.specs.Sound.{Each}
-use Rattle.ads_machine.specs.PortBytes.{with_image_bytes}
+use Rattle.spec_plant.specs.Description.{Area, Sizes, size_in}
+use Rattle.spec_plant.specs.Covering.{is_byte_of}
+use Rattle.spec_plant.specs.Sound.{Each}
+use Rattle.spec_machine.specs.PortBytes.{with_image_bytes}
 use Rattle.symbol_table.specs.Tables.{TableSymbol}
 
 -- bytes for an area, from an offset on

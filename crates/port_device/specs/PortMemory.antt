@@ -1,8 +1,8 @@
 -- A port as its device holds it: what the description says of it, the symbol version, and its bytes; and all ports of a plant.
 use Rattle.std.specs.Prelude.{ℕ, List, [], ◌∷◌, ◌==◌, if◌then◌else◌, find, Option}
-use Rattle.ads_plant.specs.Listed.{NamedType}
-use Rattle.ads_plant.specs.Description.{Facts}
-use Rattle.ads_machine.specs.PortBytes.{PortBytes}
+use Rattle.spec_plant.specs.Listed.{NamedType}
+use Rattle.spec_plant.specs.Description.{Facts}
+use Rattle.spec_machine.specs.PortBytes.{PortBytes}
 use Rattle.symbol_table.specs.Tables.{SymbolTable}
 
 pub record PortMemory : Type 0 where

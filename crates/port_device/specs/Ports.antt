@@ -2,8 +2,8 @@
 use Rattle.std.specs.Prelude.{◌≡◌, ◌≤◌, ℕ, List, length, Option, IsTrue}
 use Rattle.std.specs.List.{list_all}
 use Rattle.std.specs.Arc.{arc_value}
-use Rattle.ads_plant.specs.Description.{Port}
-use Rattle.ads_plant.specs.Accepted.{image_size, IMAGE_LIMIT}
+use Rattle.spec_plant.specs.Description.{Port}
+use Rattle.spec_plant.specs.Accepted.{image_size, IMAGE_LIMIT}
 use Rattle.type_layout.specs.declared.port.Sizes.{Sizes}
 use Rattle.type_layout.specs.Descriptions.{sizes_of, facts_of}
 use Rattle.type_layout.specs.NamedTypes.{types_of}

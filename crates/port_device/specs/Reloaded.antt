@@ -1,13 +1,13 @@
 -- For private contracts, and cited by no public clause: what a symbol of a table begins with after a reload.
 use Rattle.std.specs.Prelude.{◌≡◌, ℕ, ◌+◌, ◌≤◌, List, length, find, IsTrue, Option, Some, None, Bool, if◌then◌else◌}
-use Rattle.ads_plant.specs.Listed.{NamedType}
-use Rattle.ads_plant.specs.Description.{Sizes, size_in}
-use Rattle.ads_plant.specs.Trees.{tree_of}
-use Rattle.ads_plant.specs.Sizes.{type_size}
-use Rattle.ads_plant.specs.AcceptedTypes.{AreTypes, is_shape}
-use Rattle.ads_plant.specs.SameTypes.{is_same_type}
+use Rattle.spec_plant.specs.Listed.{NamedType}
+use Rattle.spec_plant.specs.Description.{Sizes, size_in}
+use Rattle.spec_plant.specs.Trees.{tree_of}
+use Rattle.spec_plant.specs.Sizes.{type_size}
+use Rattle.spec_plant.specs.AcceptedTypes.{AreTypes, is_shape}
+use Rattle.spec_plant.specs.SameTypes.{is_same_type}
 use Rattle.type_layout.specs.SameShapes.{ArePartners}
-use Rattle.ads_machine.specs.PortBytes.{image_bytes}
+use Rattle.spec_machine.specs.PortBytes.{image_bytes}
 use Rattle.symbol_table.specs.Tables.{TableSymbol, is_called}
 use Rattle.symbol_table.specs.Rows.{symbol_of_row}
 use Rattle.symbol_table.specs.declared.row.SymbolRow.{SymbolRow}

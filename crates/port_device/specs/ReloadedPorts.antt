@@ -1,7 +1,7 @@
 -- For private contracts, and cited by no public clause: ports after a reload.
 use Rattle.std.specs.Prelude.{◌≡◌, ℕ, List, [], ◌∷◌, map, length, Option, Some, None}
-use Rattle.ads_plant.specs.Listed.{NamedType}
-use Rattle.ads_plant.specs.Description.{Port}
+use Rattle.spec_plant.specs.Listed.{NamedType}
+use Rattle.spec_plant.specs.Description.{Port}
 use Rattle.symbol_table.specs.Tables.{TableSymbol}
 use Rattle.port_device.specs.PortMemory.{PortMemory, memory_numbered}
 use Rattle.port_device.specs.PlacedBytes.{placed_symbol, with_all_bytes}

@@ -1,12 +1,12 @@
 -- For private contracts, and cited by no public clause: the entries of the rows of a table, and of parts of its symbols.
 use Rattle.std.specs.Prelude.{ℕ, ◌+◌, ◌≤◌, List, length, flat_map, if◌then◌else◌}
-use Rattle.ads_plant.specs.Entries.{type_id}
-use Rattle.ads_plant.specs.Listed.{NamedType, Shape}
-use Rattle.ads_plant.specs.Spelling.{type_text}
-use Rattle.ads_plant.specs.Trees.{tree_of}
-use Rattle.ads_plant.specs.World.{plant_symbol}
-use Rattle.ads_formats.specs.SymbolEntry.{SymbolEntry, entry_bytes}
-use Rattle.ads_machine.specs.Entries.{entry_of_symbol, PERSISTENT, READ_ONLY}
+use Rattle.spec_plant.specs.Entries.{type_id}
+use Rattle.spec_plant.specs.Listed.{NamedType, Shape}
+use Rattle.spec_plant.specs.Spelling.{type_text}
+use Rattle.spec_plant.specs.Trees.{tree_of}
+use Rattle.spec_plant.specs.World.{plant_symbol}
+use Rattle.spec_formats.specs.SymbolEntry.{SymbolEntry, entry_bytes}
+use Rattle.spec_machine.specs.Entries.{entry_of_symbol, PERSISTENT, READ_ONLY}
 use Rattle.index_groups.specs.AreaGroups.{byte_number}
 use Rattle.type_layout.specs.Descriptions.{area_of}
 use Rattle.type_layout.specs.Shapes.{shape_of}

@@ -4,8 +4,8 @@ use Rattle.std.specs.Prelude.{Option, Some, None, option_map, unwrap_or}
 use Rattle.std.specs.Option.{option_map_or}
 use Rattle.std.specs.Int.{w64, to_le_bytes}
 use Rattle.signals.specs.Wave.{Wave, value_of}
-use Rattle.ads_plant.specs.Description.{Sizes}
-use Rattle.ads_machine.specs.PortBytes.{with_image_bytes}
+use Rattle.spec_plant.specs.Description.{Sizes}
+use Rattle.spec_machine.specs.PortBytes.{with_image_bytes}
 use Rattle.symbol_table.specs.Tables.{TableSymbol}
 use Rattle.port_device.specs.PortMemory.{PortMemory}
 use Rattle.port_device.specs.Changed.{with_image}

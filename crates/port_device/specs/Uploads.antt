@@ -1,17 +1,17 @@
 -- The uploads of a port, by what its memory keeps of its symbols and types.
 use Rattle.std.specs.Prelude.{◌≡◌, ℕ, List, length, map, Bool, ◌&&◌, nat_le}
-use Rattle.ads_plant.specs.Listed.{NamedType}
-use Rattle.ads_plant.specs.Description.{Symbol}
-use Rattle.ads_plant.specs.Trees.{trees_of}
-use Rattle.ads_plant.specs.World.{plant_symbol, PlantPort}
-use Rattle.ads_formats.specs.Groups as groups
-use Rattle.ads_formats.specs.SymbolEntry.{upload_bytes}
-use Rattle.ads_formats.specs.TypeEntry.{type_upload_bytes}
-use Rattle.ads_formats.specs.TypeUpload.{entries_of_types}
-use Rattle.ads_machine.specs.Acts.{Act}
-use Rattle.ads_machine.specs.World.{Setup}
-use Rattle.ads_machine.specs.Entries.{entry_of_symbol, symbol_upload_of, type_upload_of, upload_info_of, upload_info_with_types_of}
-use Rattle.ads_machine.specs.Reads.{fixed_reply, type_upload_reply}
+use Rattle.spec_plant.specs.Listed.{NamedType}
+use Rattle.spec_plant.specs.Description.{Symbol}
+use Rattle.spec_plant.specs.Trees.{trees_of}
+use Rattle.spec_plant.specs.World.{plant_symbol, PlantPort}
+use Rattle.spec_formats.specs.Groups as groups
+use Rattle.spec_formats.specs.SymbolEntry.{upload_bytes}
+use Rattle.spec_formats.specs.TypeEntry.{type_upload_bytes}
+use Rattle.spec_formats.specs.TypeUpload.{entries_of_types}
+use Rattle.spec_machine.specs.Acts.{Act}
+use Rattle.spec_machine.specs.World.{Setup}
+use Rattle.spec_machine.specs.Entries.{entry_of_symbol, symbol_upload_of, type_upload_of, upload_info_of, upload_info_with_types_of}
+use Rattle.spec_machine.specs.Reads.{fixed_reply, type_upload_reply}
 use Rattle.symbol_table.specs.Tables.{TableSymbol, SymbolTable, declared}
 use Rattle.port_device.specs.declared.upload.Upload.{Upload}
 use Rattle.port_device.specs.declared.upload.Upload.TheVariants.{Symbols, SymbolSizes, Types, AllSizes}

@@ -1,12 +1,12 @@
 //! Where the areas of a port lie in its image: inputs, outputs, memory and data, side by side.
 
 ghost use Rattle.std.specs.Prelude.{◌≡◌, ◌+◌, ◌<◌, ◌≤◌, length, min, Some};
-ghost use Rattle.ads_plant.specs.Accepted.{image_size, IMAGE_LIMIT};
-ghost use Rattle.ads_plant.specs.Description.{size_in};
-ghost use Rattle.ads_plant.specs.World.{with_nth_byte};
+ghost use Rattle.spec_plant.specs.Accepted.{image_size, IMAGE_LIMIT};
+ghost use Rattle.spec_plant.specs.Description.{size_in};
+ghost use Rattle.spec_plant.specs.World.{with_nth_byte};
 ghost use Rattle.type_layout.specs.Descriptions.{area_of, sizes_of};
-ghost use Rattle.ads_machine.specs.Access.{with_bit};
-ghost use Rattle.ads_machine.specs.PortBytes.{start_in, image_byte, image_bytes, with_image_bytes};
+ghost use Rattle.spec_machine.specs.Access.{with_bit};
+ghost use Rattle.spec_machine.specs.PortBytes.{start_in, image_byte, image_bytes, with_image_bytes};
 
 use crate::bits::with_bit;
 use process_image::{Image, Span};

@@ -2,11 +2,11 @@
 
 ghost use Rattle.std.specs.Prelude.{◌≡◌, ◌≤◌, ◌++◌, IfOk, OnOk, OnErr};
 ghost use Rattle.std.specs.Int.{w32, to_le_bytes};
-ghost use Rattle.ads_plant.specs.World.{PlantPort};
-ghost use Rattle.ads_formats.specs.Groups.{group_of, ValueByName, InfoByName};
-ghost use Rattle.ads_machine.specs.World.{World};
-ghost use Rattle.ads_machine.specs.ByName.{read_write_group};
-ghost use Rattle.ads_machine.specs.Client as client;
+ghost use Rattle.spec_plant.specs.World.{PlantPort};
+ghost use Rattle.spec_formats.specs.Groups.{group_of, ValueByName, InfoByName};
+ghost use Rattle.spec_machine.specs.World.{World};
+ghost use Rattle.spec_machine.specs.ByName.{read_write_group};
+ghost use Rattle.spec_machine.specs.Client as client;
 ghost use Rattle.index_groups.specs.AreaGroups.{byte_number};
 ghost use Rattle.type_layout.specs.Descriptions.{area_of};
 ghost use Rattle.type_layout.specs.Spelled.{Extends};

@@ -1,7 +1,7 @@
 //! One bit of a byte.
 
 ghost use Rattle.std.specs.Prelude.{◌≡◌, ◌<◌, ◌/◌, ◌%◌, ◌^◌, min};
-ghost use Rattle.ads_machine.specs.Access.{with_bit};
+ghost use Rattle.spec_machine.specs.Access.{with_bit};
 
 /// A bit of a byte, 0 or 1.
 pub(crate) fn bit_of(byte: u8, bit: u8) -> u8

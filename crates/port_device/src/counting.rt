@@ -1,8 +1,8 @@
 //! The bytes of the uploads are counted, once for the ports of a description.
 
 ghost use Rattle.std.specs.Prelude.{◌≡◌, ◌≤◌, length, All, IfOk};
-ghost use Rattle.ads_plant.specs.AcceptedTypes.{AreTypes};
-ghost use Rattle.ads_plant.specs.Entries.{symbol_entry_length, upload_size};
+ghost use Rattle.spec_plant.specs.AcceptedTypes.{AreTypes};
+ghost use Rattle.spec_plant.specs.Entries.{symbol_entry_length, upload_size};
 ghost use Rattle.symbol_table.specs.Rows.{symbol_of_row, declared_by_rows, IsSizedRow};
 ghost use Rattle.symbol_table.specs.Tables.{declared, IsTableWith};
 ghost use Rattle.type_layout.specs.NamedTypes.{types_of};

@@ -1,16 +1,16 @@
 //! The extended info by name: the symbol entry of what a name leads to.
 
 ghost use Rattle.std.specs.Prelude.{◌≡◌, ◌<◌, length, map, slice_get, IfOk, OnErr, Some};
-ghost use Rattle.ads_plant.specs.AcceptedTypes.{AreTypes, IsSized};
-ghost use Rattle.ads_plant.specs.Description as plant;
-ghost use Rattle.ads_plant.specs.Finding.{found_of_steps};
-ghost use Rattle.ads_plant.specs.World.{PlantPort, plant_symbol};
-ghost use Rattle.ads_formats.specs.Groups.{ExtendedInfoByName};
-ghost use Rattle.ads_formats.specs.SymbolEntry.{entry_bytes};
-ghost use Rattle.ads_machine.specs.ByName.{read_write_group};
-ghost use Rattle.ads_machine.specs.Client as client;
-ghost use Rattle.ads_machine.specs.Reads.{fixed_reply};
-ghost use Rattle.ads_machine.specs.World.{World};
+ghost use Rattle.spec_plant.specs.AcceptedTypes.{AreTypes, IsSized};
+ghost use Rattle.spec_plant.specs.Description as plant;
+ghost use Rattle.spec_plant.specs.Finding.{found_of_steps};
+ghost use Rattle.spec_plant.specs.World.{PlantPort, plant_symbol};
+ghost use Rattle.spec_formats.specs.Groups.{ExtendedInfoByName};
+ghost use Rattle.spec_formats.specs.SymbolEntry.{entry_bytes};
+ghost use Rattle.spec_machine.specs.ByName.{read_write_group};
+ghost use Rattle.spec_machine.specs.Client as client;
+ghost use Rattle.spec_machine.specs.Reads.{fixed_reply};
+ghost use Rattle.spec_machine.specs.World.{World};
 ghost use Rattle.symbol_info.specs.Entry.{entry_meant, HasShortTexts};
 ghost use Rattle.symbol_table.specs.FoundPlaces.{Finds};
 ghost use Rattle.symbol_table.specs.Tables.{TableSymbol, IsTableOf};

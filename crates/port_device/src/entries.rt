@@ -2,11 +2,11 @@
 
 ghost use Rattle.std.specs.Prelude.{◌≡◌, ◌+◌, ◌++◌, if◌then◌else◌, All, IsTrue, OnOk, OnErr};
 ghost use Rattle.std.specs.List.{list_all};
-ghost use Rattle.ads_plant.specs.AcceptedTypes.{AreTypes};
-ghost use Rattle.ads_plant.specs.Spelling.{type_text};
-ghost use Rattle.ads_plant.specs.Trees.{tree_of};
-ghost use Rattle.ads_plant.specs.World.{plant_symbol};
-ghost use Rattle.ads_machine.specs.Entries.{entry_of_symbol, PERSISTENT, READ_ONLY};
+ghost use Rattle.spec_plant.specs.AcceptedTypes.{AreTypes};
+ghost use Rattle.spec_plant.specs.Spelling.{type_text};
+ghost use Rattle.spec_plant.specs.Trees.{tree_of};
+ghost use Rattle.spec_plant.specs.World.{plant_symbol};
+ghost use Rattle.spec_machine.specs.Entries.{entry_of_symbol, PERSISTENT, READ_ONLY};
 ghost use Rattle.symbol_info.specs.Entry.{entry_meant};
 ghost use Rattle.symbol_table.specs.Rows.{symbol_of_row};
 ghost use Rattle.symbol_table.specs.Tables.{declared, IsTableWith};

@@ -1,11 +1,11 @@
 //! The image that a port begins with.
 
 ghost use Rattle.std.specs.Prelude.{◌≡◌, ◌≤◌, length, map, replicate, All, IfOk};
-ghost use Rattle.ads_plant.specs.Accepted.{image_size, IMAGE_LIMIT};
+ghost use Rattle.spec_plant.specs.Accepted.{image_size, IMAGE_LIMIT};
 ghost use Rattle.type_layout.specs.Descriptions.{area_of, sizes_of};
 ghost use Rattle.symbol_table.specs.Rows.{symbols_of_rows};
 ghost use Rattle.symbol_table.specs.Tables.{TableSymbol};
-ghost use Rattle.ads_machine.specs.PortBytes.{with_image_bytes};
+ghost use Rattle.spec_machine.specs.PortBytes.{with_image_bytes};
 ghost use Rattle.port_device.specs.PlacedBytes.{with_all_bytes, placed_symbol};
 ghost use Rattle.port_device.specs.FirstPorts.{FitsRow};
 

@@ -1,7 +1,7 @@
 //! Index groups by their numbers. Beckhoff Information System, "Index Group/Offset Specification".
 
 ghost use Rattle.std.specs.Prelude.{◌≡◌, option_map};
-ghost use Rattle.ads_formats.specs.Groups.{group_of};
+ghost use Rattle.spec_formats.specs.Groups.{group_of};
 ghost use Rattle.port_device.specs.Groups.{group_meant, is_area_group, is_entry_by_name, is_info_by_name, is_value_by_name, is_version_group, is_written_by_port};
 
 use type_layout::Area;
@@ -46,7 +46,7 @@ pub enum Group {
 }
 
 /// The group of a number. None exactly where no group has it.
-#[tactic(auto, unfolding(ads_formats::specs::Groups::group_in, ads_formats::specs::Groups::group_of))]
+#[tactic(auto, unfolding(spec_formats::specs::Groups::group_in, spec_formats::specs::Groups::group_of))]
 pub fn group_named(number: u32) -> Option<Group>
     ensures { option_map group_meant result ≡ group_of number }
 {
@@ -81,7 +81,7 @@ pub fn group_named(number: u32) -> Option<Group>
 }
 
 /// Whether the group of a number names bytes, a bit or the size of an area.
-#[tactic(auto, unfolding(ads_formats::specs::Groups::group_in, ads_formats::specs::Groups::group_of))]
+#[tactic(auto, unfolding(spec_formats::specs::Groups::group_in, spec_formats::specs::Groups::group_of))]
 pub(crate) fn is_area(number: u32) -> bool
     ensures { result ≡ is_area_group (group_of number) }
 {

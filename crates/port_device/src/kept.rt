@@ -1,8 +1,8 @@
 //! What symbols begin with after a reload: the bytes that they had, where their name and type are as before.
 
 ghost use Rattle.std.specs.Prelude.{◌≡◌, ◌≤◌, List, length, map, All, IsTrue, IfOk, OnOk};
-ghost use Rattle.ads_plant.specs.Accepted.{image_size, IMAGE_LIMIT};
-ghost use Rattle.ads_plant.specs.Listed.{NamedType};
+ghost use Rattle.spec_plant.specs.Accepted.{image_size, IMAGE_LIMIT};
+ghost use Rattle.spec_plant.specs.Listed.{NamedType};
 ghost use Rattle.type_layout.specs.Descriptions.{sizes_of};
 ghost use Rattle.symbol_table.specs.Rows.{symbol_of_row};
 ghost use Rattle.port_device.specs.PlacedBytes.{with_all_bytes};

@@ -1,9 +1,9 @@
 //! Where a reload puts the symbols that it keeps.
 
 ghost use Rattle.std.specs.Prelude.{◌≡◌, ◌≤◌, ◌+◌, ◌++◌, List, length, map, All, IfOk, OnOk, IfSome, option_map};
-ghost use Rattle.ads_plant.specs.Listed.{NamedType};
-ghost use Rattle.ads_machine.specs.World.{World};
-ghost use Rattle.ads_machine.specs.NumberedPlaces.{AreKeptSymbols, KeptSymbol};
+ghost use Rattle.spec_plant.specs.Listed.{NamedType};
+ghost use Rattle.spec_machine.specs.World.{World};
+ghost use Rattle.spec_machine.specs.NumberedPlaces.{AreKeptSymbols, KeptSymbol};
 ghost use Rattle.symbol_table.specs.Moves.{IsKeptPlace};
 ghost use Rattle.symbol_table.specs.Rows.{symbol_of_row, symbols_of_rows};
 ghost use Rattle.port_device.specs.Holds.{HoldsPorts, HoldSomeWorld};

@@ -1,10 +1,10 @@
 //! What a name leads to.
 
 ghost use Rattle.std.specs.Prelude.{◌≡◌, ◌<◌, List, map, IfOk};
-ghost use Rattle.ads_plant.specs.Description as plant;
-ghost use Rattle.ads_plant.specs.Finding.{found_of, found_of_steps, without_nul};
-ghost use Rattle.ads_plant.specs.World.{PlantPort, plant_symbol};
-ghost use Rattle.ads_machine.specs.World.{World};
+ghost use Rattle.spec_plant.specs.Description as plant;
+ghost use Rattle.spec_plant.specs.Finding.{found_of, found_of_steps, without_nul};
+ghost use Rattle.spec_plant.specs.World.{PlantPort, plant_symbol};
+ghost use Rattle.spec_machine.specs.World.{World};
 ghost use Rattle.type_layout.specs.NamedTypes.{types_of};
 ghost use Rattle.symbol_table.specs.FoundPlaces.{Finds};
 ghost use Rattle.symbol_table.specs.Tables.{IsTableOf, IsTableWith};

@@ -5,7 +5,7 @@ ghost use Rattle.std.specs.Option.{option_copied};
 ghost use Rattle.std.specs.Borrow.{sem};
 ghost use Rattle.signals.specs.Wave.{Wave};
 ghost use Rattle.type_layout.specs.Descriptions.{description_of};
-ghost use Rattle.ads_machine.specs.World.{world_of};
+ghost use Rattle.spec_machine.specs.World.{world_of};
 ghost use Rattle.port_device.specs.PortMemory.{memory_numbered};
 ghost use Rattle.port_device.specs.Holds.{HoldsPorts, WasAccepted};
 ghost use Rattle.port_device.specs.PlaceOfPort.{place_numbered};
@@ -36,7 +36,7 @@ impl Model for Ports {
 
     ghost use Rattle.port_device.specs.InsidePorts.{ports_in};
     ghost use Rattle.std.specs.Arc.{arc_value};
-    ghost use Rattle.ads_plant.specs.AcceptedTypes.{AreTypes};
+    ghost use Rattle.spec_plant.specs.AcceptedTypes.{AreTypes};
     ghost use Rattle.type_layout.specs.NamedTypes.{types_of};
 
     ghost view = { ports_in };

@@ -1,12 +1,12 @@
 //! Reads of an area's bytes, a bit, a size, and of a symbol's bytes.
 
 ghost use Rattle.std.specs.Prelude.{◌≡◌, [], ◌∷◌, length, IfOk, OnErr};
-ghost use Rattle.ads_plant.specs.World.{PlantPort};
-ghost use Rattle.ads_formats.specs.Groups.{group_of};
-ghost use Rattle.ads_formats.specs.Ranges.{range_in};
-ghost use Rattle.ads_machine.specs.World.{World, setup_of};
-ghost use Rattle.ads_machine.specs.Client as client;
-ghost use Rattle.ads_machine.specs.Reads.{fixed_reply, read_group};
+ghost use Rattle.spec_plant.specs.World.{PlantPort};
+ghost use Rattle.spec_formats.specs.Groups.{group_of};
+ghost use Rattle.spec_formats.specs.Ranges.{range_in};
+ghost use Rattle.spec_machine.specs.World.{World, setup_of};
+ghost use Rattle.spec_machine.specs.Client as client;
+ghost use Rattle.spec_machine.specs.Reads.{fixed_reply, read_group};
 ghost use Rattle.index_groups.specs.Access.{IsWithin, range_meant};
 ghost use Rattle.port_device.specs.Answers.{AnswersAct, HasRoom, ReadsRange, IsPlaceOf, IsNamed, place_read_act, range_read_act};
 ghost use Rattle.port_device.specs.Groups.{read_by_port, without_handles};

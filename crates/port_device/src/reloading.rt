@@ -2,9 +2,9 @@
 
 ghost use Rattle.std.specs.Prelude.{◌≡◌, List, All, IfOk, OnOk, length};
 ghost use Rattle.std.specs.Arc.{arc_value};
-ghost use Rattle.ads_plant.specs.Listed.{NamedType};
-ghost use Rattle.ads_machine.specs.World.{World};
-ghost use Rattle.ads_machine.specs.Reloads.{world_after_reload};
+ghost use Rattle.spec_plant.specs.Listed.{NamedType};
+ghost use Rattle.spec_machine.specs.World.{World};
+ghost use Rattle.spec_machine.specs.Reloads.{world_after_reload};
 ghost use Rattle.type_layout.specs.Descriptions.{description_of, port_of, ports_of};
 ghost use Rattle.type_layout.specs.NamedTypes.{types_of};
 ghost use Rattle.type_layout.specs.declared.port.PortDesc.{PortDesc};

@@ -2,14 +2,14 @@
 
 ghost use Rattle.std.specs.Prelude.{◌≡◌, ◌+◌, ◌≤◌, length, map, take, slice_get, Some};
 ghost use Rattle.std.specs.Int.{w64, to_le_bytes};
-ghost use Rattle.ads_plant.specs.Accepted.{image_size, IMAGE_LIMIT};
-ghost use Rattle.ads_plant.specs.Description.{size_in};
+ghost use Rattle.spec_plant.specs.Accepted.{image_size, IMAGE_LIMIT};
+ghost use Rattle.spec_plant.specs.Description.{size_in};
 ghost use Rattle.type_layout.specs.Descriptions.{area_of, sizes_of};
 ghost use Rattle.symbol_table.specs.Rows.{symbol_of_row};
 ghost use Rattle.signals.specs.Bank.{waves_of};
 ghost use Rattle.signals.specs.Wave.{wave_after_step};
-ghost use Rattle.ads_machine.specs.World.{World};
-ghost use Rattle.ads_machine.specs.Ticks.{world_after_tick};
+ghost use Rattle.spec_machine.specs.World.{World};
+ghost use Rattle.spec_machine.specs.Ticks.{world_after_tick};
 ghost use Rattle.port_device.specs.Holds.{HoldsPorts};
 ghost use Rattle.port_device.specs.Signals.{port_after_step, ports_after_steps, with_value_at};
 

@@ -1,9 +1,9 @@
 //! The id of a type, which its symbols' entries tell.
 
 ghost use Rattle.std.specs.Prelude.{◌≡◌, ◌<◌, length, IsTrue};
-ghost use Rattle.ads_plant.specs.Entries.{type_id};
-ghost use Rattle.ads_plant.specs.Trees.{elem_tree, tree_at, tree_of, trees_of};
-ghost use Rattle.ads_plant.specs.AcceptedTypes.{AreTypes, IsSized, is_elem};
+ghost use Rattle.spec_plant.specs.Entries.{type_id};
+ghost use Rattle.spec_plant.specs.Trees.{elem_tree, tree_at, tree_of, trees_of};
+ghost use Rattle.spec_plant.specs.AcceptedTypes.{AreTypes, IsSized, is_elem};
 ghost use Rattle.type_layout.specs.Shapes.{elem_of, shape_of_ref};
 ghost use Rattle.type_layout.specs.NamedTypes.{types_of};
 

@@ -1,7 +1,7 @@
 //! Uploads of symbols and types, and their sizes, which are counted once.
 
 ghost use Rattle.std.specs.Prelude.{◌≡◌, option_map};
-ghost use Rattle.ads_formats.specs.Groups.{group_of};
+ghost use Rattle.spec_formats.specs.Groups.{group_of};
 ghost use Rattle.port_device.specs.Groups.{uploads_alone};
 ghost use Rattle.port_device.specs.Uploads.{upload_group};
 

@@ -2,10 +2,10 @@
 
 ghost use Rattle.std.specs.Prelude.{◌≡◌, ◌≤◌, ◌++◌, length, flat_map, IfOk, OnOk, OnErr};
 ghost use Rattle.std.specs.Int.{w32, to_le_bytes};
-ghost use Rattle.ads_plant.specs.World.{PlantPort};
-ghost use Rattle.ads_machine.specs.Entries.{symbol_upload_of, type_upload_of, upload_info_of, upload_info_with_types_of};
-ghost use Rattle.ads_machine.specs.Reads.{fixed_reply, type_upload_reply};
-ghost use Rattle.ads_machine.specs.World.{World, setup_of};
+ghost use Rattle.spec_plant.specs.World.{PlantPort};
+ghost use Rattle.spec_machine.specs.Entries.{symbol_upload_of, type_upload_of, upload_info_of, upload_info_with_types_of};
+ghost use Rattle.spec_machine.specs.Reads.{fixed_reply, type_upload_reply};
+ghost use Rattle.spec_machine.specs.World.{World, setup_of};
 ghost use Rattle.type_layout.specs.Spelled.{Extends};
 ghost use Rattle.port_device.specs.Answers.{AnswersAct};
 ghost use Rattle.port_device.specs.Holds.{HoldsPort};

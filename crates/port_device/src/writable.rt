@@ -2,7 +2,7 @@
 
 ghost use Rattle.std.specs.Prelude.{◌≡◌, ◌<◌, length, bytes_eq};
 ghost use Rattle.std.specs.List.{All, list_all, list_any};
-ghost use Rattle.ads_machine.specs.Writes as machine;
+ghost use Rattle.spec_machine.specs.Writes as machine;
 ghost use Rattle.type_layout.specs.Descriptions.{rights_of};
 ghost use Rattle.symbol_table.specs.Rows.{symbol_of_row, symbols_of_rows};
 ghost use Rattle.port_device.specs.Changed.{is_writable_row, is_writable_number};

@@ -1,14 +1,14 @@
 //! Writes of an area's bytes, of a bit, of a symbol's bytes, and of the state words.
 
 ghost use Rattle.std.specs.Prelude.{◌≡◌, ◌↔◌, ◌≤◌, ◌<◌, ◌+◌, [], ◌∷◌, ◌==◌, ◌||◌, length, map, min, IsTrue, OnErr};
-ghost use Rattle.ads_plant.specs.Description.{size_in};
-ghost use Rattle.ads_plant.specs.World.{PlantPort};
-ghost use Rattle.ads_formats.specs.Groups.{group_of};
-ghost use Rattle.ads_machine.specs.World.{World, name_at, names_at};
-ghost use Rattle.ads_machine.specs.Access.{WholeByte, OneBit};
-ghost use Rattle.ads_machine.specs.Client as client;
-ghost use Rattle.ads_machine.specs.Writes.{Asker, write_act, write_group, control_act};
-ghost use Rattle.ads_machine.specs.WritableBytes.{MayWriteSymbolsAt};
+ghost use Rattle.spec_plant.specs.Description.{size_in};
+ghost use Rattle.spec_plant.specs.World.{PlantPort};
+ghost use Rattle.spec_formats.specs.Groups.{group_of};
+ghost use Rattle.spec_machine.specs.World.{World, name_at, names_at};
+ghost use Rattle.spec_machine.specs.Access.{WholeByte, OneBit};
+ghost use Rattle.spec_machine.specs.Client as client;
+ghost use Rattle.spec_machine.specs.Writes.{Asker, write_act, write_group, control_act};
+ghost use Rattle.spec_machine.specs.WritableBytes.{MayWriteSymbolsAt};
 ghost use Rattle.type_layout.specs.Descriptions.{area_of, rights_of};
 ghost use Rattle.port_device.specs.Answers.{IsPlaceOf, IsNamed};
 ghost use Rattle.port_device.specs.Endings.{EndsAs, IsAsker, KeepsDescription, place_write_act};

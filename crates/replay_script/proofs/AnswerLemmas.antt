@@ -12,11 +12,11 @@ use Rattle.ads_outside.specs.declared.moves.Move.{Move}
 use Rattle.ads_outside.specs.declared.moves.Move.TheVariants as move
 use Rattle.ads_outside.specs.Opened.{opened_by as opened_by_event, opened_in, is_new}
 use Rattle.ads_outside.proofs.WireLemmas.{opened_in-more, same_opened}
-use Rattle.ads_machine.proofs.Find.{test_same, test_other}
-use Rattle.ads_machine.specs.Offers.{is_among}
-use Rattle.ads_machine.specs.Peers.{Peers, Room, first_peers, with_room, with_failing, taken_by, rooms_after, peers_after_move}
-use Rattle.ads_machine.specs.Reading.{is_among as is_listed, opened_by}
-use Rattle.ads_machine.specs.ScriptLine.{ScriptLine, Happens, TakesAtMost, FailsNext}
+use Rattle.spec_machine.proofs.Find.{test_same, test_other}
+use Rattle.spec_machine.specs.Offers.{is_among}
+use Rattle.spec_machine.specs.Peers.{Peers, Room, first_peers, with_room, with_failing, taken_by, rooms_after, peers_after_move}
+use Rattle.spec_machine.specs.Reading.{is_among as is_listed, opened_by}
+use Rattle.spec_machine.specs.ScriptLine.{ScriptLine, Happens, TakesAtMost, FailsNext}
 use Rattle.serve_loop.specs.Leads.{events_in}
 use Rattle.serve_loop.proofs.LeadLemmas.{events-append}
 use Rattle.replay_script.specs.declared.rooms.Rooms.{Rooms}

@@ -1,9 +1,9 @@
 -- The bytes of hex words, one word after another.
 use Rattle.std.proofs.Common.{◌≡◌, ℕ, List, ◌∷◌, ◌++◌, Option, Some, None, refl, sym, ap, ◌∙◌, append_assoc, append-nil}
 use Rattle.std.specs.Prelude.{IsSomeAnd, true, false}
-use Rattle.ads_machine.specs.ScriptLines.{words_of}
+use Rattle.spec_machine.specs.ScriptLines.{words_of}
 use Rattle.replay_script.specs.Lines.{words_behind, AppendsWord}
-use Rattle.ads_machine.specs.ScriptWords.{behind, bytes_of_word, bytes_of_words}
+use Rattle.spec_machine.specs.ScriptWords.{behind, bytes_of_word, bytes_of_words}
 
 -- bytes behind bytes
 pub behind-behind : (old first : List ℕ) (rest : Option (List ℕ)) → behind old (behind first rest) ≡ behind (old ++ first) rest

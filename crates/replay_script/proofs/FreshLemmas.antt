@@ -3,12 +3,12 @@ use Rattle.std.proofs.Common.{codes, nat_lt, length, if◌then◌else◌, ◌≡
 use Rattle.std.specs.Option.{option_map, option_and_then, option_map_or}
 use Rattle.std.specs.Str.{bytes_eq}
 use Rattle.ads_outside.specs.declared.event.Event.TheVariants as event
-use Rattle.ads_machine.specs.BuiltLines.{BuiltLines, LineKind, Blank, Open, Bytes, Close, Tick, Reload, Room, Fail}
-use Rattle.ads_machine.specs.Reading.{Reading, Block, nothing_read, is_among, opened_by, one_more_line, line_said, reload_begun, reload_goes_on, reload_ended}
-use Rattle.ads_machine.specs.ScriptLine.{ScriptLine, Happens, TakesAtMost, FailsNext}
-use Rattle.ads_machine.specs.ScriptLines.{lines_of, text_of, words_of}
-use Rattle.ads_machine.specs.ScriptWords.{number_of_word, connection_of_word, bytes_of_words}
-use Rattle.ads_machine.specs.Script.{open_connection, after_words, kind_of, after_built, after_line_of_words, is_blank_line, after_plain_line, after_text_line, after_line, said_by, script_after, script_of}
+use Rattle.spec_machine.specs.BuiltLines.{BuiltLines, LineKind, Blank, Open, Bytes, Close, Tick, Reload, Room, Fail}
+use Rattle.spec_machine.specs.Reading.{Reading, Block, nothing_read, is_among, opened_by, one_more_line, line_said, reload_begun, reload_goes_on, reload_ended}
+use Rattle.spec_machine.specs.ScriptLine.{ScriptLine, Happens, TakesAtMost, FailsNext}
+use Rattle.spec_machine.specs.ScriptLines.{lines_of, text_of, words_of}
+use Rattle.spec_machine.specs.ScriptWords.{number_of_word, connection_of_word, bytes_of_words}
+use Rattle.spec_machine.specs.Script.{open_connection, after_words, kind_of, after_built, after_line_of_words, is_blank_line, after_plain_line, after_text_line, after_line, said_by, script_after, script_of}
 use Rattle.replay_script.specs.Fresh.{AreNew, OpenNew}
 
 -- the numbers that lines open

@@ -2,12 +2,12 @@
 use Rattle.std.proofs.Common.{◌≡◌, ℕ, List, [], ◌∷◌, Option, Some, None, refl, sym, ap, ◌∙◌, subst, ◌+◌, Err}
 use Rattle.std.specs.Option.{option_map, option_and_then}
 use Rattle.ads_outside.specs.declared.event.Event.TheVariants as event
-use Rattle.ads_machine.specs.BuiltLines.{Open, Bytes, Close, Tick, Reload, Room, Fail, all_lines}
-use Rattle.ads_machine.specs.Reading.{Reading, line_said}
-use Rattle.ads_machine.specs.Script.{script_after, after_words, after_line, open_connection, fresh_number, said_by}
-use Rattle.ads_machine.specs.ScriptLine.{ScriptLine, Happens, TakesAtMost, FailsNext}
-use Rattle.ads_machine.specs.ScriptLines.{words_of}
-use Rattle.ads_machine.specs.ScriptWords.{bytes_of_words, number_of_word}
+use Rattle.spec_machine.specs.BuiltLines.{Open, Bytes, Close, Tick, Reload, Room, Fail, all_lines}
+use Rattle.spec_machine.specs.Reading.{Reading, line_said}
+use Rattle.spec_machine.specs.Script.{script_after, after_words, after_line, open_connection, fresh_number, said_by}
+use Rattle.spec_machine.specs.ScriptLine.{ScriptLine, Happens, TakesAtMost, FailsNext}
+use Rattle.spec_machine.specs.ScriptLines.{words_of}
+use Rattle.spec_machine.specs.ScriptWords.{bytes_of_words, number_of_word}
 use Rattle.replay_script.specs.Lines.{words_behind, only_of}
 use Rattle.replay_script.proofs.LineLemmas.{words_of-has_first}
 

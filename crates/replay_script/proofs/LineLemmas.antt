@@ -5,7 +5,7 @@ use Rattle.std.proofs.lemmas.Bool.{cases_Bool, ltb-true, ltb-false}
 use Rattle.std.proofs.lemmas.Option.{cond_some}
 use Rattle.std.proofs.lemmas.List.Sums.{prefix_len-le-length}
 use Rattle.std.proofs.lemmas.List.Splits.{slice_split_first}
-use Rattle.ads_machine.specs.ScriptLines.{lines_of, words_of}
+use Rattle.spec_machine.specs.ScriptLines.{lines_of, words_of}
 
 -- the byte that ends a line, and the one between words
 abbrev pub is_lf : ℕ → Bool

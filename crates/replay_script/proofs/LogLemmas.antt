@@ -4,7 +4,7 @@ use Rattle.std.proofs.Math.Seq.{drop-cons}
 use Rattle.std.proofs.Math.ListN.{drop_of_length-le}
 use Rattle.ads_outside.specs.declared.moves.Move.{Move}
 use Rattle.ads_outside.specs.declared.reload_note.ReloadNote.{ReloadNote}
-use Rattle.ads_machine.specs.LogText.{log_text_of, move_text, notes_after}
+use Rattle.spec_machine.specs.LogText.{log_text_of, move_text, notes_after}
 
 log_text_of-move : (notes : List ReloadNote) (m : Move) (ms : List Move)
     → log_text_of notes (m ∷ ms) ≡ move_text notes m ++ log_text_of (notes_after notes m) ms

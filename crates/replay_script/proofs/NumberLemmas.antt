@@ -4,7 +4,7 @@ use Rattle.std.specs.Prelude.{◌==◌}
 use Rattle.std.specs.List.{list_any}
 use Rattle.std.proofs.lemmas.Bool.{cases_Bool, eqb-true, eq-eqb}
 use Rattle.indexmap.specs.IndexSet.{insert_key}
-use Rattle.ads_machine.specs.Reading.{is_among}
+use Rattle.spec_machine.specs.Reading.{is_among}
 
 nat_eq-comm : (x y : ℕ) → (x == y) ≡ (y == x)
 nat_eq-comm x y =

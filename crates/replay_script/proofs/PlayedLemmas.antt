@@ -9,15 +9,15 @@ use Rattle.ads_outside.specs.declared.event.Event.{Event}
 use Rattle.ads_outside.specs.declared.event.Event.TheVariants as event
 use Rattle.ads_outside.specs.declared.moves.Move.{Move}
 use Rattle.ads_outside.specs.declared.moves.Move.TheVariants as move
-use Rattle.ads_machine.specs.MachineState.{MachineState, present_numbers}
-use Rattle.ads_machine.specs.Moves.{EventStep, state_after_move, state_after}
-use Rattle.ads_machine.specs.Offers.{waiting_at, is_closing_at, is_among, blocked_after_move, blocked_after}
-use Rattle.ads_machine.specs.Peers.{Peers, first_peers, with_room, with_failing, taken_by, rooms_after, offers_to, served_moves, moves_of_connection, peers_after_move, peers_after}
-use Rattle.ads_machine.specs.Play.{Scene, scene_after, moves_at, moves_of_each, turn_of, scene_after_turn, turns_of, play_of}
-use Rattle.ads_machine.specs.ScriptLine.{ScriptLine, Happens, TakesAtMost, FailsNext}
-use Rattle.ads_machine.specs.Turns.{IsOffer, IsServed, Serves, ServesEach, LogTurn, moves_of_turn, AreTurns, KeepsTurns}
-use Rattle.ads_machine.proofs.Find.{test_same}
-use Rattle.ads_machine.proofs.Played.{took-closing, took-waiting}
+use Rattle.spec_machine.specs.MachineState.{MachineState, present_numbers}
+use Rattle.spec_machine.specs.Moves.{EventStep, state_after_move, state_after}
+use Rattle.spec_machine.specs.Offers.{waiting_at, is_closing_at, is_among, blocked_after_move, blocked_after}
+use Rattle.spec_machine.specs.Peers.{Peers, first_peers, with_room, with_failing, taken_by, rooms_after, offers_to, served_moves, moves_of_connection, peers_after_move, peers_after}
+use Rattle.spec_machine.specs.Play.{Scene, scene_after, moves_at, moves_of_each, turn_of, scene_after_turn, turns_of, play_of}
+use Rattle.spec_machine.specs.ScriptLine.{ScriptLine, Happens, TakesAtMost, FailsNext}
+use Rattle.spec_machine.specs.Turns.{IsOffer, IsServed, Serves, ServesEach, LogTurn, moves_of_turn, AreTurns, KeepsTurns}
+use Rattle.spec_machine.proofs.Find.{test_same}
+use Rattle.spec_machine.proofs.Played.{took-closing, took-waiting}
 use Rattle.replay_script.specs.Answering.{IsAnswer, AnsweredBy}
 
 -- the moves of connections alone, each answered

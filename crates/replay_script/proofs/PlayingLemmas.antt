@@ -5,10 +5,10 @@ use Rattle.ads_outside.specs.declared.moves.Move.{Move}
 use Rattle.ads_outside.specs.Opened.{opened_in}
 use Rattle.ads_outside.specs.Rose.{raised}
 use Rattle.ads_outside.specs.WireState.{WireHistory}
-use Rattle.ads_machine.specs.Connection.{Connection, connection_of}
-use Rattle.ads_machine.specs.Moves.{EventStep}
-use Rattle.ads_machine.specs.Peers.{first_peers}
-use Rattle.ads_machine.specs.ScriptLine.{ScriptLine}
+use Rattle.spec_machine.specs.Connection.{Connection, connection_of}
+use Rattle.spec_machine.specs.Moves.{EventStep}
+use Rattle.spec_machine.specs.Peers.{first_peers}
+use Rattle.spec_machine.specs.ScriptLine.{ScriptLine}
 use Rattle.ads_served.specs.Standing.{Standing, Noting, standing_after_all}
 use Rattle.serve_loop.specs.Leads.{events_in}
 use Rattle.serve_loop.specs.ToldLog.{WhereTold, LogsTurns}

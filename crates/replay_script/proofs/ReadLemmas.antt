@@ -1,9 +1,9 @@
 -- The lines of a script, read one after another.
 use Rattle.std.proofs.Common.{◌≡◌, ℕ, ◌+◌, ◌<◌, ◌≤◌, List, [], ◌∷◌, length, None, Some, Err, sym, ap, ◌∙◌, arith}
-use Rattle.ads_machine.specs.BuiltLines.{all_lines}
-use Rattle.ads_machine.specs.Reading.{Reading}
-use Rattle.ads_machine.specs.Script.{after_line, script_after, script_of, said_by}
-use Rattle.ads_machine.specs.ScriptLines.{lines_of}
+use Rattle.spec_machine.specs.BuiltLines.{all_lines}
+use Rattle.spec_machine.specs.Reading.{Reading}
+use Rattle.spec_machine.specs.Script.{after_line, script_after, script_of, said_by}
+use Rattle.spec_machine.specs.ScriptLines.{lines_of}
 use Rattle.replay_script.proofs.LineLemmas.{lines_of-nil}
 use Rattle.replay_script.proofs.GrammarLemmas.{script_after-read, script_after-refused, script_after-end}
 

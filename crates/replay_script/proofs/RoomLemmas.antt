@@ -4,8 +4,8 @@ use Rattle.std.specs.Prelude.{◌==◌, nat_eq, Option, Some, None, Result, Ok, 
 use Rattle.indexmap.specs.IndexMap.{IndexMap, get, Updates}
 use Rattle.std.specs.Option.{option_map}
 use Rattle.std.proofs.lemmas.Bool.{cases_eq}
-use Rattle.ads_machine.specs.Peers.{Room, taken_by, rooms_after}
-use Rattle.ads_machine.proofs.Find.{test_same, test_other}
+use Rattle.spec_machine.specs.Peers.{Room, taken_by, rooms_after}
+use Rattle.spec_machine.proofs.Find.{test_same, test_other}
 use Rattle.replay_script.specs.Rooms.{room_at}
 
 abbrev pub taken_of : Option ℕ → ℕ → ℕ

@@ -2,12 +2,12 @@
 use Rattle.std.proofs.Common.{◌≡◌, List, [], ◌∷◌, ◌++◌, refl, sym, ap, ◌∙◌, append_assoc, append-nil}
 use Rattle.ads_outside.specs.declared.moves.Move.{Move}
 use Rattle.ads_outside.specs.declared.moves.Move.TheVariants as move
-use Rattle.ads_machine.specs.Device.{Device}
-use Rattle.ads_machine.specs.Events.{state_after_event}
-use Rattle.ads_machine.specs.MachineState.{MachineState}
-use Rattle.ads_machine.specs.Moves.{EventStep, state_after_move, state_after}
-use Rattle.ads_machine.specs.Running.{Running}
-use Rattle.ads_machine.specs.RunText.{notes_of_event, notes_of_move, notes_of}
+use Rattle.spec_machine.specs.Device.{Device}
+use Rattle.spec_machine.specs.Events.{state_after_event}
+use Rattle.spec_machine.specs.MachineState.{MachineState}
+use Rattle.spec_machine.specs.Moves.{EventStep, state_after_move, state_after}
+use Rattle.spec_machine.specs.Running.{Running}
+use Rattle.spec_machine.specs.RunText.{notes_of_event, notes_of_move, notes_of}
 use Rattle.ads_served.specs.Standing.{Standing, Noting, noted_of_move, standing_after, standing_after_all}
 use Rattle.serve_loop.proofs.LeadLemmas.{standing-running}
 

@@ -4,14 +4,14 @@ use Rattle.ads_outside.specs.declared.event.Event.{Event}
 use Rattle.ads_outside.specs.declared.event.Event.TheVariants as event
 use Rattle.ads_outside.specs.declared.moves.Move.{Move}
 use Rattle.ads_outside.specs.declared.moves.Move.TheVariants as move
-use Rattle.ads_machine.specs.MachineState.{MachineState}
-use Rattle.ads_machine.specs.Moves.{EventStep}
-use Rattle.ads_machine.specs.Offers.{is_among}
-use Rattle.ads_machine.specs.Peers.{Peers, first_peers, with_room, with_failing}
-use Rattle.ads_machine.specs.Peers.{taken_by, peers_after_move}
-use Rattle.ads_machine.specs.Play.{play_of}
-use Rattle.ads_machine.specs.ScriptLine.{ScriptLine, Happens, TakesAtMost, FailsNext}
-use Rattle.ads_machine.specs.Turns.{KeepsTurns}
+use Rattle.spec_machine.specs.MachineState.{MachineState}
+use Rattle.spec_machine.specs.Moves.{EventStep}
+use Rattle.spec_machine.specs.Offers.{is_among}
+use Rattle.spec_machine.specs.Peers.{Peers, first_peers, with_room, with_failing}
+use Rattle.spec_machine.specs.Peers.{taken_by, peers_after_move}
+use Rattle.spec_machine.specs.Play.{play_of}
+use Rattle.spec_machine.specs.ScriptLine.{ScriptLine, Happens, TakesAtMost, FailsNext}
+use Rattle.spec_machine.specs.Turns.{KeepsTurns}
 
 -- an event of a script, how the connections answer from there on, and the lines behind it
 pub record NextEvent : Type 0 where

@@ -1,7 +1,7 @@
 -- Scripts open each connection once.
 use Rattle.std.specs.Prelude.{◌≡◌, ℕ, false, List, [], ◌∷◌, ◌++◌}
-use Rattle.ads_machine.specs.Reading.{is_among, opened_by}
-use Rattle.ads_machine.specs.ScriptLine.{ScriptLine}
+use Rattle.spec_machine.specs.Reading.{is_among, opened_by}
+use Rattle.spec_machine.specs.ScriptLine.{ScriptLine}
 
 -- none of these numbers is among the others
 abbrev pub AreNew : List ℕ → List ℕ → Type 0

@@ -2,10 +2,10 @@
 use Rattle.std.specs.Prelude.{◌≡◌, ℕ, Bool, false, List, [], ◌∷◌, ◌++◌, Option, Some, None, MatchBool, IsSomeAnd}
 use Rattle.std.specs.Option.{option_map}
 use Rattle.ads_outside.specs.declared.event.Event.TheVariants as event
-use Rattle.ads_machine.specs.BuiltLines.{LineKind, Open, Bytes, Close, Tick, Reload, Room, Fail}
-use Rattle.ads_machine.specs.Reading.{Reading, Block, line_said, is_among}
-use Rattle.ads_machine.specs.ScriptLines.{words_of}
-use Rattle.ads_machine.specs.ScriptWords.{bytes_of_word}
+use Rattle.spec_machine.specs.BuiltLines.{LineKind, Open, Bytes, Close, Tick, Reload, Room, Fail}
+use Rattle.spec_machine.specs.Reading.{Reading, Block, line_said, is_among}
+use Rattle.spec_machine.specs.ScriptLines.{words_of}
+use Rattle.spec_machine.specs.ScriptWords.{bytes_of_word}
 use Rattle.replay_script.specs.declared.line_kind.LineKind as declared
 use Rattle.replay_script.specs.declared.line_kind.LineKind.TheVariants as kind
 use Rattle.replay_script.specs.declared.progress.TextBlock.{TextBlock}

@@ -1,9 +1,9 @@
 -- The play of a script on what is served.
 use Rattle.std.specs.Prelude.{◌≡◌, List, []}
 use Rattle.ads_outside.specs.declared.moves.Move.{Move}
-use Rattle.ads_machine.specs.Moves.{EventStep}
-use Rattle.ads_machine.specs.Play.{play_of}
-use Rattle.ads_machine.specs.ScriptLine.{ScriptLine}
+use Rattle.spec_machine.specs.Moves.{EventStep}
+use Rattle.spec_machine.specs.Play.{play_of}
+use Rattle.spec_machine.specs.ScriptLine.{ScriptLine}
 use Rattle.ads_served.specs.Standing.{Standing, Noting, standing_after_all}
 
 -- no connection was ever opened

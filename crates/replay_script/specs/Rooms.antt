@@ -1,7 +1,7 @@
 -- The rooms of connections, as they are kept. No public clause cites this file.
 use Rattle.std.specs.Prelude.{◌≡◌, ℕ, List, [], ◌∷◌, ◌==◌, nat_eq, if◌then◌else◌, Option, Some, None}
 use Rattle.indexmap.specs.IndexMap.{get}
-use Rattle.ads_machine.specs.Peers.{Room}
+use Rattle.spec_machine.specs.Peers.{Room}
 use Rattle.replay_script.specs.declared.rooms.Rooms.{Rooms}
 
 -- how many further bytes a connection takes, where that is bounded

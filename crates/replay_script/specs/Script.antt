@@ -1,6 +1,6 @@
 -- What the lines of a script that was read mean.
 use Rattle.std.specs.Prelude.{ℕ, List, length, filter, Bool, true, false}
-use Rattle.ads_machine.specs.ScriptLine.{ScriptLine, Happens, TakesAtMost, FailsNext}
+use Rattle.spec_machine.specs.ScriptLine.{ScriptLine, Happens, TakesAtMost, FailsNext}
 use Rattle.replay_script.specs.declared.script_line.ScriptLine as declared
 use Rattle.replay_script.specs.declared.script_line.ScriptLine.TheVariants as line
 

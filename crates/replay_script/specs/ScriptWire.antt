@@ -7,10 +7,10 @@ use Rattle.ads_outside.specs.declared.moves.Move.TheVariants as move
 use Rattle.ads_outside.specs.Opened.{opened_in}
 use Rattle.ads_outside.specs.Rose.{raised}
 use Rattle.ads_outside.specs.WireState.{WireState}
-use Rattle.ads_machine.specs.Offers.{is_among}
-use Rattle.ads_machine.specs.Peers.{Peers, first_peers}
-use Rattle.ads_machine.specs.Reading.{is_among as is_listed}
-use Rattle.ads_machine.specs.ScriptLine.{ScriptLine}
+use Rattle.spec_machine.specs.Offers.{is_among}
+use Rattle.spec_machine.specs.Peers.{Peers, first_peers}
+use Rattle.spec_machine.specs.Reading.{is_among as is_listed}
+use Rattle.spec_machine.specs.ScriptLine.{ScriptLine}
 use Rattle.serve_loop.specs.Leads.{events_in}
 use Rattle.replay_script.specs.declared.rooms.Rooms.{Rooms}
 use Rattle.replay_script.specs.Answering.{AnsweredBy}

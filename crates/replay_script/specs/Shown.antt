@@ -1,6 +1,6 @@
 -- The counts of a run as its summary.
 use Rattle.replay_script.specs.declared.counts.Counts.{Counts}
-use Rattle.ads_machine.specs.Summary.{Summary}
+use Rattle.spec_machine.specs.Summary.{Summary}
 
 abbrev pub summary_from : Counts → Summary
 summary_from c = record {

@@ -1,8 +1,8 @@
 //! Bytes as hex words in a script.
 
 ghost use Rattle.std.specs.Prelude.{◌≡◌, IfOk};
-ghost use Rattle.ads_machine.specs.ScriptLines.{words_of};
-ghost use Rattle.ads_machine.specs.ScriptWords.{bytes_of_words};
+ghost use Rattle.spec_machine.specs.ScriptLines.{words_of};
+ghost use Rattle.spec_machine.specs.ScriptWords.{bytes_of_words};
 ghost use Rattle.replay_script.specs.Lines.{AppendsWord};
 
 use crate::lines::first_word;

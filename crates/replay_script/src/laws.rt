@@ -1,9 +1,9 @@
 //! What holds of every script.
 
 ghost use Rattle.std.specs.Prelude.{◌≡◌, ℕ, List, [], Ok};
-ghost use Rattle.ads_machine.specs.BuiltLines.{all_lines};
-ghost use Rattle.ads_machine.specs.Script.{script_of};
-ghost use Rattle.ads_machine.specs.ScriptLine.{ScriptLine};
+ghost use Rattle.spec_machine.specs.BuiltLines.{all_lines};
+ghost use Rattle.spec_machine.specs.Script.{script_of};
+ghost use Rattle.spec_machine.specs.ScriptLine.{ScriptLine};
 ghost use Rattle.replay_script.specs.Answering.{HasOneLog};
 ghost use Rattle.replay_script.specs.Fresh.{OpenNew};
 

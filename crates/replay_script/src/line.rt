@@ -2,8 +2,8 @@
 
 ghost use Rattle.std.specs.Prelude.{◌≡◌, IfOk, IfSome};
 ghost use Rattle.std.specs.Option.{option_copied};
-ghost use Rattle.ads_machine.specs.BuiltLines.{all_lines, Open, Bytes, Close, Tick, Room, Fail};
-ghost use Rattle.ads_machine.specs.Script.{after_words};
+ghost use Rattle.spec_machine.specs.BuiltLines.{all_lines, Open, Bytes, Close, Tick, Room, Fail};
+ghost use Rattle.spec_machine.specs.Script.{after_words};
 ghost use Rattle.replay_script.specs.Lines.{after_said, CanFollow, words_behind, only_of};
 
 use crate::ScriptLine;

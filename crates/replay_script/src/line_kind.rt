@@ -1,7 +1,7 @@
 //! The first words of lines.
 
 ghost use Rattle.std.specs.Prelude.{◌≡◌, option_map};
-ghost use Rattle.ads_machine.specs.Script.{kind_of};
+ghost use Rattle.spec_machine.specs.Script.{kind_of};
 ghost use Rattle.replay_script.specs.Lines.{kind_meant};
 
 /// The lines of a script that have words.
@@ -17,7 +17,7 @@ pub enum LineKind {
 }
 
 /// The kind of a line with this first word; none where no line begins with it.
-#[tactic(auto, unfolding(ads_machine::specs::Script::kind_of))]
+#[tactic(auto, unfolding(spec_machine::specs::Script::kind_of))]
 pub fn line_kind(word: &[u8]) -> Option<LineKind>
     ensures { option_map kind_meant result ≡ kind_of word.now }
 {

@@ -2,7 +2,7 @@
 
 ghost use Rattle.std.specs.Prelude.{◌≡◌, ◌==◌, ◌∷◌, ◌<◌, length, position, IfSome};
 ghost use Rattle.std.specs.Option.{option_copied};
-ghost use Rattle.ads_machine.specs.ScriptLines as script;
+ghost use Rattle.spec_machine.specs.ScriptLines as script;
 ghost use Rattle.replay_script.specs.Lines.{words_behind};
 
 /// The first line with its end, and what follows it.

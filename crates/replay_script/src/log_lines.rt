@@ -1,7 +1,7 @@
 //! The printed text of a log.
 
 ghost use Rattle.std.specs.Prelude.{◌≡◌, ◌++◌, OnOk, OnErr};
-ghost use Rattle.ads_machine.specs.LogText as text;
+ghost use Rattle.spec_machine.specs.LogText as text;
 
 use crate::texts::{put_counted, put_hex};
 use ads_base::{NoMemory, Octets};

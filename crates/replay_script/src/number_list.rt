@@ -1,7 +1,7 @@
 //! Numbers of connections, each once, in the order in which they came.
 
 ghost use Rattle.std.specs.Prelude.{◌≡◌, ◌++◌, [], ◌∷◌, false, length, OnOk, OnErr};
-ghost use Rattle.ads_machine.specs.Reading.{is_among};
+ghost use Rattle.spec_machine.specs.Reading.{is_among};
 
 use ads_base::NoMemory;
 use indexmap::IndexSet;

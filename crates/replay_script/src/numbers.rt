@@ -4,7 +4,7 @@ ghost use Rattle.std.specs.Prelude.{◌≡◌, ◌^◌, ◌&&◌, nat_lt, Some, 
 ghost use Rattle.std.specs.Char.{is_ascii_digit};
 ghost use Rattle.std.specs.List.{list_all};
 ghost use Rattle.name_paths.specs.Number.{number_of_digits};
-ghost use Rattle.ads_machine.specs.ScriptWords.{number_of_word, connection_of_word};
+ghost use Rattle.spec_machine.specs.ScriptWords.{number_of_word, connection_of_word};
 
 /// The number of a connection: from 1 to 4,294,967,295.
 pub fn read_connection(word: &[u8]) -> Option<u32>

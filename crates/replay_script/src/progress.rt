@@ -3,10 +3,10 @@
 ghost use Rattle.std.specs.Prelude.{◌≡◌, ◌+◌, ◌<◌, ◌^◌, ◌++◌, false, [], ◌∷◌, Some, None, IfOk, IfSome, OnOk, if◌then◌else◌};
 ghost use Rattle.std.specs.Option.{option_copied};
 ghost use Rattle.ads_outside.specs.declared.event.Event.TheVariants as event;
-ghost use Rattle.ads_machine.specs.BuiltLines.{all_lines, Reload};
-ghost use Rattle.ads_machine.specs.ScriptLine.{Happens};
-ghost use Rattle.ads_machine.specs.Reading.{nothing_read, line_said, opened_by, closed_by, one_more_line, is_among};
-ghost use Rattle.ads_machine.specs.Script.{after_line, after_plain_line, after_text_line, after_words, is_blank_line, fresh_number, open_connection, said_by};
+ghost use Rattle.spec_machine.specs.BuiltLines.{all_lines, Reload};
+ghost use Rattle.spec_machine.specs.ScriptLine.{Happens};
+ghost use Rattle.spec_machine.specs.Reading.{nothing_read, line_said, opened_by, closed_by, one_more_line, is_among};
+ghost use Rattle.spec_machine.specs.Script.{after_line, after_plain_line, after_text_line, after_words, is_blank_line, fresh_number, open_connection, said_by};
 ghost use Rattle.replay_script.specs.Script.{line_meant};
 ghost use Rattle.replay_script.specs.Lines.{after_said, block_meant, kind_meant, words_behind, CanFollow, OpensNew, ClosesNew};
 
@@ -40,7 +40,7 @@ pub struct Progress {
 
 impl Model for Progress {
     ghost use Rattle.std.specs.Option.{option_map};
-    ghost use Rattle.ads_machine.specs.Reading.{Reading};
+    ghost use Rattle.spec_machine.specs.Reading.{Reading};
     ghost use Rattle.replay_script.specs.Lines.{block_meant};
 
     ghost Value = { Reading };

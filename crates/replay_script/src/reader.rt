@@ -1,8 +1,8 @@
 //! The reading of a script.
 
 ghost use Rattle.std.specs.Prelude.{◌≡◌, ◌≤◌, IfOk, length};
-ghost use Rattle.ads_machine.specs.BuiltLines.{all_lines};
-ghost use Rattle.ads_machine.specs.Script.{script_of};
+ghost use Rattle.spec_machine.specs.BuiltLines.{all_lines};
+ghost use Rattle.spec_machine.specs.Script.{script_of};
 
 use crate::Script;
 use crate::lines::first_line;

@@ -2,7 +2,7 @@
 
 ghost use Rattle.std.specs.Prelude.{◌≡◌, ◌≤◌, ◌∷◌, [], List, nat_eq, OnOk, OnErr};
 ghost use Rattle.indexmap.specs.IndexMap.{get};
-ghost use Rattle.ads_machine.specs.Peers.{Room, taken_by, rooms_after};
+ghost use Rattle.spec_machine.specs.Peers.{Room, taken_by, rooms_after};
 ghost use Rattle.replay_script.specs.Rooms.{HoldsRooms};
 
 use ads_base::NoMemory;

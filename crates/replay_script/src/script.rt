@@ -16,7 +16,7 @@ pub struct Script {
 
 impl Model for Script {
     ghost use Rattle.std.specs.Prelude.{List, map};
-    ghost use Rattle.ads_machine.specs.ScriptLine.{ScriptLine};
+    ghost use Rattle.spec_machine.specs.ScriptLine.{ScriptLine};
     ghost use Rattle.replay_script.specs.Script.{line_meant};
 
     ghost Value = { List ScriptLine };

@@ -103,7 +103,7 @@ impl ScriptWire {
 impl ScriptWire {
     ghost use Rattle.std.specs.Prelude.{◌+◌, slice_get};
     ghost use Rattle.std.specs.Option.{option_map};
-    ghost use Rattle.ads_machine.specs.ScriptLine.{Happens, TakesAtMost, FailsNext};
+    ghost use Rattle.spec_machine.specs.ScriptLine.{Happens, TakesAtMost, FailsNext};
     ghost use Rattle.ads_outside.specs.declared.event.Event.TheVariants as event;
     ghost use Rattle.ads_outside.specs.Rose.{raised};
     ghost use Rattle.replay_script.specs.ScriptWire.{state_of_played, told_after};
@@ -275,7 +275,7 @@ impl ScriptWire {
 
 impl Wire for ScriptWire {
     ghost use Rattle.std.specs.Prelude.{List};
-    ghost use Rattle.ads_machine.specs.ScriptLine.{ScriptLine as LineOf};
+    ghost use Rattle.spec_machine.specs.ScriptLine.{ScriptLine as LineOf};
     ghost use Rattle.replay_script.specs.ScriptWire.{state_of_played};
 
     ghost state = { state_of_played };

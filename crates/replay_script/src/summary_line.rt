@@ -1,7 +1,7 @@
 //! The printed text of a summary.
 
 ghost use Rattle.std.specs.Prelude.{◌≡◌, ◌++◌, OnOk, OnErr, IfOk};
-ghost use Rattle.ads_machine.specs.SummaryText.{summary_text_of};
+ghost use Rattle.spec_machine.specs.SummaryText.{summary_text_of};
 ghost use Rattle.replay_script.specs.Shown.{summary_from};
 
 use crate::Counts;

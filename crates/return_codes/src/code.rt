@@ -1,7 +1,7 @@
 //! The codes that ADS answers with: each with its number and its text.
 
 ghost use Rattle.std.specs.Prelude.{◌≡◌, ◌↔◌, IsNone, IfSome, IfNone, Some, None};
-ghost use Rattle.ads_formats.specs.Codes.{text_of_code};
+ghost use Rattle.spec_formats.specs.Codes.{text_of_code};
 
 use std::fmt;
 
@@ -97,7 +97,7 @@ impl Code {
     }
 
     /// The text of the table.
-    #[tactic(auto, unfolding(ads_formats::specs::Codes::text_in))]
+    #[tactic(auto, unfolding(spec_formats::specs::Codes::text_in))]
     pub fn text(self) -> &'static str
         ensures { text_of_code (number_of self) ≡ Some result.now }
     {

@@ -3,8 +3,8 @@ use Rattle.std.proofs.Common.{◌≡◌, ℕ, suc, List, [], ◌∷◌, map, Opt
 use Rattle.std.specs.Prelude.{nat_lt, ◌==◌, insert}
 use Rattle.std.specs.Option.{option_map_or}
 use Rattle.std.proofs.lemmas.Bool.{cases_Bool}
-use Rattle.ads_samples.specs.Row as samples
-use Rattle.ads_samples.specs.Rows.{rows_after_put}
+use Rattle.spec_samples.specs.Row as samples
+use Rattle.spec_samples.specs.Rows.{rows_after_put}
 use Rattle.sample_store.specs.declared.row.Row.{Row}
 use Rattle.sample_store.specs.Views.{row_kept}
 use Rattle.sample_store.specs.Places.{place_from}

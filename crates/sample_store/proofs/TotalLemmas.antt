@@ -3,8 +3,8 @@ use Rattle.std.proofs.Common.{◌≡◌, ℕ, ◌+◌, List, [], ◌∷◌, leng
 use Rattle.std.specs.Prelude.{bytes_eq}
 use Rattle.std.specs.List.{last_or}
 use Rattle.std.proofs.lemmas.Bool.{cases_Bool}
-use Rattle.ads_samples.specs.Row as samples
-use Rattle.ads_samples.specs.Totals.{rows_named, last_row, total_with_last, total_of}
+use Rattle.spec_samples.specs.Row as samples
+use Rattle.spec_samples.specs.Totals.{rows_named, last_row, total_with_last, total_of}
 use Rattle.sample_store.specs.declared.row.Row.{Row}
 use Rattle.sample_store.specs.declared.total.Total.{Total}
 use Rattle.sample_store.specs.Views.{row_kept, total_told}

@@ -1,8 +1,8 @@
 -- What is known of a keeper: its rows, where they are told, and how many calls failed.
 use Rattle.std.specs.Prelude.{◌≡◌, ℕ, ◌+◌, ◌≤◌, List, length, Option, Some, None, option_map}
-use Rattle.ads_samples.specs.Row.{Row}
-use Rattle.ads_samples.specs.Rows.{rows_after_put}
-use Rattle.ads_samples.specs.Totals.{total_of}
+use Rattle.spec_samples.specs.Row.{Row}
+use Rattle.spec_samples.specs.Rows.{rows_after_put}
+use Rattle.spec_samples.specs.Totals.{total_of}
 use Rattle.sample_store.specs.declared.keeper_open.KeeperOpen.{KeeperOpen}
 use Rattle.sample_store.specs.declared.keeper_open.KeeperOpen.TheVariants as open_
 use Rattle.sample_store.specs.declared.kept.Kept.{Kept}

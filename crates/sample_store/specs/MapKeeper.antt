@@ -1,6 +1,6 @@
 -- A keeper in memory: its rows, and the calls that are to fail.
 use Rattle.std.specs.Prelude.{List, if◌then◌else◌}
-use Rattle.ads_samples.specs.Row.{Row}
+use Rattle.spec_samples.specs.Row.{Row}
 use Rattle.ads_outside.specs.FailingCalls.{FailingCalls, fails_next, called, faulted}
 
 pub record HeldRows : Type 0 where

@@ -1,6 +1,6 @@
 -- Where a row goes, and what is found of a name; no public clause cites this.
 use Rattle.std.specs.Prelude.{ℕ, ◌+◌, List, [], ◌∷◌, nat_lt, ◌==◌, if◌then◌else◌, bytes_eq, Option, Some, None}
-use Rattle.ads_samples.specs.Row as samples
+use Rattle.spec_samples.specs.Row as samples
 use Rattle.sample_store.specs.declared.row.Row.{Row}
 use Rattle.sample_store.specs.Views.{row_kept}
 

@@ -1,6 +1,6 @@
 -- Rows and totals as values of the definitions.
-use Rattle.ads_samples.specs.Row as samples
-use Rattle.ads_samples.specs.Totals as totals
+use Rattle.spec_samples.specs.Row as samples
+use Rattle.spec_samples.specs.Totals as totals
 use Rattle.sample_store.specs.declared.row.Row.{Row}
 use Rattle.sample_store.specs.declared.total.Total.{Total}
 

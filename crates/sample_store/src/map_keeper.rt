@@ -30,7 +30,7 @@ impl Model for MapKeeper {
 
 impl MapKeeper {
     ghost use Rattle.ads_outside.specs.FailingCalls.{none_made};
-    ghost use Rattle.ads_samples.specs.Rows.{row_numbered};
+    ghost use Rattle.spec_samples.specs.Rows.{row_numbered};
     ghost use Rattle.sample_store.specs.Views.{row_kept};
 
     /// No rows; the calls of `open`, `put` and `total` with these numbers, counted from 1, fail.

@@ -1,7 +1,7 @@
 //! Where a row goes.
 
 ghost use Rattle.std.specs.Prelude.{◌≡◌, ◌≤◌, length, map, insert, OnOk, OnErr, IfOk, IfSome};
-ghost use Rattle.ads_samples.specs.Rows.{rows_after_put};
+ghost use Rattle.spec_samples.specs.Rows.{rows_after_put};
 ghost use Rattle.sample_store.specs.Views.{row_kept};
 ghost use Rattle.sample_store.specs.Places.{place_from};
 

@@ -1,7 +1,7 @@
 //! What is told of all rows of a name.
 
 ghost use Rattle.std.specs.Prelude.{◌≡◌, ◌≤◌, None, length, map, option_map, IfOk};
-ghost use Rattle.ads_samples.specs.Totals.{total_of};
+ghost use Rattle.spec_samples.specs.Totals.{total_of};
 ghost use Rattle.sample_store.specs.Views.{row_kept, total_told};
 ghost use Rattle.sample_store.specs.Places.{count_from, last_from};
 

@@ -8,9 +8,9 @@ use Rattle.ads_outside.specs.declared.moves.Move.{Move}
 use Rattle.ads_outside.specs.declared.moves.Move.TheVariants as move
 use Rattle.ads_outside.specs.Rose.{Rose, raised}
 use Rattle.ads_outside.specs.WireState.{WireState, WireHistory, history_after_move, history_after, event_given}
-use Rattle.ads_machine.specs.Moves.{EventStep}
-use Rattle.ads_machine.specs.Running.{Running}
-use Rattle.ads_machine.specs.Turns.{KeepsTurns, AreTurns}
+use Rattle.spec_machine.specs.Moves.{EventStep}
+use Rattle.spec_machine.specs.Running.{Running}
+use Rattle.spec_machine.specs.Turns.{KeepsTurns, AreTurns}
 use Rattle.ads_served.specs.Standing.{Standing, Noting}
 use Rattle.serve_loop.specs.Leads.{events_in}
 use Rattle.serve_loop.specs.ToldLog.{WhereTold, LogsOffers, LogsTurns}

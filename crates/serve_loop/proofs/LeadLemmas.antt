@@ -4,11 +4,11 @@ use Rattle.std.specs.Prelude.{Result, Ok, Err, OnErr}
 use Rattle.ads_outside.specs.declared.moves.Move.{Move}
 use Rattle.ads_outside.specs.declared.moves.Move.TheVariants as move
 use Rattle.ads_outside.specs.WireState.{WireHistory, history_after_move, history_after}
-use Rattle.ads_machine.specs.Delivery.{AreOffers}
-use Rattle.ads_machine.specs.MachineState.{MachineState}
-use Rattle.ads_machine.specs.Moves.{EventStep, state_after_move, state_after}
-use Rattle.ads_machine.specs.Offers.{blocked_after}
-use Rattle.ads_machine.specs.Running.{Running}
+use Rattle.spec_machine.specs.Delivery.{AreOffers}
+use Rattle.spec_machine.specs.MachineState.{MachineState}
+use Rattle.spec_machine.specs.Moves.{EventStep, state_after_move, state_after}
+use Rattle.spec_machine.specs.Offers.{blocked_after}
+use Rattle.spec_machine.specs.Running.{Running}
 use Rattle.ads_served.specs.Standing.{Standing, Noting, standing_after, standing_after_all}
 use Rattle.serve_loop.specs.Leads.{Leads, Breaks, serves_any, events_in}
 use Rattle.serve_loop.specs.Serving.{running_after_all}

@@ -3,15 +3,15 @@ use Rattle.std.proofs.Common.{◌≡◌, ℕ, ◌≤◌, List, [], ◌∷◌, �
 use Rattle.std.specs.Prelude.{Bool, ◌⊎◌, Option, Some, None, if◌then◌else◌}
 use Rattle.ads_outside.specs.declared.moves.Move.{Move}
 use Rattle.ads_outside.specs.declared.moves.Move.TheVariants as move
-use Rattle.ads_machine.specs.Connection.{Connection, connection_of}
-use Rattle.ads_machine.specs.Delivery.{AreOffers}
-use Rattle.ads_machine.specs.MachineState.{MachineState}
-use Rattle.ads_machine.specs.Moves.{EventStep, state_after_move, state_after}
-use Rattle.ads_machine.specs.Offers.{waiting_at, is_gone_at, is_among, blocked_after, blocked_after_move}
-use Rattle.ads_machine.specs.Running.{Running, offer_at, first_frame}
-use Rattle.ads_machine.specs.Turns.{IsOffer, IsServed, Serves}
-use Rattle.ads_machine.proofs.Changes.{state_after-append}
-use Rattle.ads_machine.proofs.Emptied.{took-gone}
+use Rattle.spec_machine.specs.Connection.{Connection, connection_of}
+use Rattle.spec_machine.specs.Delivery.{AreOffers}
+use Rattle.spec_machine.specs.MachineState.{MachineState}
+use Rattle.spec_machine.specs.Moves.{EventStep, state_after_move, state_after}
+use Rattle.spec_machine.specs.Offers.{waiting_at, is_gone_at, is_among, blocked_after, blocked_after_move}
+use Rattle.spec_machine.specs.Running.{Running, offer_at, first_frame}
+use Rattle.spec_machine.specs.Turns.{IsOffer, IsServed, Serves}
+use Rattle.spec_machine.proofs.Changes.{state_after-append}
+use Rattle.spec_machine.proofs.Emptied.{took-gone}
 use Rattle.std.proofs.lemmas.List.{length-take-le}
 use Rattle.serve_loop.specs.Serving.{running_after_all, Begins, Ends, BeginsAll}
 

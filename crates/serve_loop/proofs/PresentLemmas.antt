@@ -2,10 +2,10 @@
 use Rattle.std.proofs.Common.{◌≡◌, ◌≢◌, ℕ, List, [], ◌∷◌, true, false, sym, ap, ◌∙◌, subst, inl, inr}
 use Rattle.std.specs.Prelude.{Bool, not, ◌||◌, ◌==◌, map, filter, Some, None}
 use Rattle.std.proofs.lemmas.Bool.{cases_Bool, cases_eq, cond-true, cond-false, not_from_true, not_from_false}
-use Rattle.ads_machine.specs.Connection.{Connection, connection_of}
-use Rattle.ads_machine.specs.MachineState.{MachineState, present_numbers}
-use Rattle.ads_machine.specs.Offers.{is_among, is_gone, is_gone_at}
-use Rattle.ads_machine.proofs.Find.{test_same, test_other}
+use Rattle.spec_machine.specs.Connection.{Connection, connection_of}
+use Rattle.spec_machine.specs.MachineState.{MachineState, present_numbers}
+use Rattle.spec_machine.specs.Offers.{is_among, is_gone, is_gone_at}
+use Rattle.spec_machine.proofs.Find.{test_same, test_other}
 use Rattle.ads_served.specs.Opened.{AreApart}
 
 -- no two numbers are the same

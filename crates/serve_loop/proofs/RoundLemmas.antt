@@ -6,14 +6,14 @@ use Rattle.std.proofs.Math.Seq.{drop-cons}
 use Rattle.std.proofs.lemmas.List.{drop_all}
 use Rattle.std.proofs.lemmas.Bool.{cases_Bool, cond-true, cond-false}
 use Rattle.ads_outside.specs.declared.moves.Move.{Move}
-use Rattle.ads_machine.specs.Connection.{connection_of}
-use Rattle.ads_machine.specs.Delivery.{AreOffers}
-use Rattle.ads_machine.specs.MachineState.{present_numbers}
-use Rattle.ads_machine.specs.Moves.{EventStep, state_after}
-use Rattle.ads_machine.specs.Offers.{is_among, is_closing, is_closing_at, is_gone, is_gone_at, waiting_at, waiting_of, blocked_after}
-use Rattle.ads_machine.specs.Running.{Running, offer_at, first_frame}
-use Rattle.ads_machine.specs.Turns.{Serves, ServesEach}
-use Rattle.ads_machine.proofs.Find.{test_same}
+use Rattle.spec_machine.specs.Connection.{connection_of}
+use Rattle.spec_machine.specs.Delivery.{AreOffers}
+use Rattle.spec_machine.specs.MachineState.{present_numbers}
+use Rattle.spec_machine.specs.Moves.{EventStep, state_after}
+use Rattle.spec_machine.specs.Offers.{is_among, is_closing, is_closing_at, is_gone, is_gone_at, waiting_at, waiting_of, blocked_after}
+use Rattle.spec_machine.specs.Running.{Running, offer_at, first_frame}
+use Rattle.spec_machine.specs.Turns.{Serves, ServesEach}
+use Rattle.spec_machine.proofs.Find.{test_same}
 use Rattle.ads_served.specs.Due.{IsIdle, LeavesOutIdle}
 use Rattle.ads_served.specs.Opened.{AreApart}
 use Rattle.serve_loop.specs.Serving.{running_after_all, ServesOne, Ends, EndsWhereThere, ServesAll, ServesAllOf}

@@ -4,15 +4,15 @@ use Rattle.std.specs.Prelude.{Bool, not, ◌&&◌, nat_lt, Option, Some, None}
 use Rattle.ads_outside.specs.declared.moves.Move.{Move}
 use Rattle.ads_outside.specs.declared.moves.Move.TheVariants as move
 use Rattle.ads_outside.specs.WireState.{WireHistory}
-use Rattle.ads_machine.specs.Connection.{Connection, connection_of}
-use Rattle.ads_machine.specs.Delivery.{AreOffers}
-use Rattle.ads_machine.specs.MachineState.{MachineState}
-use Rattle.ads_machine.specs.Moves.{EventStep, with_gone, with_took, state_after_move, state_after}
-use Rattle.ads_machine.specs.Offers.{is_closing, is_closing_at, is_gone, is_gone_at, is_among, blocked_after}
-use Rattle.ads_machine.specs.Running.{Running, offer_at, is_to_be_shut, is_to_be_shut_at}
-use Rattle.ads_machine.specs.Turns.{Serves}
-use Rattle.ads_machine.proofs.Changes.{exchange_other, with_took-number, with_gone-number, state_after-append}
-use Rattle.ads_machine.proofs.Find.{test_other}
+use Rattle.spec_machine.specs.Connection.{Connection, connection_of}
+use Rattle.spec_machine.specs.Delivery.{AreOffers}
+use Rattle.spec_machine.specs.MachineState.{MachineState}
+use Rattle.spec_machine.specs.Moves.{EventStep, with_gone, with_took, state_after_move, state_after}
+use Rattle.spec_machine.specs.Offers.{is_closing, is_closing_at, is_gone, is_gone_at, is_among, blocked_after}
+use Rattle.spec_machine.specs.Running.{Running, offer_at, is_to_be_shut, is_to_be_shut_at}
+use Rattle.spec_machine.specs.Turns.{Serves}
+use Rattle.spec_machine.proofs.Changes.{exchange_other, with_took-number, with_gone-number, state_after-append}
+use Rattle.spec_machine.proofs.Find.{test_other}
 use Rattle.ads_served.specs.Standing.{Standing, Noting, standing_after_all}
 use Rattle.serve_loop.specs.Leads.{Leads}
 use Rattle.serve_loop.specs.Serving.{running_after_all, ServesOne, Begins, BeginsAll, Ends, EndsWhereThere}

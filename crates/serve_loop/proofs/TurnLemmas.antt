@@ -12,14 +12,14 @@ use Rattle.ads_outside.specs.Opened.{opened_by, is_opened, is_new}
 use Rattle.ads_outside.specs.Rose.{Rose}
 use Rattle.ads_outside.specs.WireAnswers.{Stops}
 use Rattle.ads_outside.specs.WireState.{WireState, WireHistory, history_after_move, history_after, event_given}
-use Rattle.ads_machine.specs.Connection.{connection_of}
-use Rattle.ads_machine.specs.Delivery.{AreOffers}
-use Rattle.ads_machine.specs.MachineState.{MachineState}
-use Rattle.ads_machine.specs.Moves.{EventStep, with_gone, with_took, state_after_move, state_after}
-use Rattle.ads_machine.specs.Offers.{blocked_after}
-use Rattle.ads_machine.specs.Running.{Running, OpensNew}
-use Rattle.ads_machine.specs.Turns.{LogTurn, moves_of_turn, AreTurns}
-use Rattle.ads_machine.proofs.Emptied.{or_false}
+use Rattle.spec_machine.specs.Connection.{connection_of}
+use Rattle.spec_machine.specs.Delivery.{AreOffers}
+use Rattle.spec_machine.specs.MachineState.{MachineState}
+use Rattle.spec_machine.specs.Moves.{EventStep, with_gone, with_took, state_after_move, state_after}
+use Rattle.spec_machine.specs.Offers.{blocked_after}
+use Rattle.spec_machine.specs.Running.{Running, OpensNew}
+use Rattle.spec_machine.specs.Turns.{LogTurn, moves_of_turn, AreTurns}
+use Rattle.spec_machine.proofs.Emptied.{or_false}
 use Rattle.ads_served.specs.Opened.{HasNumbersIn, OpensAlone}
 use Rattle.ads_served.specs.Standing.{Standing, Noting, standing_after, standing_after_all}
 use Rattle.ads_served.proofs.DeviceEvents.{exchange-none}

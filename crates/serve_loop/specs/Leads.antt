@@ -3,9 +3,9 @@ use Rattle.std.specs.Prelude.{◌≡◌, ℕ, ◌+◌, List, [], ◌∷◌}
 use Rattle.ads_outside.specs.declared.moves.Move.{Move}
 use Rattle.ads_outside.specs.declared.moves.Move.TheVariants as move
 use Rattle.ads_outside.specs.WireState.{WireHistory, history_after}
-use Rattle.ads_machine.specs.Delivery.{AreOffers}
-use Rattle.ads_machine.specs.Moves.{EventStep}
-use Rattle.ads_machine.specs.Running.{Running}
+use Rattle.spec_machine.specs.Delivery.{AreOffers}
+use Rattle.spec_machine.specs.Moves.{EventStep}
+use Rattle.spec_machine.specs.Running.{Running}
 use Rattle.ads_served.specs.Standing.{Standing, Noting, standing_after_all}
 
 -- how many events some moves have

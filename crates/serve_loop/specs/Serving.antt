@@ -3,12 +3,12 @@ use Rattle.std.specs.Prelude.{◌≡◌, ℕ, List, ◌++◌, Bool, true, false,
 use Rattle.std.specs.List.{flat_map}
 use Rattle.ads_outside.specs.declared.moves.Move.{Move}
 use Rattle.ads_outside.specs.WireState.{WireHistory}
-use Rattle.ads_machine.specs.Delivery.{AreOffers}
-use Rattle.ads_machine.specs.MachineState.{present_numbers}
-use Rattle.ads_machine.specs.Moves.{EventStep, state_after}
-use Rattle.ads_machine.specs.Offers.{blocked_after, is_gone_at}
-use Rattle.ads_machine.specs.Running.{Running, offer_at}
-use Rattle.ads_machine.specs.Turns.{Serves, ServesEach}
+use Rattle.spec_machine.specs.Delivery.{AreOffers}
+use Rattle.spec_machine.specs.MachineState.{present_numbers}
+use Rattle.spec_machine.specs.Moves.{EventStep, state_after}
+use Rattle.spec_machine.specs.Offers.{blocked_after, is_gone_at}
+use Rattle.spec_machine.specs.Running.{Running, offer_at}
+use Rattle.spec_machine.specs.Turns.{Serves, ServesEach}
 use Rattle.ads_served.specs.Due.{LeavesOutIdle}
 use Rattle.ads_served.specs.Opened.{AreApart}
 use Rattle.ads_served.specs.Standing.{Standing, Noting}

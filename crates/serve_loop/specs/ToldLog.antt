@@ -1,10 +1,10 @@
 -- What the log of a wire tells of a run, where it is told.
 use Rattle.std.specs.Prelude.{◌≡◌, List, [], ◌++◌, Option, Some, None}
 use Rattle.ads_outside.specs.declared.moves.Move.{Move}
-use Rattle.ads_machine.specs.Delivery.{AreOffers}
-use Rattle.ads_machine.specs.MachineState.{MachineState}
-use Rattle.ads_machine.specs.Moves.{EventStep}
-use Rattle.ads_machine.specs.Turns.{KeepsTurns}
+use Rattle.spec_machine.specs.Delivery.{AreOffers}
+use Rattle.spec_machine.specs.MachineState.{MachineState}
+use Rattle.spec_machine.specs.Moves.{EventStep}
+use Rattle.spec_machine.specs.Turns.{KeepsTurns}
 use Rattle.ads_served.specs.Standing.{Standing, Noting, standing_after_all}
 
 abbrev pub WhereTold : Option (List Move) → (List Move → Type 0) → Type 0

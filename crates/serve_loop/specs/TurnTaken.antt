@@ -10,12 +10,12 @@ use Rattle.ads_outside.specs.declared.moves.Move.TheVariants as move
 use Rattle.ads_outside.specs.Rose.{raised}
 use Rattle.ads_outside.specs.WireAnswers.{Stops}
 use Rattle.ads_outside.specs.WireState.{WireState, WireHistory, end_answered}
-use Rattle.ads_machine.specs.Delivery.{AreOffers}
-use Rattle.ads_machine.specs.MachineState.{present_numbers}
-use Rattle.ads_machine.specs.Moves.{EventStep}
-use Rattle.ads_machine.specs.Offers.{blocked_after_move}
-use Rattle.ads_machine.specs.Running.{Running, OpensNew}
-use Rattle.ads_machine.specs.Turns.{LogTurn, moves_of_turn, ServesEach, AreTurns}
+use Rattle.spec_machine.specs.Delivery.{AreOffers}
+use Rattle.spec_machine.specs.MachineState.{present_numbers}
+use Rattle.spec_machine.specs.Moves.{EventStep}
+use Rattle.spec_machine.specs.Offers.{blocked_after_move}
+use Rattle.spec_machine.specs.Running.{Running, OpensNew}
+use Rattle.spec_machine.specs.Turns.{LogTurn, moves_of_turn, ServesEach, AreTurns}
 use Rattle.ads_served.specs.Opened.{HasNumbersIn}
 use Rattle.ads_served.specs.Standing.{Standing, Noting, standing_after}
 use Rattle.serve_loop.specs.declared.turn_end.TurnEnd.{TurnEnd}

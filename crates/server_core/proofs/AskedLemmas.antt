@@ -5,13 +5,13 @@ use Rattle.std.proofs.lemmas.Bool.{true≢false, cases_Bool, cases_lt, cond-true
 use Rattle.std.proofs.lemmas.List.{length-map, get_or-set_same, get_or-set_other}
 use Rattle.std.proofs.lemmas.List.Sums.{sum_by-cons, sum-map}
 use Rattle.signals.specs.Wave.{Wave}
-use Rattle.ads_plant.specs.World.{Plant}
-use Rattle.ads_machine.specs.Device.{Produced}
-use Rattle.ads_machine.specs.Connection.{connection_of, is_deaf, produce, produce_all}
-use Rattle.ads_machine.specs.Piece.{with_client}
-use Rattle.ads_machine.specs.Offers.{is_among}
-use Rattle.ads_machine.specs.Summary.{Summary as CountsOfState, count_of, replies_in, samples_in, summary_of}
-use Rattle.ads_machine.proofs.Find.{connection_of-map}
+use Rattle.spec_plant.specs.World.{Plant}
+use Rattle.spec_machine.specs.Device.{Produced}
+use Rattle.spec_machine.specs.Connection.{connection_of, is_deaf, produce, produce_all}
+use Rattle.spec_machine.specs.Piece.{with_client}
+use Rattle.spec_machine.specs.Offers.{is_among}
+use Rattle.spec_machine.specs.Summary.{Summary as CountsOfState, count_of, replies_in, samples_in, summary_of}
+use Rattle.spec_machine.proofs.Find.{connection_of-map}
 use Rattle.ads_served.specs.Opened.{AreApart}
 use Rattle.ams_tcp.specs.Held.{Held}
 use Rattle.ams_tcp.specs.History.{Represents}

@@ -2,9 +2,9 @@
 use Rattle.std.proofs.Common.{◌≡◌, ℕ, ◌+◌, ◌<◌, List, [], ◌∷◌, ◌++◌, length, take, drop, set, get_or, subst, ◌∙◌, arith}
 use Rattle.std.proofs.lemmas.List.{take_more, take_more_set, drop_more, drop-set-lt}
 use Rattle.std.proofs.lemmas.Grind.{drop_more_same}
-use Rattle.ads_plant.specs.World.{Plant}
-use Rattle.ads_machine.specs.Ticks.{client_after_tick}
-use Rattle.ads_machine.specs.World.{World}
+use Rattle.spec_plant.specs.World.{Plant}
+use Rattle.spec_machine.specs.Ticks.{client_after_tick}
+use Rattle.spec_machine.specs.World.{World}
 use Rattle.port_device.specs.Holds.{HoldsPorts}
 use Rattle.port_device.specs.PortMemory.{PortsMemory}
 use Rattle.server_core.specs.declared.turned.Turned.{Turned}

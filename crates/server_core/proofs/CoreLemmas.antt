@@ -5,9 +5,9 @@ use Rattle.std.proofs.lemmas.List.{length-take-le}
 use Rattle.signals.specs.Wave.{Wave}
 use Rattle.ads_outside.specs.declared.event.Event.TheVariants as event
 use Rattle.ads_outside.specs.declared.moves.Move.TheVariants as move
-use Rattle.ads_plant.specs.Description.{Description}
-use Rattle.ads_machine.specs.Connection.{connection_of}
-use Rattle.ads_product.specs.Server.{server_start}
+use Rattle.spec_plant.specs.Description.{Description}
+use Rattle.spec_machine.specs.Connection.{connection_of}
+use Rattle.spec_server.specs.Server.{server_start}
 use Rattle.server_core.specs.declared.turned.Turned.{Turned}
 use Rattle.server_core.specs.declared.waiting.Waiting.{Waiting}
 use Rattle.server_core.specs.Conns.{Conn, conns_of}

@@ -1,6 +1,6 @@
 -- Counts that follow one connection, one change after another.
 use Rattle.std.proofs.Common.{◌≡◌, ℕ, ◌+◌, refl, ap, ◌∙◌, arith}
-use Rattle.ads_machine.specs.Summary.{count_of}
+use Rattle.spec_machine.specs.Summary.{count_of}
 use Rattle.server_core.specs.declared.summary.Summary.{Summary}
 use Rattle.server_core.specs.Served.{ServedConnection}
 use Rattle.server_core.specs.Counts.{Grows, Counts, replies_of, samples_of}

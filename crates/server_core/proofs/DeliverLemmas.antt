@@ -8,10 +8,10 @@ use Rattle.std.proofs.lemmas.List.{reverse-append, map-append, take_more, get_or
 use Rattle.std.proofs.lemmas.Option.{slice_get_within, get_or_from_slice_get}
 use Rattle.std.proofs.lemmas.List.Sums.{sum_by-append, sum_by-cons}
 use Rattle.indexmap.specs.IndexMap.{set_value_at}
-use Rattle.ads_plant.specs.World.{Plant}
-use Rattle.ads_machine.specs.Device.{Produced}
-use Rattle.ads_machine.specs.Connection.{is_deaf, produce, produce_all}
-use Rattle.ads_machine.specs.Piece.{with_client}
+use Rattle.spec_plant.specs.World.{Plant}
+use Rattle.spec_machine.specs.Device.{Produced}
+use Rattle.spec_machine.specs.Connection.{is_deaf, produce, produce_all}
+use Rattle.spec_machine.specs.Piece.{with_client}
 use Rattle.session.specs.NoteFrames.{produced_of, IsNoteFrame}
 use Rattle.session.specs.declared.notes.NoteFrame.{NoteFrame}
 use Rattle.server_core.specs.declared.summary.Summary.{Summary}
@@ -24,7 +24,7 @@ use Rattle.server_core.specs.Counts.{Counts, Grows, replies_of, samples_of}
 use Rattle.server_core.specs.ConnStands.{Stands}
 use Rattle.server_core.specs.Delivering.{Delivers, Outcomes, after_given, mark_of, IsPending, EachUpTo, CountsAll, DeliversAt}
 use Rattle.server_core.specs.Taking.{Produces}
-use Rattle.ads_machine.specs.Summary.{count_of}
+use Rattle.spec_machine.specs.Summary.{count_of}
 use Rattle.server_core.specs.Serves.{EachStands}
 use Rattle.server_core.proofs.CountLemmas.{same_count, same_counts, then_counts}
 use Rattle.server_core.proofs.ProduceLemmas.{produce-closing}

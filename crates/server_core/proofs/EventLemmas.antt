@@ -4,9 +4,9 @@ use Rattle.std.proofs.lemmas.List.{append-nil}
 use Rattle.signals.specs.Wave.{Wave}
 use Rattle.ads_outside.specs.declared.event.Event.{Event}
 use Rattle.ads_outside.specs.declared.event.Event.TheVariants as event
-use Rattle.ads_machine.specs.Outcomes.{outcome_of_event}
-use Rattle.ads_machine.specs.Outcomes as machine
-use Rattle.ads_machine.specs.RunText.{notes_of_event}
+use Rattle.spec_machine.specs.Outcomes.{outcome_of_event}
+use Rattle.spec_machine.specs.Outcomes as machine
+use Rattle.spec_machine.specs.RunText.{notes_of_event}
 use Rattle.server_core.specs.declared.outcome.Outcome.TheVariants.{Done}
 use Rattle.server_core.specs.Served.{served}
 use Rattle.server_core.specs.CoreState.{CoreState, OpensNew, after_event}

@@ -2,11 +2,11 @@
 use Rattle.std.proofs.Common.{◌≡◌, ℕ, List, [], ◌∷◌, Bool, true, false, refl, sym, ap, ◌∙◌, subst, inl, inr}
 use Rattle.std.specs.Prelude.{◌==◌, ◌||◌, filter, is_some, None}
 use Rattle.std.proofs.lemmas.Bool.{cases_Bool, cases_eq, cond-true, cond-false, false≢true}
-use Rattle.ads_machine.specs.Connection.{connection_of}
-use Rattle.ads_machine.specs.Offers.{is_among}
-use Rattle.ads_machine.proofs.Find.{test_other}
+use Rattle.spec_machine.specs.Connection.{connection_of}
+use Rattle.spec_machine.specs.Offers.{is_among}
+use Rattle.spec_machine.proofs.Find.{test_other}
 use Rattle.signals.specs.Wave.{Wave}
-use Rattle.ads_plant.specs.World.{Plant}
+use Rattle.spec_plant.specs.World.{Plant}
 use Rattle.ads_served.specs.Opened.{AreApart}
 use Rattle.server_core.specs.Conns.{Conn}
 use Rattle.server_core.specs.Served.{ServedConnection}

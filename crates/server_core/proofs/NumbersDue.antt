@@ -8,9 +8,9 @@ use Rattle.std.proofs.lemmas.List.{append-nil, take_all}
 use Rattle.std.proofs.lemmas.List.Elements.{filter-append}
 use Rattle.std.proofs.lemmas.Option.{slice_get-get_or, slice_get_within, slice_get_past}
 use Rattle.signals.specs.Wave.{Wave}
-use Rattle.ads_machine.specs.Connection.{connection_of}
-use Rattle.ads_machine.specs.MachineState.{present_numbers}
-use Rattle.ads_machine.specs.Offers.{is_among, waiting_of, waiting_at}
+use Rattle.spec_machine.specs.Connection.{connection_of}
+use Rattle.spec_machine.specs.MachineState.{present_numbers}
+use Rattle.spec_machine.specs.Offers.{is_among, waiting_of, waiting_at}
 use Rattle.ads_served.specs.Due.{is_due}
 use Rattle.out_queue.specs.Queue.{front_of}
 use Rattle.server_core.specs.declared.turned.Turned.{Turned}

@@ -6,10 +6,10 @@ use Rattle.std.specs.Map.{keys_of}
 use Rattle.std.proofs.lemmas.Bool.{cases_Bool, ltb-false, cond-true, cond-false}
 use Rattle.std.proofs.lemmas.Option.{slice_get-map, get_or_from_slice_get}
 use Rattle.signals.specs.Wave.{Wave}
-use Rattle.ads_machine.specs.Connection.{bytes_of}
-use Rattle.ads_machine.specs.MachineState.{present_numbers}
-use Rattle.ads_machine.specs.Offers.{is_among, waiting_of, waiting_at, left_after}
-use Rattle.ads_plant.specs.World.{Plant}
+use Rattle.spec_machine.specs.Connection.{bytes_of}
+use Rattle.spec_machine.specs.MachineState.{present_numbers}
+use Rattle.spec_machine.specs.Offers.{is_among, waiting_of, waiting_at, left_after}
+use Rattle.spec_plant.specs.World.{Plant}
 use Rattle.out_queue.specs.Queue.{front_of, frames_after}
 use Rattle.server_core.specs.declared.turned.Turned.{Turned}
 use Rattle.server_core.specs.declared.waiting.Waiting.{Waiting}

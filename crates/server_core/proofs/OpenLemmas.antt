@@ -4,10 +4,10 @@ use Rattle.std.specs.Prelude.{None}
 use Rattle.std.proofs.lemmas.List.Elements.{All-head, All-tail}
 use Rattle.signals.specs.Wave.{Wave}
 use Rattle.ads_outside.specs.declared.event.Event.TheVariants as event
-use Rattle.ads_plant.specs.World.{Plant}
-use Rattle.ads_machine.specs.Connection.{connection_of, fresh_connection}
-use Rattle.ads_machine.specs.Offers.{left_after}
-use Rattle.ads_machine.specs.Summary.{count_of}
+use Rattle.spec_plant.specs.World.{Plant}
+use Rattle.spec_machine.specs.Connection.{connection_of, fresh_connection}
+use Rattle.spec_machine.specs.Offers.{left_after}
+use Rattle.spec_machine.specs.Summary.{count_of}
 use Rattle.ams_tcp.specs.History.{nothing_fed}
 use Rattle.server_core.specs.declared.server.Server.{Server}
 use Rattle.server_core.specs.declared.turned.Turned.{Turned}

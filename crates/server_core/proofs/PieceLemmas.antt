@@ -6,7 +6,7 @@ use Rattle.indexmap.specs.IndexMap.{set_value_at}
 use Rattle.signals.specs.Wave.{Wave}
 use Rattle.ads_base.specs.declared.no_memory.NoMemory.{NoMemory}
 use Rattle.ads_outside.specs.declared.event.Event.TheVariants as event
-use Rattle.ads_machine.specs.Piece.{after_piece}
+use Rattle.spec_machine.specs.Piece.{after_piece}
 use Rattle.server_core.specs.declared.turned.Turned.{Turned}
 use Rattle.server_core.specs.declared.waiting.Waiting.{Waiting}
 use Rattle.server_core.specs.Served.{served, ServedExchange}

@@ -3,9 +3,9 @@ use Rattle.std.proofs.Common.{◌≡◌, ◌≢◌, ◌⊎◌, ℕ, zero, suc, �
 use Rattle.std.specs.Prelude.{remove, Some, None}
 use Rattle.std.proofs.lemmas.Bool.{cases_Bool, cases_eq}
 use Rattle.std.proofs.lemmas.List.Elements.{All-head, All-tail}
-use Rattle.ads_machine.specs.Connection.{connection_of, put_back}
-use Rattle.ads_machine.specs.Offers.{is_among}
-use Rattle.ads_plant.specs.World.{Plant}
+use Rattle.spec_machine.specs.Connection.{connection_of, put_back}
+use Rattle.spec_machine.specs.Offers.{is_among}
+use Rattle.spec_plant.specs.World.{Plant}
 use Rattle.server_core.specs.Conns.{Conn}
 use Rattle.server_core.specs.Served.{ServedConnection}
 use Rattle.server_core.specs.ConnStands.{Stands}

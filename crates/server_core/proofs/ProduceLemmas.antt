@@ -5,14 +5,14 @@ use Rattle.std.proofs.lemmas.Bool.{true≢false, cond-true, cond-false, le-leb, 
 use Rattle.std.proofs.lemmas.List.{map-append, length-append}
 use Rattle.std.proofs.lemmas.List.Concat.{flat_map-append}
 use Rattle.std.proofs.lemmas.List.Sums.{sum_by-append, sum_by-cons, sum-map}
-use Rattle.ads_machine.specs.Device.{Produced, Reply, Notification}
-use Rattle.ads_machine.specs.Connection.{bytes_of, bytes_of_all, queued_of, fits, with_frame, with_closing, produce}
-use Rattle.ads_machine.specs.Summary.{count_of, replies_in, samples_in}
-use Rattle.ads_machine.specs.Offers.{left_after}
-use Rattle.ads_machine.proofs.Waiting.{joined, joined_bytes}
+use Rattle.spec_machine.specs.Device.{Produced, Reply, Notification}
+use Rattle.spec_machine.specs.Connection.{bytes_of, bytes_of_all, queued_of, fits, with_frame, with_closing, produce}
+use Rattle.spec_machine.specs.Summary.{count_of, replies_in, samples_in}
+use Rattle.spec_machine.specs.Offers.{left_after}
+use Rattle.spec_machine.proofs.Waiting.{joined, joined_bytes}
 use Rattle.ams_tcp.specs.History.{Represents}
 use Rattle.out_queue.specs.Queue.{queued}
-use Rattle.ads_plant.specs.World.{Plant}
+use Rattle.spec_plant.specs.World.{Plant}
 use Rattle.session.specs.StandsFor.{StandsFor}
 use Rattle.session.specs.SessionState.{SessionState}
 use Rattle.server_core.specs.Conns.{Conn}

@@ -4,8 +4,8 @@ use Rattle.std.specs.Prelude.{nat_le, IsSomeAnd}
 use Rattle.std.proofs.lemmas.Bool.{cases_Bool, leb-true, leb-false, le-leb, lt-leb, eq-eqb, ne_eqb, cases_lt, cond-true, cond-false}
 use Rattle.std.proofs.lemmas.List.Sums.{sum_by-cons}
 use Rattle.std.proofs.lemmas.List.{length-append, length-drop, drop-drop}
-use Rattle.ads_machine.specs.Offers.{left_after}
-use Rattle.ads_machine.proofs.Waiting.{joined}
+use Rattle.spec_machine.specs.Offers.{left_after}
+use Rattle.spec_machine.proofs.Waiting.{joined}
 use Rattle.out_queue.specs.Queue.{queued, front_of, frames_after, FitsFront}
 
 -- a frame more waits behind the others

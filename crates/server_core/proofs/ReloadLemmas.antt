@@ -4,17 +4,17 @@ use Rattle.std.specs.Prelude.{All, false, Result, Ok, Err, IfOk}
 use Rattle.signals.specs.Wave.{Wave}
 use Rattle.ads_outside.specs.declared.event.Event.TheVariants as event
 use Rattle.ads_outside.specs.declared.reload_note.ReloadNote.TheVariants as note
-use Rattle.ads_plant.specs.Description.{Description}
-use Rattle.ads_product.specs.Server.{read_description, read_of_verdict}
-use Rattle.ads_machine.specs.AdsDevice.{reloading}
-use Rattle.ads_machine.specs.Device.{DescriptionFault}
-use Rattle.ads_machine.specs.Events.{state_after_event, after_reload, connection_after_reload}
-use Rattle.ads_machine.specs.Moves.{state_after_move}
-use Rattle.ads_machine.specs.Outcomes.{outcome_of_event, outcome_of_reload}
-use Rattle.ads_machine.specs.Outcomes as machine
-use Rattle.ads_machine.specs.RunText.{note_of}
-use Rattle.ads_machine.specs.Summary.{count_of}
-use Rattle.ads_machine.specs.Reloads.{world_after_reload, client_reloaded}
+use Rattle.spec_plant.specs.Description.{Description}
+use Rattle.spec_server.specs.Server.{read_description, read_of_verdict}
+use Rattle.spec_machine.specs.AdsDevice.{reloading}
+use Rattle.spec_machine.specs.Device.{DescriptionFault}
+use Rattle.spec_machine.specs.Events.{state_after_event, after_reload, connection_after_reload}
+use Rattle.spec_machine.specs.Moves.{state_after_move}
+use Rattle.spec_machine.specs.Outcomes.{outcome_of_event, outcome_of_reload}
+use Rattle.spec_machine.specs.Outcomes as machine
+use Rattle.spec_machine.specs.RunText.{note_of}
+use Rattle.spec_machine.specs.Summary.{count_of}
+use Rattle.spec_machine.specs.Reloads.{world_after_reload, client_reloaded}
 use Rattle.type_layout.specs.Descriptions.{description_of}
 use Rattle.type_layout.specs.declared.description.Description as layout
 use Rattle.symbol_file.specs.Reading.{IsVerdict}
@@ -23,9 +23,9 @@ use Rattle.symbol_file.specs.declared.fault.DescFault.TheVariants.{Syntax, Rule}
 use Rattle.std.specs.declared.hash.FoldHasher.{FoldHasher}
 use Rattle.std.specs.declared.hash.BuildHasherDefault.{BuildHasherDefault}
 use Rattle.std.specs.HashMap.{HashMap}
-use Rattle.ads_plant.specs.Rights.{rights_of}
-use Rattle.ads_plant.specs.World.{Plant, plant_of}
-use Rattle.ads_machine.specs.NumberedPlaces.{AreKeptSymbols}
+use Rattle.spec_plant.specs.Rights.{rights_of}
+use Rattle.spec_plant.specs.World.{Plant, plant_of}
+use Rattle.spec_machine.specs.NumberedPlaces.{AreKeptSymbols}
 use Rattle.port_device.specs.Holds.{HoldsPorts}
 use Rattle.port_device.specs.KeptSymbols.{kept_symbols_of}
 use Rattle.port_device.specs.PortMemory.{PortsMemory}

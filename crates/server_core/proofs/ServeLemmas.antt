@@ -8,14 +8,14 @@ use Rattle.indexmap.specs.Layout.{length-set_value_at}
 use Rattle.signals.specs.Wave.{Wave}
 use Rattle.ads_outside.specs.declared.event.Event.TheVariants as event
 use Rattle.ads_outside.specs.declared.moves.Move.TheVariants as move
-use Rattle.ads_plant.specs.World.{Plant}
-use Rattle.ads_machine.specs.Connection.{connection_of, fresh_connection}
-use Rattle.ads_machine.specs.MachineState.{exchange_of, with_exchange, after_exchange}
-use Rattle.ads_machine.specs.Piece.{after_piece}
-use Rattle.ads_machine.specs.Moves.{with_gone, state_after_move}
-use Rattle.ads_machine.specs.Events.{state_after_event}
-use Rattle.ads_machine.specs.Offers.{is_among}
-use Rattle.ads_machine.specs.Summary.{count_of, summary_of}
+use Rattle.spec_plant.specs.World.{Plant}
+use Rattle.spec_machine.specs.Connection.{connection_of, fresh_connection}
+use Rattle.spec_machine.specs.MachineState.{exchange_of, with_exchange, after_exchange}
+use Rattle.spec_machine.specs.Piece.{after_piece}
+use Rattle.spec_machine.specs.Moves.{with_gone, state_after_move}
+use Rattle.spec_machine.specs.Events.{state_after_event}
+use Rattle.spec_machine.specs.Offers.{is_among}
+use Rattle.spec_machine.specs.Summary.{count_of, summary_of}
 use Rattle.server_core.specs.declared.device.Device.{Device}
 use Rattle.server_core.specs.declared.turned.Turned.{Turned}
 use Rattle.server_core.specs.declared.waiting.Waiting.{Waiting}

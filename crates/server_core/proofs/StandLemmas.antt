@@ -3,13 +3,13 @@ use Rattle.std.proofs.Common.{◌≡◌, ◌≢◌, ℕ, zero, suc, ◌+◌, ◌
 use Rattle.std.specs.Prelude.{◌==◌, ◌||◌, filter, remove, Option, None}
 use Rattle.std.proofs.lemmas.Bool.{cases_eq, cond-true, cond-false, or_right, or_left}
 use Rattle.std.proofs.lemmas.List.Elements.{All-head, All-tail}
-use Rattle.ads_plant.specs.World.{Plant}
-use Rattle.ads_machine.specs.Connection.{connection_of, put_back, is_deaf, fresh_connection}
-use Rattle.ads_machine.specs.MachineState.{exchange_of, with_exchange, after_exchange}
-use Rattle.ads_machine.specs.Piece.{after_piece}
-use Rattle.ads_machine.specs.Moves.{with_gone, with_took}
-use Rattle.ads_machine.specs.Offers.{is_among}
-use Rattle.ads_machine.proofs.Find.{test_same, test_other}
+use Rattle.spec_plant.specs.World.{Plant}
+use Rattle.spec_machine.specs.Connection.{connection_of, put_back, is_deaf, fresh_connection}
+use Rattle.spec_machine.specs.MachineState.{exchange_of, with_exchange, after_exchange}
+use Rattle.spec_machine.specs.Piece.{after_piece}
+use Rattle.spec_machine.specs.Moves.{with_gone, with_took}
+use Rattle.spec_machine.specs.Offers.{is_among}
+use Rattle.spec_machine.proofs.Find.{test_same, test_other}
 use Rattle.server_core.specs.Served.{served, ServedConnection, ServedExchange, ServedState}
 use Rattle.server_core.specs.Conns.{Conn}
 use Rattle.server_core.specs.ConnStands.{Stands}

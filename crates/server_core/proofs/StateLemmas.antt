@@ -2,8 +2,8 @@
 use Rattle.std.proofs.Common.{◌≡◌, ◌≢◌, ℕ, List, [], ◌∷◌, ◌++◌, true, false, not, refl, sym, ap, ◌∙◌, subst, inl, inr}
 use Rattle.std.specs.Prelude.{◌==◌, Option, Some, None}
 use Rattle.std.proofs.lemmas.Bool.{cases_Bool, cases_eq, cond-true, cond-false, not_from_true, not_from_false}
-use Rattle.ads_machine.specs.Connection.{connection_of, put_back}
-use Rattle.ads_machine.proofs.Find.{test_same, test_other, or_else, connection_of-append, number_of_found}
+use Rattle.spec_machine.specs.Connection.{connection_of, put_back}
+use Rattle.spec_machine.proofs.Find.{test_same, test_other, or_else, connection_of-append, number_of_found}
 use Rattle.server_core.specs.Served.{Client, ServedConnection}
 use Rattle.ads_served.specs.Opened.{AreApart}
 use Rattle.server_core.specs.Serves.{present}

@@ -4,7 +4,7 @@ use Rattle.std.specs.Prelude.{slice_get, Option, Some, None}
 use Rattle.std.proofs.lemmas.Bool.{cases_lt}
 use Rattle.std.proofs.lemmas.List.{drop_more, drop_all}
 use Rattle.std.proofs.lemmas.Option.{slice_get-get_or, slice_get_within, get_or_from_slice_get}
-use Rattle.ads_frames.specs.Division.{Front, Whole, Open, Broken, front_of, frames_of, rest_of, is_broken}
+use Rattle.spec_frames.specs.Division.{Front, Whole, Open, Broken, front_of, frames_of, rest_of, is_broken}
 use Rattle.ams_tcp.specs.Held.{Held}
 use Rattle.ams_tcp.specs.History.{History, Represents, answer_of, answer_for, answer_for_rest, after_next, after_answer}
 use Rattle.ams_tcp.specs.declared.cut.Cut.TheVariants as cut

@@ -4,13 +4,13 @@ use Rattle.std.specs.Prelude.{sum, sum_by, map, flat_map, Some}
 use Rattle.std.proofs.lemmas.Bool.{cases_eq}
 use Rattle.std.proofs.lemmas.List.{length-append}
 use Rattle.std.proofs.lemmas.List.Sums.{sum_by-append, sum_by-cons, sum-map}
-use Rattle.ads_machine.specs.Device.{Produced}
-use Rattle.ads_machine.specs.Connection.{connection_of, put_back, fresh_connection}
-use Rattle.ads_machine.specs.Summary.{Summary as CountsOfState, count_of, replies_in, samples_in, summary_of}
+use Rattle.spec_machine.specs.Device.{Produced}
+use Rattle.spec_machine.specs.Connection.{connection_of, put_back, fresh_connection}
+use Rattle.spec_machine.specs.Summary.{Summary as CountsOfState, count_of, replies_in, samples_in, summary_of}
 use Rattle.server_core.specs.declared.summary.Summary.{Summary}
 use Rattle.server_core.specs.Served.{served, ServedConnection, ServedState, ServedExchange}
 use Rattle.server_core.specs.Counts.{counts_in, Counts, replies_of, samples_of}
-use Rattle.ads_machine.specs.MachineState.{with_exchange}
+use Rattle.spec_machine.specs.MachineState.{with_exchange}
 use Rattle.server_core.proofs.StateLemmas.{connection_of-same, connection_of-other, put_back-same, put_back-other, none_of_nil}
 
 -- six counts make a summary

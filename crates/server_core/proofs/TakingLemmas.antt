@@ -3,16 +3,16 @@ use Rattle.std.proofs.Common.{◌≡◌, ℕ, ◌+◌, List, [], ◌∷◌, ◌+
 use Rattle.std.specs.Prelude.{Result, Ok, Err, OnOk}
 use Rattle.std.proofs.lemmas.List.{take-append-le, take_all}
 use Rattle.std.proofs.lemmas.Bool.{true≢false, cond-true, cond-false, or_left, or_from}
-use Rattle.ads_frames.specs.Frame.{frame_bytes}
-use Rattle.ads_frames.specs.Division.{front_of, frames_of, rest_of, is_broken}
+use Rattle.spec_frames.specs.Frame.{frame_bytes}
+use Rattle.spec_frames.specs.Division.{front_of, frames_of, rest_of, is_broken}
 use Rattle.ads_base.specs.declared.net_id.NetId.{NetId}
-use Rattle.ads_plant.specs.Description.{Route}
-use Rattle.ads_plant.specs.World.{Plant}
-use Rattle.ads_machine.specs.Device.{Answer, Answered, Silent, Closing, Reply}
-use Rattle.ads_machine.specs.Connection.{with_closing, produce, is_deaf}
-use Rattle.ads_machine.specs.Piece.{packets_left, with_one_taken, with_client, after_answer, after_packet, after_packets, after_rest, end_of_piece, with_received, with_piece, after_piece}
-use Rattle.ads_machine.specs.Replies.{performed}
-use Rattle.ads_machine.specs.Summary.{count_of}
+use Rattle.spec_plant.specs.Description.{Route}
+use Rattle.spec_plant.specs.World.{Plant}
+use Rattle.spec_machine.specs.Device.{Answer, Answered, Silent, Closing, Reply}
+use Rattle.spec_machine.specs.Connection.{with_closing, produce, is_deaf}
+use Rattle.spec_machine.specs.Piece.{packets_left, with_one_taken, with_client, after_answer, after_packet, after_packets, after_rest, end_of_piece, with_received, with_piece, after_piece}
+use Rattle.spec_machine.specs.Replies.{performed}
+use Rattle.spec_machine.specs.Summary.{count_of}
 use Rattle.ams_tcp.specs.Held.{Held}
 use Rattle.ams_tcp.specs.History.{Represents, answer_of, after_next, after_feed}
 use Rattle.ams_tcp.specs.declared.cut.Cut.TheVariants as cut

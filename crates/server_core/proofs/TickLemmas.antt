@@ -4,12 +4,12 @@ use Rattle.std.specs.Prelude.{All, max}
 use Rattle.std.proofs.lemmas.List.{length-map}
 use Rattle.signals.specs.Wave.{Wave, wave_after_step}
 use Rattle.ads_outside.specs.declared.event.Event.TheVariants as event
-use Rattle.ads_plant.specs.World.{Plant}
-use Rattle.ads_plant.specs.Description.{Route}
+use Rattle.spec_plant.specs.World.{Plant}
+use Rattle.spec_plant.specs.Description.{Route}
 use Rattle.ads_base.specs.declared.net_id.NetId.{NetId}
-use Rattle.ads_machine.specs.Events.{state_after_event, connection_after_tick}
-use Rattle.ads_machine.specs.Moves.{state_after_move}
-use Rattle.ads_machine.specs.Ticks.{world_after_tick, client_after_tick}
+use Rattle.spec_machine.specs.Events.{state_after_event, connection_after_tick}
+use Rattle.spec_machine.specs.Moves.{state_after_move}
+use Rattle.spec_machine.specs.Ticks.{world_after_tick, client_after_tick}
 use Rattle.port_device.specs.Holds.{HoldsPorts}
 use Rattle.port_device.specs.PortMemory.{PortsMemory}
 use Rattle.session.specs.Served.{IsServed}

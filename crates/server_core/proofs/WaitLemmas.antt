@@ -6,13 +6,13 @@ use Rattle.indexmap.specs.IndexMap.{set_value_at}
 use Rattle.signals.specs.Wave.{Wave}
 use Rattle.ads_outside.specs.declared.event.Event.TheVariants as event
 use Rattle.ads_outside.specs.declared.moves.Move.TheVariants as move
-use Rattle.ads_plant.specs.World.{Plant}
-use Rattle.ads_machine.specs.Connection.{connection_of, bytes_of, bytes_of_all}
-use Rattle.ads_machine.specs.MachineState.{exchange_of, with_exchange, after_exchange}
-use Rattle.ads_machine.specs.Moves.{with_took, state_after_move}
-use Rattle.ads_machine.specs.Events.{state_after_event}
-use Rattle.ads_machine.specs.Offers.{is_among}
-use Rattle.ads_machine.proofs.Waiting.{joined, joined_bytes}
+use Rattle.spec_plant.specs.World.{Plant}
+use Rattle.spec_machine.specs.Connection.{connection_of, bytes_of, bytes_of_all}
+use Rattle.spec_machine.specs.MachineState.{exchange_of, with_exchange, after_exchange}
+use Rattle.spec_machine.specs.Moves.{with_took, state_after_move}
+use Rattle.spec_machine.specs.Events.{state_after_event}
+use Rattle.spec_machine.specs.Offers.{is_among}
+use Rattle.spec_machine.proofs.Waiting.{joined, joined_bytes}
 use Rattle.out_queue.specs.Queue.{frames_after, FitsFront}
 use Rattle.server_core.specs.declared.waiting.Waiting.{Waiting}
 use Rattle.server_core.specs.Served.{ServedConnection, ServedState}

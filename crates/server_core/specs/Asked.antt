@@ -1,6 +1,6 @@
 -- Sessions that were asked at a tick or a reload, each unless its connection is closing.
 use Rattle.std.specs.Prelude.{◌≡◌, List, [], ◌∷◌, false}
-use Rattle.ads_plant.specs.World.{Plant}
+use Rattle.spec_plant.specs.World.{Plant}
 use Rattle.session.specs.StandsFor.{StandsFor}
 use Rattle.server_core.specs.declared.turned.Turned.{Turned}
 use Rattle.server_core.specs.Served.{Client}

@@ -1,7 +1,7 @@
 -- The check of all sessions at a tick. Private: no public clause cites this file.
 use Rattle.std.specs.Prelude.{◌≡◌, ℕ, List, false}
-use Rattle.ads_machine.specs.Ticks.{client_after_tick}
-use Rattle.ads_machine.specs.World.{World}
+use Rattle.spec_machine.specs.Ticks.{client_after_tick}
+use Rattle.spec_machine.specs.World.{World}
 use Rattle.port_device.specs.Holds.{HoldsPorts}
 use Rattle.port_device.specs.PortMemory.{PortsMemory}
 use Rattle.session.specs.Served.{IsServed}

@@ -1,10 +1,10 @@
 -- What the code keeps of a connection stands for a connection of the machine.
 -- No public clause cites this file.
 use Rattle.std.specs.Prelude.{◌≡◌, ℕ, ◌≤◌, false, List, [], length, map, IsSomeAnd, unwrap_or}
-use Rattle.ads_plant.specs.World.{Plant}
+use Rattle.spec_plant.specs.World.{Plant}
 use Rattle.ams_tcp.specs.History.{History, Represents}
-use Rattle.ads_machine.specs.Connection.{bytes_of, bytes_of_all}
-use Rattle.ads_machine.specs.Offers.{left_after}
+use Rattle.spec_machine.specs.Connection.{bytes_of, bytes_of_all}
+use Rattle.spec_machine.specs.Offers.{left_after}
 use Rattle.out_queue.specs.Queue.{front_of}
 use Rattle.session.specs.StandsFor.{StandsFor}
 use Rattle.server_core.specs.declared.summary.Summary.{Summary}

@@ -4,10 +4,10 @@ use Rattle.signals.specs.Wave.{Wave}
 use Rattle.ads_outside.specs.declared.event.Event.{Event}
 use Rattle.ads_outside.specs.declared.moves.Move.{Move}
 use Rattle.ads_outside.specs.declared.moves.Move.TheVariants as move
-use Rattle.ads_plant.specs.Description.{Description}
-use Rattle.ads_machine.specs.Running.{Running, running_after}
-pub use Rattle.ads_machine.specs.Running.{OpensNew, offer_at, is_to_be_shut, is_to_be_shut_at}
-use Rattle.ads_product.specs.Server.{server_start}
+use Rattle.spec_plant.specs.Description.{Description}
+use Rattle.spec_machine.specs.Running.{Running, running_after}
+pub use Rattle.spec_machine.specs.Running.{OpensNew, offer_at, is_to_be_shut, is_to_be_shut_at}
+use Rattle.spec_server.specs.Server.{server_start}
 use Rattle.server_core.specs.Served.{World, Client, served_step}
 
 abbrev pub CoreState : Type 0

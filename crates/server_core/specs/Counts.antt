@@ -1,6 +1,6 @@
 -- The counts of a summary, as the code keeps them, against those read off a state.
 use Rattle.std.specs.Prelude.{◌≡◌, ℕ, ◌+◌, sum, map}
-use Rattle.ads_machine.specs.Summary.{Summary as CountsOfState, count_of, replies_in, samples_in}
+use Rattle.spec_machine.specs.Summary.{Summary as CountsOfState, count_of, replies_in, samples_in}
 use Rattle.server_core.specs.declared.summary.Summary.{Summary}
 use Rattle.server_core.specs.Served.{ServedConnection}
 

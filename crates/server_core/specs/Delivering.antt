@@ -3,11 +3,11 @@
 use Rattle.std.specs.Prelude.{◌≡◌, ℕ, zero, suc, List, [], ◌∷◌, length, map, sum_by, set, All, Bool, true, false, if◌then◌else◌, Some, slice_get, slice_index_or}
 use Rattle.std.specs.Map.{values_of}
 use Rattle.indexmap.specs.IndexMap.{set_value_at}
-use Rattle.ads_plant.specs.World.{Plant}
-use Rattle.ads_machine.specs.Device.{Produced, ClientOutcome}
-use Rattle.ads_machine.specs.Connection.{is_deaf, produce_all}
-use Rattle.ads_machine.specs.Piece.{with_client}
-use Rattle.ads_machine.specs.Events.{after_client_outcome}
+use Rattle.spec_plant.specs.World.{Plant}
+use Rattle.spec_machine.specs.Device.{Produced, ClientOutcome}
+use Rattle.spec_machine.specs.Connection.{is_deaf, produce_all}
+use Rattle.spec_machine.specs.Piece.{with_client}
+use Rattle.spec_machine.specs.Events.{after_client_outcome}
 use Rattle.session.specs.NoteFrames.{produced_of, IsNoteFrame}
 use Rattle.session.specs.StandsFor.{StandsFor}
 use Rattle.server_core.specs.declared.summary.Summary.{Summary}

@@ -1,8 +1,8 @@
 -- What is kept of connections by their numbers, and how it changes. No public clause cites this file.
 use Rattle.std.specs.Prelude.{◌≡◌, ◌≢◌, ℕ, ◌<◌, List, [], ◌∷◌, ◌++◌, length, slice_index_or, remove, All, false}
 use Rattle.std.specs.Map.{keys_of}
-use Rattle.ads_plant.specs.World.{Plant}
-use Rattle.ads_machine.specs.Client.{new_client}
+use Rattle.spec_plant.specs.World.{Plant}
+use Rattle.spec_machine.specs.Client.{new_client}
 use Rattle.ams_tcp.specs.History.{Represents, nothing_fed}
 use Rattle.session.specs.StandsFor.{StandsFor}
 use Rattle.server_core.specs.declared.turned.Turned.{Turned}

@@ -2,10 +2,10 @@
 use Rattle.std.specs.Prelude.{◌≡◌, ◌++◌, List}
 use Rattle.signals.specs.Wave.{Wave}
 use Rattle.ads_outside.specs.declared.event.Event.{Event}
-use Rattle.ads_machine.specs.Device.{DescriptionFault, BreaksRule, NoDocument}
-use Rattle.ads_machine.specs.Outcomes.{EventOutcome, outcome_of_event}
-use Rattle.ads_machine.specs.Outcomes as machine
-use Rattle.ads_machine.specs.RunText.{notes_of_event}
+use Rattle.spec_machine.specs.Device.{DescriptionFault, BreaksRule, NoDocument}
+use Rattle.spec_machine.specs.Outcomes.{EventOutcome, outcome_of_event}
+use Rattle.spec_machine.specs.Outcomes as machine
+use Rattle.spec_machine.specs.RunText.{notes_of_event}
 use Rattle.symbol_file.specs.declared.fault.DescFault.{DescFault}
 use Rattle.symbol_file.specs.declared.fault.DescFault.TheVariants.{Syntax, Rule}
 use Rattle.server_core.specs.declared.outcome.Outcome.{Outcome}

@@ -3,10 +3,10 @@ use Rattle.std.specs.Prelude.{◌≡◌, ℕ, ◌+◌, List, [], ◌∷◌, ◌+
 use Rattle.signals.specs.Wave.{Wave}
 use Rattle.ads_outside.specs.declared.reload_note.ReloadNote.{ReloadNote}
 use Rattle.ads_outside.specs.declared.reload_note.ReloadNote.TheVariants as note
-use Rattle.ads_plant.specs.Description.{Description}
-use Rattle.ads_machine.specs.RunText.{fault_number}
-use Rattle.ads_machine.specs.Summary.{count_of}
-use Rattle.ads_machine.specs.Reloads.{world_after_reload, client_reloaded}
+use Rattle.spec_plant.specs.Description.{Description}
+use Rattle.spec_machine.specs.RunText.{fault_number}
+use Rattle.spec_machine.specs.Summary.{count_of}
+use Rattle.spec_machine.specs.Reloads.{world_after_reload, client_reloaded}
 use Rattle.symbol_file.specs.declared.fault.DescFault.{DescFault}
 use Rattle.server_core.specs.declared.outcome.Outcome.{Outcome}
 use Rattle.server_core.specs.declared.outcome.Outcome.TheVariants.{ReloadOk, ReloadRefused}

@@ -1,12 +1,12 @@
 -- The device that a core serves: the whole one.
-use Rattle.ads_machine.specs.Device.{Device}
-use Rattle.ads_machine.specs.Connection.{Connection}
-use Rattle.ads_machine.specs.MachineState.{MachineState, Exchange}
-use Rattle.ads_machine.specs.Moves.{EventStep}
-use Rattle.ads_machine.specs.Events.{state_after_event}
-pub use Rattle.ads_machine.specs.World.{World}
-pub use Rattle.ads_machine.specs.Client.{Client}
-use Rattle.ads_product.specs.Server.{server_device}
+use Rattle.spec_machine.specs.Device.{Device}
+use Rattle.spec_machine.specs.Connection.{Connection}
+use Rattle.spec_machine.specs.MachineState.{MachineState, Exchange}
+use Rattle.spec_machine.specs.Moves.{EventStep}
+use Rattle.spec_machine.specs.Events.{state_after_event}
+pub use Rattle.spec_machine.specs.World.{World}
+pub use Rattle.spec_machine.specs.Client.{Client}
+use Rattle.spec_server.specs.Server.{server_device}
 
 unfoldable pub served : Device World Client
 served = server_device

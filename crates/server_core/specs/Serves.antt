@@ -1,10 +1,10 @@
 -- A core stands for a state of the machine.
 use Rattle.std.specs.Prelude.{◌≡◌, ℕ, List, [], ◌∷◌, ◌≤◌, length, filter, not, is_some, true, false, Bool, Option, None, IsSomeAnd}
 use Rattle.signals.specs.Wave.{Wave}
-use Rattle.ads_plant.specs.World.{Plant}
-use Rattle.ads_machine.specs.Connection.{connection_of}
-use Rattle.ads_machine.specs.Offers.{is_among}
-use Rattle.ads_machine.specs.Summary.{summary_of}
+use Rattle.spec_plant.specs.World.{Plant}
+use Rattle.spec_machine.specs.Connection.{connection_of}
+use Rattle.spec_machine.specs.Offers.{is_among}
+use Rattle.spec_machine.specs.Summary.{summary_of}
 use Rattle.ads_served.specs.Opened.{AreApart}
 use Rattle.ads_served.specs.Standing.{Standing}
 use Rattle.server_core.specs.ServerView.{ServerView}

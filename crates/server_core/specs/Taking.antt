@@ -1,9 +1,9 @@
 -- Frames are taken one after another. No public clause cites this file.
 use Rattle.std.specs.Prelude.{◌≡◌, List, ℕ, Bool, true, false}
-use Rattle.ads_plant.specs.World.{Plant}
-use Rattle.ads_machine.specs.Device.{Produced}
-use Rattle.ads_machine.specs.Connection.{produce}
-use Rattle.ads_machine.specs.Piece.{packets_left, after_packets, after_answer, with_client, end_of_piece}
+use Rattle.spec_plant.specs.World.{Plant}
+use Rattle.spec_machine.specs.Device.{Produced}
+use Rattle.spec_machine.specs.Connection.{produce}
+use Rattle.spec_machine.specs.Piece.{packets_left, after_packets, after_answer, with_client, end_of_piece}
 use Rattle.server_core.specs.declared.summary.Summary.{Summary}
 use Rattle.server_core.specs.declared.device.Device.{Device}
 use Rattle.server_core.specs.Served.{served, ServedConnection, ServedExchange}

@@ -2,8 +2,8 @@
 
 ghost use Rattle.std.specs.Prelude.{◌≡◌, All, false, OnOk};
 ghost use Rattle.std.specs.Thread.{IsSync};
-ghost use Rattle.ads_machine.specs.World.{World};
-ghost use Rattle.ads_machine.specs.Ticks.{client_after_tick};
+ghost use Rattle.spec_machine.specs.World.{World};
+ghost use Rattle.spec_machine.specs.Ticks.{client_after_tick};
 ghost use Rattle.port_device.specs.Holds.{HoldsPorts};
 ghost use Rattle.session.specs.Served.{IsServed};
 ghost use Rattle.server_core.specs.Asked.{IsAsked, EachAsked};

@@ -1,7 +1,7 @@
 //! The frames of samples that connections give are produced, one after another.
 
 ghost use Rattle.std.specs.Prelude.{◌≡◌, ◌<◌, ℕ, length, map, false, All, OnOk};
-ghost use Rattle.ads_plant.specs.World.{Plant};
+ghost use Rattle.spec_plant.specs.World.{Plant};
 ghost use Rattle.session.specs.NoteFrames.{produced_of, IsNoteFrame};
 ghost use Rattle.server_core.specs.Served.{ServedConnection};
 ghost use Rattle.server_core.specs.Conns.{conn_of};

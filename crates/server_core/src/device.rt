@@ -2,8 +2,8 @@
 
 ghost use Rattle.std.specs.Prelude.{◌≡◌, ◌<◌, ◌^◌, List, length, IfOk};
 ghost use Rattle.signals.specs.Wave.{Wave};
-ghost use Rattle.ads_plant.specs.Accepted.{IsAccepted};
-ghost use Rattle.ads_product.specs.Server.{server_start};
+ghost use Rattle.spec_plant.specs.Accepted.{IsAccepted};
+ghost use Rattle.spec_server.specs.Server.{server_start};
 ghost use Rattle.type_layout.specs.Descriptions.{description_of};
 
 use ads_base::{NetId, NoMemory};

@@ -3,7 +3,7 @@
 ghost use Rattle.std.specs.Prelude.{◌≡◌, ◌≤◌, List, length, All, false, IfOk, OnOk, Ok, Err};
 ghost use Rattle.signals.specs.Wave.{Wave};
 ghost use Rattle.ads_outside.specs.declared.event.Event.TheVariants as event;
-ghost use Rattle.ads_plant.specs.Accepted.{IsAccepted};
+ghost use Rattle.spec_plant.specs.Accepted.{IsAccepted};
 ghost use Rattle.type_layout.specs.Descriptions.{description_of};
 ghost use Rattle.server_core.specs.ServerView.{view_of};
 ghost use Rattle.server_core.specs.Serves.{ServesSome, IsServing};

@@ -2,12 +2,12 @@
 
 ghost use Rattle.std.specs.Prelude.{◌≡◌, ◌≤◌, ◌<◌, ◌^◌, ◌++◌, [], ℕ, List, length, filter, slice_get, IfOk, OnOk, OnErr, IfSome, IsErr, Some, option_copied};
 ghost use Rattle.type_layout.specs.Descriptions.{description_of};
-ghost use Rattle.ads_plant.specs.Accepted.{IsAccepted};
+ghost use Rattle.spec_plant.specs.Accepted.{IsAccepted};
 ghost use Rattle.ads_outside.specs.declared.moves.Move.TheVariants as move;
-ghost use Rattle.ads_machine.specs.MachineState.{present_numbers};
-ghost use Rattle.ads_machine.specs.Outcomes.{outcome_of_event};
-ghost use Rattle.ads_machine.specs.RunText.{notes_of_event};
-ghost use Rattle.ads_machine.specs.Summary.{summary_of};
+ghost use Rattle.spec_machine.specs.MachineState.{present_numbers};
+ghost use Rattle.spec_machine.specs.Outcomes.{outcome_of_event};
+ghost use Rattle.spec_machine.specs.RunText.{notes_of_event};
+ghost use Rattle.spec_machine.specs.Summary.{summary_of};
 ghost use Rattle.out_queue.specs.Queue.{QUEUE_LIMIT};
 ghost use Rattle.ads_served.specs.Due.{is_due};
 ghost use Rattle.server_core.specs.Counts.{counts_in};

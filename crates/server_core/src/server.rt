@@ -4,7 +4,7 @@ ghost use Rattle.std.specs.Prelude.{◌≡◌, ◌≤◌, ◌<◌, ℕ, List, le
 ghost use Rattle.signals.specs.Wave.{Wave};
 ghost use Rattle.ads_outside.specs.declared.event.Event.TheVariants as event;
 ghost use Rattle.ads_outside.specs.declared.moves.Move.TheVariants as move;
-ghost use Rattle.ads_machine.specs.MachineState.{present_numbers};
+ghost use Rattle.spec_machine.specs.MachineState.{present_numbers};
 ghost use Rattle.out_queue.specs.Queue.{QUEUE_LIMIT};
 ghost use Rattle.server_core.specs.CoreState.{CoreState, after_event, after_move, OpensNew, is_to_be_shut_at};
 ghost use Rattle.server_core.specs.Places.{offer_among, offers_among};

@@ -9,7 +9,7 @@ use std::alloc::Global;
 use std::thread::Threads;
 
 impl<S: Sources> Served for Core<S> {
-    ghost use Rattle.ads_machine.specs.RunText.{notes_of_event};
+    ghost use Rattle.spec_machine.specs.RunText.{notes_of_event};
     ghost use Rattle.ads_served.proofs.DeviceEvents.{events_open_alone};
     ghost use Rattle.server_core.specs.Served as device;
     ghost use Rattle.server_core.specs.Serves.{StandsAt, HasFailed, offer_in, offers_in};

@@ -2,8 +2,8 @@
 
 ghost use Rattle.std.specs.Prelude.{◌≡◌, ◌<◌, ◌^◌, List, length, map};
 ghost use Rattle.signals.specs.Wave.{Wave, wave_after_step};
-ghost use Rattle.ads_machine.specs.World.{World};
-ghost use Rattle.ads_machine.specs.Ticks.{world_after_tick};
+ghost use Rattle.spec_machine.specs.World.{World};
+ghost use Rattle.spec_machine.specs.Ticks.{world_after_tick};
 ghost use Rattle.port_device.specs.Holds.{HoldsPorts};
 
 use port_device::Ports;

@@ -1,7 +1,7 @@
 //! The counts of a run.
 
 ghost use Rattle.std.specs.Prelude.{◌≡◌, ◌+◌};
-ghost use Rattle.ads_machine.specs.Summary.{count_of};
+ghost use Rattle.spec_machine.specs.Summary.{count_of};
 
 /// The counts of a run. Each stands still at 18,446,744,073,709,551,615.
 #[derive(Clone, Copy, Debug, PartialEq, Eq)]

@@ -1,10 +1,10 @@
 //! One connection: its stream is cut into frames, each is answered, and the replies wait to be taken.
 
 ghost use Rattle.std.specs.Prelude.{◌≡◌, ◌<◌, ◌≤◌, ℕ, length, IsTrue, IfOk, OnOk, false};
-ghost use Rattle.ads_frames.specs.Frame.{IsAmsPacket};
-ghost use Rattle.ads_machine.specs.Device.{Reply};
-ghost use Rattle.ads_machine.specs.Piece.{after_piece};
-ghost use Rattle.ads_plant.specs.World.{Plant};
+ghost use Rattle.spec_frames.specs.Frame.{IsAmsPacket};
+ghost use Rattle.spec_machine.specs.Device.{Reply};
+ghost use Rattle.spec_machine.specs.Piece.{after_piece};
+ghost use Rattle.spec_plant.specs.World.{Plant};
 ghost use Rattle.server_core.specs.Served.{served, ServedConnection, ServedExchange};
 ghost use Rattle.server_core.specs.Conns.{conn_of};
 ghost use Rattle.server_core.specs.ConnStands.{Stands, Goes};

@@ -1,8 +1,8 @@
 //! A reload is told to the sessions.
 
 ghost use Rattle.std.specs.Prelude.{◌≡◌, All, false, OnOk};
-ghost use Rattle.ads_machine.specs.World.{World};
-ghost use Rattle.ads_machine.specs.Reloads.{client_reloaded};
+ghost use Rattle.spec_machine.specs.World.{World};
+ghost use Rattle.spec_machine.specs.Reloads.{client_reloaded};
 ghost use Rattle.server_core.specs.Asked.{IsAsked, EachAsked};
 ghost use Rattle.session.specs.Reloading.{AreMoves, IsReloadable};
 

@@ -2,34 +2,34 @@
 use Rattle.std.proofs.Common.{◌≡◌, ℕ, ◌+◌, List, [], ◌∷◌, length, map, true, false, refl, sym, subst}
 use Rattle.std.specs.Prelude.{Bool, Option, Some, None, Result, Ok, Err, IfOk, not, ◌==◌, ◌||◌, nat_lt, nat_le, if◌then◌else◌}
 use Rattle.std.specs.List.{list_any}
-use Rattle.ads_plant.specs.Finding.{Found, found_of}
-use Rattle.ads_plant.specs.World.{PlantPort, SymbolPart}
-use Rattle.ads_plant.specs.Sound.{Each}
-use Rattle.ads_formats.specs.Codes.{general_device_error, not_permitted, invalid_value, invalid_size, symbol_not_found, no_more_notifications, watch_too_big, notification_handle_invalid}
-use Rattle.ads_formats.specs.Numbers.{number32}
-use Rattle.ads_formats.specs.Groups.{Group, AreaBytes, AreaBit, ValueByHandle, ReleaseHandle, HandleByName, SumRead, SumWrite, SumReadWrite}
-use Rattle.ads_formats.specs.Ranges.{Range, Bytes, Bit, Size, range_in}
-use Rattle.ads_formats.specs.Request.{Request, ReadDeviceInfo, Read, Write, ReadState, WriteControl, AddDeviceNotification, DeleteDeviceNotification, DeviceNotification, ReadWrite}
-use Rattle.ads_machine.specs.World.{Setup, numbers_from, state_names, state_bytes, RUN, STOP}
-use Rattle.ads_machine.specs.Access.{Addressed, WholeByte, addressed_name, Put, puts_of}
-use Rattle.ads_machine.specs.Acts.{Act, Refusal, Allowed, writing, changing}
-use Rattle.ads_machine.specs.Reads.{read_group}
+use Rattle.spec_plant.specs.Finding.{Found, found_of}
+use Rattle.spec_plant.specs.World.{PlantPort, SymbolPart}
+use Rattle.spec_plant.specs.Sound.{Each}
+use Rattle.spec_formats.specs.Codes.{general_device_error, not_permitted, invalid_value, invalid_size, symbol_not_found, no_more_notifications, watch_too_big, notification_handle_invalid}
+use Rattle.spec_formats.specs.Numbers.{number32}
+use Rattle.spec_formats.specs.Groups.{Group, AreaBytes, AreaBit, ValueByHandle, ReleaseHandle, HandleByName, SumRead, SumWrite, SumReadWrite}
+use Rattle.spec_formats.specs.Ranges.{Range, Bytes, Bit, Size, range_in}
+use Rattle.spec_formats.specs.Request.{Request, ReadDeviceInfo, Read, Write, ReadState, WriteControl, AddDeviceNotification, DeleteDeviceNotification, DeviceNotification, ReadWrite}
+use Rattle.spec_machine.specs.World.{Setup, numbers_from, state_names, state_bytes, RUN, STOP}
+use Rattle.spec_machine.specs.Access.{Addressed, WholeByte, addressed_name, Put, puts_of}
+use Rattle.spec_machine.specs.Acts.{Act, Refusal, Allowed, writing, changing}
+use Rattle.spec_machine.specs.Reads.{read_group}
 use Rattle.std.specs.Int.{w32, to_le_bytes}
 use Rattle.port_device.specs.Groups.{without_handles}
-use Rattle.ads_machine.specs.Answers.{AnswerTable, answered_group, READ, WRITE, ADD_DEVICE_NOTIFICATION, READ_WRITE}
-use Rattle.ads_machine.specs.ByName.{MAX_LIVE, MAX_NUMBER, place_of, grant_act, if_found, read_write_group}
-use Rattle.ads_machine.specs.Decisions.{acts_in}
-use Rattle.ads_machine.specs.Watches.{Mode}
-use Rattle.ads_machine.specs.Client.{Client, Place, names_of_place, Grants, Releases, Adds, Deletes}
-use Rattle.ads_machine.specs.Handles.{HandleStatus, Never, Released, Outdated, Live, kept_status, live_count}
-use Rattle.ads_machine.specs.Reach.{addressed_by_range, addressed_by_status, addressed_in_place, reach_of}
-use Rattle.ads_machine.specs.Requests.{MAX_WATCHED, MAX_WATCHES, mode_of, next_watch, add_watch, add_reached, add_act, is_watch_of, delete_act, act_of}
-use Rattle.ads_machine.specs.Sums.{SumRequest, sum_of_reads, sum_of_writes, sum_of_read_writes, given_in_turn}
-use Rattle.ads_machine.specs.SumPackets.{acts_of, client_after_request, decide_parts, decide_read_write, decide_request}
-use Rattle.ads_machine.specs.WorldBytes.{AreAtPort}
-use Rattle.ads_machine.specs.Writes.{Asker, may_write, may_control, are_writable, is_releasable, write_act, release_act, write_group, control_act}
-use Rattle.ads_machine.proofs.AreaNames.{names_are_of_areas}
-use Rattle.ads_machine.proofs.WorldBytes.{areas_are_at_their_ports}
+use Rattle.spec_machine.specs.Answers.{AnswerTable, answered_group, READ, WRITE, ADD_DEVICE_NOTIFICATION, READ_WRITE}
+use Rattle.spec_machine.specs.ByName.{MAX_LIVE, MAX_NUMBER, place_of, grant_act, if_found, read_write_group}
+use Rattle.spec_machine.specs.Decisions.{acts_in}
+use Rattle.spec_machine.specs.Watches.{Mode}
+use Rattle.spec_machine.specs.Client.{Client, Place, names_of_place, Grants, Releases, Adds, Deletes}
+use Rattle.spec_machine.specs.Handles.{HandleStatus, Never, Released, Outdated, Live, kept_status, live_count}
+use Rattle.spec_machine.specs.Reach.{addressed_by_range, addressed_by_status, addressed_in_place, reach_of}
+use Rattle.spec_machine.specs.Requests.{MAX_WATCHED, MAX_WATCHES, mode_of, next_watch, add_watch, add_reached, add_act, is_watch_of, delete_act, act_of}
+use Rattle.spec_machine.specs.Sums.{SumRequest, sum_of_reads, sum_of_writes, sum_of_read_writes, given_in_turn}
+use Rattle.spec_machine.specs.SumPackets.{acts_of, client_after_request, decide_parts, decide_read_write, decide_request}
+use Rattle.spec_machine.specs.WorldBytes.{AreAtPort}
+use Rattle.spec_machine.specs.Writes.{Asker, may_write, may_control, are_writable, is_releasable, write_act, release_act, write_group, control_act}
+use Rattle.spec_machine.proofs.AreaNames.{names_are_of_areas}
+use Rattle.spec_machine.proofs.WorldBytes.{areas_are_at_their_ports}
 use Rattle.session.proofs.GrantLemmas.{IsIdle, port-idle}
 use Rattle.session.proofs.SingleLemmas.{read-idle}
 use Rattle.session.proofs.OtherPorts.{PutsAt, PutAllAt}

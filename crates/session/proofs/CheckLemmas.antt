@@ -3,17 +3,17 @@ use Rattle.std.proofs.Common.{◌≡◌, ◌<◌, ℕ, List, length, true, refl,
 use Rattle.std.specs.Prelude.{Bool, not, Option, Some, None, IfSome, IfOk, is_some, is_none, option_map, Result, Ok, Err}
 use Rattle.std.specs.Result.{result_ok}
 use Rattle.std.proofs.lemmas.Bool.{false≢true}
-use Rattle.ads_plant.specs.Description as plant
-use Rattle.ads_plant.specs.Rights as routed
-use Rattle.ads_plant.specs.World.{PlantPort}
-use Rattle.ads_formats.specs.Header.{AmsHeader, header_of, payload_of}
-use Rattle.ads_formats.specs.Request as format
-use Rattle.ads_formats.proofs.HeaderLemmas.{header_of-short}
-use Rattle.ads_machine.specs.Answers.{all_answered}
-use Rattle.ads_machine.specs.Client.{Client}
-use Rattle.ads_machine.specs.Decisions.{Decision, NoAnswer}
-use Rattle.ads_machine.specs.Packets.{checked, decide, decide_header, decide_passed}
-use Rattle.ads_machine.specs.World.{World, setup_of, port_numbered}
+use Rattle.spec_plant.specs.Description as plant
+use Rattle.spec_plant.specs.Rights as routed
+use Rattle.spec_plant.specs.World.{PlantPort}
+use Rattle.spec_formats.specs.Header.{AmsHeader, header_of, payload_of}
+use Rattle.spec_formats.specs.Request as format
+use Rattle.spec_formats.proofs.HeaderLemmas.{header_of-short}
+use Rattle.spec_machine.specs.Answers.{all_answered}
+use Rattle.spec_machine.specs.Client.{Client}
+use Rattle.spec_machine.specs.Decisions.{Decision, NoAnswer}
+use Rattle.spec_machine.specs.Packets.{checked, decide, decide_header, decide_passed}
+use Rattle.spec_machine.specs.World.{World, setup_of, port_numbered}
 use Rattle.ads_commands.specs.declared.request.Request.{Request}
 use Rattle.ads_commands.specs.declared.fault.ReadFault.{ReadFault}
 use Rattle.ads_commands.specs.Request.{request_meant}

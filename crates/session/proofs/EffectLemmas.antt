@@ -3,22 +3,22 @@ use Rattle.std.proofs.Common.{ℕ, List, length, true, false, refl, sym, ◌∙�
 use Rattle.std.specs.Prelude.{Bool, Option, Some, None, Result, not, ◌==◌, ◌||◌, nat_lt, nat_le, if◌then◌else◌}
 use Rattle.std.specs.Int.{w32, to_le_bytes}
 use Rattle.std.proofs.Common.{◌+◌, []}
-use Rattle.ads_plant.specs.Finding.{Found, found_of}
-use Rattle.ads_plant.specs.World.{PlantPort}
-use Rattle.ads_formats.specs.Codes.{not_permitted, general_device_error, invalid_size, symbol_not_found}
-use Rattle.ads_formats.specs.Groups.{Group, AreaBytes, AreaBit, ValueByHandle, ReleaseHandle, HandleByName}
-use Rattle.ads_formats.specs.Numbers.{number32}
-use Rattle.ads_formats.specs.Request.{Read, Write, ReadWrite}
-use Rattle.ads_machine.specs.World.{setup_of}
-use Rattle.ads_machine.specs.Acts.{Act, Refusal, Allowed, changing, effect_of}
-use Rattle.ads_machine.specs.Answers.{all_answered, answered_group}
-use Rattle.ads_machine.specs.ByName.{MAX_LIVE, MAX_NUMBER, place_of, grant_act, if_found, read_write_group}
-use Rattle.ads_machine.specs.Client.{Place, Client, Effect, NoEffect, Grants, Releases, Adds, Deletes, client_after}
-use Rattle.ads_machine.specs.Handles.{live_count, kept_status}
-use Rattle.ads_machine.specs.Reach.{reach_of}
-use Rattle.ads_machine.specs.Requests.{act_of}
-use Rattle.ads_machine.specs.Writes.{Asker, may_write, is_releasable, release_act, write_act, write_group}
-use Rattle.ads_machine.specs.Access.{Addressed}
+use Rattle.spec_plant.specs.Finding.{Found, found_of}
+use Rattle.spec_plant.specs.World.{PlantPort}
+use Rattle.spec_formats.specs.Codes.{not_permitted, general_device_error, invalid_size, symbol_not_found}
+use Rattle.spec_formats.specs.Groups.{Group, AreaBytes, AreaBit, ValueByHandle, ReleaseHandle, HandleByName}
+use Rattle.spec_formats.specs.Numbers.{number32}
+use Rattle.spec_formats.specs.Request.{Read, Write, ReadWrite}
+use Rattle.spec_machine.specs.World.{setup_of}
+use Rattle.spec_machine.specs.Acts.{Act, Refusal, Allowed, changing, effect_of}
+use Rattle.spec_machine.specs.Answers.{all_answered, answered_group}
+use Rattle.spec_machine.specs.ByName.{MAX_LIVE, MAX_NUMBER, place_of, grant_act, if_found, read_write_group}
+use Rattle.spec_machine.specs.Client.{Place, Client, Effect, NoEffect, Grants, Releases, Adds, Deletes, client_after}
+use Rattle.spec_machine.specs.Handles.{live_count, kept_status}
+use Rattle.spec_machine.specs.Reach.{reach_of}
+use Rattle.spec_machine.specs.Requests.{act_of}
+use Rattle.spec_machine.specs.Writes.{Asker, may_write, is_releasable, release_act, write_act, write_group}
+use Rattle.spec_machine.specs.Access.{Addressed}
 use Rattle.port_device.specs.Groups.{without_handles}
 use Rattle.session.specs.Asking.{Asking, act_asked}
 use Rattle.session.specs.Single.{SameNotes}

@@ -2,9 +2,9 @@
 use Rattle.std.proofs.Common.{◌≡◌, ℕ, ◌+◌, ◌-◌, ◌≤◌, List, [], ◌∷◌, ◌++◌, length, take, drop, sym, ◌∙◌, ap, arith, append_assoc, length-append, length-drop, take_at, drop_at}
 use Rattle.std.specs.Int.{w32, to_le_bytes}
 use Rattle.std.proofs.lemmas.List.{drop-drop}
-use Rattle.ads_formats.specs.Header.{AmsHeader, header_bytes, response_header}
-use Rattle.ads_frames.specs.Frame.{frame_bytes}
-use Rattle.ads_machine.specs.Replies.{response_packet}
+use Rattle.spec_formats.specs.Header.{AmsHeader, header_bytes, response_header}
+use Rattle.spec_frames.specs.Frame.{frame_bytes}
+use Rattle.spec_machine.specs.Replies.{response_packet}
 
 pub framed-is : (h : AmsHeader) (error : ℕ) (out f1 f2 f3 zeros le header : List ℕ) → 38 ≤ length out
     → zeros ≡ 0 ∷ 0 ∷ [] → le ≡ to_le_bytes w32 (length out - 6) → header ≡ header_bytes (response_header h error (length out - 38)) → length header ≡ 32

@@ -9,25 +9,25 @@ use Rattle.ads_base.specs.declared.no_memory.NoMemory.{NoMemory}
 use Rattle.return_codes.specs.declared.code.Code.{Code}
 use Rattle.return_codes.specs.declared.code.Code.TheVariants.{C700, C705}
 use Rattle.return_codes.specs.Code.{number_of}
-use Rattle.ads_plant.specs.Finding.{Found, found_of}
-use Rattle.ads_plant.specs.World.{PlantPort}
-use Rattle.ads_formats.specs.Codes.{general_device_error, invalid_size}
-use Rattle.ads_formats.specs.Groups.{Group, HandleByName, ValueByName, InfoByName, ExtendedInfoByName, group_of}
-use Rattle.ads_formats.specs.SymbolEntry.{entry_bytes}
-use Rattle.ads_machine.specs.Entries.{entry_of_part}
-use Rattle.ads_machine.specs.Reads.{fixed_reply}
-use Rattle.ads_formats.specs.Request.{ReadWrite}
-use Rattle.ads_laws.proofs.ShortActs.{no_more_than_asked}
-use Rattle.ads_machine.specs.World.{World, setup_of}
-use Rattle.ads_machine.specs.Access.{Put, WholeByte, memory_after_puts}
-use Rattle.ads_machine.specs.Acts.{Act, Refusal, Allowed, fixed_data, reading, changing, outcome_of}
-use Rattle.ads_machine.specs.Answers.{all_answered, if_answered, answered_group, READ_WRITE}
-use Rattle.ads_machine.specs.ByName.{MAX_LIVE, MAX_NUMBER, place_of, value_act, info_of, grant_act, if_found, read_write_group}
-use Rattle.ads_machine.specs.Client as client
-use Rattle.ads_machine.specs.Client.{names_of_place, NoEffect, Grants, client_after}
-use Rattle.ads_machine.specs.Handles.{Grant, live_count}
-use Rattle.ads_machine.specs.HandleLaws.{handles_of}
-use Rattle.ads_machine.specs.Requests.{act_of}
+use Rattle.spec_plant.specs.Finding.{Found, found_of}
+use Rattle.spec_plant.specs.World.{PlantPort}
+use Rattle.spec_formats.specs.Codes.{general_device_error, invalid_size}
+use Rattle.spec_formats.specs.Groups.{Group, HandleByName, ValueByName, InfoByName, ExtendedInfoByName, group_of}
+use Rattle.spec_formats.specs.SymbolEntry.{entry_bytes}
+use Rattle.spec_machine.specs.Entries.{entry_of_part}
+use Rattle.spec_machine.specs.Reads.{fixed_reply}
+use Rattle.spec_formats.specs.Request.{ReadWrite}
+use Rattle.spec_laws.proofs.ShortActs.{no_more_than_asked}
+use Rattle.spec_machine.specs.World.{World, setup_of}
+use Rattle.spec_machine.specs.Access.{Put, WholeByte, memory_after_puts}
+use Rattle.spec_machine.specs.Acts.{Act, Refusal, Allowed, fixed_data, reading, changing, outcome_of}
+use Rattle.spec_machine.specs.Answers.{all_answered, if_answered, answered_group, READ_WRITE}
+use Rattle.spec_machine.specs.ByName.{MAX_LIVE, MAX_NUMBER, place_of, value_act, info_of, grant_act, if_found, read_write_group}
+use Rattle.spec_machine.specs.Client as client
+use Rattle.spec_machine.specs.Client.{names_of_place, NoEffect, Grants, client_after}
+use Rattle.spec_machine.specs.Handles.{Grant, live_count}
+use Rattle.spec_machine.specs.HandleLaws.{handles_of}
+use Rattle.spec_machine.specs.Requests.{act_of}
 use Rattle.symbol_table.specs.declared.place.Place.{Place}
 use Rattle.sym_handles.specs.declared.handles.Full.{Full}
 use Rattle.sym_handles.specs.Kept.{Kept}

@@ -5,16 +5,16 @@ use Rattle.std.specs.Option.{option_map_or}
 use Rattle.std.proofs.lemmas.Bool.{cases_Bool, and_parts, eqb-true, leb-true, false≢true}
 use Rattle.std.proofs.lemmas.Option.{slice_get-map}
 use Rattle.return_codes.specs.declared.code.Code.{Code}
-use Rattle.ads_plant.specs.Description.{Symbol}
-use Rattle.ads_plant.specs.Listed.{NamedType}
-use Rattle.ads_plant.specs.World.{PlantPort, PlantSymbol, plant_symbol, plant_port, symbol_size, lower_name, is_same_area}
-use Rattle.ads_plant.proofs.BlockLemmas.{same_area-true}
-use Rattle.ads_machine.specs.World.{World}
-use Rattle.ads_machine.specs.Client as client
-use Rattle.ads_machine.specs.Handles.{Handle, HandleStatus, Never, Released, Outdated, Live, handle_in, status_of_handle, kept_status, status_of}
-use Rattle.ads_machine.specs.HandleLaws.{Test, AgreeingStatus, AgreeingHandles, handles_of}
-use Rattle.ads_machine.specs.NumberedPlaces.{is_place_in, is_place_at}
-use Rattle.ads_machine.proofs.HandleStatuses.{status_is_history}
+use Rattle.spec_plant.specs.Description.{Symbol}
+use Rattle.spec_plant.specs.Listed.{NamedType}
+use Rattle.spec_plant.specs.World.{PlantPort, PlantSymbol, plant_symbol, plant_port, symbol_size, lower_name, is_same_area}
+use Rattle.spec_plant.proofs.BlockLemmas.{same_area-true}
+use Rattle.spec_machine.specs.World.{World}
+use Rattle.spec_machine.specs.Client as client
+use Rattle.spec_machine.specs.Handles.{Handle, HandleStatus, Never, Released, Outdated, Live, handle_in, status_of_handle, kept_status, status_of}
+use Rattle.spec_machine.specs.HandleLaws.{Test, AgreeingStatus, AgreeingHandles, handles_of}
+use Rattle.spec_machine.specs.NumberedPlaces.{is_place_in, is_place_at}
+use Rattle.spec_machine.proofs.HandleStatuses.{status_is_history}
 use Rattle.symbol_table.specs.declared.place.Place.{Place}
 use Rattle.symbol_table.specs.Tables.{TableSymbol, table_symbol}
 use Rattle.sym_handles.specs.Kept.{Kept}

@@ -9,12 +9,12 @@ use Rattle.std.proofs.lemmas.Grind.{flat_map-append}
 use Rattle.std.proofs.lemmas.List.Quantifiers.{position-Some}
 use Rattle.std.proofs.lemmas.List.Sums.{fails_before_first}
 use Rattle.std.specs.Int.{w32, w64, to_le_bytes}
-use Rattle.ads_formats.specs.Notification.{sample_bytes, stamps_bytes}
-use Rattle.ads_frames.specs.Frame.{frame_bytes}
-use Rattle.ads_machine.specs.Device.{Produced, Notification}
-use Rattle.ads_machine.specs.Watches.{AddressedSample}
-use Rattle.ads_machine.specs.Stamps.{SampleGroup, goes_with, with_sample, grouped, group_of_sample}
-use Rattle.ads_machine.specs.Stamps.{stamp_payload, notification_packet, notification_frame, frames_of_samples}
+use Rattle.spec_formats.specs.Notification.{sample_bytes, stamps_bytes}
+use Rattle.spec_frames.specs.Frame.{frame_bytes}
+use Rattle.spec_machine.specs.Device.{Produced, Notification}
+use Rattle.spec_machine.specs.Watches.{AddressedSample}
+use Rattle.spec_machine.specs.Stamps.{SampleGroup, goes_with, with_sample, grouped, group_of_sample}
+use Rattle.spec_machine.specs.Stamps.{stamp_payload, notification_packet, notification_frame, frames_of_samples}
 use Rattle.session.specs.NoteGroups.{GroupText, is_group_for, groups_with, group_with, no_samples}
 use Rattle.session.specs.NoteGroups.{grouped_text, stamp_text, payload_text, frame_of_group}
 

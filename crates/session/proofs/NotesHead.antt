@@ -4,9 +4,9 @@ use Rattle.std.proofs.Common.{length-append, append_assoc}
 use Rattle.std.specs.Int.{w32, w64, to_le_bytes}
 use Rattle.std.proofs.Math.Seq.{take-append_seam}
 use Rattle.std.proofs.lemmas.Slice.{drop-append-drop}
-use Rattle.ads_formats.specs.Header.{header_bytes}
-use Rattle.ads_frames.specs.Frame.{frame_bytes}
-use Rattle.ads_machine.specs.Device.{Notification}
+use Rattle.spec_formats.specs.Header.{header_bytes}
+use Rattle.spec_frames.specs.Frame.{frame_bytes}
+use Rattle.spec_machine.specs.Device.{Notification}
 use Rattle.session.specs.NoteGroups.{GroupText, header_of_group, payload_text, stamp_text, frame_of_group, head_text}
 use Rattle.session.specs.NoteGroups.{lead_text}
 

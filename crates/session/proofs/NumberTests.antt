@@ -3,7 +3,7 @@ use Rattle.std.proofs.Common.{◌≡◌, ℕ, List, [], ◌∷◌, true, false, 
 use Rattle.std.specs.Prelude.{Bool, Option, Some, None, ◌==◌, ◌||◌, not}
 use Rattle.std.specs.List.{list_all}
 use Rattle.std.proofs.lemmas.Bool.{cases_Bool, eqb-true, eq-eqb, and_parts, or_cases, false≢true}
-use Rattle.ads_formats.specs.Groups.{Group, GroupRow, group_table, group_in, group_of}
+use Rattle.spec_formats.specs.Groups.{Group, GroupRow, group_table, group_in, group_of}
 
 -- each row that passes the test has a number that does
 abbrev pub are_told_by : (Option Group → Bool) → (ℕ → Bool) → List GroupRow → Bool

@@ -3,15 +3,15 @@ use Rattle.std.proofs.Common.{◌≡◌, ℕ, List, [], ◌∷◌, true, false, 
 use Rattle.std.specs.Prelude.{Bool, Some, ◌==◌, if◌then◌else◌}
 use Rattle.std.proofs.lemmas.Bool.{eqb-true, false≢true}
 use Rattle.std.proofs.Common.{eq-eqb}
-use Rattle.ads_plant.specs.World.{PlantPort, Block}
-use Rattle.ads_plant.specs.Named.{port_numbered, NotNumbered, AreNumberedApart}
-use Rattle.ads_plant.specs.Sound.{Each}
-use Rattle.ads_machine.specs.Access.{addressed_name, Put}
-use Rattle.ads_machine.specs.Acts.{Act, Refusal, Allowed, memory_after, memory_after_acts}
-use Rattle.ads_machine.specs.PortBytes as bytes
-use Rattle.ads_machine.specs.PortLaws.{IsAtAnotherPort}
-use Rattle.ads_machine.proofs.PortBytesLemmas.{leaves_other_ports}
-use Rattle.ads_machine.specs.World.{World}
+use Rattle.spec_plant.specs.World.{PlantPort, Block}
+use Rattle.spec_plant.specs.Named.{port_numbered, NotNumbered, AreNumberedApart}
+use Rattle.spec_plant.specs.Sound.{Each}
+use Rattle.spec_machine.specs.Access.{addressed_name, Put}
+use Rattle.spec_machine.specs.Acts.{Act, Refusal, Allowed, memory_after, memory_after_acts}
+use Rattle.spec_machine.specs.PortBytes as bytes
+use Rattle.spec_machine.specs.PortLaws.{IsAtAnotherPort}
+use Rattle.spec_machine.proofs.PortBytesLemmas.{leaves_other_ports}
+use Rattle.spec_machine.specs.World.{World}
 use Rattle.port_device.specs.PortMemory.{PortMemory, PortsMemory, with_numbered, with_port}
 use Rattle.port_device.specs.Holds.{HoldsPort, HoldEach, HoldsPorts}
 use Rattle.port_device.proofs.PortsLemmas.{same_number}

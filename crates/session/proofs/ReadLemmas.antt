@@ -4,18 +4,18 @@ use Rattle.std.specs.Prelude.{Option, Some, option_and_then, Result, Ok, Err, If
 use Rattle.std.proofs.lemmas.Bool.{false≢true}
 use Rattle.ads_base.specs.declared.no_memory.NoMemory.{NoMemory}
 use Rattle.return_codes.specs.declared.code.Code.{Code}
-use Rattle.ads_plant.specs.World.{PlantPort}
-use Rattle.ads_formats.specs.Groups.{Group, ValueByHandle, group_of}
-use Rattle.ads_formats.specs.Request.{Read}
-use Rattle.ads_laws.proofs.ShortActs.{no_more_than_asked}
-use Rattle.ads_machine.specs.World.{World, Setup, setup_of}
-use Rattle.ads_machine.specs.Acts.{Act, Outcome, outcome_of}
-use Rattle.ads_machine.specs.Answers.{all_answered, if_answered, answered_group, READ}
-use Rattle.ads_machine.specs.Client as client
-use Rattle.ads_machine.specs.Handles.{kept_status}
-use Rattle.ads_machine.specs.Reach.{reach_of, addressed_by_status}
-use Rattle.ads_machine.specs.Reads.{read_act, read_group}
-use Rattle.ads_machine.specs.Requests.{act_of}
+use Rattle.spec_plant.specs.World.{PlantPort}
+use Rattle.spec_formats.specs.Groups.{Group, ValueByHandle, group_of}
+use Rattle.spec_formats.specs.Request.{Read}
+use Rattle.spec_laws.proofs.ShortActs.{no_more_than_asked}
+use Rattle.spec_machine.specs.World.{World, Setup, setup_of}
+use Rattle.spec_machine.specs.Acts.{Act, Outcome, outcome_of}
+use Rattle.spec_machine.specs.Answers.{all_answered, if_answered, answered_group, READ}
+use Rattle.spec_machine.specs.Client as client
+use Rattle.spec_machine.specs.Handles.{kept_status}
+use Rattle.spec_machine.specs.Reach.{reach_of, addressed_by_status}
+use Rattle.spec_machine.specs.Reads.{read_act, read_group}
+use Rattle.spec_machine.specs.Requests.{act_of}
 use Rattle.sym_handles.specs.Kept.{Kept}
 use Rattle.port_device.specs.Answers.{Answers, AnswersAct}
 use Rattle.port_device.specs.Groups.{without_handles}

@@ -6,20 +6,20 @@ use Rattle.std.proofs.lemmas.List.{length-map}
 use Rattle.std.proofs.lemmas.List.Elements.{All-nil, All-cons}
 use Rattle.std.proofs.lemmas.Simd.{map-map}
 use Rattle.std.proofs.lemmas.List.Sums.{length-filter, count_by-le-length}
-use Rattle.ads_plant.specs.Description as plant
-use Rattle.ads_plant.specs.World.{Plant, PlantPort}
-use Rattle.ads_formats.specs.Ranges.{Range, Bytes, Bit, Size}
-use Rattle.ads_machine.specs.Access.{Addressed}
-use Rattle.ads_machine.specs.Client as client
-use Rattle.ads_machine.specs.Client.{Client, kept_place, kept_bytes, client_after_reload, ended_of}
-use Rattle.ads_machine.specs.HandleLaws.{AgreeingMoves, AgreeingPlaces, AgreeingStatus, AgreeingHandles, AgreeingWatches, handles_of}
-use Rattle.ads_machine.specs.Handles.{Handle, HandleStatus, Never, Released, Outdated, Live, Reload, handles_after}
-use Rattle.ads_machine.specs.Reloads.{is_kept, client_reloaded}
-use Rattle.ads_machine.specs.Stamps.{frames_of_samples, end_samples}
-use Rattle.ads_machine.specs.WatchedRanges.{is_same_range, moved_range}
-use Rattle.ads_machine.specs.Watches.{Watch, ended_watches}
-use Rattle.ads_machine.specs.World.{World}
-use Rattle.ads_machine.proofs.RangesMoved.{ranges_move_alike}
+use Rattle.spec_plant.specs.Description as plant
+use Rattle.spec_plant.specs.World.{Plant, PlantPort}
+use Rattle.spec_formats.specs.Ranges.{Range, Bytes, Bit, Size}
+use Rattle.spec_machine.specs.Access.{Addressed}
+use Rattle.spec_machine.specs.Client as client
+use Rattle.spec_machine.specs.Client.{Client, kept_place, kept_bytes, client_after_reload, ended_of}
+use Rattle.spec_machine.specs.HandleLaws.{AgreeingMoves, AgreeingPlaces, AgreeingStatus, AgreeingHandles, AgreeingWatches, handles_of}
+use Rattle.spec_machine.specs.Handles.{Handle, HandleStatus, Never, Released, Outdated, Live, Reload, handles_after}
+use Rattle.spec_machine.specs.Reloads.{is_kept, client_reloaded}
+use Rattle.spec_machine.specs.Stamps.{frames_of_samples, end_samples}
+use Rattle.spec_machine.specs.WatchedRanges.{is_same_range, moved_range}
+use Rattle.spec_machine.specs.Watches.{Watch, ended_watches}
+use Rattle.spec_machine.specs.World.{World}
+use Rattle.spec_machine.proofs.RangesMoved.{ranges_move_alike}
 use Rattle.notify_table.specs.declared.spec.Ended.{Ended}
 use Rattle.notify_table.specs.Reloads.{value_of_area, range_after, end_of, ended_meant}
 use Rattle.notify_table.specs.Table.{WatchTable, IsTable, table_after, Reloaded}
@@ -38,7 +38,7 @@ use Rattle.session.specs.Reloading.{AreMoves, IsReloadable}
 use Rattle.session.specs.SessionState.{SessionState}
 use Rattle.session.specs.StandsFor.{StandsFor, KeptFor, is_place_of}
 use Rattle.session.proofs.HandleChanges.{handles_of-append}
-use Rattle.ads_machine.proofs.TablesAgreed.{tables_agree}
+use Rattle.spec_machine.proofs.TablesAgreed.{tables_agree}
 
 -- ---- ranges
 

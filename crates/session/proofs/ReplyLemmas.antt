@@ -6,13 +6,13 @@ use Rattle.std.proofs.lemmas.Bool.{cases_Bool}
 use Rattle.std.proofs.lemmas.List.{drop-drop, take-append-le}
 use Rattle.std.proofs.Common.{inl, inr}
 use Rattle.return_codes.specs.declared.code.Code.{Code}
-use Rattle.ads_plant.specs.World.{Block}
-use Rattle.ads_machine.specs.World.{World}
-use Rattle.ads_formats.specs.Codes.{no_error}
-use Rattle.ads_formats.specs.Reply.{Read, ReadWrite, written_bytes}
-use Rattle.ads_machine.specs.Acts.{Act, Refusal, Allowed, outcome_of}
-use Rattle.ads_machine.specs.Answers.{READ, READ_WRITE}
-use Rattle.ads_machine.specs.Replies.{reply_payload, reply_in_forms}
+use Rattle.spec_plant.specs.World.{Block}
+use Rattle.spec_machine.specs.World.{World}
+use Rattle.spec_formats.specs.Codes.{no_error}
+use Rattle.spec_formats.specs.Reply.{Read, ReadWrite, written_bytes}
+use Rattle.spec_machine.specs.Acts.{Act, Refusal, Allowed, outcome_of}
+use Rattle.spec_machine.specs.Answers.{READ, READ_WRITE}
+use Rattle.spec_machine.specs.Replies.{reply_payload, reply_in_forms}
 use Rattle.sum_commands.specs.Parts.{code_in}
 use Rattle.port_device.specs.Answers.{AnswersAct}
 use Rattle.session.proofs.SingleLemmas.{gives-answer}

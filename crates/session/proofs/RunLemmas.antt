@@ -7,30 +7,30 @@ use Rattle.std.proofs.lemmas.List.{append-nil}
 use Rattle.std.proofs.lemmas.Nat.{from_le_bytes-to_le_bytes_2, from_le_bytes-to_le_bytes_4}
 use Rattle.return_codes.specs.declared.code.Code.{Code}
 use Rattle.return_codes.specs.Code.{number_of}
-use Rattle.ads_plant.specs.Description as plant
-use Rattle.ads_plant.specs.World.{Plant, PlantPort, Block}
-use Rattle.ads_formats.specs.Codes.{no_error, not_permitted, invalid_value}
-use Rattle.ads_formats.specs.Groups.{Group, SumRead, SumWrite, SumReadWrite, group_of}
-use Rattle.ads_formats.specs.Numbers.{number16, number32}
-use Rattle.ads_formats.specs.Reply as reply
-use Rattle.ads_formats.specs.Reply.{written_bytes, facts_bytes, facts_at}
-use Rattle.ads_formats.specs.Request.{Request, ReadDeviceInfo, Read, Write, ReadState, WriteControl, AddDeviceNotification, DeleteDeviceNotification, DeviceNotification, ReadWrite, command_of}
-use Rattle.ads_machine.specs.World.{Setup, setup_of, state_names, state_bytes, RUN, STOP}
-use Rattle.ads_machine.specs.Access.{Addressed, WholeByte, Put, puts_of, values_at, memory_after_puts}
-use Rattle.ads_machine.specs.Acts.{Act, Outcome, Refusal, Allowed, writing, effect_of, outcomes_of, memory_after, memory_after_acts, client_after_acts}
-use Rattle.ads_machine.specs.Answers.{all_answered, if_answered, answered_group, READ_WRITE}
-use Rattle.ads_machine.specs.Client.{Client, Effect, NoEffect, client_after}
-use Rattle.ads_machine.specs.Watches.{Watch}
+use Rattle.spec_plant.specs.Description as plant
+use Rattle.spec_plant.specs.World.{Plant, PlantPort, Block}
+use Rattle.spec_formats.specs.Codes.{no_error, not_permitted, invalid_value}
+use Rattle.spec_formats.specs.Groups.{Group, SumRead, SumWrite, SumReadWrite, group_of}
+use Rattle.spec_formats.specs.Numbers.{number16, number32}
+use Rattle.spec_formats.specs.Reply as reply
+use Rattle.spec_formats.specs.Reply.{written_bytes, facts_bytes, facts_at}
+use Rattle.spec_formats.specs.Request.{Request, ReadDeviceInfo, Read, Write, ReadState, WriteControl, AddDeviceNotification, DeleteDeviceNotification, DeviceNotification, ReadWrite, command_of}
+use Rattle.spec_machine.specs.World.{Setup, setup_of, state_names, state_bytes, RUN, STOP}
+use Rattle.spec_machine.specs.Access.{Addressed, WholeByte, Put, puts_of, values_at, memory_after_puts}
+use Rattle.spec_machine.specs.Acts.{Act, Outcome, Refusal, Allowed, writing, effect_of, outcomes_of, memory_after, memory_after_acts, client_after_acts}
+use Rattle.spec_machine.specs.Answers.{all_answered, if_answered, answered_group, READ_WRITE}
+use Rattle.spec_machine.specs.Client.{Client, Effect, NoEffect, client_after}
+use Rattle.spec_machine.specs.Watches.{Watch}
 use Rattle.notify_table.specs.Table.{WatchTable}
-use Rattle.ads_machine.specs.Decisions.{Decision, Perform, Single, acts_in}
-use Rattle.ads_machine.specs.Replies.{reply_payload, reply_in_forms, outcome_in_all}
-use Rattle.ads_machine.specs.Requests.{act_of}
-use Rattle.ads_machine.specs.Sums.{given_in_turn}
-use Rattle.ads_machine.specs.SumPackets.{acts_of, decide_single, decide_read_write, decide_request}
-use Rattle.ads_machine.specs.Writes.{Asker, may_control, control_act}
-use Rattle.ads_machine.specs.HandleLaws.{AgreeingWatches}
-use Rattle.ads_machine.specs.WatchedRanges.{is_same_range}
-use Rattle.ads_machine.proofs.PortBytesLemmas.{reads_states}
+use Rattle.spec_machine.specs.Decisions.{Decision, Perform, Single, acts_in}
+use Rattle.spec_machine.specs.Replies.{reply_payload, reply_in_forms, outcome_in_all}
+use Rattle.spec_machine.specs.Requests.{act_of}
+use Rattle.spec_machine.specs.Sums.{given_in_turn}
+use Rattle.spec_machine.specs.SumPackets.{acts_of, decide_single, decide_read_write, decide_request}
+use Rattle.spec_machine.specs.Writes.{Asker, may_control, control_act}
+use Rattle.spec_machine.specs.HandleLaws.{AgreeingWatches}
+use Rattle.spec_machine.specs.WatchedRanges.{is_same_range}
+use Rattle.spec_machine.proofs.PortBytesLemmas.{reads_states}
 use Rattle.sum_commands.specs.Parts.{code_in}
 use Rattle.port_device.specs.PortMemory.{PortMemory}
 use Rattle.port_device.specs.Holds.{HoldsPort}

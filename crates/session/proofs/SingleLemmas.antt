@@ -9,21 +9,21 @@ use Rattle.return_codes.specs.declared.code.Code.{Code}
 use Rattle.return_codes.specs.declared.code.Code.TheVariants.{C6}
 use Rattle.return_codes.specs.Code.{number_of}
 use Rattle.std.specs.Int.{w32, to_le_bytes}
-use Rattle.ads_plant.specs.Description.{size_in}
-use Rattle.ads_plant.specs.World.{PlantPort, Block}
-use Rattle.ads_formats.specs.Codes.{invalid_size}
-use Rattle.ads_formats.specs.Groups.{Group, AreaSize, SymbolVersion, SymbolUpload, UploadInfo, TypeUpload, UploadInfoWithTypes}
-use Rattle.ads_formats.specs.Ranges.{greatest_len}
-use Rattle.ads_formats.specs.Request.{Request, Read}
-use Rattle.ads_machine.specs.World.{World, Setup, setup_of}
-use Rattle.ads_machine.specs.Access.{Addressed}
-use Rattle.ads_machine.specs.Acts.{Act, Refusal, Allowed, fixed_data, outcome_of}
-use Rattle.ads_machine.specs.Answers.{all_answered, answered_group}
-use Rattle.ads_machine.specs.Client.{Client}
-use Rattle.ads_machine.specs.Reach.{reach_of}
-use Rattle.ads_machine.specs.Reads.{fixed_reply, read_act, read_group}
-use Rattle.ads_machine.specs.Entries.{symbol_upload_of, type_upload_of, upload_info_of, upload_info_with_types_of}
-use Rattle.ads_machine.specs.Requests.{act_of}
+use Rattle.spec_plant.specs.Description.{size_in}
+use Rattle.spec_plant.specs.World.{PlantPort, Block}
+use Rattle.spec_formats.specs.Codes.{invalid_size}
+use Rattle.spec_formats.specs.Groups.{Group, AreaSize, SymbolVersion, SymbolUpload, UploadInfo, TypeUpload, UploadInfoWithTypes}
+use Rattle.spec_formats.specs.Ranges.{greatest_len}
+use Rattle.spec_formats.specs.Request.{Request, Read}
+use Rattle.spec_machine.specs.World.{World, Setup, setup_of}
+use Rattle.spec_machine.specs.Access.{Addressed}
+use Rattle.spec_machine.specs.Acts.{Act, Refusal, Allowed, fixed_data, outcome_of}
+use Rattle.spec_machine.specs.Answers.{all_answered, answered_group}
+use Rattle.spec_machine.specs.Client.{Client}
+use Rattle.spec_machine.specs.Reach.{reach_of}
+use Rattle.spec_machine.specs.Reads.{fixed_reply, read_act, read_group}
+use Rattle.spec_machine.specs.Entries.{symbol_upload_of, type_upload_of, upload_info_of, upload_info_with_types_of}
+use Rattle.spec_machine.specs.Requests.{act_of}
 use Rattle.sum_commands.specs.Parts.{Gives, code_in}
 use Rattle.sym_handles.specs.Kept.{Kept}
 use Rattle.port_device.specs.PortMemory.{PortMemory}

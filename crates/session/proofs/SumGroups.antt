@@ -2,7 +2,7 @@
 use Rattle.std.proofs.Common.{◌≡◌, ℕ, List, [], ◌∷◌, true, refl, inl, inr, subst}
 use Rattle.std.specs.Prelude.{Some, ◌==◌}
 use Rattle.std.proofs.lemmas.Bool.{cases_Bool, eqb-true, false≢true}
-use Rattle.ads_formats.specs.Groups.{GroupRow, group_table, group_in, group_of}
+use Rattle.spec_formats.specs.Groups.{GroupRow, group_table, group_in, group_of}
 use Rattle.session.specs.HandleGroups.{is_sum}
 use Rattle.session.specs.Runs.{IsSumGroup}
 

@@ -4,17 +4,17 @@ use Rattle.std.specs.Prelude.{Result, Ok, Err, OnOk, OnErr, IfOk}
 use Rattle.std.specs.Int.{w32, to_le_bytes}
 use Rattle.return_codes.specs.declared.code.Code.{Code}
 use Rattle.return_codes.specs.Code.{number_of}
-use Rattle.ads_formats.specs.Codes.{no_error}
-use Rattle.ads_formats.specs.Groups.{sum_read, sum_write, sum_read_write, group_of, group_in}
-use Rattle.ads_formats.specs.Request.{Request, ReadWrite}
-use Rattle.ads_machine.specs.World.{setup_of}
-use Rattle.ads_machine.specs.Acts.{Act, Refusal, fixed_data, outcome_of, outcomes_of, memory_after_acts, client_after_acts}
-use Rattle.ads_machine.specs.Answers.{all_answered, answered_group}
-use Rattle.ads_machine.specs.Client.{client_after}
-use Rattle.ads_machine.specs.Decisions.{Decision, Perform, Sum, acts_in, refuse}
-use Rattle.ads_machine.specs.Replies.{reply_payload, outcome_in_all}
-use Rattle.ads_machine.specs.Sums.{SumRequest, given_in_turn, left_in_turn, packed}
-use Rattle.ads_machine.specs.SumPackets.{acts_of, decide_parts, decide_request}
+use Rattle.spec_formats.specs.Codes.{no_error}
+use Rattle.spec_formats.specs.Groups.{sum_read, sum_write, sum_read_write, group_of, group_in}
+use Rattle.spec_formats.specs.Request.{Request, ReadWrite}
+use Rattle.spec_machine.specs.World.{setup_of}
+use Rattle.spec_machine.specs.Acts.{Act, Refusal, fixed_data, outcome_of, outcomes_of, memory_after_acts, client_after_acts}
+use Rattle.spec_machine.specs.Answers.{all_answered, answered_group}
+use Rattle.spec_machine.specs.Client.{client_after}
+use Rattle.spec_machine.specs.Decisions.{Decision, Perform, Sum, acts_in, refuse}
+use Rattle.spec_machine.specs.Replies.{reply_payload, outcome_in_all}
+use Rattle.spec_machine.specs.Sums.{SumRequest, given_in_turn, left_in_turn, packed}
+use Rattle.spec_machine.specs.SumPackets.{acts_of, decide_parts, decide_request}
 use Rattle.sum_commands.specs.Parts.{code_in}
 use Rattle.sum_commands.specs.Stops.{StopsAmong, Stops, Wants, Done}
 use Rattle.sum_commands.specs.SumCommand.{sum_of, refusal_in, refused_by, sum_reply, left_by_sum}

@@ -14,26 +14,26 @@ use Rattle.std.proofs.lemmas.Bool.{eqb-true, false≢true}
 use Rattle.ads_base.specs.declared.no_memory.NoMemory.{NoMemory}
 use Rattle.return_codes.specs.declared.code.Code.{Code}
 use Rattle.return_codes.specs.Code.{number_of}
-use Rattle.ads_frames.specs.Frame.{frame_bytes}
-use Rattle.ads_plant.specs.Description as plant
-use Rattle.ads_plant.specs.World.{PlantPort, Block}
-use Rattle.ads_plant.specs.Named.{port_numbered}
-use Rattle.ads_plant.proofs.SoundLemmas.{port_number}
-use Rattle.ads_formats.specs.Codes.{no_error, invalid_size}
-use Rattle.ads_formats.specs.Header.{AmsHeader, header_of}
-use Rattle.ads_formats.specs.Request.{Request, ReadWrite, command_of}
-use Rattle.ads_machine.specs.World.{World, Setup, setup_of}
-use Rattle.ads_machine.specs.Acts.{outcomes_of, memory_after_acts, client_after_acts}
-use Rattle.ads_machine.specs.Answers.{AnswerTable, all_answered, answered_group, READ_WRITE}
-use Rattle.ads_machine.specs.Client.{Client, client_after}
-use Rattle.ads_machine.specs.Decisions.{Decision, NoAnswer, EndConnection, AmsError, Perform, acts_in, refuse}
-use Rattle.ads_machine.specs.Device.{Answer, Answered, FrameOutcome}
-use Rattle.ads_formats.specs.Groups.{Group, SumRead, SumWrite, SumReadWrite}
-use Rattle.ads_machine.specs.Packets.{decide}
-use Rattle.ads_machine.specs.Replies.{response_packet, reply_payload, answer_to, answer_of, performed, outcome_in_all}
-use Rattle.ads_machine.specs.Sums.{SumRequest, sum_of_reads, sum_of_writes, sum_of_read_writes}
-use Rattle.ads_machine.specs.SumPackets.{decide_parts, decide_read_write, decide_request}
-use Rattle.ads_machine.specs.Writes.{Asker}
+use Rattle.spec_frames.specs.Frame.{frame_bytes}
+use Rattle.spec_plant.specs.Description as plant
+use Rattle.spec_plant.specs.World.{PlantPort, Block}
+use Rattle.spec_plant.specs.Named.{port_numbered}
+use Rattle.spec_plant.proofs.SoundLemmas.{port_number}
+use Rattle.spec_formats.specs.Codes.{no_error, invalid_size}
+use Rattle.spec_formats.specs.Header.{AmsHeader, header_of}
+use Rattle.spec_formats.specs.Request.{Request, ReadWrite, command_of}
+use Rattle.spec_machine.specs.World.{World, Setup, setup_of}
+use Rattle.spec_machine.specs.Acts.{outcomes_of, memory_after_acts, client_after_acts}
+use Rattle.spec_machine.specs.Answers.{AnswerTable, all_answered, answered_group, READ_WRITE}
+use Rattle.spec_machine.specs.Client.{Client, client_after}
+use Rattle.spec_machine.specs.Decisions.{Decision, NoAnswer, EndConnection, AmsError, Perform, acts_in, refuse}
+use Rattle.spec_machine.specs.Device.{Answer, Answered, FrameOutcome}
+use Rattle.spec_formats.specs.Groups.{Group, SumRead, SumWrite, SumReadWrite}
+use Rattle.spec_machine.specs.Packets.{decide}
+use Rattle.spec_machine.specs.Replies.{response_packet, reply_payload, answer_to, answer_of, performed, outcome_in_all}
+use Rattle.spec_machine.specs.Sums.{SumRequest, sum_of_reads, sum_of_writes, sum_of_read_writes}
+use Rattle.spec_machine.specs.SumPackets.{decide_parts, decide_read_write, decide_request}
+use Rattle.spec_machine.specs.Writes.{Asker}
 use Rattle.port_device.specs.PortMemory.{PortMemory, PortsMemory, memory_numbered, with_port}
 use Rattle.port_device.specs.Holds.{HoldsPort, HoldsPorts, HoldsFound}
 use Rattle.port_device.proofs.PortsLemmas.{found_is_held}

@@ -5,18 +5,18 @@ use Rattle.std.specs.List.{All}
 use Rattle.std.specs.Option.{option_map_or}
 use Rattle.std.proofs.lemmas.Bool.{and_parts, leb-true, ltb-true, false≢true}
 use Rattle.std.proofs.lemmas.List.Elements.{All-nil, All-cons}
-use Rattle.ads_plant.specs.Description.{size_in}
-use Rattle.ads_plant.specs.Named.{port_numbered}
-use Rattle.ads_plant.specs.World.{PlantPort}
-use Rattle.ads_formats.specs.Ranges.{Range, Bytes, Bit, Size}
-use Rattle.ads_machine.specs.Access.{Addressed, WholeByte, OneBit, values_at}
-use Rattle.ads_machine.specs.Client.{Client}
-use Rattle.ads_machine.specs.HandleLaws.{AgreeingWatch, AgreeingWatches}
-use Rattle.ads_machine.specs.Stamps.{frames_of_samples, samples_at, watches_after_tick}
-use Rattle.ads_machine.specs.Ticks.{client_after_tick}
-use Rattle.ads_machine.specs.WatchedRanges.{are_same_addressed, is_range_at, is_same_range}
-use Rattle.ads_machine.specs.Watches.{Watch, is_due, is_sent, after_check, checked_watch, samples_of}
-use Rattle.ads_machine.specs.World.{World, name_at, names_at}
+use Rattle.spec_plant.specs.Description.{size_in}
+use Rattle.spec_plant.specs.Named.{port_numbered}
+use Rattle.spec_plant.specs.World.{PlantPort}
+use Rattle.spec_formats.specs.Ranges.{Range, Bytes, Bit, Size}
+use Rattle.spec_machine.specs.Access.{Addressed, WholeByte, OneBit, values_at}
+use Rattle.spec_machine.specs.Client.{Client}
+use Rattle.spec_machine.specs.HandleLaws.{AgreeingWatch, AgreeingWatches}
+use Rattle.spec_machine.specs.Stamps.{frames_of_samples, samples_at, watches_after_tick}
+use Rattle.spec_machine.specs.Ticks.{client_after_tick}
+use Rattle.spec_machine.specs.WatchedRanges.{are_same_addressed, is_range_at, is_same_range}
+use Rattle.spec_machine.specs.Watches.{Watch, is_due, is_sent, after_check, checked_watch, samples_of}
+use Rattle.spec_machine.specs.World.{World, name_at, names_at}
 use Rattle.port_device.specs.Holds.{HoldsPorts}
 use Rattle.port_device.specs.PortMemory.{PortsMemory}
 use Rattle.notify_table.specs.Table.{WatchTable}
@@ -26,7 +26,7 @@ use Rattle.session.specs.Served.{IsServed}
 use Rattle.session.specs.Checks.{AreReadable, bytes_found, found_in, IsInFound, IsInPort, samples_found, table_checked}
 use Rattle.session.specs.SessionState.{SessionState}
 use Rattle.session.specs.StandsFor.{StandsFor}
-use Rattle.ads_machine.proofs.RangesMoved.{are_same-true}
+use Rattle.spec_machine.proofs.RangesMoved.{are_same-true}
 
 -- what is found in a range is what stands under the names of its bytes
 found_by_names : (w : World) (o : Option PlantPort) (watched : List Addressed) (range : Range)

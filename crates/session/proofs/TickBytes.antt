@@ -2,12 +2,12 @@
 use Rattle.std.proofs.Common.{◌≡◌, ℕ, ◌/◌, ◌%◌, ◌^◌, ◌<◌, ◌≤◌, List, set, get_or, Option, Some, None, Ok, refl, sym, ap, subst, ◌∙◌, arith}
 use Rattle.std.proofs.Math.Nat.{div-eq_of_lt}
 use Rattle.std.proofs.Math.Pow.{pow_mono}
-use Rattle.ads_plant.specs.Description.{Area}
-use Rattle.ads_plant.specs.Named.{port_numbered}
-use Rattle.ads_plant.specs.World.{PlantPort}
-use Rattle.ads_formats.specs.Ranges.{Range, Bytes, Bit}
-use Rattle.ads_machine.specs.Reach.{addressed_by_range}
-use Rattle.ads_machine.specs.World.{World, names_at, numbers_from}
+use Rattle.spec_plant.specs.Description.{Area}
+use Rattle.spec_plant.specs.Named.{port_numbered}
+use Rattle.spec_plant.specs.World.{PlantPort}
+use Rattle.spec_formats.specs.Ranges.{Range, Bytes, Bit}
+use Rattle.spec_machine.specs.Reach.{addressed_by_range}
+use Rattle.spec_machine.specs.World.{World, names_at, numbers_from}
 use Rattle.port_device.proofs.PortsLemmas.{found_is_held}
 use Rattle.port_device.specs.Holds.{HoldsPort, HoldsPorts, HoldsFound}
 use Rattle.port_device.specs.PortMemory.{PortMemory, PortsMemory, memory_numbered}

@@ -8,10 +8,10 @@ use Rattle.std.proofs.lemmas.Grind.{flat_map-append}
 use Rattle.std.proofs.lemmas.List.{append-nil, length-map, get_or-map, take_more}
 use Rattle.std.proofs.lemmas.List.Elements.{All-head, All-tail, All-nil, All-cons, All-weaker, All-map, All-filter}
 use Rattle.std.proofs.lemmas.List.Sums.{fold-append, length-filter, count_by-le-length}
-use Rattle.ads_plant.specs.Named.{port_numbered}
-use Rattle.ads_formats.specs.Ranges.{Range}
-use Rattle.ads_machine.specs.Watches.{Watch, AddressedSample, is_due, is_sent, samples_of, addressed_sample}
-use Rattle.ads_machine.specs.World.{World}
+use Rattle.spec_plant.specs.Named.{port_numbered}
+use Rattle.spec_formats.specs.Ranges.{Range}
+use Rattle.spec_machine.specs.Watches.{Watch, AddressedSample, is_due, is_sent, samples_of, addressed_sample}
+use Rattle.spec_machine.specs.World.{World}
 use Rattle.index_groups.specs.Access.{range_meant}
 use Rattle.notify_table.specs.declared.spec.Spec.{Spec}
 use Rattle.notify_table.specs.Specs.{new_watch, before_checks, address_of}

@@ -4,12 +4,12 @@ use Rattle.std.specs.Prelude.{Result, Ok, Err, IfOk}
 use Rattle.ads_base.specs.declared.no_memory.NoMemory.{NoMemory}
 use Rattle.return_codes.specs.declared.code.Code.{Code}
 use Rattle.return_codes.specs.Code.{number_of}
-use Rattle.ads_plant.specs.World.{PlantPort}
-use Rattle.ads_machine.specs.World.{World}
-use Rattle.ads_machine.specs.Client as client
-use Rattle.ads_machine.specs.Handles.{Handle, HandleStatus, Never, Released, Outdated, Live, kept_status}
-use Rattle.ads_machine.specs.Reach.{addressed_by_status}
-use Rattle.ads_machine.specs.Reads.{read_act}
+use Rattle.spec_plant.specs.World.{PlantPort}
+use Rattle.spec_machine.specs.World.{World}
+use Rattle.spec_machine.specs.Client as client
+use Rattle.spec_machine.specs.Handles.{Handle, HandleStatus, Never, Released, Outdated, Live, kept_status}
+use Rattle.spec_machine.specs.Reach.{addressed_by_status}
+use Rattle.spec_machine.specs.Reads.{read_act}
 use Rattle.symbol_table.specs.declared.place.Place.{Place}
 use Rattle.sym_handles.specs.Kept.{Kept}
 use Rattle.port_device.specs.PortMemory.{PortMemory}

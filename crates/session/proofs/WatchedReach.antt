@@ -6,24 +6,24 @@ use Rattle.std.proofs.lemmas.Bool.{cases_Bool, and_parts, and_from, eqb-true, le
 use Rattle.return_codes.specs.declared.code.Code.{Code}
 use Rattle.return_codes.specs.declared.code.Code.TheVariants.{C702, C705}
 use Rattle.return_codes.specs.Code.{number_of}
-use Rattle.ads_plant.specs.Description.{Sizes, Area, size_in}
-use Rattle.ads_plant.specs.Named.{port_numbered}
-use Rattle.ads_plant.specs.Sound.{IsSoundPort, IsSoundSymbol}
-use Rattle.ads_plant.specs.World.{PlantPort, PlantSymbol, symbol_size, lower_name, is_same_area}
-use Rattle.ads_plant.proofs.BlockLemmas.{same_area-true}
-use Rattle.ads_plant.proofs.SoundLemmas.{each-get}
-use Rattle.ads_formats.specs.Groups.{Group, AreaBytes, AreaBit, AreaSize, ValueByHandle, HandleByName, ValueByName, ReleaseHandle, InfoByName, SymbolVersion}
-use Rattle.ads_formats.specs.Groups.{ExtendedInfoByName, SymbolUpload, UploadInfo, TypeUpload, UploadInfoWithTypes, SumRead, SumWrite, SumReadWrite, group_of}
-use Rattle.ads_formats.specs.Ranges.{Range, Size, range_in, range_of, byte_range, bit_range, greatest_len}
-use Rattle.ads_machine.specs.Access.{Addressed, WholeByte, OneBit}
-use Rattle.ads_machine.specs.Answers.{all_answered, if_answered, answered_group, ADD_DEVICE_NOTIFICATION}
-use Rattle.ads_machine.specs.Client as client
-use Rattle.ads_machine.specs.Handles.{HandleStatus, Never, Released, Outdated, Live, kept_status}
-use Rattle.ads_machine.specs.NumberedPlaces.{is_place_in, is_place_at}
-use Rattle.ads_machine.specs.Reach.{reach_of, addressed_by_range, addressed_by_status}
-use Rattle.ads_machine.specs.WatchedRanges.{are_same_addressed, is_range_at, is_same_range}
-use Rattle.ads_machine.specs.World.{World, name_at, names_at}
-use Rattle.ads_machine.proofs.PlacesMoved.{same_places_have_same_bytes}
+use Rattle.spec_plant.specs.Description.{Sizes, Area, size_in}
+use Rattle.spec_plant.specs.Named.{port_numbered}
+use Rattle.spec_plant.specs.Sound.{IsSoundPort, IsSoundSymbol}
+use Rattle.spec_plant.specs.World.{PlantPort, PlantSymbol, symbol_size, lower_name, is_same_area}
+use Rattle.spec_plant.proofs.BlockLemmas.{same_area-true}
+use Rattle.spec_plant.proofs.SoundLemmas.{each-get}
+use Rattle.spec_formats.specs.Groups.{Group, AreaBytes, AreaBit, AreaSize, ValueByHandle, HandleByName, ValueByName, ReleaseHandle, InfoByName, SymbolVersion}
+use Rattle.spec_formats.specs.Groups.{ExtendedInfoByName, SymbolUpload, UploadInfo, TypeUpload, UploadInfoWithTypes, SumRead, SumWrite, SumReadWrite, group_of}
+use Rattle.spec_formats.specs.Ranges.{Range, Size, range_in, range_of, byte_range, bit_range, greatest_len}
+use Rattle.spec_machine.specs.Access.{Addressed, WholeByte, OneBit}
+use Rattle.spec_machine.specs.Answers.{all_answered, if_answered, answered_group, ADD_DEVICE_NOTIFICATION}
+use Rattle.spec_machine.specs.Client as client
+use Rattle.spec_machine.specs.Handles.{HandleStatus, Never, Released, Outdated, Live, kept_status}
+use Rattle.spec_machine.specs.NumberedPlaces.{is_place_in, is_place_at}
+use Rattle.spec_machine.specs.Reach.{reach_of, addressed_by_range, addressed_by_status}
+use Rattle.spec_machine.specs.WatchedRanges.{are_same_addressed, is_range_at, is_same_range}
+use Rattle.spec_machine.specs.World.{World, name_at, names_at}
+use Rattle.spec_machine.proofs.PlacesMoved.{same_places_have_same_bytes}
 use Rattle.index_groups.specs.declared.access.Reach.{Reach}
 use Rattle.index_groups.specs.declared.access.Reach.TheVariants as value
 use Rattle.index_groups.specs.Access.{range_meant, answer_meant, IsWithin}
@@ -38,7 +38,7 @@ use Rattle.session.specs.Asks.{LooksUp}
 use Rattle.session.specs.HandleGroups.{is_value_by_handle}
 use Rattle.session.specs.StandsFor.{is_place_of}
 use Rattle.session.specs.Watching.{is_byte_or_bit, IsWatched}
-use Rattle.ads_machine.proofs.RangesMoved.{are_same-refl}
+use Rattle.spec_machine.proofs.RangesMoved.{are_same-refl}
 
 -- ---- bytes and bits
 

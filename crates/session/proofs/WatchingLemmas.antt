@@ -8,17 +8,17 @@ use Rattle.std.proofs.lemmas.List.{append-nil}
 use Rattle.return_codes.specs.declared.code.Code.{Code}
 use Rattle.return_codes.specs.declared.code.Code.TheVariants.{C705, C713, C714, C716, C717}
 use Rattle.return_codes.specs.Code.{number_of}
-use Rattle.ads_formats.specs.Request.{AddDeviceNotification, DeleteDeviceNotification}
-use Rattle.ads_machine.specs.Access.{Addressed, memory_after_puts}
-use Rattle.ads_machine.specs.Acts.{Act, Outcome, Refusal, changing}
-use Rattle.ads_machine.specs.Answers.{all_answered, answered_group, ADD_DEVICE_NOTIFICATION}
-use Rattle.ads_machine.specs.Client.{client_after, Adds, Deletes}
-use Rattle.ads_machine.specs.HandleLaws.{Test, AgreeingWatch, AgreeingWatches}
-use Rattle.ads_machine.specs.Reach.{reach_of}
-use Rattle.ads_machine.specs.Requests.{act_of, mode_of, add_act, add_reached, next_watch, delete_act, is_watch_of}
-use Rattle.ads_machine.specs.Watches as machine
-use Rattle.ads_machine.specs.Watches.{Watch}
-use Rattle.ads_machine.specs.WatchedRanges.{is_same_range}
+use Rattle.spec_formats.specs.Request.{AddDeviceNotification, DeleteDeviceNotification}
+use Rattle.spec_machine.specs.Access.{Addressed, memory_after_puts}
+use Rattle.spec_machine.specs.Acts.{Act, Outcome, Refusal, changing}
+use Rattle.spec_machine.specs.Answers.{all_answered, answered_group, ADD_DEVICE_NOTIFICATION}
+use Rattle.spec_machine.specs.Client.{client_after, Adds, Deletes}
+use Rattle.spec_machine.specs.HandleLaws.{Test, AgreeingWatch, AgreeingWatches}
+use Rattle.spec_machine.specs.Reach.{reach_of}
+use Rattle.spec_machine.specs.Requests.{act_of, mode_of, add_act, add_reached, next_watch, delete_act, is_watch_of}
+use Rattle.spec_machine.specs.Watches as machine
+use Rattle.spec_machine.specs.Watches.{Watch}
+use Rattle.spec_machine.specs.WatchedRanges.{is_same_range}
 use Rattle.index_groups.specs.declared.access.Reach.{Reach}
 use Rattle.notify_table.specs.declared.spec.Spec.{Spec}
 use Rattle.notify_table.specs.declared.spec.WatchFull.{WatchFull}

@@ -5,23 +5,23 @@ use Rattle.std.proofs.lemmas.Bool.{false≢true, eqb-true}
 use Rattle.return_codes.specs.declared.code.Code.{Code}
 use Rattle.return_codes.specs.declared.code.Code.TheVariants.{C704, C705, C710}
 use Rattle.return_codes.specs.Code.{number_of}
-use Rattle.ads_plant.specs.Description.{Rights}
-use Rattle.ads_plant.specs.World.{PlantPort}
-use Rattle.ads_formats.specs.Codes.{not_permitted, invalid_size, symbol_not_found}
-use Rattle.ads_formats.specs.Groups.{Group, AreaBytes, AreaBit, ValueByHandle, ReleaseHandle, group_of}
-use Rattle.ads_formats.specs.Numbers.{number32}
-use Rattle.ads_formats.specs.Request.{Write}
-use Rattle.ads_machine.specs.Access.{Addressed, puts_of, memory_after_puts}
-use Rattle.ads_machine.specs.Acts.{Act, Refusal, writing, changing, effect_of}
-use Rattle.ads_machine.specs.Answers.{all_answered, if_answered, answered_group, WRITE}
-use Rattle.ads_machine.specs.Client.{Client, NoEffect, Releases, client_after}
-use Rattle.ads_machine.specs.Client as client
-use Rattle.ads_machine.specs.Handles.{HandleStatus, Never, Released, Outdated, Live, Release, kept_status, status_of}
-use Rattle.ads_machine.specs.HandleLaws.{AgreeingStatus, AgreeingHandles, handles_of}
-use Rattle.ads_machine.specs.Reach.{addressed_by_status, addressed_in_place, reach_of}
-use Rattle.ads_machine.specs.Requests.{act_of}
-use Rattle.ads_machine.specs.Writes.{Asker, may_write, write_act, is_releasable, release_act, are_writable, write_group}
-use Rattle.ads_machine.proofs.HandleStatuses.{status_is_history}
+use Rattle.spec_plant.specs.Description.{Rights}
+use Rattle.spec_plant.specs.World.{PlantPort}
+use Rattle.spec_formats.specs.Codes.{not_permitted, invalid_size, symbol_not_found}
+use Rattle.spec_formats.specs.Groups.{Group, AreaBytes, AreaBit, ValueByHandle, ReleaseHandle, group_of}
+use Rattle.spec_formats.specs.Numbers.{number32}
+use Rattle.spec_formats.specs.Request.{Write}
+use Rattle.spec_machine.specs.Access.{Addressed, puts_of, memory_after_puts}
+use Rattle.spec_machine.specs.Acts.{Act, Refusal, writing, changing, effect_of}
+use Rattle.spec_machine.specs.Answers.{all_answered, if_answered, answered_group, WRITE}
+use Rattle.spec_machine.specs.Client.{Client, NoEffect, Releases, client_after}
+use Rattle.spec_machine.specs.Client as client
+use Rattle.spec_machine.specs.Handles.{HandleStatus, Never, Released, Outdated, Live, Release, kept_status, status_of}
+use Rattle.spec_machine.specs.HandleLaws.{AgreeingStatus, AgreeingHandles, handles_of}
+use Rattle.spec_machine.specs.Reach.{addressed_by_status, addressed_in_place, reach_of}
+use Rattle.spec_machine.specs.Requests.{act_of}
+use Rattle.spec_machine.specs.Writes.{Asker, may_write, write_act, is_releasable, release_act, are_writable, write_group}
+use Rattle.spec_machine.proofs.HandleStatuses.{status_is_history}
 use Rattle.symbol_table.specs.declared.place.Place.{Place}
 use Rattle.sym_handles.specs.Kept.{Kept}
 use Rattle.sym_handles.specs.History.{History, Represents, release_of}

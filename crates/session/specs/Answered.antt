@@ -2,13 +2,13 @@
 use Rattle.std.specs.Prelude.{◌≡◌, List, [], ℕ}
 use Rattle.return_codes.specs.declared.code.Code.{Code}
 use Rattle.return_codes.specs.Code.{number_of}
-use Rattle.ads_frames.specs.Frame.{frame_bytes}
-use Rattle.ads_formats.specs.Codes.{no_error, invalid_size}
-use Rattle.ads_formats.specs.Header.{AmsHeader}
-use Rattle.ads_formats.specs.Request.{Request, command_of}
-use Rattle.ads_machine.specs.Decisions.{acts_in}
-use Rattle.ads_machine.specs.Device.{Answered}
-use Rattle.ads_machine.specs.Replies.{response_packet, reply_payload}
+use Rattle.spec_frames.specs.Frame.{frame_bytes}
+use Rattle.spec_formats.specs.Codes.{no_error, invalid_size}
+use Rattle.spec_formats.specs.Header.{AmsHeader}
+use Rattle.spec_formats.specs.Request.{Request, command_of}
+use Rattle.spec_machine.specs.Decisions.{acts_in}
+use Rattle.spec_machine.specs.Device.{Answered}
+use Rattle.spec_machine.specs.Replies.{response_packet, reply_payload}
 use Rattle.port_device.specs.PortMemory.{PortsMemory}
 use Rattle.port_device.specs.Holds.{HoldsPorts}
 use Rattle.session.specs.declared.taken.Taken.{Taken}

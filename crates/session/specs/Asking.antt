@@ -1,11 +1,11 @@
 -- A client who asks a port of a world, and what a single request of his does: one of a packet, or a part of a sum.
-use Rattle.ads_formats.specs.Request.{Request}
-use Rattle.ads_machine.specs.World.{World, setup_of}
-use Rattle.ads_machine.specs.Client.{Client, client_after}
-use Rattle.ads_machine.specs.Acts.{Act, Outcome, outcome_of, effect_of}
-use Rattle.ads_machine.specs.Answers.{all_answered}
-use Rattle.ads_machine.specs.Requests.{act_of}
-use Rattle.ads_machine.specs.Writes.{Asker}
+use Rattle.spec_formats.specs.Request.{Request}
+use Rattle.spec_machine.specs.World.{World, setup_of}
+use Rattle.spec_machine.specs.Client.{Client, client_after}
+use Rattle.spec_machine.specs.Acts.{Act, Outcome, outcome_of, effect_of}
+use Rattle.spec_machine.specs.Answers.{all_answered}
+use Rattle.spec_machine.specs.Requests.{act_of}
+use Rattle.spec_machine.specs.Writes.{Asker}
 use Rattle.port_device.specs.Endings.{world_after_act}
 
 pub record Asking : Type 0 where

@@ -2,9 +2,9 @@
 use Rattle.std.specs.Prelude.{◌≡◌, true, ℕ, List, Result, Ok, Err}
 use Rattle.return_codes.specs.declared.code.Code.{Code}
 use Rattle.return_codes.specs.declared.code.Code.TheVariants.{C710, C711}
-use Rattle.ads_plant.specs.World.{PlantPort}
-use Rattle.ads_machine.specs.Client as client
-use Rattle.ads_machine.specs.Handles.{HandleStatus, Never, Released, Outdated, Live}
+use Rattle.spec_plant.specs.World.{PlantPort}
+use Rattle.spec_machine.specs.Client as client
+use Rattle.spec_machine.specs.Handles.{HandleStatus, Never, Released, Outdated, Live}
 use Rattle.symbol_table.specs.declared.place.Place.{Place}
 use Rattle.sym_handles.specs.Kept.{Kept}
 use Rattle.port_device.specs.PortMemory.{PortMemory}

@@ -1,13 +1,13 @@
 -- The checks of a tick, where what is watched is told by ranges. Private: no public clause cites this file.
 use Rattle.std.specs.Prelude.{◌≡◌, ℕ, ◌+◌, ◌<◌, ◌≤◌, List, [], map, flat_map, All, Option, Some, None, Result, Ok, Err, IfSome}
-use Rattle.ads_plant.specs.Description.{Sizes, size_in}
-use Rattle.ads_plant.specs.Named.{port_numbered}
-use Rattle.ads_plant.specs.World.{PlantPort}
-use Rattle.ads_formats.specs.Ranges.{Range, Bytes, Bit, Size}
-use Rattle.ads_machine.specs.Access.{Addressed, values_at}
-use Rattle.ads_machine.specs.Reach.{addressed_by_range}
-use Rattle.ads_machine.specs.Watches.{Watch, AddressedSample, samples_of, checked_watch}
-use Rattle.ads_machine.specs.World.{World}
+use Rattle.spec_plant.specs.Description.{Sizes, size_in}
+use Rattle.spec_plant.specs.Named.{port_numbered}
+use Rattle.spec_plant.specs.World.{PlantPort}
+use Rattle.spec_formats.specs.Ranges.{Range, Bytes, Bit, Size}
+use Rattle.spec_machine.specs.Access.{Addressed, values_at}
+use Rattle.spec_machine.specs.Reach.{addressed_by_range}
+use Rattle.spec_machine.specs.Watches.{Watch, AddressedSample, samples_of, checked_watch}
+use Rattle.spec_machine.specs.World.{World}
 use Rattle.notify_table.specs.Table.{WatchTable, watch_of_handle, table_after, Checked}
 use Rattle.notify_table.proofs.TickLemmas.{checked_among}
 use Rattle.port_device.specs.Holds.{HoldsPorts}

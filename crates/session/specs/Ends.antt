@@ -1,11 +1,11 @@
 -- How a request ends that gives no data: its code, and what it leaves. No public clause cites this file.
 use Rattle.std.specs.Prelude.{ℕ, List, length, not, if◌then◌else◌, Result}
 use Rattle.return_codes.specs.declared.code.Code.{Code}
-use Rattle.ads_formats.specs.Codes.{not_permitted}
-use Rattle.ads_machine.specs.Acts.{Act, Refusal, outcome_of}
-use Rattle.ads_machine.specs.Handles.{kept_status}
-use Rattle.ads_machine.specs.Reach.{addressed_by_status}
-use Rattle.ads_machine.specs.Writes.{may_write, write_act}
+use Rattle.spec_formats.specs.Codes.{not_permitted}
+use Rattle.spec_machine.specs.Acts.{Act, Refusal, outcome_of}
+use Rattle.spec_machine.specs.Handles.{kept_status}
+use Rattle.spec_machine.specs.Reach.{addressed_by_status}
+use Rattle.spec_machine.specs.Writes.{may_write, write_act}
 use Rattle.sym_handles.specs.Kept.{Kept}
 use Rattle.port_device.specs.PortMemory.{PortMemory}
 use Rattle.port_device.specs.Endings.{HasCode}

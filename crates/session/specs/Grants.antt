@@ -1,9 +1,9 @@
 -- A handle for a name. No public clause cites this file.
 use Rattle.std.specs.Prelude.{ℕ, List, Some}
-use Rattle.ads_formats.specs.Groups.{HandleByName}
-use Rattle.ads_machine.specs.Acts.{Act}
-use Rattle.ads_machine.specs.ByName.{read_write_group}
-use Rattle.ads_machine.specs.Client as client
+use Rattle.spec_formats.specs.Groups.{HandleByName}
+use Rattle.spec_machine.specs.Acts.{Act}
+use Rattle.spec_machine.specs.ByName.{read_write_group}
+use Rattle.spec_machine.specs.Client as client
 use Rattle.symbol_table.specs.declared.place.Place.{Place}
 use Rattle.port_device.specs.Answers.{IsNamed}
 use Rattle.session.specs.Asking.{Asking}

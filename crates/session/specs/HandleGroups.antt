@@ -1,6 +1,6 @@
 -- The groups of handles and of sums, which a session answers and no port does. No public clause cites this file.
 use Rattle.std.specs.Prelude.{Bool, true, false, Option, Some}
-use Rattle.ads_formats.specs.Groups.{Group, HandleByName, ValueByHandle, ReleaseHandle, SumRead, SumWrite, SumReadWrite}
+use Rattle.spec_formats.specs.Groups.{Group, HandleByName, ValueByHandle, ReleaseHandle, SumRead, SumWrite, SumReadWrite}
 
 abbrev pub is_handle_by_name : Option Group → Bool
 is_handle_by_name (Some HandleByName) = true

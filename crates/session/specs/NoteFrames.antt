@@ -1,6 +1,6 @@
 -- What the frames of samples are to the machine.
 use Rattle.std.specs.Prelude.{◌<◌, ◌≤◌, length}
-use Rattle.ads_machine.specs.Device.{Produced, Notification}
+use Rattle.spec_machine.specs.Device.{Produced, Notification}
 use Rattle.session.specs.declared.notes.NoteFrame.{NoteFrame}
 
 abbrev pub produced_of : NoteFrame → Produced

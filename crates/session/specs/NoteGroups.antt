@@ -1,13 +1,13 @@
 -- The samples that go from one port to one address, as text. Private: no public clause cites this file.
 use Rattle.std.specs.Prelude.{ℕ, ◌+◌, ◌-◌, List, [], ◌∷◌, ◌++◌, length, fold, Bool, ◌&&◌, ◌==◌, if◌then◌else◌}
 use Rattle.std.specs.Int.{w32, w64, to_le_bytes}
-use Rattle.ads_formats.specs.Codes.{no_error}
-use Rattle.ads_formats.specs.Commands.{DEVICE_NOTIFICATION}
-use Rattle.ads_formats.specs.Header.{AmsAddress, AmsHeader, is_same_address, header_bytes, request_flags}
-use Rattle.ads_formats.specs.Notification.{Sample, sample_bytes}
-use Rattle.ads_frames.specs.Frame.{frame_bytes}
-use Rattle.ads_machine.specs.Device.{Produced, Notification}
-use Rattle.ads_machine.specs.Watches.{AddressedSample}
+use Rattle.spec_formats.specs.Codes.{no_error}
+use Rattle.spec_formats.specs.Commands.{DEVICE_NOTIFICATION}
+use Rattle.spec_formats.specs.Header.{AmsAddress, AmsHeader, is_same_address, header_bytes, request_flags}
+use Rattle.spec_formats.specs.Notification.{Sample, sample_bytes}
+use Rattle.spec_frames.specs.Frame.{frame_bytes}
+use Rattle.spec_machine.specs.Device.{Produced, Notification}
+use Rattle.spec_machine.specs.Watches.{AddressedSample}
 
 -- how many samples, and their text
 pub record GroupText : Type 0 where

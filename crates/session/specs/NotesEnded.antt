@@ -1,6 +1,6 @@
 -- The samples of notifications that ended: of no byte. Private: no public clause cites this file.
 use Rattle.std.specs.Prelude.{List, [], map}
-use Rattle.ads_machine.specs.Watches.{AddressedSample}
+use Rattle.spec_machine.specs.Watches.{AddressedSample}
 use Rattle.notify_table.specs.declared.spec.Ended.{Ended}
 use Rattle.notify_table.specs.Reloads.{EndedWatch, ended_meant}
 use Rattle.session.specs.NoteGroups.{addressed}

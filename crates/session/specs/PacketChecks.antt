@@ -1,22 +1,22 @@
 -- The nine checks of a packet, by what is known of it. No public clause cites this file.
 use Rattle.std.specs.Prelude.{◌≡◌, ℕ, ◌%◌, List, [], ◌∷◌, Bool, not, ◌==◌, bytes_eq, Option, Some, IfSome, is_some, option_map}
 use Rattle.return_codes.specs.Code.{number_of}
-use Rattle.ads_plant.specs.World.{PlantPort}
-use Rattle.ads_formats.specs.Codes.{target_port_not_found, target_machine_not_found, unknown_command_id}
-use Rattle.ads_formats.specs.Codes.{unknown_ams_command, invalid_ams_length, invalid_size}
-use Rattle.ads_formats.specs.Header.{AmsHeader, header_of, payload_of, request_flags}
-use Rattle.ads_formats.specs.Request as format
-use Rattle.ads_machine.specs.Answers.{all_answered, DEVICE_NOTIFICATION}
-use Rattle.ads_machine.specs.Client.{Client}
-use Rattle.ads_machine.specs.Decisions.{Decision, NoAnswer, EndConnection, AmsError, refuse}
-use Rattle.ads_machine.specs.Packets.{Check, stop_if, decide, decide_passed}
-use Rattle.ads_machine.specs.SumPackets.{decide_request}
-use Rattle.ads_machine.specs.World.{World, setup_of, port_numbered}
-use Rattle.ads_machine.specs.Writes.{Asker}
+use Rattle.spec_plant.specs.World.{PlantPort}
+use Rattle.spec_formats.specs.Codes.{target_port_not_found, target_machine_not_found, unknown_command_id}
+use Rattle.spec_formats.specs.Codes.{unknown_ams_command, invalid_ams_length, invalid_size}
+use Rattle.spec_formats.specs.Header.{AmsHeader, header_of, payload_of, request_flags}
+use Rattle.spec_formats.specs.Request as format
+use Rattle.spec_machine.specs.Answers.{all_answered, DEVICE_NOTIFICATION}
+use Rattle.spec_machine.specs.Client.{Client}
+use Rattle.spec_machine.specs.Decisions.{Decision, NoAnswer, EndConnection, AmsError, refuse}
+use Rattle.spec_machine.specs.Packets.{Check, stop_if, decide, decide_passed}
+use Rattle.spec_machine.specs.SumPackets.{decide_request}
+use Rattle.spec_machine.specs.World.{World, setup_of, port_numbered}
+use Rattle.spec_machine.specs.Writes.{Asker}
 use Rattle.type_layout.specs.Descriptions.{rights_of}
 use Rattle.ads_commands.specs.Request.{request_meant}
 use Rattle.ams_header.specs.Header.{address_of, ams_header_of}
-use Rattle.ads_plant.specs.Rights as routed
+use Rattle.spec_plant.specs.Rights as routed
 use Rattle.type_layout.specs.declared.description.Rights.{Rights}
 use Rattle.ads_commands.specs.declared.request.Request.{Request}
 use Rattle.session.specs.declared.examined.Stop.{Stop}

@@ -1,9 +1,9 @@
 -- What a session needs of a reload: the moves of the symbols that it keeps.
 use Rattle.std.specs.Prelude.{List}
-use Rattle.ads_plant.specs.Sound.{IsSoundPlant}
-use Rattle.ads_plant.specs.World.{Plant}
-use Rattle.ads_machine.specs.Client.{Client}
-use Rattle.ads_machine.specs.NumberedPlaces.{AreKeptSymbols}
+use Rattle.spec_plant.specs.Sound.{IsSoundPlant}
+use Rattle.spec_plant.specs.World.{Plant}
+use Rattle.spec_machine.specs.Client.{Client}
+use Rattle.spec_machine.specs.NumberedPlaces.{AreKeptSymbols}
 use Rattle.port_device.specs.KeptSymbols.{kept_symbols_of}
 use Rattle.symbol_table.specs.declared.kept.KeptPlace.{KeptPlace}
 use Rattle.session.specs.SessionState.{SessionState}

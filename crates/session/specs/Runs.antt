@@ -1,14 +1,14 @@
 -- What a request comes to once its packet has passed the checks. No public clause cites this file.
 use Rattle.std.specs.Prelude.{◌≡◌, ◌⊎◌, ℕ, List, [], ◌++◌}
-use Rattle.ads_plant.specs.World.{Block}
-use Rattle.ads_formats.specs.Groups.{sum_read, sum_write, sum_read_write}
-use Rattle.ads_formats.specs.Request.{Request, command_of}
-use Rattle.ads_machine.specs.World.{setup_of}
-use Rattle.ads_machine.specs.Acts.{Act, Outcome, outcomes_of, memory_after_acts, client_after_acts}
-use Rattle.ads_machine.specs.Answers.{all_answered}
-use Rattle.ads_machine.specs.Decisions.{Decision, NoAnswer, EndConnection, AmsError, Perform, acts_in}
-use Rattle.ads_machine.specs.Replies.{outcome_in_all, reply_payload}
-use Rattle.ads_machine.specs.SumPackets.{decide_request}
+use Rattle.spec_plant.specs.World.{Block}
+use Rattle.spec_formats.specs.Groups.{sum_read, sum_write, sum_read_write}
+use Rattle.spec_formats.specs.Request.{Request, command_of}
+use Rattle.spec_machine.specs.World.{setup_of}
+use Rattle.spec_machine.specs.Acts.{Act, Outcome, outcomes_of, memory_after_acts, client_after_acts}
+use Rattle.spec_machine.specs.Answers.{all_answered}
+use Rattle.spec_machine.specs.Decisions.{Decision, NoAnswer, EndConnection, AmsError, Perform, acts_in}
+use Rattle.spec_machine.specs.Replies.{outcome_in_all, reply_payload}
+use Rattle.spec_machine.specs.SumPackets.{decide_request}
 use Rattle.ads_base.specs.declared.ams_addr.AmsAddr.{AmsAddr}
 use Rattle.ams_header.specs.Header.{address_of}
 use Rattle.type_layout.specs.declared.description.Rights.{Rights}

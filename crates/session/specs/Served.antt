@@ -1,7 +1,7 @@
 -- The condition of a session's calls, and what they keep of the ports.
 use Rattle.std.specs.Prelude.{◌≡◌, List, [], ◌∷◌}
-use Rattle.ads_machine.specs.World.{World}
-use Rattle.ads_machine.specs.Client.{Client}
+use Rattle.spec_machine.specs.World.{World}
+use Rattle.spec_machine.specs.Client.{Client}
 use Rattle.port_device.specs.PortMemory.{PortMemory, PortsMemory}
 use Rattle.port_device.specs.Endings.{KeepsDescription}
 use Rattle.port_device.specs.Holds.{HoldsPorts}

@@ -1,8 +1,8 @@
 -- The parts of a sum are single requests of one client at one port. No public clause cites this file.
 use Rattle.std.specs.Prelude.{◌≡◌}
-use Rattle.ads_formats.specs.Request.{Request}
-use Rattle.ads_machine.specs.Acts.{Outcome}
-use Rattle.ads_machine.specs.Client.{Client}
+use Rattle.spec_formats.specs.Request.{Request}
+use Rattle.spec_machine.specs.Acts.{Outcome}
+use Rattle.spec_machine.specs.Client.{Client}
 use Rattle.type_layout.specs.Descriptions.{rights_of}
 use Rattle.port_device.specs.Endings.{IsAsker, KeepsDescription}
 use Rattle.session.specs.declared.single.Single.{Single}

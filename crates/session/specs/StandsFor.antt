@@ -1,12 +1,12 @@
 -- Which client of the machine a session stands for: its handles and its notifications are the client's, told by
 -- numbers and ranges in place of names.
 use Rattle.std.specs.Prelude.{◌≡◌, List}
-use Rattle.ads_plant.specs.World.{Plant, PlantPort}
-use Rattle.ads_machine.specs.Handles.{Handle}
-use Rattle.ads_machine.specs.HandleLaws.{Test, AgreeingHandles, AgreeingWatches, handles_of}
-use Rattle.ads_machine.specs.NumberedPlaces.{is_same_place}
-use Rattle.ads_machine.specs.WatchedRanges.{is_same_range}
-use Rattle.ads_machine.specs.Client as client
+use Rattle.spec_plant.specs.World.{Plant, PlantPort}
+use Rattle.spec_machine.specs.Handles.{Handle}
+use Rattle.spec_machine.specs.HandleLaws.{Test, AgreeingHandles, AgreeingWatches, handles_of}
+use Rattle.spec_machine.specs.NumberedPlaces.{is_same_place}
+use Rattle.spec_machine.specs.WatchedRanges.{is_same_range}
+use Rattle.spec_machine.specs.Client as client
 use Rattle.symbol_table.specs.declared.place.Place.{Place}
 use Rattle.sym_handles.specs.History.{History, Represents}
 use Rattle.sym_handles.specs.Kept.{Kept}

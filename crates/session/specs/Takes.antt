@@ -1,15 +1,15 @@
 -- What a session makes of an AMS packet, against the machine.
 use Rattle.std.specs.Prelude.{◌≡◌, ℕ, ◌<◌, ◌≤◌, ◌^◌, List, length}
-use Rattle.ads_frames.specs.Frame.{frame_bytes}
-use Rattle.ads_plant.specs.Description.{Route}
-use Rattle.ads_plant.specs.Rights.{rights_of}
-use Rattle.ads_plant.specs.World.{Plant}
-use Rattle.ads_machine.specs.Answers.{all_answered}
-use Rattle.ads_machine.specs.Client.{Client}
-use Rattle.ads_machine.specs.Device.{Answer, Answered, Silent, Closing, FrameOutcome}
-use Rattle.ads_machine.specs.Packets.{decide}
-use Rattle.ads_machine.specs.Replies.{performed}
-use Rattle.ads_machine.specs.World.{World, setup_of}
+use Rattle.spec_frames.specs.Frame.{frame_bytes}
+use Rattle.spec_plant.specs.Description.{Route}
+use Rattle.spec_plant.specs.Rights.{rights_of}
+use Rattle.spec_plant.specs.World.{Plant}
+use Rattle.spec_machine.specs.Answers.{all_answered}
+use Rattle.spec_machine.specs.Client.{Client}
+use Rattle.spec_machine.specs.Device.{Answer, Answered, Silent, Closing, FrameOutcome}
+use Rattle.spec_machine.specs.Packets.{decide}
+use Rattle.spec_machine.specs.Replies.{performed}
+use Rattle.spec_machine.specs.World.{World, setup_of}
 use Rattle.port_device.specs.PortMemory.{PortsMemory}
 use Rattle.port_device.specs.Holds.{HoldsPorts}
 use Rattle.session.specs.declared.taken.Taken.{Taken}

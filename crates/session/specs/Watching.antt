@@ -3,16 +3,16 @@ use Rattle.std.specs.Prelude.{◌≡◌, true, false, ℕ, ◌+◌, ◌<◌, Lis
 use Rattle.std.specs.Int.{w32, to_le_bytes}
 use Rattle.return_codes.specs.declared.code.Code.{Code}
 use Rattle.return_codes.specs.Code.{number_of}
-use Rattle.ads_plant.specs.World.{PlantPort}
-use Rattle.ads_formats.specs.Codes.{no_error}
-use Rattle.ads_formats.specs.Groups.{Group, AreaBytes, AreaBit}
-use Rattle.ads_machine.specs.Access.{Addressed}
-use Rattle.ads_machine.specs.Acts.{Act, Refusal, Outcome, outcome_of, memory_after, effect_of}
-use Rattle.ads_machine.specs.Client.{client_after}
-use Rattle.ads_machine.specs.HandleLaws.{AgreeingWatch}
-use Rattle.ads_machine.specs.Requests.{add_watch}
-use Rattle.ads_machine.specs.Watches.{Watch}
-use Rattle.ads_machine.specs.WatchedRanges.{is_same_range}
+use Rattle.spec_plant.specs.World.{PlantPort}
+use Rattle.spec_formats.specs.Codes.{no_error}
+use Rattle.spec_formats.specs.Groups.{Group, AreaBytes, AreaBit}
+use Rattle.spec_machine.specs.Access.{Addressed}
+use Rattle.spec_machine.specs.Acts.{Act, Refusal, Outcome, outcome_of, memory_after, effect_of}
+use Rattle.spec_machine.specs.Client.{client_after}
+use Rattle.spec_machine.specs.HandleLaws.{AgreeingWatch}
+use Rattle.spec_machine.specs.Requests.{add_watch}
+use Rattle.spec_machine.specs.Watches.{Watch}
+use Rattle.spec_machine.specs.WatchedRanges.{is_same_range}
 use Rattle.index_groups.specs.declared.access.Reach.{Reach}
 use Rattle.index_groups.specs.Access.{range_meant}
 use Rattle.notify_table.specs.declared.spec.Spec.{Spec}

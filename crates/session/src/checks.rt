@@ -2,12 +2,12 @@
 
 ghost use Rattle.std.specs.Prelude.{◌≡◌, List, ℕ, Bool, IfOk};
 ghost use Rattle.std.specs.Result.{result_ok};
-ghost use Rattle.ads_formats.specs.Header.{header_of, payload_of};
-ghost use Rattle.ads_formats.specs.Request as format;
-ghost use Rattle.ads_machine.specs.Client.{Client};
-ghost use Rattle.ads_machine.specs.Decisions.{Decision};
-ghost use Rattle.ads_machine.specs.Packets.{checked};
-ghost use Rattle.ads_machine.specs.World.{World};
+ghost use Rattle.spec_formats.specs.Header.{header_of, payload_of};
+ghost use Rattle.spec_formats.specs.Request as format;
+ghost use Rattle.spec_machine.specs.Client.{Client};
+ghost use Rattle.spec_machine.specs.Decisions.{Decision};
+ghost use Rattle.spec_machine.specs.Packets.{checked};
+ghost use Rattle.spec_machine.specs.World.{World};
 ghost use Rattle.ads_commands.specs.Request.{request_meant};
 ghost use Rattle.ams_header.specs.Header.{ams_header_of};
 ghost use Rattle.port_device.specs.Holds.{HoldsPorts};

@@ -1,8 +1,8 @@
 //! The frame of an answer.
 
 ghost use Rattle.std.specs.Prelude.{◌≡◌, ◌≤◌, ◌<◌, ◌^◌, length, drop, IfOk};
-ghost use Rattle.ads_frames.specs.Frame.{frame_bytes};
-ghost use Rattle.ads_machine.specs.Replies.{response_packet};
+ghost use Rattle.spec_frames.specs.Frame.{frame_bytes};
+ghost use Rattle.spec_machine.specs.Replies.{response_packet};
 ghost use Rattle.ams_header.specs.Header.{ams_header_of};
 
 use crate::room::write_at;

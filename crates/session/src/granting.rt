@@ -1,10 +1,10 @@
 //! A single ReadWrite of a client at a port: one of a packet, or a part of a sum.
 
 ghost use Rattle.std.specs.Prelude.{◌≡◌, ◌+◌, ◌≤◌, length, IfOk, OnOk, OnErr};
-ghost use Rattle.ads_formats.specs.Groups.{HandleByName};
-ghost use Rattle.ads_formats.specs.Request.{ReadWrite};
-ghost use Rattle.ads_machine.specs.ByName.{read_write_group, grant_act};
-ghost use Rattle.ads_machine.specs.Client as client;
+ghost use Rattle.spec_formats.specs.Groups.{HandleByName};
+ghost use Rattle.spec_formats.specs.Request.{ReadWrite};
+ghost use Rattle.spec_machine.specs.ByName.{read_write_group, grant_act};
+ghost use Rattle.spec_machine.specs.Client as client;
 ghost use Rattle.port_device.specs.Answers.{AnswersAct};
 ghost use Rattle.session.specs.Asking.{Asking, act_asked, asking_after, after_act};
 ghost use Rattle.session.specs.Asks.{Asks, SomeAsks};

@@ -1,7 +1,7 @@
 //! The groups of handles and of sums.
 
 ghost use Rattle.std.specs.Prelude.{◌≡◌};
-ghost use Rattle.ads_formats.specs.Groups.{group_of};
+ghost use Rattle.spec_formats.specs.Groups.{group_of};
 ghost use Rattle.session.specs.HandleGroups as groups;
 
 use port_device::{Group, group_named};

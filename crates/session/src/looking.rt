@@ -1,11 +1,11 @@
 //! The place of a handle, and the bytes there.
 
 ghost use Rattle.std.specs.Prelude.{◌≡◌, List, IfOk, OnErr};
-ghost use Rattle.ads_plant.specs.World.{PlantPort};
-ghost use Rattle.ads_machine.specs.Client as client;
-ghost use Rattle.ads_machine.specs.Handles as machine;
-ghost use Rattle.ads_machine.specs.Reach.{addressed_by_status};
-ghost use Rattle.ads_machine.specs.Reads.{read_act};
+ghost use Rattle.spec_plant.specs.World.{PlantPort};
+ghost use Rattle.spec_machine.specs.Client as client;
+ghost use Rattle.spec_machine.specs.Handles as machine;
+ghost use Rattle.spec_machine.specs.Reach.{addressed_by_status};
+ghost use Rattle.spec_machine.specs.Reads.{read_act};
 ghost use Rattle.port_device.specs.Answers.{AnswersAct, IsPlaceOf};
 ghost use Rattle.session.specs.Asking.{Asking};
 ghost use Rattle.session.specs.Asks.{Asks, SomeAsks, LooksUp};

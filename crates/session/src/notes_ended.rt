@@ -1,7 +1,7 @@
 //! Notifications that ended are told so.
 
 ghost use Rattle.std.specs.Prelude.{◌≡◌, ◌≤◌, length, map, All, IfOk, OnOk};
-ghost use Rattle.ads_machine.specs.Stamps.{frames_of_samples};
+ghost use Rattle.spec_machine.specs.Stamps.{frames_of_samples};
 ghost use Rattle.session.specs.NoteFrames.{produced_of, IsNoteFrame};
 ghost use Rattle.session.specs.NoteGroups.{no_groups, grouped_text};
 ghost use Rattle.session.specs.NotesEnded.{samples_of_ended};

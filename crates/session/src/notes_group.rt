@@ -1,7 +1,7 @@
 //! The samples that go from one port to one address, written into their frame.
 
 ghost use Rattle.std.specs.Prelude.{◌≡◌, ◌+◌, ◌<◌, ◌≤◌, ◌++◌, length, IfOk, OnOk};
-ghost use Rattle.ads_formats.specs.Notification.{sample_bytes};
+ghost use Rattle.spec_formats.specs.Notification.{sample_bytes};
 ghost use Rattle.notify_table.specs.Specs.{address_of};
 ghost use Rattle.session.specs.NoteFrames.{produced_of, IsNoteFrame};
 ghost use Rattle.session.specs.NoteGroups.{is_group_for, no_samples, group_with, sample, frame_of_group};

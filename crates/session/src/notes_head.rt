@@ -1,7 +1,7 @@
 //! What stands before the samples of a frame.
 
 ghost use Rattle.std.specs.Prelude.{◌≡◌, ◌+◌, ◌-◌, ◌<◌, ◌≤◌, ◌++◌, ◌^◌, length, take, drop};
-ghost use Rattle.ads_formats.specs.Header.{header_bytes};
+ghost use Rattle.spec_formats.specs.Header.{header_bytes};
 ghost use Rattle.notify_table.specs.Specs.{address_of};
 ghost use Rattle.session.specs.NoteGroups.{head_text, lead_text, stamp_head_text, notification_header};
 

@@ -1,7 +1,7 @@
 //! A single Read of a client at a port: one of a packet, or a part of a sum.
 
 ghost use Rattle.std.specs.Prelude.{◌≡◌, ◌+◌, ◌≤◌, length, IfOk, OnOk, OnErr};
-ghost use Rattle.ads_formats.specs.Request.{Read};
+ghost use Rattle.spec_formats.specs.Request.{Read};
 ghost use Rattle.port_device.specs.Answers.{AnswersAct};
 ghost use Rattle.session.specs.Asking.{Asking, act_asked};
 ghost use Rattle.session.specs.Asks.{Asks, SomeAsks};

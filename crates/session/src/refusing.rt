@@ -1,9 +1,9 @@
 //! The reply to a request that is refused for its size.
 
 ghost use Rattle.std.specs.Prelude.{◌≡◌, []};
-ghost use Rattle.ads_formats.specs.Codes.{invalid_size};
-ghost use Rattle.ads_formats.specs.Reply.{written_bytes};
-ghost use Rattle.ads_machine.specs.Replies.{reply_payload};
+ghost use Rattle.spec_formats.specs.Codes.{invalid_size};
+ghost use Rattle.spec_formats.specs.Reply.{written_bytes};
+ghost use Rattle.spec_machine.specs.Replies.{reply_payload};
 ghost use Rattle.ads_commands.specs.Reply.{IsWritableReply, reply_meant};
 
 use ads_commands::{DeviceFacts, Reply};
@@ -19,7 +19,7 @@ const NO_FACTS: DeviceFacts = DeviceFacts {
 };
 
 /// The refused form of the reply to a command.
-#[tactic(auto, unfolding(ads_formats::specs::Reply::written_bytes, ads_machine::specs::Replies::reply_in_forms))]
+#[tactic(auto, unfolding(spec_formats::specs::Reply::written_bytes, spec_machine::specs::Replies::reply_in_forms))]
 pub(crate) fn refusal_of(command: u16) -> Reply<'static>
     ensures refused { written_bytes (reply_meant result) ≡ reply_payload command (record { code = invalid_size; bytes = [] }) }
     ensures writable { IsWritableReply result }

@@ -1,9 +1,9 @@
 //! A reload: handles and notifications of one client go on where their symbols are kept.
 
 ghost use Rattle.std.specs.Prelude.{◌≡◌, map, All, IfOk, OnOk};
-ghost use Rattle.ads_machine.specs.World.{World};
-ghost use Rattle.ads_machine.specs.Client.{Client};
-ghost use Rattle.ads_machine.specs.Reloads.{client_reloaded};
+ghost use Rattle.spec_machine.specs.World.{World};
+ghost use Rattle.spec_machine.specs.Client.{Client};
+ghost use Rattle.spec_machine.specs.Reloads.{client_reloaded};
 ghost use Rattle.session.specs.NoteFrames.{produced_of, IsNoteFrame};
 
 use crate::notes_ended::end_frames;

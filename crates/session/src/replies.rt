@@ -2,9 +2,9 @@
 
 ghost use Rattle.std.specs.Prelude.{◌≡◌, ◌≤◌, ◌+◌, ◌-◌, ◌++◌, length, take, drop, OnOk};
 ghost use Rattle.std.specs.Int.{w32, to_le_bytes};
-ghost use Rattle.ads_formats.specs.Request.{Read, ReadWrite};
-ghost use Rattle.ads_machine.specs.Answers.{READ, READ_WRITE};
-ghost use Rattle.ads_machine.specs.Replies.{reply_payload};
+ghost use Rattle.spec_formats.specs.Request.{Read, ReadWrite};
+ghost use Rattle.spec_machine.specs.Answers.{READ, READ_WRITE};
+ghost use Rattle.spec_machine.specs.Replies.{reply_payload};
 ghost use Rattle.sum_commands.specs.Parts.{code_in};
 ghost use Rattle.session.specs.Asking.{Asking, outcome_asked, asking_after};
 ghost use Rattle.session.specs.Asks.{Asks, SomeAsks};

@@ -1,14 +1,14 @@
 //! The request of a packet that passed the checks is run, and its reply's payload written.
 
 ghost use Rattle.std.specs.Prelude.{◌≡◌, ◌≤◌, ◌+◌, ◌++◌, ℕ, length, OnOk, OnErr, IfOk};
-ghost use Rattle.ads_formats.specs.Request as format;
+ghost use Rattle.spec_formats.specs.Request as format;
 ghost use Rattle.ads_commands.specs.Request.{request_meant};
 ghost use Rattle.port_device.specs.Endings.{KeepsDescription};
 ghost use Rattle.session.specs.Asking.{Asking};
 ghost use Rattle.session.specs.Asks.{SomeAsks};
 ghost use Rattle.session.specs.Runs.{IsSumGroup};
 ghost use Rattle.session.specs.Single.{SumState, IsSingle, part_outcome, state_after};
-ghost use Rattle.ads_formats.specs.Ranges.{greatest_len};
+ghost use Rattle.spec_formats.specs.Ranges.{greatest_len};
 ghost use Rattle.sum_commands.specs.SumCommand.{sum_of, refusal_in, refused_by, sum_reply, left_by_sum};
 ghost use Rattle.ads_base.specs.declared.ams_addr.AmsAddr.{AmsAddr};
 ghost use Rattle.type_layout.specs.declared.description.Rights.{Rights};

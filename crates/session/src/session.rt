@@ -1,8 +1,8 @@
 //! The session of one client.
 
 ghost use Rattle.std.specs.Prelude.{◌≡◌, ◌+◌, ◌<◌, length, IfOk, OnOk, OnErr};
-ghost use Rattle.ads_plant.specs.World.{Plant};
-ghost use Rattle.ads_machine.specs.Client.{new_client};
+ghost use Rattle.spec_plant.specs.World.{Plant};
+ghost use Rattle.spec_machine.specs.Client.{new_client};
 ghost use Rattle.ams_tcp.specs.History.{History, Represents, nothing_fed, after_feed, answer_of, after_next, IsFrameCut, HoldsPacket};
 
 use ads_base::{NoMemory, Octets};

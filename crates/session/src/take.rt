@@ -2,10 +2,10 @@
 
 ghost use Rattle.std.specs.Prelude.{◌≡◌, ◌≤◌, ◌<◌, ◌^◌, length, drop, IfOk, OnOk, Some};
 ghost use Rattle.ads_base.specs.declared.ams_addr.AmsAddr.{AmsAddr};
-ghost use Rattle.ads_frames.specs.Frame.{IsAmsPacket};
-ghost use Rattle.ads_formats.specs.Request as format;
-ghost use Rattle.ads_machine.specs.World.{World, port_numbered};
-ghost use Rattle.ads_machine.specs.Client.{Client};
+ghost use Rattle.spec_frames.specs.Frame.{IsAmsPacket};
+ghost use Rattle.spec_formats.specs.Request as format;
+ghost use Rattle.spec_machine.specs.World.{World, port_numbered};
+ghost use Rattle.spec_machine.specs.Client.{Client};
 ghost use Rattle.ads_commands.specs.Request.{request_meant};
 ghost use Rattle.ams_header.specs.Header.{ams_header_of};
 ghost use Rattle.port_device.specs.Holds.{HoldsPorts};

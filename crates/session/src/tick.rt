@@ -1,9 +1,9 @@
 //! A tick: the due notifications of one client are checked.
 
 ghost use Rattle.std.specs.Prelude.{◌≡◌, length, map, All, IfOk, OnOk};
-ghost use Rattle.ads_machine.specs.World.{World};
-ghost use Rattle.ads_machine.specs.Client.{Client};
-ghost use Rattle.ads_machine.specs.Ticks.{client_after_tick};
+ghost use Rattle.spec_machine.specs.World.{World};
+ghost use Rattle.spec_machine.specs.Client.{Client};
+ghost use Rattle.spec_machine.specs.Ticks.{client_after_tick};
 ghost use Rattle.notify_table.specs.Table.{due_handles};
 ghost use Rattle.port_device.specs.Holds.{HoldsPorts};
 ghost use Rattle.session.specs.NoteFrames.{produced_of, IsNoteFrame};

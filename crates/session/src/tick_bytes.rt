@@ -1,12 +1,12 @@
 //! What the checks of a tick find.
 
 ghost use Rattle.std.specs.Prelude.{◌≡◌, ◌+◌, ◌/◌, ◌%◌, ◌^◌, ◌≤◌, length, Ok};
-ghost use Rattle.ads_plant.specs.Description.{size_in};
-ghost use Rattle.ads_plant.specs.Named.{port_numbered};
-ghost use Rattle.ads_plant.specs.World.{PlantPort};
-ghost use Rattle.ads_formats.specs.Ranges.{Bytes};
-ghost use Rattle.ads_machine.specs.Reach.{addressed_by_range};
-ghost use Rattle.ads_machine.specs.World.{World};
+ghost use Rattle.spec_plant.specs.Description.{size_in};
+ghost use Rattle.spec_plant.specs.Named.{port_numbered};
+ghost use Rattle.spec_plant.specs.World.{PlantPort};
+ghost use Rattle.spec_formats.specs.Ranges.{Bytes};
+ghost use Rattle.spec_machine.specs.Reach.{addressed_by_range};
+ghost use Rattle.spec_machine.specs.World.{World};
 ghost use Rattle.index_groups.specs.Access.{range_meant};
 ghost use Rattle.notify_table.specs.Table.{watched_len};
 ghost use Rattle.type_layout.specs.Descriptions.{area_of};

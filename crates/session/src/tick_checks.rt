@@ -2,9 +2,9 @@
 
 ghost use Rattle.std.specs.Prelude.{◌≡◌, ◌+◌, ◌<◌, ◌≤◌, length, map, All, Some, IsTrue, IsSomeAnd, IfOk, OnOk, option_map};
 ghost use Rattle.std.specs.List.Sorted.{IsStrictlyIncreasing};
-ghost use Rattle.ads_machine.specs.Stamps.{frames_of_samples};
-ghost use Rattle.ads_machine.specs.Watches.{is_due};
-ghost use Rattle.ads_machine.specs.World.{World};
+ghost use Rattle.spec_machine.specs.Stamps.{frames_of_samples};
+ghost use Rattle.spec_machine.specs.Watches.{is_due};
+ghost use Rattle.spec_machine.specs.World.{World};
 ghost use Rattle.index_groups.specs.Access.{range_meant};
 ghost use Rattle.notify_table.specs.Specs.{new_watch, before_checks};
 ghost use Rattle.notify_table.specs.Table.{watch_of_handle, watched_len, due_handles, IsTable};

@@ -2,13 +2,13 @@
 //! Notification".
 
 ghost use Rattle.std.specs.Prelude.{◌≡◌, ◌≤◌, ℕ, Some, option_map, IfOk, OnErr};
-ghost use Rattle.ads_formats.specs.Groups.{group_of};
-ghost use Rattle.ads_formats.specs.Request.{AddDeviceNotification, DeleteDeviceNotification};
-ghost use Rattle.ads_machine.specs.Answers.{all_answered, answered_group, ADD_DEVICE_NOTIFICATION};
-ghost use Rattle.ads_machine.specs.Acts.{Act};
-ghost use Rattle.ads_machine.specs.Handles.{kept_status};
-ghost use Rattle.ads_machine.specs.Reach.{reach_of, addressed_by_status};
-ghost use Rattle.ads_machine.specs.Requests.{mode_of};
+ghost use Rattle.spec_formats.specs.Groups.{group_of};
+ghost use Rattle.spec_formats.specs.Request.{AddDeviceNotification, DeleteDeviceNotification};
+ghost use Rattle.spec_machine.specs.Answers.{all_answered, answered_group, ADD_DEVICE_NOTIFICATION};
+ghost use Rattle.spec_machine.specs.Acts.{Act};
+ghost use Rattle.spec_machine.specs.Handles.{kept_status};
+ghost use Rattle.spec_machine.specs.Reach.{reach_of, addressed_by_status};
+ghost use Rattle.spec_machine.specs.Requests.{mode_of};
 ghost use Rattle.notify_table.specs.Specs.{address_of, mode_meant};
 ghost use Rattle.notify_table.specs.Table.{watched_len, CanBeWatched};
 ghost use Rattle.index_groups.specs.Access.{range_meant};

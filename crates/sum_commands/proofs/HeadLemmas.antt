@@ -2,8 +2,8 @@
 use Rattle.std.proofs.Common.{◌≡◌, ℕ, suc, ◌+◌, ◌*◌, ◌≤◌, List, drop, length, sum, ap, ◌∙◌, arith, length-drop}
 use Rattle.std.proofs.Math.Nat.{mul-suc}
 use Rattle.std.proofs.lemmas.List.Sums.{sum_by-cons}
-use Rattle.ads_formats.specs.Numbers.{number32}
-use Rattle.ads_machine.specs.Sums.{numbers_of_heads}
+use Rattle.spec_formats.specs.Numbers.{number32}
+use Rattle.spec_machine.specs.Sums.{numbers_of_heads}
 
 pub numbers-step : (m k width at : ℕ) (heads : List ℕ) → m ≡ suc k
     → sum (numbers_of_heads m width at heads)

@@ -4,9 +4,9 @@ use Rattle.std.proofs.Math.Nat.{mul-suc}
 use Rattle.std.proofs.lemmas.List.{append-nil}
 use Rattle.std.proofs.lemmas.List.Concat.{flat_map-cons}
 use Rattle.std.specs.Int.{w32, to_le_bytes}
-use Rattle.ads_formats.specs.Request.{Request}
-use Rattle.ads_machine.specs.Acts.{Outcome}
-use Rattle.ads_machine.specs.Sums.{given_in_turn, left_in_turn}
+use Rattle.spec_formats.specs.Request.{Request}
+use Rattle.spec_machine.specs.Acts.{Outcome}
+use Rattle.spec_machine.specs.Sums.{given_in_turn, left_in_turn}
 use Rattle.sum_commands.specs.declared.form.Form.{Form}
 use Rattle.sum_commands.specs.declared.form.Form.TheVariants as form
 use Rattle.sum_commands.specs.Parts.{Runs, front_of, data_of, asked_of}

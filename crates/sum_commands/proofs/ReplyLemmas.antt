@@ -1,9 +1,9 @@
 -- The reply of a sum: its results in front, and its data behind them.
 use Rattle.std.proofs.Common.{◌≡◌, ℕ, ◌*◌, List, ◌++◌, drop, refl, sym}
 use Rattle.std.proofs.lemmas.List.{append-nil}
-use Rattle.ads_formats.specs.Request.{Request}
-use Rattle.ads_machine.specs.Acts.{Outcome}
-use Rattle.ads_machine.specs.Sums.{given_in_turn, packed}
+use Rattle.spec_formats.specs.Request.{Request}
+use Rattle.spec_machine.specs.Acts.{Outcome}
+use Rattle.spec_machine.specs.Sums.{given_in_turn, packed}
 use Rattle.sum_commands.specs.declared.form.Form.{Form}
 use Rattle.sum_commands.specs.declared.form.Form.TheVariants as form
 use Rattle.sum_commands.specs.SumCommand.{sum_reply}

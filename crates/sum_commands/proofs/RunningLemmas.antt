@@ -1,7 +1,7 @@
 -- Parts that were run, and those that are left.
 use Rattle.std.proofs.Common.{ℕ, List}
-use Rattle.ads_formats.specs.Request.{Request}
-use Rattle.ads_machine.specs.Acts.{Outcome}
+use Rattle.spec_formats.specs.Request.{Request}
+use Rattle.spec_machine.specs.Acts.{Outcome}
 use Rattle.sum_commands.specs.declared.form.Form.{Form}
 use Rattle.sum_commands.specs.Forms.{RunsAll, parts_of}
 use Rattle.sum_commands.specs.Stops.{StopsAmong}

@@ -4,7 +4,7 @@ use Rattle.std.proofs.lemmas.List.{take-append-drop}
 use Rattle.std.specs.Prelude.{Result, Ok, Err, OnErr}
 use Rattle.ads_base.specs.Octets.{Extends}
 use Rattle.ads_base.proofs.OctetsLemmas.{Extends-append}
-use Rattle.ads_formats.specs.Request.{Request}
+use Rattle.spec_formats.specs.Request.{Request}
 use Rattle.sum_commands.specs.declared.form.Form.{Form}
 use Rattle.sum_commands.specs.declared.form.Form.TheVariants as form
 use Rattle.sum_commands.specs.Forms.{sum_in, head_width, part_of, parts_of}

@@ -1,13 +1,13 @@
 -- The three forms of a sum, part by part. No public clause cites it.
 use Rattle.std.specs.Prelude.{◌≡◌, ◌≤◌, ℕ, ◌+◌, ◌*◌, List, [], ◌++◌, length, take, sum, flat_map}
 use Rattle.std.specs.Int.{w32, to_le_bytes}
-use Rattle.ads_formats.specs.Numbers.{number32}
-use Rattle.ads_formats.specs.Ranges.{greatest_len}
-use Rattle.ads_formats.specs.Request.{Request, Read, Write, ReadWrite}
-use Rattle.ads_machine.specs.Acts.{Outcome}
-use Rattle.ads_machine.specs.Sums.{SumRequest, sum_of_reads, sum_of_writes, sum_of_read_writes, read_parts, write_parts}
-use Rattle.ads_machine.specs.Sums.{read_write_parts, numbers_of_heads, codes_of, filled_data, MAX_PARTS}
-use Rattle.ads_machine.specs.Sums.{given_in_turn, left_in_turn}
+use Rattle.spec_formats.specs.Numbers.{number32}
+use Rattle.spec_formats.specs.Ranges.{greatest_len}
+use Rattle.spec_formats.specs.Request.{Request, Read, Write, ReadWrite}
+use Rattle.spec_machine.specs.Acts.{Outcome}
+use Rattle.spec_machine.specs.Sums.{SumRequest, sum_of_reads, sum_of_writes, sum_of_read_writes, read_parts, write_parts}
+use Rattle.spec_machine.specs.Sums.{read_write_parts, numbers_of_heads, codes_of, filled_data, MAX_PARTS}
+use Rattle.spec_machine.specs.Sums.{given_in_turn, left_in_turn}
 use Rattle.sum_commands.specs.declared.form.Form.{Form}
 use Rattle.sum_commands.specs.declared.form.Form.TheVariants as form
 

@@ -1,5 +1,5 @@
 -- Which request a value of `Part` is. No public clause cites it.
-use Rattle.ads_formats.specs.Request as request
+use Rattle.spec_formats.specs.Request as request
 use Rattle.sum_commands.specs.declared.part.Part.{Part}
 use Rattle.sum_commands.specs.declared.part.Part.TheVariants as value
 

@@ -2,10 +2,10 @@
 -- Beckhoff Information System, "ADS Sum Command".
 use Rattle.std.specs.Prelude.{◌≡◌, ◌≤◌, ℕ, ◌+◌, List, [], ◌++◌, length, Result, Ok, Err}
 use Rattle.std.specs.Int.{w32, to_le_bytes}
-use Rattle.ads_formats.specs.Codes.{no_error}
-use Rattle.ads_formats.specs.Request.{Request, Read, ReadWrite}
-use Rattle.ads_machine.specs.Acts.{Outcome}
-use Rattle.ads_machine.specs.Sums.{filled}
+use Rattle.spec_formats.specs.Codes.{no_error}
+use Rattle.spec_formats.specs.Request.{Request, Read, ReadWrite}
+use Rattle.spec_machine.specs.Acts.{Outcome}
+use Rattle.spec_machine.specs.Sums.{filled}
 use Rattle.return_codes.specs.declared.code.Code.{Code}
 use Rattle.return_codes.specs.Code.{number_of}
 

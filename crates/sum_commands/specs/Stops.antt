@@ -1,6 +1,6 @@
 -- What parts that run one after another leave where memory is wanting: the parts that ran stay done.
 use Rattle.std.specs.Prelude.{◌⊎◌, List, ◌∷◌}
-use Rattle.ads_formats.specs.Request.{Request}
+use Rattle.spec_formats.specs.Request.{Request}
 
 -- no further part is run; or the first wants memory, and leaves what a service may leave then; or it is done, and the
 -- others stop somewhere

@@ -1,11 +1,11 @@
 -- A sum by its group: its parts, the code that refuses it, its reply.
 -- Beckhoff Information System, "ADS Sum Command".
 use Rattle.std.specs.Prelude.{ℕ, List, Option, Some, None, Result, Ok, Err, ◌==◌, if◌then◌else◌}
-use Rattle.ads_formats.specs.Groups.{sum_read, sum_write}
-use Rattle.ads_formats.specs.Request.{Request}
-use Rattle.ads_machine.specs.Acts.{Outcome}
-use Rattle.ads_machine.specs.Sums.{SumRequest, sum_of_reads, sum_of_writes, sum_of_read_writes, sum_refusal, packed}
-use Rattle.ads_machine.specs.Sums.{given_in_turn, left_in_turn}
+use Rattle.spec_formats.specs.Groups.{sum_read, sum_write}
+use Rattle.spec_formats.specs.Request.{Request}
+use Rattle.spec_machine.specs.Acts.{Outcome}
+use Rattle.spec_machine.specs.Sums.{SumRequest, sum_of_reads, sum_of_writes, sum_of_read_writes, sum_refusal, packed}
+use Rattle.spec_machine.specs.Sums.{given_in_turn, left_in_turn}
 use Rattle.return_codes.specs.declared.code.Code.{Code}
 use Rattle.return_codes.specs.Code.{number_of}
 

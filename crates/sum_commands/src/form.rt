@@ -1,7 +1,7 @@
 //! The three forms of a sum.
 
 ghost use Rattle.std.specs.Prelude.{◌≡◌, ◌≤◌, ◌*◌, ℕ, List};
-ghost use Rattle.ads_machine.specs.Sums.{MAX_PARTS};
+ghost use Rattle.spec_machine.specs.Sums.{MAX_PARTS};
 ghost use Rattle.sum_commands.specs.SumCommand.{sum_of};
 
 // How the parts of a sum are packed.

@@ -1,8 +1,8 @@
 //! The parts of a sum, taken from the front.
 
 ghost use Rattle.std.specs.Prelude.{◌≡◌, ◌≤◌, ◌+◌, ◌*◌, ◌^◌, length, drop, sum};
-ghost use Rattle.ads_formats.specs.Numbers.{number32};
-ghost use Rattle.ads_machine.specs.Sums.{MAX_PARTS, numbers_of_heads};
+ghost use Rattle.spec_formats.specs.Numbers.{number32};
+ghost use Rattle.spec_machine.specs.Sums.{MAX_PARTS, numbers_of_heads};
 ghost use Rattle.sum_commands.specs.Forms.{head_width, written_len, part_of, all_written, all_asked, sum_in};
 ghost use Rattle.sum_commands.specs.PartValues.{part_meant};
 

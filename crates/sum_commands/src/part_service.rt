@@ -1,7 +1,7 @@
 //! What runs the parts of a sum.
 
 ghost use Rattle.std.specs.Prelude.{◌≡◌, ◌+◌, ◌≤◌, length, OnOk, OnErr, IfOk};
-ghost use Rattle.ads_formats.specs.Request.{Request, Read, Write, ReadWrite};
+ghost use Rattle.spec_formats.specs.Request.{Request, Read, Write, ReadWrite};
 
 use ads_base::{NoMemory, Octets};
 use return_codes::Code;
@@ -13,7 +13,7 @@ use std::alloc::Global;
 /// After want of memory of `read` or `read_write` the service is one that `may_leave` has.
 /// Beckhoff Information System, "ADS Read", "ADS Write", "ADS ReadWrite".
 pub trait PartService {
-    ghost use Rattle.ads_machine.specs.Acts.{Outcome};
+    ghost use Rattle.spec_machine.specs.Acts.{Outcome};
     ghost use Rattle.sum_commands.specs.Parts.{Gives, code_in};
     ghost use Rattle.sum_commands.specs.Served.{StandsForSome};
 

@@ -16,7 +16,7 @@ const MAX_PARTS: u32 = 500;
 const MAX_LEN: u64 = 2_000_000;
 
 // The code that refuses a sum of n parts.
-#[tactic(auto, unfolding(ads_machine::specs::Sums::sum_refusal))]
+#[tactic(auto, unfolding(spec_machine::specs::Sums::sum_refusal))]
 pub(crate) fn refusal(form: Form, n: u32, read_len: u32, bytes: &[u8]) -> Option<Code>
     ensures code { option_map number_of result
         ≡ refusal_in (sum_in form n bytes.now) n (length bytes.now) read_len }

@@ -2,9 +2,9 @@
 
 ghost use Rattle.std.specs.Prelude.{◌≡◌, ◌≤◌, ◌+◌, ◌++◌, length, OnOk, OnErr, IfOk};
 ghost use Rattle.ads_base.specs.Octets.{Extends};
-ghost use Rattle.ads_formats.specs.Groups.{sum_read, sum_read_write};
-ghost use Rattle.ads_formats.specs.Ranges.{greatest_len};
-ghost use Rattle.ads_machine.specs.Sums.{MAX_PARTS};
+ghost use Rattle.spec_formats.specs.Groups.{sum_read, sum_read_write};
+ghost use Rattle.spec_formats.specs.Ranges.{greatest_len};
+ghost use Rattle.spec_machine.specs.Sums.{MAX_PARTS};
 ghost use Rattle.sum_commands.specs.Forms.{HasParts, RunsAll, Replies, parts_of};
 ghost use Rattle.sum_commands.specs.Served.{StandsForSome};
 ghost use Rattle.sum_commands.specs.Stops.{StopsAmong};

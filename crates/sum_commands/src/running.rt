@@ -2,7 +2,7 @@
 
 ghost use Rattle.std.specs.Prelude.{OnOk, OnErr};
 ghost use Rattle.ads_base.specs.Octets.{Extends};
-ghost use Rattle.ads_formats.specs.Request.{Read, Write, ReadWrite};
+ghost use Rattle.spec_formats.specs.Request.{Read, Write, ReadWrite};
 ghost use Rattle.sum_commands.specs.Parts.{Runs};
 ghost use Rattle.sum_commands.specs.Served.{StandsForSome};
 ghost use Rattle.sum_commands.specs.Stops.{MayStop};

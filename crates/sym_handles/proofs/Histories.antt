@@ -7,10 +7,10 @@ use Rattle.return_codes.specs.declared.code.Code.TheVariants.{C710, C711}
 use Rattle.symbol_table.specs.declared.kept.KeptPlace.{KeptPlace}
 use Rattle.symbol_table.specs.declared.place.Place.{Place}
 use Rattle.symbol_table.specs.Moves.{moved_place}
-use Rattle.ads_machine.specs.ByName.{MAX_LIVE, MAX_NUMBER}
-use Rattle.ads_machine.specs.Handles.{HandleStatus, Never, Released, Outdated, Live, HandleEvent, Grant, Release, Reload, Handle, status_of, handles_after, handle_after_reload}
-use Rattle.ads_machine.specs.HandleLaws.{handles_after_all, handles_of}
-use Rattle.ads_machine.proofs.HandleStatuses.{status_is_history, length_granted, length_mapped, length_released}
+use Rattle.spec_machine.specs.ByName.{MAX_LIVE, MAX_NUMBER}
+use Rattle.spec_machine.specs.Handles.{HandleStatus, Never, Released, Outdated, Live, HandleEvent, Grant, Release, Reload, Handle, status_of, handles_after, handle_after_reload}
+use Rattle.spec_machine.specs.HandleLaws.{handles_after_all, handles_of}
+use Rattle.spec_machine.proofs.HandleStatuses.{status_is_history, length_granted, length_mapped, length_released}
 use Rattle.sym_handles.specs.Kept.{KeptHandle, Kept, moved_handle, without}
 use Rattle.sym_handles.specs.History.{History, IsFull, look_up, release_of, kept_from, Represents}
 use Rattle.sym_handles.specs.Found.{kept_handle, place_or_code, look_among}

@@ -5,7 +5,7 @@ use Rattle.std.proofs.lemmas.Bool.{cases_Bool, cases_lt, eqb-true, eqb-false, eq
 use Rattle.symbol_table.specs.declared.kept.KeptPlace.{KeptPlace}
 use Rattle.symbol_table.specs.declared.place.Place.{Place}
 use Rattle.symbol_table.specs.Moves.{moved_place}
-use Rattle.ads_machine.specs.Handles.{HandleStatus, Never, Released, Outdated, Live, Handle, handle_in, status_of_handle, with_released, status_after_reload, live_or_outdated, handle_after_reload, is_live, live_count}
+use Rattle.spec_machine.specs.Handles.{HandleStatus, Never, Released, Outdated, Live, Handle, handle_in, status_of_handle, with_released, status_after_reload, live_or_outdated, handle_after_reload, is_live, live_count}
 use Rattle.sym_handles.specs.Kept.{KeptHandle, moved_handle, without}
 use Rattle.sym_handles.specs.History.{kept_before, kept_from}
 use Rattle.sym_handles.specs.Found.{kept_handle, IsHandleAt}

@@ -3,9 +3,9 @@ use Rattle.std.specs.Prelude.{◌≡◌, ℕ, ◌+◌, ◌≤◌, ◌⊎◌, Lis
 use Rattle.return_codes.specs.declared.code.Code.{Code}
 use Rattle.return_codes.specs.declared.code.Code.TheVariants.{C710, C711}
 use Rattle.symbol_table.specs.declared.place.Place.{Place}
-use Rattle.ads_machine.specs.ByName.{MAX_LIVE, MAX_NUMBER}
-use Rattle.ads_machine.specs.Handles.{HandleStatus, Never, Released, Outdated, Live, HandleEvent, Handle, live_count}
-use Rattle.ads_machine.specs.HandleLaws.{handles_of}
+use Rattle.spec_machine.specs.ByName.{MAX_LIVE, MAX_NUMBER}
+use Rattle.spec_machine.specs.Handles.{HandleStatus, Never, Released, Outdated, Live, HandleEvent, Handle, live_count}
+use Rattle.spec_machine.specs.HandleLaws.{handles_of}
 use Rattle.sym_handles.specs.Kept.{KeptHandle, Kept}
 
 abbrev pub History : Type 0

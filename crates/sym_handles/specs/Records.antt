@@ -1,6 +1,6 @@
 -- Records in a slab, and the list of the handles that they belong to. Private: no public clause cites this file.
 use Rattle.std.specs.Prelude.{◌≡◌, ◌≢◌, ℕ, ◌<◌, ◌≤◌, List, map, length, slice_index_or, Bool, IsSome, Option, None, is_some, unwrap_or, count_by, All, AllPairs, filter, ◌||◌, nat_le, if◌then◌else◌, option_and_then}
-use Rattle.ads_machine.specs.ByName.{MAX_LIVE, MAX_NUMBER}
+use Rattle.spec_machine.specs.ByName.{MAX_LIVE, MAX_NUMBER}
 use Rattle.symbol_table.specs.declared.kept.KeptPlace.{KeptPlace}
 use Rattle.symbol_table.specs.Moves.{moved_place}
 use Rattle.sym_handles.specs.declared.records.Record.{Record}

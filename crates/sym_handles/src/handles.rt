@@ -1,8 +1,8 @@
 //! The handles of one client.
 
 ghost use Rattle.std.specs.Prelude.{◌≡◌, ◌+◌, ◌^◌, ◌<◌, ◌≤◌, ◌↔◌, [], ◌∷◌, ◌++◌, map, length, slice_index_or, All, Contains, false, None, Ok, Err, Some, IsErr, IfOk, MatchOption, OnOk, OnErr};
-ghost use Rattle.ads_machine.specs.Handles.{Grant, Release, Reload, status_of};
-ghost use Rattle.ads_machine.specs.HandleLaws.{handles_of};
+ghost use Rattle.spec_machine.specs.Handles.{Grant, Release, Reload, status_of};
+ghost use Rattle.spec_machine.specs.HandleLaws.{handles_of};
 ghost use Rattle.symbol_table.specs.Moves.{moved_place};
 ghost use Rattle.sym_handles.specs.History.{History, IsFull, look_up, release_of, Represents};
 ghost use Rattle.sym_handles.specs.Records.{is_full};

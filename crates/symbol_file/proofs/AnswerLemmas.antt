@@ -6,11 +6,11 @@ use Rattle.std.proofs.lemmas.Bool.{cases_Bool, ltb-true, ltb-false}
 use Rattle.std.proofs.lemmas.Str.{IsUtf8-from_is_utf8, is_utf8-from_IsUtf8}
 use Rattle.toml.specs.Data.{Members}
 use Rattle.toml.specs.Parse.{parse_document}
-use Rattle.ads_plant.specs.Description.{Description}
-use Rattle.ads_plant.specs.Accepted.{IsAccepted}
-use Rattle.ads_rules.specs.Verdict.{BrokenRule, table_verdict}
-use Rattle.ads_rules.specs.TextVerdict.{DESCRIPTION_LIMIT, Described, Breaks, text_verdict, verdict_of_rules, verdict_of_document, document_of}
-use Rattle.ads_rules.proofs.Accepts.{table_verdict-accepted}
+use Rattle.spec_plant.specs.Description.{Description}
+use Rattle.spec_plant.specs.Accepted.{IsAccepted}
+use Rattle.spec_rules.specs.Verdict.{BrokenRule, table_verdict}
+use Rattle.spec_rules.specs.TextVerdict.{DESCRIPTION_LIMIT, Described, Breaks, text_verdict, verdict_of_rules, verdict_of_document, document_of}
+use Rattle.spec_rules.proofs.Accepts.{table_verdict-accepted}
 use Rattle.type_layout.specs.Descriptions.{description_of}
 use Rattle.type_layout.specs.declared.description.Description as layout
 use Rattle.symbol_file.specs.declared.fault.DescFault.{DescFault}

@@ -6,20 +6,20 @@ use Rattle.std.proofs.lemmas.Bool.{and_parts, leb-true, ltb-true, eqb-true}
 use Rattle.std.proofs.lemmas.Simd.{map-map}
 use Rattle.std.proofs.lemmas.List.Elements.{All-nil, All-cons}
 use Rattle.toml.specs.Data.{Members}
-use Rattle.ads_plant.specs.Listed.{NamedType, Shape}
-use Rattle.ads_plant.specs.Description as plant
-use Rattle.ads_plant.specs.Accepted.{is_port, is_symbol, is_signal_right, image_size, size_of_symbol}
-use Rattle.ads_rules.specs.Written as rules
-use Rattle.ads_rules.specs.Places.{first_wrong, first_through}
-use Rattle.ads_rules.specs.Nets.{net_of}
-use Rattle.ads_rules.specs.Described.{natural_of, types_described, port_described, symbol_described, sizes_described, description_of}
-use Rattle.ads_rules.specs.Tables.{document_in}
-use Rattle.ads_rules.specs.RouteRules.{wrong_net, is_right_route}
-use Rattle.ads_rules.specs.SymbolRules.{wrong_content, is_right_content, is_right_writer, are_right_writers}
-use Rattle.ads_rules.specs.Verdict.{rules_of, judged, verdict_behind, table_verdict}
-use Rattle.ads_rules.proofs.FirstWrong.{none_of, first_right, first_through-none, option_map-none}
-use Rattle.ads_rules.proofs.TypesAccepted.{when_all}
-use Rattle.ads_rules.proofs.Accepts.{all_hold, table_verdict-accepted}
+use Rattle.spec_plant.specs.Listed.{NamedType, Shape}
+use Rattle.spec_plant.specs.Description as plant
+use Rattle.spec_plant.specs.Accepted.{is_port, is_symbol, is_signal_right, image_size, size_of_symbol}
+use Rattle.spec_rules.specs.Written as rules
+use Rattle.spec_rules.specs.Places.{first_wrong, first_through}
+use Rattle.spec_rules.specs.Nets.{net_of}
+use Rattle.spec_rules.specs.Described.{natural_of, types_described, port_described, symbol_described, sizes_described, description_of}
+use Rattle.spec_rules.specs.Tables.{document_in}
+use Rattle.spec_rules.specs.RouteRules.{wrong_net, is_right_route}
+use Rattle.spec_rules.specs.SymbolRules.{wrong_content, is_right_content, is_right_writer, are_right_writers}
+use Rattle.spec_rules.specs.Verdict.{rules_of, judged, verdict_behind, table_verdict}
+use Rattle.spec_rules.proofs.FirstWrong.{none_of, first_right, first_through-none, option_map-none}
+use Rattle.spec_rules.proofs.TypesAccepted.{when_all}
+use Rattle.spec_rules.proofs.Accepts.{all_hold, table_verdict-accepted}
 use Rattle.description_table.specs.Views.{document_view, port_view, symbol_view, route_view, text_view}
 use Rattle.description_table.specs.declared.written.WrittenSymbol.{WrittenSymbol}
 use Rattle.description_table.specs.declared.written.WrittenPort.{WrittenPort}

@@ -2,10 +2,10 @@
 use Rattle.std.proofs.Common.{◌≡◌, ℕ, List, [], ◌∷◌, map, refl, sym, ap, ◌∙◌}
 use Rattle.std.specs.Prelude.{slice_get, Result, Ok, Err, IfOk}
 use Rattle.std.specs.Option.{option_map_or}
-use Rattle.ads_plant.specs.Plain.{Kind}
-use Rattle.ads_plant.specs.Listed.{Enumeration}
-use Rattle.ads_plant.specs.Accepted.{number_bytes}
-use Rattle.ads_rules.specs.Described.{first_value_bytes}
+use Rattle.spec_plant.specs.Plain.{Kind}
+use Rattle.spec_plant.specs.Listed.{Enumeration}
+use Rattle.spec_plant.specs.Accepted.{number_bytes}
+use Rattle.spec_rules.specs.Described.{first_value_bytes}
 use Rattle.type_layout.specs.Shapes.{kind_of}
 use Rattle.type_layout.specs.NamedTypes.{value_of, enumeration_of}
 use Rattle.type_layout.specs.declared.enumerations.EnumValue.{EnumValue}

@@ -3,13 +3,13 @@
 use Rattle.std.specs.Prelude.{◌≡◌, ℕ, ◌^◌, ◌<◌, ◌≤◌, List, length, map, true, Some, is_some, IfSome}
 use Rattle.std.specs.List.{All}
 use Rattle.toml.specs.Data.{Members}
-use Rattle.ads_plant.specs.Listed.{NamedType}
-use Rattle.ads_plant.specs.Trees.{tree_of}
-use Rattle.ads_plant.specs.Sizes.{type_size}
-use Rattle.ads_plant.specs.AcceptedTypes.{is_small_shape}
-use Rattle.ads_rules.specs.Nets.{net_of}
-use Rattle.ads_rules.specs.Described.{natural_of, shape_described, types_described}
-use Rattle.ads_rules.specs.Tables.{document_in}
+use Rattle.spec_plant.specs.Listed.{NamedType}
+use Rattle.spec_plant.specs.Trees.{tree_of}
+use Rattle.spec_plant.specs.Sizes.{type_size}
+use Rattle.spec_plant.specs.AcceptedTypes.{is_small_shape}
+use Rattle.spec_rules.specs.Nets.{net_of}
+use Rattle.spec_rules.specs.Described.{natural_of, shape_described, types_described}
+use Rattle.spec_rules.specs.Tables.{document_in}
 use Rattle.description_table.specs.Views.{type_view, document_view}
 use Rattle.description_table.specs.declared.written.WrittenSymbol.{WrittenSymbol}
 use Rattle.description_table.specs.declared.written.WrittenPort.{WrittenPort}

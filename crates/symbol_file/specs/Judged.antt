@@ -1,13 +1,13 @@
 -- For private contracts, and cited by no public clause: rules 3 to 15, in the parts in which they are decided.
 use Rattle.std.specs.Prelude.{◌≡◌, ℕ, List, [], ◌∷◌, map, Option, Some, None, Result, Ok, Err}
-use Rattle.ads_plant.specs.Listed.{NamedType}
-use Rattle.ads_rules.specs.Written as rules
-use Rattle.ads_rules.specs.Verdict.{BrokenRule, first_broken, rules_of}
-use Rattle.ads_rules.specs.RouteRules.{wrong_schema, wrong_net, wrong_rights}
-use Rattle.ads_rules.specs.TypeRules.{wrong_type_name, wrong_part}
-use Rattle.ads_rules.specs.PortRules.{wrong_port, wrong_upload}
-use Rattle.ads_rules.specs.SymbolRules.{wrong_name, wrong_type, wrong_place, wrong_content, wrong_signal}
-use Rattle.ads_rules.specs.Described.{types_described}
+use Rattle.spec_plant.specs.Listed.{NamedType}
+use Rattle.spec_rules.specs.Written as rules
+use Rattle.spec_rules.specs.Verdict.{BrokenRule, first_broken, rules_of}
+use Rattle.spec_rules.specs.RouteRules.{wrong_schema, wrong_net, wrong_rights}
+use Rattle.spec_rules.specs.TypeRules.{wrong_type_name, wrong_part}
+use Rattle.spec_rules.specs.PortRules.{wrong_port, wrong_upload}
+use Rattle.spec_rules.specs.SymbolRules.{wrong_name, wrong_type, wrong_place, wrong_content, wrong_signal}
+use Rattle.spec_rules.specs.Described.{types_described}
 use Rattle.description_rules.specs.Faults.{fault_view}
 use Rattle.description_rules.specs.KnownTypes.{AreAllKnown}
 use Rattle.description_rules.specs.declared.verdict as code

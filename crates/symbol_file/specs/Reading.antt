@@ -1,6 +1,6 @@
 -- What the reader of descriptions answers: the verdict on the bytes of a text.
 use Rattle.std.specs.Prelude.{◌≡◌, ℕ, List, Result, Ok, Err}
-use Rattle.ads_rules.specs.TextVerdict.{TextVerdict, Described, Breaks, NoDocument, text_verdict}
+use Rattle.spec_rules.specs.TextVerdict.{TextVerdict, Described, Breaks, NoDocument, text_verdict}
 use Rattle.type_layout.specs.Descriptions.{description_of}
 use Rattle.type_layout.specs.declared.description.Description as layout
 use Rattle.symbol_file.specs.declared.fault.DescFault.{DescFault}

@@ -1,9 +1,9 @@
 -- For private contracts, and cited by no public clause: a symbol whose shape and first bytes are known.
 use Rattle.std.specs.Prelude.{ℕ, List, option_map, unwrap_or}
-use Rattle.ads_plant.specs.Listed.{Shape}
-use Rattle.ads_plant.specs.Description.{Symbol, Inputs}
-use Rattle.ads_rules.specs.Written.{WrittenSymbol}
-use Rattle.ads_rules.specs.Described.{area_of, natural_of, nets_described}
+use Rattle.spec_plant.specs.Listed.{Shape}
+use Rattle.spec_plant.specs.Description.{Symbol, Inputs}
+use Rattle.spec_rules.specs.Written.{WrittenSymbol}
+use Rattle.spec_rules.specs.Described.{area_of, natural_of, nets_described}
 
 abbrev pub symbol_read : Shape → List ℕ → WrittenSymbol → Symbol
 symbol_read shape initial s = record {

@@ -1,6 +1,6 @@
 //! The description that a document writes, built where no rule is broken.
 ghost use Rattle.std.specs.Prelude.{◌≡◌, map, IfOk};
-ghost use Rattle.ads_rules.specs.Described as described;
+ghost use Rattle.spec_rules.specs.Described as described;
 ghost use Rattle.type_layout.specs.Descriptions.{description_of, ports_of};
 ghost use Rattle.type_layout.specs.NamedTypes.{types_of};
 ghost use Rattle.description_rules.specs.KnownTypes.{AreAllKnown};

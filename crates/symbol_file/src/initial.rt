@@ -1,11 +1,11 @@
 //! The bytes that a symbol begins with.
 ghost use Rattle.std.specs.Prelude.{◌≡◌, [], replicate, slice_get, option_map, unwrap_or, IfOk};
 ghost use Rattle.std.specs.Option.{option_map_or};
-ghost use Rattle.ads_plant.specs.Listed as listed;
-ghost use Rattle.ads_plant.specs.Accepted.{number_bytes};
-ghost use Rattle.ads_plant.specs.Trees.{tree_of};
-ghost use Rattle.ads_plant.specs.Sizes.{type_size};
-ghost use Rattle.ads_rules.specs.Described.{initial_described, default_bytes, first_value_bytes, bytes_of_hex};
+ghost use Rattle.spec_plant.specs.Listed as listed;
+ghost use Rattle.spec_plant.specs.Accepted.{number_bytes};
+ghost use Rattle.spec_plant.specs.Trees.{tree_of};
+ghost use Rattle.spec_plant.specs.Sizes.{type_size};
+ghost use Rattle.spec_rules.specs.Described.{initial_described, default_bytes, first_value_bytes, bytes_of_hex};
 ghost use Rattle.type_layout.specs.Shapes.{kind_of, elem_of, shape_of};
 ghost use Rattle.type_layout.specs.NamedTypes.{types_of, named_type_of, enumeration_of};
 ghost use Rattle.description_table.specs.Views.{text_view};

@@ -1,8 +1,8 @@
 //! NetIds of a document, each of which is right.
 ghost use Rattle.std.specs.Prelude.{◌≡◌, [], map, option_map, unwrap_or, IfOk, IfSome};
 ghost use Rattle.std.specs.List.{All};
-ghost use Rattle.ads_rules.specs.Nets.{net_of};
-ghost use Rattle.ads_rules.specs.Described.{nets_described};
+ghost use Rattle.spec_rules.specs.Nets.{net_of};
+ghost use Rattle.spec_rules.specs.Described.{nets_described};
 ghost use Rattle.type_layout.specs.Descriptions.{nets_of};
 ghost use Rattle.description_table.specs.Views.{text_view};
 ghost use Rattle.symbol_file.specs.Fitting.{IsNetText};

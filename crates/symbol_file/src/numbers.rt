@@ -1,6 +1,6 @@
 //! Numbers of a document in the widths that a description has.
 ghost use Rattle.std.specs.Prelude.{◌≡◌, ◌^◌, ◌<◌, option_map, IfSome};
-ghost use Rattle.ads_rules.specs.Described.{natural_of};
+ghost use Rattle.spec_rules.specs.Described.{natural_of};
 
 use description_rules::natural_of;
 

@@ -1,7 +1,7 @@
 //! The ports of a description.
 ghost use Rattle.std.specs.Prelude.{◌≡◌, ◌≤◌, ◌-◌, ◌++◌, length, map, replicate, IfOk};
 ghost use Rattle.std.specs.List.{All};
-ghost use Rattle.ads_rules.specs.Described.{port_described, facts_described, sizes_described};
+ghost use Rattle.spec_rules.specs.Described.{port_described, facts_described, sizes_described};
 ghost use Rattle.type_layout.specs.NamedTypes.{types_of};
 ghost use Rattle.type_layout.specs.Descriptions.{port_of, ports_of, facts_of, sizes_of};
 ghost use Rattle.description_rules.specs.KnownTypes.{IsKnown};

@@ -1,10 +1,10 @@
 //! The reader of descriptions.
 ghost use Rattle.std.specs.Prelude.{◌≡◌, option_map, IfOk};
 ghost use Rattle.toml.specs.View.{table_view};
-ghost use Rattle.ads_plant.specs.Accepted.{IsAccepted};
-ghost use Rattle.ads_rules.specs.Verdict.{table_verdict, document_verdict};
+ghost use Rattle.spec_plant.specs.Accepted.{IsAccepted};
+ghost use Rattle.spec_rules.specs.Verdict.{table_verdict, document_verdict};
 ghost use Rattle.type_layout.specs.Descriptions.{description_of};
-ghost use Rattle.ads_rules.specs.TextVerdict.{document_of, verdict_of_rules};
+ghost use Rattle.spec_rules.specs.TextVerdict.{document_of, verdict_of_rules};
 ghost use Rattle.description_table.specs.Views.{document_view};
 ghost use Rattle.symbol_file.specs.Fitting.{IsWritten};
 ghost use Rattle.symbol_file.specs.Reading.{IsVerdict, answer_of};

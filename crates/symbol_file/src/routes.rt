@@ -1,8 +1,8 @@
 //! The routes of a description.
 ghost use Rattle.std.specs.Prelude.{◌≡◌, map, unwrap_or, IfOk};
 ghost use Rattle.std.specs.List.{All};
-ghost use Rattle.ads_plant.specs.Description as plant;
-ghost use Rattle.ads_rules.specs.Described as described;
+ghost use Rattle.spec_plant.specs.Description as plant;
+ghost use Rattle.spec_rules.specs.Described as described;
 ghost use Rattle.type_layout.specs.Descriptions.{route_of, routes_of, rights_of};
 ghost use Rattle.description_table.specs.Views.{route_view};
 ghost use Rattle.symbol_file.specs.Fitting.{IsNetText};

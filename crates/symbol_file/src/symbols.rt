@@ -1,15 +1,15 @@
 //! The symbols of a port.
 ghost use Rattle.std.specs.Prelude.{◌≡◌, ◌<◌, ◌^◌, map, true, unwrap_or, IfOk, IfSome};
 ghost use Rattle.std.specs.List.{All};
-ghost use Rattle.ads_plant.specs.Description as plant;
-ghost use Rattle.ads_plant.specs.AcceptedTypes.{is_small_shape};
-ghost use Rattle.ads_rules.specs.Described as described;
+ghost use Rattle.spec_plant.specs.Description as plant;
+ghost use Rattle.spec_plant.specs.AcceptedTypes.{is_small_shape};
+ghost use Rattle.spec_rules.specs.Described as described;
 ghost use Rattle.type_layout.specs.Shapes.{shape_of};
 ghost use Rattle.type_layout.specs.NamedTypes.{types_of};
 ghost use Rattle.type_layout.specs.Descriptions.{symbol_of, symbols_of, area_of};
 ghost use Rattle.description_rules.specs.KnownTypes.{IsKnown};
 ghost use Rattle.description_table.specs.Views.{symbol_view};
-ghost use Rattle.ads_rules.specs.Described.{natural_of};
+ghost use Rattle.spec_rules.specs.Described.{natural_of};
 ghost use Rattle.symbol_file.specs.Fitting.{SymbolFits, IsNetText};
 ghost use Rattle.symbol_file.specs.SymbolRead.{symbol_read};
 

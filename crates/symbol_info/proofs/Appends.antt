@@ -1,7 +1,7 @@
 -- An entry that is written in parts.
 use Rattle.std.proofs.Common.{◌≡◌, ℕ, List, ◌++◌, ap, ◌∙◌}
-use Rattle.ads_formats.specs.SymbolEntry.{SymbolEntry, entry_bytes, entry_len, text_bytes}
-use Rattle.ads_formats.proofs.Appends.{two_parts, three_parts}
+use Rattle.spec_formats.specs.SymbolEntry.{SymbolEntry, entry_bytes, entry_len, text_bytes}
+use Rattle.spec_formats.proofs.Appends.{two_parts, three_parts}
 use Rattle.symbol_info.specs.Parts.{words, lengths}
 
 -- the six parts of an entry, one after another

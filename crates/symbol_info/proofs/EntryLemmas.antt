@@ -4,9 +4,9 @@ use Rattle.std.specs.Prelude.{IsTrue, ◌↔◌, IfSome, option_map}
 use Rattle.std.proofs.lemmas.List.{take_rest}
 use Rattle.symbol_info.specs.declared.entry.Entry.{Entry}
 use Rattle.std.specs.Borrow.{Bor}
-use Rattle.ads_formats.specs.Numbers.{AreBytes, number16, number32}
-use Rattle.ads_formats.specs.SymbolEntry.{SymbolEntry, BeginsWithEntry, ends_in_nul, after_text, name_place, type_place, comment_place, entry_at, entry_of}
-use Rattle.ads_formats.proofs.EntryLemmas.{Tested, made, same_entry, entry_of-tested, entry_of-of_text, text_of-entry_of}
+use Rattle.spec_formats.specs.Numbers.{AreBytes, number16, number32}
+use Rattle.spec_formats.specs.SymbolEntry.{SymbolEntry, BeginsWithEntry, ends_in_nul, after_text, name_place, type_place, comment_place, entry_at, entry_of}
+use Rattle.spec_formats.proofs.EntryLemmas.{Tested, made, same_entry, entry_of-tested, entry_of-of_text, text_of-entry_of}
 use Rattle.symbol_info.specs.Entry.{BeginsWithNone, entry_meant}
 
 -- a text that was read at a place, and what follows it

@@ -1,7 +1,7 @@
 -- Which symbol entry a value of `Entry` is.
 use Rattle.std.specs.Prelude.{ℕ, ◌<◌, ◌^◌, List, length}
 use Rattle.symbol_info.specs.declared.entry.Entry.{Entry}
-use Rattle.ads_formats.specs.SymbolEntry.{SymbolEntry, BeginsWithEntry}
+use Rattle.spec_formats.specs.SymbolEntry.{SymbolEntry, BeginsWithEntry}
 
 abbrev pub entry_meant : Entry → SymbolEntry
 entry_meant e = record {

@@ -1,7 +1,7 @@
 -- The parts of a symbol entry's text. No public clause cites them.
 use Rattle.std.specs.Prelude.{ℕ, List, ◌++◌, length}
 use Rattle.std.specs.Int.{w16, w32, to_le_bytes}
-use Rattle.ads_formats.specs.SymbolEntry.{SymbolEntry}
+use Rattle.spec_formats.specs.SymbolEntry.{SymbolEntry}
 
 -- three numbers of 4 bytes
 abbrev pub words : ℕ → ℕ → ℕ → List ℕ

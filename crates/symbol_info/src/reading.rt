@@ -1,8 +1,8 @@
 //! Symbol entries are read.
 
 ghost use Rattle.std.specs.Prelude.{◌≡◌, ◌+◌, ◌≤◌, List, ℕ, length, take, drop, IsNone, IfSome, ◌↔◌, MatchOption, option_map, IsTrue, is_some};
-ghost use Rattle.ads_formats.specs.Numbers.{number16, number32};
-ghost use Rattle.ads_formats.specs.SymbolEntry.{BeginsWithEntry, entry_of, ends_in_nul, after_text};
+ghost use Rattle.spec_formats.specs.Numbers.{number16, number32};
+ghost use Rattle.spec_formats.specs.SymbolEntry.{BeginsWithEntry, entry_of, ends_in_nul, after_text};
 ghost use Rattle.symbol_info.specs.Entry.{BeginsWithNone, entry_meant};
 
 use crate::Entry;

@@ -2,7 +2,7 @@
 
 ghost use Rattle.std.specs.Prelude.{◌≡◌, ◌+◌, ◌<◌, ◌^◌, ◌++◌, length, OnOk, OnErr};
 ghost use Rattle.ads_base.specs.Octets.{Extends};
-ghost use Rattle.ads_formats.specs.SymbolEntry.{entry_bytes, text_bytes};
+ghost use Rattle.spec_formats.specs.SymbolEntry.{entry_bytes, text_bytes};
 ghost use Rattle.symbol_info.specs.Parts.{words, lengths};
 ghost use Rattle.symbol_info.specs.Entry.{HasShortTexts, entry_meant};
 

@@ -3,8 +3,8 @@ use Rattle.std.proofs.Common.{◌≡◌, ℕ, List, [], ◌∷◌, map, length, 
 use Rattle.std.specs.Prelude.{Some, slice_get, option_map}
 use Rattle.std.specs.List.{All}
 use Rattle.std.proofs.lemmas.Option.{slice_get-get_or, slice_get-map}
-use Rattle.ads_plant.specs.Listed.{NamedType}
-use Rattle.ads_plant.specs.Description.{Symbol, Port}
+use Rattle.spec_plant.specs.Listed.{NamedType}
+use Rattle.spec_plant.specs.Description.{Symbol, Port}
 use Rattle.symbol_table.specs.Tables.{TableSymbol, SymbolTable, table_symbol, declared, IsTableOf, IsTableWith}
 use Rattle.symbol_table.specs.Rows.{symbol_of_row, symbols_of_rows, declared_by_rows, IsSizedRow}
 use Rattle.symbol_table.specs.declared.row.SymbolRow.{SymbolRow}

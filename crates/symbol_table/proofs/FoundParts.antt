@@ -3,18 +3,18 @@ use Rattle.std.proofs.Common.{◌≡◌, ℕ, ◌+◌, ◌≤◌, List, map, dro
 use Rattle.std.specs.Prelude.{Option, Some, None, slice_get, option_map, find}
 use Rattle.name_paths.specs.Path.{Step}
 use Rattle.name_paths.specs.Name.{identifiers_of}
-use Rattle.ads_plant.specs.Listed.{NamedType}
-use Rattle.ads_plant.specs.Description.{Symbol}
-use Rattle.ads_plant.specs.Trees.{tree_of}
-use Rattle.ads_plant.specs.Sizes.{type_size}
-use Rattle.ads_plant.specs.Parts.{TypePart, part_behind}
-use Rattle.ads_plant.specs.World.{plant_symbol}
-use Rattle.ads_plant.specs.Finding.{is_named_by, found_of_steps, found_in_symbol, steps_behind_name, whole_of}
-use Rattle.ads_plant.proofs.PartLemmas.{part_behind-end}
+use Rattle.spec_plant.specs.Listed.{NamedType}
+use Rattle.spec_plant.specs.Description.{Symbol}
+use Rattle.spec_plant.specs.Trees.{tree_of}
+use Rattle.spec_plant.specs.Sizes.{type_size}
+use Rattle.spec_plant.specs.Parts.{TypePart, part_behind}
+use Rattle.spec_plant.specs.World.{plant_symbol}
+use Rattle.spec_plant.specs.Finding.{is_named_by, found_of_steps, found_in_symbol, steps_behind_name, whole_of}
+use Rattle.spec_plant.proofs.PartLemmas.{part_behind-end}
 use Rattle.type_layout.specs.Shapes.{shape_of_ref}
 use Rattle.type_layout.specs.Descriptions.{area_of}
 use Rattle.std.proofs.lemmas.Option.{slice_get-map}
-use Rattle.ads_plant.specs.PartTexts.{comment_behind}
+use Rattle.spec_plant.specs.PartTexts.{comment_behind}
 use Rattle.symbol_table.specs.Tables.{TableSymbol, SymbolTable, table_symbol}
 use Rattle.symbol_table.proofs.PlacedSymbols.{IsSoundSymbol}
 use Rattle.symbol_table.specs.FoundParts.{part_in, IsSound, Tells, TellsPlace}

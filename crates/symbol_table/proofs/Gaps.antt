@@ -8,9 +8,9 @@ use Rattle.std.proofs.lemmas.Bool.Decides.{nat_tests}
 use Rattle.std.proofs.lemmas.List.Folds.{list_any_none}
 use Rattle.std.proofs.lemmas.Map.Keys.{any_passes_from_place}
 use Rattle.std.proofs.lemmas.Option.{slice_get-get_or}
-use Rattle.ads_plant.specs.Description.{Area, Sizes, size_in}
-use Rattle.ads_plant.specs.World.{area_number, is_same_area}
-use Rattle.ads_plant.proofs.TypeLemmas.{list_all-get}
+use Rattle.spec_plant.specs.Description.{Area, Sizes, size_in}
+use Rattle.spec_plant.specs.World.{area_number, is_same_area}
+use Rattle.spec_plant.proofs.TypeLemmas.{list_all-get}
 use Rattle.symbol_table.specs.Tables.{TableSymbol}
 use Rattle.symbol_table.specs.PlaceOrders.{has_bytes, is_within}
 use Rattle.symbol_table.specs.Tiles.{covers, is_covered, IsGap}

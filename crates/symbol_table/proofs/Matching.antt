@@ -14,12 +14,12 @@ use Rattle.std.proofs.lemmas.Option.{slice_get-map}
 use Rattle.name_paths.specs.Identifier.{lower}
 use Rattle.name_paths.specs.Name.{identifiers_of, lower_identifiers}
 use Rattle.name_paths.specs.Path.{Step, first_names}
-use Rattle.ads_plant.specs.Listed.{NamedType}
-use Rattle.ads_plant.specs.Description.{Symbol}
-use Rattle.ads_plant.specs.World.{PlantSymbol, plant_symbol}
-use Rattle.ads_plant.specs.Finding.{is_named_by}
-use Rattle.ads_plant.specs.AcceptedTypes.{all_pairs}
-use Rattle.ads_plant.specs.Accepted.{are_two_names}
+use Rattle.spec_plant.specs.Listed.{NamedType}
+use Rattle.spec_plant.specs.Description.{Symbol}
+use Rattle.spec_plant.specs.World.{PlantSymbol, plant_symbol}
+use Rattle.spec_plant.specs.Finding.{is_named_by}
+use Rattle.spec_plant.specs.AcceptedTypes.{all_pairs}
+use Rattle.spec_plant.specs.Accepted.{are_two_names}
 use Rattle.symbol_table.specs.Tables.{TableSymbol, table_symbol}
 use Rattle.symbol_table.specs.NameKeys.{NameKey, order_to_path, identifiers_at, IsPrefixFree, IsMatch, HasNoMatch}
 use Rattle.symbol_table.specs.NamesInOrder.{name_key, AreKeysOf}

@@ -4,13 +4,13 @@ use Rattle.std.specs.Prelude.{bytes_eq, if◌then◌else◌, Option, Some, None,
 use Rattle.std.proofs.lemmas.Bool.{cases_Bool}
 use Rattle.std.proofs.lemmas.List.{length-map, drop_all}
 use Rattle.name_paths.specs.Identifier.{lower}
-use Rattle.ads_plant.specs.Listed as listed
-use Rattle.ads_plant.specs.Trees.{TypeTree, tree_at, trees_of, member_trees, shape_tree}
-use Rattle.ads_plant.specs.Sizes.{member_start, type_size}
-use Rattle.ads_plant.specs.Parts as parts
-use Rattle.ads_plant.specs.AcceptedTypes.{AreTypes, is_structure_at}
-use Rattle.ads_plant.specs.Listed.{is_structure, Structure}
-use Rattle.ads_plant.proofs.TypeLemmas.{StandsAt, at-below}
+use Rattle.spec_plant.specs.Listed as listed
+use Rattle.spec_plant.specs.Trees.{TypeTree, tree_at, trees_of, member_trees, shape_tree}
+use Rattle.spec_plant.specs.Sizes.{member_start, type_size}
+use Rattle.spec_plant.specs.Parts as parts
+use Rattle.spec_plant.specs.AcceptedTypes.{AreTypes, is_structure_at}
+use Rattle.spec_plant.specs.Listed.{is_structure, Structure}
+use Rattle.spec_plant.proofs.TypeLemmas.{StandsAt, at-below}
 use Rattle.type_layout.specs.NamedTypes.{types_of, member_of}
 use Rattle.type_layout.specs.declared.named_type.NamedType.{NamedType}
 use Rattle.type_layout.specs.declared.named_type.NamedType.TheVariants as named
@@ -18,7 +18,7 @@ use Rattle.type_layout.specs.declared.structures.Member.{Member}
 use Rattle.type_layout.specs.declared.structures.StructType.{StructType}
 use Rattle.type_layout.proofs.MemberTurns.{drop-get}
 use Rattle.type_layout.proofs.Places.{read_at, structure_at}
-use Rattle.ads_plant.specs.PartTexts.{comment_of_member, text_of_member}
+use Rattle.spec_plant.specs.PartTexts.{comment_of_member, text_of_member}
 use Rattle.symbol_table.specs.MemberTexts.{MemberText, text_of_part, text_of_declared}
 
 -- what is told of the first of these members with a name

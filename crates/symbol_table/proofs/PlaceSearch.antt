@@ -4,8 +4,8 @@ use Rattle.std.specs.Prelude.{Some, slice_get, nat_lt, nat_le, ◌&&◌, ◌||�
 use Rattle.std.proofs.lemmas.Bool.{cases_Bool, ltb-true, ltb-false, leb-true, leb-false}
 use Rattle.std.proofs.lemmas.Bool.Decides.{nat_tests}
 use Rattle.std.proofs.lemmas.Option.{slice_get_within, slice_get-get_or}
-use Rattle.ads_plant.specs.Description.{Area, Inputs, Outputs, Memory, Process}
-use Rattle.ads_plant.specs.World.{area_number, is_same_area}
+use Rattle.spec_plant.specs.Description.{Area, Inputs, Outputs, Memory, Process}
+use Rattle.spec_plant.specs.World.{area_number, is_same_area}
 use Rattle.symbol_table.specs.Tables.{TableSymbol}
 use Rattle.symbol_table.specs.PlaceOrders.{lies_before, IsPlaceOrder}
 use Rattle.symbol_table.specs.Tiling.{begins_by, EachBefore, EachBehind, HasBegun, EndsLast, HasNoneBefore, BeginsFirst, HasNoneBehind}

@@ -3,14 +3,14 @@ use Rattle.std.proofs.Common.{◌≡◌, ℕ, ◌+◌, ◌≤◌, true, List, []
 use Rattle.std.specs.Prelude.{Bool, Some, slice_get, nat_lt, nat_le, ◌&&◌}
 use Rattle.std.specs.List.{list_all}
 use Rattle.std.proofs.lemmas.Bool.{and_parts, leb-true, lt-ltb}
-use Rattle.ads_plant.specs.Listed.{NamedType}
-use Rattle.ads_plant.specs.Description.{Symbol, Port, Sizes, size_in, Description}
-use Rattle.ads_plant.specs.Trees.{tree_of}
-use Rattle.ads_plant.specs.Sizes.{type_size}
-use Rattle.ads_plant.specs.AcceptedTypes.{AreTypes, IsSized, LIMIT, all_pairs, is_shape, is_small_shape}
-use Rattle.ads_plant.specs.Accepted.{size_of_symbol, are_apart, are_two_names, is_symbol, is_port, IsAccepted}
+use Rattle.spec_plant.specs.Listed.{NamedType}
+use Rattle.spec_plant.specs.Description.{Symbol, Port, Sizes, size_in, Description}
+use Rattle.spec_plant.specs.Trees.{tree_of}
+use Rattle.spec_plant.specs.Sizes.{type_size}
+use Rattle.spec_plant.specs.AcceptedTypes.{AreTypes, IsSized, LIMIT, all_pairs, is_shape, is_small_shape}
+use Rattle.spec_plant.specs.Accepted.{size_of_symbol, are_apart, are_two_names, is_symbol, is_port, IsAccepted}
 use Rattle.name_paths.specs.Name.{is_symbol_name}
-use Rattle.ads_plant.proofs.TypeLemmas.{list_all-get, shape-elem}
+use Rattle.spec_plant.proofs.TypeLemmas.{list_all-get, shape-elem}
 use Rattle.symbol_table.specs.Tables.{TableSymbol, SymbolTable, table_symbol, table_of, is_typed, is_placed, IsPlaced, IsTableWith}
 use Rattle.symbol_table.specs.PlaceOrders.{has_bytes, is_within, lie_apart}
 use Rattle.symbol_table.proofs.PlacesInOrder.{mapped_at}

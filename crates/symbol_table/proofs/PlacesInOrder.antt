@@ -16,9 +16,9 @@ use Rattle.std.proofs.lemmas.List.MinMax.{ranks_by}
 use Rattle.std.proofs.lemmas.List.Elements.{All-nil, All-cons}
 use Rattle.std.proofs.lemmas.List.Sorted.{sorted_far, length_permutation, All-permutation, Contains-permutation, IsPermutation-map}
 use Rattle.std.proofs.lemmas.Option.{slice_get_within, get_or_from_slice_get}
-use Rattle.ads_plant.specs.World.{area_number}
-use Rattle.ads_plant.specs.AcceptedTypes.{all_pairs}
-use Rattle.ads_plant.proofs.TypeLemmas.{list_all-get}
+use Rattle.spec_plant.specs.World.{area_number}
+use Rattle.spec_plant.specs.AcceptedTypes.{all_pairs}
+use Rattle.spec_plant.proofs.TypeLemmas.{list_all-get}
 use Rattle.symbol_table.specs.Tables.{TableSymbol}
 use Rattle.symbol_table.specs.PlaceOrders.{has_bytes, lie_apart, lies_before, IsPlaceOrder}
 use Rattle.symbol_table.specs.PlaceKeys.{place_key, places_from, numbers_of}

@@ -2,10 +2,10 @@
 use Rattle.std.proofs.Common.{◌≡◌, ℕ, List, map, get_or, true, ◌∙◌, ap}
 use Rattle.std.specs.Prelude.{option_map}
 use Rattle.std.proofs.lemmas.Option.{slice_get-map}
-use Rattle.ads_plant.specs.Listed.{NamedType}
-use Rattle.ads_plant.specs.Description.{Area, Symbol, Port}
-use Rattle.ads_plant.specs.World.{plant_symbol}
-use Rattle.ads_plant.specs.Covering as plant
+use Rattle.spec_plant.specs.Listed.{NamedType}
+use Rattle.spec_plant.specs.Description.{Area, Symbol, Port}
+use Rattle.spec_plant.specs.World.{plant_symbol}
+use Rattle.spec_plant.specs.Covering as plant
 use Rattle.symbol_table.specs.Tables.{table_symbol}
 use Rattle.symbol_table.specs.Tiles.{covers}
 use Rattle.symbol_table.specs.Ranges.{HasByteIn, AreInRange, StandsIn, AllStandIn}

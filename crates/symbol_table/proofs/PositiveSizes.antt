@@ -5,12 +5,12 @@ use Rattle.std.specs.List.{list_all}
 use Rattle.std.specs.Option.{option_map_or}
 use Rattle.std.proofs.lemmas.Bool.{and_parts, ltb-true}
 use Rattle.std.proofs.Math.Nat.{le-mul_of_pos_right}
-use Rattle.ads_plant.specs.Listed.{Bound, Elem, Plain, Text, Struct, Enum, Shape, One, Array, Member, NamedType, Structure, Enumeration, is_structure, is_enumeration}
-use Rattle.ads_plant.specs.Trees.{TypeTree, tree_at, trees_of, elem_tree, shape_tree, member_trees, tree_of}
-use Rattle.ads_plant.specs.Sizes.{type_size, members_end, greatest_align, element_count, member_start, aligned}
-use Rattle.ads_plant.specs.AcceptedTypes.{AreTypes, is_elem, is_shape, is_bound, are_bounds, is_member, is_count, elem_within}
-use Rattle.ads_plant.proofs.SizeLemmas.{kind_size-bounds, members_end-le}
-use Rattle.ads_plant.proofs.TypeLemmas.{stands_at, rank, good_members, member-shape, shape-elem}
+use Rattle.spec_plant.specs.Listed.{Bound, Elem, Plain, Text, Struct, Enum, Shape, One, Array, Member, NamedType, Structure, Enumeration, is_structure, is_enumeration}
+use Rattle.spec_plant.specs.Trees.{TypeTree, tree_at, trees_of, elem_tree, shape_tree, member_trees, tree_of}
+use Rattle.spec_plant.specs.Sizes.{type_size, members_end, greatest_align, element_count, member_start, aligned}
+use Rattle.spec_plant.specs.AcceptedTypes.{AreTypes, is_elem, is_shape, is_bound, are_bounds, is_member, is_count, elem_within}
+use Rattle.spec_plant.proofs.SizeLemmas.{kind_size-bounds, members_end-le}
+use Rattle.spec_plant.proofs.TypeLemmas.{stands_at, rank, good_members, member-shape, shape-elem}
 
 mul_pos : {m n : ℕ} → 0 < m → 0 < n → 0 < m * n
 mul_pos {m} {n} some other = let le = le-mul_of_pos_right m other in omega (arith, some, le)

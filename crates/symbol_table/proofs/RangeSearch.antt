@@ -6,9 +6,9 @@ use Rattle.std.proofs.lemmas.Bool.{cases_Bool, ltb-true, ltb-false, leb-true, le
 use Rattle.std.proofs.lemmas.Bool.Decides.{nat_tests}
 use Rattle.std.proofs.lemmas.List.{get_or-take, get_or-drop, length-take-le}
 use Rattle.std.proofs.lemmas.Option.{slice_get_within, slice_get-get_or, get_or_from_slice_get, slice_get_cases}
-use Rattle.ads_plant.specs.Description.{Area}
-use Rattle.ads_plant.specs.World.{area_number, is_same_area}
-use Rattle.ads_plant.proofs.TypeLemmas.{list_all-get}
+use Rattle.spec_plant.specs.Description.{Area}
+use Rattle.spec_plant.specs.World.{area_number, is_same_area}
+use Rattle.spec_plant.proofs.TypeLemmas.{list_all-get}
 use Rattle.symbol_table.specs.Tables.{TableSymbol}
 use Rattle.symbol_table.specs.PlaceOrders.{has_bytes, IsPlaceOrder, RiseByPlace}
 use Rattle.symbol_table.specs.Tiles.{covers}

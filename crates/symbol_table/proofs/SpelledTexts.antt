@@ -3,17 +3,17 @@ use Rattle.std.proofs.Common.{◌≡◌, ℕ, List, [], ◌∷◌, ◌++◌, map
 use Rattle.std.specs.Prelude.{ℤ, Option, Some, None, find, option_and_then, option_map, slice_get}
 use Rattle.name_paths.specs.Path.{Step}
 use Rattle.name_paths.specs.Name.{identifiers_of}
-use Rattle.ads_plant.specs.PartTexts.{name_behind, name_of_found, text_of_indexes, text_of_step, type_behind}
-use Rattle.ads_plant.specs.Parts.{TypePart, part_of, part_behind}
-use Rattle.ads_plant.specs.Spelling.{integer_text}
-use Rattle.ads_plant.specs.Listed.{NamedType}
-use Rattle.ads_plant.specs.Description.{Port}
-use Rattle.ads_plant.specs.Trees.{TypeTree, tree_of}
-use Rattle.ads_plant.specs.World.{PlantSymbol, plant_symbol}
+use Rattle.spec_plant.specs.PartTexts.{name_behind, name_of_found, text_of_indexes, text_of_step, type_behind}
+use Rattle.spec_plant.specs.Parts.{TypePart, part_of, part_behind}
+use Rattle.spec_plant.specs.Spelling.{integer_text}
+use Rattle.spec_plant.specs.Listed.{NamedType}
+use Rattle.spec_plant.specs.Description.{Port}
+use Rattle.spec_plant.specs.Trees.{TypeTree, tree_of}
+use Rattle.spec_plant.specs.World.{PlantSymbol, plant_symbol}
 use Rattle.std.proofs.lemmas.Option.{slice_get-map}
 use Rattle.symbol_table.specs.Tables.{TableSymbol, SymbolTable, table_symbol, IsTableOf}
 use Rattle.symbol_table.proofs.PlacesInOrder.{mapped_at}
-use Rattle.ads_plant.specs.Finding.{Found, found_of_steps, found_in_symbol, is_named_by, steps_behind_name, whole_of}
+use Rattle.spec_plant.specs.Finding.{Found, found_of_steps, found_in_symbol, is_named_by, steps_behind_name, whole_of}
 
 pub row_text : (old : List ℕ) (i : ℤ) → (old ++ 91 ∷ integer_text i) ++ 93 ∷ [] ≡ old ++ text_of_indexes (i ∷ [])
 row_text old i = simp (append_assoc, append-nil)

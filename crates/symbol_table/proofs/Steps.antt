@@ -2,9 +2,9 @@
 use Rattle.std.proofs.Common.{◌≡◌, ℕ, List, [], ◌∷◌, refl, ap}
 use Rattle.std.specs.Prelude.{Option, Some, None, option_map}
 use Rattle.name_paths.specs.Path.{Step}
-use Rattle.ads_plant.specs.Listed.{NamedType}
-use Rattle.ads_plant.specs.Parts.{TypePart, part_of, part_behind, within_part}
-use Rattle.ads_plant.specs.PartTexts.{comment_of_step, comment_behind}
+use Rattle.spec_plant.specs.Listed.{NamedType}
+use Rattle.spec_plant.specs.Parts.{TypePart, part_of, part_behind, within_part}
+use Rattle.spec_plant.specs.PartTexts.{comment_of_step, comment_behind}
 use Rattle.symbol_table.specs.FoundParts.{part_in, Tells, IsSound}
 use Rattle.symbol_table.specs.declared.parts.Part.{Part}
 

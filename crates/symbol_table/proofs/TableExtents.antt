@@ -1,6 +1,6 @@
 -- The extents that a table keeps are those of the types that it was built with.
 use Rattle.std.proofs.Common.{◌≡◌, List, ◌∙◌, ap}
-use Rattle.ads_plant.specs.Listed.{NamedType}
+use Rattle.spec_plant.specs.Listed.{NamedType}
 use Rattle.type_layout.specs.Extents.{extents_of}
 use Rattle.type_layout.specs.declared.extent.Extent.{Extent}
 use Rattle.symbol_table.specs.Tables.{SymbolTable, IsTableWith}

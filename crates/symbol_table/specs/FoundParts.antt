@@ -1,10 +1,10 @@
 -- For private contracts, and cited by no public clause: parts of a symbol as the code finds them.
 use Rattle.std.specs.Prelude.{◌≡◌, ℕ, ◌+◌, ◌≤◌, List, Option, Some, None}
-use Rattle.ads_plant.specs.Listed.{NamedType}
-use Rattle.ads_plant.specs.Trees.{tree_of}
-use Rattle.ads_plant.specs.Sizes.{type_size}
-use Rattle.ads_plant.specs.Parts.{TypePart}
-use Rattle.ads_plant.specs.AcceptedTypes.{IsSized, LIMIT}
+use Rattle.spec_plant.specs.Listed.{NamedType}
+use Rattle.spec_plant.specs.Trees.{tree_of}
+use Rattle.spec_plant.specs.Sizes.{type_size}
+use Rattle.spec_plant.specs.Parts.{TypePart}
+use Rattle.spec_plant.specs.AcceptedTypes.{IsSized, LIMIT}
 use Rattle.type_layout.specs.Shapes.{shape_of_ref}
 use Rattle.type_layout.specs.Descriptions.{area_of}
 use Rattle.symbol_table.specs.Tables.{TableSymbol}

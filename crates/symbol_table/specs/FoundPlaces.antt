@@ -1,16 +1,16 @@
 -- The place, type and comment of what a path leads to.
 use Rattle.std.specs.Prelude.{◌≡◌, ℕ, ◌+◌, ◌++◌, List, map, Option, Some, None, slice_get}
 use Rattle.name_paths.specs.Path.{Step}
-use Rattle.ads_plant.specs.Description.{Port}
-use Rattle.ads_plant.specs.Listed.{NamedType}
-use Rattle.ads_plant.specs.Trees.{tree_of}
-use Rattle.ads_plant.specs.Sizes.{type_size}
-use Rattle.ads_plant.specs.AcceptedTypes.{IsSized}
-use Rattle.ads_plant.specs.World.{PlantSymbol, plant_symbol}
-use Rattle.ads_plant.specs.Finding as plant
+use Rattle.spec_plant.specs.Description.{Port}
+use Rattle.spec_plant.specs.Listed.{NamedType}
+use Rattle.spec_plant.specs.Trees.{tree_of}
+use Rattle.spec_plant.specs.Sizes.{type_size}
+use Rattle.spec_plant.specs.AcceptedTypes.{IsSized}
+use Rattle.spec_plant.specs.World.{PlantSymbol, plant_symbol}
+use Rattle.spec_plant.specs.Finding as plant
 use Rattle.type_layout.specs.Shapes.{shape_of_ref}
 use Rattle.type_layout.specs.Descriptions.{area_of}
-use Rattle.ads_plant.specs.PartTexts.{comment_of_found, name_of_found}
+use Rattle.spec_plant.specs.PartTexts.{comment_of_found, name_of_found}
 use Rattle.symbol_table.specs.Tables.{SymbolTable, IsTableOf}
 use Rattle.symbol_table.specs.declared.found.Found.{Found}
 

@@ -1,6 +1,6 @@
 -- For private contracts, and cited by no public clause: what is told of a member beside its place and type.
 use Rattle.std.specs.Prelude.{ℕ, List}
-use Rattle.ads_plant.specs.Parts.{MemberPart}
+use Rattle.spec_plant.specs.Parts.{MemberPart}
 use Rattle.type_layout.specs.declared.structures.Member.{Member}
 
 -- the declared name and the comment of a member

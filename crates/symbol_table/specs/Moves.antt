@@ -1,7 +1,7 @@
 -- Where a reload puts the bytes of kept symbols. Each entry is one kept symbol, with its whole places in the old and in the new world.
 use Rattle.std.specs.Prelude.{◌≡◌, ℕ, ◌+◌, ◌-◌, ◌<◌, ◌≤◌, List, Bool, ◌&&◌, ◌==◌, nat_le, find, Option, option_map, All, AllPairs}
 use Rattle.std.specs.Option.{ForSome}
-use Rattle.ads_plant.specs.World.{is_same_area}
+use Rattle.spec_plant.specs.World.{is_same_area}
 use Rattle.type_layout.specs.Descriptions.{area_of}
 use Rattle.type_layout.specs.declared.port.Area.{Area}
 use Rattle.symbol_table.specs.declared.place.Place.{Place}

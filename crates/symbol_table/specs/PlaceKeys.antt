@@ -1,6 +1,6 @@
 -- For private contracts, and cited by no public clause: places by which symbols are sorted.
 use Rattle.std.specs.Prelude.{ℕ, ◌+◌, List, [], ◌∷◌, map}
-use Rattle.ads_plant.specs.World.{area_number}
+use Rattle.spec_plant.specs.World.{area_number}
 use Rattle.symbol_table.specs.Tables.{TableSymbol}
 
 -- a symbol's area, its offset and its number

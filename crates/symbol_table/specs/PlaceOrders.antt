@@ -1,8 +1,8 @@
 -- The symbols of a port in the order of their places.
 use Rattle.std.specs.Prelude.{◌≡◌, ℕ, ◌+◌, ◌<◌, List, length, Bool, ◌&&◌, ◌||◌, not, nat_lt, nat_le, IsTrue, Some, slice_get}
 use Rattle.std.specs.List.{All, Contains}
-use Rattle.ads_plant.specs.Description.{Sizes, size_in}
-use Rattle.ads_plant.specs.World.{area_number, is_same_area}
+use Rattle.spec_plant.specs.Description.{Sizes, size_in}
+use Rattle.spec_plant.specs.World.{area_number, is_same_area}
 use Rattle.symbol_table.specs.Tables.{TableSymbol}
 
 -- a symbol that has at least one byte

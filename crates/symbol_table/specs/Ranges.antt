@@ -1,9 +1,9 @@
 -- The symbols that have bytes of a range.
 use Rattle.std.specs.Prelude.{◌≡◌, ℕ, ◌+◌, ◌<◌, ◌≤◌, List, IsTrue, true, Some, slice_get}
 use Rattle.std.specs.List.{All, Contains}
-use Rattle.ads_plant.specs.Description.{Area}
-use Rattle.ads_plant.specs.World.{PlantSymbol}
-use Rattle.ads_plant.specs.Covering as plant
+use Rattle.spec_plant.specs.Description.{Area}
+use Rattle.spec_plant.specs.World.{PlantSymbol}
+use Rattle.spec_plant.specs.Covering as plant
 use Rattle.symbol_table.specs.Tables.{TableSymbol}
 use Rattle.symbol_table.specs.Tiles.{covers}
 use Rattle.symbol_table.specs.PlaceOrders.{RiseByPlace}

@@ -1,7 +1,7 @@
 -- Kept symbols in order of rank. Private: no public clause cites this file.
 use Rattle.std.specs.Prelude.{◌≡◌, ℕ, ◌+◌, ◌*◌, ◌<◌, ◌≤◌, List, length, slice_index_or, Bool, true, nat_lt, All, Contains}
 use Rattle.std.specs.List.Sorted.{IsNonDecreasingBy}
-use Rattle.ads_plant.specs.World.{area_number}
+use Rattle.spec_plant.specs.World.{area_number}
 use Rattle.type_layout.specs.Descriptions.{area_of}
 use Rattle.type_layout.specs.declared.port.Area.{Area}
 use Rattle.symbol_table.specs.declared.kept.KeptPlace.{KeptPlace}

@@ -1,9 +1,9 @@
 -- The symbol that a row of the code's table is.
 use Rattle.std.specs.Prelude.{◌≡◌, List, map}
-use Rattle.ads_plant.specs.Listed.{NamedType}
-use Rattle.ads_plant.specs.Description.{Symbol}
-use Rattle.ads_plant.specs.AcceptedTypes.{IsSized}
-use Rattle.ads_plant.specs.Accepted.{size_of_symbol}
+use Rattle.spec_plant.specs.Listed.{NamedType}
+use Rattle.spec_plant.specs.Description.{Symbol}
+use Rattle.spec_plant.specs.AcceptedTypes.{IsSized}
+use Rattle.spec_plant.specs.Accepted.{size_of_symbol}
 use Rattle.type_layout.specs.Shapes.{shape_of}
 use Rattle.type_layout.specs.Descriptions.{area_of, nets_of}
 use Rattle.symbol_table.specs.Tables.{TableSymbol, declared}

@@ -1,7 +1,7 @@
 -- What the code keeps beside the rows of the table. No public clause cites this file.
 use Rattle.std.specs.Prelude.{ℕ, List, IsTrue}
 use Rattle.std.specs.List.{list_all}
-use Rattle.ads_plant.specs.Description.{Sizes}
+use Rattle.spec_plant.specs.Description.{Sizes}
 use Rattle.name_index.specs.Numbered.{NameNumbers}
 use Rattle.symbol_table.specs.Tables.{TableSymbol}
 use Rattle.symbol_table.specs.Names.{AreNamesOf}

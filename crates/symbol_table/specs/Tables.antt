@@ -2,12 +2,12 @@
 use Rattle.std.specs.Prelude.{◌≡◌, ℕ, ◌+◌, ◌≤◌, List, map, length, Bool, ◌&&◌, nat_le, IsTrue, Option, bytes_eq, position}
 use Rattle.std.specs.List.{list_all}
 use Rattle.name_paths.specs.Identifier.{lower}
-use Rattle.ads_plant.specs.Listed.{Shape, NamedType}
-use Rattle.ads_plant.specs.Description.{Area, Sizes, size_in, Symbol, Port}
-use Rattle.ads_plant.specs.AcceptedTypes.{AreTypes, LIMIT, all_pairs, is_shape, is_small_shape}
+use Rattle.spec_plant.specs.Listed.{Shape, NamedType}
+use Rattle.spec_plant.specs.Description.{Area, Sizes, size_in, Symbol, Port}
+use Rattle.spec_plant.specs.AcceptedTypes.{AreTypes, LIMIT, all_pairs, is_shape, is_small_shape}
 use Rattle.type_layout.specs.Extents.{extents_of}
 use Rattle.type_layout.specs.declared.extent.Extent.{Extent}
-use Rattle.ads_plant.specs.Accepted.{size_of_symbol, are_two_names, are_apart}
+use Rattle.spec_plant.specs.Accepted.{size_of_symbol, are_two_names, are_apart}
 
 -- a symbol as the table keeps it: all that the description says of it, and the bytes that it has
 pub record TableSymbol : Type 0 where

@@ -2,8 +2,8 @@
 use Rattle.std.specs.Prelude.{◌≡◌, ℕ, ◌+◌, ◌-◌, ◌<◌, ◌≤◌, Bool, false, IsTrue, slice_get, List}
 use Rattle.std.specs.List.{list_any}
 use Rattle.std.specs.Option.{option_map_or}
-use Rattle.ads_plant.specs.Description.{Area, size_in}
-use Rattle.ads_plant.specs.Covering.{is_byte_of}
+use Rattle.spec_plant.specs.Description.{Area, size_in}
+use Rattle.spec_plant.specs.Covering.{is_byte_of}
 use Rattle.symbol_table.specs.Tables.{TableSymbol, SymbolTable}
 use Rattle.symbol_table.specs.declared.tile.Tile.{Tile}
 use Rattle.symbol_table.specs.declared.tile.Tile.TheVariants as tile

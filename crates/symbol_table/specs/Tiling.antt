@@ -1,7 +1,7 @@
 -- For private contracts, and cited by no public clause: the symbols of an area before and behind a byte.
 use Rattle.std.specs.Prelude.{◌≡◌, ℕ, ◌+◌, ◌-◌, ◌<◌, ◌≤◌, List, length, Bool, true, false, ◌&&◌, ◌||◌, not, nat_lt, nat_le, Some, slice_get}
-use Rattle.ads_plant.specs.Description.{Area}
-use Rattle.ads_plant.specs.World.{area_number, is_same_area}
+use Rattle.spec_plant.specs.Description.{Area}
+use Rattle.spec_plant.specs.World.{area_number, is_same_area}
 use Rattle.symbol_table.specs.Tables.{TableSymbol}
 use Rattle.symbol_table.specs.Tiles.{is_covered}
 

@@ -2,8 +2,8 @@
 
 ghost use Rattle.std.specs.Prelude.{◌≡◌, ◌^◌, ◌<◌, length, IsTrue, IfOk};
 ghost use Rattle.std.specs.List.{list_all};
-ghost use Rattle.ads_plant.specs.World.{area_number};
-ghost use Rattle.ads_plant.specs.AcceptedTypes.{all_pairs};
+ghost use Rattle.spec_plant.specs.World.{area_number};
+ghost use Rattle.spec_plant.specs.AcceptedTypes.{all_pairs};
 ghost use Rattle.type_layout.specs.Descriptions.{area_of};
 ghost use Rattle.symbol_table.specs.Rows.{symbols_of_rows};
 ghost use Rattle.symbol_table.specs.PlaceKeys.{places_from, numbers_of};

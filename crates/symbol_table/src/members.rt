@@ -3,10 +3,10 @@
 ghost use Rattle.std.specs.Prelude.{◌≡◌, IsTrue, bytes_eq, option_copied, option_map};
 ghost use Rattle.name_paths.specs.Identifier.{lower};
 ghost use Rattle.name_paths.specs.Steps.{step_of};
-ghost use Rattle.ads_plant.specs.AcceptedTypes.{AreTypes, IsSized, is_elem, is_structure_at};
-ghost use Rattle.ads_plant.specs.PartTexts.{comment_of_member, comment_of_step};
-ghost use Rattle.ads_plant.specs.Parts.{member_of};
-ghost use Rattle.ads_plant.specs.Trees.{tree_of, tree_at, trees_of, elem_tree};
+ghost use Rattle.spec_plant.specs.AcceptedTypes.{AreTypes, IsSized, is_elem, is_structure_at};
+ghost use Rattle.spec_plant.specs.PartTexts.{comment_of_member, comment_of_step};
+ghost use Rattle.spec_plant.specs.Parts.{member_of};
+ghost use Rattle.spec_plant.specs.Trees.{tree_of, tree_at, trees_of, elem_tree};
 ghost use Rattle.type_layout.specs.Shapes.{elem_of, shape_of_ref};
 ghost use Rattle.type_layout.specs.NamedTypes.{types_of};
 ghost use Rattle.symbol_table.specs.MemberTexts.{text_of_part, text_of_declared};

@@ -3,13 +3,13 @@
 ghost use Rattle.std.specs.Prelude.{◌≡◌, ◌<◌, count_by, drop, length, option_map};
 ghost use Rattle.name_paths.specs.Name.{identifiers_of, is_full_stop};
 ghost use Rattle.name_paths.specs.Steps.{step_of};
-ghost use Rattle.ads_plant.specs.AcceptedTypes.{AreTypes};
-ghost use Rattle.ads_plant.specs.Parts.{part_behind, part_of, within_part};
-ghost use Rattle.ads_plant.specs.Trees.{tree_of};
+ghost use Rattle.spec_plant.specs.AcceptedTypes.{AreTypes};
+ghost use Rattle.spec_plant.specs.Parts.{part_behind, part_of, within_part};
+ghost use Rattle.spec_plant.specs.Trees.{tree_of};
 ghost use Rattle.type_layout.specs.Extents.{extents_of};
 ghost use Rattle.type_layout.specs.Shapes.{shape_of_ref};
 ghost use Rattle.type_layout.specs.NamedTypes.{types_of};
-ghost use Rattle.ads_plant.specs.PartTexts.{comment_of_step, comment_behind};
+ghost use Rattle.spec_plant.specs.PartTexts.{comment_of_step, comment_behind};
 ghost use Rattle.symbol_table.specs.FoundParts.{part_in, IsSound, Tells};
 
 use crate::members::comment_at;

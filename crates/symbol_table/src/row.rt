@@ -2,7 +2,7 @@
 
 ghost use Rattle.std.specs.Prelude.{◌≡◌, IsTrue, IfOk, map};
 ghost use Rattle.std.specs.List.{list_all};
-ghost use Rattle.ads_plant.specs.AcceptedTypes.{AreTypes};
+ghost use Rattle.spec_plant.specs.AcceptedTypes.{AreTypes};
 ghost use Rattle.type_layout.specs.Extents.{extents_of};
 ghost use Rattle.type_layout.specs.Shapes.{shape_of};
 ghost use Rattle.type_layout.specs.NamedTypes.{types_of};

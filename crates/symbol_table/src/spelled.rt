@@ -3,11 +3,11 @@
 ghost use Rattle.std.specs.Prelude.{◌≡◌, ◌++◌, ◌∷◌, [], OnOk, OnErr};
 ghost use Rattle.name_paths.specs.Indexes.{numbers_of_indexes};
 ghost use Rattle.name_paths.specs.Steps.{step_of};
-ghost use Rattle.ads_plant.specs.AcceptedTypes.{AreTypes, IsSized};
-ghost use Rattle.ads_plant.specs.PartTexts.{name_behind, text_of_indexes, text_of_member, text_of_step, type_behind};
-ghost use Rattle.ads_plant.specs.Parts.{member_of, part_of};
-ghost use Rattle.ads_plant.specs.Spelling.{integer_text};
-ghost use Rattle.ads_plant.specs.Trees.{tree_of};
+ghost use Rattle.spec_plant.specs.AcceptedTypes.{AreTypes, IsSized};
+ghost use Rattle.spec_plant.specs.PartTexts.{name_behind, text_of_indexes, text_of_member, text_of_step, type_behind};
+ghost use Rattle.spec_plant.specs.Parts.{member_of, part_of};
+ghost use Rattle.spec_plant.specs.Spelling.{integer_text};
+ghost use Rattle.spec_plant.specs.Trees.{tree_of};
 ghost use Rattle.type_layout.specs.Extents.{extents_of};
 ghost use Rattle.type_layout.specs.Shapes.{shape_of_ref};
 ghost use Rattle.type_layout.specs.NamedTypes.{types_of};

@@ -1,16 +1,16 @@
 //! The table of a port's symbols.
 
 ghost use Rattle.std.specs.Prelude.{◌≡◌, ℕ, ◌+◌, ◌-◌, ◌*◌, ◌^◌, ◌<◌, ◌≤◌, List, length, map, slice_get, Some, IfOk, OnOk, OnErr, All};
-ghost use Rattle.ads_plant.specs.Description.{Port, size_in};
-ghost use Rattle.ads_plant.specs.Finding.{found_of_steps};
-ghost use Rattle.ads_plant.specs.Listed.{NamedType};
-ghost use Rattle.ads_plant.specs.Parts.{part_behind};
-ghost use Rattle.ads_plant.specs.Trees.{tree_of};
-ghost use Rattle.ads_plant.specs.World.{plant_symbol};
+ghost use Rattle.spec_plant.specs.Description.{Port, size_in};
+ghost use Rattle.spec_plant.specs.Finding.{found_of_steps};
+ghost use Rattle.spec_plant.specs.Listed.{NamedType};
+ghost use Rattle.spec_plant.specs.Parts.{part_behind};
+ghost use Rattle.spec_plant.specs.Trees.{tree_of};
+ghost use Rattle.spec_plant.specs.World.{plant_symbol};
 ghost use Rattle.type_layout.specs.Descriptions.{area_of, port_of};
 ghost use Rattle.type_layout.specs.NamedTypes.{types_of};
 ghost use Rattle.type_layout.specs.Spelled.{Extends};
-ghost use Rattle.ads_plant.specs.PartTexts.{comment_behind};
+ghost use Rattle.spec_plant.specs.PartTexts.{comment_behind};
 ghost use Rattle.symbol_table.specs.FoundParts.{TellsPlace};
 ghost use Rattle.symbol_table.specs.FoundPlaces.{Finds, PutsName};
 ghost use Rattle.symbol_table.specs.PlaceOrders.{IsPlaceOrder};

@@ -3,8 +3,8 @@
 
 ghost use Rattle.std.specs.Prelude.{◌≡◌, ◌<◌, ◌≤◌, IsTrue, IfSome, IfNone, slice_get, Some};
 ghost use Rattle.std.specs.List.{list_all};
-ghost use Rattle.ads_plant.specs.Description.{size_in};
-ghost use Rattle.ads_plant.specs.World as world;
+ghost use Rattle.spec_plant.specs.Description.{size_in};
+ghost use Rattle.spec_plant.specs.World as world;
 ghost use Rattle.type_layout.specs.Descriptions.{area_of, sizes_of};
 ghost use Rattle.symbol_table.specs.Rows.{symbols_of_rows};
 ghost use Rattle.symbol_table.specs.PlaceOrders.{has_bytes, is_within, IsPlaceOrder};

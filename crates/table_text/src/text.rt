@@ -3,7 +3,7 @@
 ghost use Rattle.std.specs.Prelude.{◌≡◌, ◌≤◌, true, Some, IfOk};
 ghost use Rattle.toml.specs.Data.{members_depth};
 ghost use Rattle.toml.specs.View.{table_view};
-ghost use Rattle.ads_rules.specs.TextVerdict.{document_of};
+ghost use Rattle.spec_rules.specs.TextVerdict.{document_of};
 ghost use Rattle.table_text.specs.PlainTable.{is_plain_table};
 ghost use Rattle.table_text.specs.TableText.{document_text};
 

@@ -1,9 +1,9 @@
 -- Forms of types, computed.
 use Rattle.std.specs.Prelude.{◌≡◌, refl, List, [], ◌∷◌, codes, pos, negsuc}
 use Rattle.std.specs.Fmt.{digits}
-use Rattle.ads_plant.specs.Plain.{BOOL, DINT, INT, USINT}
-use Rattle.ads_plant.specs.Listed.{Plain, Text, Struct, Enum, One, Array, NamedType, Structure, Enumeration}
-use Rattle.ads_plant.specs.Trees.{tree_of, trees_of, trees_behind}
+use Rattle.spec_plant.specs.Plain.{BOOL, DINT, INT, USINT}
+use Rattle.spec_plant.specs.Listed.{Plain, Text, Struct, Enum, One, Array, NamedType, Structure, Enumeration}
+use Rattle.spec_plant.specs.Trees.{tree_of, trees_of, trees_behind}
 use Rattle.type_layout.specs.Forms.{form_of}
 
 -- `Axis` with `active` BOOL, `pos` DINT and `label` STRING(5); `Mode` of USINT; and `Cell` with both

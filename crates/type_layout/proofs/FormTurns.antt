@@ -3,10 +3,10 @@ use Rattle.std.proofs.Common.{◌≡◌, ℕ, ◌+◌, ◌<◌, ◌≤◌, List,
 use Rattle.std.specs.Prelude.{codes}
 use Rattle.std.proofs.lemmas.List.{length-map, drop_all}
 use Rattle.name_paths.specs.Identifier.{lower}
-use Rattle.ads_plant.specs.Listed.{Structure, is_structure}
-use Rattle.ads_plant.specs.Trees.{MemberTrees, tree_at, trees_of, member_trees, tree_of}
-use Rattle.ads_plant.specs.AcceptedTypes.{AreTypes, is_structure_at}
-use Rattle.ads_plant.proofs.TypeLemmas.{StandsAt, IsGoodMember, good_members, at-below}
+use Rattle.spec_plant.specs.Listed.{Structure, is_structure}
+use Rattle.spec_plant.specs.Trees.{MemberTrees, tree_at, trees_of, member_trees, tree_of}
+use Rattle.spec_plant.specs.AcceptedTypes.{AreTypes, is_structure_at}
+use Rattle.spec_plant.proofs.TypeLemmas.{StandsAt, IsGoodMember, good_members, at-below}
 use Rattle.type_layout.specs.Forms.{form_of, members_form}
 use Rattle.type_layout.specs.Shapes.{shape_of}
 use Rattle.type_layout.specs.NamedTypes.{types_of, member_of}

@@ -2,7 +2,7 @@
 use Rattle.std.proofs.Common.{◌≡◌, ◌-◌, ◌<◌, List, [], ◌∷◌, ◌++◌, length, get_or, take, drop, map, refl, ap, arith}
 use Rattle.std.specs.Prelude.{flat_map}
 use Rattle.std.proofs.lemmas.List.{take_all}
-use Rattle.ads_plant.specs.Spelling.{bound_text, joined_by_comma}
+use Rattle.spec_plant.specs.Spelling.{bound_text, joined_by_comma}
 use Rattle.type_layout.specs.Shapes.{bound_of, bounds_of}
 use Rattle.type_layout.specs.Spelled.{comma_bound}
 use Rattle.type_layout.specs.declared.shape.Bound.{Bound}

@@ -4,10 +4,10 @@ use Rattle.std.specs.Prelude.{Some, None, slice_get, unwrap_or}
 use Rattle.std.specs.Option.{option_map_or}
 use Rattle.std.proofs.lemmas.List.{get_or-take, get_or-map, length-map, length-take-le, take_more, take_all}
 use Rattle.std.proofs.lemmas.Option.{unwrap_or-slice_get}
-use Rattle.ads_plant.specs.Listed.{NamedType, Structure, Enumeration, is_structure, is_enumeration}
-use Rattle.ads_plant.specs.Trees.{TypeTree, StructTree, NoMember, tree_at, trees_of}
-use Rattle.ads_plant.specs.Sizes.{type_size, type_align}
-use Rattle.ads_plant.proofs.TypeLemmas.{length-trees_behind}
+use Rattle.spec_plant.specs.Listed.{NamedType, Structure, Enumeration, is_structure, is_enumeration}
+use Rattle.spec_plant.specs.Trees.{TypeTree, StructTree, NoMember, tree_at, trees_of}
+use Rattle.spec_plant.specs.Sizes.{type_size, type_align}
+use Rattle.spec_plant.proofs.TypeLemmas.{length-trees_behind}
 use Rattle.type_layout.specs.Extents.{HasExtent, AreExtents, extent_of, extents_of}
 use Rattle.type_layout.specs.declared.extent.Extent.{Extent}
 

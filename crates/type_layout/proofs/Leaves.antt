@@ -2,11 +2,11 @@
 use Rattle.std.proofs.Common.{◌≡◌, ℕ, List, true, false, refl}
 use Rattle.std.specs.Prelude.{Option, Some, None, slice_get, ℤ}
 use Rattle.std.specs.Option.{option_map_or}
-use Rattle.ads_plant.specs.Listed.{Elem, Plain, Text, Struct, Enum, NamedType, Structure, Enumeration, is_structure, is_enumeration}
-use Rattle.ads_plant.specs.Trees.{trees_of, tree_at, elem_tree}
-use Rattle.ads_plant.specs.Parts.{element_of, member_of}
-use Rattle.ads_plant.specs.AcceptedTypes.{AreTypes, is_elem}
-use Rattle.ads_plant.proofs.TypeLemmas.{stands_at, named_there}
+use Rattle.spec_plant.specs.Listed.{Elem, Plain, Text, Struct, Enum, NamedType, Structure, Enumeration, is_structure, is_enumeration}
+use Rattle.spec_plant.specs.Trees.{trees_of, tree_at, elem_tree}
+use Rattle.spec_plant.specs.Parts.{element_of, member_of}
+use Rattle.spec_plant.specs.AcceptedTypes.{AreTypes, is_elem}
+use Rattle.spec_plant.proofs.TypeLemmas.{stands_at, named_there}
 
 -- a named type is no array
 named_no_element : (types : List NamedType) (place : ℕ) (t : NamedType) (indexes : List ℤ) → AreTypes types → slice_get types place ≡ Some t → element_of (tree_at (trees_of types) place) indexes ≡ None

@@ -1,12 +1,12 @@
 -- One member of a structure after another: what is known of each, and where the members end.
 use Rattle.std.proofs.Common.{◌≡◌, ℕ, zero, suc, ◌+◌, ◌<◌, ◌≤◌, min, max, List, [], ◌∷◌, drop, refl, ap, arith, add-one}
 use Rattle.std.specs.Prelude.{Some, slice_get}
-use Rattle.ads_plant.specs.Listed.{Shape, Member, NamedType, Structure}
-use Rattle.ads_plant.specs.Trees.{TypeTree, MemberTrees, trees_of, tree_of, shape_tree, member_trees}
-use Rattle.ads_plant.specs.Sizes.{aligned, type_align, greatest_align, type_size, members_end, member_start}
-use Rattle.ads_plant.specs.AcceptedTypes.{IsSized, LIMIT, elem_within}
-use Rattle.ads_plant.proofs.TypeLemmas.{StandsAt, rank, good_members}
-use Rattle.ads_plant.proofs.SizeLemmas.{type_align-bounds, members_end-le}
+use Rattle.spec_plant.specs.Listed.{Shape, Member, NamedType, Structure}
+use Rattle.spec_plant.specs.Trees.{TypeTree, MemberTrees, trees_of, tree_of, shape_tree, member_trees}
+use Rattle.spec_plant.specs.Sizes.{aligned, type_align, greatest_align, type_size, members_end, member_start}
+use Rattle.spec_plant.specs.AcceptedTypes.{IsSized, LIMIT, elem_within}
+use Rattle.spec_plant.proofs.TypeLemmas.{StandsAt, rank, good_members}
+use Rattle.spec_plant.proofs.SizeLemmas.{type_align-bounds, members_end-le}
 
 -- no alignment is above 8
 pub member_start-align : (at : ℕ) (t : TypeTree) → member_start at t ≡ aligned at (type_align t)

@@ -1,9 +1,9 @@
 -- A type that names only types of a list may be written.
 use Rattle.std.proofs.Common.{◌≡◌, true}
 use Rattle.std.specs.Prelude.{List}
-use Rattle.ads_plant.specs.Listed.{Elem, Plain, Text, Struct, Enum, Shape, NamedType, is_structure, is_enumeration}
-use Rattle.ads_plant.specs.AcceptedTypes.{is_elem, elem_within, IsSized}
-use Rattle.ads_plant.proofs.TypeLemmas.{at-below}
+use Rattle.spec_plant.specs.Listed.{Elem, Plain, Text, Struct, Enum, Shape, NamedType, is_structure, is_enumeration}
+use Rattle.spec_plant.specs.AcceptedTypes.{is_elem, elem_within, IsSized}
+use Rattle.spec_plant.proofs.TypeLemmas.{at-below}
 use Rattle.type_layout.specs.Spelled.{IsThere, NamesThere}
 
 elem_there : (types : List NamedType) (e : Elem) → is_elem types e ≡ true → IsThere types e

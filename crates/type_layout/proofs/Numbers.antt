@@ -1,12 +1,12 @@
 -- The place of an element by its two or three indexes.
 use Rattle.std.proofs.Common.{◌≡◌, ℕ, ◌+◌, ◌*◌, ◌<◌, ◌≤◌, List, [], ◌∷◌, length, get_or, sym, ◌∙◌, ap, arith, ◌≢◌}
 use Rattle.std.specs.Prelude.{Some, None, ℤ}
-use Rattle.ads_plant.specs.Sizes.{element_count}
-use Rattle.ads_plant.specs.Parts.{within, element_from}
-use Rattle.ads_plant.specs.AcceptedTypes.{LIMIT}
+use Rattle.spec_plant.specs.Sizes.{element_count}
+use Rattle.spec_plant.specs.Parts.{within, element_from}
+use Rattle.spec_plant.specs.AcceptedTypes.{LIMIT}
 use Rattle.std.proofs.lemmas.Nat.{mul-le}
 use Rattle.std.proofs.lemmas.List.{length-map}
-use Rattle.ads_plant.proofs.PartLemmas.{element_from-lengths}
+use Rattle.spec_plant.proofs.PartLemmas.{element_from-lengths}
 use Rattle.type_layout.specs.Shapes.{bound_of, bounds_of}
 use Rattle.type_layout.specs.declared.shape.Bound.{Bound}
 

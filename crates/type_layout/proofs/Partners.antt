@@ -9,12 +9,12 @@ use Rattle.std.proofs.lemmas.List.{take_all}
 use Rattle.std.proofs.lemmas.Option.{slice_get-get_or}
 use Rattle.std.proofs.lemmas.Slice.Eq.{bytes_eq-Decides}
 use Rattle.name_paths.specs.Identifier.{lower}
-use Rattle.ads_plant.specs.Listed.{Shape, Member, NamedType, Structure, Enumeration, type_name}
-use Rattle.ads_plant.specs.Trees.{TypeTree, EnumTree, StructTree, tree_at, trees_of, tree_of, named_tree, member_trees}
-use Rattle.ads_plant.specs.Spelling.{type_text}
-use Rattle.ads_plant.specs.AcceptedTypes.{AreTypes, are_types_behind, is_next_type, has_parts, is_member, is_shape, differ}
-use Rattle.ads_plant.specs.SameTypes.{is_same_kind, has_same_parts, has_same_members, is_same_type}
-use Rattle.ads_plant.proofs.TypeLemmas.{stands_at, list_all-get}
+use Rattle.spec_plant.specs.Listed.{Shape, Member, NamedType, Structure, Enumeration, type_name}
+use Rattle.spec_plant.specs.Trees.{TypeTree, EnumTree, StructTree, tree_at, trees_of, tree_of, named_tree, member_trees}
+use Rattle.spec_plant.specs.Spelling.{type_text}
+use Rattle.spec_plant.specs.AcceptedTypes.{AreTypes, are_types_behind, is_next_type, has_parts, is_member, is_shape, differ}
+use Rattle.spec_plant.specs.SameTypes.{is_same_kind, has_same_parts, has_same_members, is_same_type}
+use Rattle.spec_plant.proofs.TypeLemmas.{stands_at, list_all-get}
 use Rattle.type_layout.specs.SameShapes.{ArePartners, HasNoPartner, IsPartnerAt, has_place, is_partner, same_shape, same_members, same_named}
 use Rattle.type_layout.proofs.SameShapeLemmas.{and_false, same_shape-is, same_members-is}
 

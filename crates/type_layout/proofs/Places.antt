@@ -3,16 +3,16 @@ use Rattle.std.proofs.Common.{◌≡◌, ℕ, ◌+◌, ◌<◌, ◌≤◌, max, 
 use Rattle.std.proofs.lemmas.List.{length-map, drop_all}
 use Rattle.std.specs.Prelude.{Some, None, slice_get, option_map, bytes_eq}
 use Rattle.std.proofs.lemmas.Option.{slice_get_read, slice_get-map}
-use Rattle.ads_plant.specs.Trees.{tree_at, trees_of, member_trees, tree_of}
-use Rattle.ads_plant.specs.Sizes.{aligned, member_start, members_end, greatest_align, type_size, type_align}
+use Rattle.spec_plant.specs.Trees.{tree_at, trees_of, member_trees, tree_of}
+use Rattle.spec_plant.specs.Sizes.{aligned, member_start, members_end, greatest_align, type_size, type_align}
 use Rattle.name_paths.specs.Identifier.{lower}
-use Rattle.ads_plant.specs.Parts as found
-use Rattle.ads_plant.specs.Parts.{member_from}
-use Rattle.ads_plant.specs.Listed as plain
-use Rattle.ads_plant.proofs.SizeLemmas.{greatest_align-bounds}
-use Rattle.ads_plant.specs.AcceptedTypes.{AreTypes, LIMIT, is_structure_at}
-use Rattle.ads_plant.specs.Listed.{is_enumeration, is_structure, Structure}
-use Rattle.ads_plant.proofs.TypeLemmas.{StandsAt, stands_at, at-below}
+use Rattle.spec_plant.specs.Parts as found
+use Rattle.spec_plant.specs.Parts.{member_from}
+use Rattle.spec_plant.specs.Listed as plain
+use Rattle.spec_plant.proofs.SizeLemmas.{greatest_align-bounds}
+use Rattle.spec_plant.specs.AcceptedTypes.{AreTypes, LIMIT, is_structure_at}
+use Rattle.spec_plant.specs.Listed.{is_enumeration, is_structure, Structure}
+use Rattle.spec_plant.proofs.TypeLemmas.{StandsAt, stands_at, at-below}
 use Rattle.type_layout.specs.Shapes.{shape_of}
 use Rattle.type_layout.specs.NamedTypes.{types_of, named_type_of, enumeration_of, structure_of, member_of}
 use Rattle.type_layout.specs.declared.named_type.NamedType.{NamedType}

@@ -2,7 +2,7 @@
 use Rattle.std.proofs.Common.{◌≡◌, true, false, refl, sym, ◌∙◌, ap, subst}
 use Rattle.std.specs.Prelude.{ℤ, pos, negsuc}
 use Rattle.std.proofs.lemmas.Bool.{eq-eqb, ne_eqb, eqb-true}
-use Rattle.ads_plant.specs.AcceptedTypes.{is_same_number}
+use Rattle.spec_plant.specs.AcceptedTypes.{is_same_number}
 
 itself : (z : ℤ) → is_same_number z z ≡ true
 itself (pos n) = eq-eqb n n refl

@@ -7,18 +7,18 @@ use Rattle.std.proofs.lemmas.Bool.{cases_Bool, and_parts, eq-eqb, eqb-true}
 use Rattle.std.proofs.lemmas.Int.{ints}
 use Rattle.std.proofs.lemmas.Slice.Eq.{bytes_eq-Decides}
 use Rattle.name_paths.specs.Identifier.{lower}
-use Rattle.ads_plant.specs.Plain.{Kind}
-use Rattle.ads_plant.specs.Listed.{Bound, Elem, Plain, Text, Struct, Enum, Shape, One, Array, Member, NamedType, Structure, Enumeration, is_structure, is_enumeration}
-use Rattle.ads_plant.specs.Trees.{TypeTree, PlainTree, TextTree, EnumTree, ArrayTree, StructTree, tree_at, trees_of, tree_of, elem_tree, shape_tree, member_trees}
-use Rattle.ads_plant.specs.Sizes.{element_count, aligned, type_size, member_start}
-use Rattle.ads_plant.specs.Spelling.{type_text, bound_text, joined_by_comma, high_of}
-use Rattle.ads_plant.specs.TypeTexts.{Ends, TypeText, type_text_of}
-use Rattle.ads_plant.specs.WrittenTypes.{ends_of_bound, written_type}
-use Rattle.ads_plant.specs.AcceptedTypes.{AreTypes, is_elem, is_shape, is_member, are_bounds, is_same_number}
-use Rattle.ads_plant.specs.SameTypes.{is_same_kind, has_same_parts, has_same_members, is_same_type}
-use Rattle.ads_plant.proofs.ReadBack.{read_back}
-use Rattle.ads_plant.proofs.SameSizes.{same_parts-size}
-use Rattle.ads_plant.proofs.TypeLemmas.{stands_at, at-below, elem-earlier, shape-elem, member-shape}
+use Rattle.spec_plant.specs.Plain.{Kind}
+use Rattle.spec_plant.specs.Listed.{Bound, Elem, Plain, Text, Struct, Enum, Shape, One, Array, Member, NamedType, Structure, Enumeration, is_structure, is_enumeration}
+use Rattle.spec_plant.specs.Trees.{TypeTree, PlainTree, TextTree, EnumTree, ArrayTree, StructTree, tree_at, trees_of, tree_of, elem_tree, shape_tree, member_trees}
+use Rattle.spec_plant.specs.Sizes.{element_count, aligned, type_size, member_start}
+use Rattle.spec_plant.specs.Spelling.{type_text, bound_text, joined_by_comma, high_of}
+use Rattle.spec_plant.specs.TypeTexts.{Ends, TypeText, type_text_of}
+use Rattle.spec_plant.specs.WrittenTypes.{ends_of_bound, written_type}
+use Rattle.spec_plant.specs.AcceptedTypes.{AreTypes, is_elem, is_shape, is_member, are_bounds, is_same_number}
+use Rattle.spec_plant.specs.SameTypes.{is_same_kind, has_same_parts, has_same_members, is_same_type}
+use Rattle.spec_plant.proofs.ReadBack.{read_back}
+use Rattle.spec_plant.proofs.SameSizes.{same_parts-size}
+use Rattle.spec_plant.proofs.TypeLemmas.{stands_at, at-below, elem-earlier, shape-elem, member-shape}
 use Rattle.type_layout.specs.SameShapes.{ArePartners, is_partner, same_elem, same_bound, same_bounds, same_shape, same_member, same_members}
 use Rattle.type_layout.proofs.SameNumbers.{same_number, number_is}
 

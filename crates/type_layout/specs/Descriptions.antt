@@ -1,6 +1,6 @@
 -- The descriptions, ports and symbols that the code's values are.
 use Rattle.std.specs.Prelude.{ℕ, List, map}
-use Rattle.ads_plant.specs.Description as plant
+use Rattle.spec_plant.specs.Description as plant
 use Rattle.type_layout.specs.Shapes.{shape_of}
 use Rattle.type_layout.specs.NamedTypes.{types_of}
 use Rattle.ads_base.specs.declared.net_id.NetId.{NetId}

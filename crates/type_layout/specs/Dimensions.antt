@@ -1,6 +1,6 @@
 -- The dimensions that the code reads before the element. No public clause cites this file.
 use Rattle.std.specs.Prelude.{◌≡◌, ◌==◌, List, MatchBool}
-use Rattle.ads_plant.specs.TypeTexts as texts
+use Rattle.spec_plant.specs.TypeTexts as texts
 use Rattle.type_layout.specs.ReadTexts.{ends_among, IsBlank}
 use Rattle.type_layout.specs.declared.reading.Dimensions.{Dimensions}
 

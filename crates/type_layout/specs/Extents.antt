@@ -1,8 +1,8 @@
 -- Size and alignment as the code finds them.
 use Rattle.std.specs.Prelude.{◌≡◌, ℕ, ◌<◌, List, length, map, slice_index_or}
-use Rattle.ads_plant.specs.Listed.{NamedType}
-use Rattle.ads_plant.specs.Trees.{TypeTree, tree_at, trees_of}
-use Rattle.ads_plant.specs.Sizes.{type_size, type_align}
+use Rattle.spec_plant.specs.Listed.{NamedType}
+use Rattle.spec_plant.specs.Trees.{TypeTree, tree_at, trees_of}
+use Rattle.spec_plant.specs.Sizes.{type_size, type_align}
 use Rattle.type_layout.specs.declared.extent.Extent.{Extent}
 
 pub record HasExtent (tree : TypeTree) (extent : Extent) : Type 0 where

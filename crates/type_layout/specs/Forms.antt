@@ -2,9 +2,9 @@
 -- enumeration that it names. A stored value is known to fit a symbol by it. This project's own format.
 use Rattle.std.specs.Prelude.{ℕ, List, [], ◌++◌, map, codes, decimal}
 use Rattle.name_paths.specs.Identifier.{lower}
-use Rattle.ads_plant.specs.Plain.{kind_name}
-use Rattle.ads_plant.specs.Trees.{TypeTree, PlainTree, TextTree, EnumTree, ArrayTree, StructTree, MemberTrees, NoMember, MemberTree}
-use Rattle.ads_plant.specs.Spelling.{bound_text, joined_by_comma}
+use Rattle.spec_plant.specs.Plain.{kind_name}
+use Rattle.spec_plant.specs.Trees.{TypeTree, PlainTree, TextTree, EnumTree, ArrayTree, StructTree, MemberTrees, NoMember, MemberTree}
+use Rattle.spec_plant.specs.Spelling.{bound_text, joined_by_comma}
 
 unfoldable mutual
   -- an enumeration is `name(base)`, a structure `name{member:form;member:form;}`

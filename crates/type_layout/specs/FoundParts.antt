@@ -1,9 +1,9 @@
 -- The part that a found place and type are.
 use Rattle.std.specs.Prelude.{ℕ, List}
-use Rattle.ads_plant.specs.Listed as plain
-use Rattle.ads_plant.specs.Trees.{tree_of}
-use Rattle.ads_plant.specs.Parts.{TypePart}
-use Rattle.ads_plant.specs.AcceptedTypes.{IsSized}
+use Rattle.spec_plant.specs.Listed as plain
+use Rattle.spec_plant.specs.Trees.{tree_of}
+use Rattle.spec_plant.specs.Parts.{TypePart}
+use Rattle.spec_plant.specs.AcceptedTypes.{IsSized}
 use Rattle.type_layout.specs.Shapes.{shape_of_ref}
 use Rattle.type_layout.specs.declared.shape.TypeRef.{TypeRef}
 

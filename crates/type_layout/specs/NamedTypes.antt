@@ -1,6 +1,6 @@
 -- The members, values and named types that the code's values are.
 use Rattle.std.specs.Prelude.{List, map}
-use Rattle.ads_plant.specs.Listed as listed
+use Rattle.spec_plant.specs.Listed as listed
 use Rattle.type_layout.specs.Shapes.{kind_of, shape_of}
 use Rattle.type_layout.specs.declared.structures.Member.{Member}
 use Rattle.type_layout.specs.declared.structures.StructType.{StructType}

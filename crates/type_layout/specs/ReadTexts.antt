@@ -1,6 +1,6 @@
 -- The type texts that the code's values are.
 use Rattle.std.specs.Prelude.{◌≡◌, ℕ, ◌==◌, List, [], ◌∷◌, if◌then◌else◌, pos, MatchBool}
-use Rattle.ads_plant.specs.TypeTexts as texts
+use Rattle.spec_plant.specs.TypeTexts as texts
 use Rattle.type_layout.specs.Shapes.{kind_of}
 use Rattle.type_layout.specs.declared.read_texts.Ends.{Ends}
 use Rattle.type_layout.specs.declared.read_texts.ElemText.{ElemText}

@@ -2,10 +2,10 @@
 use Rattle.std.specs.Prelude.{◌≡◌, ℕ, ◌<◌, ◌==◌, ◌&&◌, List, [], ◌∷◌, length, Bool, true, false, Option, Some, slice_get, bytes_eq}
 use Rattle.std.specs.Option.{option_map_or}
 use Rattle.name_paths.specs.Identifier.{lower}
-use Rattle.ads_plant.specs.Listed.{Bound, Elem, Plain, Text, Struct, Enum, Shape, One, Array, Member, NamedType, Structure, Enumeration}
-use Rattle.ads_plant.specs.AcceptedTypes.{is_same_number}
-use Rattle.ads_plant.specs.SameTypes.{is_same_kind, is_same_type}
-use Rattle.ads_plant.specs.Trees.{tree_at, trees_of}
+use Rattle.spec_plant.specs.Listed.{Bound, Elem, Plain, Text, Struct, Enum, Shape, One, Array, Member, NamedType, Structure, Enumeration}
+use Rattle.spec_plant.specs.AcceptedTypes.{is_same_number}
+use Rattle.spec_plant.specs.SameTypes.{is_same_kind, is_same_type}
+use Rattle.spec_plant.specs.Trees.{tree_at, trees_of}
 
 -- of each named type of the one list the place of the same type in the other, where there is one
 abbrev pub has_place : ℕ → Option ℕ → Bool

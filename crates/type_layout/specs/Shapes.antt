@@ -1,7 +1,7 @@
 -- The plain kinds, elements, bounds and shapes that the code's values are.
 use Rattle.std.specs.Prelude.{List, map}
-use Rattle.ads_plant.specs.Plain as plain
-use Rattle.ads_plant.specs.Listed as listed
+use Rattle.spec_plant.specs.Plain as plain
+use Rattle.spec_plant.specs.Listed as listed
 use Rattle.type_layout.specs.declared.kind.Kind.{Kind}
 use Rattle.type_layout.specs.declared.kind.Kind.TheVariants as kind
 use Rattle.type_layout.specs.declared.shape.Elem.{Elem}

@@ -1,8 +1,8 @@
 -- Which types can be written, and how the code goes over their bounds.
 use Rattle.std.specs.Prelude.{◌≡◌, ℕ, ◌<◌, List, ◌∷◌, ◌++◌, length}
-use Rattle.ads_plant.specs.Listed as plain
-use Rattle.ads_plant.specs.Spelling.{bound_text}
-use Rattle.ads_plant.specs.AcceptedTypes.{elem_within}
+use Rattle.spec_plant.specs.Listed as plain
+use Rattle.spec_plant.specs.Spelling.{bound_text}
+use Rattle.spec_plant.specs.AcceptedTypes.{elem_within}
 use Rattle.type_layout.specs.Shapes.{bound_of}
 use Rattle.type_layout.specs.declared.shape.Bound.{Bound}
 

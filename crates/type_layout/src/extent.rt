@@ -1,9 +1,9 @@
 //! How many bytes a type has, and at multiples of what it stands.
 
 ghost use Rattle.std.specs.Prelude.{◌≡◌, ◌+◌, ◌^◌, ◌<◌, ◌≤◌, IsTrue};
-ghost use Rattle.ads_plant.specs.Sizes.{aligned, element_count, type_size, type_align};
-ghost use Rattle.ads_plant.specs.Trees.{tree_of, trees_of, elem_tree, tree_at};
-ghost use Rattle.ads_plant.specs.AcceptedTypes.{AreTypes, IsSized, LIMIT, is_elem, is_structure_at, is_enumeration_at};
+ghost use Rattle.spec_plant.specs.Sizes.{aligned, element_count, type_size, type_align};
+ghost use Rattle.spec_plant.specs.Trees.{tree_of, trees_of, elem_tree, tree_at};
+ghost use Rattle.spec_plant.specs.AcceptedTypes.{AreTypes, IsSized, LIMIT, is_elem, is_structure_at, is_enumeration_at};
 ghost use Rattle.type_layout.specs.Shapes.{elem_of, bounds_of, shape_of_ref};
 ghost use Rattle.type_layout.specs.NamedTypes.{types_of};
 ghost use Rattle.type_layout.specs.Extents.{AreExtents, HasExtent};

@@ -2,10 +2,10 @@
 
 ghost use Rattle.std.specs.Prelude.{◌≡◌, ◌<◌, length, option_map, IfOk, IfSome};
 ghost use Rattle.name_paths.specs.Steps.{step_of};
-ghost use Rattle.ads_plant.specs.AcceptedTypes.{AreTypes, IsSized};
-ghost use Rattle.ads_plant.specs.Parts.{part_of};
-ghost use Rattle.ads_plant.specs.Sizes.{type_size};
-ghost use Rattle.ads_plant.specs.Trees.{tree_at, tree_of, trees_of};
+ghost use Rattle.spec_plant.specs.AcceptedTypes.{AreTypes, IsSized};
+ghost use Rattle.spec_plant.specs.Parts.{part_of};
+ghost use Rattle.spec_plant.specs.Sizes.{type_size};
+ghost use Rattle.spec_plant.specs.Trees.{tree_at, tree_of, trees_of};
 ghost use Rattle.type_layout.specs.Extents.{AreExtents, HasExtent, extents_of};
 ghost use Rattle.type_layout.specs.FoundParts.{part_in, IsSizedPart};
 ghost use Rattle.type_layout.specs.NamedTypes.{types_of};

@@ -2,9 +2,9 @@
 
 ghost use Rattle.std.specs.Prelude.{◌≡◌, ◌++◌, ◌∷◌, [], OnOk, OnErr, IsTrue, codes, decimal, map};
 ghost use Rattle.name_paths.specs.Identifier.{lower};
-ghost use Rattle.ads_plant.specs.Spelling.{bound_text, joined_by_comma};
-ghost use Rattle.ads_plant.specs.Trees.{tree_of, trees_of, elem_tree, tree_at};
-ghost use Rattle.ads_plant.specs.AcceptedTypes.{AreTypes, IsSized, is_elem, elem_within, is_structure_at, is_enumeration_at};
+ghost use Rattle.spec_plant.specs.Spelling.{bound_text, joined_by_comma};
+ghost use Rattle.spec_plant.specs.Trees.{tree_of, trees_of, elem_tree, tree_at};
+ghost use Rattle.spec_plant.specs.AcceptedTypes.{AreTypes, IsSized, is_elem, elem_within, is_structure_at, is_enumeration_at};
 ghost use Rattle.type_layout.specs.Forms.{form_of};
 ghost use Rattle.type_layout.specs.Shapes.{elem_of, bounds_of, shape_of_ref};
 ghost use Rattle.type_layout.specs.NamedTypes.{types_of};

@@ -1,7 +1,7 @@
 //! The plain types.
 
 ghost use Rattle.std.specs.Prelude.{◌≡◌, ◌<◌, ◌≤◌};
-ghost use Rattle.ads_plant.specs.Plain.{kind_size, kind_id, kind_name};
+ghost use Rattle.spec_plant.specs.Plain.{kind_size, kind_id, kind_name};
 ghost use Rattle.type_layout.specs.Shapes.{kind_of};
 
 /// A plain type. Beckhoff Information System, data types of a PLC program.

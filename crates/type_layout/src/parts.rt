@@ -4,11 +4,11 @@ ghost use Rattle.std.specs.Prelude.{◌≡◌, ◌+◌, ◌-◌, ◌*◌, ◌^�
 ghost use Rattle.name_paths.specs.Identifier.{lower};
 ghost use Rattle.name_paths.specs.Steps.{step_of};
 ghost use Rattle.name_paths.specs.Indexes.{numbers_of_indexes};
-ghost use Rattle.ads_plant.specs.Listed.{Array};
-ghost use Rattle.ads_plant.specs.Trees.{tree_of, elem_tree, tree_at, trees_of};
-ghost use Rattle.ads_plant.specs.Sizes.{element_count};
-ghost use Rattle.ads_plant.specs.Parts.{part_of, part_of_member, within, element_from, element_of, member_of};
-ghost use Rattle.ads_plant.specs.AcceptedTypes.{AreTypes, IsSized, LIMIT, is_elem, is_structure_at};
+ghost use Rattle.spec_plant.specs.Listed.{Array};
+ghost use Rattle.spec_plant.specs.Trees.{tree_of, elem_tree, tree_at, trees_of};
+ghost use Rattle.spec_plant.specs.Sizes.{element_count};
+ghost use Rattle.spec_plant.specs.Parts.{part_of, part_of_member, within, element_from, element_of, member_of};
+ghost use Rattle.spec_plant.specs.AcceptedTypes.{AreTypes, IsSized, LIMIT, is_elem, is_structure_at};
 ghost use Rattle.type_layout.specs.Shapes.{elem_of, bound_of, bounds_of, shape_of_ref};
 ghost use Rattle.type_layout.specs.NamedTypes.{types_of};
 ghost use Rattle.type_layout.specs.Extents.{AreExtents};

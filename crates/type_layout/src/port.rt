@@ -25,7 +25,7 @@ pub struct Sizes {
 
 impl Sizes {
     ghost use Rattle.std.specs.Prelude.{◌≡◌};
-    ghost use Rattle.ads_plant.specs.Description.{size_in};
+    ghost use Rattle.spec_plant.specs.Description.{size_in};
     ghost use Rattle.type_layout.specs.Descriptions.{area_of, sizes_of};
 
     /// The size of an area.

@@ -3,8 +3,8 @@
 ghost use Rattle.std.specs.Prelude.{◌≡◌, ◌≤◌, length, take, drop, map, find, true, false, option_map, MatchOption, IfSome, IsTrue};
 ghost use Rattle.std.specs.List.{slice_split, position_or_len};
 ghost use Rattle.name_paths.specs.Path.{is_comma};
-ghost use Rattle.ads_plant.specs.Plain.{kind_name};
-ghost use Rattle.ads_plant.specs.TypeTexts as texts;
+ghost use Rattle.spec_plant.specs.Plain.{kind_name};
+ghost use Rattle.spec_plant.specs.TypeTexts as texts;
 ghost use Rattle.type_layout.specs.Shapes.{kind_of};
 ghost use Rattle.type_layout.specs.ReadTexts.{ends_of, elem_text_of, text_of, HasBlankEnds};
 ghost use Rattle.type_layout.specs.Dimensions.{all_ends, HasBlanks};

@@ -1,8 +1,8 @@
 //! Canonical texts of types.
 
 ghost use Rattle.std.specs.Prelude.{◌≡◌, ◌<◌, ◌++◌, ◌∷◌, map, flat_map, length, OnOk, OnErr, codes, decimal};
-ghost use Rattle.ads_plant.specs.Spelling.{type_text, bound_text, high_of, joined_by_comma};
-ghost use Rattle.ads_plant.specs.Trees.{tree_of, trees_of, elem_tree, tree_at};
+ghost use Rattle.spec_plant.specs.Spelling.{type_text, bound_text, high_of, joined_by_comma};
+ghost use Rattle.spec_plant.specs.Trees.{tree_of, trees_of, elem_tree, tree_at};
 ghost use Rattle.type_layout.specs.Shapes.{elem_of, bound_of, bounds_of, shape_of_ref};
 ghost use Rattle.type_layout.specs.NamedTypes.{types_of};
 ghost use Rattle.type_layout.specs.Spelled.{IsThere, NamesThere, Extends, comma_bound};
@@ -32,7 +32,7 @@ pub fn type_text(
 }
 
 // After want of memory a part of the text may stand there.
-#[tactic(auto, unfolding(ads_plant::specs::Spelling::type_text))]
+#[tactic(auto, unfolding(spec_plant::specs::Spelling::type_text))]
 fn append_type(
     alloc: Global,
     types: &[NamedType],
@@ -55,7 +55,7 @@ fn append_type(
     }
 }
 
-#[tactic(auto, unfolding(ads_plant::specs::Spelling::type_text))]
+#[tactic(auto, unfolding(spec_plant::specs::Spelling::type_text))]
 fn put_elem(
     alloc: Global,
     types: &[NamedType],

@@ -1,7 +1,7 @@
 //! The size of a port's upload.
 
 ghost use Rattle.std.specs.Prelude.{◌≡◌, ◌≤◌, All, IfOk};
-ghost use Rattle.ads_plant.specs.Entries.{symbol_entry_length, upload_size};
+ghost use Rattle.spec_plant.specs.Entries.{symbol_entry_length, upload_size};
 ghost use Rattle.type_layout.specs.Shapes.{shape_of};
 ghost use Rattle.type_layout.specs.NamedTypes.{types_of};
 ghost use Rattle.type_layout.specs.Descriptions.{symbol_of, symbols_of};

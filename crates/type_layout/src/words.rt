@@ -3,7 +3,7 @@
 ghost use Rattle.std.specs.Prelude.{◌≡◌, ◌≤◌, ◌==◌, length, take, drop, true, false, [], ◌∷◌, position, bytes_eq, MatchOption};
 ghost use Rattle.std.specs.List.{slice_split, position_or_len};
 ghost use Rattle.name_paths.specs.Path.{is_comma};
-ghost use Rattle.ads_plant.specs.TypeTexts.{is_same_word};
+ghost use Rattle.spec_plant.specs.TypeTexts.{is_same_word};
 
 /// Whether two texts are the same, ASCII case aside.
 pub(crate) fn is_same_word(a: &[u8], b: &[u8]) -> bool

@@ -5,10 +5,10 @@ use Rattle.std.specs.Int.{w16, w32, to_le_bytes}
 use Rattle.std.proofs.Math.Seq.{take-append_seam}
 use Rattle.std.proofs.lemmas.List.{take-append-drop}
 use Rattle.ads_base.specs.Octets.{Extends}
-use Rattle.ads_formats.specs.SymbolEntry.{text_bytes}
-use Rattle.ads_formats.specs.TypeEntry.{TypeFields, dimension_bytes, fields_len, sub_bytes}
-use Rattle.ads_formats.proofs.Appends.{two_parts, three_parts}
-use Rattle.ads_formats.specs.TypeUpload.{dimension_of}
+use Rattle.spec_formats.specs.SymbolEntry.{text_bytes}
+use Rattle.spec_formats.specs.TypeEntry.{TypeFields, dimension_bytes, fields_len, sub_bytes}
+use Rattle.spec_formats.proofs.Appends.{two_parts, three_parts}
+use Rattle.spec_formats.specs.TypeUpload.{dimension_of}
 use Rattle.type_layout.specs.Shapes.{bounds_of}
 use Rattle.type_layout.specs.declared.shape.Bound.{Bound}
 use Rattle.type_upload.specs.WrittenFields.{front_bytes, numbers, lengths, texts, bound_bytes}

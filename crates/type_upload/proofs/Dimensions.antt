@@ -4,10 +4,10 @@ use Rattle.std.specs.Int.{w32, to_le_bytes}
 use Rattle.std.specs.List.{flat_map, AllByRecursion}
 use Rattle.std.proofs.lemmas.List.{length-drop, drop-drop}
 use Rattle.std.proofs.lemmas.Nat.{from_le_bytes-to_le_bytes_4}
-use Rattle.ads_formats.specs.Numbers.{AreBytes, number32}
-use Rattle.ads_formats.specs.TypeEntry.{Dimension, dimension_bytes}
-use Rattle.ads_formats.specs.TypeEntryReading.{dimensions_in}
-use Rattle.ads_formats.proofs.Fields.{AreBytes-drop, number32-front, number32-lt, next32}
+use Rattle.spec_formats.specs.Numbers.{AreBytes, number32}
+use Rattle.spec_formats.specs.TypeEntry.{Dimension, dimension_bytes}
+use Rattle.spec_formats.specs.TypeEntryReading.{dimensions_in}
+use Rattle.spec_formats.proofs.Fields.{AreBytes-drop, number32-front, number32-lt, next32}
 
 abbrev dimension_at : List ℕ → Dimension
 dimension_at bytes = record { low = number32 0 bytes; count = number32 4 bytes }

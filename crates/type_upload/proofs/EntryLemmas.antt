@@ -4,13 +4,13 @@ use Rattle.std.specs.Prelude.{flat_map}
 use Rattle.std.proofs.lemmas.List.{append-nil, take_more, take_all, flat_map_more}
 use Rattle.std.proofs.lemmas.Grind.{flat_map-append}
 use Rattle.std.proofs.lemmas.Option.{unwrap_or-slice_get}
-use Rattle.ads_formats.specs.TypeEntry.{TypeFields, TypeEntry, sub_bytes, type_bytes, type_upload_bytes}
-use Rattle.ads_plant.specs.Listed.{NamedType}
-use Rattle.ads_plant.specs.Trees.{TypeTree, StructTree, MemberTrees, NoMember, tree_at, trees_of}
-use Rattle.ads_plant.specs.Sizes.{type_size}
-use Rattle.ads_plant.specs.Entries.{type_id}
-use Rattle.ads_plant.proofs.TypeLemmas.{length-trees_behind}
-use Rattle.ads_formats.specs.TypeUpload.{members_fields, named_fields, entry_of_type, entries_of_types}
+use Rattle.spec_formats.specs.TypeEntry.{TypeFields, TypeEntry, sub_bytes, type_bytes, type_upload_bytes}
+use Rattle.spec_plant.specs.Listed.{NamedType}
+use Rattle.spec_plant.specs.Trees.{TypeTree, StructTree, MemberTrees, NoMember, tree_at, trees_of}
+use Rattle.spec_plant.specs.Sizes.{type_size}
+use Rattle.spec_plant.specs.Entries.{type_id}
+use Rattle.spec_plant.proofs.TypeLemmas.{length-trees_behind}
+use Rattle.spec_formats.specs.TypeUpload.{members_fields, named_fields, entry_of_type, entries_of_types}
 use Rattle.type_upload.specs.WrittenFields.{front_bytes}
 use Rattle.type_upload.specs.NextMembers.{tree_bytes}
 

@@ -1,8 +1,8 @@
 -- Worked examples, computed: the entries of the tests as they are read.
 use Rattle.std.specs.Prelude.{◌≡◌, ℕ, List, [], ◌∷◌, ◌++◌, take, set, Some, None, codes}
 use Rattle.std.proofs.Common.{refl}
-use Rattle.ads_formats.specs.TypeEntry.{TypeFields, TypeEntry}
-use Rattle.ads_formats.specs.TypeEntryReading.{is_fields, after_sub_in, after_subs_in, is_entry, type_entry_of}
+use Rattle.spec_formats.specs.TypeEntry.{TypeFields, TypeEntry}
+use Rattle.spec_formats.specs.TypeEntryReading.{is_fields, after_sub_in, after_subs_in, is_entry, type_entry_of}
 
 -- the entry of a structure `S` of 4 bytes, id 65, flags 1, version 9, hashes 7 and 8: length 154, two sub items
 abbrev numbers_of_s : List ℕ

@@ -5,12 +5,12 @@ use Rattle.std.specs.List.{flat_map}
 use Rattle.std.proofs.Math.Seq.{get_or-append_seam}
 use Rattle.std.proofs.lemmas.List.{length-append, length-drop, length-take-le, take_at, drop_at, drop-drop, drop_more, get_or-drop, take-append-drop}
 use Rattle.std.proofs.lemmas.Nat.{from_le_bytes-to_le_bytes_2, from_le_bytes-to_le_bytes_4}
-use Rattle.ads_formats.specs.Numbers.{AreBytes, number16, number32}
-use Rattle.ads_formats.specs.SymbolEntry.{text_bytes}
-use Rattle.ads_formats.specs.TypeEntry.{Dimension, TypeFields, Stamps, dimension_bytes, fields_len, fields_bytes, FitsFields}
-use Rattle.ads_formats.proofs.Fields.{AreBytes-drop, number16-lt, number32-lt, number32-front, next16, next32, next_field}
+use Rattle.spec_formats.specs.Numbers.{AreBytes, number16, number32}
+use Rattle.spec_formats.specs.SymbolEntry.{text_bytes}
+use Rattle.spec_formats.specs.TypeEntry.{Dimension, TypeFields, Stamps, dimension_bytes, fields_len, fields_bytes, FitsFields}
+use Rattle.spec_formats.proofs.Fields.{AreBytes-drop, number16-lt, number32-lt, number32-front, next16, next32, next_field}
 use Rattle.type_upload.specs.Places.{HasFields}
-use Rattle.ads_formats.specs.TypeEntryReading.{end_of_name, end_of_type, end_of_comment, end_of_fields, dimensions_in, fields_at}
+use Rattle.spec_formats.specs.TypeEntryReading.{end_of_name, end_of_type, end_of_comment, end_of_fields, dimensions_in, fields_at}
 use Rattle.type_upload.proofs.Dimensions.{length-dimensions_in, dimensions-front, dimensions_fit, length-dimensions, dimensions_read}
 
 -- ---- one text

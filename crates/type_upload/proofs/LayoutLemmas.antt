@@ -1,11 +1,11 @@
 -- Layouts of the first types of a list, and what the elements of types name.
 use Rattle.std.proofs.Common.{◌≡◌, ℕ, zero, suc, ◌≤◌, List, [], ◌∷◌, ◌++◌, length, map, true, inl, inr, ◌⊎◌, refl, sym, ap, ◌∙◌, subst}
 use Rattle.std.specs.Prelude.{Some, slice_get}
-use Rattle.ads_plant.specs.Listed.{Elem, Plain, Text, Struct, Enum, Shape, One, Array, NamedType, Structure, Enumeration, is_structure, is_enumeration}
-use Rattle.ads_plant.specs.Trees.{tree_at, tree_of, trees_of, elem_tree}
-use Rattle.ads_plant.specs.AcceptedTypes.{AreTypes, IsSized, is_elem, elem_within}
-use Rattle.ads_plant.proofs.TypeLemmas.{rank, at-below, named_there, stands_at}
-use Rattle.ads_formats.specs.TypeUpload.{dimension_of, dimensions_of}
+use Rattle.spec_plant.specs.Listed.{Elem, Plain, Text, Struct, Enum, Shape, One, Array, NamedType, Structure, Enumeration, is_structure, is_enumeration}
+use Rattle.spec_plant.specs.Trees.{tree_at, tree_of, trees_of, elem_tree}
+use Rattle.spec_plant.specs.AcceptedTypes.{AreTypes, IsSized, is_elem, elem_within}
+use Rattle.spec_plant.proofs.TypeLemmas.{rank, at-below, named_there, stands_at}
+use Rattle.spec_formats.specs.TypeUpload.{dimension_of, dimensions_of}
 use Rattle.type_layout.specs.Spelled.{IsThere, NamesThere}
 use Rattle.type_upload.specs.Layouts.{AreKnown, HasLayout, reach}
 use Rattle.type_upload.specs.NextMembers.{bounds_within}

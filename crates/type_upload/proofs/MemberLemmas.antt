@@ -4,17 +4,17 @@ use Rattle.std.specs.Prelude.{Some, slice_get, nat_le, ◌&&◌}
 use Rattle.std.specs.List.{list_all}
 use Rattle.std.proofs.lemmas.Bool.{and_parts, leb-true}
 use Rattle.std.proofs.lemmas.List.{drop_all, length-map}
-use Rattle.ads_formats.specs.TypeEntry.{Dimension, TypeFields, Stamps, fields_len, sub_bytes}
-use Rattle.ads_plant.specs.Listed.{Shape, One, Array, Member, NamedType, Structure}
-use Rattle.ads_plant.specs.Trees.{TypeTree, StructTree, shape_tree, tree_of, trees_of, member_trees}
-use Rattle.ads_plant.specs.Sizes.{aligned, type_size, type_align, greatest_align, members_end, member_start}
-use Rattle.ads_plant.specs.Spelling.{type_text}
-use Rattle.ads_plant.specs.Entries.{type_id}
-use Rattle.ads_plant.specs.AcceptedTypes.{AreTypes, LIMIT, are_bounds, is_elem, is_shape, is_small_shape, is_member, is_comment, is_short_identifier, has_parts, is_count, all_pairs, differ, elem_within}
-use Rattle.ads_plant.proofs.SizeLemmas.{greatest_align-bounds}
-use Rattle.ads_plant.proofs.TypeLemmas.{StandsAt, list_all-get, member-shape}
-use Rattle.ads_plant.proofs.TextLengths.{three_bounds, short_name, short_comment}
-use Rattle.ads_formats.specs.TypeUpload.{members_fields, member_fields, dimension_of, dimensions_of}
+use Rattle.spec_formats.specs.TypeEntry.{Dimension, TypeFields, Stamps, fields_len, sub_bytes}
+use Rattle.spec_plant.specs.Listed.{Shape, One, Array, Member, NamedType, Structure}
+use Rattle.spec_plant.specs.Trees.{TypeTree, StructTree, shape_tree, tree_of, trees_of, member_trees}
+use Rattle.spec_plant.specs.Sizes.{aligned, type_size, type_align, greatest_align, members_end, member_start}
+use Rattle.spec_plant.specs.Spelling.{type_text}
+use Rattle.spec_plant.specs.Entries.{type_id}
+use Rattle.spec_plant.specs.AcceptedTypes.{AreTypes, LIMIT, are_bounds, is_elem, is_shape, is_small_shape, is_member, is_comment, is_short_identifier, has_parts, is_count, all_pairs, differ, elem_within}
+use Rattle.spec_plant.proofs.SizeLemmas.{greatest_align-bounds}
+use Rattle.spec_plant.proofs.TypeLemmas.{StandsAt, list_all-get, member-shape}
+use Rattle.spec_plant.proofs.TextLengths.{three_bounds, short_name, short_comment}
+use Rattle.spec_formats.specs.TypeUpload.{members_fields, member_fields, dimension_of, dimensions_of}
 use Rattle.type_layout.proofs.MemberTurns.{is_turn, ends_within, member_start-align}
 use Rattle.type_upload.specs.WrittenFields.{front_bytes}
 use Rattle.type_upload.specs.NextMembers.{IsNextMember, bounds_within, sub_of, subs_of}

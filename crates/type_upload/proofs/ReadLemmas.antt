@@ -6,15 +6,15 @@ use Rattle.std.specs.List.{flat_map, AllByRecursion}
 use Rattle.std.specs.Cmp.Derive.{both_true}
 use Rattle.std.proofs.lemmas.List.{length-append, append-nil, take_at, drop_at, take_rest}
 use Rattle.std.proofs.Math.Nat.{mul-div_cancel_left}
-use Rattle.ads_formats.specs.Numbers.{AreBytes, number16, number32}
-use Rattle.ads_formats.specs.TypeEntry as formats
-use Rattle.ads_formats.specs.TypeEntry.{Dimension, TypeFields, dimension_bytes, fields_len, fields_bytes, BeginsWithTypeEntry}
-use Rattle.ads_formats.proofs.Fields.{AreBytes-drop, AreBytes-take, number16-lt, number32-lt}
+use Rattle.spec_formats.specs.Numbers.{AreBytes, number16, number32}
+use Rattle.spec_formats.specs.TypeEntry as formats
+use Rattle.spec_formats.specs.TypeEntry.{Dimension, TypeFields, dimension_bytes, fields_len, fields_bytes, BeginsWithTypeEntry}
+use Rattle.spec_formats.proofs.Fields.{AreBytes-drop, AreBytes-take, number16-lt, number32-lt}
 use Rattle.type_upload.specs.declared.entry.TypeEntry.{TypeEntry}
 use Rattle.type_upload.specs.declared.places.Places.{Places}
 use Rattle.type_upload.specs.Entry.{IsRead, BeginsWithNone, entry_meant}
 use Rattle.type_upload.specs.Places.{HasFields, HasPlaces, ReadsAs}
-use Rattle.ads_formats.specs.TypeEntryReading.{end_of_fields, is_fields, dimensions_in, fields_at, after_entry, after_subs_in, subs_in, behind_fields, entry_at, is_entry, type_entry_of}
+use Rattle.spec_formats.specs.TypeEntryReading.{end_of_fields, is_fields, dimensions_in, fields_at, after_entry, after_subs_in, subs_in, behind_fields, entry_at, is_entry, type_entry_of}
 use Rattle.type_upload.proofs.Dimensions.{length-dimensions, dimensions_read}
 use Rattle.type_upload.proofs.TestLemmas.{test_of_fields}
 use Rattle.type_upload.proofs.FieldLemmas.{made, same_fields, stamps_at, front, found, length-fields}

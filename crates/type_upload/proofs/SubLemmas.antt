@@ -6,12 +6,12 @@ use Rattle.std.specs.List.{flat_map, AllZip}
 use Rattle.std.specs.Cmp.Derive.{both_true}
 use Rattle.std.proofs.lemmas.Bool.{eqb-true, eq-eqb}
 use Rattle.std.proofs.lemmas.List.{length-append, length-drop, length-take-le, take_at, drop_at, drop-drop, take-append-drop}
-use Rattle.ads_formats.specs.Numbers.{AreBytes, number16, number32}
-use Rattle.ads_formats.specs.TypeEntry.{TypeFields, fields_len, fields_bytes, IsSubEntry}
-use Rattle.ads_formats.proofs.Fields.{AreBytes-drop, number32-lt, next_field}
-use Rattle.ads_formats.proofs.EntryLemmas.{both}
+use Rattle.spec_formats.specs.Numbers.{AreBytes, number16, number32}
+use Rattle.spec_formats.specs.TypeEntry.{TypeFields, fields_len, fields_bytes, IsSubEntry}
+use Rattle.spec_formats.proofs.Fields.{AreBytes-drop, number32-lt, next_field}
+use Rattle.spec_formats.proofs.EntryLemmas.{both}
 use Rattle.type_upload.specs.Places.{HasFields}
-use Rattle.ads_formats.specs.TypeEntryReading.{end_of_fields, is_fields, fields_at, after_entry, after_sub_in, after_subs_in, subs_in}
+use Rattle.spec_formats.specs.TypeEntryReading.{end_of_fields, is_fields, fields_at, after_entry, after_sub_in, after_subs_in, subs_in}
 use Rattle.type_upload.proofs.TestLemmas.{fields_of_test, test_of_fields}
 use Rattle.type_upload.proofs.FieldLemmas.{stamps_at, front, found, length-fields}
 

@@ -2,10 +2,10 @@
 use Rattle.std.proofs.Common.{◌≡◌, ℕ, Bool, true, false, eqb, leb, List, length, get_or, refl, sym, subst}
 use Rattle.std.specs.Cmp.Derive.{both_true}
 use Rattle.std.proofs.lemmas.Bool.{leb-true, le-leb, eqb-true, eq-eqb}
-use Rattle.ads_formats.specs.Numbers.{number32}
-use Rattle.ads_formats.proofs.EntryLemmas.{both}
+use Rattle.spec_formats.specs.Numbers.{number32}
+use Rattle.spec_formats.proofs.EntryLemmas.{both}
 use Rattle.type_upload.specs.Places.{HasFields}
-use Rattle.ads_formats.specs.TypeEntryReading.{end_of_name, end_of_type, end_of_comment, end_of_fields, is_fields}
+use Rattle.spec_formats.specs.TypeEntryReading.{end_of_name, end_of_type, end_of_comment, end_of_fields, is_fields}
 
 pub fields_of_test : (bytes : List ℕ) → is_fields bytes ≡ true → HasFields bytes
 unfolding is_fields

@@ -2,12 +2,12 @@
 use Rattle.std.proofs.Common.{◌≡◌, ℕ, ◌≤◌, List, length, true, ap, arith}
 use Rattle.std.specs.Prelude.{Some, slice_get}
 use Rattle.std.proofs.lemmas.Bool.{and_parts, leb-true}
-use Rattle.ads_plant.specs.Listed.{Elem, Plain, Text, Struct, Enum, Shape, One, Array, NamedType, type_name, is_structure, is_enumeration}
-use Rattle.ads_plant.specs.Trees.{tree_at, tree_of, trees_of, elem_tree}
-use Rattle.ads_plant.specs.Spelling.{type_text}
-use Rattle.ads_plant.specs.AcceptedTypes.{AreTypes, are_bounds, is_elem, is_shape, elem_within}
-use Rattle.ads_plant.proofs.TypeLemmas.{stands_at, named_there, type_text-named}
-use Rattle.ads_plant.proofs.TextLengths.{short_type_name, kind-short, string-short, array-short}
+use Rattle.spec_plant.specs.Listed.{Elem, Plain, Text, Struct, Enum, Shape, One, Array, NamedType, type_name, is_structure, is_enumeration}
+use Rattle.spec_plant.specs.Trees.{tree_at, tree_of, trees_of, elem_tree}
+use Rattle.spec_plant.specs.Spelling.{type_text}
+use Rattle.spec_plant.specs.AcceptedTypes.{AreTypes, are_bounds, is_elem, is_shape, elem_within}
+use Rattle.spec_plant.proofs.TypeLemmas.{stands_at, named_there, type_text-named}
+use Rattle.spec_plant.proofs.TextLengths.{short_type_name, kind-short, string-short, array-short}
 
 named-short : (types : List NamedType) (place : ℕ) (t : NamedType) → AreTypes types → slice_get types place ≡ Some t → length (type_text (tree_at (trees_of types) place)) ≤ 255
 named-short types place t a e =

@@ -2,8 +2,8 @@
 use Rattle.std.specs.Prelude.{◌≡◌, ℕ, ◌/◌, List, length}
 use Rattle.std.specs.List.{flat_map}
 use Rattle.type_upload.specs.declared.entry.TypeEntry.{TypeEntry}
-use Rattle.ads_formats.specs.TypeEntry as formats
-use Rattle.ads_formats.specs.TypeEntryReading.{dimensions_in, subs_in}
+use Rattle.spec_formats.specs.TypeEntry as formats
+use Rattle.spec_formats.specs.TypeEntryReading.{dimensions_in, subs_in}
 
 -- the entry that a value is, with the dimensions and sub entries that stand in its bytes
 abbrev pub entry_meant : TypeEntry → formats.TypeEntry

@@ -1,9 +1,9 @@
 -- How types lie in memory, and their ids, as the code keeps them. No public clause cites this file.
 use Rattle.std.specs.Prelude.{◌≡◌, ℕ, ◌+◌, List, Some, slice_get}
-use Rattle.ads_plant.specs.Listed.{Elem, Plain, Text, Struct, Enum, NamedType}
-use Rattle.ads_plant.specs.Trees.{TypeTree, tree_at, trees_of}
-use Rattle.ads_plant.specs.Sizes.{type_size, type_align}
-use Rattle.ads_plant.specs.Entries.{type_id}
+use Rattle.spec_plant.specs.Listed.{Elem, Plain, Text, Struct, Enum, NamedType}
+use Rattle.spec_plant.specs.Trees.{TypeTree, tree_at, trees_of}
+use Rattle.spec_plant.specs.Sizes.{type_size, type_align}
+use Rattle.spec_plant.specs.Entries.{type_id}
 use Rattle.type_upload.specs.declared.layouts.Layout.{Layout}
 
 -- how many types of the list an element needs

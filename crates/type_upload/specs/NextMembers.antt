@@ -1,12 +1,12 @@
 -- The members of an accepted structure, one after another. No public clause cites this file.
 use Rattle.std.specs.Prelude.{◌≡◌, ℕ, ◌+◌, ◌≤◌, max, List, [], length, flat_map}
-use Rattle.ads_plant.specs.Listed.{Bound, Shape, One, Array, Member, NamedType}
-use Rattle.ads_plant.specs.Trees.{TypeTree, member_trees, tree_of, trees_of}
-use Rattle.ads_plant.specs.Sizes.{type_size, type_align, member_start}
-use Rattle.ads_plant.specs.Spelling.{type_text}
-use Rattle.ads_plant.specs.AcceptedTypes.{IsSized, LIMIT, elem_within}
-use Rattle.ads_formats.specs.TypeEntry.{sub_bytes, type_bytes}
-use Rattle.ads_formats.specs.TypeUpload.{member_fields, members_fields, entry_of_type}
+use Rattle.spec_plant.specs.Listed.{Bound, Shape, One, Array, Member, NamedType}
+use Rattle.spec_plant.specs.Trees.{TypeTree, member_trees, tree_of, trees_of}
+use Rattle.spec_plant.specs.Sizes.{type_size, type_align, member_start}
+use Rattle.spec_plant.specs.Spelling.{type_text}
+use Rattle.spec_plant.specs.AcceptedTypes.{IsSized, LIMIT, elem_within}
+use Rattle.spec_formats.specs.TypeEntry.{sub_bytes, type_bytes}
+use Rattle.spec_formats.specs.TypeUpload.{member_fields, members_fields, entry_of_type}
 use Rattle.type_upload.specs.Layouts.{reach}
 use Rattle.type_upload.specs.declared.layouts.Laid.{Laid}
 

@@ -1,9 +1,9 @@
 -- Where the parts of an entry stand, as the code finds them. No public clause cites this file.
 use Rattle.std.specs.Prelude.{◌≡◌, ℕ, ◌+◌, ◌*◌, ◌≤◌, List, length, take, drop, slice_index}
-use Rattle.ads_formats.specs.Numbers.{number16, number32}
+use Rattle.spec_formats.specs.Numbers.{number16, number32}
 use Rattle.type_upload.specs.declared.entry.TypeEntry.{TypeEntry}
 use Rattle.type_upload.specs.declared.places.Places.{Places}
-use Rattle.ads_formats.specs.TypeEntryReading.{end_of_name, end_of_type, end_of_comment, end_of_fields}
+use Rattle.spec_formats.specs.TypeEntryReading.{end_of_name, end_of_type, end_of_comment, end_of_fields}
 
 -- the length covers the fields and does not go past the bytes, and each text ends in NUL
 pub record HasFields (bytes : List ℕ) : Type 0 where

@@ -1,9 +1,9 @@
 -- What the code writes of a type or a member, in parts. No public clause cites this file.
 use Rattle.std.specs.Prelude.{ℕ, ◌+◌, ◌≤◌, List, ◌++◌, length, map}
 use Rattle.std.specs.Int.{w16, w32, to_le_bytes}
-use Rattle.ads_formats.specs.SymbolEntry.{text_bytes}
-use Rattle.ads_formats.specs.TypeEntry.{TypeFields, written_stamps, dimension_bytes, fields_len, fields_bytes}
-use Rattle.ads_formats.specs.TypeUpload.{dimension_of}
+use Rattle.spec_formats.specs.SymbolEntry.{text_bytes}
+use Rattle.spec_formats.specs.TypeEntry.{TypeFields, written_stamps, dimension_bytes, fields_len, fields_bytes}
+use Rattle.spec_formats.specs.TypeUpload.{dimension_of}
 use Rattle.type_layout.specs.Shapes.{bound_of, bounds_of}
 use Rattle.type_layout.specs.declared.shape.Bound.{Bound}
 use Rattle.type_upload.specs.declared.fields.Fields.{Fields}

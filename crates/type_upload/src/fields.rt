@@ -2,7 +2,7 @@
 
 ghost use Rattle.std.specs.Prelude.{◌≡◌, ◌+◌, ◌≤◌, ◌++◌, length, flat_map, OnOk, OnErr};
 ghost use Rattle.ads_base.specs.Octets.{Extends};
-ghost use Rattle.ads_formats.specs.SymbolEntry.{text_bytes};
+ghost use Rattle.spec_formats.specs.SymbolEntry.{text_bytes};
 ghost use Rattle.type_upload.specs.WrittenFields.{fields_meant, IsShort, front_bytes, words, numbers, lengths, texts, bound_bytes};
 
 use ads_base::{NoMemory, Octets, put16, put32};

@@ -1,9 +1,9 @@
 //! Size, alignment and id of types, each found once in the order of the list.
 
 ghost use Rattle.std.specs.Prelude.{◌≡◌, ◌+◌, ◌<◌, ◌≤◌, ◌^◌, length, slice_get, Some};
-ghost use Rattle.ads_plant.specs.Sizes.{aligned, element_count};
-ghost use Rattle.ads_plant.specs.Trees.{PlainTree, elem_tree, tree_at, tree_of, trees_of};
-ghost use Rattle.ads_plant.specs.AcceptedTypes.{AreTypes, IsSized, LIMIT, elem_within};
+ghost use Rattle.spec_plant.specs.Sizes.{aligned, element_count};
+ghost use Rattle.spec_plant.specs.Trees.{PlainTree, elem_tree, tree_at, tree_of, trees_of};
+ghost use Rattle.spec_plant.specs.AcceptedTypes.{AreTypes, IsSized, LIMIT, elem_within};
 ghost use Rattle.type_layout.specs.Shapes.{kind_of, elem_of, bounds_of, shape_of_ref};
 ghost use Rattle.type_layout.specs.NamedTypes.{types_of};
 ghost use Rattle.type_upload.specs.Layouts.{AreKnown, HasLayout, reach};
@@ -47,7 +47,7 @@ pub(crate) fn shape_layout(types: &Types, known: &[Layout], t: TypeRef<'_>) -> L
     }
 }
 
-#[tactic(auto, unfolding(ads_plant::specs::Sizes::type_size, ads_plant::specs::Sizes::type_align))]
+#[tactic(auto, unfolding(spec_plant::specs::Sizes::type_size, spec_plant::specs::Sizes::type_align))]
 fn elem_layout(types: &Types, known: &[Layout], elem: Elem) -> Layout
     requires types { AreTypes (types_of types.now) }
     requires known { AreKnown (types_of types.now) known.now }
@@ -74,7 +74,7 @@ fn layout_at(types: &Types, known: &[Layout], place: u16) -> Layout
     known[place as usize]
 }
 
-#[tactic(auto, unfolding(ads_plant::specs::Sizes::type_size, ads_plant::specs::Sizes::type_align))]
+#[tactic(auto, unfolding(spec_plant::specs::Sizes::type_size, spec_plant::specs::Sizes::type_align))]
 pub(crate) fn plain_layout(types: &Types, kind: Kind) -> Layout
     requires { AreTypes (types_of types.now) }
     ensures { HasLayout (PlainTree (kind_of kind)) result }

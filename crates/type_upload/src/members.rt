@@ -2,8 +2,8 @@
 
 ghost use Rattle.std.specs.Prelude.{◌≡◌, ◌+◌, ◌≤◌, ◌++◌, length, map, slice_get, Some, OnOk, OnErr, IfOk};
 ghost use Rattle.ads_base.specs.Octets.{Extends};
-ghost use Rattle.ads_plant.specs.Trees.{named_tree, tree_of, trees_of};
-ghost use Rattle.ads_plant.specs.AcceptedTypes.{AreTypes};
+ghost use Rattle.spec_plant.specs.Trees.{named_tree, tree_of, trees_of};
+ghost use Rattle.spec_plant.specs.AcceptedTypes.{AreTypes};
 ghost use Rattle.type_layout.specs.Shapes.{shape_of};
 ghost use Rattle.type_layout.specs.NamedTypes.{types_of, member_of, structure_of};
 ghost use Rattle.type_upload.specs.Layouts.{AreKnown, HasLayout};

@@ -2,7 +2,7 @@
 
 ghost use Rattle.std.specs.Prelude.{◌≡◌, IfSome, is_some};
 ghost use Rattle.type_upload.specs.Places.{HasPlaces};
-ghost use Rattle.ads_formats.specs.TypeEntryReading.{is_fields};
+ghost use Rattle.spec_formats.specs.TypeEntryReading.{is_fields};
 
 use ads_base::{get16, get32};
 

@@ -3,7 +3,7 @@
 ghost use Rattle.std.specs.Prelude.{◌≡◌, ◌+◌, ◌≤◌, IsNone, IfSome, ◌↔◌, option_map};
 ghost use Rattle.type_upload.specs.Entry.{IsRead, BeginsWithNone, entry_meant};
 ghost use Rattle.type_upload.specs.Places.{HasPlaces, ReadsAs};
-ghost use Rattle.ads_formats.specs.TypeEntryReading.{type_entry_of};
+ghost use Rattle.spec_formats.specs.TypeEntryReading.{type_entry_of};
 
 use crate::TypeEntry;
 use crate::places::{Places, places_in};

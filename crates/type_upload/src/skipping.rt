@@ -1,7 +1,7 @@
 //! Sub entries are walked over to see that they are whole.
 
 ghost use Rattle.std.specs.Prelude.{◌≡◌, option_map};
-ghost use Rattle.ads_formats.specs.TypeEntryReading.{after_sub_in, after_subs_in};
+ghost use Rattle.spec_formats.specs.TypeEntryReading.{after_sub_in, after_subs_in};
 
 use crate::places::places_in;
 use ads_base::get16;

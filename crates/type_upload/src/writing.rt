@@ -2,10 +2,10 @@
 
 ghost use Rattle.std.specs.Prelude.{◌≡◌, ◌≤◌, ◌++◌, length, slice_get, Some, OnOk, OnErr, IfOk};
 ghost use Rattle.ads_base.specs.Octets.{Extends};
-ghost use Rattle.ads_formats.specs.TypeEntry.{type_upload_bytes};
-ghost use Rattle.ads_plant.specs.Trees.{EnumTree, named_tree, trees_of};
-ghost use Rattle.ads_plant.specs.AcceptedTypes.{AreTypes};
-ghost use Rattle.ads_formats.specs.TypeUpload.{entries_of_types};
+ghost use Rattle.spec_formats.specs.TypeEntry.{type_upload_bytes};
+ghost use Rattle.spec_plant.specs.Trees.{EnumTree, named_tree, trees_of};
+ghost use Rattle.spec_plant.specs.AcceptedTypes.{AreTypes};
+ghost use Rattle.spec_formats.specs.TypeUpload.{entries_of_types};
 ghost use Rattle.type_layout.specs.Shapes.{kind_of};
 ghost use Rattle.type_layout.specs.NamedTypes.{types_of, named_type_of, structure_of};
 ghost use Rattle.type_upload.specs.Layouts.{AreKnown, HasLayout};
@@ -106,7 +106,7 @@ fn append_structure(
     Ok(layout)
 }
 
-#[tactic(auto, unfolding(ads_plant::specs::Sizes::type_size, ads_plant::specs::Sizes::type_align, ads_plant::specs::Spelling::type_text))]
+#[tactic(auto, unfolding(spec_plant::specs::Sizes::type_size, spec_plant::specs::Sizes::type_align, spec_plant::specs::Spelling::type_text))]
 fn append_enumeration(
     alloc: Global,
     types: &Types,

@@ -2,7 +2,7 @@
 use Rattle.std.proofs.Common.{◌≡◌, [], ◌∷◌, codes, refl}
 use Rattle.std.specs.Fmt.{digits}
 use Rattle.hex.specs.Hex.{encode_with}
-use Rattle.ads_formats.specs.ValueText.{Hexadecimal, form_of, signed_text, before_nul, quoted_byte, quoted, text_of, value_text}
+use Rattle.spec_formats.specs.ValueText.{Hexadecimal, form_of, signed_text, before_nul, quoted_byte, quoted, text_of, value_text}
 
 -- DINT 42, SINT -128, INT -2
 a_dint : value_text 3 (42 ∷ 0 ∷ 0 ∷ 0 ∷ []) ≡ codes "42"

@@ -5,8 +5,8 @@ use Rattle.std.proofs.lemmas.Bool.Decides.{nat_tests}
 use Rattle.std.proofs.lemmas.Fmt.{decimal_injective}
 use Rattle.std.proofs.lemmas.List.{length-append, length-replicate}
 use Rattle.hex.proofs.HexLemmas.{decode_of-encode_lower, decode_of-same}
-use Rattle.ads_frames.specs.Number.{number_of, AreBytes}
-use Rattle.ads_formats.specs.ValueText.{ValueForm, Signed, Unsigned, Truth, Quoted, Hexadecimal, is_signed, is_unsigned, form_of, signed_text, before_nul, quoted, truth_text, text_of, IsNulFree, IsFilledTo, IsReadAs, IsValueOf}
+use Rattle.spec_frames.specs.Number.{number_of, AreBytes}
+use Rattle.spec_formats.specs.ValueText.{ValueForm, Signed, Unsigned, Truth, Quoted, Hexadecimal, is_signed, is_unsigned, form_of, signed_text, before_nul, quoted, truth_text, text_of, IsNulFree, IsFilledTo, IsReadAs, IsValueOf}
 use Rattle.value_text.specs.Parts.{IsNumberSize, HasForm}
 use Rattle.std.specs.Char.{to_ascii_lowercase}
 use Rattle.value_text.specs.Laws.{value_again, in_lower_case}

@@ -5,8 +5,8 @@ use Rattle.std.proofs.Math.Nat.{pow-succ'}
 use Rattle.std.proofs.lemmas.Bool.{cases_lt, lt-ltb, le-ltb}
 use Rattle.std.proofs.lemmas.Fmt.{decimal_nonempty}
 use Rattle.ads_base.proofs.DecimalLemmas.{decimal-free}
-use Rattle.ads_frames.specs.Number.{number_of, AreBytes}
-use Rattle.ads_formats.specs.ValueText.{signed_text}
+use Rattle.spec_frames.specs.Number.{number_of, AreBytes}
+use Rattle.spec_formats.specs.ValueText.{signed_text}
 
 pub number_of-lt : (bytes : List ℕ) → AreBytes bytes → number_of bytes < 256 ^ length bytes
 number_of-lt [] each = lit≤ tt

@@ -4,9 +4,9 @@ use Rattle.std.proofs.lemmas.Bool.{cases_Bool, eq-eqb, ne_eqb, false≢true}
 use Rattle.std.proofs.lemmas.Bool.Decides.{nat_tests}
 use Rattle.std.proofs.lemmas.List.{take_all, drop_all}
 use Rattle.std.proofs.lemmas.List.Concat.{flat_map-append}
-use Rattle.ads_frames.specs.Number.{AreBytes}
+use Rattle.spec_frames.specs.Number.{AreBytes}
 use Rattle.value_text.specs.Parts.{IsEscaped}
-use Rattle.ads_formats.specs.ValueText.{before_nul, is_plain, upper_digit, quoted_byte, quoted, IsNulFree}
+use Rattle.spec_formats.specs.ValueText.{before_nul, is_plain, upper_digit, quoted_byte, quoted, IsNulFree}
 
 -- the bytes before the first NUL, one byte after another
 pub before_nul-here : (bytes : List ℕ) (i : ℕ) → i < length bytes → get_or bytes i 0 ≡ 0 → take i bytes ++ before_nul (drop i bytes) ≡ take i bytes

@@ -9,12 +9,12 @@ use Rattle.std.proofs.lemmas.Fmt.{decimal_is_IsNumeral, decimal_nonempty}
 use Rattle.std.proofs.lemmas.Slice.Eq.{bytes_eq-Decides}
 use Rattle.hex.specs.Hex.{decode_of}
 use Rattle.hex.specs.declared.error.FromHexError.{FromHexError}
-use Rattle.ads_frames.specs.Number.{number_of, AreBytes}
+use Rattle.spec_frames.specs.Number.{number_of, AreBytes}
 use Rattle.value_text.specs.Parts.{IsNumberSize}
-use Rattle.ads_formats.specs.ValueText.{is_signed, is_unsigned, form_of, signed_text, truth_text, text_of, before_nul, is_plain, upper_digit, quoted_byte, quoted, IsFilledTo, IsReadAs, IsValueOf}
+use Rattle.spec_formats.specs.ValueText.{is_signed, is_unsigned, form_of, signed_text, truth_text, text_of, before_nul, is_plain, upper_digit, quoted_byte, quoted, IsFilledTo, IsReadAs, IsValueOf}
 use Rattle.value_text.proofs.NumberLemmas.{number_of-lt, decimal-first, signed_text-below, signed_text-above}
 use Rattle.value_text.proofs.QuoteLemmas.{quoted_byte-plain, quoted_byte-escaped, are_bytes-front}
-use Rattle.ads_client.specs.ValueReading.{number_bytes, signed_number, digit_of, Plainly, unquoted, content_of, filled, decoded, made_value, is_quoted_text, is_text_of, are_bytes, is_value, value_of_text}
+use Rattle.spec_client.specs.ValueReading.{number_bytes, signed_number, digit_of, Plainly, unquoted, content_of, filled, decoded, made_value, is_quoted_text, is_text_of, are_bytes, is_value, value_of_text}
 use Rattle.value_text.specs.Laws.{FindsValues}
 
 bytes_of-all : (value : List ℕ) → are_bytes value ≡ true → AreBytes value

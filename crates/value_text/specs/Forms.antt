@@ -1,5 +1,5 @@
 -- The forms of values as the code has them. No public clause cites this file.
-use Rattle.ads_formats.specs.ValueText.{ValueForm, Signed, Unsigned, Truth, Quoted, Hexadecimal}
+use Rattle.spec_formats.specs.ValueText.{ValueForm, Signed, Unsigned, Truth, Quoted, Hexadecimal}
 use Rattle.value_text.specs.declared.form.Form.{Form}
 use Rattle.value_text.specs.declared.form.Form.TheVariants as form
 

@@ -1,9 +1,9 @@
 -- What holds of values and their texts whatever reads or writes them.
 use Rattle.std.specs.Prelude.{◌≡◌, ℕ, ◌-◌, ◌<◌, List, [], ◌∷◌, ◌++◌, length, take, drop, map, replicate, slice_index, ◌==◌, ◌↔◌, Some, if◌then◌else◌}
 use Rattle.std.specs.Char.{to_ascii_lowercase}
-use Rattle.ads_frames.specs.Number.{AreBytes}
-use Rattle.ads_client.specs.ValueReading.{value_of_text}
-use Rattle.ads_formats.specs.ValueText.{ValueForm, Signed, Unsigned, Truth, Quoted, Hexadecimal, form_of, before_nul, value_text, IsValueOf}
+use Rattle.spec_frames.specs.Number.{AreBytes}
+use Rattle.spec_client.specs.ValueReading.{value_of_text}
+use Rattle.spec_formats.specs.ValueText.{ValueForm, Signed, Unsigned, Truth, Quoted, Hexadecimal, form_of, before_nul, value_text, IsValueOf}
 
 -- no text is read as two values
 abbrev pub OneValue : Type 0

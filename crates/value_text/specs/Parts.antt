@@ -1,7 +1,7 @@
 -- What the parts of writing and reading answer. Private: no public clause cites this file.
 use Rattle.std.specs.Prelude.{◌≡◌, ◌⊎◌, ℕ, ◌<◌, ◌/◌, ◌%◌, false, List, ◌++◌, length, Option, Some, None}
-use Rattle.ads_frames.specs.Number.{AreBytes}
-use Rattle.ads_formats.specs.ValueText.{ValueForm, Signed, Unsigned, Truth, Quoted, Hexadecimal, is_plain, upper_digit, IsReadAs}
+use Rattle.spec_frames.specs.Number.{AreBytes}
+use Rattle.spec_formats.specs.ValueText.{ValueForm, Signed, Unsigned, Truth, Quoted, Hexadecimal, is_plain, upper_digit, IsReadAs}
 
 -- the sizes of numbers
 abbrev pub IsNumberSize : ℕ → Type 0

@@ -1,7 +1,7 @@
 //! How a value is written, by its type id and its size.
 
 ghost use Rattle.std.specs.Prelude.{◌≡◌};
-ghost use Rattle.ads_formats.specs.ValueText.{is_signed, is_unsigned, form_of};
+ghost use Rattle.spec_formats.specs.ValueText.{is_signed, is_unsigned, form_of};
 ghost use Rattle.value_text.specs.Forms.{form_seen};
 ghost use Rattle.value_text.specs.Parts.{HasForm};
 
@@ -21,7 +21,7 @@ pub(crate) enum Form {
 }
 
 /// The form of a type id and a size.
-#[tactic(auto, unfolding(ads_formats::specs::ValueText::form_of))]
+#[tactic(auto, unfolding(spec_formats::specs::ValueText::form_of))]
 pub(crate) fn form_of_type(type_id: u32, size: usize) -> Form
     ensures form { form_seen result ≡ form_of type_id size }
     ensures sizes { HasForm (form_seen result) size }

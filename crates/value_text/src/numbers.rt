@@ -1,8 +1,8 @@
 //! Numbers of 1, 2, 4 or 8 bytes, and their decimal texts.
 
 ghost use Rattle.std.specs.Prelude.{◌≡◌, ◌≢◌, ℕ, ◌*◌, ◌^◌, ◌<◌, ◌≤◌, ◌++◌, ◌∷◌, length, decimal, slice_index, ◌==◌, ◌-◌, IsTrue, IfOk, IfSome, IsNone, OnOk, OnErr};
-ghost use Rattle.ads_frames.specs.Number.{number_of};
-ghost use Rattle.ads_formats.specs.ValueText.{Signed, Unsigned, text_of, signed_text};
+ghost use Rattle.spec_frames.specs.Number.{number_of};
+ghost use Rattle.spec_formats.specs.ValueText.{Signed, Unsigned, text_of, signed_text};
 ghost use Rattle.value_text.specs.Parts.{IsNumberSize, Answers};
 
 use crate::form::Form;
@@ -10,7 +10,7 @@ use ads_base::{NoMemory, Octets, get16, get32, get64, put16, put32, put64, read_
 use std::alloc::Global;
 
 /// Appends the text of a signed number.
-#[tactic(auto, unfolding(ads_formats::specs::ValueText::text_of, ads_formats::specs::ValueText::signed_text))]
+#[tactic(auto, unfolding(spec_formats::specs::ValueText::text_of, spec_formats::specs::ValueText::signed_text))]
 pub(crate) fn put_signed(alloc: Global, bytes: &[u8], out: &mut Octets) -> Result<(), NoMemory>
     requires size { IsNumberSize (length bytes.now) }
     ensures ok { OnOk result (out.new ≡ out.old ++ text_of Signed bytes.now) }
@@ -26,7 +26,7 @@ pub(crate) fn put_signed(alloc: Global, bytes: &[u8], out: &mut Octets) -> Resul
 }
 
 /// Appends the text of an unsigned number.
-#[tactic(auto, unfolding(ads_formats::specs::ValueText::text_of))]
+#[tactic(auto, unfolding(spec_formats::specs::ValueText::text_of))]
 pub(crate) fn put_unsigned(alloc: Global, bytes: &[u8], out: &mut Octets) -> Result<(), NoMemory>
     requires size { IsNumberSize (length bytes.now) }
     ensures ok { OnOk result (out.new ≡ out.old ++ text_of Unsigned bytes.now) }
@@ -54,7 +54,7 @@ fn put_negative(alloc: Global, n: u64, out: &mut Octets) -> Result<(), NoMemory>
 }
 
 /// The signed number of a text.
-#[tactic(auto, unfolding(ads_formats::specs::ValueText::text_of))]
+#[tactic(auto, unfolding(spec_formats::specs::ValueText::text_of))]
 pub(crate) fn read_signed(
     alloc: Global,
     size: usize,
@@ -73,7 +73,7 @@ pub(crate) fn read_signed(
 }
 
 /// The unsigned number of a text.
-#[tactic(auto, unfolding(ads_formats::specs::ValueText::text_of))]
+#[tactic(auto, unfolding(spec_formats::specs::ValueText::text_of))]
 pub(crate) fn read_unsigned(
     alloc: Global,
     size: usize,

@@ -1,8 +1,8 @@
 //! Texts between single quotes, where `$` and two digits stand for a byte that is not plain.
 
 ghost use Rattle.std.specs.Prelude.{◌≡◌, ◌≢◌, ◌+◌, ◌*◌, ◌/◌, ◌%◌, ◌<◌, ◌≤◌, ℕ, List, [], ◌∷◌, ◌++◌, length, slice_index, IsTrue, ◌↔◌, IfOk, IfSome, IsNone, OnOk, OnErr};
-ghost use Rattle.ads_frames.specs.Number.{AreBytes};
-ghost use Rattle.ads_formats.specs.ValueText.{Quoted, before_nul, is_plain, upper_digit, quoted_byte, quoted, IsNulFree, IsFilledTo, text_of};
+ghost use Rattle.spec_frames.specs.Number.{AreBytes};
+ghost use Rattle.spec_formats.specs.ValueText.{Quoted, before_nul, is_plain, upper_digit, quoted_byte, quoted, IsNulFree, IsFilledTo, text_of};
 ghost use Rattle.value_text.specs.Parts.{Answers, Extends, IsEscaped};
 
 use crate::form::Form;
@@ -10,7 +10,7 @@ use ads_base::{NoMemory, Octets};
 use std::alloc::Global;
 
 /// Appends the bytes before the first NUL, between single quotes.
-#[tactic(auto, unfolding(ads_formats::specs::ValueText::text_of))]
+#[tactic(auto, unfolding(spec_formats::specs::ValueText::text_of))]
 pub(crate) fn put_quoted(alloc: Global, bytes: &[u8], out: &mut Octets) -> Result<(), NoMemory>
     ensures ok { OnOk result (out.new ≡ out.old ++ text_of Quoted bytes.now) }
     ensures no_memory { OnErr result (out.new ≡ out.old) }
@@ -36,7 +36,7 @@ fn append_quoted(alloc: Global, content: &[u8], out: &mut Octets) -> Result<(), 
     Ok(())
 }
 
-#[tactic(auto, unfolding(ads_formats::specs::ValueText::quoted_byte))]
+#[tactic(auto, unfolding(spec_formats::specs::ValueText::quoted_byte))]
 fn append_byte(alloc: Global, byte: u8, out: &mut Octets) -> Result<(), NoMemory>
     ensures ok { OnOk result (out.new ≡ out.old ++ quoted_byte byte) }
     ensures no_memory { OnErr result (out.new ≡ out.old) }

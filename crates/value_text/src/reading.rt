@@ -1,8 +1,8 @@
 //! The value of a text.
 
 ghost use Rattle.std.specs.Prelude.{◌≡◌, ◌≢◌, ◌≤◌, ℕ, List, ◌++◌, length, drop, codes, IsTrue, ◌↔◌, IfOk, IfSome, IsNone};
-ghost use Rattle.ads_frames.specs.Number.{AreBytes};
-ghost use Rattle.ads_formats.specs.ValueText.{Hexadecimal, Truth, IsValueOf};
+ghost use Rattle.spec_frames.specs.Number.{AreBytes};
+ghost use Rattle.spec_formats.specs.ValueText.{Hexadecimal, Truth, IsValueOf};
 ghost use Rattle.value_text.specs.Forms.{form_seen};
 ghost use Rattle.value_text.specs.Parts.{Answers, HasForm};
 
@@ -53,7 +53,7 @@ fn read_form(
     }
 }
 
-#[tactic(auto, unfolding(ads_formats::specs::ValueText::text_of))]
+#[tactic(auto, unfolding(spec_formats::specs::ValueText::text_of))]
 fn read_truth(alloc: Global, text: &[u8]) -> Result<Option<Octets>, NoMemory>
     ensures { IfOk result (Answers Truth 1 text.now) }
 {

@@ -1,7 +1,7 @@
 //! The text of a value.
 
 ghost use Rattle.std.specs.Prelude.{◌≡◌, ◌++◌, OnOk, OnErr};
-ghost use Rattle.ads_formats.specs.ValueText.{Hexadecimal, truth_text, text_of, value_text};
+ghost use Rattle.spec_formats.specs.ValueText.{Hexadecimal, truth_text, text_of, value_text};
 
 use crate::form::{Form, form_of_type};
 use crate::numbers::{put_signed, put_unsigned};
@@ -45,7 +45,7 @@ fn put_truth(alloc: Global, byte: u8, out: &mut Octets) -> Result<(), NoMemory>
     Ok(())
 }
 
-#[tactic(auto, unfolding(ads_formats::specs::ValueText::text_of))]
+#[tactic(auto, unfolding(spec_formats::specs::ValueText::text_of))]
 fn put_hexadecimal(alloc: Global, bytes: &[u8], out: &mut Octets) -> Result<(), NoMemory>
     ensures ok { OnOk result (out.new ≡ out.old ++ text_of Hexadecimal bytes.now) }
     ensures no_memory { OnErr result (out.new ≡ out.old) }

@@ -1,7 +1,7 @@
 //! Descriptions that a case gives as an argument.
 ghost use Rattle.std.specs.Prelude.{IfOk};
-ghost use Rattle.ads_plant.specs.Accepted.{IsAccepted};
-ghost use Rattle.ads_plant.specs.AcceptedTypes.{AreTypes};
+ghost use Rattle.spec_plant.specs.Accepted.{IsAccepted};
+ghost use Rattle.spec_plant.specs.AcceptedTypes.{AreTypes};
 ghost use Rattle.type_layout.specs.Descriptions.{description_of};
 ghost use Rattle.type_layout.specs.NamedTypes.{types_of};
 

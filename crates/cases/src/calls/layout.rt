@@ -1,6 +1,6 @@
 //! Calls of type_layout.
 
-ghost use Rattle.ads_plant.specs.AcceptedTypes.{AreTypes};
+ghost use Rattle.spec_plant.specs.AcceptedTypes.{AreTypes};
 ghost use Rattle.type_layout.specs.NamedTypes.{types_of};
 
 use crate::answer::Answer;

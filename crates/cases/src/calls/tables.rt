@@ -1,7 +1,7 @@
 //! Calls of symbol_table, over the port of a description.
 
 ghost use Rattle.std.specs.Prelude.{◌≡◌, ◌<◌, length, IfSome};
-ghost use Rattle.ads_plant.specs.Description.{size_in};
+ghost use Rattle.spec_plant.specs.Description.{size_in};
 ghost use Rattle.type_layout.specs.Descriptions.{area_of, port_of, sizes_of};
 ghost use Rattle.type_layout.specs.NamedTypes.{types_of};
 ghost use Rattle.symbol_table.specs.Tables.{IsPlaced, IsTableWith};

@@ -1,5 +1,5 @@
 use Rattle.std.proofs.Common.{sym, arith}
-use Rattle.ads_formats.proofs.ReplyLemmas.{reply_of-other}
+use Rattle.spec_formats.proofs.ReplyLemmas.{reply_of-other}
 use Rattle.ads_commands.proofs.reply_reading.reply_in.Goals as goal
 
 pub returns-in_default : goal.returns-in_default

@@ -1,5 +1,5 @@
 use Rattle.std.proofs.Common.{◌≡◌, ◌<◌, ◌⊎◌, sym, arith, inl, inr}
-use Rattle.ads_formats.proofs.RequestLemmas.{request_of-no_command}
+use Rattle.spec_formats.proofs.RequestLemmas.{request_of-no_command}
 use Rattle.ads_commands.proofs.RequestLemmas.{text_read, refused_size}
 use Rattle.ads_commands.proofs.request_reading.read_request.Goals as goal
 

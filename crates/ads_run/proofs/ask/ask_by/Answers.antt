@@ -1,5 +1,5 @@
 use Rattle.std.proofs.Common.{refl}
-use Rattle.ads_product.specs.Server.{server_start}
+use Rattle.spec_server.specs.Server.{server_start}
 use Rattle.ads_run.proofs.ask.ask_by.Goals as goal
 
 pub returns-clause-ends : goal.returns-clause-ends

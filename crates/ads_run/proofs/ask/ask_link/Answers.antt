@@ -1,6 +1,6 @@
 -- Memory was wanting before, or the call was made over the link to the core.
 use Rattle.std.proofs.Common.{refl, ap, ◌∙◌, List, ℕ}
-use Rattle.ads_formats.specs.Header.{AmsAddress}
+use Rattle.spec_formats.specs.Header.{AmsAddress}
 use Rattle.ads_run.specs.Asking.{local_calling}
 use Rattle.ads_run.proofs.CallLemmas.{same_calling}
 use Rattle.ads_run.proofs.LocalLemmas.{local_ends}

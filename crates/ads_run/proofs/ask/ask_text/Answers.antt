@@ -1,6 +1,6 @@
 -- The description is refused, or its server is asked.
 use Rattle.std.proofs.Common.{refl, length, Ok, Err}
-use Rattle.ads_rules.specs.TextVerdict.{text_verdict}
+use Rattle.spec_rules.specs.TextVerdict.{text_verdict}
 use Rattle.type_layout.specs.Descriptions.{description_of}
 use Rattle.ads_run.proofs.RunLemmas.{asks_refused, asks_described, judged_without_memory}
 use Rattle.ads_run.proofs.ServiceLemmas.{verdict_here}

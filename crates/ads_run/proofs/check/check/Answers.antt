@@ -1,6 +1,6 @@
 use Rattle.std.proofs.Common.{subst}
 use Rattle.std.specs.Prelude.{IfOk}
-use Rattle.ads_plant.specs.Accepted.{IsAccepted}
+use Rattle.spec_plant.specs.Accepted.{IsAccepted}
 use Rattle.type_layout.specs.Descriptions.{description_of}
 use Rattle.ads_run.proofs.ToldLemmas.{each_told}
 use Rattle.ads_run.proofs.check.check.Goals as goal

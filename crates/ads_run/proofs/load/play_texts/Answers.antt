@@ -1,6 +1,6 @@
 -- The texts are read as what they were made of.
 use Rattle.std.proofs.Common.{sym, ◌∙◌, Ok}
-use Rattle.ads_machine.specs.BuiltLines.{all_lines}
+use Rattle.spec_machine.specs.BuiltLines.{all_lines}
 use Rattle.replay_script.proofs.FreshLemmas.{script_fresh}
 use Rattle.type_layout.specs.Descriptions.{description_of}
 use Rattle.ads_run.proofs.LoadLemmas.{counts_of_load_so}

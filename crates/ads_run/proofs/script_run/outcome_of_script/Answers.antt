@@ -1,6 +1,6 @@
 -- A script that was read opens new numbers.
 use Rattle.std.proofs.Common.{◌∙◌}
-use Rattle.ads_machine.specs.BuiltLines.{all_lines}
+use Rattle.spec_machine.specs.BuiltLines.{all_lines}
 use Rattle.replay_script.proofs.FreshLemmas.{script_fresh}
 use Rattle.ads_run.proofs.script_run.outcome_of_script.Goals as goal
 

@@ -1,7 +1,7 @@
 use Rattle.std.proofs.Common.{◌≤◌, length, Some, ap, ◌∙◌, arith}
 use Rattle.std.proofs.lemmas.List.{take_rest}
-use Rattle.ads_formats.specs.Header.{AmsHeader}
-use Rattle.ads_formats.proofs.HeaderLemmas.{header_of-long, header_bytes-header_at}
+use Rattle.spec_formats.specs.Header.{AmsHeader}
+use Rattle.spec_formats.proofs.HeaderLemmas.{header_of-long, header_bytes-header_at}
 use Rattle.ams_header.proofs.HeaderLemmas.{header_at-is, text_in_front}
 use Rattle.ams_header.proofs.header.read.Goals as goal
 

@@ -1,6 +1,6 @@
 use Rattle.std.proofs.Common.{◌≡◌, arith}
-use Rattle.ads_frames.specs.Division.{ams_length_of}
-use Rattle.ads_frames.proofs.FrontLemmas.{front_of-short, front_of-begun, front_of-whole}
+use Rattle.spec_frames.specs.Division.{ams_length_of}
+use Rattle.spec_frames.proofs.FrontLemmas.{front_of-short, front_of-begun, front_of-whole}
 use Rattle.ams_tcp.proofs.Headers.{is_header-true, is_header-first, is_header-second, is_header-small, is_header-great, broken_header}
 use Rattle.ams_tcp.proofs.front.front_at.Goals as goal
 use Rattle.ams_tcp.proofs.front.front_at.Goals.{then-text-ne0-via-then-text-ne0, then-text-ne0-via-else-text-ne0+then-text-ne0-2, then-text-ne0-via-else-text-ne0+else-text-ne0-2+then-len-lt-LEAST_AMS, then-text-ne0-via-else-text-ne0+else-text-ne0-2+else-len-lt-LEAST_AMS+then-len-gt-GREATEST_AMS}

@@ -1,5 +1,5 @@
 use Rattle.std.proofs.Common.{◌≡◌, ◌++◌, ◌*◌, ◌≤◌, length, drop}
-use Rattle.ads_client.specs.ReadNames.{handle_parts}
+use Rattle.spec_client.specs.ReadNames.{handle_parts}
 use Rattle.client_calls.proofs.names.parts_of.Given as goal
 
 -- the parts so far, and those that are left, are all parts

@@ -1,5 +1,5 @@
 use Rattle.std.proofs.Common.{◌≡◌, List, ℕ, ap}
-use Rattle.ads_client.specs.Heard.{StampedSample}
+use Rattle.spec_client.specs.Heard.{StampedSample}
 use Rattle.notify_frames.specs.Samples.{sample_meant}
 use Rattle.client_core.specs.Samples.{stamped}
 use Rattle.client_core.proofs.SamplesCopied.{copied_step}

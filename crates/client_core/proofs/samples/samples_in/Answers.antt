@@ -1,4 +1,4 @@
-use Rattle.ads_formats.specs.NotificationReading.{notification_of}
+use Rattle.spec_formats.specs.NotificationReading.{notification_of}
 use Rattle.client_core.proofs.SamplesCopied.{samples_found}
 use Rattle.client_core.proofs.samples.samples_in.Goals as goal
 

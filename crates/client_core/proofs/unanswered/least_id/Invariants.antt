@@ -1,5 +1,5 @@
 use Rattle.std.proofs.Common.{◌≡◌, ◌≤◌, length, drop}
-use Rattle.ads_client.specs.Unanswered.{least_id}
+use Rattle.spec_client.specs.Unanswered.{least_id}
 use Rattle.client_core.proofs.unanswered.least_id.Given as goal
 
 abbrev pub invariant-loop-i : goal.invariant-loop-i

@@ -1,5 +1,5 @@
 use Rattle.std.proofs.Common.{◌∙◌, ap, sym, length}
-use Rattle.ads_client.specs.Unanswered.{free_id}
+use Rattle.spec_client.specs.Unanswered.{free_id}
 use Rattle.client_core.proofs.UnansweredLemmas.{free_id_stays, free_id_step, free_id_end}
 use Rattle.client_core.proofs.unanswered.next_id.Goals as goal
 

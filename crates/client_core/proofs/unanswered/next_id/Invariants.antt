@@ -1,5 +1,5 @@
 use Rattle.std.proofs.Common.{◌≡◌, length}
-use Rattle.ads_client.specs.Unanswered.{free_id}
+use Rattle.spec_client.specs.Unanswered.{free_id}
 use Rattle.client_core.proofs.unanswered.next_id.Given as goal
 
 abbrev pub invariant-loop-left : goal.invariant-loop-left

@@ -1,4 +1,4 @@
-use Rattle.ads_client.specs.Unanswered.{after_tick_of}
+use Rattle.spec_client.specs.Unanswered.{after_tick_of}
 use Rattle.client_core.proofs.UnansweredLemmas.{pass_step, pass_end}
 use Rattle.client_core.proofs.unanswered.pass.Goals as goal
 

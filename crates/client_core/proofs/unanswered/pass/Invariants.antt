@@ -1,6 +1,6 @@
 use Rattle.std.proofs.Common.{◌≡◌, ◌++◌, take, drop}
 use Rattle.std.specs.Prelude.{map}
-use Rattle.ads_client.specs.Unanswered.{after_tick_of}
+use Rattle.spec_client.specs.Unanswered.{after_tick_of}
 use Rattle.client_core.proofs.unanswered.pass.Given as goal
 
 abbrev pub invariant-loop-u : goal.invariant-loop-u

@@ -2,7 +2,7 @@
 use Rattle.std.proofs.Common.{◌≡◌, ◌≢◌, sym, ◌∙◌, length}
 use Rattle.std.specs.Prelude.{Some}
 use Rattle.std.proofs.lemmas.Bool.{eqb-true, eq-eqb, false≢true}
-use Rattle.ads_formats.specs.TypeEntryReading.{type_entry_of}
+use Rattle.spec_formats.specs.TypeEntryReading.{type_entry_of}
 use Rattle.type_upload.specs.Entry.{entry_meant}
 use Rattle.client_leaves.proofs.MemberLemmas.{has_subs}
 use Rattle.client_leaves.proofs.UploadLemmas.{types_stop, types_go_on, types_end, types_beyond}

@@ -1,7 +1,7 @@
 -- Each sub entry is read, since they stand whole.
 use Rattle.std.proofs.Common.{◌≡◌}
 use Rattle.std.specs.Prelude.{Some}
-use Rattle.ads_formats.specs.TypeEntryReading.{type_entry_of}
+use Rattle.spec_formats.specs.TypeEntryReading.{type_entry_of}
 use Rattle.type_upload.specs.Entry.{entry_meant}
 use Rattle.client_leaves.specs.Entries.{entries_meant}
 use Rattle.client_leaves.proofs.MemberLemmas.{members_there, members_more}

@@ -2,8 +2,8 @@
 use Rattle.std.proofs.Common.{◌≡◌, ◌≢◌, ◌-◌, ◌++◌, suc, List, map, length, refl, sym, ap, ◌∙◌, arith}
 use Rattle.std.specs.Prelude.{Some, None}
 use Rattle.std.proofs.lemmas.Bool.{eq-eqb, false≢true}
-use Rattle.ads_client.specs.LeafTypes.{type_named, elem_size, is_sound_elem}
-use Rattle.ads_client.specs.Leaves.{Leaf, leaves_of_elem}
+use Rattle.spec_client.specs.LeafTypes.{type_named, elem_size, is_sound_elem}
+use Rattle.spec_client.specs.Leaves.{Leaf, leaves_of_elem}
 use Rattle.type_layout.specs.Shapes.{kind_of}
 use Rattle.type_layout.specs.ReadTexts.{elem_text_of, text_of}
 use Rattle.client_leaves.specs.Kept.{leaf_kept}

@@ -1,7 +1,7 @@
 -- The recursion falls by the depth, and at one depth from members to their elements.
 use Rattle.std.proofs.Common.{◌+◌, ◌*◌, map, drop}
-use Rattle.ads_client.specs.LeafTypes.{is_sound_elem}
-use Rattle.ads_client.specs.Leaves.{leaves_of_elem, leaves_of_member}
+use Rattle.spec_client.specs.LeafTypes.{is_sound_elem}
+use Rattle.spec_client.specs.Leaves.{leaves_of_elem, leaves_of_member}
 use Rattle.type_layout.specs.ReadTexts.{elem_text_of}
 use Rattle.client_leaves.specs.Kept.{leaf_kept}
 use Rattle.client_leaves.specs.Table.{member_kept, types_kept}

@@ -1,6 +1,6 @@
 -- What came, by the answer of the link.
 use Rattle.std.proofs.Common.{length, take, refl, inl, inr}
-use Rattle.ads_client.specs.Conversation as conversation
+use Rattle.spec_client.specs.Conversation as conversation
 use Rattle.client_loop.proofs.ComeLemmas.{comes_bytes, takes_bytes, takes_quiet, takes_closed}
 use Rattle.client_loop.proofs.answers.take_in.Goals as goal
 

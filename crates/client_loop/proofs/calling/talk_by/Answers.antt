@@ -1,7 +1,7 @@
 -- The first turns, by how they ended.
 use Rattle.client_loop.proofs.LaterLemmas.{link_then, sink_then}
-use Rattle.ads_client.specs.Conversation.{conversation_begun}
-use Rattle.ads_client.specs.Runner.{new_runner}
+use Rattle.spec_client.specs.Conversation.{conversation_begun}
+use Rattle.spec_client.specs.Runner.{new_runner}
 use Rattle.client_loop.proofs.TalkLemmas.{begins, gives_begun, ends_from, over_first, link_first, write_first, memory_first}
 use Rattle.client_loop.proofs.calling.talk_by.Goals as goal
 

@@ -2,7 +2,7 @@
 use Rattle.std.proofs.Common.{◌<◌}
 use Rattle.ads_outside.specs.LinkState.{LinkNeverFalls}
 use Rattle.ads_outside.specs.SinkState.{NeverFalls}
-use Rattle.ads_client.specs.Conversation.{Conversation, MAX_QUIET}
+use Rattle.spec_client.specs.Conversation.{Conversation, MAX_QUIET}
 use Rattle.client_calls.specs.Represents.{IsGoingOn}
 use Rattle.client_loop.specs.Hearing.{IsBegun, HearsAll}
 use Rattle.client_loop.proofs.hearing.hear_each.Given as goal

@@ -2,7 +2,7 @@
 use Rattle.std.proofs.Common.{◌≡◌, ℕ}
 use Rattle.ads_outside.specs.LinkState.{LinkNeverFalls}
 use Rattle.ads_outside.specs.SinkState.{NeverFalls}
-use Rattle.ads_client.specs.Runner.{Runner}
+use Rattle.spec_client.specs.Runner.{Runner}
 use Rattle.client_calls.specs.Kept.{turns_left}
 use Rattle.client_calls.specs.Represents.{StandsFor, IsGoingOn}
 use Rattle.client_loop.specs.Turning.{TakesTurns}

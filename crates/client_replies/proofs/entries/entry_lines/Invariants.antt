@@ -1,5 +1,5 @@
 use Rattle.std.proofs.Common.{◌≡◌, ◌-◌, map, []}
-use Rattle.ads_client.specs.Entries.{entries_in}
+use Rattle.spec_client.specs.Entries.{entries_in}
 use Rattle.client_replies.specs.Stages.{output_kept}
 use Rattle.client_replies.specs.Parts.{outputs_behind}
 use Rattle.client_replies.proofs.entries.entry_lines.Given as goal

@@ -1,5 +1,5 @@
 use Rattle.std.proofs.Common.{◌≡◌, ◌++◌, take}
-use Rattle.ads_client.specs.Printed.{escaped}
+use Rattle.spec_client.specs.Printed.{escaped}
 use Rattle.client_replies.proofs.printed.put_escaped.Given as goal
 
 -- the bytes before this one are written

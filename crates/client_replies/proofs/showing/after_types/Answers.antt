@@ -1,7 +1,7 @@
 -- The leaves that are found are those that are printed.
 use Rattle.std.proofs.Common.{◌≡◌, ◌∙◌, map}
 use Rattle.std.specs.Prelude.{Some, None, option_and_then}
-use Rattle.ads_client.specs.Entries.{types_in}
+use Rattle.spec_client.specs.Entries.{types_in}
 use Rattle.client_leaves.specs.Found.{leaves_found}
 use Rattle.client_leaves.specs.Kept.{leaf_kept}
 use Rattle.client_replies.specs.Kept.{entry_kept}

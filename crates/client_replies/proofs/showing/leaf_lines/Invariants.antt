@@ -1,6 +1,6 @@
 use Rattle.std.proofs.Common.{◌≡◌, map, take}
-use Rattle.ads_client.specs.Leaves.{leaf_line}
-use Rattle.ads_client.specs.Stages as stages
+use Rattle.spec_client.specs.Leaves.{leaf_line}
+use Rattle.spec_client.specs.Stages as stages
 use Rattle.client_leaves.specs.Kept.{leaf_kept}
 use Rattle.client_replies.specs.Stages.{output_kept}
 use Rattle.client_replies.proofs.showing.leaf_lines.Given as goal

@@ -1,6 +1,6 @@
 use Rattle.std.proofs.Common.{ap, subst}
 use Rattle.std.specs.Prelude.{IsNone, is_some}
-use Rattle.ads_frames.specs.Number.{AreBytes}
+use Rattle.spec_frames.specs.Number.{AreBytes}
 use Rattle.client_replies.proofs.ValueLemmas.{none_found, some_found}
 use Rattle.client_replies.proofs.values.read_value.Goals as goal
 

@@ -1,5 +1,5 @@
 use Rattle.std.proofs.Common.{◌≡◌, map, take}
-use Rattle.ads_rules.specs.Described as described
+use Rattle.spec_rules.specs.Described as described
 use Rattle.type_layout.specs.NamedTypes.{value_of}
 use Rattle.description_table.specs.Views.{value_view}
 use Rattle.description_rules.proofs.building.values_of.Given as goal

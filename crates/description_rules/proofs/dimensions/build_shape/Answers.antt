@@ -1,5 +1,5 @@
 use Rattle.std.proofs.Common.{ap, sym, ◌∙◌}
-use Rattle.ads_plant.specs.Listed.{Array}
+use Rattle.spec_plant.specs.Listed.{Array}
 use Rattle.type_layout.specs.Shapes.{elem_of}
 use Rattle.description_rules.proofs.ShapeLemmas.{shape_read-array}
 use Rattle.description_rules.proofs.dimensions.build_shape.Goals as goal

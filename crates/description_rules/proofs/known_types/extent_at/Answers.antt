@@ -1,5 +1,5 @@
 use Rattle.std.proofs.Common.{None, Some}
-use Rattle.ads_plant.specs.Trees.{trees_of}
+use Rattle.spec_plant.specs.Trees.{trees_of}
 use Rattle.type_layout.specs.NamedTypes.{types_of}
 use Rattle.description_rules.proofs.ExtentLemmas.{extent_of-tree_at, IsFair-at}
 use Rattle.description_rules.proofs.known_types.extent_at.Goals as goal

@@ -1,5 +1,5 @@
 use Rattle.std.proofs.Common.{◌≡◌, [], map, take}
-use Rattle.ads_rules.specs.Places.{first_wrong}
+use Rattle.spec_rules.specs.Places.{first_wrong}
 use Rattle.description_table.specs.Views.{member_view}
 use Rattle.description_rules.specs.NextMember.{is_right_named}
 use Rattle.description_rules.proofs.FirstLemmas.{first_from}

@@ -1,6 +1,6 @@
 use Rattle.std.proofs.Common.{◌≡◌, ℕ, List, Option, Some, None, refl, sym, ap, ◌∙◌}
 use Rattle.ads_base.specs.NetId.{IsNetId, net_text}
-use Rattle.ads_rules.specs.Nets.{net_of}
+use Rattle.spec_rules.specs.Nets.{net_of}
 use Rattle.description_rules.proofs.NetLemmas.{net_of-net_text, text_of_net}
 use Rattle.description_rules.proofs.nets.read_net.Goals as goal
 

@@ -1,5 +1,5 @@
 use Rattle.std.proofs.Common.{◌+◌, map, take, sym, ◌∙◌}
-use Rattle.ads_rules.specs.PortRules.{is_right_port}
+use Rattle.spec_rules.specs.PortRules.{is_right_port}
 use Rattle.description_table.specs.Views.{port_view}
 use Rattle.description_rules.specs.NextPort.{number_view}
 use Rattle.description_rules.proofs.FirstLemmas.{first_from-start, first_from-right, first_from-wrong, take-more}

@@ -1,6 +1,6 @@
 use Rattle.std.proofs.Common.{◌≡◌, [], map, take}
-use Rattle.ads_rules.specs.Places.{first_wrong}
-use Rattle.ads_rules.specs.PortRules.{is_right_port}
+use Rattle.spec_rules.specs.Places.{first_wrong}
+use Rattle.spec_rules.specs.PortRules.{is_right_port}
 use Rattle.description_table.specs.Views.{port_view}
 use Rattle.description_rules.specs.NextPort.{number_view}
 use Rattle.description_rules.proofs.FirstLemmas.{first_from}

@@ -1,6 +1,6 @@
 use Rattle.std.proofs.Common.{[], get_or, map, take, sym, ◌∙◌}
 use Rattle.std.proofs.lemmas.List.{get_or_default}
-use Rattle.ads_rules.specs.RouteRules.{is_right_route}
+use Rattle.spec_rules.specs.RouteRules.{is_right_route}
 use Rattle.description_table.specs.Views.{route_view}
 use Rattle.description_rules.proofs.FirstLemmas.{first_from-right, first_from-wrong}
 use Rattle.description_rules.proofs.RouteLemmas.{is_right_route-noted, noted-more}

@@ -1,7 +1,7 @@
 use Rattle.std.proofs.Common.{◌≡◌, [], map, take}
-use Rattle.ads_rules.specs.Places.{first_wrong}
-use Rattle.ads_rules.specs.RouteRules.{is_right_route}
-use Rattle.ads_rules.specs.Written.{WrittenRoute}
+use Rattle.spec_rules.specs.Places.{first_wrong}
+use Rattle.spec_rules.specs.RouteRules.{is_right_route}
+use Rattle.spec_rules.specs.Written.{WrittenRoute}
 use Rattle.description_table.specs.Views.{route_view}
 use Rattle.description_rules.proofs.FirstLemmas.{first_from}
 use Rattle.description_rules.proofs.route_rules.first_wrong_route.Given as goal

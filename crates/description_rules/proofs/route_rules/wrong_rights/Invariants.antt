@@ -1,7 +1,7 @@
 use Rattle.std.proofs.Common.{◌≡◌, map, is_some}
-use Rattle.ads_rules.specs.Written.{WrittenRoute}
-use Rattle.ads_rules.specs.RouteRules.{wrong_rights}
-use Rattle.ads_rules.specs.Described.{rights_of}
+use Rattle.spec_rules.specs.Written.{WrittenRoute}
+use Rattle.spec_rules.specs.RouteRules.{wrong_rights}
+use Rattle.spec_rules.specs.Described.{rights_of}
 use Rattle.description_table.specs.Views.{route_view}
 use Rattle.description_rules.proofs.FirstLemmas.{first_from}
 use Rattle.description_rules.proofs.route_rules.wrong_rights.Given as goal

@@ -1,9 +1,9 @@
 use Rattle.std.proofs.Common.{◌≡◌, [], ◌∷◌, ◌++◌, length, ap, sym, ◌∙◌, map, subst, true, arith}
 use Rattle.std.proofs.lemmas.List.{map-append, length-map, length_push}
-use Rattle.ads_plant.specs.Listed.{type_name}
+use Rattle.spec_plant.specs.Listed.{type_name}
 use Rattle.name_index.specs.Numbered.{AreNumbered}
-use Rattle.ads_rules.specs.Described.{type_described}
-use Rattle.ads_rules.specs.SizeRules.{members_of}
+use Rattle.spec_rules.specs.Described.{type_described}
+use Rattle.spec_rules.specs.SizeRules.{members_of}
 use Rattle.type_layout.specs.NamedTypes.{types_of, named_type_of}
 use Rattle.description_rules.specs.Built.{are_small_members}
 use Rattle.description_table.specs.Views.{type_view}

@@ -1,8 +1,8 @@
 use Rattle.std.proofs.Common.{◌≡◌, ◌+◌, [], ◌∷◌, ◌++◌, length, map, drop, refl, ap, sym, ◌∙◌, arith}
 use Rattle.std.proofs.Common.{length-append}
 use Rattle.std.proofs.lemmas.List.{drop_all, length-map}
-use Rattle.ads_rules.specs.Described.{type_described, types_described}
-use Rattle.ads_rules.specs.SizeRules.{wrong_size}
+use Rattle.spec_rules.specs.Described.{type_described, types_described}
+use Rattle.spec_rules.specs.SizeRules.{wrong_size}
 use Rattle.type_layout.specs.NamedTypes.{types_of, named_type_of}
 use Rattle.description_table.specs.Views.{type_view}
 use Rattle.description_rules.proofs.StructLemmas.{dropped}

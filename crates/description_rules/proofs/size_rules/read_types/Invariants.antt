@@ -1,7 +1,7 @@
 use Rattle.std.proofs.Common.{◌≡◌, ◌++◌, length, map, drop}
-use Rattle.ads_rules.specs.Places.{first_wrong}
-use Rattle.ads_rules.specs.SizeRules.{wrong_size, is_right_size}
-use Rattle.ads_rules.specs.Described.{types_described}
+use Rattle.spec_rules.specs.Places.{first_wrong}
+use Rattle.spec_rules.specs.SizeRules.{wrong_size, is_right_size}
+use Rattle.spec_rules.specs.Described.{types_described}
 use Rattle.description_rules.specs.TypesLeft.{types_left}
 use Rattle.type_layout.specs.NamedTypes.{types_of}
 use Rattle.description_rules.specs.KnownTypes.{IsKnown}

@@ -1,4 +1,4 @@
-use Rattle.ads_plant.specs.Trees.{trees_of}
+use Rattle.spec_plant.specs.Trees.{trees_of}
 use Rattle.type_layout.specs.NamedTypes.{types_of}
 use Rattle.description_rules.proofs.size_rules.type_extent.Goals as goal
 

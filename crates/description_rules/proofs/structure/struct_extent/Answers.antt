@@ -1,8 +1,8 @@
 use Rattle.std.proofs.Common.{◌≡◌, ◌+◌, List, ◌∷◌, [], map, drop, get_or, sym, ap, ◌∙◌, arith}
 use Rattle.std.proofs.lemmas.Bool.{and_parts}
 use Rattle.std.proofs.lemmas.List.{get_or_default, drop_all}
-use Rattle.ads_plant.specs.Trees.{trees_of, member_trees}
-use Rattle.ads_rules.specs.Described.{member_described}
+use Rattle.spec_plant.specs.Trees.{trees_of, member_trees}
+use Rattle.spec_rules.specs.Described.{member_described}
 use Rattle.type_layout.specs.NamedTypes.{types_of}
 use Rattle.description_rules.specs.Built.{are_small_members, is_small_member}
 use Rattle.description_rules.specs.Known.{extent_behind}

@@ -1,6 +1,6 @@
 use Rattle.std.proofs.Common.{◌≡◌, ◌≤◌, ◌<◌, ◌*◌, ◌^◌, map, drop, true}
-use Rattle.ads_plant.specs.Trees.{trees_of, member_trees}
-use Rattle.ads_rules.specs.Described.{member_described}
+use Rattle.spec_plant.specs.Trees.{trees_of, member_trees}
+use Rattle.spec_rules.specs.Described.{member_described}
 use Rattle.type_layout.specs.NamedTypes.{types_of}
 use Rattle.description_rules.specs.Built.{are_small_members}
 use Rattle.description_rules.specs.Known.{extent_behind}

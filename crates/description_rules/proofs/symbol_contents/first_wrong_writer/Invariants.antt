@@ -1,6 +1,6 @@
 use Rattle.std.proofs.Common.{◌≡◌, [], map}
-use Rattle.ads_rules.specs.Places.{first_wrong}
-use Rattle.ads_rules.specs.SymbolRules.{is_right_writer}
+use Rattle.spec_rules.specs.Places.{first_wrong}
+use Rattle.spec_rules.specs.SymbolRules.{is_right_writer}
 use Rattle.description_table.specs.Views.{text_view}
 use Rattle.description_rules.proofs.FirstLemmas.{first_from}
 use Rattle.description_rules.proofs.symbol_contents.first_wrong_writer.Given as goal

@@ -1,8 +1,8 @@
 use Rattle.std.proofs.Common.{◌≡◌, ◌+◌, List, [], length, map, sym, ap, ◌∙◌, arith}
 use Rattle.std.proofs.lemmas.List.{length-map}
-use Rattle.ads_rules.specs.Places.{first_wrong}
-use Rattle.ads_rules.specs.Written.{WrittenPort, WrittenSymbol}
-use Rattle.ads_rules.specs.SymbolRules.{is_right_content}
+use Rattle.spec_rules.specs.Places.{first_wrong}
+use Rattle.spec_rules.specs.Written.{WrittenPort, WrittenSymbol}
+use Rattle.spec_rules.specs.SymbolRules.{is_right_content}
 use Rattle.type_layout.specs.NamedTypes.{types_of}
 use Rattle.description_table.specs.Views.{port_view, symbol_view}
 use Rattle.description_rules.proofs.ThroughLemmas.{through_from, through_from-wrong, through_from-right}

@@ -1,7 +1,7 @@
 use Rattle.std.proofs.Common.{◌≡◌, [], map}
-use Rattle.ads_rules.specs.Written.{WrittenSymbol}
-use Rattle.ads_rules.specs.Places.{first_wrong}
-use Rattle.ads_rules.specs.SymbolRules.{is_right_content}
+use Rattle.spec_rules.specs.Written.{WrittenSymbol}
+use Rattle.spec_rules.specs.Places.{first_wrong}
+use Rattle.spec_rules.specs.SymbolRules.{is_right_content}
 use Rattle.type_layout.specs.NamedTypes.{types_of}
 use Rattle.description_table.specs.Views.{symbol_view}
 use Rattle.description_rules.proofs.FirstLemmas.{first_from}

@@ -1,5 +1,5 @@
 use Rattle.std.proofs.Common.{◌+◌, map, take, sym, ◌∙◌}
-use Rattle.ads_rules.specs.SymbolRules.{is_right_name}
+use Rattle.spec_rules.specs.SymbolRules.{is_right_name}
 use Rattle.description_table.specs.Views.{symbol_view}
 use Rattle.description_rules.specs.NextName.{name_view}
 use Rattle.description_rules.proofs.FirstLemmas.{first_from-start, first_from-right, first_from-wrong, take-more}

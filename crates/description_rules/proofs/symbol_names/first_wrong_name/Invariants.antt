@@ -1,6 +1,6 @@
 use Rattle.std.proofs.Common.{◌≡◌, [], map, take}
-use Rattle.ads_rules.specs.Places.{first_wrong}
-use Rattle.ads_rules.specs.SymbolRules.{is_right_name}
+use Rattle.spec_rules.specs.Places.{first_wrong}
+use Rattle.spec_rules.specs.SymbolRules.{is_right_name}
 use Rattle.description_table.specs.Views.{symbol_view}
 use Rattle.description_rules.specs.NameStarts.{AreNoted}
 use Rattle.description_rules.specs.NextName.{name_view}

@@ -1,7 +1,7 @@
 use Rattle.std.proofs.Common.{◌≡◌, ◌≤◌, ◌*◌, ◌^◌, [], length, map}
-use Rattle.ads_rules.specs.Places.{first_wrong}
-use Rattle.ads_rules.specs.Written.{WrittenPort}
-use Rattle.ads_rules.specs.SymbolRules.{wrong_name, is_right_name}
+use Rattle.spec_rules.specs.Places.{first_wrong}
+use Rattle.spec_rules.specs.Written.{WrittenPort}
+use Rattle.spec_rules.specs.SymbolRules.{wrong_name, is_right_name}
 use Rattle.description_table.specs.Views.{port_view}
 use Rattle.description_rules.proofs.ThroughLemmas.{through_from}
 use Rattle.description_rules.proofs.symbol_names.wrong_name.Given as goal

@@ -1,6 +1,6 @@
 use Rattle.std.proofs.Common.{◌≡◌, [], map, take}
-use Rattle.ads_rules.specs.Places.{first_wrong}
-use Rattle.ads_rules.specs.Described.{sizes_described}
+use Rattle.spec_rules.specs.Places.{first_wrong}
+use Rattle.spec_rules.specs.Described.{sizes_described}
 use Rattle.type_layout.specs.NamedTypes.{types_of}
 use Rattle.description_table.specs.Views.{port_view}
 use Rattle.description_rules.specs.Placed.{is_right_behind}

@@ -1,7 +1,7 @@
 use Rattle.std.proofs.Common.{◌≡◌, ◌≤◌, ◌*◌, ◌^◌, [], length, map}
-use Rattle.ads_rules.specs.Places.{first_wrong}
-use Rattle.ads_rules.specs.Written.{WrittenPort}
-use Rattle.ads_rules.specs.SymbolRules.{wrong_place, is_right_place}
+use Rattle.spec_rules.specs.Places.{first_wrong}
+use Rattle.spec_rules.specs.Written.{WrittenPort}
+use Rattle.spec_rules.specs.SymbolRules.{wrong_place, is_right_place}
 use Rattle.type_layout.specs.NamedTypes.{types_of}
 use Rattle.description_table.specs.Views.{port_view}
 use Rattle.description_rules.proofs.ThroughLemmas.{through_from}

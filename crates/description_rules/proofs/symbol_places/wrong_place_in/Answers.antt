@@ -1,8 +1,8 @@
 use Rattle.std.proofs.Common.{◌≡◌, [], ap, ◌∙◌, map, subst, Option, ℕ}
 use Rattle.std.specs.Result.{IfOk}
-use Rattle.ads_rules.specs.Places.{first_wrong}
-use Rattle.ads_rules.specs.SymbolRules.{is_right_place}
-use Rattle.ads_rules.specs.Described.{sizes_described}
+use Rattle.spec_rules.specs.Places.{first_wrong}
+use Rattle.spec_rules.specs.SymbolRules.{is_right_place}
+use Rattle.spec_rules.specs.Described.{sizes_described}
 use Rattle.type_layout.specs.NamedTypes.{types_of}
 use Rattle.description_rules.specs.Placed.{is_right_behind}
 use Rattle.description_rules.specs.TakenPlaces.{symbol_place}

@@ -1,5 +1,5 @@
 use Rattle.std.proofs.Common.{◌≡◌, [], map, take}
-use Rattle.ads_rules.specs.Places.{first_wrong}
+use Rattle.spec_rules.specs.Places.{first_wrong}
 use Rattle.description_rules.specs.Placed.{use_view, is_right_use}
 use Rattle.description_rules.specs.NextNumber.{AreNamed}
 use Rattle.description_rules.proofs.FirstLemmas.{first_from}

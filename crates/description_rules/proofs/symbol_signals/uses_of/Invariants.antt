@@ -1,6 +1,6 @@
 use Rattle.std.proofs.Common.{◌≡◌, map, take}
 use Rattle.std.specs.Prelude.{flat_map}
-use Rattle.ads_rules.specs.Written.{WrittenPort}
+use Rattle.spec_rules.specs.Written.{WrittenPort}
 use Rattle.type_layout.specs.NamedTypes.{types_of}
 use Rattle.description_rules.specs.Placed.{use_view, use_of}
 use Rattle.description_table.specs.Views.{port_view}

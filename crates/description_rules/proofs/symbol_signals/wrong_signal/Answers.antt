@@ -1,9 +1,9 @@
 use Rattle.std.proofs.Common.{◌≡◌, [], ap, ◌∙◌, map, subst, Option, ℕ}
 use Rattle.std.specs.Prelude.{flat_map}
 use Rattle.std.specs.Result.{IfOk}
-use Rattle.ads_rules.specs.Written.{WrittenPort}
-use Rattle.ads_rules.specs.Places.{first_wrong}
-use Rattle.ads_rules.specs.SymbolRules.{wrong_signal}
+use Rattle.spec_rules.specs.Written.{WrittenPort}
+use Rattle.spec_rules.specs.Places.{first_wrong}
+use Rattle.spec_rules.specs.SymbolRules.{wrong_signal}
 use Rattle.type_layout.specs.NamedTypes.{types_of}
 use Rattle.description_rules.specs.Placed.{use_view, is_right_use}
 use Rattle.description_table.specs.Views.{port_view}

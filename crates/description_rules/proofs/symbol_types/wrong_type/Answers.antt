@@ -1,10 +1,10 @@
 use Rattle.std.proofs.Common.{◌≡◌, ◌+◌, List, [], length, map, false, sym, ◌∙◌, ap, arith}
 use Rattle.std.proofs.lemmas.List.{length-map}
 use Rattle.std.specs.Option.{option_map_or}
-use Rattle.ads_rules.specs.Places.{first_wrong}
-use Rattle.ads_rules.specs.Shapes.{shape_of_text}
-use Rattle.ads_rules.specs.Written.{WrittenPort, WrittenSymbol}
-use Rattle.ads_rules.specs.SymbolRules.{is_small}
+use Rattle.spec_rules.specs.Places.{first_wrong}
+use Rattle.spec_rules.specs.Shapes.{shape_of_text}
+use Rattle.spec_rules.specs.Written.{WrittenPort, WrittenSymbol}
+use Rattle.spec_rules.specs.SymbolRules.{is_small}
 use Rattle.type_layout.specs.NamedTypes.{types_of}
 use Rattle.description_table.specs.Views.{port_view, symbol_view}
 use Rattle.description_rules.proofs.ThroughLemmas.{through_from, through_from-right, through_from-wrong}

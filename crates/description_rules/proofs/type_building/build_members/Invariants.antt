@@ -1,5 +1,5 @@
 use Rattle.std.proofs.Common.{◌≡◌, map, take, drop}
-use Rattle.ads_rules.specs.Described.{member_described}
+use Rattle.spec_rules.specs.Described.{member_described}
 use Rattle.type_layout.specs.NamedTypes.{types_of, member_of}
 use Rattle.description_rules.specs.Built.{are_small_members}
 use Rattle.description_table.specs.Views.{member_view}

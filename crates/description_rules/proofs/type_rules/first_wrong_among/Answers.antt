@@ -1,7 +1,7 @@
 use Rattle.std.proofs.Common.{take, sym, ◌∙◌}
-use Rattle.ads_plant.specs.AcceptedTypes.{is_type_name}
-use Rattle.ads_rules.specs.Written.{written_name}
-use Rattle.ads_rules.specs.TypeRules.{is_right_type_name}
+use Rattle.spec_plant.specs.AcceptedTypes.{is_type_name}
+use Rattle.spec_rules.specs.Written.{written_name}
+use Rattle.spec_rules.specs.TypeRules.{is_right_type_name}
 use Rattle.description_table.specs.Views.{type_view}
 use Rattle.description_rules.proofs.FirstLemmas.{first_from-start, first_from-right, first_from-wrong}
 use Rattle.description_rules.proofs.LowerLemmas.{right-lower, noted-lower}

@@ -1,7 +1,7 @@
 use Rattle.std.proofs.Common.{◌≡◌, [], map, take}
-use Rattle.ads_rules.specs.Places.{first_wrong}
-use Rattle.ads_rules.specs.Written.{written_name}
-use Rattle.ads_rules.specs.TypeRules.{is_right_type_name}
+use Rattle.spec_rules.specs.Places.{first_wrong}
+use Rattle.spec_rules.specs.Written.{written_name}
+use Rattle.spec_rules.specs.TypeRules.{is_right_type_name}
 use Rattle.description_table.specs.Views.{type_view}
 use Rattle.description_rules.proofs.FirstLemmas.{first_from}
 use Rattle.description_rules.proofs.LowerLemmas.{lower_name}

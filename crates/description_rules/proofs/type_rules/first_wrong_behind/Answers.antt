@@ -1,6 +1,6 @@
 use Rattle.std.proofs.Common.{◌≡◌, ◌+◌, None, length, map, take, sym, ap, ◌∙◌, arith}
-use Rattle.ads_rules.specs.Written.{written_members}
-use Rattle.ads_rules.specs.TypeRules.{wrong_member_of}
+use Rattle.spec_rules.specs.Written.{written_members}
+use Rattle.spec_rules.specs.TypeRules.{wrong_member_of}
 use Rattle.description_table.specs.Views.{type_view}
 use Rattle.description_rules.specs.NameStarts.{is_none_of}
 use Rattle.description_rules.proofs.FirstLemmas.{take-more}

@@ -1,7 +1,7 @@
 use Rattle.std.proofs.Common.{◌≡◌, ◌≤◌, ◌*◌, ◌^◌, [], length, map, take}
-use Rattle.ads_rules.specs.Places.{first_through}
-use Rattle.ads_rules.specs.Written.{written_members}
-use Rattle.ads_rules.specs.TypeRules.{wrong_member_of}
+use Rattle.spec_rules.specs.Places.{first_through}
+use Rattle.spec_rules.specs.Written.{written_members}
+use Rattle.spec_rules.specs.TypeRules.{wrong_member_of}
 use Rattle.description_table.specs.Views.{type_view}
 use Rattle.description_rules.specs.NextMember.{AreTypeNames}
 use Rattle.description_rules.proofs.ThroughLemmas.{through_from}

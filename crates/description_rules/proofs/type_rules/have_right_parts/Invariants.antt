@@ -1,6 +1,6 @@
 use Rattle.std.proofs.Common.{◌≡◌, map, drop}
 use Rattle.std.specs.List.{list_all}
-use Rattle.ads_rules.specs.TypeRules.{has_right_parts}
+use Rattle.spec_rules.specs.TypeRules.{has_right_parts}
 use Rattle.description_table.specs.Views.{type_view}
 use Rattle.description_rules.proofs.type_rules.have_right_parts.Given as goal
 

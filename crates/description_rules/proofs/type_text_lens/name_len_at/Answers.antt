@@ -1,5 +1,5 @@
 use Rattle.std.proofs.Common.{length, ap, sym, ◌∙◌}
-use Rattle.ads_plant.proofs.TypeLemmas.{type_text-named}
+use Rattle.spec_plant.proofs.TypeLemmas.{type_text-named}
 use Rattle.type_layout.specs.NamedTypes.{types_of, named_type_of}
 use Rattle.type_layout.proofs.Places.{read_at}
 use Rattle.description_rules.proofs.type_text_lens.name_len_at.Goals as goal

@@ -1,5 +1,5 @@
 use Rattle.std.proofs.Common.{◌≡◌, map}
-use Rattle.ads_rules.specs.PortRules.{wrong_upload, has_right_upload}
+use Rattle.spec_rules.specs.PortRules.{wrong_upload, has_right_upload}
 use Rattle.type_layout.specs.NamedTypes.{types_of}
 use Rattle.description_table.specs.Views.{port_view}
 use Rattle.description_rules.proofs.FirstLemmas.{first_from}

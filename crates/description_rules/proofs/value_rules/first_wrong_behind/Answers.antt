@@ -1,6 +1,6 @@
 use Rattle.std.proofs.Common.{[], ◌∷◌, ◌++◌, get_or, take, sym, ap, ◌∙◌, pos}
 use Rattle.std.proofs.lemmas.List.{get_or_default}
-use Rattle.ads_rules.specs.TypeRules.{is_right_value}
+use Rattle.spec_rules.specs.TypeRules.{is_right_value}
 use Rattle.type_layout.specs.Shapes.{kind_of}
 use Rattle.description_table.specs.Views.{value_view}
 use Rattle.description_rules.proofs.FirstLemmas.{first_from-start, first_from-right, first_from-wrong, take-more}

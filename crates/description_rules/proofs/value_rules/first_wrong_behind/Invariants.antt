@@ -1,6 +1,6 @@
 use Rattle.std.proofs.Common.{◌≡◌, [], map, take}
-use Rattle.ads_rules.specs.Places.{first_wrong}
-use Rattle.ads_rules.specs.TypeRules.{is_right_value}
+use Rattle.spec_rules.specs.Places.{first_wrong}
+use Rattle.spec_rules.specs.TypeRules.{is_right_value}
 use Rattle.type_layout.specs.Shapes.{kind_of}
 use Rattle.description_table.specs.Views.{value_view}
 use Rattle.description_rules.proofs.FirstLemmas.{first_from}

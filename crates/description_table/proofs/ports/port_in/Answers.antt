@@ -2,8 +2,8 @@ use Rattle.std.proofs.Common.{◌≡◌, true, [], ap, sym, ◌∙◌, map, rule
 use Rattle.std.specs.Prelude.{codes, pos}
 use Rattle.toml.specs.Data.{as_str, as_integer}
 use Rattle.toml.specs.View.{table_view}
-use Rattle.ads_rules.specs.Fields.{required, optional, only_keys, tables_of}
-use Rattle.ads_rules.specs.Tables.{port_in, port_keys, symbol_in}
+use Rattle.spec_rules.specs.Fields.{required, optional, only_keys, tables_of}
+use Rattle.spec_rules.specs.Tables.{port_in, port_keys, symbol_in}
 use Rattle.description_table.specs.Views.{symbol_view}
 use Rattle.description_table.proofs.PartLemmas.{four_read, five_read}
 use Rattle.description_table.proofs.ports.port_in.Goals as goal

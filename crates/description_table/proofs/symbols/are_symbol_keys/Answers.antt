@@ -1,7 +1,7 @@
 use Rattle.std.proofs.Common.{ap, sym, ◌∙◌}
 use Rattle.toml.specs.View.{table_view}
-use Rattle.ads_rules.specs.Fields.{only_keys}
-use Rattle.ads_rules.specs.Tables.{symbol_keys}
+use Rattle.spec_rules.specs.Fields.{only_keys}
+use Rattle.spec_rules.specs.Tables.{symbol_keys}
 use Rattle.description_table.proofs.symbols.are_symbol_keys.Goals as goal
 
 pub returns-then-second : goal.returns-then-second

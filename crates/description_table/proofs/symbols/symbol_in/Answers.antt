@@ -2,8 +2,8 @@ use Rattle.std.proofs.Common.{◌≡◌, true, false, [], ap, sym, ◌∙◌, ma
 use Rattle.std.specs.Prelude.{codes}
 use Rattle.toml.specs.Data.{as_str, as_integer, as_bool}
 use Rattle.toml.specs.View.{table_view}
-use Rattle.ads_rules.specs.Fields.{required, optional, maybe, only_keys, array_of}
-use Rattle.ads_rules.specs.Tables.{symbol_in, symbol_keys}
+use Rattle.spec_rules.specs.Fields.{required, optional, maybe, only_keys, array_of}
+use Rattle.spec_rules.specs.Tables.{symbol_in, symbol_keys}
 use Rattle.description_table.specs.Views.{text_view}
 use Rattle.description_table.proofs.PartLemmas.{three_read, four_read}
 use Rattle.description_table.proofs.symbols.symbol_in.Goals as goal

@@ -1,6 +1,6 @@
 use Rattle.std.proofs.Common.{◌≡◌, ◌∷◌, [], ◌++◌, map, ap, sym, ◌∙◌, option_map}
 use Rattle.std.proofs.lemmas.List.{map-append}
-use Rattle.ads_rules.specs.Fields.{table_of}
+use Rattle.spec_rules.specs.Fields.{table_of}
 use Rattle.description_table.proofs.ItemLemmas.{items_in_more}
 use Rattle.description_table.proofs.tables.records_in.Goals as goal
 

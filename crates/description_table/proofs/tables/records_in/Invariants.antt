@@ -1,6 +1,6 @@
 use Rattle.std.proofs.Common.{◌≡◌, ◌++◌, map, drop, option_map}
 use Rattle.toml.specs.View.{items_view}
-use Rattle.ads_rules.specs.Fields.{items_in, table_of}
+use Rattle.spec_rules.specs.Fields.{items_in, table_of}
 use Rattle.description_table.proofs.tables.records_in.Given as goal
 
 -- those so far, and those of the items that are left

@@ -1,6 +1,6 @@
 use Rattle.std.proofs.Common.{◌≡◌, ◌++◌, map, drop, option_map}
 use Rattle.toml.specs.View.{items_view}
-use Rattle.ads_rules.specs.Fields.{items_in}
+use Rattle.spec_rules.specs.Fields.{items_in}
 use Rattle.toml.specs.Data.{as_str}
 use Rattle.description_table.specs.Views.{text_view}
 use Rattle.description_table.proofs.writers.texts_in.Given as goal

@@ -1,5 +1,5 @@
 use Rattle.std.proofs.Common.{ap, ◌∙◌}
-use Rattle.ads_product.specs.Server.{server_script}
+use Rattle.spec_server.specs.Server.{server_script}
 use Rattle.load_maker.proofs.LoadLemmas.{script_read, load_length}
 use Rattle.load_maker.proofs.load.make.Goals as goal
 

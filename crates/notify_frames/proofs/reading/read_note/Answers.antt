@@ -1,7 +1,7 @@
 use Rattle.std.proofs.Common.{Option, Some, List, ℕ, sym, ap, ◌∙◌, arith}
 use Rattle.std.specs.Prelude.{option_map}
 use Rattle.std.proofs.lemmas.List.{take_rest}
-use Rattle.ads_formats.specs.Notification.{Stamp}
+use Rattle.spec_formats.specs.Notification.{Stamp}
 use Rattle.notify_frames.specs.Notes.{left_in, samples_in}
 use Rattle.notify_frames.proofs.Whole.{text_read, none_read}
 use Rattle.notify_frames.proofs.reading.read_note.Goals as goal

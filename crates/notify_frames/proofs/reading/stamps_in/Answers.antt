@@ -1,6 +1,6 @@
 use Rattle.std.proofs.Common.{◌≡◌, ◌+◌, ◌⊎◌, ℕ, length, sym, ap, ◌∙◌, inl, inr}
 use Rattle.std.proofs.lemmas.List.{take_rest}
-use Rattle.ads_formats.specs.Numbers.{number32}
+use Rattle.spec_formats.specs.Numbers.{number32}
 use Rattle.notify_frames.proofs.Whole.{too_short, other_length, cut_off, more_behind, is_whole}
 use Rattle.notify_frames.proofs.reading.stamps_in.Goals as goal
 use Rattle.notify_frames.proofs.reading.stamps_in.Goals.{else-stated-bytes-via-then-stated-bytes+else-stated-bytes-2, else-stated-bytes-via-else-stated-bytes}

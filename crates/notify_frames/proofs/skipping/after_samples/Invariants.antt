@@ -1,6 +1,6 @@
 use Rattle.std.proofs.Common.{◌≡◌, ◌-◌}
 use Rattle.std.specs.Prelude.{option_map}
-use Rattle.ads_formats.specs.NotificationReading.{samples_of}
+use Rattle.spec_formats.specs.NotificationReading.{samples_of}
 use Rattle.notify_frames.proofs.skipping.after_samples.Given as goal
 
 -- what stands behind those that are left stands behind all

@@ -1,7 +1,7 @@
 use Rattle.std.proofs.Common.{◌≡◌, ◌++◌, take}
 use Rattle.std.specs.List.{flat_map}
 use Rattle.ads_base.specs.Octets.{Extends}
-use Rattle.ads_formats.specs.Notification.{sample_bytes}
+use Rattle.spec_formats.specs.Notification.{sample_bytes}
 use Rattle.notify_frames.specs.Samples.{samples_of}
 use Rattle.notify_frames.proofs.writing.append_samples.Given as goal
 

@@ -1,6 +1,6 @@
 use Rattle.std.proofs.Common.{◌≡◌, ◌≤◌, ◌*◌, length, take}
 use Rattle.std.specs.List.{flat_map}
-use Rattle.ads_formats.specs.Notification.{sample_bytes}
+use Rattle.spec_formats.specs.Notification.{sample_bytes}
 use Rattle.notify_frames.specs.Samples.{samples_of}
 use Rattle.notify_frames.proofs.writing.size_of.Given as goal
 

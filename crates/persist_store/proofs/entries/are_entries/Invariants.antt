@@ -1,7 +1,7 @@
 -- The bytes that are left are entries exactly where all are.
 use Rattle.std.proofs.Common.{◌≡◌}
 use Rattle.std.specs.Prelude.{is_some}
-use Rattle.ads_store_file.specs.BodyText.{entries_in}
+use Rattle.spec_store.specs.BodyText.{entries_in}
 use Rattle.persist_store.proofs.entries.are_entries.Given as goal
 
 abbrev pub decreases-loop-left : goal.decreases-loop-left

@@ -1,7 +1,7 @@
 -- The two slots are those of the file.
 use Rattle.std.specs.Prelude.{true, false, drop, option_map}
-use Rattle.ads_store_file.specs.Slots.{slot_of}
-use Rattle.ads_store_file.specs.Saves.{place_of}
+use Rattle.spec_store.specs.Slots.{slot_of}
+use Rattle.spec_store.specs.Saves.{place_of}
 use Rattle.persist_store.specs.Slots.{standing_kept}
 use Rattle.persist_store.proofs.OpeningLemmas.{at_passed, standing_by_slots}
 use Rattle.persist_store.proofs.opening.open_standing.Goals as goal

@@ -1,8 +1,8 @@
 use Rattle.std.proofs.Common.{◌+◌, ◌<◌, length, get_or, sym, ◌∙◌, ap, arith}
 use Rattle.std.specs.Prelude.{Some}
 use Rattle.type_layout.specs.Descriptions.{area_of, sizes_of}
-use Rattle.ads_machine.specs.PortBytes.{start_in}
-use Rattle.ads_machine.proofs.ImageLemmas.{area_within}
+use Rattle.spec_machine.specs.PortBytes.{start_in}
+use Rattle.spec_machine.proofs.ImageLemmas.{area_within}
 use Rattle.port_device.proofs.ImageLemmas.{first_byte}
 use Rattle.port_device.proofs.areas.byte_of.Goals as goal
 

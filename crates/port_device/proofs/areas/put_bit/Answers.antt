@@ -1,8 +1,8 @@
 use Rattle.std.proofs.Common.{◌+◌, [], ◌∷◌, ◌∙◌, ap}
 use Rattle.std.specs.Prelude.{min}
 use Rattle.type_layout.specs.Descriptions.{area_of, sizes_of}
-use Rattle.ads_machine.specs.Access.{with_bit}
-use Rattle.ads_machine.specs.PortBytes.{start_in, with_image_bytes}
+use Rattle.spec_machine.specs.Access.{with_bit}
+use Rattle.spec_machine.specs.PortBytes.{start_in, with_image_bytes}
 use Rattle.port_device.proofs.ImageLemmas.{byte_written}
 use Rattle.port_device.proofs.areas.put_bit.Goals as goal
 

@@ -1,11 +1,11 @@
 use Rattle.std.proofs.Common.{◌≡◌, ◌≤◌, length, refl, sym, ◌∙◌, ap, subst}
 use Rattle.std.specs.Arc.{arc_value}
-use Rattle.ads_plant.specs.Description.{Sizes}
-use Rattle.ads_plant.specs.Accepted.{image_size, IMAGE_LIMIT}
+use Rattle.spec_plant.specs.Description.{Sizes}
+use Rattle.spec_plant.specs.Accepted.{image_size, IMAGE_LIMIT}
 use Rattle.type_layout.specs.Descriptions.{port_of}
 use Rattle.type_layout.specs.NamedTypes.{types_of}
 use Rattle.symbol_table.specs.Tables.{IsPlaced, IsTableOf, IsTableWith}
-use Rattle.ads_plant.specs.Entries.{upload_size}
+use Rattle.spec_plant.specs.Entries.{upload_size}
 use Rattle.port_device.specs.Uploads.{types_upload, symbols_upload, described}
 use Rattle.port_device.proofs.FirstPortLemmas.{of_accepted-placed, of_accepted-table, of_accepted-few, of_accepted-fits, of_accepted-upload, of_accepted-texts}
 use Rattle.port_device.specs.Signals.{AreBound}

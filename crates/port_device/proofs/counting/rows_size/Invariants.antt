@@ -1,7 +1,7 @@
 -- The entries so far, and those that are left.
 use Rattle.std.proofs.Common.{◌≡◌, ◌+◌, drop}
 use Rattle.std.specs.Prelude.{sum_by}
-use Rattle.ads_plant.specs.Entries.{symbol_entry_length, upload_size}
+use Rattle.spec_plant.specs.Entries.{symbol_entry_length, upload_size}
 use Rattle.symbol_table.specs.Rows.{symbol_of_row, declared_by_rows}
 use Rattle.symbol_table.specs.Tables.{declared}
 use Rattle.type_layout.specs.NamedTypes.{types_of}

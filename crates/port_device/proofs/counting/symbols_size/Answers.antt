@@ -1,5 +1,5 @@
 use Rattle.std.proofs.Common.{length}
-use Rattle.ads_plant.specs.Entries.{upload_size}
+use Rattle.spec_plant.specs.Entries.{upload_size}
 use Rattle.symbol_table.specs.Rows.{declared_by_rows}
 use Rattle.type_layout.specs.NamedTypes.{types_of}
 use Rattle.port_device.specs.Uploads.{symbols_upload}

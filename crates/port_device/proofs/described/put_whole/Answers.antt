@@ -1,5 +1,5 @@
 use Rattle.std.proofs.Common.{◌≤◌, refl, sym, arith}
-use Rattle.ads_formats.specs.SymbolEntry.{entry_bytes, entry_len}
+use Rattle.spec_formats.specs.SymbolEntry.{entry_bytes, entry_len}
 use Rattle.symbol_info.specs.Entry.{entry_meant}
 use Rattle.port_device.proofs.UploadLengths.{length-entry_bytes}
 use Rattle.port_device.proofs.UploadReads.{fixed_given}

@@ -1,5 +1,5 @@
 use Rattle.std.proofs.Common.{◌≡◌, map, drop, length, replicate}
-use Rattle.ads_plant.specs.Accepted.{image_size}
+use Rattle.spec_plant.specs.Accepted.{image_size}
 use Rattle.type_layout.specs.Descriptions.{sizes_of}
 use Rattle.symbol_table.specs.Rows.{symbols_of_rows}
 use Rattle.symbol_table.specs.Tables.{TableSymbol}

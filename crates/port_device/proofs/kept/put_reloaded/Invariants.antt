@@ -1,7 +1,7 @@
 use Rattle.std.proofs.Common.{◌≡◌, List, length, map, drop}
 use Rattle.std.specs.List.{All}
-use Rattle.ads_plant.specs.Accepted.{image_size}
-use Rattle.ads_plant.specs.Listed.{NamedType}
+use Rattle.spec_plant.specs.Accepted.{image_size}
+use Rattle.spec_plant.specs.Listed.{NamedType}
 use Rattle.type_layout.specs.Descriptions.{sizes_of}
 use Rattle.port_device.specs.PlacedBytes.{with_all_bytes}
 use Rattle.port_device.specs.Reloaded.{AreCompared, IsTypedRow, reloaded_row}

@@ -1,6 +1,6 @@
 use Rattle.std.proofs.Common.{◌≡◌, List, ◌++◌, drop}
 use Rattle.std.specs.List.{All}
-use Rattle.ads_plant.specs.Listed.{NamedType}
+use Rattle.spec_plant.specs.Listed.{NamedType}
 use Rattle.symbol_table.specs.Moves.{IsKeptPlace}
 use Rattle.symbol_table.specs.Rows.{symbols_of_rows}
 use Rattle.port_device.specs.KeptSymbols.{kept_symbols_of}

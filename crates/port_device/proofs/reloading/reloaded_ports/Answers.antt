@@ -1,7 +1,7 @@
 use Rattle.std.proofs.Common.{◌≡◌, ◌+◌, List, [], ◌∷◌, ◌++◌, take, sym, ◌∙◌, ap, subst}
 use Rattle.std.specs.Arc.{arc_value}
 use Rattle.std.proofs.lemmas.List.{take_more, map-append}
-use Rattle.ads_plant.specs.Description.{Port}
+use Rattle.spec_plant.specs.Description.{Port}
 use Rattle.type_layout.specs.Descriptions.{port_of, ports_of}
 use Rattle.type_layout.specs.NamedTypes.{types_of}
 use Rattle.type_layout.specs.declared.port.PortDesc.{PortDesc}

@@ -1,7 +1,7 @@
 use Rattle.std.proofs.Common.{List, take}
 use Rattle.std.specs.Prelude.{All}
 use Rattle.std.specs.Arc.{arc_value}
-use Rattle.ads_plant.specs.Listed.{NamedType}
+use Rattle.spec_plant.specs.Listed.{NamedType}
 use Rattle.type_layout.specs.Descriptions.{ports_of}
 use Rattle.type_layout.specs.NamedTypes.{types_of}
 use Rattle.port_device.specs.Moved.{HasTypes}

@@ -1,7 +1,7 @@
 -- A structure stands there, or an enumeration.
 use Rattle.std.proofs.Common.{◌<◌, length, sym, ◌∙◌, ap, arith}
 use Rattle.std.proofs.lemmas.List.{length-map}
-use Rattle.ads_plant.specs.Entries.{type_id}
+use Rattle.spec_plant.specs.Entries.{type_id}
 use Rattle.type_layout.specs.NamedTypes.{named_type_of}
 use Rattle.type_layout.proofs.Places.{structure_at, enumeration_at}
 use Rattle.port_device.proofs.type_ids.named_id.Goals as goal

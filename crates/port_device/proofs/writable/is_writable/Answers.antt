@@ -2,7 +2,7 @@ use Rattle.std.proofs.Common.{◌≡◌, length, false, sym, ◌∙◌, ap}
 use Rattle.std.specs.Prelude.{Bool, ◌&&◌, ◌||◌, ◌==◌, not, bytes_eq}
 use Rattle.std.specs.List.{list_any}
 use Rattle.ads_base.specs.declared.net_id.NetId.{NetId}
-use Rattle.ads_machine.proofs.Find.{test_other}
+use Rattle.spec_machine.proofs.Find.{test_other}
 use Rattle.port_device.proofs.WritableLemmas.{row_writable}
 use Rattle.port_device.proofs.writable.is_writable.Goals as goal
 

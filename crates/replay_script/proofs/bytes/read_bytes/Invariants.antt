@@ -1,8 +1,8 @@
 -- The bytes of the words that were read stand before those of the rest.
 use Rattle.std.proofs.Common.{◌≡◌, ◌+◌, length}
 use Rattle.std.specs.Option.{option_copied, option_map_or}
-use Rattle.ads_machine.specs.ScriptLines.{words_of}
-use Rattle.ads_machine.specs.ScriptWords.{behind, bytes_of_words}
+use Rattle.spec_machine.specs.ScriptLines.{words_of}
+use Rattle.spec_machine.specs.ScriptWords.{behind, bytes_of_words}
 use Rattle.replay_script.specs.Lines.{words_behind}
 use Rattle.replay_script.proofs.bytes.read_bytes.Given as goal
 

@@ -1,4 +1,4 @@
-use Rattle.ads_machine.specs.BuiltLines.{all_lines}
+use Rattle.spec_machine.specs.BuiltLines.{all_lines}
 use Rattle.replay_script.proofs.FreshLemmas.{script_fresh}
 use Rattle.replay_script.proofs.laws.scripts_open_new_numbers.Goals as goal
 

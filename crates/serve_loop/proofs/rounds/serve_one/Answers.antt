@@ -1,7 +1,7 @@
 -- The offers of a connection, and its end.
 use Rattle.std.proofs.Common.{◌≡◌, false, refl, sym, ◌∙◌}
 use Rattle.ads_outside.specs.declared.moves.Move.TheVariants as move
-use Rattle.ads_machine.specs.Running.{is_to_be_shut_at}
+use Rattle.spec_machine.specs.Running.{is_to_be_shut_at}
 use Rattle.serve_loop.proofs.LeadLemmas.{leads_one, leads_then, leads_so, breaks_here}
 use Rattle.serve_loop.proofs.ServeLemmas.{IsShutting, ends_there, ends_open, ends_shut, leads_seen}
 use Rattle.serve_loop.proofs.rounds.serve_one.Goals as goal

@@ -2,7 +2,7 @@ use Rattle.std.proofs.Common.{◌≡◌, [], List, sym, ap, ◌∙◌, subst}
 use Rattle.std.specs.Prelude.{All, map, reverse}
 use Rattle.std.proofs.lemmas.List.{reverse-reverse}
 use Rattle.std.proofs.lemmas.List.Elements.{All-head, All-tail}
-use Rattle.ads_machine.specs.Device.{Produced}
+use Rattle.spec_machine.specs.Device.{Produced}
 use Rattle.session.specs.NoteFrames.{produced_of, IsNoteFrame}
 use Rattle.session.specs.declared.notes.NoteFrame.{NoteFrame}
 use Rattle.server_core.specs.Conns.{conn_of}

@@ -1,6 +1,6 @@
 use Rattle.std.proofs.Common.{◌≡◌, ℕ, length}
 use Rattle.std.specs.Prelude.{All, map, reverse}
-use Rattle.ads_plant.specs.World.{Plant}
+use Rattle.spec_plant.specs.World.{Plant}
 use Rattle.session.specs.NoteFrames.{produced_of, IsNoteFrame}
 use Rattle.server_core.specs.Served.{ServedConnection}
 use Rattle.server_core.specs.Conns.{conn_of}

@@ -2,9 +2,9 @@ use Rattle.std.proofs.Common.{ℕ, List, refl, subst, sym}
 use Rattle.session.specs.declared.taken.Taken.{Taken}
 use Rattle.session.specs.SessionState.{SessionState}
 use Rattle.session.specs.Takes.{IsAnswer}
-use Rattle.ads_machine.specs.Piece.{with_client}
+use Rattle.spec_machine.specs.Piece.{with_client}
 use Rattle.server_core.specs.declared.device.Device.{Device}
-use Rattle.ads_machine.specs.Device.{Reply}
+use Rattle.spec_machine.specs.Device.{Reply}
 use Rattle.server_core.specs.Served.{served}
 use Rattle.server_core.specs.Taking.{Produces}
 use Rattle.server_core.specs.HoldsWorld.{IsConnected}

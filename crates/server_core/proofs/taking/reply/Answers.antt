@@ -1,6 +1,6 @@
 use Rattle.std.proofs.Common.{◌≤◌, ◌+◌, length, Ok, inl, inr, refl, ap, sym, ◌∙◌}
 use Rattle.std.proofs.lemmas.Bool.{cases_lt}
-use Rattle.ads_machine.specs.Device.{Reply}
+use Rattle.spec_machine.specs.Device.{Reply}
 use Rattle.out_queue.specs.Queue.{queued}
 use Rattle.server_core.specs.Conns.{conn_of}
 use Rattle.server_core.proofs.ProduceLemmas.{produces_fitting, produces_over}

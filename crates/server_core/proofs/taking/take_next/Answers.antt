@@ -1,5 +1,5 @@
 use Rattle.std.proofs.Common.{refl, ◌∙◌, sym, subst}
-use Rattle.ads_machine.specs.Piece.{with_one_taken}
+use Rattle.spec_machine.specs.Piece.{with_one_taken}
 use Rattle.server_core.specs.Conns.{conn_of}
 use Rattle.server_core.specs.ConnStands.{Goes, history_of}
 use Rattle.server_core.specs.Taking.{answered}

@@ -1,5 +1,5 @@
 use Rattle.std.proofs.Common.{◌≡◌, refl, ◌∙◌, sym, subst}
-use Rattle.ads_machine.specs.Piece.{with_piece, after_piece}
+use Rattle.spec_machine.specs.Piece.{with_piece, after_piece}
 use Rattle.server_core.specs.Served.{served, ServedExchange}
 use Rattle.server_core.specs.Conns.{conn_of}
 use Rattle.server_core.specs.ConnStands.{Stands, history_of, Goes}

@@ -1,7 +1,7 @@
 use Rattle.std.proofs.Common.{refl, sym, ap, ◌∙◌, subst, arith}
 use Rattle.std.proofs.lemmas.List.{get_or-set_other, get_or_default}
 use Rattle.std.proofs.Math.ListN.{length-set}
-use Rattle.ads_machine.specs.Reloads.{client_reloaded}
+use Rattle.spec_machine.specs.Reloads.{client_reloaded}
 use Rattle.session.specs.Reloading.{IsReloadable}
 use Rattle.server_core.specs.declared.turned.Turned.{Turned}
 use Rattle.server_core.specs.Asked.{IsAsked}

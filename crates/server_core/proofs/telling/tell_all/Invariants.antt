@@ -1,6 +1,6 @@
 use Rattle.std.proofs.Common.{◌≡◌, ◌<◌, ◌≤◌, ℕ, length, get_or}
-use Rattle.ads_machine.specs.World.{World}
-use Rattle.ads_machine.specs.Reloads.{client_reloaded}
+use Rattle.spec_machine.specs.World.{World}
+use Rattle.spec_machine.specs.Reloads.{client_reloaded}
 use Rattle.server_core.specs.declared.turned.Turned.{Turned}
 use Rattle.server_core.specs.Asked.{IsAsked}
 use Rattle.session.specs.Reloading.{AreMoves}

@@ -1,5 +1,5 @@
 use Rattle.std.proofs.Common.{List, length, rules, refl, sym, ap, ◌∙◌, subst}
-use Rattle.ads_machine.specs.Ticks.{client_after_tick}
+use Rattle.spec_machine.specs.Ticks.{client_after_tick}
 use Rattle.server_core.specs.declared.device.Device.{Device}
 use Rattle.server_core.specs.declared.turned.Turned.{Turned}
 use Rattle.server_core.specs.Asked.{EachAsked}

@@ -1,6 +1,6 @@
 use Rattle.std.proofs.Common.{◌≡◌, refl, rules}
 use Rattle.std.specs.Prelude.{not, is_some, is_none, option_map}
-use Rattle.ads_formats.specs.Request as format
+use Rattle.spec_formats.specs.Request as format
 use Rattle.ads_commands.specs.Request.{request_meant}
 use Rattle.ams_header.specs.Header.{ams_header_of}
 use Rattle.port_device.specs.PortMemory.{memory_numbered}

@@ -1,8 +1,8 @@
 use Rattle.session.proofs.GrantLemmas.{given, not-given, full-leaves, said-full, said-not-full, full-act, grant-answers, grant-leaves, refused-answers}
 use Rattle.return_codes.specs.declared.code.Code.TheVariants.{C700}
-use Rattle.ads_machine.specs.ByName.{grant_act}
+use Rattle.spec_machine.specs.ByName.{grant_act}
 use Rattle.std.proofs.Common.{◌≡◌, ◌+◌, [], ◌∷◌, ◌++◌}
-use Rattle.ads_machine.specs.Handles.{Grant}
+use Rattle.spec_machine.specs.Handles.{Grant}
 use Rattle.sym_handles.specs.History.{History, Represents}
 use Rattle.session.proofs.granting.grant_place.Goals as goal
 

@@ -1,10 +1,10 @@
 use Rattle.std.proofs.Common.{sym}
-use Rattle.ads_formats.specs.Groups.{group_of}
-use Rattle.ads_formats.specs.Request.{ReadWrite}
-use Rattle.ads_plant.specs.World.{PlantPort}
-use Rattle.ads_machine.specs.World.{World}
-use Rattle.ads_machine.specs.ByName.{read_write_group}
-use Rattle.ads_machine.specs.Client.{Client}
+use Rattle.spec_formats.specs.Groups.{group_of}
+use Rattle.spec_formats.specs.Request.{ReadWrite}
+use Rattle.spec_plant.specs.World.{PlantPort}
+use Rattle.spec_machine.specs.World.{World}
+use Rattle.spec_machine.specs.ByName.{read_write_group}
+use Rattle.spec_machine.specs.Client.{Client}
 use Rattle.port_device.specs.Groups.{without_handles}
 use Rattle.session.specs.Asking.{act_asked}
 use Rattle.session.specs.Grants.{handle_act}

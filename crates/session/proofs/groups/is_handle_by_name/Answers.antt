@@ -1,5 +1,5 @@
 use Rattle.std.proofs.Common.{refl}
-use Rattle.ads_formats.specs.Groups.{group_in, group_of}
+use Rattle.spec_formats.specs.Groups.{group_in, group_of}
 use Rattle.session.proofs.NumberTests.{one_number}
 use Rattle.session.specs.HandleGroups as groups
 use Rattle.session.proofs.groups.is_handle_by_name.Goals as goal

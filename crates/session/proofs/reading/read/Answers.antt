@@ -1,12 +1,12 @@
 use Rattle.std.proofs.Common.{sym}
-use Rattle.ads_formats.specs.Groups.{group_of}
-use Rattle.ads_formats.specs.Request.{Read}
-use Rattle.ads_machine.specs.World.{World, setup_of}
-use Rattle.ads_machine.specs.Client.{Client}
-use Rattle.ads_machine.specs.Handles.{kept_status}
-use Rattle.ads_machine.specs.Reach.{addressed_by_status}
-use Rattle.ads_machine.specs.Reads.{read_act, read_group}
-use Rattle.ads_plant.specs.World.{PlantPort}
+use Rattle.spec_formats.specs.Groups.{group_of}
+use Rattle.spec_formats.specs.Request.{Read}
+use Rattle.spec_machine.specs.World.{World, setup_of}
+use Rattle.spec_machine.specs.Client.{Client}
+use Rattle.spec_machine.specs.Handles.{kept_status}
+use Rattle.spec_machine.specs.Reach.{addressed_by_status}
+use Rattle.spec_machine.specs.Reads.{read_act, read_group}
+use Rattle.spec_plant.specs.World.{PlantPort}
 use Rattle.port_device.specs.Groups.{without_handles}
 use Rattle.session.specs.Asking.{act_asked}
 use Rattle.session.proofs.ReadLemmas.{read-by-handle, read-by-port, answer-along, port-answer, read-asked}

@@ -1,5 +1,5 @@
 use Rattle.std.proofs.Common.{◌++◌, arith, ap, sym, ◌∙◌}
-use Rattle.ads_formats.specs.Request.{Read}
+use Rattle.spec_formats.specs.Request.{Read}
 use Rattle.session.specs.Asking.{act_asked}
 use Rattle.session.proofs.ReplyLemmas.{answer-grows, answer-filled, read-payload}
 use Rattle.session.proofs.replies.read_reply.Goals as goal

@@ -1,5 +1,5 @@
 use Rattle.std.proofs.Common.{◌++◌, arith, ap, sym, ◌∙◌}
-use Rattle.ads_formats.specs.Request.{ReadWrite}
+use Rattle.spec_formats.specs.Request.{ReadWrite}
 use Rattle.session.specs.Asking.{act_asked}
 use Rattle.session.proofs.ReplyLemmas.{answer-grows, answer-filled, read_write-payload}
 use Rattle.session.proofs.replies.read_write_reply.Goals as goal

@@ -1,6 +1,6 @@
 use Rattle.std.proofs.Common.{◌≡◌, length, ap, arith}
 use Rattle.ams_header.specs.Header.{ams_header_of}
-use Rattle.ads_formats.specs.Reply.{written_bytes}
+use Rattle.spec_formats.specs.Reply.{written_bytes}
 use Rattle.ads_commands.specs.Reply.{reply_meant}
 use Rattle.session.proofs.TakeLemmas.{refused-framed}
 use Rattle.session.proofs.take.refused_frame.Goals as goal

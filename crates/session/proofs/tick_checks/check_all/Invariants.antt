@@ -1,5 +1,5 @@
 use Rattle.std.proofs.Common.{◌≤◌, take}
-use Rattle.ads_machine.specs.World.{World}
+use Rattle.spec_machine.specs.World.{World}
 use Rattle.port_device.specs.Holds.{HoldsPorts}
 use Rattle.session.specs.Checks.{AreChecked}
 use Rattle.session.proofs.tick_checks.check_all.Given as goal

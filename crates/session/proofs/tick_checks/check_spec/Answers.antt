@@ -1,5 +1,5 @@
 use Rattle.std.proofs.Common.{true, false, IsTrue, refl}
-use Rattle.ads_machine.specs.Watches.{is_due}
+use Rattle.spec_machine.specs.Watches.{is_due}
 use Rattle.notify_table.specs.Table.{watch_of_handle}
 use Rattle.session.specs.Checks.{IsReadable}
 use Rattle.session.proofs.TickChecks.{check_is, first_of_both}

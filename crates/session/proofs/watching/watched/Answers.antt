@@ -1,5 +1,5 @@
 use Rattle.std.proofs.Common.{◌∙◌, sym, subst, ◌≡◌}
-use Rattle.ads_formats.specs.Ranges.{range_of}
+use Rattle.spec_formats.specs.Ranges.{range_of}
 use Rattle.index_groups.specs.Access.{answer_meant, IsWithin}
 use Rattle.std.specs.Prelude.{IfOk}
 use Rattle.session.proofs.WatchedReach.{watched_in_area, area_len, watched_nowhere, watched_by_value}

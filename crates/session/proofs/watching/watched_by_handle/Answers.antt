@@ -1,6 +1,6 @@
 use Rattle.std.proofs.Common.{arith}
 use Rattle.std.specs.Prelude.{Ok, Err}
-use Rattle.ads_machine.specs.Handles.{kept_status}
+use Rattle.spec_machine.specs.Handles.{kept_status}
 use Rattle.session.proofs.ValueLemmas.{looked-by}
 use Rattle.session.proofs.WatchedReach.{live_watched, live_too_long, dead_watched}
 use Rattle.session.proofs.watching.watched_by_handle.Goals as goal

@@ -1,6 +1,6 @@
 use Rattle.std.proofs.Common.{sym}
-use Rattle.ads_machine.specs.Writes.{release_act}
-use Rattle.ads_formats.specs.Request.{Write}
+use Rattle.spec_machine.specs.Writes.{release_act}
+use Rattle.spec_formats.specs.Request.{Write}
 use Rattle.session.specs.Asking.{act_asked}
 use Rattle.session.specs.Ends.{value_write_act}
 use Rattle.session.proofs.WriteLemmas.{write-releases, write-by-handle, ends-along, port-ends}

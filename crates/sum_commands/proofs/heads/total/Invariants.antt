@@ -1,5 +1,5 @@
 use Rattle.std.proofs.Common.{◌≡◌, ◌≤◌, ◌+◌, ◌-◌, ◌*◌, length, sum}
-use Rattle.ads_machine.specs.Sums.{numbers_of_heads}
+use Rattle.spec_machine.specs.Sums.{numbers_of_heads}
 use Rattle.sum_commands.proofs.heads.total.Given as goal
 
 abbrev pub invariant-loop : goal.invariant-loop

@@ -1,5 +1,5 @@
 use Rattle.std.proofs.Common.{◌≡◌, [], map, take, unwrap_or}
-use Rattle.ads_rules.specs.Nets.{net_of}
+use Rattle.spec_rules.specs.Nets.{net_of}
 use Rattle.type_layout.specs.Descriptions.{nets_of}
 use Rattle.description_table.specs.Views.{text_view}
 use Rattle.symbol_file.proofs.nets.nets_of.Given as goal

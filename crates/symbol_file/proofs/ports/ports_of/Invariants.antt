@@ -1,5 +1,5 @@
 use Rattle.std.proofs.Common.{◌≡◌, map, take}
-use Rattle.ads_rules.specs.Described.{port_described}
+use Rattle.spec_rules.specs.Described.{port_described}
 use Rattle.type_layout.specs.NamedTypes.{types_of}
 use Rattle.type_layout.specs.Descriptions.{ports_of}
 use Rattle.description_table.specs.Views.{port_view}

@@ -1,5 +1,5 @@
 use Rattle.std.proofs.Common.{◌≡◌, map, take}
-use Rattle.ads_rules.specs.Described.{route_described}
+use Rattle.spec_rules.specs.Described.{route_described}
 use Rattle.type_layout.specs.Descriptions.{routes_of}
 use Rattle.description_table.specs.Views.{route_view}
 use Rattle.symbol_file.proofs.routes.routes_of.Given as goal

@@ -1,8 +1,8 @@
 use Rattle.std.proofs.Common.{sym, arith, inl, inr}
 use Rattle.std.proofs.lemmas.List.{take_rest}
-use Rattle.ads_formats.specs.SymbolEntry.{name_place, type_place, comment_place}
-use Rattle.ads_formats.specs.Numbers.{number16}
-use Rattle.ads_formats.proofs.EntryLemmas.{entry_of-refused}
+use Rattle.spec_formats.specs.SymbolEntry.{name_place, type_place, comment_place}
+use Rattle.spec_formats.specs.Numbers.{number16}
+use Rattle.spec_formats.proofs.EntryLemmas.{entry_of-refused}
 use Rattle.symbol_info.proofs.EntryLemmas.{text_at, no_nul, Numbers, read_is}
 use Rattle.symbol_info.proofs.reading.entry_in.Goals as goal
 

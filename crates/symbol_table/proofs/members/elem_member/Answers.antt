@@ -1,7 +1,7 @@
 -- An enumeration has no members.
 use Rattle.std.proofs.Common.{◌≡◌, true, refl}
-use Rattle.ads_plant.specs.AcceptedTypes.{is_elem}
-use Rattle.ads_plant.specs.Listed.{Enum}
+use Rattle.spec_plant.specs.AcceptedTypes.{is_elem}
+use Rattle.spec_plant.specs.Listed.{Enum}
 use Rattle.type_layout.specs.Shapes.{elem_of}
 use Rattle.type_layout.specs.NamedTypes.{types_of}
 use Rattle.type_layout.proofs.Leaves.{no_member}

@@ -1,7 +1,7 @@
 -- A member has its own comment.
 use Rattle.std.proofs.Common.{sym, ◌∙◌}
-use Rattle.ads_plant.specs.Parts.{member_of}
-use Rattle.ads_plant.specs.Trees.{tree_of}
+use Rattle.spec_plant.specs.Parts.{member_of}
+use Rattle.spec_plant.specs.Trees.{tree_of}
 use Rattle.type_layout.specs.Shapes.{shape_of_ref}
 use Rattle.type_layout.specs.NamedTypes.{types_of}
 use Rattle.symbol_table.specs.MemberTexts.{text_of_declared}

@@ -2,9 +2,9 @@
 use Rattle.std.proofs.Common.{◌≡◌, arith, refl, sym}
 use Rattle.std.specs.Prelude.{Some}
 use Rattle.name_paths.specs.Steps.{step_of}
-use Rattle.ads_plant.specs.Trees.{tree_of}
-use Rattle.ads_plant.specs.Parts.{part_of}
-use Rattle.ads_plant.proofs.PartLemmas.{part_of-end}
+use Rattle.spec_plant.specs.Trees.{tree_of}
+use Rattle.spec_plant.specs.Parts.{part_of}
+use Rattle.spec_plant.proofs.PartLemmas.{part_of-end}
 use Rattle.type_layout.specs.Shapes.{shape_of_ref}
 use Rattle.type_layout.specs.NamedTypes.{types_of}
 use Rattle.type_layout.specs.FoundParts as layout

@@ -1,5 +1,5 @@
 -- Each symbol's type is accepted.
-use Rattle.ads_plant.proofs.TypeLemmas.{list_all-get}
+use Rattle.spec_plant.proofs.TypeLemmas.{list_all-get}
 use Rattle.type_layout.proofs.Places.{read_at}
 use Rattle.type_layout.specs.NamedTypes.{types_of}
 use Rattle.type_layout.specs.Descriptions.{symbol_of, symbols_of}

@@ -1,8 +1,8 @@
 -- The first step, and those behind it.
 use Rattle.std.proofs.Common.{◌≡◌, ◌++◌, sym, ◌∙◌, ap}
 use Rattle.name_paths.specs.Steps.{step_of}
-use Rattle.ads_plant.specs.PartTexts.{name_behind, text_of_step}
-use Rattle.ads_plant.specs.Trees.{TypeTree, tree_of}
+use Rattle.spec_plant.specs.PartTexts.{name_behind, text_of_step}
+use Rattle.spec_plant.specs.Trees.{TypeTree, tree_of}
 use Rattle.type_layout.specs.Shapes.{shape_of_ref}
 use Rattle.type_layout.specs.NamedTypes.{types_of}
 use Rattle.symbol_table.proofs.SpelledTexts.{name_behind-step, name_behind-end}

@@ -1,8 +1,8 @@
 -- The member that has the name tells its own.
 use Rattle.std.proofs.Common.{◌≡◌, ◌∷◌, ◌++◌, ◌∙◌, sym, ap, append-nil, refl}
-use Rattle.ads_plant.specs.Parts.{member_of}
-use Rattle.ads_plant.specs.PartTexts.{text_of_member}
-use Rattle.ads_plant.specs.Trees.{tree_of}
+use Rattle.spec_plant.specs.Parts.{member_of}
+use Rattle.spec_plant.specs.PartTexts.{text_of_member}
+use Rattle.spec_plant.specs.Trees.{tree_of}
 use Rattle.type_layout.specs.Shapes.{shape_of_ref}
 use Rattle.type_layout.specs.NamedTypes.{types_of}
 use Rattle.symbol_table.specs.MemberTexts.{text_of_declared}

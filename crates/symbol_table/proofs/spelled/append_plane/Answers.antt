@@ -1,7 +1,7 @@
 -- The indexes with a comma between them, and their brackets.
 use Rattle.std.proofs.Common.{rules, ◌≡◌, [], ◌∷◌, ◌++◌, ◌∙◌, ap}
-use Rattle.ads_plant.specs.PartTexts.{text_of_indexes}
-use Rattle.ads_plant.specs.Spelling.{integer_text}
+use Rattle.spec_plant.specs.PartTexts.{text_of_indexes}
+use Rattle.spec_plant.specs.Spelling.{integer_text}
 use Rattle.symbol_table.proofs.SpelledTexts.{plane_text}
 use Rattle.symbol_table.proofs.spelled.append_plane.Goals as goal
 

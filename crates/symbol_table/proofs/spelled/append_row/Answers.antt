@@ -1,7 +1,7 @@
 -- The index and its brackets.
 use Rattle.std.proofs.Common.{rules, ◌≡◌, [], ◌∷◌, ◌++◌, ◌∙◌, ap}
-use Rattle.ads_plant.specs.PartTexts.{text_of_indexes}
-use Rattle.ads_plant.specs.Spelling.{integer_text}
+use Rattle.spec_plant.specs.PartTexts.{text_of_indexes}
+use Rattle.spec_plant.specs.Spelling.{integer_text}
 use Rattle.symbol_table.proofs.SpelledTexts.{row_text}
 use Rattle.symbol_table.proofs.spelled.append_row.Goals as goal
 

@@ -1,6 +1,6 @@
 -- The last symbol that begins by the byte is of the area, or none is.
 use Rattle.std.proofs.Common.{◌+◌, ◌-◌, ◌<◌, ◌≤◌, length, get_or, sym, ◌∙◌, arith}
-use Rattle.ads_plant.proofs.TypeLemmas.{list_all-get}
+use Rattle.spec_plant.proofs.TypeLemmas.{list_all-get}
 use Rattle.type_layout.specs.Descriptions.{area_of}
 use Rattle.symbol_table.specs.Rows.{symbol_of_row, symbols_of_rows}
 use Rattle.symbol_table.specs.Tiling.{ends_by}

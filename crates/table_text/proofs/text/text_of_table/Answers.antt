@@ -3,7 +3,7 @@ use Rattle.std.specs.Prelude.{string_bytes}
 use Rattle.std.specs.Str.{IsUtf8}
 use Rattle.core.proofs.str.Laws.{IsUtf8-had}
 use Rattle.toml.specs.View.{table_view}
-use Rattle.ads_rules.specs.TextVerdict.{document_of}
+use Rattle.spec_rules.specs.TextVerdict.{document_of}
 use Rattle.table_text.proofs.TextLemmas.{printed_is}
 use Rattle.table_text.proofs.PlainLemmas.{valid_table, document_of-some}
 use Rattle.table_text.proofs.text.text_of_table.Goals as goal

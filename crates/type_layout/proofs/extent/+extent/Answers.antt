@@ -1,10 +1,10 @@
 -- Each member is sized and names earlier types, so the recursion falls and all numbers fit; what is left of the members goes on from where they end.
 use Rattle.std.proofs.Common.{rules, ◌≡◌, ◌≤◌, map, arith, refl, ◌∙◌}
-use Rattle.ads_plant.specs.Sizes.{type_size, type_align, member_start}
-use Rattle.ads_plant.specs.Trees.{trees_of, tree_of, member_trees}
-use Rattle.ads_plant.specs.AcceptedTypes.{LIMIT, elem_within}
-use Rattle.ads_plant.proofs.SizeLemmas.{greatest_align-bounds}
-use Rattle.ads_plant.proofs.TypeLemmas.{rank}
+use Rattle.spec_plant.specs.Sizes.{type_size, type_align, member_start}
+use Rattle.spec_plant.specs.Trees.{trees_of, tree_of, member_trees}
+use Rattle.spec_plant.specs.AcceptedTypes.{LIMIT, elem_within}
+use Rattle.spec_plant.proofs.SizeLemmas.{greatest_align-bounds}
+use Rattle.spec_plant.proofs.TypeLemmas.{rank}
 use Rattle.type_layout.specs.Shapes.{shape_of, shape_of_ref}
 use Rattle.type_layout.specs.NamedTypes.{types_of, member_of}
 use Rattle.type_layout.proofs.MemberTurns.{member_start-align}

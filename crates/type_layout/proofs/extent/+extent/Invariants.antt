@@ -1,9 +1,9 @@
 -- The recursion falls by the places of named types; the loop keeps where the members end and their greatest alignment.
 use Rattle.std.proofs.Common.{◌≡◌, ◌+◌, ◌*◌, ◌<◌, max, map, drop}
-use Rattle.ads_plant.specs.Trees.{trees_of, member_trees}
-use Rattle.ads_plant.specs.Sizes.{members_end, greatest_align}
-use Rattle.ads_plant.specs.AcceptedTypes.{elem_within}
-use Rattle.ads_plant.proofs.TypeLemmas.{rank}
+use Rattle.spec_plant.specs.Trees.{trees_of, member_trees}
+use Rattle.spec_plant.specs.Sizes.{members_end, greatest_align}
+use Rattle.spec_plant.specs.AcceptedTypes.{elem_within}
+use Rattle.spec_plant.proofs.TypeLemmas.{rank}
 use Rattle.type_layout.specs.Shapes.{elem_of, shape_of_ref}
 use Rattle.type_layout.specs.NamedTypes.{types_of, member_of}
 use Rattle.type_layout.proofs.extent.+extent.Given as goal

@@ -1,9 +1,9 @@
 -- The tree at the place is that of the enumeration which stands there.
 use Rattle.std.proofs.Common.{◌<◌, length}
 use Rattle.std.proofs.lemmas.List.{length-map}
-use Rattle.ads_plant.specs.Sizes.{type_size, type_align}
-use Rattle.ads_plant.specs.Listed.{is_enumeration}
-use Rattle.ads_plant.proofs.TypeLemmas.{at-below}
+use Rattle.spec_plant.specs.Sizes.{type_size, type_align}
+use Rattle.spec_plant.specs.Listed.{is_enumeration}
+use Rattle.spec_plant.proofs.TypeLemmas.{at-below}
 use Rattle.type_layout.specs.NamedTypes.{types_of}
 use Rattle.type_layout.proofs.Places.{enumeration_at}
 use Rattle.type_layout.proofs.extent.enum_extent.Goals as goal

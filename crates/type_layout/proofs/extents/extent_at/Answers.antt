@@ -2,7 +2,7 @@
 use Rattle.std.proofs.Common.{◌≡◌, true, false, ◌∙◌, ap}
 use Rattle.std.specs.Prelude.{Some}
 use Rattle.std.specs.Option.{option_map_or}
-use Rattle.ads_plant.specs.Listed.{is_structure, is_enumeration}
+use Rattle.spec_plant.specs.Listed.{is_structure, is_enumeration}
 use Rattle.type_layout.specs.NamedTypes.{types_of, named_type_of}
 use Rattle.type_layout.proofs.Places.{read_at}
 use Rattle.type_layout.proofs.extents.extent_at.Goals as goal

@@ -2,9 +2,9 @@
 use Rattle.std.proofs.Common.{ℕ, List, ◌≡◌, ◌≤◌, ◌++◌, ◌∷◌, [], ◌+◌, arith, refl, ◌∙◌, ap, sym, append_assoc, append-nil}
 use Rattle.std.specs.Prelude.{codes}
 use Rattle.name_paths.specs.Identifier.{lower}
-use Rattle.ads_plant.specs.Trees.{tree_of, tree_at, trees_of}
-use Rattle.ads_plant.specs.AcceptedTypes.{elem_within}
-use Rattle.ads_plant.proofs.TypeLemmas.{rank}
+use Rattle.spec_plant.specs.Trees.{tree_of, tree_at, trees_of}
+use Rattle.spec_plant.specs.AcceptedTypes.{elem_within}
+use Rattle.spec_plant.proofs.TypeLemmas.{rank}
 use Rattle.type_layout.specs.Forms.{form_of, members_form}
 use Rattle.type_layout.specs.Shapes.{shape_of, shape_of_ref}
 use Rattle.type_layout.specs.NamedTypes.{types_of}

@@ -1,7 +1,7 @@
 -- The recursion falls by the places of named types; what is written and the members that are left are all members.
 use Rattle.std.proofs.Common.{◌≡◌, ◌+◌, ◌*◌, ◌++◌}
-use Rattle.ads_plant.specs.AcceptedTypes.{elem_within}
-use Rattle.ads_plant.proofs.TypeLemmas.{rank}
+use Rattle.spec_plant.specs.AcceptedTypes.{elem_within}
+use Rattle.spec_plant.proofs.TypeLemmas.{rank}
 use Rattle.type_layout.specs.Forms.{members_form}
 use Rattle.type_layout.specs.Shapes.{elem_of, shape_of_ref}
 use Rattle.type_layout.proofs.FormTurns.{left_at}

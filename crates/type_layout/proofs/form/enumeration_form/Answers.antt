@@ -2,11 +2,11 @@
 use Rattle.std.proofs.Common.{◌≡◌, ◌<◌, ◌++◌, length, append_assoc, refl}
 use Rattle.std.specs.Prelude.{codes}
 use Rattle.name_paths.specs.Identifier.{lower}
-use Rattle.ads_plant.specs.Plain.{kind_name}
+use Rattle.spec_plant.specs.Plain.{kind_name}
 use Rattle.type_layout.specs.Shapes.{kind_of}
 use Rattle.std.proofs.lemmas.List.{length-map}
-use Rattle.ads_plant.specs.Listed.{is_enumeration}
-use Rattle.ads_plant.proofs.TypeLemmas.{at-below}
+use Rattle.spec_plant.specs.Listed.{is_enumeration}
+use Rattle.spec_plant.proofs.TypeLemmas.{at-below}
 use Rattle.type_layout.specs.Forms.{form_of}
 use Rattle.type_layout.specs.NamedTypes.{types_of}
 use Rattle.type_layout.proofs.Places.{enumeration_at}

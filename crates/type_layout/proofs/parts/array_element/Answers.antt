@@ -1,9 +1,9 @@
 -- The element's number is below their number, so it ends within the array.
 use Rattle.std.proofs.Common.{arith, refl, sym}
 use Rattle.name_paths.specs.Indexes.{numbers_of_indexes}
-use Rattle.ads_plant.specs.Trees.{elem_tree, trees_of}
-use Rattle.ads_plant.specs.Sizes.{element_count, type_size}
-use Rattle.ads_plant.proofs.PartLemmas.{element_from-lt}
+use Rattle.spec_plant.specs.Trees.{elem_tree, trees_of}
+use Rattle.spec_plant.specs.Sizes.{element_count, type_size}
+use Rattle.spec_plant.proofs.PartLemmas.{element_from-lt}
 use Rattle.type_layout.specs.Shapes.{elem_of, bounds_of}
 use Rattle.type_layout.specs.NamedTypes.{types_of}
 use Rattle.type_layout.proofs.Numbers.{is_in_array}

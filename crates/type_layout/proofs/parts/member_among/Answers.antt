@@ -1,6 +1,6 @@
 -- One element is no array.
 use Rattle.std.proofs.Common.{◌≡◌, true, refl}
-use Rattle.ads_plant.specs.AcceptedTypes.{is_elem, elem_within}
+use Rattle.spec_plant.specs.AcceptedTypes.{is_elem, elem_within}
 use Rattle.name_paths.specs.Indexes.{numbers_of_indexes}
 use Rattle.type_layout.specs.Shapes.{elem_of, shape_of_ref}
 use Rattle.type_layout.specs.NamedTypes.{types_of}

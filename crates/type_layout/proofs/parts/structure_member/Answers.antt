@@ -2,8 +2,8 @@
 use Rattle.std.proofs.Common.{rules, ◌≡◌, true, false, arith, refl, ◌∙◌}
 use Rattle.std.specs.Prelude.{bytes_eq}
 use Rattle.name_paths.specs.Identifier.{lower}
-use Rattle.ads_plant.specs.Sizes.{type_size, type_align, member_start}
-use Rattle.ads_plant.specs.Trees.{tree_of}
+use Rattle.spec_plant.specs.Sizes.{type_size, type_align, member_start}
+use Rattle.spec_plant.specs.Trees.{tree_of}
 use Rattle.type_layout.specs.Shapes.{shape_of}
 use Rattle.type_layout.specs.NamedTypes.{types_of}
 use Rattle.type_layout.proofs.MemberTurns.{member_start-align}

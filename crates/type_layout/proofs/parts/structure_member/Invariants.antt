@@ -1,8 +1,8 @@
 -- The members before this one have other names, and end where the next one is looked for.
 use Rattle.std.proofs.Common.{◌≡◌, map, drop}
-use Rattle.ads_plant.specs.Trees.{trees_of, member_trees}
-use Rattle.ads_plant.specs.Sizes.{members_end}
-use Rattle.ads_plant.specs.Parts.{member_from}
+use Rattle.spec_plant.specs.Trees.{trees_of, member_trees}
+use Rattle.spec_plant.specs.Sizes.{members_end}
+use Rattle.spec_plant.specs.Parts.{member_from}
 use Rattle.type_layout.specs.NamedTypes.{types_of, member_of}
 use Rattle.type_layout.proofs.parts.structure_member.Given as goal
 

@@ -1,8 +1,8 @@
 -- The kinds before this one have other names.
 use Rattle.std.proofs.Common.{◌≡◌, map, drop}
 use Rattle.std.specs.Prelude.{find}
-use Rattle.ads_plant.specs.Plain.{kind_name}
-use Rattle.ads_plant.specs.TypeTexts.{is_same_word}
+use Rattle.spec_plant.specs.Plain.{kind_name}
+use Rattle.spec_plant.specs.TypeTexts.{is_same_word}
 use Rattle.type_layout.specs.Shapes.{kind_of}
 use Rattle.type_layout.proofs.reading.first_named.Given as goal
 

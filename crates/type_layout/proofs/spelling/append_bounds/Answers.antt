@@ -1,7 +1,7 @@
 -- The first bound, and each further one behind a comma, are all bounds joined by commas.
 use Rattle.std.proofs.Common.{◌≡◌, ◌<◌, ◌++◌, length, get_or, map, drop, take, ◌-◌, arith, sym, ◌∙◌, ap, append_assoc}
 use Rattle.std.specs.Prelude.{flat_map, pos}
-use Rattle.ads_plant.specs.Spelling.{bound_text, joined_by_comma}
+use Rattle.spec_plant.specs.Spelling.{bound_text, joined_by_comma}
 use Rattle.type_layout.specs.Shapes.{bound_of, bounds_of}
 use Rattle.type_layout.specs.Spelled.{comma_bound}
 use Rattle.type_layout.proofs.Joined.{joined_bounds}

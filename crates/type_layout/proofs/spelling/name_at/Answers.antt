@@ -1,7 +1,7 @@
 -- The canonical text of a named type is its name.
 use Rattle.std.proofs.Common.{sym, ◌∙◌, ap}
 use Rattle.std.specs.Prelude.{Some}
-use Rattle.ads_plant.proofs.TypeLemmas.{type_text-named}
+use Rattle.spec_plant.proofs.TypeLemmas.{type_text-named}
 use Rattle.type_layout.specs.NamedTypes.{types_of, named_type_of, structure_of, enumeration_of}
 use Rattle.type_layout.proofs.Places.{read_at}
 use Rattle.type_layout.proofs.spelling.name_at.Goals as goal

@@ -1,7 +1,7 @@
 -- The text that is put is the bound's.
 use Rattle.std.proofs.Common.{◌≡◌, arith}
 use Rattle.std.proofs.lemmas.Grind.{common_steps}
-use Rattle.ads_plant.specs.Spelling.{bound_text}
+use Rattle.spec_plant.specs.Spelling.{bound_text}
 use Rattle.type_layout.specs.Shapes.{bound_of}
 use Rattle.type_layout.proofs.spelling.put_bound.Goals as goal
 

@@ -1,7 +1,7 @@
 -- The entries so far, and those that are left.
 use Rattle.std.proofs.Common.{◌≡◌, ◌+◌, drop}
 use Rattle.std.specs.Prelude.{sum_by}
-use Rattle.ads_plant.specs.Entries.{symbol_entry_length, upload_size}
+use Rattle.spec_plant.specs.Entries.{symbol_entry_length, upload_size}
 use Rattle.type_layout.specs.NamedTypes.{types_of}
 use Rattle.type_layout.specs.Descriptions.{symbol_of, symbols_of}
 use Rattle.type_layout.proofs.upload.upload_size.Given as goal

@@ -1,7 +1,7 @@
 use Rattle.std.proofs.Common.{◌≡◌, ◌+◌, ◌*◌, List, ◌++◌, length, map, ℕ, ap, sym, ◌∙◌, arith}
 use Rattle.std.proofs.lemmas.List.{length-map}
 use Rattle.std.specs.Prelude.{flat_map}
-use Rattle.ads_formats.specs.TypeUpload.{dimension_of}
+use Rattle.spec_formats.specs.TypeUpload.{dimension_of}
 use Rattle.type_layout.specs.Shapes.{bound_of, bounds_of}
 use Rattle.type_upload.specs.WrittenFields.{fields_meant, numbers, lengths, texts, bound_bytes}
 use Rattle.type_upload.proofs.Appends.{four_parts, four_groups, dimensions_meant}

@@ -1,5 +1,5 @@
 use Rattle.std.specs.Int.{w32, to_le_bytes}
-use Rattle.ads_formats.proofs.Appends.{three_parts}
+use Rattle.spec_formats.proofs.Appends.{three_parts}
 use Rattle.type_upload.proofs.fields.append_words.Goals as goal
 
 pub returns-clause-ok : goal.returns-clause-ok

@@ -1,8 +1,8 @@
 -- An array is as small as its type, so the product fits.
 use Rattle.std.proofs.Common.{rules, ◌≤◌, arith}
-use Rattle.ads_plant.specs.Sizes.{type_size, type_align}
-use Rattle.ads_plant.specs.Trees.{tree_of}
-use Rattle.ads_plant.specs.AcceptedTypes.{LIMIT}
+use Rattle.spec_plant.specs.Sizes.{type_size, type_align}
+use Rattle.spec_plant.specs.Trees.{tree_of}
+use Rattle.spec_plant.specs.AcceptedTypes.{LIMIT}
 use Rattle.type_layout.specs.Shapes.{shape_of_ref}
 use Rattle.type_layout.specs.NamedTypes.{types_of}
 use Rattle.type_upload.proofs.layouts.shape_layout.Goals as goal

@@ -1,11 +1,11 @@
 -- The member ends within the limit; what is written of it is its sub entry.
 use Rattle.std.proofs.Common.{◌≡◌, map, ap, ◌∙◌, arith}
-use Rattle.ads_plant.specs.Listed.{Shape}
-use Rattle.ads_plant.specs.Trees.{tree_of}
-use Rattle.ads_plant.specs.Sizes.{type_size, type_align}
-use Rattle.ads_plant.specs.Spelling.{type_text}
-use Rattle.ads_plant.proofs.SizeLemmas.{type_align-bounds}
-use Rattle.ads_formats.specs.TypeUpload.{dimension_of, dimensions_of}
+use Rattle.spec_plant.specs.Listed.{Shape}
+use Rattle.spec_plant.specs.Trees.{tree_of}
+use Rattle.spec_plant.specs.Sizes.{type_size, type_align}
+use Rattle.spec_plant.specs.Spelling.{type_text}
+use Rattle.spec_plant.proofs.SizeLemmas.{type_align-bounds}
+use Rattle.spec_formats.specs.TypeUpload.{dimension_of, dimensions_of}
 use Rattle.type_layout.specs.Shapes.{shape_of, shape_of_ref, bounds_of}
 use Rattle.type_layout.specs.NamedTypes.{types_of, member_of}
 use Rattle.type_upload.specs.NextMembers.{bounds_within}

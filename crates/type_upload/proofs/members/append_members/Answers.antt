@@ -2,10 +2,10 @@
 use Rattle.std.proofs.Common.{◌≤◌, ◌++◌, length, map, take, refl, ap, ◌∙◌, arith, length-append}
 use Rattle.std.proofs.lemmas.List.{length-map}
 use Rattle.ads_base.proofs.OctetsLemmas.{Extends-same, Extends-append}
-use Rattle.ads_plant.specs.Listed.{Structure}
-use Rattle.ads_plant.specs.Trees.{trees_of, member_trees}
-use Rattle.ads_plant.proofs.SizeLemmas.{greatest_align-bounds}
-use Rattle.ads_plant.proofs.TypeLemmas.{stands_at}
+use Rattle.spec_plant.specs.Listed.{Structure}
+use Rattle.spec_plant.specs.Trees.{trees_of, member_trees}
+use Rattle.spec_plant.proofs.SizeLemmas.{greatest_align-bounds}
+use Rattle.spec_plant.proofs.TypeLemmas.{stands_at}
 use Rattle.type_layout.specs.NamedTypes.{types_of, member_of}
 use Rattle.type_layout.proofs.Places.{read_at}
 use Rattle.type_layout.proofs.MemberTurns.{is_turn, drop-get}

@@ -1,8 +1,8 @@
 -- What is written, and the sub entries of the members that are left, are those of all; and so with sizes.
 use Rattle.std.proofs.Common.{◌≡◌, ◌+◌, ◌*◌, ◌<◌, ◌≤◌, ◌++◌, max, length, map, drop}
 use Rattle.ads_base.specs.Octets.{Extends}
-use Rattle.ads_plant.specs.Trees.{trees_of, member_trees}
-use Rattle.ads_plant.specs.Sizes.{members_end, greatest_align}
+use Rattle.spec_plant.specs.Trees.{trees_of, member_trees}
+use Rattle.spec_plant.specs.Sizes.{members_end, greatest_align}
 use Rattle.type_layout.specs.NamedTypes.{types_of, member_of}
 use Rattle.type_upload.specs.NextMembers.{subs_of}
 use Rattle.type_upload.proofs.members.append_members.Given as goal

@@ -1,5 +1,5 @@
 use Rattle.std.proofs.Common.{◌+◌, sym, arith, inl, inr}
-use Rattle.ads_formats.specs.TypeEntryReading.{end_of_name, end_of_type, end_of_comment}
+use Rattle.spec_formats.specs.TypeEntryReading.{end_of_name, end_of_type, end_of_comment}
 use Rattle.type_upload.proofs.TestLemmas.{refused, refused_name, refused_kind, refused_comment, test_of_fields, found_at}
 use Rattle.type_upload.proofs.places.places_in.Goals as goal
 

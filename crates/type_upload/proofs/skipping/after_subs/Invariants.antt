@@ -1,5 +1,5 @@
 use Rattle.std.proofs.Common.{◌≡◌, ◌-◌}
-use Rattle.ads_formats.specs.TypeEntryReading.{after_subs_in}
+use Rattle.spec_formats.specs.TypeEntryReading.{after_subs_in}
 use Rattle.type_upload.proofs.skipping.after_subs.Given as goal
 
 -- what stands behind those that are left stands behind all

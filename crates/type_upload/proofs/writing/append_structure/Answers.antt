@@ -1,12 +1,12 @@
 -- The fields are short; with the sub entries behind them they are the entry.
 use Rattle.std.proofs.Common.{◌≡◌, length, map, take, ap, sym, ◌∙◌, arith}
 use Rattle.std.proofs.lemmas.List.{length-map}
-use Rattle.ads_plant.specs.Listed.{Structure}
-use Rattle.ads_plant.specs.Trees.{trees_of, member_trees}
-use Rattle.ads_plant.proofs.TypeLemmas.{stands_at}
+use Rattle.spec_plant.specs.Listed.{Structure}
+use Rattle.spec_plant.specs.Trees.{trees_of, member_trees}
+use Rattle.spec_plant.proofs.TypeLemmas.{stands_at}
 use Rattle.type_layout.specs.NamedTypes.{types_of, member_of}
 use Rattle.type_upload.specs.NextMembers.{subs_of}
-use Rattle.ads_plant.proofs.TextLengths.{short_type_name}
+use Rattle.spec_plant.proofs.TextLengths.{short_type_name}
 use Rattle.type_upload.proofs.MemberLemmas.{few_members, length-members_fields}
 use Rattle.type_upload.proofs.EntryLemmas.{structure_written}
 use Rattle.type_upload.proofs.writing.append_structure.Goals as goal

@@ -1,8 +1,8 @@
 -- An accepted type has a short name.
 use Rattle.std.proofs.Common.{length}
-use Rattle.ads_plant.proofs.TypeLemmas.{stands_at}
+use Rattle.spec_plant.proofs.TypeLemmas.{stands_at}
 use Rattle.type_layout.specs.NamedTypes.{types_of, enumeration_of}
-use Rattle.ads_plant.proofs.TextLengths.{short_type_name}
+use Rattle.spec_plant.proofs.TextLengths.{short_type_name}
 use Rattle.type_upload.proofs.writing.append_type.Goals as goal
 
 pub append_enumeration-requires-clause-short : goal.append_enumeration-requires-clause-short

@@ -3,8 +3,8 @@ use Rattle.std.proofs.Common.{◌≡◌, ◌≤◌, [], ◌∷◌, length, ap, a
 use Rattle.std.specs.Prelude.{Some, slice_get}
 use Rattle.std.proofs.lemmas.List.{length-map}
 use Rattle.std.proofs.lemmas.Option.{slice_get_within}
-use Rattle.ads_plant.specs.Trees.{named_tree, trees_of}
-use Rattle.ads_plant.proofs.TypeLemmas.{stands_at}
+use Rattle.spec_plant.specs.Trees.{named_tree, trees_of}
+use Rattle.spec_plant.proofs.TypeLemmas.{stands_at}
 use Rattle.type_layout.specs.NamedTypes.{types_of, named_type_of}
 use Rattle.type_layout.proofs.Places.{read_at}
 use Rattle.type_upload.proofs.LayoutLemmas.{AreKnown-push}

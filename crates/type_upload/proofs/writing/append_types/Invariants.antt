@@ -1,7 +1,7 @@
 -- The entries of the types before this one are written, and their layouts are known.
 use Rattle.std.proofs.Common.{◌≡◌, ◌++◌, length, take}
 use Rattle.std.specs.Prelude.{flat_map}
-use Rattle.ads_plant.specs.Trees.{trees_of}
+use Rattle.spec_plant.specs.Trees.{trees_of}
 use Rattle.type_layout.specs.NamedTypes.{types_of}
 use Rattle.type_upload.specs.Layouts.{AreKnown}
 use Rattle.type_upload.specs.NextMembers.{tree_bytes}

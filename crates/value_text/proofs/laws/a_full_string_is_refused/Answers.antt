@@ -1,5 +1,5 @@
 use Rattle.std.proofs.Common.{length}
-use Rattle.ads_formats.specs.ValueText.{form_of}
+use Rattle.spec_formats.specs.ValueText.{form_of}
 use Rattle.value_text.proofs.LawLemmas.{is_refused}
 use Rattle.value_text.proofs.laws.a_full_string_is_refused.Goals as goal
 

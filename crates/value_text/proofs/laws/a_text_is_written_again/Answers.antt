@@ -1,5 +1,5 @@
 use Rattle.std.proofs.Common.{ap, ◌∙◌}
-use Rattle.ads_formats.specs.ValueText.{form_of, text_of}
+use Rattle.spec_formats.specs.ValueText.{form_of, text_of}
 use Rattle.value_text.proofs.LawLemmas.{is_written_again}
 use Rattle.value_text.proofs.laws.a_text_is_written_again.Goals as goal
 

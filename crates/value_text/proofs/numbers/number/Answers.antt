@@ -1,7 +1,7 @@
 use Rattle.std.proofs.Common.{◌≡◌, length, sym, ap, ◌∙◌, arith}
 use Rattle.std.specs.Int.{w64, from_le_bytes}
 use Rattle.std.proofs.lemmas.List.{take_all}
-use Rattle.ads_frames.proofs.NumberLemmas.{reads_numbers}
+use Rattle.spec_frames.proofs.NumberLemmas.{reads_numbers}
 use Rattle.value_text.proofs.numbers.number.Goals as goal
 
 pub returns-in_default-clause-number : goal.returns-in_default-clause-number

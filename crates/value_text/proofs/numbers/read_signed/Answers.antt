@@ -1,6 +1,6 @@
 use Rattle.std.proofs.Common.{◌≡◌, ◌*◌, ◌^◌, length, refl, sym, ap, ◌∙◌, arith}
-use Rattle.ads_frames.specs.Number.{number_of}
-use Rattle.ads_formats.specs.ValueText.{signed_text, text_of}
+use Rattle.spec_frames.specs.Number.{number_of}
+use Rattle.spec_formats.specs.ValueText.{signed_text, text_of}
 use Rattle.value_text.proofs.NumberLemmas.{number_of-lt}
 use Rattle.value_text.proofs.numbers.read_signed.Goals as goal
 

@@ -1,5 +1,5 @@
 use Rattle.std.proofs.Common.{ap, ◌∙◌, ◌++◌, take, flat_map, arith}
-use Rattle.ads_formats.specs.ValueText.{quoted_byte}
+use Rattle.spec_formats.specs.ValueText.{quoted_byte}
 use Rattle.value_text.proofs.QuoteLemmas.{quoted-end}
 use Rattle.value_text.proofs.quotes.append_quoted.Goals as goal
 

@@ -1,5 +1,5 @@
 use Rattle.std.proofs.Common.{◌≡◌, ◌++◌, take, flat_map}
-use Rattle.ads_formats.specs.ValueText.{quoted_byte}
+use Rattle.spec_formats.specs.ValueText.{quoted_byte}
 use Rattle.value_text.proofs.quotes.append_quoted.Given as goal
 
 -- the bytes before this one are written

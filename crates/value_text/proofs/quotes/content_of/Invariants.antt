@@ -1,5 +1,5 @@
 use Rattle.std.proofs.Common.{◌≡◌, ◌++◌, take, drop}
-use Rattle.ads_formats.specs.ValueText.{before_nul}
+use Rattle.spec_formats.specs.ValueText.{before_nul}
 use Rattle.value_text.proofs.quotes.content_of.Given as goal
 
 -- no byte so far is a NUL

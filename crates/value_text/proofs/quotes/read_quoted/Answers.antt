@@ -1,5 +1,5 @@
 use Rattle.std.proofs.Common.{ℕ, List, length, refl, sym, ap, ◌∙◌, subst, arith}
-use Rattle.ads_frames.specs.Number.{AreBytes}
+use Rattle.spec_frames.specs.Number.{AreBytes}
 use Rattle.value_text.proofs.QuoteLemmas.{are_bytes-front, quoted-same}
 use Rattle.value_text.proofs.quotes.read_quoted.Goals as goal
 

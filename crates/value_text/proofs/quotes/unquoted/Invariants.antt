@@ -1,5 +1,5 @@
 use Rattle.std.proofs.Common.{◌≡◌, ◌++◌, ◌∷◌, length, flat_map}
-use Rattle.ads_formats.specs.ValueText.{quoted_byte, IsNulFree}
+use Rattle.spec_formats.specs.ValueText.{quoted_byte, IsNulFree}
 use Rattle.value_text.proofs.quotes.unquoted.Given as goal
 
 -- the text is the bytes so far and what is left, and no byte is a NUL

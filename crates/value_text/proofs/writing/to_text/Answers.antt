@@ -1,4 +1,4 @@
-use Rattle.ads_formats.specs.ValueText.{text_of}
+use Rattle.spec_formats.specs.ValueText.{text_of}
 use Rattle.value_text.proofs.writing.to_text.Goals as goal
 
 pub returns-in-Truth-clause-ok : goal.returns-in-Truth-clause-ok

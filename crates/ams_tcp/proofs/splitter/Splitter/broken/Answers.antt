@@ -1,5 +1,5 @@
 use Rattle.std.proofs.Common.{take, sym, ap, ◌∙◌}
-use Rattle.ads_frames.specs.Division.{front_of}
+use Rattle.spec_frames.specs.Division.{front_of}
 use Rattle.ams_tcp.specs.Held.{Held}
 use Rattle.ams_tcp.proofs.HistoryLemmas.{told_bytes}
 use Rattle.ams_tcp.proofs.splitter.Splitter.broken.Goals as goal

@@ -1,7 +1,7 @@
 use Rattle.std.proofs.Common.{◌≡◌, ◌++◌, List, ℕ, length, drop, ap, ◌∙◌, arith}
 use Rattle.std.proofs.lemmas.List.{drop-append-le, length-append}
-use Rattle.ads_frames.specs.Division.{front_of}
-use Rattle.ads_frames.proofs.FrontLemmas.{front_of-append_broken}
+use Rattle.spec_frames.specs.Division.{front_of}
+use Rattle.spec_frames.proofs.FrontLemmas.{front_of-append_broken}
 use Rattle.ams_tcp.specs.Held.{Held}
 use Rattle.ams_tcp.proofs.HistoryLemmas.{fed_more}
 use Rattle.ams_tcp.proofs.splitter.Splitter.feed.Goals as goal

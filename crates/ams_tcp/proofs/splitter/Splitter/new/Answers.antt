@@ -1,5 +1,5 @@
 use Rattle.std.proofs.Common.{refl, arith}
-use Rattle.ads_frames.specs.Division.{left_behind}
+use Rattle.spec_frames.specs.Division.{left_behind}
 use Rattle.ams_tcp.proofs.splitter.Splitter.new.Goals as goal
 
 pub returns-clause-nothing : goal.returns-clause-nothing

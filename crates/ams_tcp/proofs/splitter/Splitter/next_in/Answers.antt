@@ -1,6 +1,6 @@
 use Rattle.std.proofs.Common.{[], ◌≡◌, ◌+◌, drop, sym, ap, ◌∙◌, refl}
 use Rattle.std.proofs.lemmas.List.{drop-drop}
-use Rattle.ads_frames.specs.Division.{front_of, packet_of, ams_length_of}
+use Rattle.spec_frames.specs.Division.{front_of, packet_of, ams_length_of}
 use Rattle.ams_tcp.specs.Held.{Held}
 use Rattle.ams_tcp.specs.declared.cut.Cut.TheVariants as cut
 use Rattle.ams_tcp.proofs.HistoryLemmas.{answer_of-frame, answer_not_yet, answer_broken, given_frame, given_not_yet, given_broken, packet_is, behind_is}

@@ -1,8 +1,8 @@
 -- Ports as they are built hold the world that begins with their description, and those behind a reload the world after it.
 use Rattle.std.specs.Prelude.{[]}
 use Rattle.type_layout.specs.Descriptions.{description_of}
-use Rattle.ads_machine.specs.World.{World, world_of}
-use Rattle.ads_machine.specs.Reloads.{world_after_reload}
+use Rattle.spec_machine.specs.World.{World, world_of}
+use Rattle.spec_machine.specs.Reloads.{world_after_reload}
 use Rattle.cases.proofs.calls.ports.moves.Goals as goal
 
 pub moves-requires-clause-old : goal.moves-requires-clause-old

@@ -1,5 +1,5 @@
 use Rattle.std.proofs.Common.{map, ap, true, ◌≡◌}
-use Rattle.ads_client.specs.Laws.{goes_on}
+use Rattle.spec_client.specs.Laws.{goes_on}
 use Rattle.client_core.specs.Heard.{heard_meant}
 use Rattle.client_replies.specs.Stages.{stage_kept, output_kept}
 use Rattle.client_calls.proofs.StandingLemmas.{kept, waiting_inside, broken_inside, going_inside, goes_by}

@@ -1,5 +1,5 @@
 use Rattle.std.proofs.Common.{◌≡◌, map, ap, ◌∙◌}
-use Rattle.ads_client.specs.Stages as stages
+use Rattle.spec_client.specs.Stages as stages
 use Rattle.ams_header.specs.Header.{address_of}
 use Rattle.client_replies.specs.Stages.{call_meant, stage_kept, output_kept}
 use Rattle.client_calls.proofs.StandingLemmas.{kept, stands_new}

@@ -1,5 +1,5 @@
 use Rattle.std.proofs.Common.{refl, ◌∙◌, ap, sym, subst, arith, ◌<◌, ◌≡◌, ◌≤◌}
-use Rattle.ads_client.specs.Unanswered.{outstanding_count}
+use Rattle.spec_client.specs.Unanswered.{outstanding_count}
 use Rattle.ads_commands.specs.Request.{request_meant}
 use Rattle.client_core.proofs.IssueLemmas.{refused, issued_is, issued_stands, counted, counted_few, refused_still, counted_old, next_of, put_of}
 use Rattle.client_core.proofs.client.Client.issue.Goals as goal

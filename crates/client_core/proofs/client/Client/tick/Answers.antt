@@ -1,6 +1,6 @@
 use Rattle.std.proofs.Common.{◌∙◌, ap}
 use Rattle.std.specs.Prelude.{map}
-use Rattle.ads_client.specs.Unanswered.{after_tick_of}
+use Rattle.spec_client.specs.Unanswered.{after_tick_of}
 use Rattle.client_core.proofs.HistoryLemmas.{ticked_all, written}
 use Rattle.client_core.proofs.client.Client.tick.Goals as goal
 

@@ -1,5 +1,5 @@
 use Rattle.std.proofs.Common.{◌≤◌, refl, sym, ap, ◌∙◌, subst, arith}
-use Rattle.ads_local.specs.LocalCall.{LAST_MOMENT, next_tick}
+use Rattle.spec_local.specs.LocalCall.{LAST_MOMENT, next_tick}
 use Rattle.local_link.proofs.Gives.{bytes_at_once, closed_at_once, bytes_later, nothing_later}
 use Rattle.local_link.proofs.local.LocalLink.give.Goals as goal
 

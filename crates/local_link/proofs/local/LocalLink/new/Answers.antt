@@ -1,6 +1,6 @@
 use Rattle.std.proofs.Common.{sym, ap, ◌∙◌}
 use Rattle.ads_outside.specs.LinkState.{LinkHistory}
-use Rattle.ads_local.specs.LinkLog.{IsLogOf, machine_after_log}
+use Rattle.spec_local.specs.LinkLog.{IsLogOf, machine_after_log}
 use Rattle.local_link.proofs.local.LocalLink.new.Goals as goal
 
 pub returns-clause-told : goal.returns-clause-told

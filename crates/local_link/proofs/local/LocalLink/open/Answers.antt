@@ -1,6 +1,6 @@
 use Rattle.std.proofs.Common.{sym, ap, ◌∙◌, subst}
 use Rattle.ads_outside.specs.LinkState.{LinkHistory}
-use Rattle.ads_local.specs.LinkLog.{machine_after_link_move}
+use Rattle.spec_local.specs.LinkLog.{machine_after_link_move}
 use Rattle.local_link.specs.Link.{LocalView, unblocked, StandsFor}
 use Rattle.local_link.proofs.Removed.{opens_anew}
 use Rattle.local_link.proofs.Moves.{opened_moment}

@@ -1,7 +1,7 @@
 use Rattle.std.proofs.Common.{sym, ap, ◌∙◌, subst}
 use Rattle.ads_outside.specs.declared.event.Event.TheVariants as event
-use Rattle.ads_machine.specs.Moves.{state_after_move}
-use Rattle.ads_local.specs.LinkLog.{machine_after_link_move}
+use Rattle.spec_machine.specs.Moves.{state_after_move}
+use Rattle.spec_local.specs.LinkLog.{machine_after_link_move}
 use Rattle.server_core.specs.CoreState.{after_event}
 use Rattle.server_core.specs.Serves.{Serves}
 use Rattle.local_link.specs.Link.{LocalView, unblocked, StandsFor}

@@ -1,7 +1,7 @@
 -- A route is added at the end where its NetId has none; else nothing changes.
 use Rattle.std.proofs.Common.{◌≡◌, [], ◌∷◌, ◌++◌, true, false, map, refl, sym, ◌∙◌, ap}
 use Rattle.std.specs.Prelude.{None, is_some}
-use Rattle.ads_plant.specs.Rights.{rights_of}
+use Rattle.spec_plant.specs.Rights.{rights_of}
 use Rattle.type_layout.specs.Descriptions as seen
 use Rattle.net_routes.specs.Shown.{shown}
 use Rattle.net_routes.proofs.RouteLemmas.{rights_of-there, inserted, is_some-option_map, option_map-none}

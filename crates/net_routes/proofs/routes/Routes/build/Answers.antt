@@ -1,7 +1,7 @@
 -- A further route, after routes with the same rights.
 use Rattle.std.proofs.Common.{[], take, get_or, sym, ◌∙◌, ap}
 use Rattle.std.proofs.lemmas.List.{map_more}
-use Rattle.ads_plant.specs.Rights.{rights_of}
+use Rattle.spec_plant.specs.Rights.{rights_of}
 use Rattle.type_layout.specs.Descriptions.{routes_of, route_of}
 use Rattle.type_layout.specs.declared.description.Rights.TheVariants.{Read}
 use Rattle.net_routes.proofs.RouteLemmas.{rights_of-more}

@@ -1,6 +1,6 @@
 -- The rights so far are those of the routes so far.
 use Rattle.std.proofs.Common.{◌≡◌, ℕ, List, take}
-use Rattle.ads_plant.specs.Rights.{rights_of}
+use Rattle.spec_plant.specs.Rights.{rights_of}
 use Rattle.type_layout.specs.Descriptions.{routes_of}
 use Rattle.net_routes.proofs.routes.Routes.build.Given as goal
 

@@ -1,7 +1,7 @@
 -- The map's look-up is that of the routes.
 use Rattle.std.proofs.Common.{◌∙◌, ap, map}
 use Rattle.std.specs.Prelude.{option_map}
-use Rattle.ads_plant.specs.Rights.{rights_of}
+use Rattle.spec_plant.specs.Rights.{rights_of}
 use Rattle.type_layout.specs.Descriptions as seen
 use Rattle.net_routes.specs.Shown.{shown}
 use Rattle.net_routes.proofs.RouteLemmas.{rights_of-shown}

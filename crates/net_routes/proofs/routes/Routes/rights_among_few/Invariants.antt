@@ -1,6 +1,6 @@
 -- The routes that are left have the rights that all have.
 use Rattle.std.proofs.Common.{◌≡◌, drop}
-use Rattle.ads_plant.specs.Rights.{rights_of}
+use Rattle.spec_plant.specs.Rights.{rights_of}
 use Rattle.net_routes.proofs.routes.Routes.rights_among_few.Given as goal
 
 abbrev pub invariant-loop-i : goal.invariant-loop-i

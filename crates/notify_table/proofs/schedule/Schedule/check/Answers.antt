@@ -4,7 +4,7 @@ use Rattle.std.proofs.lemmas.List.Edits.{length-remove}
 use Rattle.notify_table.proofs.ScheduleLemmas.{others_in_turn, changed_scheduled, changed_watches, within_turns, nth_is}
 use Rattle.notify_table.proofs.ScheduleLemmas.{Keeps-checked, keeps_of}
 use Rattle.slab.specs.Slab.{get}
-use Rattle.ads_machine.specs.Watches.{after_check}
+use Rattle.spec_machine.specs.Watches.{after_check}
 use Rattle.notify_table.specs.Schedules.{watch_at}
 use Rattle.notify_table.proofs.schedule.Schedule.check.Goals as goal
 

@@ -1,7 +1,7 @@
 use Rattle.std.proofs.Common.{◌≡◌, refl, sym, ap, Some, option_map}
 use Rattle.std.specs.List.{remove}
-use Rattle.ads_formats.specs.Ranges.{Range}
-use Rattle.ads_machine.specs.Watches.{Watch, watch_after_reload}
+use Rattle.spec_formats.specs.Ranges.{Range}
+use Rattle.spec_machine.specs.Watches.{Watch, watch_after_reload}
 use Rattle.index_groups.specs.Access.{range_meant}
 use Rattle.notify_table.specs.Reloads.{range_after}
 use Rattle.notify_table.specs.Schedules.{watch_at}

@@ -1,6 +1,6 @@
 use Rattle.std.proofs.Common.{◌≤◌, length, sym, ◌∙◌, arith}
 use Rattle.std.proofs.lemmas.List.{take_all, drop_all, append-nil}
-use Rattle.ads_machine.specs.Watches.{watch_after_reload, watches_after_reload}
+use Rattle.spec_machine.specs.Watches.{watch_after_reload, watches_after_reload}
 use Rattle.notify_table.specs.Reloads.{range_after}
 use Rattle.notify_table.proofs.ScheduleLemmas.{settled}
 use Rattle.notify_table.proofs.schedule.Schedule.settle_all.Goals as goal

@@ -1,6 +1,6 @@
 use Rattle.std.proofs.Common.{◌≡◌, ◌-◌, ◌≤◌, ◌++◌, length, take, drop}
 use Rattle.std.specs.List.{filter_map}
-use Rattle.ads_machine.specs.Watches.{watch_after_reload}
+use Rattle.spec_machine.specs.Watches.{watch_after_reload}
 use Rattle.notify_table.specs.Reloads.{range_after}
 use Rattle.notify_table.proofs.schedule.Schedule.settle_all.Given as goal
 

@@ -1,7 +1,7 @@
 use Rattle.std.proofs.Common.{◌≡◌, refl, sym, ap, ◌∙◌, true, false}
 use Rattle.std.proofs.lemmas.Bool.{ne_eqb, eq-eqb, false≢true}
-use Rattle.ads_formats.specs.Ranges.{Range}
-use Rattle.ads_machine.specs.Watches.{Watch}
+use Rattle.spec_formats.specs.Ranges.{Range}
+use Rattle.spec_machine.specs.Watches.{Watch}
 use Rattle.notify_table.specs.Table.{is_live}
 use Rattle.notify_table.proofs.TableLemmas.{found, missing_live, found_live, removed_granted, removed_table}
 use Rattle.notify_table.proofs.watches.Watches.delete.Goals as goal

@@ -2,8 +2,8 @@ use Rattle.std.proofs.Common.{◌≡◌, List, sym, ap, ◌∙◌, subst, map, S
 use Rattle.std.specs.List.{All, filter}
 use Rattle.std.proofs.lemmas.List.Elements.{All-filter}
 use Rattle.std.proofs.lemmas.List.Sorted.{IsNonDecreasingBy-from_sort}
-use Rattle.ads_formats.specs.Ranges.{Range}
-use Rattle.ads_machine.specs.Watches.{Watch, ended_watches}
+use Rattle.spec_formats.specs.Ranges.{Range}
+use Rattle.spec_machine.specs.Watches.{Watch, ended_watches}
 use Rattle.notify_table.specs.Table.{handle_of, watch_of_handle}
 use Rattle.notify_table.specs.Reloads.{EndedWatch, is_ended, end_of, ended_meant, range_after}
 use Rattle.notify_table.specs.Numbered.{by_number, table_from, IsLive, end_of_handle}

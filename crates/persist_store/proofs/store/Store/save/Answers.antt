@@ -1,8 +1,8 @@
 -- Where the disk tells its file, a stop leaves the body before or the new one; and a save that is done leaves a store for the next one.
 use Rattle.std.proofs.Common.{◌≡◌, ℕ, List, false, sym, ◌∙◌, ap}
 use Rattle.std.specs.Prelude.{Option, Some, option_map}
-use Rattle.ads_store_file.specs.Disk.{Only}
-use Rattle.ads_store_file.specs.Slots.{Standing, standing_of}
+use Rattle.spec_store.specs.Disk.{Only}
+use Rattle.spec_store.specs.Slots.{Standing, standing_of}
 use Rattle.persist_store.specs.Slots.{standing_kept}
 use Rattle.persist_store.specs.Store.{StoreState}
 use Rattle.persist_store.proofs.StepLemmas.{ready_after}

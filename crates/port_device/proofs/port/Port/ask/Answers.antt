@@ -1,8 +1,8 @@
 use Rattle.std.proofs.Common.{sym, ◌∙◌}
 use Rattle.std.specs.Prelude.{Some}
 use Rattle.return_codes.specs.declared.code.Code.TheVariants.{C702}
-use Rattle.ads_formats.specs.Groups.{group_of, ValueByName, InfoByName, ExtendedInfoByName}
-use Rattle.ads_machine.specs.ByName.{read_write_group}
+use Rattle.spec_formats.specs.Groups.{group_of, ValueByName, InfoByName, ExtendedInfoByName}
+use Rattle.spec_machine.specs.ByName.{read_write_group}
 use Rattle.port_device.specs.Groups.{without_handles}
 use Rattle.port_device.proofs.AskLemmas.{asked_as, asked_value, asked_info, asked_entry, asked_otherwise}
 use Rattle.port_device.proofs.ReadLemmas.{refusal_answers}

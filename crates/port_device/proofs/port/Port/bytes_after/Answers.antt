@@ -1,7 +1,7 @@
 use Rattle.std.proofs.Common.{◌≡◌, ◌+◌, ◌≤◌, length, true, false, sym, ◌∙◌, ap, subst}
-use Rattle.ads_plant.specs.Description.{size_in}
-use Rattle.ads_plant.specs.Description as plant
-use Rattle.ads_machine.specs.PortBytes.{image_bytes}
+use Rattle.spec_plant.specs.Description.{size_in}
+use Rattle.spec_plant.specs.Description as plant
+use Rattle.spec_machine.specs.PortBytes.{image_bytes}
 use Rattle.type_layout.specs.Descriptions.{area_of}
 use Rattle.symbol_table.specs.Tables.{IsTableWith}
 use Rattle.symbol_table.specs.Rows.{symbol_of_row}

@@ -1,5 +1,5 @@
 use Rattle.std.proofs.Common.{sym, ◌∙◌, ap, subst}
-use Rattle.ads_machine.specs.Writes.{may_control}
+use Rattle.spec_machine.specs.Writes.{may_control}
 use Rattle.return_codes.specs.declared.code.Code.TheVariants.{C704, C706}
 use Rattle.port_device.specs.Holds.{HoldsPort}
 use Rattle.port_device.specs.PortMemory.{PortMemory}

@@ -1,8 +1,8 @@
 use Rattle.std.proofs.Common.{sym, ◌∙◌, ap}
 use Rattle.std.specs.Prelude.{Some}
 use Rattle.name_paths.specs.Path.{steps_of}
-use Rattle.ads_formats.specs.Groups.{ExtendedInfoByName}
-use Rattle.ads_machine.specs.ByName.{read_write_group}
+use Rattle.spec_formats.specs.Groups.{ExtendedInfoByName}
+use Rattle.spec_machine.specs.ByName.{read_write_group}
 use Rattle.port_device.specs.Answers.{path_entry_act}
 use Rattle.port_device.proofs.AskLemmas.{entry_asked, entry_unknown}
 use Rattle.port_device.proofs.ReadLemmas.{reads_as}

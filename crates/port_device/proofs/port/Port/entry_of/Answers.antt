@@ -1,6 +1,6 @@
 use Rattle.std.proofs.Common.{◌≡◌, ◌+◌, ◌≤◌, true, false, sym, ◌∙◌, ap, subst}
 use Rattle.std.specs.Prelude.{Option, Some, None}
-use Rattle.ads_machine.specs.NumberedPlaces.{KeptSymbol}
+use Rattle.spec_machine.specs.NumberedPlaces.{KeptSymbol}
 use Rattle.symbol_table.specs.Tables.{IsTableWith, number_called}
 use Rattle.symbol_table.specs.Rows.{symbol_of_row}
 use Rattle.port_device.specs.KeptSymbols.{kept_symbol_of}

@@ -1,9 +1,9 @@
 use Rattle.std.proofs.Common.{map, sym, ap, subst}
 use Rattle.std.specs.Prelude.{Some, IfOk}
-use Rattle.ads_plant.specs.Description.{Port}
-use Rattle.ads_plant.specs.Finding.{found_of_steps}
-use Rattle.ads_plant.specs.World.{PlantPort, plant_symbol}
-use Rattle.ads_machine.specs.World.{World}
+use Rattle.spec_plant.specs.Description.{Port}
+use Rattle.spec_plant.specs.Finding.{found_of_steps}
+use Rattle.spec_plant.specs.World.{PlantPort, plant_symbol}
+use Rattle.spec_machine.specs.World.{World}
 use Rattle.symbol_table.specs.FoundPlaces.{Finds}
 use Rattle.symbol_table.specs.Tables.{IsTableOf}
 use Rattle.type_layout.specs.NamedTypes.{types_of}

@@ -1,10 +1,10 @@
 use Rattle.std.proofs.Common.{List, map, sym, ◌∙◌, ap, subst}
 use Rattle.std.specs.Prelude.{Option, None}
 use Rattle.name_paths.specs.Path.{steps_of}
-use Rattle.ads_plant.specs.Listed.{NamedType}
-use Rattle.ads_plant.specs.Finding as plant
-use Rattle.ads_plant.specs.Finding.{found_of}
-use Rattle.ads_plant.specs.World.{plant_symbol}
+use Rattle.spec_plant.specs.Listed.{NamedType}
+use Rattle.spec_plant.specs.Finding as plant
+use Rattle.spec_plant.specs.Finding.{found_of}
+use Rattle.spec_plant.specs.World.{plant_symbol}
 use Rattle.type_layout.specs.NamedTypes.{types_of}
 use Rattle.symbol_table.specs.FoundPlaces.{Finds}
 use Rattle.symbol_table.specs.Tables.{IsTableOf}

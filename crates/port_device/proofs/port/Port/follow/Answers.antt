@@ -1,7 +1,7 @@
 use Rattle.std.proofs.Common.{◌≡◌, ◌+◌, ◌≤◌, sym, ◌∙◌, ap, subst, arith}
-use Rattle.ads_plant.specs.Description as plant
-use Rattle.ads_plant.specs.Description.{size_in}
-use Rattle.ads_plant.specs.Accepted.{image_size}
+use Rattle.spec_plant.specs.Description as plant
+use Rattle.spec_plant.specs.Description.{size_in}
+use Rattle.spec_plant.specs.Accepted.{image_size}
 use Rattle.type_layout.specs.Descriptions.{sizes_of, area_of}
 use Rattle.port_device.specs.PortMemory.{PortMemory}
 use Rattle.port_device.specs.Signals.{bound_at, port_after_step}

@@ -1,7 +1,7 @@
 use Rattle.std.proofs.Common.{refl, arith}
 use Rattle.std.specs.Prelude.{Some, None, nat_lt}
 use Rattle.std.proofs.lemmas.Bool.{lt-ltb, ltb-true}
-use Rattle.ads_plant.specs.Finding.{found_of}
+use Rattle.spec_plant.specs.Finding.{found_of}
 use Rattle.port_device.proofs.AskLemmas.{info_short, info_unknown, info_found}
 use Rattle.port_device.proofs.GroupLemmas.{is_false}
 use Rattle.port_device.proofs.NameLemmas.{finds_at_port}

@@ -1,6 +1,6 @@
 use Rattle.std.proofs.Common.{◌≡◌, ℕ, List, map, sym, ◌∙◌, ap, subst}
 use Rattle.std.specs.Prelude.{All}
-use Rattle.ads_plant.specs.Description as plant
+use Rattle.spec_plant.specs.Description as plant
 use Rattle.type_layout.specs.Descriptions.{sizes_of}
 use Rattle.symbol_table.specs.Tables.{TableSymbol, IsTableWith}
 use Rattle.port_device.specs.PlacedBytes.{PlacedBytes, placed_symbol, with_all_bytes}

@@ -1,6 +1,6 @@
 use Rattle.std.proofs.Common.{refl, subst}
 use Rattle.std.specs.Prelude.{Some, None}
-use Rattle.ads_plant.specs.Finding.{found_of}
+use Rattle.spec_plant.specs.Finding.{found_of}
 use Rattle.port_device.specs.PortMemory.{PortMemory}
 use Rattle.symbol_table.specs.Tables.{IsTableOf}
 use Rattle.port_device.proofs.NameLemmas.{finds_place, finds_nothing, finds_at_port, place_is_placed}

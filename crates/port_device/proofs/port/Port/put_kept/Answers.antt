@@ -1,6 +1,6 @@
 use Rattle.std.proofs.Common.{◌≡◌, List, ◌++◌, sym, ◌∙◌, ap, subst}
 use Rattle.std.specs.Prelude.{All}
-use Rattle.ads_plant.specs.Listed.{NamedType}
+use Rattle.spec_plant.specs.Listed.{NamedType}
 use Rattle.symbol_table.specs.Tables.{IsTableWith}
 use Rattle.port_device.specs.KeptSymbols.{kept_symbols_of}
 use Rattle.port_device.specs.Moved.{entries_from, entries_of, HasTypes}

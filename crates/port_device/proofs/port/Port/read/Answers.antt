@@ -1,9 +1,9 @@
 use Rattle.std.proofs.Common.{sym, ◌∙◌, ap}
 use Rattle.std.specs.Prelude.{option_map}
-use Rattle.ads_formats.specs.Groups.{group_of}
-use Rattle.ads_machine.specs.World.{setup_of}
-use Rattle.ads_machine.specs.Reads.{read_group}
-use Rattle.ads_formats.specs.Ranges.{range_in}
+use Rattle.spec_formats.specs.Groups.{group_of}
+use Rattle.spec_machine.specs.World.{setup_of}
+use Rattle.spec_machine.specs.Reads.{read_group}
+use Rattle.spec_formats.specs.Ranges.{range_in}
 use Rattle.port_device.specs.Answers.{range_read_act}
 use Rattle.port_device.specs.Groups.{read_by_port, without_handles}
 use Rattle.port_device.specs.Uploads.{upload_act, upload_group}

@@ -1,9 +1,9 @@
 use Rattle.std.proofs.Common.{sym, ap, subst}
 use Rattle.std.specs.Prelude.{Ok, Err}
 use Rattle.return_codes.specs.Code.{number_of}
-use Rattle.ads_plant.specs.Description as plant
-use Rattle.ads_formats.specs.Groups.{group_of}
-use Rattle.ads_formats.specs.Ranges.{range_in}
+use Rattle.spec_plant.specs.Description as plant
+use Rattle.spec_formats.specs.Groups.{group_of}
+use Rattle.spec_formats.specs.Ranges.{range_in}
 use Rattle.index_groups.specs.Access.{IsWithin, range_meant}
 use Rattle.type_layout.specs.Descriptions.{sizes_of}
 use Rattle.port_device.specs.Answers.{range_read_act}

@@ -1,6 +1,6 @@
 use Rattle.std.proofs.Common.{◌+◌, ◌≤◌, ◌++◌, arith, ◌∙◌, ap, sym, subst}
-use Rattle.ads_plant.specs.Description.{size_in}
-use Rattle.ads_plant.specs.Description as plant
+use Rattle.spec_plant.specs.Description.{size_in}
+use Rattle.spec_plant.specs.Description as plant
 use Rattle.type_layout.specs.Descriptions.{area_of}
 use Rattle.port_device.specs.Answers.{IsPlaceOf}
 use Rattle.port_device.specs.Holds.{HoldsPort}

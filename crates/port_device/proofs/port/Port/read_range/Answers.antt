@@ -1,8 +1,8 @@
 use Rattle.std.proofs.Common.{sym, ◌∙◌, ◌∷◌, []}
-use Rattle.ads_formats.specs.Groups.{group_of}
-use Rattle.ads_formats.specs.Ranges.{range_in}
-use Rattle.ads_machine.specs.World.{setup_of}
-use Rattle.ads_machine.specs.Reads.{fixed_reply, read_group}
+use Rattle.spec_formats.specs.Groups.{group_of}
+use Rattle.spec_formats.specs.Ranges.{range_in}
+use Rattle.spec_machine.specs.World.{setup_of}
+use Rattle.spec_machine.specs.Reads.{fixed_reply, read_group}
 use Rattle.port_device.specs.Answers.{range_read_act}
 use Rattle.port_device.specs.Groups.{read_by_port}
 use Rattle.port_device.proofs.ReadLemmas.{read_by_range, read_of_version, reads_as}

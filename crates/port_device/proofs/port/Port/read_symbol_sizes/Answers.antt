@@ -1,5 +1,5 @@
 use Rattle.std.proofs.Common.{◌≤◌, [], ◌∷◌, length, refl, sym, ◌∙◌, ap, subst, arith}
-use Rattle.ads_machine.specs.Entries.{upload_info_of}
+use Rattle.spec_machine.specs.Entries.{upload_info_of}
 use Rattle.port_device.specs.Holds.{HoldsPort}
 use Rattle.port_device.specs.PortMemory.{PortMemory}
 use Rattle.port_device.specs.Ports.{memory_in}

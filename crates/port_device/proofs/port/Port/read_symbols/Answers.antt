@@ -1,5 +1,5 @@
 use Rattle.std.proofs.Common.{◌≤◌, length, sym, ◌∙◌, ap, subst, arith}
-use Rattle.ads_machine.specs.Entries.{symbol_upload_of}
+use Rattle.spec_machine.specs.Entries.{symbol_upload_of}
 use Rattle.type_layout.specs.NamedTypes.{types_of}
 use Rattle.port_device.specs.Holds.{HoldsPort}
 use Rattle.port_device.specs.PortMemory.{PortMemory}

@@ -1,5 +1,5 @@
 use Rattle.std.proofs.Common.{refl}
-use Rattle.ads_plant.specs.Finding.{found_of}
+use Rattle.spec_plant.specs.Finding.{found_of}
 use Rattle.port_device.proofs.AskLemmas.{value_passed, unknown_value}
 use Rattle.port_device.proofs.port.Port.value_by_name.Goals as goal
 

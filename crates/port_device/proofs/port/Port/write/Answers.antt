@@ -2,15 +2,15 @@ use Rattle.std.proofs.Common.{◌∷◌, [], map, ◌≡◌, ◌+◌, ◌≤◌,
 use Rattle.std.specs.Prelude.{Ok, Err}
 use Rattle.return_codes.specs.declared.code.Code.TheVariants.{C702, C704}
 use Rattle.return_codes.specs.Code.{number_of}
-use Rattle.ads_plant.specs.Description.{size_in}
-use Rattle.ads_plant.specs.Description as plant
-use Rattle.ads_formats.specs.Groups.{group_of}
-use Rattle.ads_formats.specs.Ranges.{Bytes, Bit, range_in}
-use Rattle.ads_machine.specs.Acts.{Act}
-use Rattle.ads_machine.specs.World.{name_at, names_at}
-use Rattle.ads_machine.specs.Access.{WholeByte, OneBit}
-use Rattle.ads_machine.specs.Reach.{addressed_by_range}
-use Rattle.ads_machine.specs.Writes.{may_write, write_act}
+use Rattle.spec_plant.specs.Description.{size_in}
+use Rattle.spec_plant.specs.Description as plant
+use Rattle.spec_formats.specs.Groups.{group_of}
+use Rattle.spec_formats.specs.Ranges.{Bytes, Bit, range_in}
+use Rattle.spec_machine.specs.Acts.{Act}
+use Rattle.spec_machine.specs.World.{name_at, names_at}
+use Rattle.spec_machine.specs.Access.{WholeByte, OneBit}
+use Rattle.spec_machine.specs.Reach.{addressed_by_range}
+use Rattle.spec_machine.specs.Writes.{may_write, write_act}
 use Rattle.index_groups.specs.Access.{range_meant}
 use Rattle.type_layout.specs.Descriptions.{area_of, sizes_of}
 use Rattle.port_device.specs.Endings.{EndsAs}

@@ -1,8 +1,8 @@
 use Rattle.std.proofs.Common.{List, ◌<◌, ℕ, length, sym, ◌∙◌, ap, subst}
 use Rattle.std.proofs.lemmas.Bool.{false≢true}
-use Rattle.ads_plant.specs.Description.{size_in}
-use Rattle.ads_plant.proofs.BlockLemmas.{nth-length}
-use Rattle.ads_machine.specs.WritableBytes.{MayWriteSymbolsAt}
+use Rattle.spec_plant.specs.Description.{size_in}
+use Rattle.spec_plant.proofs.BlockLemmas.{nth-length}
+use Rattle.spec_machine.specs.WritableBytes.{MayWriteSymbolsAt}
 use Rattle.type_layout.specs.Descriptions.{area_of}
 use Rattle.port_device.specs.Holds.{HoldsPort}
 use Rattle.port_device.specs.PortMemory.{PortMemory}

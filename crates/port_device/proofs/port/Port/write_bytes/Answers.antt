@@ -1,7 +1,7 @@
 use Rattle.std.proofs.Common.{List, ◌+◌, ◌≤◌, ℕ, length, sym, ◌∙◌, subst}
 use Rattle.std.proofs.lemmas.Bool.{false≢true}
-use Rattle.ads_plant.specs.Description.{size_in}
-use Rattle.ads_machine.specs.WritableBytes.{MayWriteSymbolsAt}
+use Rattle.spec_plant.specs.Description.{size_in}
+use Rattle.spec_machine.specs.WritableBytes.{MayWriteSymbolsAt}
 use Rattle.type_layout.specs.Descriptions.{area_of}
 use Rattle.port_device.specs.Holds.{HoldsPort}
 use Rattle.port_device.specs.PortMemory.{PortMemory}

@@ -1,9 +1,9 @@
 use Rattle.std.proofs.Common.{◌+◌, ◌≤◌, length, sym, ◌∙◌, ap, subst, arith}
 use Rattle.std.proofs.lemmas.Bool.{lt-ltb}
 use Rattle.return_codes.specs.declared.code.Code.TheVariants.{C704, C705}
-use Rattle.ads_plant.specs.Description.{size_in}
-use Rattle.ads_machine.specs.Acts.{Act}
-use Rattle.ads_machine.specs.Writes.{may_write}
+use Rattle.spec_plant.specs.Description.{size_in}
+use Rattle.spec_machine.specs.Acts.{Act}
+use Rattle.spec_machine.specs.Writes.{may_write}
 use Rattle.type_layout.specs.Descriptions.{area_of}
 use Rattle.port_device.specs.Answers.{IsPlaceOf}
 use Rattle.port_device.specs.Endings.{EndsAs}

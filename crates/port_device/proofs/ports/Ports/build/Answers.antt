@@ -1,7 +1,7 @@
 use Rattle.std.proofs.Common.{List, sym, ◌∙◌, ap, subst}
 use Rattle.std.specs.Prelude.{All}
 use Rattle.std.specs.Arc.{arc_value}
-use Rattle.ads_plant.specs.AcceptedTypes.{AreTypes}
+use Rattle.spec_plant.specs.AcceptedTypes.{AreTypes}
 use Rattle.type_layout.specs.Descriptions.{port_of, ports_of, description_of}
 use Rattle.type_layout.specs.NamedTypes.{types_of}
 use Rattle.type_layout.specs.declared.port.PortDesc.{PortDesc}

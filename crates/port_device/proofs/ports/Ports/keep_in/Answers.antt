@@ -1,5 +1,5 @@
 use Rattle.std.proofs.Common.{List, sym, ◌∙◌, ap, subst}
-use Rattle.ads_plant.specs.Listed.{NamedType}
+use Rattle.spec_plant.specs.Listed.{NamedType}
 use Rattle.port_device.specs.Reloaded.{AreCompared}
 use Rattle.port_device.specs.ReloadedPorts.{after_reload}
 use Rattle.port_device.proofs.EntryLemmas.{numbered_has}

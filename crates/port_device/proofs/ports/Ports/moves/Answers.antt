@@ -1,9 +1,9 @@
 use Rattle.std.proofs.Common.{◌≡◌, List, length, sym, ◌∙◌, ap, subst}
 use Rattle.std.specs.Prelude.{All}
-use Rattle.ads_plant.specs.Listed.{NamedType}
+use Rattle.spec_plant.specs.Listed.{NamedType}
 use Rattle.type_layout.specs.NamedTypes.{types_of}
 use Rattle.type_layout.specs.SameShapes.{ArePartners}
-use Rattle.ads_machine.specs.NumberedPlaces.{AreKeptSymbols}
+use Rattle.spec_machine.specs.NumberedPlaces.{AreKeptSymbols}
 use Rattle.port_device.specs.Holds.{HoldsPorts}
 use Rattle.port_device.specs.InsidePorts.{ports_in}
 use Rattle.port_device.specs.KeptSymbols.{kept_symbols_of}

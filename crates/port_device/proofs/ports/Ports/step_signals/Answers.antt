@@ -1,7 +1,7 @@
 use Rattle.std.proofs.Common.{◌≡◌, List, length, sym, ◌∙◌, ap, subst}
 use Rattle.signals.specs.Bank.{waves_of}
 use Rattle.signals.specs.Wave.{Wave}
-use Rattle.ads_machine.specs.Ticks.{world_after_tick}
+use Rattle.spec_machine.specs.Ticks.{world_after_tick}
 use Rattle.port_device.specs.PortMemory.{PortMemory, PortsMemory}
 use Rattle.port_device.specs.InsidePorts.{ports_in}
 use Rattle.port_device.specs.Holds.{HoldsPorts}

@@ -1,7 +1,7 @@
 -- One more connection whose next offer fails.
 use Rattle.std.proofs.Common.{◌≡◌, sym, subst, ◌∙◌}
 use Rattle.std.specs.Prelude.{map, slice_get, Some}
-use Rattle.ads_machine.specs.ScriptLine.{FailsNext}
+use Rattle.spec_machine.specs.ScriptLine.{FailsNext}
 use Rattle.replay_script.specs.Script.{line_meant}
 use Rattle.replay_script.specs.ScriptWire.{PlayedScript}
 use Rattle.replay_script.proofs.AnswerLemmas.{line_at, plays_fail, listed_more, listed_again}

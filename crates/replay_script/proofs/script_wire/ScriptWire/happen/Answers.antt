@@ -1,7 +1,7 @@
 -- The event is behind the log, and its number is new.
 use Rattle.std.proofs.Common.{List, ◌≡◌, sym, subst}
 use Rattle.std.specs.Prelude.{map, slice_get, Some, IsTrue}
-use Rattle.ads_machine.specs.ScriptLine.{ScriptLine, Happens}
+use Rattle.spec_machine.specs.ScriptLine.{ScriptLine, Happens}
 use Rattle.ads_outside.specs.Opened.{opened_in, is_new}
 use Rattle.replay_script.specs.Fresh.{OpenNew}
 use Rattle.replay_script.specs.Script.{line_meant}

@@ -1,7 +1,7 @@
 -- The play begins.
 use Rattle.std.proofs.Common.{List, ℕ, [], sym, subst, false, map}
 use Rattle.ads_outside.specs.declared.moves.Move.{Move}
-use Rattle.ads_machine.specs.ScriptLine.{ScriptLine}
+use Rattle.spec_machine.specs.ScriptLine.{ScriptLine}
 use Rattle.replay_script.specs.Fresh.{OpenNew}
 use Rattle.replay_script.specs.Script.{line_meant}
 use Rattle.replay_script.specs.ScriptWire.{PlaysOn}

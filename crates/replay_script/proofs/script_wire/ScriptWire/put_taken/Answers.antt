@@ -1,7 +1,7 @@
 -- As much is taken as there is room.
 use Rattle.std.proofs.Common.{◌≡◌, ℕ, ◌≤◌, length, take, rules, sym, ap, ◌∙◌, subst}
 use Rattle.std.proofs.lemmas.List.{length-take-le}
-use Rattle.ads_machine.specs.Peers.{rooms_after}
+use Rattle.spec_machine.specs.Peers.{rooms_after}
 use Rattle.replay_script.specs.Rooms.{HoldsRooms}
 use Rattle.replay_script.proofs.AnswerLemmas.{plays_took}
 use Rattle.replay_script.proofs.script_wire.ScriptWire.put_taken.Goals as goal

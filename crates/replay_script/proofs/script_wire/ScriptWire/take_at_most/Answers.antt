@@ -1,7 +1,7 @@
 -- The connection is writable, and has a room.
 use Rattle.std.proofs.Common.{◌≡◌, sym, subst}
 use Rattle.std.specs.Prelude.{map, slice_get, Some}
-use Rattle.ads_machine.specs.ScriptLine.{TakesAtMost}
+use Rattle.spec_machine.specs.ScriptLine.{TakesAtMost}
 use Rattle.replay_script.specs.Script.{line_meant}
 use Rattle.replay_script.specs.ScriptWire.{PlayedScript}
 use Rattle.replay_script.proofs.AnswerLemmas.{line_at, plays_room}

@@ -1,5 +1,5 @@
 use Rattle.std.proofs.Common.{◌≡◌, drop, map}
-use Rattle.ads_samples.specs.Rows.{row_numbered}
+use Rattle.spec_samples.specs.Rows.{row_numbered}
 use Rattle.sample_store.specs.Views.{row_kept}
 use Rattle.sample_store.proofs.map_keeper.MapKeeper.row.Given as goal
 

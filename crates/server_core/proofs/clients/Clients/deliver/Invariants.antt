@@ -1,5 +1,5 @@
 use Rattle.std.proofs.Common.{◌≡◌, List, length, take, map}
-use Rattle.ads_plant.specs.World.{Plant}
+use Rattle.spec_plant.specs.World.{Plant}
 use Rattle.server_core.specs.Served.{ServedConnection}
 use Rattle.server_core.specs.Delivering.{Outcomes, EachUpTo, CountsAll, after_given, mark_of}
 use Rattle.server_core.proofs.clients.Clients.deliver.Given as goal

@@ -1,5 +1,5 @@
 use Rattle.std.proofs.Common.{ℕ, List, length, refl, sym, ap, ◌∙◌, subst}
-use Rattle.ads_machine.specs.Reloads.{world_after_reload, client_reloaded}
+use Rattle.spec_machine.specs.Reloads.{world_after_reload, client_reloaded}
 use Rattle.type_layout.specs.Descriptions.{description_of}
 use Rattle.server_core.specs.declared.turned.Turned.{Turned}
 use Rattle.server_core.specs.Asked.{EachAsked}

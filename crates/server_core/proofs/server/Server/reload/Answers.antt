@@ -1,6 +1,6 @@
 use Rattle.std.proofs.Common.{subst}
 use Rattle.std.specs.Prelude.{IfOk, Result}
-use Rattle.ads_plant.specs.Accepted.{IsAccepted}
+use Rattle.spec_plant.specs.Accepted.{IsAccepted}
 use Rattle.type_layout.specs.Descriptions.{description_of}
 use Rattle.type_layout.specs.declared.description.Description as layout
 use Rattle.symbol_file.specs.declared.fault.DescFault.{DescFault}

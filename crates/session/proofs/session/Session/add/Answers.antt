@@ -1,8 +1,8 @@
 use Rattle.std.proofs.Common.{◌<◌, ◌^◌, rules, subst, ap, ◌∙◌, ◌++◌, ℕ}
 use Rattle.std.specs.Prelude.{Result}
 use Rattle.return_codes.specs.declared.code.Code.{Code}
-use Rattle.ads_formats.specs.Reply as reply
-use Rattle.ads_formats.specs.Request.{AddDeviceNotification}
+use Rattle.spec_formats.specs.Reply as reply
+use Rattle.spec_formats.specs.Request.{AddDeviceNotification}
 use Rattle.session.specs.Asking.{act_asked}
 use Rattle.session.specs.Watching.{AddsAs}
 use Rattle.session.proofs.RunLemmas.{ok-then, added-runs, unadded-runs}

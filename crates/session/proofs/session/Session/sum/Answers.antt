@@ -1,5 +1,5 @@
 use Rattle.std.proofs.Common.{sym, subst, refl, ap, arith, rules}
-use Rattle.ads_formats.specs.Header.{AmsAddress}
+use Rattle.spec_formats.specs.Header.{AmsAddress}
 use Rattle.session.specs.Asks.{SomeAsks}
 use Rattle.session.specs.Runs.{AsksSession}
 use Rattle.session.specs.SessionState.{SessionState}

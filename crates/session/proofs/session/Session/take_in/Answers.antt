@@ -1,4 +1,4 @@
-use Rattle.ads_machine.specs.World.{World}
+use Rattle.spec_machine.specs.World.{World}
 use Rattle.ams_header.specs.Header.{ams_header_of}
 use Rattle.session.specs.Takes.{HasAddress}
 use Rattle.session.proofs.PortsKept.{keep-same}

@@ -1,5 +1,5 @@
 use Rattle.std.proofs.Common.{sym, ap, subst, refl}
-use Rattle.ads_formats.specs.Header.{AmsAddress}
+use Rattle.spec_formats.specs.Header.{AmsAddress}
 use Rattle.session.specs.Runs.{AsksSession}
 use Rattle.session.specs.SessionState.{SessionState}
 use Rattle.session.proofs.RunLemmas.{ok-then, asks-of, write-runs}

@@ -1,4 +1,4 @@
-use Rattle.ads_formats.specs.Request.{Read}
+use Rattle.spec_formats.specs.Request.{Read}
 use Rattle.session.proofs.SingleLemmas.{on-ok, gives-all, refused-asked, read-leaves, wants-all}
 use Rattle.session.proofs.EffectLemmas.{same-then, same-notes, read-effect}
 use Rattle.session.proofs.single.SinglePartService.read.Goals as goal

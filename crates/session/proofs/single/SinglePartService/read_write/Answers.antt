@@ -1,4 +1,4 @@
-use Rattle.ads_formats.specs.Request.{ReadWrite}
+use Rattle.spec_formats.specs.Request.{ReadWrite}
 use Rattle.session.proofs.SingleLemmas.{gives-all, refused-asked, leaves-all, wants-all}
 use Rattle.session.proofs.EffectLemmas.{same-then, same-notes, read_write-effect}
 use Rattle.session.proofs.single.SinglePartService.read_write.Goals as goal

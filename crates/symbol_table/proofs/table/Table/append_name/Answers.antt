@@ -1,9 +1,9 @@
 -- The symbol's name, and the steps behind it as they are declared.
 use Rattle.std.proofs.Common.{◌≡◌, ◌++◌, drop, length, sym, ◌∙◌, ap}
 use Rattle.name_paths.specs.Name.{identifiers_of}
-use Rattle.ads_plant.specs.PartTexts.{name_behind}
-use Rattle.ads_plant.specs.Listed.{Shape}
-use Rattle.ads_plant.specs.Trees.{tree_of}
+use Rattle.spec_plant.specs.PartTexts.{name_behind}
+use Rattle.spec_plant.specs.Listed.{Shape}
+use Rattle.spec_plant.specs.Trees.{tree_of}
 use Rattle.type_layout.specs.Shapes.{shape_of, shape_of_ref}
 use Rattle.type_layout.specs.NamedTypes.{types_of}
 use Rattle.symbol_table.specs.Rows.{symbol_of_row}

@@ -3,8 +3,8 @@ use Rattle.std.proofs.Common.{◌≡◌, List, map, length, ◌∙◌, ap, subst
 use Rattle.std.specs.Prelude.{Some, slice_get, option_map}
 use Rattle.std.proofs.lemmas.Option.{slice_get-map, slice_get_within}
 use Rattle.std.proofs.lemmas.List.Splits.{length-slice_split}
-use Rattle.ads_plant.specs.Description.{Port}
-use Rattle.ads_plant.specs.Listed.{NamedType}
+use Rattle.spec_plant.specs.Description.{Port}
+use Rattle.spec_plant.specs.Listed.{NamedType}
 use Rattle.name_paths.specs.Name.{is_full_stop}
 use Rattle.type_layout.specs.NamedTypes.{types_of}
 use Rattle.symbol_table.specs.Tables.{TableSymbol, SymbolTable, table_of, table_symbol, IsTableOf}

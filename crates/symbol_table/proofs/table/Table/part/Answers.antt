@@ -1,15 +1,15 @@
 -- The part lies within its symbol, and the symbol within its area.
 use Rattle.std.proofs.Common.{◌≡◌, ◌+◌, ◌<◌, ◌≤◌, refl, sym, ◌∙◌, ap, arith}
 use Rattle.std.specs.Prelude.{Some, None}
-use Rattle.ads_plant.specs.Description.{size_in}
-use Rattle.ads_plant.specs.Listed.{Shape}
-use Rattle.ads_plant.specs.Trees.{tree_of}
-use Rattle.ads_plant.specs.Sizes.{type_size}
-use Rattle.ads_plant.specs.Parts.{part_behind}
+use Rattle.spec_plant.specs.Description.{size_in}
+use Rattle.spec_plant.specs.Listed.{Shape}
+use Rattle.spec_plant.specs.Trees.{tree_of}
+use Rattle.spec_plant.specs.Sizes.{type_size}
+use Rattle.spec_plant.specs.Parts.{part_behind}
 use Rattle.type_layout.specs.Shapes.{shape_of, shape_of_ref}
 use Rattle.type_layout.specs.NamedTypes.{types_of}
 use Rattle.type_layout.specs.Descriptions.{area_of, sizes_of}
-use Rattle.ads_plant.specs.PartTexts.{comment_behind}
+use Rattle.spec_plant.specs.PartTexts.{comment_behind}
 use Rattle.symbol_table.specs.Tables.{TableSymbol, SymbolTable}
 use Rattle.symbol_table.specs.Rows.{symbol_of_row}
 use Rattle.symbol_table.proofs.RowsRead.{row_there}

@@ -1,5 +1,0 @@
-use Rattle.ads_cutting.proofs.JoinedCalls.{answers_may_be_cut}
-use Rattle.ads_cutting.proofs.answers_may_be_cut.Goals as goal
-
-pub returns : goal.returns
-returns c = answers_may_be_cut

@@ -1,5 +1,0 @@
-use Rattle.ads_frames.proofs.Laws.{has_one_division}
-use Rattle.ads_frames.proofs.one_division.Goals as goal
-
-pub returns : goal.returns
-returns c = has_one_division

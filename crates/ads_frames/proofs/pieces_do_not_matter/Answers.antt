@@ -1,5 +1,0 @@
-use Rattle.ads_frames.proofs.Laws.{grows}
-use Rattle.ads_frames.proofs.pieces_do_not_matter.Goals as goal
-
-pub returns : goal.returns
-returns c = grows

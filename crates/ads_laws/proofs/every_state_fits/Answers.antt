@@ -1,9 +1,0 @@
-use Rattle.ads_plant.proofs.SoundLemmas.{accepted_are_sound}
-use Rattle.ads_laws.proofs.EveryState.{every_state_fits}
-use Rattle.ads_laws.proofs.every_state_fits.Goals as goal
-
-pub returns-clause-descriptions : goal.returns-clause-descriptions
-returns-clause-descriptions c = accepted_are_sound
-
-pub returns-clause-states : goal.returns-clause-states
-returns-clause-states c = every_state_fits

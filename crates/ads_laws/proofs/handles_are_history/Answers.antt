@@ -1,5 +1,0 @@
-use Rattle.ads_laws.proofs.Histories.{handles_are_history}
-use Rattle.ads_laws.proofs.handles_are_history.Goals as goal
-
-pub returns : goal.returns
-returns c = handles_are_history

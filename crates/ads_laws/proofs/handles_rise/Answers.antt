@@ -1,5 +1,0 @@
-use Rattle.ads_laws.proofs.Risen.{handles_rise}
-use Rattle.ads_laws.proofs.handles_rise.Goals as goal
-
-pub returns : goal.returns
-returns c = handles_rise

@@ -1,5 +1,0 @@
-use Rattle.ads_laws.proofs.Numbers.{numbers_never_fall}
-use Rattle.ads_laws.proofs.numbers_never_fall.Goals as goal
-
-pub returns : goal.returns
-returns c = numbers_never_fall

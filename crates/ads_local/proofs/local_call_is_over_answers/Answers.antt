@@ -1,5 +1,0 @@
-use Rattle.ads_local.proofs.LocalOver.{local_is_over}
-use Rattle.ads_local.proofs.local_call_is_over_answers.Goals as goal
-
-pub returns : goal.returns
-returns g c = local_is_over

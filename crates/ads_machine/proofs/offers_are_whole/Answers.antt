@@ -1,5 +1,0 @@
-use Rattle.ads_machine.proofs.TurnsKept.{offers_whole}
-use Rattle.ads_machine.proofs.offers_are_whole.Goals as goal
-
-pub returns : goal.returns
-returns g c = offers_whole _ _

@@ -1,5 +1,0 @@
-use Rattle.ads_machine.proofs.Played.{play_keeps_turns}
-use Rattle.ads_machine.proofs.play_keeps_turns.Goals as goal
-
-pub returns : goal.returns
-returns g c = play_keeps_turns _ _

@@ -1,9 +1,0 @@
-use Rattle.ads_machine.proofs.TurnsKept.{takes_output}
-use Rattle.ads_machine.proofs.AllTaken.{takes_all}
-use Rattle.ads_machine.proofs.taken_is_output.Goals as goal
-
-pub returns-clause-begins : goal.returns-clause-begins
-returns-clause-begins g c = takes_output _ _
-
-pub returns-clause-all : goal.returns-clause-all
-returns-clause-all g c = takes_all _ _

@@ -1,5 +1,0 @@
-use Rattle.ads_plant.proofs.FoundLemmas.{found_lie_in_symbols}
-use Rattle.ads_plant.proofs.found_lie_in_symbols.Goals as goal
-
-pub returns : goal.returns
-returns c = found_lie_in_symbols

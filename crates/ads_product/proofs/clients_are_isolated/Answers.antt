@@ -1,8 +1,0 @@
-use Rattle.ads_product.proofs.ServerProofs.{server_is_isolated, server_takes_as_alone}
-use Rattle.ads_product.proofs.clients_are_isolated.Goals as goal
-
-pub returns-clause-alone : goal.returns-clause-alone
-returns-clause-alone c = server_is_isolated
-
-pub returns-clause-taken : goal.returns-clause-taken
-returns-clause-taken c = server_takes_as_alone

@@ -1,8 +1,0 @@
-use Rattle.ads_product.proofs.ServerProofs.{server_state_fits, server_replies_fit}
-use Rattle.ads_product.proofs.every_state_fits.Goals as goal
-
-pub returns-clause-states : goal.returns-clause-states
-returns-clause-states c = server_state_fits
-
-pub returns-clause-replies : goal.returns-clause-replies
-returns-clause-replies c = server_replies_fit

@@ -1,5 +1,0 @@
-use Rattle.ads_product.proofs.ServerProofs.{server_plays_in_turns}
-use Rattle.ads_product.proofs.scripts_are_played_in_turns.Goals as goal
-
-pub returns : goal.returns
-returns c = server_plays_in_turns

@@ -1,0 +1,208 @@
+-- A refusal changes nothing, a dead handle touches nothing, and no number is given twice.
+use Rattle.std.proofs.Common.{◌≡◌, ◌≢◌, ◌⊎◌, ℕ, ◌<◌, List, [], ◌∷◌, length, false, refl, sym, ◌∙◌, ap, subst, inl, inr, arith}
+use Rattle.std.specs.Prelude.{Option, Some, None, Result, Ok, Err, nat_lt, ◌==◌}
+use Rattle.std.proofs.lemmas.Bool.{cases_Bool, le-ltb, ltb-false, eq-eqb, false≢true}
+use Rattle.spec_plant.specs.World.{PlantPort, Block}
+use Rattle.spec_formats.specs.Codes.{no_error, invalid_group, invalid_size, not_permitted, mode_not_supported, watch_too_big}
+use Rattle.spec_formats.specs.Groups.{Group, ValueByHandle, value_by_handle, group_in, group_of}
+use Rattle.spec_formats.specs.Request.{Request}
+use Rattle.spec_machine.specs.Moves.{state_after_move}
+use Rattle.spec_machine.specs.Events.{state_after_event}
+use Rattle.spec_machine.specs.World.{Setup, setup_of}
+use Rattle.spec_machine.specs.Access.{Addressed}
+use Rattle.spec_machine.specs.Handles.{HandleStatus, Never, Released, Outdated, Live, kept_status}
+use Rattle.spec_machine.specs.Watches.{Mode}
+use Rattle.spec_machine.specs.Client.{Place, Client, client_after}
+use Rattle.spec_machine.specs.Acts.{Act, Refusal, Allowed, outcomes_of, memory_after_acts, client_after_acts}
+use Rattle.spec_machine.specs.Answers.{AnswerTable, answered_group, READ, WRITE, READ_WRITE, ADD_DEVICE_NOTIFICATION}
+use Rattle.spec_machine.specs.Reach.{addressed_by_status, reach_of}
+use Rattle.spec_machine.specs.Reads.{read_group}
+use Rattle.spec_machine.specs.Writes.{Asker, may_write, write_group}
+use Rattle.spec_machine.specs.ByName.{read_write_group}
+use Rattle.spec_machine.specs.Requests.{MAX_WATCHED, mode_of, add_act, act_of}
+use Rattle.spec_machine.specs.Sums.{SumRequest, sum_of_reads, sum_of_writes, sum_of_read_writes, given_in_turn}
+use Rattle.spec_machine.specs.Decisions.{Single, Decision, NoAnswer, EndConnection, AmsError, Perform, acts_in}
+use Rattle.spec_machine.specs.SumPackets.{acts_of, decide_single, decide_parts}
+use Rattle.spec_machine.specs.Packets.{decide}
+use Rattle.spec_machine.specs.Replies.{outcome_in_all, performed}
+use Rattle.spec_machine.proofs.DecisionCases.{decide-cases}
+use Rattle.spec_laws.specs.Refusals.{RefusalChangesNothing, IsTurnedAway, TurnedAwayChangesNothing, result_told, ResultChangesNothing, RefusedReloadCounts, dead_code, IsRefused, BadAdditionsAreRefused, RefusesHandle, RefusesAnyForm, DeadHandleTouchesNothing}
+
+pub refusal_changes_nothing : RefusalChangesNothing
+unfolding client_after
+refusal_changes_nothing memory c (Refusal code) ne = record { memory_stays = refl; client_stays = refl }
+refusal_changes_nothing memory c (Allowed a) ne = absurd (ne refl)
+
+no_acts : (x : Decision) → IsTurnedAway x → acts_in x ≡ []
+no_acts x (inl e) = ap acts_in e
+no_acts x (inr (inl e)) = ap acts_in e
+no_acts x (inr (inr (code, e))) = ap acts_in e
+
+pub turned_away_changes_nothing : TurnedAwayChangesNothing
+unfolding performed memory_after_acts client_after_acts
+turned_away_changes_nothing table w c packet away =
+    let none = no_acts (decide table _ c packet) away in
+    record {
+      world_stays = ap (λ acts. record w { memory = memory_after_acts w.memory acts }) none;
+      client_stays = ap (λ acts. client_after_acts c acts) none;
+    }
+
+-- a decision whose reply tells a result other than 0 does nothing
+record Refuses (c : Client) (x : Decision) : Type 0 where
+  memory : (m : List Block) → result_told x m ≢ no_error → memory_after_acts m (acts_in x) ≡ m
+  client : (m : List Block) → result_told x m ≢ no_error → client_after_acts c (acts_in x) ≡ c
+
+-- one that tells no result
+tells_none : (c : Client) (x : Decision) → ((m : List Block) → result_told x m ≡ no_error) → Refuses c x
+tells_none c x none = record { memory = λ m told. absurd (told (none m)); client = λ m told. absurd (told (none m)) }
+
+one_act : (c : Client) (a : Act) → Refuses c (Perform (a ∷ []) Single)
+unfolding outcomes_of outcome_in_all memory_after_acts client_after_acts client_after
+one_act c (Refusal code) = record { memory = λ m told. refl; client = λ m told. refl }
+one_act c (Allowed a) = record { memory = λ m told. absurd (told refl); client = λ m told. absurd (told refl) }
+
+single-refuses : (table : AnswerTable) (d : Setup) (c : Client) (k : Asker) (r : Request) → Refuses c (decide_single table d c k r)
+unfolding acts_of given_in_turn
+single-refuses table d c k r = one_act c (act_of table d c k r)
+
+parts-refuse : (table : AnswerTable) (d : Setup) (c : Client) (k : Asker) (s : SumRequest) (o : Option ℕ) → Refuses c (decide_parts table d c k s o)
+unfolding outcome_in_all
+parts-refuse table d c k s (Some code) = one_act c (Refusal code)
+parts-refuse table d c k s None = tells_none c (decide_parts table d c k s None) (λ m. refl)
+
+decide-refuses : (table : AnswerTable) (d : Setup) (c : Client) (packet : List ℕ) → Refuses c (decide table d c packet)
+decide-refuses table d c packet =
+    decide-cases table d c (Refuses c)
+    (record {
+      silent = tells_none c NoAnswer (λ m. refl);
+      ends = tells_none c EndConnection (λ m. refl);
+      error = λ code. tells_none c (AmsError code) (λ m. refl);
+      refused = λ code. one_act c (Refusal code);
+      single = λ k number e r. single-refuses table d c k r;
+      reads = λ k number e n len bytes. parts-refuse table d c k (sum_of_reads n bytes) _;
+      writes = λ k number e n len bytes. parts-refuse table d c k (sum_of_writes n bytes) _;
+      read_writes = λ k number e n len bytes. parts-refuse table d c k (sum_of_read_writes n bytes) _;
+    })
+    packet
+
+pub result_changes_nothing : ResultChangesNothing
+unfolding performed
+result_changes_nothing table w c packet told =
+    let r = decide-refuses table (setup_of w) c packet in
+    record {
+      world_stays = ap (λ (m : List Block). record w { memory = m }) (r.memory w.memory told);
+      client_stays = r.client w.memory told;
+    }
+
+pub refused_reload_counts : RefusedReloadCounts
+unfolding state_after_move state_after_event
+refused_reload_counts table reading s bytes fault e = rw e refl
+
+dead-reach : (port : ℕ) (s : HandleStatus Place) (code len : ℕ) → dead_code s ≡ Some code → addressed_by_status port s len ≡ Err code
+dead-reach port Never code len e = cc
+dead-reach port Released code len e = cc
+dead-reach port Outdated code len e = cc
+dead-reach port (Live place) code len e = cc
+
+-- a command answers the group of values by handle, or no group of that number
+pub by_handle : (table : AnswerTable) (command : ℕ) → (answered_group table command value_by_handle ≡ Some ValueByHandle) ⊎ (answered_group table command value_by_handle ≡ None)
+unfolding answered_group group_of group_in
+by_handle table command =
+    elim (cases_Bool (table.answers_group command ValueByHandle)) [
+      | inl t ↦ inl (rw t refl)
+      | inr t ↦ inr (rw t refl)
+    ]
+
+read_group-none : (d : Setup) (c : Client) (p : PlantPort) (offset len : ℕ) → IsRefused (read_group d c p None offset len)
+unfolding read_group reach_of
+read_group-none d c p offset len = (invalid_group, refl)
+
+add-refused : (c : Client) (k : Asker) (g : Option Group) (offset len cycle code : ℕ) (mode : Option Mode) → reach_of c k.port g offset len ≡ Err code → IsRefused (add_act c k g offset len cycle mode)
+add-refused c k g offset len cycle code None e = (mode_not_supported, refl)
+add-refused c k g offset len cycle code (Some mode) e =
+    elim (cases_Bool (nat_lt MAX_WATCHED len)) [
+      | inl t ↦ (watch_too_big, rw t refl)
+      | inr t ↦ (code, rw (t, e) refl)
+    ]
+
+reach-none : (c : Client) (p : PlantPort) (offset len : ℕ) → reach_of c p None offset len ≡ Err invalid_group
+unfolding reach_of
+reach-none c p offset len = refl
+
+bad-addition : (c : Client) (k : Asker) (g : Option Group) (offset len cycle : ℕ) (m : Option Mode) → (m ≡ None) ⊎ ((MAX_WATCHED < len) ⊎ ((len ≡ 0) ⊎ (g ≡ None))) → IsRefused (add_act c k g offset len cycle m)
+bad-addition c k g offset len cycle None bad = (mode_not_supported, refl)
+bad-addition c k g offset len cycle (Some mode) bad =
+    elim (cases_Bool (nat_lt MAX_WATCHED len)) [
+      | inl t ↦ (watch_too_big, rw t refl)
+      | inr t ↦ reached (reach_of c k.port g offset len) refl t
+    ]
+  where
+    none : (watched : List Addressed) → reach_of c k.port g offset len ≡ Ok watched → nat_lt MAX_WATCHED len ≡ false → (len == 0) ≡ false → (Some mode ≡ None) ⊎ ((MAX_WATCHED < len) ⊎ ((len ≡ 0) ⊎ (g ≡ None))) → ⊥
+    none watched e t z (inl m) = cc
+    none watched e t z (inr (inl l)) = let few = ltb-false MAX_WATCHED len t in omega (arith, few, l)
+    none watched e t z (inr (inr (inl empty))) = false≢true (sym z ∙ eq-eqb len 0 empty)
+    none watched e t z (inr (inr (inr off))) =
+        let P : Option Group → Type 0 = λ o. reach_of c k.port o offset len ≡ Ok watched in
+        let both : Err invalid_group ≡ Ok watched = sym (reach-none c k.port offset len) ∙ subst P off e in
+        cc
+
+    reached : (r : Result (List Addressed) ℕ) → reach_of c k.port g offset len ≡ r → nat_lt MAX_WATCHED len ≡ false → IsRefused (add_act c k g offset len cycle (Some mode))
+    reached (Err code) e t = (code, rw (t, e) refl)
+    reached (Ok watched) e t =
+        elim (cases_Bool (len == 0)) [
+          | inl z ↦ (invalid_size, rw (t, e, z) refl)
+          | inr z ↦ absurd (none watched e t z bad)
+        ]
+
+pub bad_additions_are_refused : BadAdditionsAreRefused
+unfolding act_of
+bad_additions_are_refused table d c k group offset len number delay cycle bad =
+    bad-addition c k (answered_group table ADD_DEVICE_NOTIFICATION group) offset len cycle (mode_of number) bad
+
+read_write-refused : (c : Client) (p : PlantPort) (g : Option Group) (len : ℕ) (bytes : List ℕ) → (g ≡ Some ValueByHandle) ⊎ (g ≡ None) → IsRefused (read_write_group c p g len bytes)
+unfolding read_write_group
+read_write-refused c p g len bytes (inl e) = subst (λ (o : Option Group). IsRefused (read_write_group c p o len bytes)) (sym e) (invalid_group, refl)
+read_write-refused c p g len bytes (inr e) = subst (λ (o : Option Group). IsRefused (read_write_group c p o len bytes)) (sym e) (invalid_group, refl)
+
+any_form : (table : AnswerTable) (d : Setup) (c : Client) (k : Asker) (handle code : ℕ) → dead_code (kept_status c.handles handle k.port.number) ≡ Some code → RefusesAnyForm table d c k handle
+unfolding act_of read_group write_group reach_of
+any_form table d c k handle code dead = record {
+  read = λ len. elim (by_handle table READ) [
+    | inl g ↦ (code, rw g (let r = reach len in rw r refl))
+    | inr g ↦ (invalid_group, rw g refl)
+  ];
+  write = λ bytes. elim (by_handle table WRITE) [
+    | inl g ↦ elim (cases_Bool (may_write k.rights)) [
+      | inl may ↦ (code, rw g (let r = reach (length bytes) in rw (may, r) refl))
+      | inr may ↦ (not_permitted, rw g (rw may refl))
+    ]
+    | inr g ↦ (invalid_group, rw g refl)
+  ];
+  add = λ len mode delay cycle. elim (by_handle table ADD_DEVICE_NOTIFICATION) [
+    | inl g ↦
+        let P : Option Group → Type 0 = λ o. IsRefused (add_act c k o handle len cycle (mode_of mode)) in
+        subst P (sym g) (add-refused c k (Some ValueByHandle) handle len cycle code (mode_of mode) (reach len))
+    | inr g ↦
+        let P : Option Group → Type 0 = λ o. IsRefused (add_act c k o handle len cycle (mode_of mode)) in
+        subst P (sym g) (add-refused c k None handle len cycle invalid_group (mode_of mode) refl)
+  ];
+  read_write = λ len bytes. read_write-refused c k.port (answered_group table READ_WRITE value_by_handle) len bytes (by_handle table READ_WRITE);
+}
+  where
+    reach : (len : ℕ) → addressed_by_status k.port.number (kept_status c.handles handle k.port.number) len ≡ Err code
+    reach len = dead-reach k.port.number (kept_status c.handles handle k.port.number) code len dead
+
+refuses_handle : (table : AnswerTable) (d : Setup) (c : Client) (k : Asker) (handle code : ℕ) → dead_code (kept_status c.handles handle k.port.number) ≡ Some code → RefusesHandle table d c k handle code
+unfolding act_of read_group write_group reach_of
+refuses_handle table d c k handle code dead =
+    let reach : (len : ℕ) → addressed_by_status k.port.number (kept_status c.handles handle k.port.number) len ≡ Err code =
+    λ len. dead-reach k.port.number (kept_status c.handles handle k.port.number) code len dead in
+    record {
+      read = λ len g. rw g (let r = reach len in rw r refl);
+      write = λ bytes g may. rw g (let r = reach (length bytes) in rw (may, r) refl);
+      write_without_right = λ bytes g may. rw g (rw may refl);
+      add = λ len number delay cycle mode g m few. let r = reach len in let t = le-ltb MAX_WATCHED len few in rw (g, m, t, r) refl;
+    }
+
+pub dead_handle_touches_nothing : DeadHandleTouchesNothing
+dead_handle_touches_nothing table d c k handle code dead = (refuses_handle table d c k handle code dead, any_form table d c k handle code dead)

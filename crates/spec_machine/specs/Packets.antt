@@ -1,0 +1,65 @@
+-- The nine checks of a frame, in their order, and what its AMS packet leads to.
+-- Beckhoff Information System, "AMS Header", "ADS Commands". That an unknown route closes is this
+-- project's own choice.
+use Rattle.std.specs.Prelude.{ℕ, ◌%◌, List, [], ◌∷◌, length, Bool, not, ◌==◌, if◌then◌else◌}
+use Rattle.std.specs.Prelude.{Option, Some, None, is_none, bytes_eq}
+use Rattle.spec_plant.specs.Description.{Rights}
+use Rattle.spec_plant.specs.Rights.{rights_of}
+use Rattle.spec_plant.specs.World.{Plant, PlantPort}
+use Rattle.spec_formats.specs.Codes.{target_port_not_found, target_machine_not_found}
+use Rattle.spec_formats.specs.Codes.{unknown_command_id}
+use Rattle.spec_formats.specs.Codes.{unknown_ams_command, invalid_ams_length, invalid_size}
+use Rattle.spec_formats.specs.Header.{AmsAddress, AmsHeader, header_of, payload_of, request_flags}
+use Rattle.spec_formats.specs.Request.{Request, request_of}
+use Rattle.spec_machine.specs.World.{Setup, port_numbered}
+use Rattle.spec_machine.specs.Client.{Client}
+use Rattle.spec_machine.specs.Answers.{AnswerTable, DEVICE_NOTIFICATION}
+use Rattle.spec_machine.specs.Decisions.{Decision, NoAnswer, EndConnection, AmsError, refuse}
+use Rattle.spec_machine.specs.SumPackets.{decide_request}
+
+-- a check of a packet: whether it stops the packet, and what the packet then leads to
+pub record Check : Type 0 where
+  pub stops : Bool
+  pub leads_to : Decision
+
+abbrev pub stop_if : Bool → Decision → Check
+stop_if stops decision = record { stops = stops; leads_to = decision }
+
+-- The data length is the AMS length less 32; it is no response; its flags are those of a request; its source has
+-- a route; its target is this NetId, and a port that is there; it is no notification; its command is answered;
+-- and its payload is a text of its command.
+abbrev pub checks_of : AnswerTable → Plant → AmsHeader → List ℕ → List Check
+checks_of table plant h payload =
+    stop_if (not (h.len == length payload)) (AmsError invalid_ams_length)
+    ∷ stop_if (h.flags % 2 == 1) NoAnswer
+    ∷ stop_if (not (h.flags == request_flags)) (AmsError unknown_ams_command)
+    ∷ stop_if (is_none (rights_of h.source.net plant.routes)) EndConnection
+    ∷ stop_if (not (bytes_eq h.target.net plant.net)) (AmsError target_machine_not_found)
+    ∷ stop_if (is_none (port_numbered h.target.port plant.ports)) (AmsError target_port_not_found)
+    ∷ stop_if (h.command == DEVICE_NOTIFICATION) NoAnswer
+    ∷ stop_if (not (table.is_answered h.command)) (AmsError unknown_command_id)
+    ∷ stop_if (is_none (request_of h.command payload)) (refuse invalid_size)
+    ∷ []
+
+-- the first check that stops the packet says what it leads to, and else this
+abbrev pub checked : List Check → Decision → Decision
+checked [] decision = decision
+checked (c ∷ cs) decision = if c.stops then c.leads_to else checked cs decision
+
+-- the request of a packet that none stops, from a source with these rights to this port
+abbrev pub decide_passed : AnswerTable → Setup → Client → AmsAddress → Option Rights → Option PlantPort
+    → Option Request → Decision
+decide_passed table d c source (Some rights) (Some port) (Some request) =
+    decide_request table d c (record { port = port; address = source; rights = rights }) request
+decide_passed table d c source rights port request = NoAnswer
+
+-- the packet of a frame has a header
+abbrev pub decide_header : AnswerTable → Setup → Client → List ℕ → Option AmsHeader → Decision
+decide_header table d c payload None = NoAnswer
+decide_header table d c payload (Some h) =
+    checked (checks_of table d.plant h payload)
+    (decide_passed table d c h.source (rights_of h.source.net d.plant.routes)
+    (port_numbered h.target.port d.plant.ports) (request_of h.command payload))
+
+unfoldable pub decide : AnswerTable → Setup → Client → List ℕ → Decision
+decide table d c packet = decide_header table d c (payload_of packet) (header_of packet)
