@@ -8,6 +8,7 @@ use byteorder::{ByteOrder, LittleEndian};
 use std::alloc::Global;
 
 /// The 16-bit number in two bytes, the low byte first.
+#[inline(always)]
 pub fn get16(bytes: &[u8], at: usize) -> u16
     requires { at + 2 ≤ length bytes.now }
     ensures { result ≡ from_le_bytes w16 (take 2 (drop at bytes.now)) }
@@ -16,6 +17,7 @@ pub fn get16(bytes: &[u8], at: usize) -> u16
 }
 
 /// The 32-bit number in four bytes, the low byte first.
+#[inline(always)]
 pub fn get32(bytes: &[u8], at: usize) -> u32
     requires { at + 4 ≤ length bytes.now }
     ensures { result ≡ from_le_bytes w32 (take 4 (drop at bytes.now)) }
@@ -24,6 +26,7 @@ pub fn get32(bytes: &[u8], at: usize) -> u32
 }
 
 /// The 64-bit number in eight bytes, the low byte first.
+#[inline(always)]
 pub fn get64(bytes: &[u8], at: usize) -> u64
     requires { at + 8 ≤ length bytes.now }
     ensures { result ≡ from_le_bytes w64 (take 8 (drop at bytes.now)) }
@@ -32,34 +35,34 @@ pub fn get64(bytes: &[u8], at: usize) -> u64
 }
 
 /// Appends a 16-bit number, the low byte first.
+#[inline(always)]
 pub fn put16(alloc: Global, out: &mut Octets, v: u16) -> Result<(), NoMemory>
     ensures ok { OnOk result (out.new ≡ out.old ++ to_le_bytes w16 v) }
     ensures no_memory { OnErr result (out.new ≡ out.old) }
 {
     let mut field = [0u8; 2];
     LittleEndian::write_u16(&mut field, v);
-    out.put(alloc, &field)?;
-    Ok(())
+    out.put_array(alloc, &field)
 }
 
 /// Appends a 32-bit number, the low byte first.
+#[inline(always)]
 pub fn put32(alloc: Global, out: &mut Octets, v: u32) -> Result<(), NoMemory>
     ensures ok { OnOk result (out.new ≡ out.old ++ to_le_bytes w32 v) }
     ensures no_memory { OnErr result (out.new ≡ out.old) }
 {
     let mut field = [0u8; 4];
     LittleEndian::write_u32(&mut field, v);
-    out.put(alloc, &field)?;
-    Ok(())
+    out.put_array(alloc, &field)
 }
 
 /// Appends a 64-bit number, the low byte first.
+#[inline(always)]
 pub fn put64(alloc: Global, out: &mut Octets, v: u64) -> Result<(), NoMemory>
     ensures ok { OnOk result (out.new ≡ out.old ++ to_le_bytes w64 v) }
     ensures no_memory { OnErr result (out.new ≡ out.old) }
 {
     let mut field = [0u8; 8];
     LittleEndian::write_u64(&mut field, v);
-    out.put(alloc, &field)?;
-    Ok(())
+    out.put_array(alloc, &field)
 }

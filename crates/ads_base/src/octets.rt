@@ -88,11 +88,35 @@ impl Octets {
     }
 
     /// Appends the bytes.
-    pub fn put(&mut self, _alloc: Global, bytes: &[u8]) -> Result<(), NoMemory>
+    pub fn put(&mut self, alloc: Global, bytes: &[u8]) -> Result<(), NoMemory>
         ensures ok { OnOk result (self.new ≡ self.old ++ bytes.now) }
         ensures no_memory { OnErr result (self.new ≡ self.old) }
     {
+        // A field of a known width is moved in one step, where the copy of any length is a call.
+        if let Some(four) = bytes.as_array::<4>() {
+            return self.put_array(alloc, four);
+        }
+        if let Some(two) = bytes.as_array::<2>() {
+            return self.put_array(alloc, two);
+        }
+        if let Some(eight) = bytes.as_array::<8>() {
+            return self.put_array(alloc, eight);
+        }
         self.bytes.extend_from_slice(bytes)?;
+        Ok(())
+    }
+
+    /// Appends an array of bytes.
+    #[inline(always)]
+    pub fn put_array<const N: usize>(
+        &mut self,
+        _alloc: Global,
+        bytes: &[u8; N],
+    ) -> Result<(), NoMemory>
+        ensures ok { OnOk result (self.new ≡ self.old ++ bytes.now) }
+        ensures no_memory { OnErr result (self.new ≡ self.old) }
+    {
+        self.bytes.extend_from_slice(bytes.as_slice())?;
         Ok(())
     }
 
@@ -110,5 +134,18 @@ impl Octets {
         ensures { self.new ≡ take len self.old }
     {
         self.bytes.truncate(len);
+    }
+
+    /// Hands on how an append in parts ended. Where memory was wanting, it cuts back to the first `before` bytes.
+    pub fn cut_back(&mut self, before: usize, put: Result<(), NoMemory>) -> Result<(), NoMemory>
+        requires { OnErr put (before ≤ length self.old) }
+        ensures answer { result ≡ put }
+        ensures ok { OnOk put (self.new ≡ self.old) }
+        ensures no_memory { OnErr put (self.new ≡ take before self.old) }
+    {
+        if put.is_err() {
+            self.cut(before);
+        }
+        put
     }
 }

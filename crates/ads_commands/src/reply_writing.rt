@@ -23,10 +23,7 @@ pub fn put_reply(alloc: Global, r: &Reply<'_>, out: &mut Octets) -> Result<(), N
 {
     let before = out.len();
     let put = append_reply(alloc, r, out);
-    if put.is_err() {
-        out.cut(before);
-    }
-    put
+    out.cut_back(before, put)
 }
 
 // After an error a part of the payload may stand there.

@@ -18,10 +18,7 @@ pub fn put_request(alloc: Global, r: &Request<'_>, out: &mut Octets) -> Result<(
 {
     let before = out.len();
     let put = append_request(alloc, r, out);
-    if put.is_err() {
-        out.cut(before);
-    }
-    put
+    out.cut_back(before, put)
 }
 
 // After an error a part of the payload may stand there.

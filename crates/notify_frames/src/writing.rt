@@ -23,10 +23,7 @@ pub fn put_note(
 {
     let before = out.len();
     let put = append_note(alloc, time, samples.as_slice(), out);
-    if put.is_err() {
-        out.cut(before);
-    }
-    put
+    out.cut_back(before, put)
 }
 
 // After an error a part of the payload may stand there.

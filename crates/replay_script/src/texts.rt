@@ -39,8 +39,5 @@ pub fn put_counted(
     let before = out.len();
     out.put(alloc, word)?;
     let put = put_number(alloc, out, number);
-    if put.is_err() {
-        out.cut(before);
-    }
-    put
+    out.cut_back(before, put)
 }

@@ -18,10 +18,7 @@ pub fn put_entry(alloc: Global, e: &Entry<'_>, out: &mut Octets) -> Result<(), N
 {
     let before = out.len();
     let put = append_entry(alloc, e, out);
-    if put.is_err() {
-        out.cut(before);
-    }
-    put
+    out.cut_back(before, put)
 }
 
 // After an error a part of the entry may stand there.

@@ -25,10 +25,7 @@ pub fn type_text(
 {
     let before = out.len();
     let put = append_type(alloc, types.as_slice(), t, out);
-    if put.is_err() {
-        out.cut(before);
-    }
-    put
+    out.cut_back(before, put)
 }
 
 // After want of memory a part of the text may stand there.

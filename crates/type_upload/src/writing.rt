@@ -29,10 +29,7 @@ pub fn put_types(alloc: Global, types: &Types, out: &mut Octets) -> Result<(), N
 {
     let before = out.len();
     let put = append_types(alloc, types, out);
-    if put.is_err() {
-        out.cut(before);
-    }
-    put
+    out.cut_back(before, put)
 }
 
 // After an error a part of the upload may stand there.

@@ -17,10 +17,7 @@ pub(crate) fn put_quoted(alloc: Global, bytes: &[u8], out: &mut Octets) -> Resul
 {
     let before = out.len();
     let put = append_quoted(alloc, content_of(bytes), out);
-    if put.is_err() {
-        out.cut(before);
-    }
-    put
+    out.cut_back(before, put)
 }
 
 // After an error a part of the text may stand there.

@@ -54,8 +54,5 @@ fn put_hexadecimal(alloc: Global, bytes: &[u8], out: &mut Octets) -> Result<(), 
     let before = out.len();
     out.put(alloc, b"16#")?;
     let put = out.put(alloc, digits.as_bytes());
-    if put.is_err() {
-        out.cut(before);
-    }
-    put
+    out.cut_back(before, put)
 }
