@@ -4,9 +4,14 @@
 Build the program first: in crates/ads, `rt run -- selftest ../../examples/state.script`. Each scene starts with a good client that asks for the state and reads a
 value, before and after, and compares every byte. One line a scene: `ok` or what came. The program ends with 1 where a scene differs.
 
+The scenes of the last group are played while 40 further connections ask without end. In two scenes the server's own clocks are set forward (bench/set_clocks.c, which gcc builds), so
+that five minutes pass at once; where this program may do so (as root), one has its peers vanish without a word, by TCP repair.
+
 python3 bench/peers.py [PROGRAM]
 """
+import contextlib
 import os
+import selectors
 import socket
 import struct
 import subprocess
@@ -43,12 +48,12 @@ COUNT_REPLY = reply(2, 2, struct.pack("<II", 0, 2) + struct.pack("<H", 1000))
 
 
 class Server:
-    def __init__(self, plant=PLANT):
+    def __init__(self, plant=PLANT, **more):
         with socket.socket() as s:
             s.bind(("127.0.0.1", 0))
             self.port = s.getsockname()[1]
         self.process = subprocess.Popen([PROGRAM, "serve", plant, "--listen", f"127.0.0.1:{self.port}", "--events",
-                                         "18446744073709551615"], stdout=subprocess.PIPE)
+                                         "18446744073709551615"], stdout=subprocess.PIPE, **more)
         said = self.process.stdout.readline()
         if said != b"listening\n":
             sys.exit(f"the server said {said!r}")
@@ -229,6 +234,21 @@ def notifications(server):
         return None if off < 1 else f"a moment is {off:.1f} seconds off"
 
 
+def notifications_in_time(server):
+    """Each sample of a cycle of 10 ms comes, its moment one beat behind the last."""
+    spec = struct.pack("<IIIIII", 0x4040, 64, 2, 3, 0, 100_000) + bytes(16)
+    with server.open() as s:
+        s.sendall(frame(6, 5, spec))
+        added = take(s, 46)
+        if added[38:42] != bytes(4):
+            return added.hex()
+        moments = [struct.unpack("<Q", take(s, 68)[46:54])[0] for _ in range(300)]
+        steps = [b - a for a, b in zip(moments, moments[1:])]
+        off = [step for step in steps if step % 100_000 or step <= 0]
+        mean = sum(steps) / len(steps) / 10_000
+        return None if not off and mean <= 10.5 else f"mean step {mean:.2f} ms, {len(off)} off the beats"
+
+
 def reload(server_unused):
     text = open(PLANT).read()
     with tempfile.TemporaryDirectory() as folder:
@@ -256,9 +276,200 @@ def reload(server_unused):
             server.stop()
 
 
+class Clocks:
+    """A server whose steady clock can be set forward."""
+
+    def __init__(self, stack):
+        folder = stack.enter_context(tempfile.TemporaryDirectory())
+        shim, self.file, self.seconds = os.path.join(folder, "set_clocks.so"), os.path.join(folder, "clocks"), 0
+        subprocess.run(["gcc", "-O2", "-shared", "-fPIC", "-o", shim, os.path.join(HERE, "set_clocks.c")], check=True)
+        self.wait(0)
+        self.server = Server(env={**os.environ, "LD_PRELOAD": shim, "SET_CLOCKS": self.file})
+        stack.callback(self.server.stop)
+
+    def wait(self, seconds):
+        """So many seconds pass for the server."""
+        self.seconds += seconds
+        with open(self.file, "r+b" if os.path.exists(self.file) else "wb") as it:
+            it.write(struct.pack("<qq", 0, self.seconds))
+        time.sleep(0.1)
+
+
+def is_closed(s):
+    s.settimeout(2.0)
+    try:
+        return ends(s) == b""
+    except (TimeoutError, socket.timeout):
+        return False
+
+
+def is_served(s, seconds=2.0):
+    s.settimeout(seconds)
+    try:
+        s.sendall(STATE)
+        return take(s, len(STATE_REPLY)) == STATE_REPLY
+    except (ConnectionError, TimeoutError, socket.timeout):
+        return False
+
+
+def waits(s, seconds=0.5):
+    """What it is told in so many seconds."""
+    s.settimeout(seconds)
+    try:
+        return s.recv(65536)
+    except (TimeoutError, socket.timeout):
+        return b""
+
+
+def silent_longest(server_unused):
+    """All places are taken, and two are silent for five minutes: they go for two that wait, the one that is silent longest first; a third waits."""
+    with contextlib.ExitStack() as stack:
+        clocks = Clocks(stack)
+        subscriber = stack.enter_context(clocks.server.open())
+        subscriber.sendall(frame(6, 5, struct.pack("<IIIIII", 0x4040, 64, 2, 3, 0, 100_000) + bytes(16)))
+        held = [stack.enter_context(clocks.server.open()) for _ in range(MOST - 1)]
+        for s in held:
+            if not is_served(s):
+                return "one of 64 was not served"
+        waiting = [stack.enter_context(clocks.server.open()) for _ in range(3)]
+        for order, seconds in ((9, 10), (5, 30)):
+            clocks.wait(seconds)
+            if not is_served(held[order]):
+                return f"connection {order} was not served"
+        clocks.wait(100)
+        for s in held[:5] + held[6:9] + held[10:]:
+            if not is_served(s):
+                return "one was closed that was silent for less than five minutes"
+        clocks.wait(140)
+        for late in waiting:
+            late.sendall(STATE)
+        if waits(waiting[0]):
+            return "a 65th was served"
+        for s, late, seconds in zip((held[9], held[5]), waiting, (40, 30)):
+            clocks.wait(seconds)
+            if not is_closed(s):
+                return "the one that was silent longest was not closed"
+            if waits(late, 5.0) != STATE_REPLY:
+                return "the one that waited was not served"
+        if waits(waiting[2]):
+            return "one was closed that was silent for less than five minutes"
+        for s in held[:5] + held[6:9] + held[10:]:
+            if not is_served(s):
+                return "one that was not silent was closed"
+        subscriber.setblocking(False)
+        with contextlib.suppress(BlockingIOError):
+            while subscriber.recv(65536):
+                pass
+        subscriber.settimeout(2.0)
+        return None if subscriber.recv(65536) else "a connection that takes its samples was closed"
+
+
+def vanished(server_unused):
+    """64 clients vanish without a word; five minutes later others are served."""
+    with contextlib.ExitStack() as stack:
+        clocks = Clocks(stack)
+        for _ in range(MOST):
+            s = clocks.server.open()
+            if not is_served(s):
+                return "one of 64 was not served"
+            try:
+                s.setsockopt(socket.IPPROTO_TCP, 19, 1)  # TCP_REPAIR: nothing is sent when it is closed
+            except PermissionError:
+                return None
+            s.close()
+        late = [stack.enter_context(clocks.server.open()) for _ in range(MOST)]
+        late[0].settimeout(0.5)
+        with contextlib.suppress(TimeoutError, socket.timeout):
+            return f"a 65th was told {late[0].recv(100).hex()}"
+        clocks.wait(301)
+        for s in late:
+            if not is_served(s, 5.0):
+                return "one that waited was not served"
+        return None
+
+
+def two_in_one_write(server):
+    """The replies to two requests that came together leave together."""
+    want = STATE_REPLY + COUNT_REPLY
+    with server.open() as s:
+        for turn in range(200):
+            s.sendall(STATE + COUNT)
+            got = s.recv(65536)
+            if got != want:
+                return f"turn {turn}: {len(got)} bytes came first, in place of {len(want)}"
+    return None
+
+
+def full_socket(server):
+    """A peer that reads slowly gets each byte in order, though its socket was full many times."""
+    ask = frame(2, 3, read(0x4040, 1000, 990000))
+    want = (reply(2, 3, struct.pack("<II", 0, 990000) + bytes(990000)) + STATE_REPLY) * 4
+    with server.open() as s, server.open() as other:
+        s.setsockopt(socket.SOL_SOCKET, socket.SO_RCVBUF, 4096)
+        s.sendall((ask + STATE) * 4)
+        got = bytearray()
+        while len(got) < len(want):
+            piece = s.recv(60000)
+            if not piece:
+                break
+            got += piece
+            if len(got) % 7 == 0:
+                wrong = good(other)
+                if wrong:
+                    return wrong
+        return None if got == want else f"{len(got)} bytes in place of {len(want)}"
+
+
+@contextlib.contextmanager
+def load(server, count=40):
+    """So many connections that ask for the state without end, in a process of their own."""
+    child = os.fork()
+    if child == 0:
+        try:
+            with selectors.DefaultSelector() as poll:
+                for _ in range(count):
+                    s = server.open()
+                    poll.register(s, selectors.EVENT_READ)
+                    s.sendall(STATE)
+                while True:
+                    for key, _ in poll.select():
+                        if not key.fileobj.recv(4096):
+                            os._exit(0)
+                        key.fileobj.send(STATE)
+        finally:
+            os._exit(0)
+    try:
+        time.sleep(0.5)
+        yield
+    finally:
+        os.kill(child, 9)
+        os.waitpid(child, 0)
+
+
 SCENES = [byte_by_byte, many_in_one_piece, half_closed, reset_in_mid_frame, broken_frame, unknown_route, sixty_five,
-          notifications, reload]
-LARGE = [half_closed_large, never_reads]
+          notifications, reload, silent_longest, vanished]
+LARGE = [half_closed_large, never_reads, full_socket]
+LOADED = [two_in_one_write, half_closed, half_closed_large, full_socket, notifications_in_time]
+
+
+def play(server, scenes, name=""):
+    """How many scenes went wrong."""
+    wrong = 0
+    with server.open() as s:
+        first = good(s)
+        fds, kib = server.descriptors(), server.resident()
+        for scene in scenes:
+            said = first or scene(server) or good(s)
+            print(f"{scene.__name__ + name:36}", said or "ok", flush=True)
+            wrong += said is not None
+        for _ in range(30):
+            if server.descriptors() == fds:
+                break
+            time.sleep(0.1)
+        left = server.descriptors() - fds
+        print(f"{'descriptors left over':36}", left)
+        print(f"{'resident KiB, grown by':36}", server.resident() - kib)
+        return wrong + (left != 0)
 
 
 def main():
@@ -267,23 +478,13 @@ def main():
     with tempfile.NamedTemporaryFile("w", suffix=".toml") as it:
         it.write(large)
         it.flush()
-        for plant, scenes in ((PLANT, SCENES), (it.name, LARGE)):
+        for plant, scenes in ((PLANT, SCENES), (it.name, LARGE), (it.name, None)):
             server = Server(plant)
-            with server.open() as s:
-                first = good(s)
-                fds, kib = server.descriptors(), server.resident()
-                for scene in scenes:
-                    said = first or scene(server) or good(s)
-                    print(f"{scene.__name__:22}", said or "ok", flush=True)
-                    wrong += said is not None
-                for _ in range(30):
-                    if server.descriptors() == fds:
-                        break
-                    time.sleep(0.1)
-                left = server.descriptors() - fds
-                print(f"{'descriptors left over':22}", left)
-                print(f"{'resident KiB, grown by':22}", server.resident() - kib)
-                wrong += left != 0
+            if scenes:
+                wrong += play(server, scenes)
+            else:
+                with load(server):
+                    wrong += play(server, LOADED, ", under load")
             if server.process.poll() is not None:
                 print("the server ended with", server.process.returncode)
                 wrong += 1

@@ -1,1 +1,5 @@
+pub mod BeatLemmas
 pub mod NumberLemmas
+pub mod QueueLemmas
+pub mod RestLemmas
+pub mod SilenceLemmas

@@ -1,9 +1,7 @@
 -- Numbers that count up were not given before.
-use Rattle.std.proofs.Common.{◌≡◌, ℕ, ◌+◌, ◌<◌, suc, zero, List, [], ◌∷◌, ◌++◌, true, false, refl, ap, ◌∙◌, add-one, arith}
-use Rattle.std.specs.Prelude.{Bool, not, ◌==◌, ◌||◌, IsTrue}
-use Rattle.std.specs.List.{list_any}
+use Rattle.std.proofs.Common.{◌≡◌, ℕ, ◌+◌, ◌<◌, suc, zero, [], ◌∷◌, ◌++◌, false, refl, ap, add-one, arith}
+use Rattle.std.specs.Prelude.{not, IsTrue}
 use Rattle.std.proofs.lemmas.Grind.{common_steps}
-use Rattle.std.proofs.lemmas.List.Folds.{list_any-append}
 use Rattle.ads_outside.specs.Opened.{is_opened}
 use Rattle.ads_edge.specs.Sockets.{numbers_to}
 

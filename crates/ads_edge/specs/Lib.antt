@@ -1,4 +1,10 @@
+pub mod Beats
 pub mod Came
+pub mod Connection
 pub mod Heard
+pub mod Peers
 pub mod Sockets
+pub mod TickClock
+pub mod Turn
 pub mod Waiting
+pub mod Written

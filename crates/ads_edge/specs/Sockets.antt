@@ -1,5 +1,7 @@
 -- What is known of a wire over real sockets.
-use Rattle.std.specs.Prelude.{ℕ, suc, zero, List, [], ◌∷◌, ◌++◌, None}
+use Rattle.std.specs.Prelude.{ℕ, suc, zero, List, [], ◌∷◌, ◌++◌, None, Bool, ◌&&◌, ◌||◌, is_some, nat_lt, vec_len}
+use Rattle.ads_edge.specs.Peers.{is_busy as peers_are_busy}
+use Rattle.ads_edge.specs.declared.sockets.Sockets.{Sockets}
 use Rattle.ads_outside.specs.WireState.{WireState}
 
 -- the numbers from 1 to this one
@@ -20,3 +22,7 @@ state_of_sockets last events stops faults = record {
   };
   faults = faults;
 }
+
+-- something is to be done without a wait: for a connection, or someone knocks and there is a place
+abbrev pub is_busy : Sockets → Bool
+is_busy s = peers_are_busy s.peers || ((s.knocks || is_some s.guest) && nat_lt (vec_len s.peers.connections) 64)

@@ -1,10 +1,13 @@
 //! One connection over a socket.
 
-ghost use Rattle.std.specs.Prelude.{◌≡◌, ◌≤◌, ◌<◌, ◌^◌, length, IfOk, IfSome};
+ghost use Rattle.std.specs.Prelude.{false, ◌≡◌, ◌≤◌, ◌<◌, ◌++◌, length, take, drop, IfOk, IfSome, IsTrue};
+ghost use Rattle.ads_edge.specs.Came.{CameWithin};
+ghost use Rattle.ads_edge.specs.Written.{WrittenWithin, alive_after as written_alive, is_there, taken_of};
 
 use crate::came::Came;
 use crate::out_buffer::OutBuffer;
 use crate::stage::Stage;
+use crate::written::Written;
 use ads_base::NoMemory;
 use mio::net::TcpStream;
 use std::alloc::Global;
@@ -12,10 +15,10 @@ use std::io::{ErrorKind, Read, Write};
 use std::net::Shutdown;
 
 /// How many ticks a connection that the server is done with may stand without taking a byte: 30 s.
-const STALLED_TICKS: u32 = 3_000;
+pub(crate) const STALLED_TICKS: u32 = 3_000;
 
 /// How many ticks a peer to which all was sent has to close: 1 s.
-const PARTING_TICKS: u32 = 100;
+pub(crate) const PARTING_TICKS: u32 = 100;
 
 /// A connection and what waits for its peer.
 #[derive(Drop)]
@@ -30,16 +33,21 @@ pub(crate) struct Connection {
     pub(crate) ended: bool,
     // An offer was short, and that it takes bytes again was not told since.
     pub(crate) short: bool,
-    patience: u32,
-    out: OutBuffer,
-    stream: TcpStream,
+    // The beat at which bytes came or were taken last, or at which it was opened.
+    pub(crate) alive: u64,
+    pub(crate) patience: u32,
+    pub(crate) out: OutBuffer,
+    pub(crate) stream: TcpStream,
 }
 
 impl Connection {
-    ghost use Rattle.ads_edge.specs.Came.{CameWithin};
+    ghost use Rattle.ads_edge.specs.Connection.{IsOpened, IsRest, MaySend, a_tick_older, alive_after, has_waiting, is_left, left, parted, stays, takes_again};
+    ghost use Rattle.ads_edge.specs.Waiting.{waiting};
 
-    /// A connection that was accepted and gets this number.
-    pub(crate) fn new(alloc: Global, number: u32, stream: TcpStream) -> Connection {
+    /// A connection that was accepted at this beat and gets this number.
+    pub(crate) fn new(alloc: Global, number: u32, now: u64, stream: TcpStream) -> Connection
+        ensures { IsOpened number now result }
+    {
         Connection {
             number,
             stage: Stage::Served,
@@ -48,43 +56,41 @@ impl Connection {
             hung: false,
             ended: false,
             short: false,
+            alive: now,
             patience: 0,
             out: OutBuffer::new(alloc),
             stream,
         }
     }
 
-    /// Reads once.
-    pub(crate) fn read(&mut self, buffer: &mut [u8]) -> Came
-        ensures { CameWithin result (length buffer.new) }
+    /// Reads once in its turn; bytes that come are a sign of life.
+    pub(crate) fn read(&mut self, buffer: &mut [u8], now: u64) -> Came
+        ensures within { CameWithin result (length buffer.new) }
+        ensures same { self.new ≡ record self.old { to_read = false; alive = alive_after result now self.old.alive } }
     {
-        for _ in 0..u64::MAX {
-            match self.stream.read(buffer) {
-                Ok(0) => return Came::End,
-                Ok(n) => return Came::Bytes(n),
-                Err(error) => {
-                    if error.kind() == ErrorKind::WouldBlock {
-                        return Came::Nothing;
-                    }
-                    if error.kind() != ErrorKind::Interrupted {
-                        return Came::Failed;
-                    }
-                }
-            }
+        self.to_read = false;
+        let came = came_over(&mut self.stream, buffer);
+        match came {
+            Came::Bytes(_) => self.alive = now,
+            Came::Nothing | Came::End | Came::Failed => {}
         }
-        Came::Failed
+        came
     }
 
-    /// Takes as many first bytes as find room, and tells how many; None where the peer is gone.
-    pub(crate) fn offer(&mut self, bytes: &[u8]) -> Result<Option<usize>, NoMemory>
-        ensures { IfOk result (λ taken. IfSome taken (λ n. n ≤ length bytes.now)) }
+    /// Takes as many first bytes as find room, and tells how many; None where the peer is gone. What was taken stands in order
+    /// behind what waited. Where not all were taken it is short.
+    #[tactic(auto, using(crate::proofs::RestLemmas::rest_same, crate::proofs::RestLemmas::rest_taken))]
+    pub(crate) fn offer(&mut self, bytes: &[u8], now: u64) -> Result<Option<usize>, NoMemory>
+        ensures within { IfOk result (λ taken. IfSome taken (λ n. n ≤ length bytes.now)) }
+        ensures taken { IfOk result (λ taken. IfSome taken (λ n. IsRest (waiting self.old.out ++ take n bytes.now) (waiting self.new.out))) }
+        ensures short { IfOk result (λ taken. IfSome taken (λ n. n < length bytes.now → IsTrue self.new.short)) }
     {
         let first = self.out.put(bytes)?;
         if first == bytes.len() {
             return Ok(Some(first));
         }
         // The buffer is full, so it is sent at once.
-        if !self.send() {
+        if !self.send(now) {
             return Ok(None);
         }
         let more = self.out.put(&bytes[first..])?;
@@ -92,62 +98,133 @@ impl Connection {
         Ok(Some(first + more))
     }
 
-    /// Sends what waits as far as the socket takes it; false where the peer is gone.
-    pub(crate) fn send(&mut self) -> bool {
-        for _ in 0..u64::MAX {
-            if self.out.is_empty() {
-                return true;
-            }
-            match self.stream.write(self.out.waiting()) {
-                Ok(n) => {
-                    self.out.sent(n);
-                    self.patience = STALLED_TICKS;
-                    return true;
-                }
-                Err(error) => {
-                    if error.kind() == ErrorKind::WouldBlock {
-                        return true;
-                    }
-                    if error.kind() != ErrorKind::Interrupted {
-                        return false;
-                    }
-                }
-            }
+    /// Sends what waits as far as the socket takes it by one writing; false where the peer is gone. Bytes that it takes are a
+    /// sign of life.
+    #[tactic(auto, using(crate::proofs::RestLemmas::rest_same, crate::proofs::RestLemmas::rest_written))]
+    pub(crate) fn send(&mut self, now: u64) -> bool
+        ensures rest { IsRest (waiting self.old.out) (waiting self.new.out) }
+        ensures same { MaySend self.old self.new }
+    {
+        if self.out.is_empty() {
+            return true;
         }
-        false
+        let written = written_to(&mut self.stream, self.out.waiting());
+        self.took(written, now)
+    }
+
+    // The socket took so many first bytes of what waits; false where the peer is gone.
+    fn took(&mut self, written: Written, now: u64) -> bool
+        requires { WrittenWithin written (length (waiting self.old.out)) }
+        ensures answer { result ≡ is_there written }
+        ensures rest { waiting self.new.out ≡ drop (taken_of written) (waiting self.old.out) }
+        ensures alive { self.new.alive ≡ written_alive written now self.old.alive }
+        ensures same { MaySend self.old self.new }
+    {
+        match written {
+            Written::Bytes(n) => {
+                self.out.sent(n);
+                self.patience = STALLED_TICKS;
+                self.alive = now;
+                true
+            }
+            Written::Full => true,
+            Written::Failed => false,
+        }
+    }
+
+    /// Whether the server is done with it.
+    pub(crate) fn is_left(&self) -> bool
+        ensures { result ≡ is_left self.now.stage }
+    {
+        match self.stage {
+            Stage::Served | Stage::Failed => false,
+            Stage::Leaving | Stage::Parting => true,
+        }
     }
 
     /// Whether bytes wait to be sent.
-    pub(crate) fn waits(&self) -> bool {
+    pub(crate) fn waits(&self) -> bool
+        ensures { result ≡ has_waiting self.now }
+    {
         !self.out.is_empty()
     }
 
     /// Whether it may be told that bytes are taken again.
-    pub(crate) fn takes_again(&self) -> bool {
+    pub(crate) fn takes_again(&self) -> bool
+        ensures { result ≡ takes_again self.now }
+    {
         self.short && self.out.has_room()
     }
 
     /// The server is done with it.
-    pub(crate) fn leave(&mut self) {
+    pub(crate) fn leave(&mut self)
+        ensures { self.new ≡ left self.old }
+    {
         self.stage = Stage::Leaving;
         self.patience = STALLED_TICKS;
     }
 
     /// All was sent, and the peer is told so.
-    pub(crate) fn part(&mut self) {
+    pub(crate) fn part(&mut self)
+        ensures { self.new ≡ parted self.old }
+    {
         let _ = self.stream.shutdown(Shutdown::Write);
         self.stage = Stage::Parting;
         self.patience = PARTING_TICKS;
     }
 
     /// A tick passes; false where the server is done with it and its time is over.
-    pub(crate) fn stays(&mut self) -> bool {
-        match self.stage {
-            Stage::Served | Stage::Failed => true,
-            Stage::Leaving | Stage::Parting => {
-                self.patience = self.patience.saturating_sub(1);
-                self.patience > 0
+    pub(crate) fn stays(&mut self) -> bool
+        ensures answer { result ≡ stays self.old }
+        ensures older { self.new ≡ a_tick_older self.old }
+    {
+        if !self.is_left() {
+            return true;
+        }
+        self.patience = self.patience.saturating_sub(1);
+        self.patience > 0
+    }
+}
+
+// Reads once.
+fn came_over(stream: &mut TcpStream, buffer: &mut [u8]) -> Came
+    ensures within { CameWithin result (length buffer.new) }
+    ensures same { stream.new ≡ stream.old }
+{
+    for _ in 0..u64::MAX {
+        match stream.read(buffer) {
+            Ok(0) => return Came::End,
+            Ok(n) => return Came::Bytes(n),
+            Err(error) => {
+                if error.kind() == ErrorKind::WouldBlock {
+                    return Came::Nothing;
+                }
+                if error.kind() != ErrorKind::Interrupted {
+                    return Came::Failed;
+                }
             }
         }
     }
+    Came::Failed
+}
+
+// Writes once.
+fn written_to(stream: &mut TcpStream, bytes: &[u8]) -> Written
+    ensures within { WrittenWithin result (length bytes.now) }
+    ensures same { stream.new ≡ stream.old }
+{
+    for _ in 0..u64::MAX {
+        match stream.write(bytes) {
+            Ok(n) => return Written::Bytes(n),
+            Err(error) => {
+                if error.kind() == ErrorKind::WouldBlock {
+                    return Written::Full;
+                }
+                if error.kind() != ErrorKind::Interrupted {
+                    return Written::Failed;
+                }
+            }
+        }
+    }
+    Written::Failed
 }

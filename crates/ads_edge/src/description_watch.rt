@@ -1,5 +1,10 @@
 //! The watch over a description's file.
 
+ghost use Rattle.std.specs.Prelude.{◌≡◌, ◌≢◌, ◌<◌, IfOk, IfSome, IfNone};
+ghost use Rattle.std.specs.Duration.{as_nanos};
+ghost use Rattle.std.specs.Time.{instant_nanos};
+ghost use Rattle.ads_edge.specs.TickClock.{later_than};
+
 use crate::real_files::read_all;
 use crate::tick_clock::later;
 use ads_base::{NoMemory, Octets};
@@ -15,9 +20,9 @@ const BETWEEN_SECS: u64 = 1;
 /// A file that is read again each second, and the bytes that it held last.
 #[derive(Drop)]
 pub(crate) struct DescriptionWatch {
-    name: String,
-    last: Octets,
-    due: Instant,
+    pub(crate) name: String,
+    pub(crate) last: Octets,
+    pub(crate) due: Instant,
 }
 
 impl DescriptionWatch {
@@ -27,7 +32,10 @@ impl DescriptionWatch {
         name: &str,
         first: &[u8],
         now: Instant,
-    ) -> Result<DescriptionWatch, NoMemory> {
+    ) -> Result<DescriptionWatch, NoMemory>
+        ensures last { IfOk result (λ watch. watch.last ≡ first.now) }
+        ensures due { IfOk result (λ watch. instant_nanos watch.due ≡ later_than (instant_nanos now) 1_000_000_000) }
+    {
         Ok(DescriptionWatch {
             name: String::from_str(alloc, name)?,
             last: Octets::copy_of(alloc, first)?,
@@ -43,7 +51,13 @@ impl DescriptionWatch {
         rt: &R,
         now: Instant,
         buffer: &mut [u8],
-    ) -> Option<Octets> {
+    ) -> Option<Octets>
+        ensures early { instant_nanos now < instant_nanos self.old.due → result ≡ None }
+        ensures other { IfSome result (λ bytes. bytes ≢ self.old.last) }
+        ensures given { IfSome result (λ bytes. self.new.last ≡ bytes) }
+        ensures kept { IfNone result (self.new.last ≡ self.old.last) }
+        ensures name { self.new.name ≡ self.old.name }
+    {
         if now < self.due {
             return None;
         }

@@ -1,6 +1,7 @@
 //! The real outside: files of the disk, standard output, the sockets of a server and that of a client.
 #![tactic(auto)]
 
+mod beats;
 mod came;
 mod connection;
 mod description_watch;
@@ -12,10 +13,14 @@ mod real_files;
 mod real_link;
 mod real_sink;
 mod real_wire;
+mod silence;
 mod sockets;
 mod stage;
 mod tick_clock;
 mod turn;
+mod vanished;
+mod wall_clock;
+mod written;
 
 pub use real_files::RealFiles;
 pub use real_link::RealLink;

@@ -1,6 +1,6 @@
 //! What was taken for a peer and is still to be sent.
 
-ghost use Rattle.std.specs.Prelude.{◌≡◌, ◌≤◌, ◌<◌, ◌-◌, ◌++◌, [], length, take, drop, min, vec_len, IsTrue, ◌↔◌, IfOk, OnErr};
+ghost use Rattle.std.specs.Prelude.{◌≡◌, ◌≤◌, ◌==◌, ◌++◌, [], length, take, drop, min, vec_len, nat_lt, IfOk, OnErr};
 
 use ads_base::NoMemory;
 use std::alloc::Global;
@@ -38,14 +38,14 @@ impl OutBuffer {
 
     /// Whether all was sent.
     pub(crate) fn is_empty(&self) -> bool
-        ensures { IsTrue result ↔ (self.now.sent ≡ vec_len self.now.bytes) }
+        ensures { result ≡ (self.now.sent == vec_len self.now.bytes) }
     {
         self.sent == self.bytes.len()
     }
 
     /// Whether there is room for a byte.
     pub(crate) fn has_room(&self) -> bool
-        ensures { IsTrue result ↔ (vec_len self.now.bytes < OUT_ROOM) }
+        ensures { result ≡ nat_lt (vec_len self.now.bytes) OUT_ROOM }
     {
         self.bytes.len() < OUT_ROOM
     }

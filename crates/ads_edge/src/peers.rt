@@ -1,10 +1,13 @@
 //! The connections of a wire.
 
-ghost use Rattle.std.specs.Prelude.{◌≡◌, ◌≤◌, ◌<◌, ◌^◌, length, IfOk, IfSome};
+ghost use Rattle.std.specs.Prelude.{◌≡◌, ◌≤◌, ◌<◌, ◌^◌, ◌∷◌, ◌++◌, ◌+◌, [], length, vec_len, nat_lt, true, false, IfOk, OnOk, IfSome, OnSome, IfNone, if◌then◌else◌};
+ghost use Rattle.std.specs.List.{HoldsAt, list_any, remove};
 ghost use Rattle.ads_edge.specs.Came.{CameWithin};
+ghost use Rattle.ads_edge.specs.declared.connection.Connection.{Connection};
 
 use crate::came::Came;
 use crate::connection::Connection;
+use crate::silence::longest_silent;
 use crate::stage::Stage;
 use crate::turn::Turn;
 use ads_base::{NoMemory, Octets};
@@ -14,29 +17,40 @@ use std::alloc::Global;
 use std::collections::VecDeque;
 
 /// How many connections there are at most.
-const MOST: usize = 64;
+pub(crate) const MOST: usize = 64;
 
 /// Connections by rising number, at most 64, and what is to be done for them.
 #[derive(Drop)]
 pub(crate) struct Peers {
-    alloc: Global,
-    connections: Vec<Connection>,
+    pub(crate) alloc: Global,
+    pub(crate) connections: Vec<Connection>,
+    // The beat that was come to last.
+    pub(crate) beat: u64,
     // The place that was looked up last.
-    near: usize,
+    pub(crate) near: usize,
     // The numbers of those to be read, and how many of them have their turn before the next poll.
-    to_read: VecDeque<u32>,
-    turns: usize,
+    pub(crate) to_read: VecDeque<u32>,
+    pub(crate) turns: usize,
     // Of those to be sent to, and of those of which something is to be told. A number may stand there in vain.
-    to_send: VecDeque<u32>,
-    to_tell: VecDeque<u32>,
+    pub(crate) to_send: VecDeque<u32>,
+    pub(crate) to_tell: VecDeque<u32>,
+    ghost few: { vec_len connections ≤ 64 },
 }
 
 impl Peers {
+    ghost use Rattle.ads_edge.specs.Peers.{ClosesSilent, IsEmpty, IsLongerBy, KeepsQueues, NoneIsSilent, is_busy};
+    ghost use Rattle.std.specs.VecDeque.{deque_len};
+    ghost use Rattle.ads_edge.specs.Connection.{has_waiting, is_left};
+    ghost use Rattle.ads_edge.specs.Turn.{IsTold, TellsOf};
+
     /// No connection.
-    pub(crate) fn new(alloc: Global) -> Peers {
+    pub(crate) fn new(alloc: Global) -> Peers
+        ensures { IsEmpty result }
+    {
         Peers {
             alloc,
             connections: Vec::new(alloc),
+            beat: 0,
             near: 0,
             to_read: VecDeque::new(alloc),
             turns: 0,
@@ -46,24 +60,35 @@ impl Peers {
     }
 
     /// Whether there is room for one more connection.
-    pub(crate) fn has_room(&self) -> bool {
+    pub(crate) fn has_room(&self) -> bool
+        ensures { result ≡ nat_lt (vec_len self.now.connections) MOST }
+    {
         self.connections.len() < MOST
     }
 
     /// Whether something is to be done without a wait.
-    pub(crate) fn is_busy(&self) -> bool {
+    pub(crate) fn is_busy(&self) -> bool
+        ensures { result ≡ is_busy self.now }
+    {
         !self.to_read.is_empty() || !self.to_send.is_empty() || !self.to_tell.is_empty()
     }
 
     /// A connection comes, with a number above all others.
-    pub(crate) fn open(&mut self, number: u32, stream: TcpStream) -> Result<(), NoMemory> {
-        let connection = Connection::new(self.alloc, number, stream);
+    pub(crate) fn open(&mut self, number: u32, stream: TcpStream) -> Result<(), NoMemory>
+        requires { vec_len self.old.connections < MOST }
+        ensures { OnOk result (vec_len self.new.connections ≡ vec_len self.old.connections + 1) }
+    {
+        let connection = Connection::new(self.alloc, number, self.beat, stream);
         self.connections.push(connection)?;
         Ok(())
     }
 
     /// The poll tells of a connection.
-    pub(crate) fn note(&mut self, number: u32, event: &Event) -> Result<(), NoMemory> {
+    #[tactic(auto, using(crate::proofs::QueueLemmas::longer_same, crate::proofs::QueueLemmas::longer_one))]
+    pub(crate) fn note(&mut self, number: u32, event: &Event) -> Result<(), NoMemory>
+        ensures to_read { IsLongerBy self.old.to_read.items self.new.to_read.items }
+        ensures to_send { IsLongerBy self.old.to_send.items self.new.to_send.items }
+    {
         let Some(place) = self.place_of(number) else {
             return Ok(());
         };
@@ -78,12 +103,16 @@ impl Peers {
     }
 
     /// Those that are to be read now have a turn each before the next poll.
-    pub(crate) fn begin_turns(&mut self) {
+    pub(crate) fn begin_turns(&mut self)
+        ensures { self.new ≡ record self.old { turns = deque_len self.old.to_read } }
+    {
         self.turns = self.to_read.len();
     }
 
     /// What came on the next connection that brings something in its turn.
-    pub(crate) fn next_piece(&mut self, buffer: &mut [u8]) -> Option<Turn> {
+    pub(crate) fn next_piece(&mut self, buffer: &mut [u8]) -> Option<Turn>
+        ensures turn { OnSome result (self.new.turns < self.old.turns) }
+    {
         for _ in 0..u64::MAX {
             if self.turns == 0 {
                 return None;
@@ -98,7 +127,9 @@ impl Peers {
     }
 
     /// The next thing that is to be told of a connection.
-    pub(crate) fn next_told(&mut self) -> Option<Turn> {
+    pub(crate) fn next_told(&mut self) -> Option<Turn>
+        ensures { IfSome result IsTold }
+    {
         for _ in 0..u64::MAX {
             let number = self.to_tell.pop_front()?;
             if let Some(turn) = self.tell(number) {
@@ -109,7 +140,10 @@ impl Peers {
     }
 
     /// Sends what waits, once a connection.
-    pub(crate) fn send_all(&mut self) -> Result<(), NoMemory> {
+    pub(crate) fn send_all(&mut self) -> Result<(), NoMemory>
+        ensures to_read { self.new.to_read.items ≡ self.old.to_read.items }
+        ensures turns { self.new.turns ≡ self.old.turns }
+    {
         for _ in 0..self.to_send.len() {
             let Some(number) = self.to_send.pop_front() else {
                 return Ok(());
@@ -131,7 +165,7 @@ impl Peers {
         if self.was_left(place) {
             return Ok(None);
         }
-        match offer_at(&mut self.connections, place, bytes)? {
+        match offer_at(&mut self.connections, place, bytes, self.beat)? {
             Some(taken) => {
                 self.list_to_send(place)?;
                 Ok(Some(taken))
@@ -144,25 +178,59 @@ impl Peers {
     }
 
     /// The server is done with a connection: what waits for it is still sent.
-    pub(crate) fn shut(&mut self, number: u32) -> Result<(), NoMemory> {
+    pub(crate) fn shut(&mut self, number: u32) -> Result<(), NoMemory>
+        ensures to_read { self.new.to_read.items ≡ self.old.to_read.items }
+        ensures turns { self.new.turns ≡ self.old.turns }
+    {
         match self.place_of(number) {
             Some(place) => self.leave(place),
             None => Ok(()),
         }
     }
 
-    /// A tick passes: connections that the server is done with do not stay for ever.
-    pub(crate) fn pass_tick(&mut self) {
+    /// This beat is come to: connections that the server is done with do not stay for ever.
+    pub(crate) fn pass_tick(&mut self, beat: u64)
+        ensures beat { self.new.beat ≡ beat }
+        ensures to_read { self.new.to_read.items ≡ self.old.to_read.items }
+        ensures turns { self.new.turns ≡ self.old.turns }
+    {
+        self.beat = beat;
         self.connections.retain_mut(|connection| connection.stays());
     }
 
+    /// Whether a connection has been silent for so long that it loses its place where another waits.
+    pub(crate) fn is_one_silent(&self) -> bool
+        ensures { result ≡ false → NoneIsSilent self.now.connections.items self.now.beat }
+    {
+        match longest_silent(self.connections.as_slice(), self.beat) {
+            Some(_) => true,
+            None => false,
+        }
+    }
+
+    /// The connection that is silent longest loses its place, if that is for five minutes at least.
+    #[tactic(auto, using(crate::proofs::SilenceLemmas::closes_silent))]
+    pub(crate) fn close_silent(&mut self) -> Option<Turn>
+        ensures closes { OnSome result (ClosesSilent self.old self.new) }
+    {
+        let place = longest_silent(self.connections.as_slice(), self.beat)?;
+        let number = self.connections.get(place)?.number;
+        self.fail(place, number)
+    }
+
     /// Whether bytes wait for a peer.
-    pub(crate) fn waits(&self) -> bool {
+    pub(crate) fn waits(&self) -> bool
+        ensures { result ≡ list_any has_waiting self.now.connections.items }
+    {
         self.connections.iter().any(|connection| connection.waits())
     }
 
     // The place of a connection.
-    fn place_of(&mut self, number: u32) -> Option<usize> {
+    fn place_of(&mut self, number: u32) -> Option<usize>
+        ensures within { IfSome result (λ place. place < vec_len self.old.connections) }
+        ensures found { IfSome result (HoldsAt (λ (c : Connection). c.number ≡ number) self.old.connections.items) }
+        ensures same { self.new ≡ record self.old { near = self.new.near } }
+    {
         if let Some(connection) = self.connections.get(self.near) {
             if connection.number == number {
                 return Some(self.near);
@@ -179,23 +247,34 @@ impl Peers {
     }
 
     // Whether the server is done with the connection.
-    fn was_left(&self, place: usize) -> bool {
+    fn was_left(&self, place: usize) -> bool
+        ensures { place < vec_len self.now.connections → HoldsAt (λ (c : Connection). result ≡ is_left c.stage) self.now.connections.items place }
+    {
         match self.connections.get(place) {
-            Some(connection) => {
-                connection.stage == Stage::Leaving || connection.stage == Stage::Parting
-            }
+            Some(connection) => connection.is_left(),
             None => true,
         }
     }
 
-    fn remove(&mut self, place: usize) {
+    fn remove(&mut self, place: usize)
+        ensures gone { place < vec_len self.old.connections → self.new.connections.items ≡ remove self.old.connections.items place }
+        ensures same { KeepsQueues self.old self.new }
+    {
         if place < self.connections.len() {
             let _gone = self.connections.remove(place);
         }
     }
 
     // The connection is to be read.
-    fn list_to_read(&mut self, place: usize, hung: bool) -> Result<(), NoMemory> {
+    #[tactic(auto, using(crate::proofs::QueueLemmas::longer_same, crate::proofs::QueueLemmas::longer_one))]
+    fn list_to_read(&mut self, place: usize, hung: bool) -> Result<(), NoMemory>
+        ensures order { IsLongerBy self.old.to_read.items self.new.to_read.items }
+        ensures once { OnOk result (place < vec_len self.old.connections → HoldsAt (λ (c : Connection). self.new.to_read.items ≡ (if c.to_read then self.old.to_read.items else self.old.to_read.items ++ c.number ∷ [])) self.old.connections.items place) }
+        ensures flag { OnOk result (place < vec_len self.old.connections → HoldsAt (λ (c : Connection). c.to_read ≡ true) self.new.connections.items place) }
+        ensures turns { self.new.turns ≡ self.old.turns }
+        ensures to_send { self.new.to_send.items ≡ self.old.to_send.items }
+        ensures count { vec_len self.new.connections ≡ vec_len self.old.connections }
+    {
         let Some(connection) = self.connections.get_mut(place) else {
             return Ok(());
         };
@@ -208,7 +287,12 @@ impl Peers {
     }
 
     // The connection is to be sent what waits for it, if anything.
-    fn list_to_send(&mut self, place: usize) -> Result<(), NoMemory> {
+    #[tactic(auto, using(crate::proofs::QueueLemmas::longer_same, crate::proofs::QueueLemmas::longer_one))]
+    fn list_to_send(&mut self, place: usize) -> Result<(), NoMemory>
+        ensures order { IsLongerBy self.old.to_send.items self.new.to_send.items }
+        ensures to_read { self.new.to_read.items ≡ self.old.to_read.items }
+        ensures turns { self.new.turns ≡ self.old.turns }
+    {
         let Some(connection) = self.connections.get_mut(place) else {
             return Ok(());
         };
@@ -220,10 +304,13 @@ impl Peers {
     }
 
     // Reads a connection in its turn.
-    fn read_from(&mut self, number: u32, buffer: &mut [u8]) -> Option<Turn> {
+    fn read_from(&mut self, number: u32, buffer: &mut [u8]) -> Option<Turn>
+        ensures own { IfSome result (TellsOf number) }
+        ensures turns { self.new.turns ≡ self.old.turns }
+    {
         let place = self.place_of(number)?;
         let room = buffer.len();
-        match read_at(&mut self.connections, place, buffer) {
+        match read_at(&mut self.connections, place, buffer, self.beat) {
             Came::Bytes(n) => self.take_piece(place, number, &buffer[..n], n == room),
             Came::Nothing => None,
             Came::End => self.end(place, number),
@@ -232,7 +319,10 @@ impl Peers {
     }
 
     // A piece came; where it filled the buffer or the peer sends no more, there is something left to read.
-    fn take_piece(&mut self, place: usize, number: u32, bytes: &[u8], full: bool) -> Option<Turn> {
+    fn take_piece(&mut self, place: usize, number: u32, bytes: &[u8], full: bool) -> Option<Turn>
+        ensures own { IfSome result (TellsOf number) }
+        ensures turns { self.new.turns ≡ self.old.turns }
+    {
         let connection = self.connections.get_mut(place)?;
         let served = connection.stage == Stage::Served;
         if full || connection.hung {
@@ -250,7 +340,10 @@ impl Peers {
     }
 
     // The peer sends no more. That is told once all is taken that waits for it in the server.
-    fn end(&mut self, place: usize, number: u32) -> Option<Turn> {
+    fn end(&mut self, place: usize, number: u32) -> Option<Turn>
+        ensures own { IfSome result (TellsOf number) }
+        ensures turns { self.new.turns ≡ self.old.turns }
+    {
         let connection = self.connections.get_mut(place)?;
         connection.ended = true;
         match connection.stage {
@@ -266,8 +359,12 @@ impl Peers {
         }
     }
 
-    // The connection failed when it was read.
-    fn fail(&mut self, place: usize, number: u32) -> Option<Turn> {
+    // The connection failed when it was read, or its peer is taken for vanished.
+    fn fail(&mut self, place: usize, number: u32) -> Option<Turn>
+        ensures closed { IfSome result (λ turn. turn ≡ Turn.Closed number) }
+        ensures gone { place < vec_len self.old.connections → self.new.connections.items ≡ remove self.old.connections.items place }
+        ensures turns { self.new.turns ≡ self.old.turns }
+    {
         let stage = self.connections.get(place)?.stage;
         self.remove(place);
         match stage {
@@ -277,7 +374,10 @@ impl Peers {
     }
 
     // Tells what is to be told of a connection.
-    fn tell(&mut self, number: u32) -> Option<Turn> {
+    fn tell(&mut self, number: u32) -> Option<Turn>
+        ensures own { IfSome result (TellsOf number) }
+        ensures told { IfSome result IsTold }
+    {
         let place = self.place_of(number)?;
         let connection = self.connections.get_mut(place)?;
         match connection.stage {
@@ -306,7 +406,10 @@ impl Peers {
     }
 
     // The server is done with a connection.
-    fn leave(&mut self, place: usize) -> Result<(), NoMemory> {
+    fn leave(&mut self, place: usize) -> Result<(), NoMemory>
+        ensures to_read { self.new.to_read.items ≡ self.old.to_read.items }
+        ensures turns { self.new.turns ≡ self.old.turns }
+    {
         let Some(connection) = self.connections.get_mut(place) else {
             return Ok(());
         };
@@ -320,7 +423,9 @@ impl Peers {
     }
 
     // All was sent to a connection that the server is done with.
-    fn part(&mut self, place: usize) {
+    fn part(&mut self, place: usize)
+        ensures { KeepsQueues self.old self.new }
+    {
         let Some(connection) = self.connections.get_mut(place) else {
             return;
         };
@@ -332,7 +437,10 @@ impl Peers {
     }
 
     // Sends what waits for a connection.
-    fn send_to(&mut self, number: u32) -> Result<(), NoMemory> {
+    fn send_to(&mut self, number: u32) -> Result<(), NoMemory>
+        ensures to_read { self.new.to_read.items ≡ self.old.to_read.items }
+        ensures turns { self.new.turns ≡ self.old.turns }
+    {
         let Some(place) = self.place_of(number) else {
             return Ok(());
         };
@@ -340,7 +448,7 @@ impl Peers {
             return Ok(());
         };
         connection.to_send = false;
-        let sent = connection.send();
+        let sent = connection.send(self.beat);
         match connection.stage {
             Stage::Served => {
                 if !sent {
@@ -364,14 +472,12 @@ impl Peers {
 }
 
 // Reads a connection in its turn.
-fn read_at(connections: &mut Vec<Connection>, place: usize, buffer: &mut [u8]) -> Came
-    ensures { CameWithin result (length buffer.new) }
+fn read_at(connections: &mut Vec<Connection>, place: usize, buffer: &mut [u8], now: u64) -> Came
+    ensures within { CameWithin result (length buffer.new) }
+    ensures same { vec_len connections.new ≡ vec_len connections.old }
 {
     match connections.get_mut(place) {
-        Some(connection) => {
-            connection.to_read = false;
-            connection.read(buffer)
-        }
+        Some(connection) => connection.read(buffer, now),
         None => Came::Nothing,
     }
 }
@@ -381,9 +487,11 @@ fn offer_at(
     connections: &mut Vec<Connection>,
     place: usize,
     bytes: &[u8],
+    now: u64,
 ) -> Result<Option<u32>, NoMemory>
     requires { length bytes.now < 2 ^ 32 }
-    ensures { IfOk result (λ taken. IfSome taken (λ n. n ≤ length bytes.now)) }
+    ensures within { IfOk result (λ taken. IfSome taken (λ n. n ≤ length bytes.now)) }
+    ensures same { vec_len connections.new ≡ vec_len connections.old }
 {
     let Some(connection) = connections.get_mut(place) else {
         return Ok(None);
@@ -391,7 +499,7 @@ fn offer_at(
     if connection.stage != Stage::Served {
         return Ok(None);
     }
-    match connection.offer(bytes)? {
+    match connection.offer(bytes, now)? {
         Some(taken) => Ok(Some(taken as u32)),
         None => Ok(None),
     }

@@ -56,7 +56,9 @@ impl<R: SystemFiles + Drop> Files for RealFiles<R> {
 }
 
 /// A buffer of 65,536 bytes.
-pub(crate) fn empty_buffer(alloc: Global) -> Result<Vec<u8>, AllocError> {
+pub(crate) fn empty_buffer(alloc: Global) -> Result<Vec<u8>, AllocError>
+    ensures { IfOk result (λ buffer. vec_len buffer ≡ 65_536) }
+{
     Vec::from_elem(alloc, 0u8, 65_536)
 }
 

@@ -5,7 +5,7 @@ ghost use Rattle.ads_edge.specs.Heard.{HeardWithin};
 
 use crate::heard::Heard;
 use crate::listening_at::address_of;
-use crate::tick_clock::moment;
+use crate::wall_clock::moment;
 use ads_outside::{Connected, Link, LinkCounts, Received, Sent};
 use std::io::{ErrorKind, Read, Write};
 use std::net::{Net, OpenStream, TcpStream};

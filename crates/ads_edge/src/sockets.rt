@@ -1,12 +1,15 @@
 //! A listening socket, its connections, the clock and the watch.
 
-ghost use Rattle.std.specs.Prelude.{◌≤◌, ◌<◌, ◌^◌, length, IfOk, IfSome};
+ghost use Rattle.std.specs.Prelude.{◌≡◌, false, ◌≤◌, ◌<◌, ◌^◌, length, vec_len, IfOk, IfSome};
+ghost use Rattle.ads_edge.specs.Turn.{IsFault, IsOfTime, IsTick, OpensBy};
 
 use crate::description_watch::DescriptionWatch;
 use crate::listening_at::address_of;
 use crate::peers::Peers;
-use crate::tick_clock::{TickClock, moment};
+use crate::tick_clock::TickClock;
 use crate::turn::Turn;
+use crate::vanished::watch_over;
+use crate::wall_clock::moment;
 use ads_base::NoMemory;
 use mio::event::Event;
 use mio::net::{TcpListener, TcpStream};
@@ -25,20 +28,24 @@ const EVENTS: usize = 128;
 
 /// Sockets that are polled.
 pub(crate) struct Sockets {
-    alloc: Global,
-    poll: Poll,
-    events: Events,
-    listener: TcpListener,
+    pub(crate) alloc: Global,
+    pub(crate) poll: Poll,
+    pub(crate) events: Events,
+    pub(crate) listener: TcpListener,
     // Someone may wait to be accepted; where accepting failed, it is tried again at the next tick.
-    knocks: bool,
-    peers: Peers,
-    clock: TickClock,
+    pub(crate) knocks: bool,
+    // Accepted, and waits for the place that a silent connection gives up.
+    pub(crate) guest: Option<TcpStream>,
+    pub(crate) peers: Peers,
+    pub(crate) clock: TickClock,
     // The last turn was a tick.
-    struck: bool,
-    watch: DescriptionWatch,
+    pub(crate) struck: bool,
+    pub(crate) watch: DescriptionWatch,
 }
 
 impl Sockets {
+    ghost use Rattle.ads_edge.specs.Sockets.{is_busy};
+
     /// Listens there, and watches the named file, which held these bytes. None where the address can't be listened at.
     pub(crate) fn open<R: Net + Clock>(
         alloc: Global,
@@ -50,7 +57,7 @@ impl Sockets {
         let Some((poll, listener)) = listening(rt, listen) else {
             return Ok(None);
         };
-        let Ok(now) = Instant::now(rt) else {
+        let (Ok(now), Some(wall)) = (Instant::now(rt), moment(rt)) else {
             return Ok(None);
         };
         Ok(Some(Sockets {
@@ -59,8 +66,9 @@ impl Sockets {
             events: Events::with_capacity(alloc, EVENTS)?,
             listener,
             knocks: true,
+            guest: None,
             peers: Peers::new(alloc),
-            clock: TickClock::new(now),
+            clock: TickClock::new(now, wall),
             struck: false,
             watch: DescriptionWatch::new(alloc, name, first, now)?,
         }))
@@ -124,7 +132,9 @@ impl Sockets {
     }
 
     // A tick or a reload, if one is due. Behind a tick something else has its turn, if there is anything.
-    fn time_turn<R: Clock + SystemFiles>(&mut self, rt: &R, buffer: &mut [u8]) -> Option<Turn> {
+    fn time_turn<R: Clock + SystemFiles>(&mut self, rt: &R, buffer: &mut [u8]) -> Option<Turn>
+        ensures { IfSome result IsOfTime }
+    {
         if self.struck {
             return None;
         }
@@ -134,40 +144,70 @@ impl Sockets {
         if let Some(bytes) = self.watch.changed(self.alloc, rt, now, buffer) {
             return Some(Turn::Reload(bytes));
         }
-        if !self.clock.strikes(now) {
+        if !self.clock.is_due(now) {
             return None;
         }
         self.struck = true;
         self.knocks = true;
-        self.peers.pass_tick();
+        self.peers.pass_tick(self.clock.beat_at(now));
         match moment(rt) {
-            Some(moment) => Some(Turn::Tick(moment)),
+            Some(wall) => self.tick(now, wall),
             None => Some(Turn::Failed),
         }
     }
 
-    // Accepts a connection, if one waits and there is room.
+    // The tick of a beat, where it gives one.
+    fn tick(&mut self, now: Instant, wall: u64) -> Option<Turn>
+        ensures { IfSome result IsTick }
+    {
+        let moment = self.clock.strike(now, wall)?;
+        Some(Turn::Tick(moment))
+    }
+
+    // Accepts a connection, if one waits and there is a place for it.
     fn accept(&mut self, number: Option<u32>) -> Option<Turn> {
-        if !self.knocks || !self.peers.has_room() {
+        if self.peers.has_room() {
+            let stream = match self.guest.take() {
+                Some(stream) => stream,
+                None => self.knocking()?,
+            };
+            return self.welcome(number, stream);
+        }
+        if self.knocks && self.guest.is_none() && self.peers.is_one_silent() {
+            self.guest = Some(self.knocking()?);
+            return self.peers.close_silent();
+        }
+        None
+    }
+
+    // The connection that waits, if one does.
+    fn knocking(&mut self) -> Option<TcpStream>
+        ensures asked { self.old.knocks ≡ false → result ≡ None }
+        ensures peers { self.new.peers ≡ self.old.peers }
+    {
+        if !self.knocks {
             return None;
         }
         match self.listener.accept() {
-            Ok((stream, _)) => self.welcome(number, stream),
+            Ok((stream, _)) => Some(stream),
             Err(error) => {
-                let again = error.kind() == ErrorKind::Interrupted
+                self.knocks = error.kind() == ErrorKind::Interrupted
                     || error.kind() == ErrorKind::ConnectionAborted;
-                self.knocks = again;
                 None
             }
         }
     }
 
     // A connection was accepted. Where it can't be watched it is dropped.
-    fn welcome(&mut self, number: Option<u32>, mut stream: TcpStream) -> Option<Turn> {
+    fn welcome(&mut self, number: Option<u32>, mut stream: TcpStream) -> Option<Turn>
+        requires { vec_len self.old.peers.connections < 64 }
+        ensures { IfSome result (OpensBy number) }
+    {
         let Some(number) = number else {
             return Some(Turn::Failed);
         };
         let _ = stream.set_nodelay(true);
+        watch_over(&stream);
         let both = Interest::READABLE | Interest::WRITABLE;
         self.poll
             .registry()
@@ -180,18 +220,26 @@ impl Sockets {
     }
 
     // Waits until a socket is ready or a tick is due.
-    fn wait<R: Clock>(&mut self, rt: &R) -> Option<Turn> {
+    fn wait<R: Clock>(&mut self, rt: &R) -> Option<Turn>
+        ensures { IfSome result IsFault }
+    {
         let Ok(now) = Instant::now(rt) else {
             return Some(Turn::Failed);
         };
-        let busy = self.peers.is_busy() || self.knocks && self.peers.has_room();
-        let left = if busy {
+        let left = if self.is_busy() {
             Duration::ZERO
         } else {
             self.clock.left(now)
         };
         self.struck = false;
         self.poll_for(left)
+    }
+
+    // Whether something is to be done without a wait.
+    fn is_busy(&self) -> bool
+        ensures { result ≡ is_busy self.now }
+    {
+        self.peers.is_busy() || (self.knocks || self.guest.is_some()) && self.peers.has_room()
     }
 
     // Sends what waits, as far as the peers read within a second.
@@ -207,7 +255,9 @@ impl Sockets {
     }
 
     // Polls for so long, and notes what is ready.
-    fn poll_for(&mut self, left: Duration) -> Option<Turn> {
+    fn poll_for(&mut self, left: Duration) -> Option<Turn>
+        ensures { IfSome result IsFault }
+    {
         if self.poll.poll(&mut self.events, Some(left)).is_err() {
             return Some(Turn::Failed);
         }
@@ -230,6 +280,7 @@ impl Drop for Sockets {
             events: _,
             listener: _,
             knocks: _,
+            guest: _,
             peers: _,
             clock: _,
             struck: _,

@@ -1,61 +1,82 @@
 //! The clock of the ticks.
 
-use std::time::{Clock, Duration, Instant, SystemTime};
+ghost use Rattle.std.specs.Prelude.{◌≡◌, ◌<◌, ◌↔◌, IsSome, IfSome, nat_lt};
+ghost use Rattle.std.specs.Duration.{as_nanos};
+ghost use Rattle.std.specs.Time.{instant_nanos};
+ghost use Rattle.ads_edge.specs.Beats.{after, gained, moment_at};
+ghost use Rattle.ads_edge.specs.TickClock.{beat_of, later_than, left_at, since};
 
-/// The milliseconds between two ticks.
-const TICK_MILLIS: u64 = 10;
+use crate::beats::Beats;
+use std::time::{Duration, Instant};
 
-/// How many times 100 ns lie between 1 January 1601 and 1 January 1970.
-const BEFORE_1970: u64 = 116_444_736_000_000_000;
+/// The nanoseconds between two beats.
+pub(crate) const BEAT_NANOS: u64 = 10_000_000;
 
-/// A clock that strikes every 10 ms.
+/// A clock that strikes at each beat of 10 ms since its start.
 #[derive(Clone, Copy)]
 pub(crate) struct TickClock {
-    due: Instant,
+    pub(crate) start: Instant,
+    pub(crate) beats: Beats,
 }
 
 impl TickClock {
-    /// A clock that strikes 10 ms after this time.
-    pub(crate) fn new(now: Instant) -> TickClock {
+    /// A clock that starts at this time, which is this moment.
+    pub(crate) fn new(start: Instant, moment: u64) -> TickClock
+        ensures { result ≡ record { start = start; beats = record { beat = 0; moment = moment } } }
+    {
         TickClock {
-            due: beat_after(now),
+            start,
+            beats: Beats::new(moment),
         }
     }
 
-    /// Whether it strikes. It keeps its beat; beats that were missed are left out.
-    pub(crate) fn strikes(&mut self, now: Instant) -> bool {
-        if now < self.due {
-            return false;
+    /// The beat at this time: how many whole 10 ms have passed since the start.
+    pub(crate) fn beat_at(&self, now: Instant) -> u64
+        ensures { result ≡ beat_of (since self.now now) }
+    {
+        self.since(now) / BEAT_NANOS
+    }
+
+    /// Whether a beat has come that was not come to before.
+    pub(crate) fn is_due(&self, now: Instant) -> bool
+        ensures { result ≡ nat_lt self.now.beats.beat (beat_of (since self.now now)) }
+    {
+        self.beats.beat < self.beat_at(now)
+    }
+
+    /// The moment of the tick that is given at this time, where one is.
+    pub(crate) fn strike(&mut self, now: Instant, wall: u64) -> Option<u64>
+        ensures ticks { IsSome result ↔ (0 < gained self.old.beats (beat_of (since self.old now)) wall) }
+        ensures moment { IfSome result (λ moment. moment ≡ moment_at self.old.beats (beat_of (since self.old now)) wall) }
+        ensures beats { self.new.beats ≡ after self.old.beats (beat_of (since self.old now)) wall }
+        ensures start { self.new.start ≡ self.old.start }
+    {
+        let beat = self.beat_at(now);
+        self.beats.come_to(beat, wall)
+    }
+
+    /// How long it is till the next beat: nothing where one is due.
+    pub(crate) fn left(&self, now: Instant) -> Duration
+        ensures { as_nanos result ≡ left_at self.now now }
+    {
+        if self.is_due(now) {
+            return Duration::ZERO;
         }
-        let next = beat_after(self.due);
-        self.due = if now < next { next } else { beat_after(now) };
-        true
+        Duration::from_nanos(BEAT_NANOS - self.since(now) % BEAT_NANOS)
     }
 
-    /// How long it is till it strikes.
-    pub(crate) fn left(&self, now: Instant) -> Duration {
-        self.due.duration_since(now)
+    // The nanoseconds since the start.
+    fn since(&self, now: Instant) -> u64
+        ensures { result ≡ since self.now now }
+    {
+        let nanos = now.duration_since(self.start).as_nanos();
+        nanos.min(u64::MAX as u128) as u64
     }
 }
 
-// A beat after this time.
-fn beat_after(time: Instant) -> Instant {
-    later(time, Duration::from_millis(TICK_MILLIS))
-}
-
-/// A time that comes so much later.
-pub(crate) fn later(time: Instant, by: Duration) -> Instant {
+/// A time that comes so much later; the same where there is none so late.
+pub(crate) fn later(time: Instant, by: Duration) -> Instant
+    ensures { instant_nanos result ≡ later_than (instant_nanos time) (as_nanos by) }
+{
     time.checked_add(by).unwrap_or(time)
-}
-
-/// This moment in 100 ns since 1 January 1601; None where the system's clock fails.
-pub(crate) fn moment<C: Clock>(clock: &C) -> Option<u64> {
-    let since = SystemTime::now(clock)
-        .ok()?
-        .duration_since(SystemTime::UNIX_EPOCH)
-        .ok()?;
-    let whole = since.as_secs().checked_mul(10_000_000)?;
-    whole
-        .checked_add(u64::from(since.subsec_nanos() / 100))?
-        .checked_add(BEFORE_1970)
 }

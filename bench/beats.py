@@ -1,0 +1,207 @@
+#!/usr/bin/env python3
+"""How evenly `ads serve` gives the samples of a cycle, at rest and under load.
+
+    python3 bench/beats.py [PROGRAM] [--seconds S]
+
+PROGRAM is crates/ads/out/ads, which `rt run -- selftest ../../examples/state.script` in crates/ads builds. Four connections have a notification in cycle
+mode each, of 10, 20, 50 and 100 ms. Under load 60 more ask for the state without end, one request in flight on each, by two processes. Of each cycle one
+line: how many samples came in S seconds (60 unless told), the mean gap between two, the longest gap, and how many beats of the cycle were missed, by the
+moments of the samples. The program ends with 1 where the mean gap of the 10 ms cycle is above 10.5 ms (5 % above the cycle for the others), or where a moment does not lie a whole
+number of cycles behind the last.
+
+With --wall the system's wall clock is set for the server alone (bench/set_clocks.c, which gcc builds): an hour forward, and then two hours back, while
+samples come; it prints how the moments follow.
+"""
+import argparse
+import os
+import selectors
+import socket
+import struct
+import subprocess
+import sys
+import tempfile
+import time
+
+HERE = os.path.dirname(os.path.abspath(__file__))
+PLANT = os.path.join(HERE, "..", "examples", "plant.toml")
+NET, ME = bytes([5, 1, 2, 3, 1, 1]), bytes([192, 168, 0, 9, 1, 1])
+CYCLES = (10, 20, 50, 100)
+MS = 10_000
+ASKING, PROCESSES = 60, 2
+
+
+def frame(command, number, payload):
+    head = NET + struct.pack("<H", 851) + ME + struct.pack("<HHHIII", 32905, command, 4, len(payload), 0, number)
+    return bytes(2) + struct.pack("<I", len(head) + len(payload)) + head + payload
+
+
+STATE = frame(4, 1, b"")
+
+
+def start(program, **more):
+    """A server, and its port."""
+    with socket.socket() as s:
+        s.bind(("127.0.0.1", 0))
+        port = s.getsockname()[1]
+    process = subprocess.Popen([program, "serve", PLANT, "--listen", f"127.0.0.1:{port}", "--events", str(2 ** 64 - 1)], stdout=subprocess.PIPE, **more)
+    if process.stdout.readline() != b"listening\n":
+        sys.exit("the server does not listen")
+    return process, port
+
+
+def connect(port):
+    s = socket.create_connection(("127.0.0.1", port), timeout=10)
+    s.setsockopt(socket.IPPROTO_TCP, socket.TCP_NODELAY, 1)
+    return s
+
+
+class Cycle:
+    """A connection with one notification in cycle mode, and when its samples came."""
+
+    def __init__(self, port, cycle):
+        self.cycle, self.rest, self.came, self.moments = cycle, b"", [], []
+        self.socket = connect(port)
+        self.socket.sendall(frame(6, 5, struct.pack("<IIIIII", 0x4040, 64, 2, 3, 0, cycle * MS) + bytes(16)))
+
+    def hear(self):
+        self.rest += self.socket.recv(65536)
+        now = time.monotonic()
+        while len(self.rest) >= 6 and len(self.rest) >= 6 + struct.unpack_from("<I", self.rest, 2)[0]:
+            size = 6 + struct.unpack_from("<I", self.rest, 2)[0]
+            if self.rest[22:24] == b"\x08\x00":
+                self.came.append(now)
+                self.moments.append(struct.unpack_from("<Q", self.rest, 46)[0])
+            self.rest = self.rest[size:]
+
+    def line(self):
+        """What is told of it, and whether it is as it must be."""
+        count = len(self.came)
+        if count < 2:
+            return f"{self.cycle:5} ms  no samples", False
+        mean = 1e3 * (self.came[-1] - self.came[0]) / (count - 1)
+        longest = 1e3 * max(b - a for a, b in zip(self.came, self.came[1:]))
+        steps = [b - a for a, b in zip(self.moments, self.moments[1:])]
+        missed = sum(step // (self.cycle * MS) - 1 for step in steps)
+        even = all(step > 0 and step % (10 * MS) == 0 for step in steps)
+        return (f"{self.cycle:5} ms {count:9} {mean:11.3f} ms {longest:11.1f} ms {missed:8}" + ("" if even else "  moments off the beats"),
+                even and mean <= 1.05 * self.cycle)
+
+
+def listen(cycles, seconds):
+    with selectors.DefaultSelector() as poll:
+        for it in cycles:
+            poll.register(it.socket, selectors.EVENT_READ, it)
+        until = time.monotonic() + seconds
+        while time.monotonic() < until:
+            for key, _ in poll.select(0.1):
+                key.data.hear()
+
+
+def ask(port, count):
+    """So many connections ask for the state without end."""
+    with selectors.DefaultSelector() as poll:
+        for _ in range(count):
+            s = connect(port)
+            poll.register(s, selectors.EVENT_READ)
+            s.sendall(STATE)
+        while True:
+            for key, _ in poll.select():
+                if not key.fileobj.recv(4096):
+                    return
+                key.fileobj.send(STATE)
+
+
+def load(port):
+    """The processes that ask."""
+    children = []
+    for _ in range(PROCESSES):
+        child = os.fork()
+        if child == 0:
+            try:
+                ask(port, ASKING // PROCESSES)
+            finally:
+                os._exit(0)
+        children.append(child)
+    return children
+
+
+def measure(program, seconds, loaded):
+    server, port = start(program)
+    children = []
+    try:
+        cycles = [Cycle(port, cycle) for cycle in CYCLES]
+        if loaded:
+            children = load(port)
+            time.sleep(1)
+            for it in cycles:
+                it.socket.setblocking(False)
+        listen(cycles, 1)
+        for it in cycles:
+            it.came, it.moments = [], []
+        listen(cycles, seconds)
+        print(f"{'under load of 60 connections' if loaded else 'at rest'}, load average {os.getloadavg()[0]:.1f}")
+        print("   cycle   samples    mean gap    longest gap   missed")
+        lines = [it.line() for it in cycles]
+        for text, _ in lines:
+            print(text, flush=True)
+        return all(right for _, right in lines)
+    finally:
+        for child in children:
+            os.kill(child, 9)
+            os.waitpid(child, 0)
+        server.kill()
+        server.wait()
+
+
+def wall(program):
+    """The wall clock of the server alone is set forward and back, while a cycle of 10 ms goes on."""
+    right = True
+    with tempfile.TemporaryDirectory() as folder:
+        shim, clocks = os.path.join(folder, "set_clocks.so"), os.path.join(folder, "clocks")
+        subprocess.run(["gcc", "-O2", "-shared", "-fPIC", "-o", shim, os.path.join(HERE, "set_clocks.c")], check=True)
+        set_clock(clocks, 0)
+        server, port = start(program, env={**os.environ, "LD_PRELOAD": shim, "SET_CLOCKS": clocks})
+        try:
+            it = Cycle(port, 10)
+            listen([it], 1)
+            for name, seconds in (("an hour forward", 3600), ("two hours back", -3600)):
+                set_clock(clocks, seconds)
+                it.came, it.moments = it.came[-1:], it.moments[-1:]
+                listen([it], 10)
+                right = told_of(it, name, seconds) and right
+        finally:
+            server.kill()
+            server.wait()
+    return right
+
+
+def set_clock(clocks, seconds):
+    with open(clocks, "r+b" if os.path.exists(clocks) else "wb") as it:
+        it.write(struct.pack("<qq", seconds, 0))
+
+
+def told_of(it, name, seconds):
+    """Prints how the moments follow; whether samples came all the while, at moments that rise by whole beats."""
+    if len(it.came) < 3:
+        print(f"wall clock {name}: samples stall")
+        return False
+    off = it.moments[-1] / 1e7 - 11644473600 - time.time() - seconds
+    steps = sorted(b - a for a, b in zip(it.moments, it.moments[1:]))
+    longest = 1e3 * max(b - a for a, b in zip(it.came, it.came[1:]))
+    print(f"wall clock {name}: {len(it.came)} samples in 10 s, longest gap {longest:.0f} ms, greatest step of a moment {steps[-1] / 1e7:.2f} s, moments {off:+.2f} s off")
+    return len(it.came) > 900 and steps[0] > 0 and all(step % (10 * MS) == 0 for step in steps)
+
+
+def main():
+    words = argparse.ArgumentParser(description=__doc__.splitlines()[0])
+    words.add_argument("program", nargs="?", default=os.path.join(HERE, "..", "crates", "ads", "out", "ads"))
+    words.add_argument("--seconds", type=float, default=60)
+    words.add_argument("--wall", action="store_true")
+    told = words.parse_args()
+    program = os.path.abspath(told.program)
+    if told.wall:
+        sys.exit(0 if wall(program) else 1)
+    sys.exit(0 if all([measure(program, told.seconds, loaded) for loaded in (False, True)]) else 1)
+
+
+main()
