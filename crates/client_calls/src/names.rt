@@ -12,6 +12,7 @@ ghost use Rattle.client_core.specs.Represents.{Represents};
 use ads_base::{NoMemory, Octets, put32};
 use ads_commands::Request;
 use client_core::{Client, Issued, Outstanding};
+use index_groups::{SUM_READ, VALUE_BY_HANDLE};
 use std::alloc::Global;
 
 /// Issues one sum that reads the symbols with these handles and sizes. The reply has a result of 4 bytes for each of
@@ -39,7 +40,7 @@ pub fn read_names(
     let parts = parts_of(alloc, handles, sizes)?;
     let count = handles.len() as u32;
     let request = Request::ReadWrite {
-        group: 0xF080,
+        group: SUM_READ,
         offset: count,
         read_len: 4 * count + total(sizes),
         bytes: parts.as_slice(),
@@ -62,7 +63,7 @@ fn parts_of(alloc: Global, handles: &[u32], sizes: &[u32]) -> Result<Octets, NoM
 {
     let mut parts = Octets::new(alloc);
     for i in 0..handles.len() {
-        put_part(alloc, &mut parts, 0xF005, handles[i], sizes[i])?;
+        put_part(alloc, &mut parts, VALUE_BY_HANDLE, handles[i], sizes[i])?;
     }
     Ok(parts)
 }

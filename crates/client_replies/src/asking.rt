@@ -12,6 +12,10 @@ use crate::stage::Asked;
 use crate::watching::Watching;
 use ads_base::{NoMemory, Octets, put32};
 use ads_commands::Request;
+use index_groups::{
+    EXTENDED_INFO_BY_NAME, HANDLE_BY_NAME, RELEASE_HANDLE, SYMBOL_UPLOAD, TYPE_UPLOAD, UPLOAD_INFO,
+    UPLOAD_INFO_WITH_TYPES, VALUE_BY_HANDLE, VALUE_BY_NAME,
+};
 use std::alloc::Global;
 
 impl Asked {
@@ -77,7 +81,7 @@ pub(crate) fn entry_request(alloc: Global, name: &[u8]) -> Result<Asked, NoMemor
 {
     let bytes = Octets::copy_of(alloc, name)?;
     Ok(Asked::ReadWrite {
-        group: 0xF009,
+        group: EXTENDED_INFO_BY_NAME,
         offset: 0,
         read_len: 65_536,
         bytes,
@@ -89,7 +93,7 @@ pub(crate) fn value_request(name: Octets, size: u32) -> Asked
     ensures { request_kept result ≡ calls.value_request name size }
 {
     Asked::ReadWrite {
-        group: 0xF004,
+        group: VALUE_BY_NAME,
         offset: 0,
         read_len: size,
         bytes: name,
@@ -101,7 +105,7 @@ pub(crate) fn handle_request(name: Octets) -> Asked
     ensures { request_kept result ≡ calls.handle_request name }
 {
     Asked::ReadWrite {
-        group: 0xF003,
+        group: HANDLE_BY_NAME,
         offset: 0,
         read_len: 4,
         bytes: name,
@@ -113,7 +117,7 @@ pub(crate) fn write_request(handle: u32, value: Octets) -> Asked
     ensures { request_kept result ≡ calls.write_request handle value }
 {
     Asked::Write {
-        group: 0xF005,
+        group: VALUE_BY_HANDLE,
         offset: handle,
         bytes: value,
     }
@@ -126,7 +130,7 @@ pub(crate) fn release_request(alloc: Global, handle: u32) -> Result<Asked, NoMem
     let mut bytes = Octets::new(alloc);
     put32(alloc, &mut bytes, handle)?;
     Ok(Asked::Write {
-        group: 0xF006,
+        group: RELEASE_HANDLE,
         offset: 0,
         bytes,
     })
@@ -137,7 +141,7 @@ pub(crate) fn upload_info_request() -> Asked
     ensures { request_kept result ≡ calls.upload_info_request }
 {
     Asked::Read {
-        group: 0xF00C,
+        group: UPLOAD_INFO,
         offset: 0,
         len: 8,
     }
@@ -148,7 +152,7 @@ pub(crate) fn upload_request(size: u32) -> Asked
     ensures { request_kept result ≡ calls.upload_request size }
 {
     Asked::Read {
-        group: 0xF00B,
+        group: SYMBOL_UPLOAD,
         offset: 0,
         len: size,
     }
@@ -159,7 +163,7 @@ pub(crate) fn type_info_request() -> Asked
     ensures { request_kept result ≡ calls.type_info_request }
 {
     Asked::Read {
-        group: 0xF00F,
+        group: UPLOAD_INFO_WITH_TYPES,
         offset: 0,
         len: 24,
     }
@@ -170,7 +174,7 @@ pub(crate) fn type_upload_request(size: u32) -> Asked
     ensures { request_kept result ≡ calls.type_upload_request size }
 {
     Asked::Read {
-        group: 0xF00E,
+        group: TYPE_UPLOAD,
         offset: 0,
         len: size,
     }

@@ -5,6 +5,10 @@ ghost use Rattle.spec_formats.specs.Groups.{AreaBytes, group_of};
 ghost use Rattle.type_layout.specs.Descriptions.{area_of};
 ghost use Rattle.index_groups.specs.AreaGroups.{group_meant, area_group_in, byte_number};
 
+use crate::numbers::{
+    INPUT_BIT, INPUT_BYTES, INPUT_SIZE, MEMORY_BIT, MEMORY_BYTES, MEMORY_SIZE, OUTPUT_BIT,
+    OUTPUT_BYTES, OUTPUT_SIZE, PROCESS_BYTES, PROCESS_SIZE,
+};
 use type_layout::Area;
 
 /// What an index group of an area names.
@@ -19,22 +23,23 @@ pub enum AreaGroup {
 }
 
 /// What a group names, where it is one of an area. None exactly for every other group.
+#[inline(always)]
 #[tactic(auto, unfolding(spec_formats::specs::Groups::group_in, spec_formats::specs::Groups::group_of))]
 pub fn area_group(group: u32) -> Option<AreaGroup>
     ensures { option_map group_meant result ≡ area_group_in (group_of group) }
 {
     match group {
-        0x4020 => Some(AreaGroup::Bytes(Area::Memory)),
-        0x4021 => Some(AreaGroup::Bit(Area::Memory)),
-        0x4025 => Some(AreaGroup::Size(Area::Memory)),
-        0x4040 => Some(AreaGroup::Bytes(Area::Process)),
-        0x4045 => Some(AreaGroup::Size(Area::Process)),
-        0xF020 => Some(AreaGroup::Bytes(Area::Inputs)),
-        0xF021 => Some(AreaGroup::Bit(Area::Inputs)),
-        0xF025 => Some(AreaGroup::Size(Area::Inputs)),
-        0xF030 => Some(AreaGroup::Bytes(Area::Outputs)),
-        0xF031 => Some(AreaGroup::Bit(Area::Outputs)),
-        0xF035 => Some(AreaGroup::Size(Area::Outputs)),
+        MEMORY_BYTES => Some(AreaGroup::Bytes(Area::Memory)),
+        MEMORY_BIT => Some(AreaGroup::Bit(Area::Memory)),
+        MEMORY_SIZE => Some(AreaGroup::Size(Area::Memory)),
+        PROCESS_BYTES => Some(AreaGroup::Bytes(Area::Process)),
+        PROCESS_SIZE => Some(AreaGroup::Size(Area::Process)),
+        INPUT_BYTES => Some(AreaGroup::Bytes(Area::Inputs)),
+        INPUT_BIT => Some(AreaGroup::Bit(Area::Inputs)),
+        INPUT_SIZE => Some(AreaGroup::Size(Area::Inputs)),
+        OUTPUT_BYTES => Some(AreaGroup::Bytes(Area::Outputs)),
+        OUTPUT_BIT => Some(AreaGroup::Bit(Area::Outputs)),
+        OUTPUT_SIZE => Some(AreaGroup::Size(Area::Outputs)),
         _ => None,
     }
 }
@@ -46,9 +51,9 @@ pub fn byte_group(area: Area) -> u32
     ensures group { group_of result ≡ Some (AreaBytes (area_of area)) }
 {
     match area {
-        Area::Inputs => 0xF020,
-        Area::Outputs => 0xF030,
-        Area::Memory => 0x4020,
-        Area::Process => 0x4040,
+        Area::Inputs => INPUT_BYTES,
+        Area::Outputs => OUTPUT_BYTES,
+        Area::Memory => MEMORY_BYTES,
+        Area::Process => PROCESS_BYTES,
     }
 }

@@ -24,6 +24,7 @@ const MAX_LEN: u32 = 2_000_000;
 /// | any other | | 0x702 |
 ///
 /// Beckhoff Information System, "Index Group/Offset Specification".
+#[inline(always)]
 #[tactic(auto, unfolding(spec_formats::specs::Ranges::range_of, spec_formats::specs::Ranges::range_in))]
 pub fn reach(sizes: &Sizes, group: u32, offset: u32, len: u32) -> Result<Reach, Code>
     ensures rule { answer_meant result ≡ range_of (sizes_of sizes.now) group offset len }
@@ -37,6 +38,7 @@ pub fn reach(sizes: &Sizes, group: u32, offset: u32, len: u32) -> Result<Reach, 
     }
 }
 
+#[inline(always)]
 #[tactic(auto, unfolding(spec_formats::specs::Ranges::byte_range))]
 fn byte_reach(sizes: &Sizes, area: Area, offset: u32, len: u32) -> Result<Reach, Code>
     ensures rule { answer_meant result
@@ -57,6 +59,7 @@ fn byte_reach(sizes: &Sizes, area: Area, offset: u32, len: u32) -> Result<Reach,
     })
 }
 
+#[inline(always)]
 #[tactic(auto, unfolding(spec_formats::specs::Ranges::bit_range))]
 fn bit_reach(sizes: &Sizes, area: Area, offset: u32, len: u32) -> Result<Reach, Code>
     ensures rule { answer_meant result

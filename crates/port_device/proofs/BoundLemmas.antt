@@ -1,10 +1,10 @@
 -- Tables of the symbols that signals write.
 use Rattle.std.proofs.Common.{◌≡◌, ℕ, suc, ◌<◌, List, [], ◌∷◌, ◌++◌, length, cond, Bool, true, false, refl, sym, ◌∙◌, ap, arith}
-use Rattle.std.specs.Prelude.{◌==◌, Option, Some, None, option_map}
+use Rattle.std.specs.Prelude.{◌==◌, max, Option, Some, None, option_map}
 use Rattle.std.specs.Option.{option_map_or}
 use Rattle.symbol_table.specs.Tables.{TableSymbol}
 use Rattle.port_device.specs.Signals.{is_bound_to, symbol_bound_to}
-use Rattle.port_device.specs.BoundTables.{first_of, bound_with}
+use Rattle.port_device.specs.BoundTables.{first_of, bound_with, entries_for, entry_count}
 
 one_symbol : (o : Option ℕ) (n : ℕ) → cond (option_map_or (λ m. m == n) o false) (Some 0) None ≡ bound_with o 0 None n
 one_symbol None n = refl
@@ -30,6 +30,11 @@ symbol_bound_to-more n [] s = one_symbol s.signal n
 symbol_bound_to-more n (t ∷ ss) s =
     ap (λ o. cond (is_bound_to n t) (Some 0) (option_map (λ i. suc i) o)) (symbol_bound_to-more n ss s)
     ∙ behind_one s.signal (length ss) n (is_bound_to n t) (symbol_bound_to n ss)
+
+-- one symbol more needs no entries but its own
+pub entry_count-more : (ss : List TableSymbol) (s : TableSymbol) → entry_count (ss ++ s ∷ []) ≡ max (entry_count ss) (entries_for s.signal)
+entry_count-more [] s = omega arith
+entry_count-more (t ∷ ss) s = let rest = entry_count-more ss s in omega (arith, rest)
 
 pub symbol_bound_to-within : (n k : ℕ) (ss : List TableSymbol) → symbol_bound_to n ss ≡ Some k → k < length ss
 symbol_bound_to-within n k [] e = cc

@@ -12,6 +12,7 @@ mod GroupLemmas
 mod ImageLemmas
 pub mod KeptEntries
 pub mod KeptLemmas
+mod MarkLemmas
 pub mod MovedEntries
 pub mod MovesAlike
 mod NameLemmas

@@ -1,6 +1,6 @@
 -- Places by name of a port, and the bytes that they are.
 use Rattle.std.proofs.Common.{◌≡◌, ℕ, ◌+◌, ◌≤◌, List, ◌++◌, map, true, false, refl, sym, ◌∙◌, ap, subst, arith}
-use Rattle.std.specs.Prelude.{Option, Some, None, Ok, Err, slice_get, bytes_eq, ◌&&◌, ◌==◌, nat_le, nat_lt, if◌then◌else◌}
+use Rattle.std.specs.Prelude.{Bool, Option, Some, None, Ok, Err, slice_get, bytes_eq, ◌&&◌, ◌==◌, nat_le, nat_lt, if◌then◌else◌}
 use Rattle.std.specs.Option.{option_map_or}
 use Rattle.std.proofs.lemmas.Bool.{and_parts, eqb-true, ltb-true, false≢true}
 use Rattle.type_layout.specs.Descriptions.{area_of}
@@ -67,9 +67,10 @@ place_bytes w p m place named len h t few =
     ap (λ b. if b then Err invalid_size else Ok (map WholeByte (names_of_place p.number named len))) enough ∙ ap (λ ns. Ok (map WholeByte ns)) names
 
 -- a place of the table lies in its area
-pub place_within : (sizes : Sizes) (uploads : UploadSizes) (bound : List (Option ℕ)) (m : PortMemory) (place : Place) → IsPortMemory sizes uploads bound m → IsPlaceOf m.table place
+pub place_within : (sizes : Sizes) (uploads : UploadSizes) (bound : List (Option ℕ)) (marks : List Bool) (m : PortMemory) (place : Place)
+    → IsPortMemory sizes uploads bound marks m → IsPlaceOf m.table place
     → place.«at» + place.len ≤ size_in m.table.sizes (area_of place.area)
-place_within sizes uploads bound m place is_memory is_place =
+place_within sizes uploads bound marks m place is_memory is_place =
     let table : IsTableWith m.types m.table = record { port = is_memory.port; is_of = is_memory.table } in
     let own = sound_symbol m.types m.table place.symbol is_place.symbol table is_place.there in
     let P : plant.Area → Type 0 = λ a. is_place.symbol.offset + is_place.symbol.size ≤ size_in m.table.sizes a in

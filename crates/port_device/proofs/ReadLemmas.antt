@@ -1,6 +1,6 @@
 -- Which act a read of a group is, and what is answered to it.
 use Rattle.std.proofs.Common.{◌≡◌, ℕ, ◌+◌, ◌<◌, List, [], ◌∷◌, ◌++◌, true, false, refl, sym, ◌∙◌, ap, subst, arith}
-use Rattle.std.specs.Prelude.{Bool, Option, Some, Result, Ok, Err, IfOk, nat_lt, nat_le, ◌==◌, ◌||◌, ◌/◌, ◌%◌, if◌then◌else◌}
+use Rattle.std.specs.Prelude.{Bool, Option, Some, None, Result, Ok, Err, IfOk, nat_lt, nat_le, ◌==◌, ◌||◌, ◌/◌, ◌%◌, if◌then◌else◌}
 use Rattle.ads_base.specs.declared.no_memory.NoMemory.{NoMemory}
 use Rattle.std.specs.Int.{w32, to_le_bytes}
 use Rattle.std.proofs.lemmas.Bool.{false≢true, ltb-true}
@@ -20,7 +20,7 @@ use Rattle.spec_machine.specs.Reads.{fixed_reply, read_act, read_group}
 use Rattle.port_device.specs.PortMemory.{PortMemory}
 use Rattle.port_device.specs.Holds.{HoldsPort}
 use Rattle.port_device.specs.Answers.{AnswersAct, range_read_act}
-use Rattle.port_device.specs.Groups.{is_area_group, is_version_group, read_by_port, without_handles}
+use Rattle.port_device.specs.Groups.{is_version_group, without_handles}
 use Rattle.port_device.proofs.GroupLemmas.{is_false}
 use Rattle.port_device.proofs.PortLemmas.{same_sizes}
 
@@ -58,6 +58,14 @@ size_read : (p : PlantPort) (area : Area) (len : ℕ) → fixed_reply len (to_le
 unfolding size_range
 size_read p area len = sized p area (nat_lt len 4)
 
+-- the groups of Read that give no upload: bytes, a bit and the size of an area, and the symbol version
+abbrev pub read_by_port : Option Group → Option Group
+read_by_port (Some (AreaBytes area)) = Some (AreaBytes area)
+read_by_port (Some (AreaBit area)) = Some (AreaBit area)
+read_by_port (Some (AreaSize area)) = Some (AreaSize area)
+read_by_port (Some SymbolVersion) = Some SymbolVersion
+read_by_port group = None
+
 pub read_by_range : (d : Setup) (c : client.Client) (p : PlantPort) (g : Option Group) (offset len : ℕ) → is_version_group g ≡ false
     → read_group d c p (read_by_port g) offset len ≡ range_read_act p (range_in g p.sizes offset len)
 unfolding read_group reach_of range_in
@@ -67,15 +75,17 @@ read_by_range d c p (Some (AreaSize area)) offset len h = size_read p area len
 read_by_range d c p (Some SymbolVersion) offset len h = absurd (false≢true (sym h))
 read_by_range d c p g offset len h = refl
 
-pub read_of_area : (d : Setup) (c : client.Client) (p : PlantPort) (g : Option Group) (offset len : ℕ) → is_area_group g ≡ true
-    → read_group d c p (without_handles g) offset len ≡ range_read_act p (range_in g p.sizes offset len)
-read_of_area d c p (Some (AreaBytes area)) offset len h = read_by_range d c p (Some (AreaBytes area)) offset len refl
-read_of_area d c p (Some (AreaBit area)) offset len h = read_by_range d c p (Some (AreaBit area)) offset len refl
-read_of_area d c p (Some (AreaSize area)) offset len h = read_by_range d c p (Some (AreaSize area)) offset len refl
-read_of_area d c p g offset len h = absurd (false≢true h)
+-- a range that is reached is one of an area
+pub read_of_reached : (d : Setup) (c : client.Client) (p : PlantPort) (g : Option Group) (offset len : ℕ) (r : Range) → range_in g p.sizes offset len ≡ Ok r
+    → read_group d c p (without_handles g) offset len ≡ range_read_act p (Ok r)
+unfolding range_in
+read_of_reached d c p (Some (AreaBytes area)) offset len r h = read_by_range d c p (Some (AreaBytes area)) offset len refl ∙ ap (range_read_act p) h
+read_of_reached d c p (Some (AreaBit area)) offset len r h = read_by_range d c p (Some (AreaBit area)) offset len refl ∙ ap (range_read_act p) h
+read_of_reached d c p (Some (AreaSize area)) offset len r h = read_by_range d c p (Some (AreaSize area)) offset len refl ∙ ap (range_read_act p) h
+read_of_reached d c p g offset len r h = cc
 
 pub read_of_version : (d : Setup) (c : client.Client) (p : PlantPort) (g : Option Group) (offset len : ℕ) → is_version_group g ≡ true
-    → read_group d c p (read_by_port g) offset len ≡ fixed_reply len (d.version ∷ [])
+    → read_group d c p (without_handles g) offset len ≡ fixed_reply len (d.version ∷ [])
 unfolding read_group
 read_of_version d c p (Some SymbolVersion) offset len h = refl
 read_of_version d c p g offset len h = absurd (false≢true h)
@@ -97,12 +107,24 @@ pub reads_as : (m : PortMemory) (r : Result (Result (Unit {0}) Code) NoMemory) (
 reads_as m (Ok answer) act other old new e h = λ w c p held. answers_along w (act w p) (other w c p) answer old new (e w c p held) (h w p held)
 reads_as m (Err no_memory) act other old new e h = h
 
-pub range_reads_as : (m : PortMemory) (r : Result (Result (Unit {0}) Code) NoMemory) (act other : PlantPort → Act) (old new : List ℕ)
-    → ((w : World) (p : PlantPort) → HoldsPort w p m → other p ≡ act p)
-    → IfOk r (λ answer. (w : World) (p : PlantPort) → HoldsPort w p m → AnswersAct w (act p) answer old new)
-    → IfOk r (λ answer. (w : World) (p : PlantPort) → HoldsPort w p m → AnswersAct w (other p) answer old new)
-range_reads_as m (Ok answer) act other old new e h = λ w p held. answers_along w (act p) (other p) answer old new (e w p held) (h w p held)
-range_reads_as m (Err no_memory) act other old new e h = h
+-- the same where no range is reached, at whatever offset
+pub unreached_reads_as : (m : PortMemory) (r : Result (Result (Unit {0}) Code) NoMemory) (act : World → PlantPort → Act)
+    (other : World → client.Client → PlantPort → ℕ → Act) (Refused : PlantPort → ℕ → Type 0) (old new : List ℕ)
+    → ((w : World) (c : client.Client) (p : PlantPort) (offset : ℕ) → other w c p offset ≡ act w p)
+    → IfOk r (λ answer. (w : World) (p : PlantPort) → HoldsPort w p m → AnswersAct w (act w p) answer old new)
+    → IfOk r (λ answer. (w : World) (c : client.Client) (p : PlantPort) (offset : ℕ) → HoldsPort w p m → Refused p offset
+    → AnswersAct w (other w c p offset) answer old new)
+unreached_reads_as m (Ok answer) act other Refused old new e h = λ w c p offset held refused.
+    answers_along w (act w p) (other w c p offset) answer old new (e w c p offset) (h w p held)
+unreached_reads_as m (Err no_memory) act other Refused old new e h = h
+
+pub unreached_at : (m : PortMemory) (r : Result (Result (Unit {0}) Code) NoMemory) (other : World → client.Client → PlantPort → ℕ → Act)
+    (Refused : PlantPort → ℕ → Type 0) (offset : ℕ) (old new : List ℕ) → ((w : World) (p : PlantPort) → HoldsPort w p m → Refused p offset)
+    → IfOk r (λ answer. (w : World) (c : client.Client) (p : PlantPort) (at_ : ℕ) → HoldsPort w p m → Refused p at_
+    → AnswersAct w (other w c p at_) answer old new)
+    → IfOk r (λ answer. (w : World) (c : client.Client) (p : PlantPort) → HoldsPort w p m → AnswersAct w (other w c p offset) answer old new)
+unreached_at m (Ok answer) other Refused offset old new refused h = λ w c p held. h w c p offset held (refused w p held)
+unreached_at m (Err no_memory) other Refused offset old new refused h = h
 
 pub range_at_port : (w : World) (p : PlantPort) (m : PortMemory) (sizes : Sizes) (group offset len : ℕ) (q : Result Range ℕ) → HoldsPort w p m
     → m.table.sizes ≡ sizes → q ≡ range_of sizes group offset len → range_in (group_of group) p.sizes offset len ≡ q

@@ -4,7 +4,9 @@ use Rattle.std.specs.Prelude.{Option, Some, None, Ok, Err, nat_lt, flat_map, if�
 use Rattle.std.specs.Int.{w32, to_le_bytes}
 use Rattle.std.proofs.lemmas.Bool.{lt-ltb, ltb-true}
 use Rattle.std.proofs.lemmas.List.{append-nil, length-map}
+use Rattle.return_codes.specs.declared.code.Code.{Code}
 use Rattle.return_codes.specs.declared.code.Code.TheVariants.{C705}
+use Rattle.return_codes.specs.Code.{number_of}
 use Rattle.spec_plant.specs.Description.{Symbol}
 use Rattle.spec_plant.specs.Listed.{NamedType}
 use Rattle.spec_plant.specs.World.{plant_symbol}
@@ -20,14 +22,14 @@ use Rattle.spec_machine.specs.World.{World, Setup}
 use Rattle.spec_machine.specs.Client as client
 use Rattle.spec_machine.specs.Reach.{reach_of}
 use Rattle.spec_machine.specs.Reads.{fixed_reply, read_group}
-use Rattle.port_device.specs.Groups.{read_by_port, uploads_alone, without_handles}
+use Rattle.port_device.specs.Groups.{is_version_group, uploads_alone, without_handles}
 use Rattle.symbol_table.specs.Tables.{SymbolTable, table_symbol}
 use Rattle.port_device.specs.PortMemory.{PortMemory}
 use Rattle.port_device.specs.Holds.{HoldsPort}
-use Rattle.port_device.specs.Answers.{AnswersAct}
+use Rattle.port_device.specs.Answers.{AnswersAct, IsRefusedRange, range_read_act}
 use Rattle.port_device.specs.Uploads.{upload_group, upload_act, symbols_upload, types_upload}
 use Rattle.port_device.proofs.GroupLemmas.{is_false}
-use Rattle.port_device.proofs.ReadLemmas.{answers_along}
+use Rattle.port_device.proofs.ReadLemmas.{answers_along, read_by_port, read_by_range}
 use Rattle.port_device.proofs.UploadLengths.{described_symbols}
 use Rattle.port_device.specs.declared.upload.Upload.{Upload}
 use Rattle.port_device.specs.declared.upload.Upload.TheVariants.{Symbols, SymbolSizes, Types, AllSizes}
@@ -68,6 +70,12 @@ pub read_of_upload : (d : Setup) (c : client.Client) (p : PlantPort) (g : Option
     → uploads_alone g ≡ Some (upload_group u) → read_group d c p (without_handles g) offset len ≡ upload_act d p u len
 read_of_upload d c p g u offset len h =
     ap (λ x. read_group d c p x offset len) (upload_alone g (upload_group u) h) ∙ upload_read d c p u offset len
+
+-- a group that gives neither the version nor an upload, and by which no range is reached
+pub read_refused : (d : Setup) (c : client.Client) (p : PlantPort) (g : Option Group) (offset len : ℕ) (code : Code) → is_version_group g ≡ false
+    → uploads_alone g ≡ None → IsRefusedRange p g offset len code → read_group d c p (without_handles g) offset len ≡ Refusal (number_of code)
+read_refused d c p g offset len code version upload refused =
+    read_of_range d c p g offset len upload ∙ read_by_range d c p g offset len version ∙ ap (range_read_act p) refused
 
 -- what has more bytes than were asked for is refused, and else given
 

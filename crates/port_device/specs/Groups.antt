@@ -40,21 +40,6 @@ uploads_alone (Some TypeUpload) = Some TypeUpload
 uploads_alone (Some UploadInfoWithTypes) = Some UploadInfoWithTypes
 uploads_alone group = None
 
--- the other groups of Read: bytes, a bit and the size of an area, and the symbol version
-abbrev pub read_by_port : Option Group → Option Group
-read_by_port (Some (AreaBytes area)) = Some (AreaBytes area)
-read_by_port (Some (AreaBit area)) = Some (AreaBit area)
-read_by_port (Some (AreaSize area)) = Some (AreaSize area)
-read_by_port (Some SymbolVersion) = Some SymbolVersion
-read_by_port group = None
-
--- the groups of areas: bytes, a bit, and the size
-abbrev pub is_area_group : Option Group → Bool
-is_area_group (Some (AreaBytes area)) = true
-is_area_group (Some (AreaBit area)) = true
-is_area_group (Some (AreaSize area)) = true
-is_area_group group = false
-
 abbrev pub is_version_group : Option Group → Bool
 is_version_group (Some SymbolVersion) = true
 is_version_group group = false

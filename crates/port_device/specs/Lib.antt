@@ -8,6 +8,7 @@ pub mod Rows
 pub mod Uploads
 pub mod Signals
 pub mod BoundTables
+pub mod Marks
 pub mod Ports
 pub mod Lends
 pub mod InsidePorts

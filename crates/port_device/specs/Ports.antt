@@ -1,5 +1,5 @@
 -- The port that the code's value is. No public clause cites this file.
-use Rattle.std.specs.Prelude.{◌≡◌, ◌≤◌, ℕ, List, length, Option, IsTrue}
+use Rattle.std.specs.Prelude.{◌≡◌, ◌≤◌, ℕ, List, length, Option, Bool, IsTrue}
 use Rattle.std.specs.List.{list_all}
 use Rattle.std.specs.Arc.{arc_value}
 use Rattle.spec_plant.specs.Description.{Port}
@@ -13,6 +13,7 @@ use Rattle.port_device.specs.declared.upload.UploadSizes.{UploadSizes}
 use Rattle.port_device.specs.Uploads.{AreUploadSizes, has_short_texts}
 use Rattle.port_device.specs.PortMemory.{PortMemory}
 use Rattle.port_device.specs.Signals.{AreBound}
+use Rattle.port_device.specs.Marks.{AreMarks}
 
 abbrev pub memory_in : Inside → PortMemory
 memory_in p = record {
@@ -24,8 +25,9 @@ memory_in p = record {
   bytes = record { image = p.image; ads = p.ads; device = p.device };
 }
 
--- the port of an accepted description, with all its bytes, the lengths of its uploads, and which symbols its signals write
-pub record IsPortMemory (sizes : Sizes) (uploads : UploadSizes) (bound : List (Option ℕ)) (m : PortMemory) : Type 0 where
+-- the port of an accepted description, with all its bytes, the lengths of its uploads, which symbols its signals write, and the
+-- marks of those that not everybody may write
+pub record IsPortMemory (sizes : Sizes) (uploads : UploadSizes) (bound : List (Option ℕ)) (marks : List Bool) (m : PortMemory) : Type 0 where
   pub port : Port
   pub table : IsTableOf m.types port m.table
   pub sizes_are : m.table.sizes ≡ sizes_of sizes
@@ -34,3 +36,4 @@ pub record IsPortMemory (sizes : Sizes) (uploads : UploadSizes) (bound : List (O
   pub texts : IsTrue (list_all has_short_texts m.table.symbols)
   pub uploads_are : AreUploadSizes m.types m.table uploads
   pub bound_are : AreBound bound m.table.symbols
+  pub marks_are : AreMarks m.table.sizes marks m.table.symbols

@@ -12,6 +12,7 @@ use crate::Port;
 use crate::bound::bound_symbols;
 use crate::counting::symbols_size;
 use crate::first_image::first_image;
+use crate::marks::marks_of;
 use crate::upload::UploadSizes;
 use crate::writing::RUN;
 use ads_base::NoMemory;
@@ -57,6 +58,7 @@ pub(crate) fn first_port(
     let rows = table.symbols();
     let image = first_image(alloc, &d.sizes, rows)?;
     let bound = bound_symbols(alloc, rows)?;
+    let marks = marks_of(alloc, &d.sizes, rows)?;
     let shared = Arc::try_clone(types)?;
     Ok(Port {
         types: shared,
@@ -73,5 +75,6 @@ pub(crate) fn first_port(
             types: types_len,
         },
         bound,
+        marks,
     })
 }

@@ -2,8 +2,15 @@
 
 ghost use Rattle.std.specs.Prelude.{◌≡◌, option_map};
 ghost use Rattle.spec_formats.specs.Groups.{group_of};
-ghost use Rattle.port_device.specs.Groups.{group_meant, is_area_group, is_entry_by_name, is_info_by_name, is_value_by_name, is_version_group, is_written_by_port};
+ghost use Rattle.port_device.specs.Groups.{group_meant, is_entry_by_name, is_info_by_name, is_value_by_name, is_version_group, is_written_by_port};
 
+use index_groups::{
+    EXTENDED_INFO_BY_NAME, HANDLE_BY_NAME, INFO_BY_NAME, INPUT_BIT, INPUT_BYTES, INPUT_SIZE,
+    MEMORY_BIT, MEMORY_BYTES, MEMORY_SIZE, OUTPUT_BIT, OUTPUT_BYTES, OUTPUT_SIZE, PROCESS_BYTES,
+    PROCESS_SIZE, RELEASE_HANDLE, SUM_READ, SUM_READ_WRITE, SUM_WRITE, SYMBOL_UPLOAD,
+    SYMBOL_VERSION, TYPE_UPLOAD, UPLOAD_INFO, UPLOAD_INFO_WITH_TYPES, VALUE_BY_HANDLE,
+    VALUE_BY_NAME,
+};
 use type_layout::Area;
 
 /// What an index group names.
@@ -51,53 +58,43 @@ pub fn group_named(number: u32) -> Option<Group>
     ensures { option_map group_meant result ≡ group_of number }
 {
     match number {
-        0x4020 => Some(Group::Bytes(Area::Memory)),
-        0x4021 => Some(Group::Bit(Area::Memory)),
-        0x4025 => Some(Group::Size(Area::Memory)),
-        0x4040 => Some(Group::Bytes(Area::Process)),
-        0x4045 => Some(Group::Size(Area::Process)),
-        0xF003 => Some(Group::HandleByName),
-        0xF004 => Some(Group::ValueByName),
-        0xF005 => Some(Group::ValueByHandle),
-        0xF006 => Some(Group::ReleaseHandle),
-        0xF007 => Some(Group::InfoByName),
-        0xF008 => Some(Group::SymbolVersion),
-        0xF009 => Some(Group::ExtendedInfoByName),
-        0xF00B => Some(Group::SymbolUpload),
-        0xF00C => Some(Group::UploadInfo),
-        0xF00E => Some(Group::TypeUpload),
-        0xF00F => Some(Group::UploadInfoWithTypes),
-        0xF020 => Some(Group::Bytes(Area::Inputs)),
-        0xF021 => Some(Group::Bit(Area::Inputs)),
-        0xF025 => Some(Group::Size(Area::Inputs)),
-        0xF030 => Some(Group::Bytes(Area::Outputs)),
-        0xF031 => Some(Group::Bit(Area::Outputs)),
-        0xF035 => Some(Group::Size(Area::Outputs)),
-        0xF080 => Some(Group::SumRead),
-        0xF081 => Some(Group::SumWrite),
-        0xF082 => Some(Group::SumReadWrite),
+        MEMORY_BYTES => Some(Group::Bytes(Area::Memory)),
+        MEMORY_BIT => Some(Group::Bit(Area::Memory)),
+        MEMORY_SIZE => Some(Group::Size(Area::Memory)),
+        PROCESS_BYTES => Some(Group::Bytes(Area::Process)),
+        PROCESS_SIZE => Some(Group::Size(Area::Process)),
+        HANDLE_BY_NAME => Some(Group::HandleByName),
+        VALUE_BY_NAME => Some(Group::ValueByName),
+        VALUE_BY_HANDLE => Some(Group::ValueByHandle),
+        RELEASE_HANDLE => Some(Group::ReleaseHandle),
+        INFO_BY_NAME => Some(Group::InfoByName),
+        SYMBOL_VERSION => Some(Group::SymbolVersion),
+        EXTENDED_INFO_BY_NAME => Some(Group::ExtendedInfoByName),
+        SYMBOL_UPLOAD => Some(Group::SymbolUpload),
+        UPLOAD_INFO => Some(Group::UploadInfo),
+        TYPE_UPLOAD => Some(Group::TypeUpload),
+        UPLOAD_INFO_WITH_TYPES => Some(Group::UploadInfoWithTypes),
+        INPUT_BYTES => Some(Group::Bytes(Area::Inputs)),
+        INPUT_BIT => Some(Group::Bit(Area::Inputs)),
+        INPUT_SIZE => Some(Group::Size(Area::Inputs)),
+        OUTPUT_BYTES => Some(Group::Bytes(Area::Outputs)),
+        OUTPUT_BIT => Some(Group::Bit(Area::Outputs)),
+        OUTPUT_SIZE => Some(Group::Size(Area::Outputs)),
+        SUM_READ => Some(Group::SumRead),
+        SUM_WRITE => Some(Group::SumWrite),
+        SUM_READ_WRITE => Some(Group::SumReadWrite),
         _ => None,
     }
 }
 
-/// Whether the group of a number names bytes, a bit or the size of an area.
-#[tactic(auto, unfolding(spec_formats::specs::Groups::group_in, spec_formats::specs::Groups::group_of))]
-pub(crate) fn is_area(number: u32) -> bool
-    ensures { result ≡ is_area_group (group_of number) }
-{
-    match number {
-        0x4020 | 0x4021 | 0x4025 | 0x4040 | 0x4045 => true,
-        0xF020 | 0xF021 | 0xF025 | 0xF030 | 0xF031 | 0xF035 => true,
-        _ => false,
-    }
-}
-
 /// Whether a write reaches bytes or a bit by the group of a number.
+#[tactic(auto, unfolding(spec_formats::specs::Groups::group_in, spec_formats::specs::Groups::group_of))]
 pub(crate) fn is_written(number: u32) -> bool
     ensures { result ≡ is_written_by_port (group_of number) }
 {
-    match group_named(number) {
-        Some(Group::Bytes(_)) | Some(Group::Bit(_)) => true,
+    match number {
+        MEMORY_BYTES | MEMORY_BIT | PROCESS_BYTES => true,
+        INPUT_BYTES | INPUT_BIT | OUTPUT_BYTES | OUTPUT_BIT => true,
         _ => false,
     }
 }

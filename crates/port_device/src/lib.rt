@@ -13,6 +13,7 @@ mod entries;
 mod first_image;
 mod group;
 mod kept;
+mod marks;
 mod moving;
 mod naming;
 mod port;

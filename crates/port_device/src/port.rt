@@ -28,6 +28,8 @@ pub struct Port {
     pub(crate) uploads: UploadSizes,
     // At each signal's number the number of the symbol that it writes.
     pub(crate) bound: Vec<Option<u32>>,
+    // For each 64 bytes of the image whether a symbol stands there that not everybody may write.
+    pub(crate) marks: Vec<bool>,
 }
 
 impl Model for Port {
@@ -39,7 +41,7 @@ impl Model for Port {
 
     ghost view = { memory_in };
 
-    ghost invariant = { λ p. IsPortMemory p.sizes p.uploads p.bound.items (memory_in p) };
+    ghost invariant = { λ p. IsPortMemory p.sizes p.uploads p.bound.items p.marks.items (memory_in p) };
 }
 
 impl Port {

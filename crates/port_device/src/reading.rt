@@ -1,20 +1,22 @@
 //! Reads of an area's bytes, a bit, a size, and of a symbol's bytes.
 
-ghost use Rattle.std.specs.Prelude.{◌≡◌, [], ◌∷◌, length, IfOk, OnErr};
+ghost use Rattle.std.specs.Prelude.{◌≡◌, ◌+◌, ◌≤◌, ℕ, [], ◌∷◌, length, map, IfOk, OnErr};
+ghost use Rattle.spec_plant.specs.Description.{size_in};
 ghost use Rattle.spec_plant.specs.World.{PlantPort};
 ghost use Rattle.spec_formats.specs.Groups.{group_of};
-ghost use Rattle.spec_formats.specs.Ranges.{range_in};
-ghost use Rattle.spec_machine.specs.World.{World, setup_of};
+ghost use Rattle.spec_machine.specs.World.{World, names_at, setup_of};
+ghost use Rattle.spec_machine.specs.Access.{WholeByte, values_at};
 ghost use Rattle.spec_machine.specs.Client as client;
 ghost use Rattle.spec_machine.specs.Reads.{fixed_reply, read_group};
+ghost use Rattle.type_layout.specs.Descriptions.{area_of};
 ghost use Rattle.index_groups.specs.Access.{IsWithin, range_meant};
-ghost use Rattle.port_device.specs.Answers.{AnswersAct, HasRoom, ReadsRange, IsPlaceOf, IsNamed, place_read_act, range_read_act};
-ghost use Rattle.port_device.specs.Groups.{read_by_port, without_handles};
+ghost use Rattle.port_device.specs.Answers.{AnswersAct, HasRoom, ReadsRange, IsPlaceOf, IsNamed, IsRefusedRange, place_read_act, range_read_act};
+ghost use Rattle.port_device.specs.Groups.{without_handles};
 ghost use Rattle.port_device.specs.Holds.{HoldsPort};
 
 use crate::areas::{byte_of, bytes_of, size_of};
 use crate::bits::bit_of;
-use crate::group::{is_area, is_version};
+use crate::group::is_version;
 use crate::port::Port;
 use crate::upload::upload_named;
 use ads_base::{NoMemory, Octets, put32};
@@ -22,6 +24,7 @@ use index_groups::{Reach, reach};
 use return_codes::Code;
 use std::alloc::Global;
 use symbol_table::Place;
+use type_layout::Area;
 
 impl Port {
     /// Appends what Read gives of a group that needs no handle: the bytes, a bit or the size of an area, the symbol
@@ -46,54 +49,35 @@ impl Port {
             → AnswersAct w (read_group (setup_of w) c p (without_handles (group_of group)) offset len) answer out.old out.new) }
         ensures no_memory { OnErr result (out.new ≡ out.old) }
     {
-        // Most reads are of an area.
-        if is_area(group) {
-            return self.read_area(alloc, group, offset, len, out);
-        }
-        match upload_named(group) {
-            Some(upload) => self.read_upload(alloc, upload, len, out),
-            None => self.read_range(alloc, group, offset, len, out),
-        }
-    }
-
-    // What stands at what a group and an offset name, where they name bytes, a bit or the size of an area.
-    #[inline(always)]
-    fn read_area(
-        &self,
-        alloc: Global,
-        group: u32,
-        offset: u32,
-        len: u32,
-        out: &mut Octets,
-    ) -> Result<Result<(), Code>, NoMemory>
-        ensures answer { IfOk result (λ answer. (w : World) (p : PlantPort) → HoldsPort w p self.now
-            → AnswersAct w (range_read_act p (range_in (group_of group) p.sizes offset len)) answer out.old out.new) }
-        ensures no_memory { OnErr result (out.new ≡ out.old) }
-    {
         match reach(&self.sizes, group, offset, len) {
             Ok(range) => self.read_reach(alloc, range, out),
-            Err(code) => Ok(Err(code)),
+            Err(code) => self.read_unreached(alloc, group, len, code, out),
         }
     }
 
-    // What Read gives of a group that gives no upload.
+    // What Read gives of a group by which no range of an area is reached: an upload, the symbol version, or the code that
+    // refuses the range.
     #[inline(never)]
-    fn read_range(
+    fn read_unreached(
         &self,
         alloc: Global,
         group: u32,
-        offset: u32,
         len: u32,
+        code: Code,
         out: &mut Octets,
     ) -> Result<Result<(), Code>, NoMemory>
-        ensures answer { IfOk result (λ answer. (w : World) (c : client.Client) (p : PlantPort) → HoldsPort w p self.now
-            → AnswersAct w (read_group (setup_of w) c p (read_by_port (group_of group)) offset len) answer out.old out.new) }
+        ensures answer { IfOk result (λ answer. (w : World) (c : client.Client) (p : PlantPort) (offset : ℕ) → HoldsPort w p self.now
+            → IsRefusedRange p (group_of group) offset len code
+            → AnswersAct w (read_group (setup_of w) c p (without_handles (group_of group)) offset len) answer out.old out.new) }
         ensures no_memory { OnErr result (out.new ≡ out.old) }
     {
         if is_version(group) {
             return self.read_version(alloc, len, out);
         }
-        self.read_area(alloc, group, offset, len, out)
+        match upload_named(group) {
+            Some(upload) => self.read_upload(alloc, upload, len, out),
+            None => Ok(Err(code)),
+        }
     }
 
     /// Writes the bytes of a range, or the 0 or 1 of a bit, to `out`.
@@ -112,6 +96,16 @@ impl Port {
             }
             Reach::Size { area: _ } => {}
         }
+    }
+
+    /// Some bytes of an area, lent for reading.
+    pub fn lent(&self, area: Area, at: u32, len: u32) -> &[u8]
+        requires { at + len ≤ size_in self.now.table.sizes (area_of area) }
+        ensures bytes { (w : World) (p : PlantPort) → HoldsPort w p self.now
+            → result.now ≡ values_at w.memory (map WholeByte (names_at p (area_of area) at len)) }
+        ensures len { length result.now ≡ len }
+    {
+        bytes_of(&self.image, &self.sizes, area, at, len)
     }
 
     /// Appends the first bytes of a symbol or a part of it. 0x705 where it has fewer.

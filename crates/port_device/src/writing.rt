@@ -15,8 +15,9 @@ ghost use Rattle.port_device.specs.Endings.{EndsAs, IsAsker, KeepsDescription, p
 ghost use Rattle.port_device.specs.Groups.{written_by_port};
 ghost use Rattle.port_device.specs.Holds.{HoldsPort};
 
-use crate::areas::{put_bit, put_bytes};
+use crate::areas::{put_bit, put_bytes, span_of};
 use crate::group::is_written;
+use crate::marks::are_clear;
 use crate::port::Port;
 use crate::writable::{may_control, may_write, may_write_all};
 use ads_base::NetId;
@@ -161,6 +162,11 @@ impl Port {
         ensures { (w : World) (p : PlantPort) → HoldsPort w p self.now
             → (IsTrue result ↔ MayWriteSymbolsAt source.bytes p (area_of area) at len) }
     {
+        let span = span_of(&self.sizes, area, at, len);
+        // Most bytes stand where everybody may write.
+        if are_clear(self.marks.as_slice(), span.at, span.len) {
+            return true;
+        }
         let numbers = self.table.symbols_in(area, at, len);
         may_write_all(self.table.symbols(), numbers, source)
     }

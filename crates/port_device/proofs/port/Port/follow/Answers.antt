@@ -67,4 +67,5 @@ invariant_of-self c = record {
   texts = c.self.invariant.texts;
   uploads_are = c.self.invariant.uploads_are;
   bound_are = c.self.invariant.bound_are;
+  marks_are = c.self.invariant.marks_are;
 }

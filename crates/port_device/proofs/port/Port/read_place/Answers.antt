@@ -13,7 +13,8 @@ pub bytes_of-requires-clause-within : goal.bytes_of-requires-clause-within
 bytes_of-requires-clause-within c =
     let m : PortMemory = memory_in c.self.inside in
     let P : PortMemory → Type 0 = λ x. IsPlaceOf x.table c.args.place in
-    let within = place_within c.self.inside.sizes c.self.inside.uploads c.self.inside.bound.items m c.args.place c.self.invariant (subst P (sym c.self.view_is) c.requires) in
+    let within = place_within c.self.inside.sizes c.self.inside.uploads c.self.inside.bound.items c.self.inside.marks.items m c.args.place
+    c.self.invariant (subst P (sym c.self.view_is) c.requires) in
     let Q : plant.Sizes → Type 0 = λ x. c.args.place.«at» + c.args.place.len ≤ size_in x (area_of c.args.place.area) in
     let there = subst Q c.self.invariant.sizes_are within in
     let few = c.if-len-place.false in
@@ -23,6 +24,7 @@ pub returns-clause-answer : goal.returns-clause-answer
 returns-clause-answer c = λ w p named h t.
     let m : PortMemory = memory_in c.self.inside in
     let P : PortMemory → Type 0 = λ x. IsPlaceOf x.table c.args.place in
-    let within = place_within c.self.inside.sizes c.self.inside.uploads c.self.inside.bound.items m c.args.place c.self.invariant (subst P (sym c.self.view_is) c.requires) in
+    let within = place_within c.self.inside.sizes c.self.inside.uploads c.self.inside.bound.items c.self.inside.marks.items m c.args.place
+    c.self.invariant (subst P (sym c.self.view_is) c.requires) in
     place_read w p m c.args.place named _ c.args.len c.args.out.now c.put.new.self (subst (HoldsPort w p) (sym c.self.view_is) h) t
     c.self.invariant.sizes_are within c.if-len-place.false (c.in_ok-put.ensures.ok ∙ ap (λ bs. c.args.out.now ++ bs) c.bytes_of.ensures)

@@ -29,7 +29,8 @@ pub write_bytes-requires : goal.write_bytes-requires
 write_bytes-requires c =
     let m : PortMemory = memory_in c.self.inside in
     let P : PortMemory → Type 0 = λ x. IsPlaceOf x.table c.args.place in
-    let within = place_within c.self.inside.sizes c.self.inside.uploads c.self.inside.bound.items m c.args.place c.self.invariant (subst P (sym c.self.view_is) c.requires) in
+    let within = place_within c.self.inside.sizes c.self.inside.uploads c.self.inside.bound.items c.self.inside.marks.items m c.args.place
+    c.self.invariant (subst P (sym c.self.view_is) c.requires) in
     let few = c.if-bytes-place.false in
     let Q : PortMemory → Type 0 = λ x. c.args.place.«at» + length c.args.bytes.now ≤ size_in x.table.sizes (area_of c.args.place.area) in
     subst Q c.self.view_is (omega (arith, within, few))
