@@ -1,7 +1,6 @@
 -- Rights among routes: a further route counts exactly where its NetId has none.
 use Rattle.std.proofs.Common.{zero, suc, drop, ◌≡◌, ℕ, true, false, List, [], ◌∷◌, ◌++◌, map, refl, sym, ◌∙◌, ap, inl, inr}
 use Rattle.std.specs.Prelude.{Option, Some, None, is_some, option_map, bytes_eq, ◌==◌, slice_get}
-use Rattle.std.specs.Global.{Vec}
 use Rattle.std.specs.Map.{lookup}
 use Rattle.std.proofs.lemmas.Bool.{cases_Bool, eqb-true, eq-eqb}
 use Rattle.std.proofs.lemmas.Slice.Eq.{bytes_eq-Decides}
@@ -29,14 +28,14 @@ bytes_eq-comm (x ∷ xs) [] = refl
 bytes_eq-comm (x ∷ xs) (y ∷ ys) = rw (nat_eq-comm x y, bytes_eq-comm xs ys) refl
 
 -- the map's look-up is that of the routes
-pub rights_of-shown : (net : List ℕ) (es : List (Vec ℕ × Rights)) → option_map seen.rights_of (lookup (λ k. bytes_eq net k.items) es) ≡ rights_of net (map shown es)
+pub rights_of-shown : (net : List ℕ) (es : List (List ℕ × Rights)) → option_map seen.rights_of (lookup (λ k. bytes_eq net k) es) ≡ rights_of net (map shown es)
 rights_of-shown net [] = refl
 rights_of-shown net (e ∷ es) =
-    let other = bytes_eq-comm net e.0.items in
+    let other = bytes_eq-comm net e.0 in
     let rest = rights_of-shown net es in
-    elim (cases_Bool (bytes_eq e.0.items net)) [
-      | inl t ↦ let s : bytes_eq net e.0.items ≡ true = other ∙ t in rw (s, t) refl
-      | inr t ↦ let s : bytes_eq net e.0.items ≡ false = other ∙ t in rw (s, t) rest
+    elim (cases_Bool (bytes_eq e.0 net)) [
+      | inl t ↦ let s : bytes_eq net e.0 ≡ true = other ∙ t in rw (s, t) refl
+      | inr t ↦ let s : bytes_eq net e.0 ≡ false = other ∙ t in rw (s, t) rest
     ]
 
 -- a route of another NetId is passed over
@@ -80,16 +79,16 @@ rights_of-more some others r same n = last some ∙ ap (behind r) (same n) ∙ s
     last (x ∷ xs) = elim (cases_Bool (bytes_eq x.net n)) [ inl t ↦ rw t refl | inr t ↦ rw t (last xs) ]
 
 -- a new key goes last
-pub inserted : (key : Vec ℕ) (v : Rights) (es : List (Vec ℕ × Rights)) → rights_of key.items (map shown es) ≡ None
-    → map shown (insert_entry (λ k l. bytes_eq k.items l.items) es key v) ≡ map shown es ++ record { net = key.items; rights = seen.rights_of v } ∷ []
+pub inserted : (key : List ℕ) (v : Rights) (es : List (List ℕ × Rights)) → rights_of key (map shown es) ≡ None
+    → map shown (insert_entry (λ k l. bytes_eq k l) es key v) ≡ map shown es ++ record { net = key; rights = seen.rights_of v } ∷ []
 inserted key v [] none = refl
 inserted key v (e ∷ es) none =
-    let other = bytes_eq-comm key.items e.0.items in
-    elim (cases_Bool (bytes_eq e.0.items key.items)) [
+    let other = bytes_eq-comm key e.0 in
+    elim (cases_Bool (bytes_eq e.0 key)) [
       | inl t ↦ let found = rw t at none in cc
       | inr t ↦
-          let s : bytes_eq key.items e.0.items ≡ false = other ∙ t in
-          let rest : rights_of key.items (map shown es) ≡ None = rw t at none in
+          let s : bytes_eq key e.0 ≡ false = other ∙ t in
+          let rest : rights_of key (map shown es) ≡ None = rw t at none in
           rw s (ap (λ routes. shown e ∷ routes) (inserted key v es rest))
     ]
 

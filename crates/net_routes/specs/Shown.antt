@@ -1,13 +1,12 @@
 -- The route that an entry of the map is.
 use Rattle.std.specs.Prelude.{ℕ, List, Option, Some, None, bytes_eq, if◌then◌else◌}
-use Rattle.std.specs.Global.{Vec}
 use Rattle.spec_plant.specs.Description as plain
 use Rattle.spec_plant.specs.Description.{Route}
 use Rattle.type_layout.specs.Descriptions.{rights_of}
 use Rattle.type_layout.specs.declared.description.Rights.{Rights}
 
-abbrev pub shown : Vec ℕ × Rights → Route
-shown e = record { net = e.0.items; rights = rights_of e.1 }
+abbrev pub shown : List ℕ × Rights → Route
+shown e = record { net = e.0; rights = rights_of e.1 }
 
 -- the rights of a NetId by one route, where there is one and it is this machine's
 abbrev pub rights_in : List ℕ → Option Route → Option plain.Rights

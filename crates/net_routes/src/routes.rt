@@ -17,7 +17,7 @@ const FEW: usize = 8;
 /// The rights of each machine that has a route, in a map from NetIds. Contracts see the routes as a list.
 #[derive(Drop)]
 pub struct Routes {
-    by_net: IndexMap<Vec<u8>, Rights>,
+    by_net: IndexMap<[u8; 6], Rights>,
 }
 
 impl Model for Routes {
@@ -40,7 +40,7 @@ impl Routes {
             by_net: IndexMap::new(alloc),
         };
         for route in list.as_slice() {
-            routes.add(alloc, route.net, route.rights)?;
+            routes.add(route.net, route.rights)?;
         }
         Ok(routes)
     }
@@ -52,7 +52,7 @@ impl Routes {
         if self.by_net.len() <= FEW {
             return self.rights_among_few(net);
         }
-        self.by_net.get(net.bytes.as_slice()).copied()
+        self.by_net.get(&net.bytes).copied()
     }
 
     // The same by a walk.
@@ -73,7 +73,7 @@ impl Routes {
     {
         match self.by_net.get_index(i) {
             Some((there, rights)) => {
-                if there.as_slice() == net.bytes.as_slice() {
+                if *there == net.bytes {
                     Some(*rights)
                 } else {
                     None
@@ -84,15 +84,14 @@ impl Routes {
     }
 
     // A further route, which counts where its NetId has none.
-    fn add(&mut self, alloc: Global, net: NetId, rights: Rights) -> Result<(), NoMemory>
+    fn add(&mut self, net: NetId, rights: Rights) -> Result<(), NoMemory>
         ensures { OnOk result ((n : List ℕ) → rights_of n self.new
             ≡ rights_of n (self.old ++ record { net = net.bytes; rights = plain.rights_of rights } ∷ [])) }
     {
         if self.rights(net).is_some() {
             return Ok(());
         }
-        let key = net.bytes.to_vec(alloc)?;
-        self.by_net.insert(key, rights)?;
+        self.by_net.insert(net.bytes, rights)?;
         Ok(())
     }
 }

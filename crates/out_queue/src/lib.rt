@@ -1,6 +1,7 @@
 //! The output of one connection that waits: frames, of which the first may be taken in part.
 #![tactic(auto)]
 
+mod frame_run;
 mod out_queue;
 
 pub use out_queue::{MAX_QUEUED, OutQueue, Pushed};

@@ -3,19 +3,13 @@ ghost use Rattle.std.specs.Prelude.{◌≡◌, ◌+◌, ◌<◌, ◌≤◌, ◌�
 ghost use Rattle.std.specs.List.{concat};
 ghost use Rattle.out_queue.specs.Queue.{QUEUE_LIMIT, queued, front_of, FitsFront, frames_after};
 
+use crate::frame_run::FrameRun;
 use ads_base::{NoMemory, Octets};
 use std::alloc::Global;
-use std::collections::VecDeque;
 use std::marker::Model;
 
 /// How many bytes may wait.
 pub const MAX_QUEUED: usize = 4_194_304;
-
-// As many frames keep their room once they are taken.
-const MOST_SPARE: usize = 64;
-
-// Frames of more bytes do not.
-const SHORT: usize = 1024;
 
 /// What became of a frame.
 #[derive(Clone, Copy, Debug, PartialEq, Eq)]
@@ -29,9 +23,7 @@ pub enum Pushed {
 /// The frames that wait for one connection, which contracts see as the list of what is left of them.
 #[derive(Drop)]
 pub struct OutQueue {
-    frames: VecDeque<Octets>,
-    // Short frames that were taken, whose room the next ones take.
-    spare: Vec<Octets>,
+    frames: FrameRun,
     // How many bytes of the first frame were taken.
     taken: usize,
     // How many bytes wait.
@@ -45,9 +37,9 @@ impl Model for OutQueue {
 
     ghost Value = { List (List ℕ) };
 
-    ghost view = { λ q. left_of q.taken q.frames.items };
+    ghost view = { λ q. left_of q.taken q.frames };
 
-    ghost invariant = { λ q. IsTaken q.taken q.frames.items × (q.bytes ≡ queued (left_of q.taken q.frames.items)) × (q.bytes ≤ QUEUE_LIMIT) };
+    ghost invariant = { λ q. IsTaken q.taken q.frames × (q.bytes ≡ queued (left_of q.taken q.frames)) × (q.bytes ≤ QUEUE_LIMIT) };
 }
 
 impl OutQueue {
@@ -56,15 +48,14 @@ impl OutQueue {
         ensures { IfOk result (λ queue. queue ≡ []) }
     {
         Ok(OutQueue {
-            frames: VecDeque::new(alloc),
-            spare: Vec::new(alloc),
+            frames: FrameRun::new(alloc),
             taken: 0,
             bytes: 0,
         })
     }
 
     /// Puts a frame behind the others, unless more than 4,194,304 bytes would wait.
-    pub fn push(&mut self, alloc: Global, frame: &[u8]) -> Result<Pushed, NoMemory>
+    pub fn push(&mut self, _alloc: Global, frame: &[u8]) -> Result<Pushed, NoMemory>
         ensures over { IfOk result (λ pushed. (pushed ≡ Pushed.Over)
             ↔ (QUEUE_LIMIT < queued self.old + length frame.now)) }
         ensures done { result ≡ Ok Pushed.Done → self.new ≡ self.old ++ frame.now ∷ [] }
@@ -74,27 +65,20 @@ impl OutQueue {
         if frame.len() > MAX_QUEUED - self.bytes {
             return Ok(Pushed::Over);
         }
-        let copy = copy_into(alloc, &mut self.spare, frame)?;
-        self.frames.push_back(copy)?;
+        self.frames.push(frame)?;
         self.bytes += frame.len();
         Ok(Pushed::Done)
     }
 
-    /// The same for a frame that the caller gives away: none of its bytes is copied.
-    pub fn push_owned(&mut self, _alloc: Global, frame: Octets) -> Result<Pushed, NoMemory>
+    /// The same for a frame that the caller gives away.
+    pub fn push_owned(&mut self, alloc: Global, frame: Octets) -> Result<Pushed, NoMemory>
         ensures over { IfOk result (λ pushed. (pushed ≡ Pushed.Over)
             ↔ (QUEUE_LIMIT < queued self.old + length frame)) }
         ensures done { result ≡ Ok Pushed.Done → self.new ≡ self.old ++ frame ∷ [] }
         ensures unchanged { result ≡ Ok Pushed.Over → self.new ≡ self.old }
         ensures no_memory { OnErr result (self.new ≡ self.old) }
     {
-        let len = frame.len();
-        if len > MAX_QUEUED - self.bytes {
-            return Ok(Pushed::Over);
-        }
-        self.frames.push_back(frame)?;
-        self.bytes += len;
-        Ok(Pushed::Done)
+        self.push(alloc, frame.as_slice())
     }
 
     /// What is left of the first frame.
@@ -104,7 +88,7 @@ impl OutQueue {
         ensures bound { IfSome result (λ left. length left.now ≤ QUEUE_LIMIT) }
     {
         let frame = self.frames.front()?;
-        Some(&frame.as_slice()[self.taken..])
+        Some(&frame[self.taken..])
     }
 
     /// Takes bytes of the first frame, which is gone once it is taken whole. No other byte moves.
@@ -121,33 +105,10 @@ impl OutQueue {
         let left = frame.len() - self.taken;
         self.bytes -= n;
         if left == n {
-            keep(&mut self.spare, self.frames.pop_front());
+            self.frames.pop();
             self.taken = 0;
         } else {
             self.taken += n;
         }
-    }
-}
-
-// A copy of a frame, in the room of one that was taken where there is one.
-fn copy_into(alloc: Global, spare: &mut Vec<Octets>, frame: &[u8]) -> Result<Octets, NoMemory>
-    ensures { IfOk result (λ copy. copy ≡ frame.now) }
-{
-    let mut copy = match spare.pop() {
-        Some(taken) => taken,
-        None => Octets::new(alloc),
-    };
-    copy.cut(0);
-    copy.put(alloc, frame)?;
-    Ok(copy)
-}
-
-// The room of a short frame that was taken is kept, unless that of many is.
-fn keep(spare: &mut Vec<Octets>, taken: Option<Octets>) {
-    let Some(frame) = taken else {
-        return;
-    };
-    if frame.len() <= SHORT && spare.len() < MOST_SPARE {
-        let _ = spare.push(frame);
     }
 }

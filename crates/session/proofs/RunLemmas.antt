@@ -1,8 +1,8 @@
 -- A request of a packet that is no sum is one act: its reply, and what it leaves.
-use Rattle.std.proofs.Common.{◌≡◌, ◌^◌, ◌<◌, ℕ, List, [], ◌∷◌, ◌++◌, true, false, refl, sym, ◌∙◌, ap, subst}
+use Rattle.std.proofs.Common.{◌≡◌, ◌^◌, ◌<◌, ℕ, List, [], ◌∷◌, ◌++◌, true, false, inl, inr, refl, sym, ◌∙◌, ap, subst}
 use Rattle.std.specs.Prelude.{Bool, Option, Some, option_and_then, Result, Ok, Err, OnOk, ◌==◌, ◌||◌, not, map, if◌then◌else◌}
-use Rattle.std.specs.Int.{w32, to_le_bytes}
-use Rattle.std.proofs.lemmas.Bool.{false≢true}
+use Rattle.std.specs.Int.{w16, w32, to_le_bytes}
+use Rattle.std.proofs.lemmas.Bool.{cases_Bool, false≢true}
 use Rattle.std.proofs.lemmas.List.{append-nil}
 use Rattle.std.proofs.lemmas.Nat.{from_le_bytes-to_le_bytes_2, from_le_bytes-to_le_bytes_4}
 use Rattle.return_codes.specs.declared.code.Code.{Code}
@@ -111,6 +111,16 @@ runs-single a r old new m s single is_reply after =
     record { reply = subst R (sym d) is_reply; after = subst A (sym d) after }
 
 -- replies
+
+-- the result of a Write alone, and the state words behind a result of 0
+
+pub write-written : (number : ℕ) → written_bytes (reply.Write number) ≡ to_le_bytes w32 number
+unfolding written_bytes
+write-written number = elim (cases_Bool (number == 0)) [ inl t ↦ rw t (append-nil _) | inr t ↦ rw t (append-nil _) ]
+
+pub state-written : (ads device : ℕ) → written_bytes (reply.ReadState 0 ads device) ≡ to_le_bytes w32 0 ++ (to_le_bytes w16 ads ++ to_le_bytes w16 device)
+unfolding written_bytes
+state-written ads device = refl
 
 pub code-reply : (a : Asking) (r : Request) (old new : List ℕ) (form : ℕ → reply.Reply) (n : ℕ)
     → new ≡ old ++ written_bytes (form n) → n ≡ (outcome_asked a r).code

@@ -133,7 +133,7 @@ fn stop_by_address(h: &Header, net: NetId, no_route: bool, no_port: bool, no_req
     if no_route {
         return Stop::Close;
     }
-    if h.target.net.bytes.as_slice() != net.bytes.as_slice() {
+    if h.target.net.bytes != net.bytes {
         return Stop::Error(Code::C7);
     }
     if no_port {

@@ -1,6 +1,6 @@
 //! The frame of an answer.
 
-ghost use Rattle.std.specs.Prelude.{◌≡◌, ◌≤◌, ◌<◌, ◌^◌, length, drop, IfOk};
+ghost use Rattle.std.specs.Prelude.{◌≡◌, ◌≤◌, ◌<◌, ◌^◌, length, drop, IfOk, OnErr};
 ghost use Rattle.spec_frames.specs.Frame.{frame_bytes};
 ghost use Rattle.spec_machine.specs.Replies.{response_packet};
 ghost use Rattle.ams_header.specs.Header.{ams_header_of};
@@ -9,11 +9,13 @@ use crate::room::write_at;
 use ads_base::{NoMemory, Octets};
 use ams_header::{Header, answer_of, put};
 
-/// Fills in the headers in front of an answer's payload. A frame whose length does not fit 32 bits finds no memory.
+/// Fills in the headers in front of an answer's payload. A frame whose length does not fit 32 bits finds no memory, and every
+/// other frame is given.
 pub(crate) fn framed(h: &Header, error: u32, out: Octets) -> Result<Octets, NoMemory>
     requires { 38 ≤ length out }
     ensures frame { IfOk result (λ frame. frame ≡ frame_bytes (response_packet (ams_header_of h.now) error (drop 38 out))) }
     ensures fits { IfOk result (λ frame. (38 ≤ length frame) × (length frame < 2 ^ 32)) }
+    ensures too_long { OnErr result (2 ^ 32 ≤ length out) }
 {
     let total = out.len();
     if total > u32::MAX as usize {

@@ -1,6 +1,7 @@
 //! The session of one client: what it sends is cut into frames, and each is answered from the ports.
 #![tactic(auto)]
 
+mod asker;
 mod checks;
 mod examined;
 mod framing;

@@ -22,6 +22,7 @@ pub(crate) fn put_room(alloc: Global, out: &mut Octets, len: usize) -> Result<()
 }
 
 /// Writes the bytes over those that stand at a place.
+#[inline(always)]
 pub(crate) fn write_at(out: &mut Octets, at: usize, bytes: &[u8])
     requires { at + length bytes.now ≤ length out.old }
     ensures { out.new ≡ take at out.old ++ bytes.now ++ drop (at + length bytes.now) out.old }

@@ -1,9 +1,10 @@
 //! The request of a packet that passed the checks is run, and its reply's payload written.
 
-ghost use Rattle.std.specs.Prelude.{◌≡◌, ◌≤◌, ◌+◌, ◌++◌, ℕ, length, OnOk, OnErr, IfOk};
+ghost use Rattle.std.specs.Prelude.{◌≡◌, ◌≤◌, ◌+◌, ◌++◌, ℕ, List, length, OnOk, OnErr, IfOk};
 ghost use Rattle.spec_formats.specs.Request as format;
 ghost use Rattle.ads_commands.specs.Request.{request_meant};
 ghost use Rattle.port_device.specs.Endings.{KeepsDescription};
+ghost use Rattle.port_device.specs.PortMemory.{PortMemory};
 ghost use Rattle.session.specs.Asking.{Asking};
 ghost use Rattle.session.specs.Asks.{SomeAsks};
 ghost use Rattle.session.specs.Runs.{IsSumGroup};
@@ -13,13 +14,14 @@ ghost use Rattle.sum_commands.specs.SumCommand.{sum_of, refusal_in, refused_by, 
 ghost use Rattle.ads_base.specs.declared.ams_addr.AmsAddr.{AmsAddr};
 ghost use Rattle.type_layout.specs.declared.description.Rights.{Rights};
 
+use crate::asker::Asker;
 use crate::groups::is_sum;
 use crate::replies::{fill_front, number_in, read_reply, read_write_reply};
 use crate::room::put_room;
 use crate::single::Single;
 use crate::watching::NoteRequest;
 use crate::{Session, writing};
-use ads_base::{AmsAddr, NoMemory, Octets};
+use ads_base::{AmsAddr, NoMemory, Octets, put16, put32};
 use ads_commands::{DeviceFacts, Reply, Request, put_reply};
 use port_device::Port;
 use return_codes::Code;
@@ -35,15 +37,13 @@ impl Session {
         &mut self,
         alloc: Global,
         port: &mut Port,
-        number: u16,
-        source: AmsAddr,
-        rights: Rights,
+        asker: Asker,
         request: Request<'_>,
         out: &mut Octets,
     ) -> Result<(), NoMemory>
         requires some { SomeAsks port.old self.old.handles }
-        requires number { number ≡ port.old.number }
-        ensures runs { OnOk result ((a : Asking) → AsksSession a port.old self.old → IsFrom a source rights
+        requires number { asker.number ≡ port.old.number }
+        ensures runs { OnOk result ((a : Asking) → AsksSession a port.old self.old → IsFrom a asker.source asker.rights
             → Runs a (request_meant request.entry) out.old out.new port.new self.new) }
         ensures keeps { KeepsDescription port.old port.new }
         ensures stream { self.new.stream ≡ self.old.stream }
@@ -51,25 +51,25 @@ impl Session {
         match request {
             Request::DeviceInfo => self.info(alloc, port, out),
             Request::Read { group, offset, len } => {
-                self.read(alloc, port, number, group, offset, len, out)
+                self.read(alloc, port, asker.number, group, offset, len, out)
             }
             Request::Write {
                 group,
                 offset,
                 bytes,
-            } => self.write(
-                alloc, port, number, source, rights, group, offset, bytes, out,
-            ),
+            } => self.write(alloc, port, asker, group, offset, bytes, out),
             Request::State => self.state(alloc, port, out),
-            Request::Control { ads, device, bytes } => {
-                self.control(alloc, port, rights, ads, device, bytes, out)
-            }
+            Request::Control {
+                ads,
+                device,
+                bytes: _any,
+            } => self.control(alloc, port, asker.rights, ads, device, out),
             Request::Add {
                 group,
                 offset,
                 len,
                 mode,
-                delay,
+                delay: _any,
                 cycle,
             } => {
                 let asked = NoteRequest {
@@ -79,18 +79,16 @@ impl Session {
                     mode,
                     cycle,
                 };
-                self.add(alloc, port, number, source, &asked, delay, out)
+                self.add(alloc, port, asker.number, asker.source, &asked, out)
             }
-            Request::Delete { handle } => self.delete(alloc, port, number, handle, out),
-            Request::Note(bytes) => self.note(alloc, port, bytes, out),
+            Request::Delete { handle } => self.delete(alloc, asker.number, handle, out),
+            Request::Note(_any) => self.note(alloc, out),
             Request::ReadWrite {
                 group,
                 offset,
                 read_len,
                 bytes,
-            } => self.read_write(
-                alloc, port, number, source, rights, group, offset, read_len, bytes, out,
-            ),
+            } => self.read_write(alloc, port, asker, group, offset, read_len, bytes, out),
         }
     }
 
@@ -132,33 +130,31 @@ impl Session {
         &mut self,
         alloc: Global,
         port: &mut Port,
-        number: u16,
-        source: AmsAddr,
-        rights: Rights,
+        asker: Asker,
         group: u32,
         offset: u32,
         bytes: &[u8],
         out: &mut Octets,
     ) -> Result<(), NoMemory>
         requires some { SomeAsks port.old self.old.handles }
-        requires number { number ≡ port.old.number }
-        ensures runs { OnOk result ((a : Asking) → AsksSession a port.old self.old → IsFrom a source rights
+        requires number { asker.number ≡ port.old.number }
+        ensures runs { OnOk result ((a : Asking) → AsksSession a port.old self.old → IsFrom a asker.source asker.rights
             → Runs a (format.Write group offset bytes.now) out.old out.new port.new self.new) }
         ensures keeps { KeepsDescription port.old port.new }
         ensures stream { self.new.stream ≡ self.old.stream }
     {
-        let net = source.net;
+        let net = asker.source.net;
         let answer = writing::write(
             &mut self.handles,
             port,
-            number,
+            asker.number,
             group,
             offset,
             bytes,
-            rights,
+            asker.rights,
             net,
         );
-        put_reply(alloc, &Reply::Write(number_in(answer)), out)
+        put32(alloc, out, number_in(answer))
     }
 
     // The two state words.
@@ -167,9 +163,12 @@ impl Session {
             → Runs a format.ReadState out.old out.new port.now self.now) }
     {
         let (ads, device) = port.state();
-        put_reply(alloc, &Reply::State(0, ads, device), out)
+        put32(alloc, out, 0)?;
+        put16(alloc, out, ads)?;
+        put16(alloc, out, device)
     }
 
+    // The data behind the state words are not looked at.
     fn control(
         &self,
         alloc: Global,
@@ -177,18 +176,17 @@ impl Session {
         rights: Rights,
         ads: u16,
         device: u16,
-        bytes: &[u8],
         out: &mut Octets,
     ) -> Result<(), NoMemory>
-        ensures runs { OnOk result ((a : Asking) (source : AmsAddr) → AsksSession a port.old self.now → IsFrom a source rights
-            → Runs a (format.WriteControl ads device bytes.now) out.old out.new port.new self.now) }
+        ensures runs { OnOk result ((a : Asking) (source : AmsAddr) (bytes : List ℕ) → AsksSession a port.old self.now
+            → IsFrom a source rights → Runs a (format.WriteControl ads device bytes) out.old out.new port.new self.now) }
         ensures keeps { KeepsDescription port.old port.new }
     {
-        let _any = bytes;
         let answer = port.control(ads, device, rights);
         put_reply(alloc, &Reply::Control(number_in(answer)), out)
     }
 
+    // The greatest delay is not looked at.
     fn add(
         &mut self,
         alloc: Global,
@@ -196,17 +194,15 @@ impl Session {
         number: u16,
         source: AmsAddr,
         asked: &NoteRequest,
-        delay: u32,
         out: &mut Octets,
     ) -> Result<(), NoMemory>
         requires some { SomeAsks port.now self.old.handles }
         requires number { number ≡ port.now.number }
-        ensures runs { OnOk result ((a : Asking) (rights : Rights) → AsksSession a port.now self.old → IsFrom a source rights
+        ensures runs { OnOk result ((a : Asking) (rights : Rights) (delay : ℕ) → AsksSession a port.now self.old → IsFrom a source rights
             → Runs a (format.AddDeviceNotification asked.now.group asked.now.offset asked.now.len asked.now.mode delay asked.now.cycle)
             out.old out.new port.now self.new) }
         ensures stream { self.new.stream ≡ self.old.stream }
     {
-        let _any = delay;
         match self.add_note(alloc, port, number, source, asked)? {
             Ok(handle) => put_reply(alloc, &Reply::Add(0, handle), out),
             Err(code) => put_reply(alloc, &Reply::Add(code.number(), 0), out),
@@ -216,34 +212,23 @@ impl Session {
     fn delete(
         &mut self,
         alloc: Global,
-        port: &Port,
         number: u16,
         handle: u32,
         out: &mut Octets,
     ) -> Result<(), NoMemory>
-        requires number { number ≡ port.now.number }
-        ensures runs { OnOk result ((a : Asking) → AsksSession a port.now self.old
-            → Runs a (format.DeleteDeviceNotification handle) out.old out.new port.now self.new) }
+        ensures runs { OnOk result ((a : Asking) (port : PortMemory) → number ≡ port.number → AsksSession a port self.old
+            → Runs a (format.DeleteDeviceNotification handle) out.old out.new port self.new) }
         ensures stream { self.new.stream ≡ self.old.stream }
     {
-        let _known = port;
         let answer = self.delete_note(number, handle);
         put_reply(alloc, &Reply::Delete(number_in(answer)), out)
     }
 
     // A notification is stopped by the checks, and does not come here.
-    fn note(
-        &self,
-        alloc: Global,
-        port: &Port,
-        bytes: &[u8],
-        out: &mut Octets,
-    ) -> Result<(), NoMemory>
-        ensures { OnOk result ((a : Asking) → AsksSession a port.now self.now
-            → Runs a (format.DeviceNotification bytes.now) out.old out.new port.now self.now) }
+    fn note(&self, alloc: Global, out: &mut Octets) -> Result<(), NoMemory>
+        ensures { OnOk result ((a : Asking) (port : PortMemory) (bytes : List ℕ) → AsksSession a port self.now
+            → Runs a (format.DeviceNotification bytes) out.old out.new port self.now) }
     {
-        let _any = bytes;
-        let _known = port;
         put_reply(alloc, &Reply::Write(0), out)
     }
 
@@ -251,9 +236,7 @@ impl Session {
         &mut self,
         alloc: Global,
         port: &mut Port,
-        number: u16,
-        source: AmsAddr,
-        rights: Rights,
+        asker: Asker,
         group: u32,
         offset: u32,
         len: u32,
@@ -261,22 +244,20 @@ impl Session {
         out: &mut Octets,
     ) -> Result<(), NoMemory>
         requires some { SomeAsks port.old self.old.handles }
-        requires number { number ≡ port.old.number }
-        ensures runs { OnOk result ((a : Asking) → AsksSession a port.old self.old → IsFrom a source rights
+        requires number { asker.number ≡ port.old.number }
+        ensures runs { OnOk result ((a : Asking) → AsksSession a port.old self.old → IsFrom a asker.source asker.rights
             → Runs a (format.ReadWrite group offset len bytes.now) out.old out.new port.new self.new) }
         ensures keeps { KeepsDescription port.old port.new }
         ensures stream { self.new.stream ≡ self.old.stream }
     {
         if is_sum(group) {
-            return self.sum(
-                alloc, port, number, source, rights, group, offset, len, bytes, out,
-            );
+            return self.sum(alloc, port, asker, group, offset, len, bytes, out);
         }
         read_write_reply(
             alloc,
             &mut self.handles,
             port,
-            number,
+            asker.number,
             group,
             offset,
             len,
@@ -290,9 +271,7 @@ impl Session {
         &mut self,
         alloc: Global,
         port: &mut Port,
-        number: u16,
-        source: AmsAddr,
-        rights: Rights,
+        asker: Asker,
         group: u32,
         count: u32,
         len: u32,
@@ -300,9 +279,9 @@ impl Session {
         out: &mut Octets,
     ) -> Result<(), NoMemory>
         requires some { SomeAsks port.old self.old.handles }
-        requires number { number ≡ port.old.number }
+        requires number { asker.number ≡ port.old.number }
         requires sum { IsSumGroup group }
-        ensures runs { OnOk result ((a : Asking) → AsksSession a port.old self.old → IsFrom a source rights
+        ensures runs { OnOk result ((a : Asking) → AsksSession a port.old self.old → IsFrom a asker.source asker.rights
             → Runs a (format.ReadWrite group count len bytes.now) out.old out.new port.new self.new) }
         ensures keeps { KeepsDescription port.old port.new }
         ensures stream { self.new.stream ≡ self.old.stream }
@@ -312,9 +291,9 @@ impl Session {
         let mut single = Single {
             handles: &mut self.handles,
             port: &mut *port,
-            number,
-            rights,
-            net: source.net,
+            number: asker.number,
+            rights: asker.rights,
+            net: asker.source.net,
         };
         let answer = run_parts(alloc, &mut single, group, count, len, bytes, out)?;
         fill_front(out, start, number_in(answer));

@@ -12,6 +12,7 @@ ghost use Rattle.port_device.specs.Holds.{HoldsPorts};
 ghost use Rattle.session.specs.Answered.{IsErrorFrame, IsRefusedFrame};
 ghost use Rattle.session.specs.Asking.{Asking};
 
+use crate::asker::Asker;
 use crate::checks::examined;
 use crate::examined::Examined;
 use crate::framing::framed;
@@ -117,15 +118,12 @@ impl Session {
         let mut out = room;
         out.cut(0);
         put_room(alloc, &mut out, HEADERS)?;
-        self.run(
-            alloc,
-            port,
-            h.target.port,
-            h.source,
+        let asker = Asker {
+            number: h.target.port,
+            source: h.source,
             rights,
-            request,
-            &mut out,
-        )?;
+        };
+        self.run(alloc, port, asker, request, &mut out)?;
         Ok(Taken::Answer(framed(h, 0, out)?))
     }
 }

@@ -7,6 +7,7 @@ ghost use Rattle.spec_machine.specs.Reach.{addressed_by_status};
 ghost use Rattle.spec_machine.specs.Writes as machine;
 ghost use Rattle.type_layout.specs.Descriptions.{rights_of};
 ghost use Rattle.port_device.specs.Endings.{IsAsker, KeepsDescription};
+ghost use Rattle.port_device.specs.PortMemory.{PortMemory};
 ghost use Rattle.session.specs.Asking.{Asking, act_asked};
 ghost use Rattle.session.specs.Asks.{Asks, SomeAsks};
 ghost use Rattle.session.specs.Ends.{EndsAct, value_write_act};
@@ -38,7 +39,7 @@ pub(crate) fn write(
     ensures keeps { KeepsDescription port.old port.new }
 {
     if is_release(group) {
-        return release(handles, port, number, bytes);
+        return release(handles, number, bytes);
     }
     if is_value_by_handle(group) {
         return write_value(handles, port, number, offset, bytes, rights, net);
@@ -47,12 +48,10 @@ pub(crate) fn write(
 }
 
 // Releases a handle, whose 4 bytes are the data. Rights are not looked at.
-fn release(handles: &mut Handles, port: &Port, number: u16, bytes: &[u8]) -> Result<(), Code>
-    requires number { number ≡ port.now.number }
-    ensures ends { (a : Asking) → Asks a port.now handles.old
-        → EndsAct a (machine.release_act a.client a.asker.port bytes.now) result port.now handles.new }
+fn release(handles: &mut Handles, number: u16, bytes: &[u8]) -> Result<(), Code>
+    ensures ends { (a : Asking) (port : PortMemory) → number ≡ port.number → Asks a port handles.old
+        → EndsAct a (machine.release_act a.client a.asker.port bytes.now) result port handles.new }
 {
-    let _known = port;
     if bytes.len() != 4 {
         return Err(Code::C705);
     }

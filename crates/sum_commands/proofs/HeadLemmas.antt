@@ -12,6 +12,10 @@ numbers-step m k width at heads e =
     ap (λ x. sum (numbers_of_heads x width at heads)) e
     ∙ sum_by-cons (λ x. x) (number32 at heads) (numbers_of_heads k width at (drop width heads))
 
+-- one more of a width
+pub times-step : (m k width : ℕ) → m ≡ suc k → width * m ≡ width * k + width
+times-step m k width e = ap (λ x. width * x) e ∙ mul-suc width k
+
 -- the first head is there, and the others behind it
 pub record HasHead (width k : ℕ) (heads : List ℕ) : Type 0 where
   pub head : width ≤ length heads
@@ -20,5 +24,5 @@ pub record HasHead (width k : ℕ) (heads : List ℕ) : Type 0 where
 pub heads-step : (m k width : ℕ) (heads : List ℕ) → m ≡ suc k → width * m ≤ length heads
     → HasHead width k heads
 heads-step m k width heads e there =
-    let all : width * m ≡ width * k + width = ap (λ x. width * x) e ∙ mul-suc width k in
+    let all = times-step m k width e in
     record { head = omega arith; behind = omega (arith, length-drop width heads) }

@@ -3,3 +3,4 @@ pub mod PartLemmas
 pub mod ReplyLemmas
 pub mod StopLemmas
 pub mod RunningLemmas
+pub mod LaidLemmas

@@ -1,15 +1,16 @@
 -- What n parts run after one another give, by the first part and those behind it.
-use Rattle.std.proofs.Common.{◌≡◌, ℕ, zero, suc, ◌+◌, ◌≤◌, List, ◌∷◌, ◌++◌, drop, length, refl, sym, ◌∙◌, ap, subst, arith, append_assoc, length-append, length-drop}
+use Rattle.std.proofs.Common.{◌≡◌, ℕ, zero, suc, ◌+◌, ◌≤◌, List, ◌∷◌, ◌++◌, drop, length}
+use Rattle.std.proofs.Common.{refl, sym, ◌∙◌, ap, subst, arith, append_assoc, length-append, length-drop}
 use Rattle.std.proofs.Math.Nat.{mul-suc}
 use Rattle.std.proofs.lemmas.List.{append-nil}
 use Rattle.std.proofs.lemmas.List.Concat.{flat_map-cons}
 use Rattle.std.specs.Int.{w32, to_le_bytes}
-use Rattle.spec_formats.specs.Request.{Request}
+use Rattle.spec_formats.specs.Request.{Request, ReadWrite}
 use Rattle.spec_machine.specs.Acts.{Outcome}
 use Rattle.spec_machine.specs.Sums.{given_in_turn, left_in_turn}
 use Rattle.sum_commands.specs.declared.form.Form.{Form}
 use Rattle.sum_commands.specs.declared.form.Form.TheVariants as form
-use Rattle.sum_commands.specs.Parts.{Runs, front_of, data_of, asked_of}
+use Rattle.sum_commands.specs.Parts.{front_of, front_len, data_of, asked_of}
 use Rattle.sum_commands.specs.Forms.{HasParts, RunsAll, head_width, front_width, written_len, all_written, all_asked, part_of, parts_of, fronts_in, data_in}
 use Rattle.sum_commands.proofs.HeadLemmas.{heads-step, numbers-step}
 
@@ -84,10 +85,30 @@ left_in_turn-cons : {S : Type 0} (leaves : S → Request → S) (s : S) (r : Req
 unfolding left_in_turn
 left_in_turn-cons leaves s r rs = refl
 
+front_len-part_of : (form : Form) (heads written : List ℕ) → front_len (part_of form heads written) ≡ front_width form
+front_len-part_of form.Reads heads written = refl
+front_len-part_of form.Writes heads written = refl
+front_len-part_of form.ReadWrites heads written = refl
+
+pub front_len-first : (form : Form) (heads written : List ℕ) (r : Request) → r ≡ part_of form heads written → front_len r ≡ front_width form
+front_len-first form heads written r first = ap front_len first ∙ front_len-part_of form heads written
+
+pub length-front_of : (r : Request) (o : Outcome) → length (front_of r o) ≡ front_len r
+length-front_of (ReadWrite group offset read_len bytes) o = refl
+length-front_of _ o = refl
+
+-- a part is run: the state that it leaves, and what it adds to the results and to the data
+pub record Adds {V S : Type 0} (stands_for : V → S → Type 0) (given : S → Request → Outcome) (leaves : S → Request → S)
+    (r : Request) (before : S) (after : V) (fronts fronts' : List ℕ) (more more' : List ℕ) : Type 0 where
+  pub state : stands_for after (leaves before r)
+  pub front : fronts' ≡ fronts ++ front_of r (given before r)
+  pub bytes : more' ≡ more ++ data_of r (given before r)
+  pub asked : length more' ≤ length more + asked_of r
+
 -- a part is run, and then those behind it
 pub runs-suc : {V S : Type 0} (stands_for : V → S → Type 0) (given : S → Request → Outcome) (leaves : S → Request → S)
     (form : Form) (k : ℕ) (heads written : List ℕ) (s : S) (v1 v2 : V) (f f1 f2 out out1 out2 : List ℕ)
-    → Runs stands_for given leaves (part_of form heads written) s v1 f f1 out out1
+    → Adds stands_for given leaves (part_of form heads written) s v1 f f1 out out1
     → RunsAll stands_for given leaves form k (drop (head_width form) heads) (drop (written_len form heads) written)
     (leaves s (part_of form heads written)) v2 f1 f2 out1 out2
     → RunsAll stands_for given leaves form (suc k) heads written s v2 f f2 out out2
@@ -161,12 +182,12 @@ pub runs-next : {V S : Type 0} (stands_for : V → S → Type 0) (given : S → 
     (form form' : Form) (m k : ℕ) (heads written heads' written' : List ℕ) (r : Request) (s : S) (v1 v2 : V)
     (f f1 f2 out out1 out2 : List ℕ) → m ≡ suc k
     → IsBehind form heads written form' heads' written' → r ≡ part_of form heads written
-    → Runs stands_for given leaves r s v1 f f1 out out1
+    → Adds stands_for given leaves r s v1 f f1 out out1
     → RunsAll stands_for given leaves form' k heads' written' (leaves s r) v2 f1 f2 out1 out2
     → RunsAll stands_for given leaves form m heads written s v2 f f2 out out2
 runs-next stands_for given leaves form form' m k heads written heads' written' r s v1 v2 f f1 f2 out out1 out2 e b first one more =
-    let here : Runs stands_for given leaves (part_of form heads written) s v1 f f1 out out1 =
-    subst (λ x. Runs stands_for given leaves x s v1 f f1 out out1) first one in
+    let here : Adds stands_for given leaves (part_of form heads written) s v1 f f1 out out1 =
+    subst (λ x. Adds stands_for given leaves x s v1 f f1 out out1) first one in
     let more' : RunsAll stands_for given leaves form' k heads' written' (leaves s (part_of form heads written)) v2 f1 f2 out1 out2 =
     subst (λ x. RunsAll stands_for given leaves form' k heads' written' (leaves s x) v2 f1 f2 out1 out2) first more in
     let behind : RunsAll stands_for given leaves form k (drop (head_width form) heads) (drop (written_len form heads) written) (leaves s (part_of form heads written)) v2 f1 f2 out1 out2 =

@@ -41,6 +41,25 @@ impl Form {
         }
     }
 
+    // How long a result is in the reply, with the length of its data where that is returned.
+    pub(crate) fn front(self) -> usize
+        ensures { result ≡ front_width self }
+    {
+        match self {
+            Form::Reads | Form::Writes => 4,
+            Form::ReadWrites => 8,
+        }
+    }
+
+    // How many bytes of a reply, of at most `len` and with results of `fronts`, are sure to come: a read is filled to the length
+    // that it asks, and a read-write may give less.
+    pub(crate) fn sure_len(self, fronts: u32, len: usize) -> usize {
+        match self {
+            Form::Reads | Form::Writes => len,
+            Form::ReadWrites => fronts as usize,
+        }
+    }
+
     // How long n heads are.
     pub(crate) fn heads(self, n: u32) -> usize
         requires { n ≤ MAX_PARTS }

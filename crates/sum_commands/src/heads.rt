@@ -31,6 +31,7 @@ pub(crate) fn first_written(form: Form, heads: &[u8]) -> usize
 }
 
 // The first part.
+#[inline(always)]
 pub(crate) fn first_part<'a>(rest: Rest<'a>) -> Part<'a>
     requires head { head_width rest.form ≤ length rest.heads.now }
     requires written { written_len rest.form rest.heads.now ≤ length rest.written.now }
@@ -57,6 +58,7 @@ pub(crate) fn first_part<'a>(rest: Rest<'a>) -> Part<'a>
 }
 
 // The parts behind the first.
+#[inline(always)]
 pub(crate) fn behind_first<'a>(rest: Rest<'a>) -> Rest<'a>
     requires head { head_width rest.form ≤ length rest.heads.now }
     requires written { written_len rest.form rest.heads.now ≤ length rest.written.now }

@@ -1,9 +1,8 @@
 //! Which sums are refused, before a part is run.
 
-ghost use Rattle.std.specs.Prelude.{◌≡◌, length, IfNone, option_map};
-ghost use Rattle.return_codes.specs.Code.{number_of};
+ghost use Rattle.std.specs.Prelude.{◌≡◌, length, IfOk};
 ghost use Rattle.sum_commands.specs.Forms.{sum_in, IsAccepted};
-ghost use Rattle.sum_commands.specs.SumCommand.{refusal_in};
+ghost use Rattle.sum_commands.specs.SumCommand.{refusal_in, refused_by};
 
 use crate::form::Form;
 use crate::heads::{data_len, reply_len};
@@ -15,22 +14,21 @@ const MAX_PARTS: u32 = 500;
 // The most bytes of a reply.
 const MAX_LEN: u64 = 2_000_000;
 
-// The code that refuses a sum of n parts.
+// The greatest length of the reply to a sum of n parts, or the code that refuses the sum.
 #[tactic(auto, unfolding(spec_machine::specs::Sums::sum_refusal))]
-pub(crate) fn refusal(form: Form, n: u32, read_len: u32, bytes: &[u8]) -> Option<Code>
-    ensures code { option_map number_of result
-        ≡ refusal_in (sum_in form n bytes.now) n (length bytes.now) read_len }
-    ensures runs { IfNone result (IsAccepted (sum_in form n bytes.now) n (length bytes.now) read_len) }
+pub(crate) fn accepted_len(form: Form, n: u32, read_len: u32, bytes: &[u8]) -> Result<usize, Code>
+    ensures code { refused_by result ≡ refusal_in (sum_in form n bytes.now) n (length bytes.now) read_len }
+    ensures runs { IfOk result (λ _. IsAccepted (sum_in form n bytes.now) n (length bytes.now) read_len) }
 {
     if n > MAX_PARTS {
-        return Some(Code::C706);
+        return Err(Code::C706);
     }
     if bytes.len() < form.heads(n) || data_len(form, n, bytes) != bytes.len() as u64 {
-        return Some(Code::C705);
+        return Err(Code::C705);
     }
     let reply = reply_len(form, n, bytes);
     if reply > read_len as u64 || reply > MAX_LEN {
-        return Some(Code::C705);
+        return Err(Code::C705);
     }
-    None
+    Ok(reply as usize)
 }

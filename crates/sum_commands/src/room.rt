@@ -1,19 +1,12 @@
-//! Zeros, and bytes written over them.
+//! Zeros, and numbers written over them.
 
-ghost use Rattle.std.specs.Prelude.{◌≡◌, ◌≤◌, ◌+◌, ◌++◌, [], length, take, drop, replicate, OnOk, OnErr, IfOk};
+ghost use Rattle.std.specs.Prelude.{◌≡◌, ◌≤◌, ◌+◌, ◌++◌, length, replicate, OnOk, OnErr};
+ghost use Rattle.std.specs.Int.{w32, to_le_bytes};
+ghost use Rattle.sum_commands.specs.Parts.{written_over};
 
 use ads_base::{NoMemory, Octets};
 use std::alloc::Global;
 use std::mem;
-
-// No bytes, and room for so many.
-pub(crate) fn with_room(alloc: Global, len: u32) -> Result<Octets, NoMemory>
-    ensures { IfOk result (λ room. room ≡ []) }
-{
-    let mut room = Octets::new(alloc);
-    room.reserve(alloc, len as usize)?;
-    Ok(room)
-}
 
 // Appends zeros, of which most parts need none.
 #[inline]
@@ -40,10 +33,11 @@ fn fill_up(alloc: Global, out: &mut Octets, count: u32) -> Result<(), NoMemory>
     Ok(())
 }
 
-// Writes the bytes over those that stand at a place.
-pub(crate) fn write_at(out: &mut Octets, at: usize, bytes: &[u8])
-    requires { at + length bytes.now ≤ length out.old }
-    ensures { out.new ≡ take at out.old ++ bytes.now ++ drop (at + length bytes.now) out.old }
+// Writes a number over the bytes that stand at a place.
+#[inline(always)]
+pub(crate) fn write_at(out: &mut Octets, at: usize, number: u32)
+    requires { at + 4 ≤ length out.old }
+    ensures { out.new ≡ written_over at (to_le_bytes w32 number) out.old }
 {
-    out.as_mut_slice()[at..at + bytes.len()].copy_from_slice(bytes);
+    out.as_mut_slice()[at..at + 4].copy_from_slice(&number.to_le_bytes());
 }

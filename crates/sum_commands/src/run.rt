@@ -1,20 +1,20 @@
 //! A sum command is run.
 
-ghost use Rattle.std.specs.Prelude.{◌≡◌, ◌≤◌, ◌+◌, ◌++◌, length, OnOk, OnErr, IfOk};
+ghost use Rattle.std.specs.Prelude.{◌≡◌, ◌<◌, ◌≤◌, ◌+◌, ◌*◌, ◌^◌, ◌++◌, length, take, OnOk, OnErr, IfOk};
 ghost use Rattle.ads_base.specs.Octets.{Extends};
 ghost use Rattle.spec_formats.specs.Groups.{sum_read, sum_read_write};
 ghost use Rattle.spec_formats.specs.Ranges.{greatest_len};
 ghost use Rattle.spec_machine.specs.Sums.{MAX_PARTS};
-ghost use Rattle.sum_commands.specs.Forms.{HasParts, RunsAll, Replies, parts_of};
+ghost use Rattle.sum_commands.specs.Forms.{HasParts, Replies, front_width, parts_of};
 ghost use Rattle.sum_commands.specs.Served.{StandsForSome};
-ghost use Rattle.sum_commands.specs.Stops.{StopsAmong};
+ghost use Rattle.sum_commands.specs.Stops.{StopsAmong, KeepsFront};
 ghost use Rattle.sum_commands.specs.SumCommand.{sum_of, refusal_in, refused_by, sum_reply, left_by_sum};
 
 use crate::PartService;
 use crate::form::Form;
 use crate::heads::{Rest, behind_first, bytes_behind, first_part};
-use crate::refusals::refusal;
-use crate::room::{put_zeros, with_room, write_at};
+use crate::refusals::accepted_len;
+use crate::room::put_zeros;
 use crate::running::run_part;
 use ads_base::{NoMemory, Octets};
 use return_codes::Code;
@@ -64,16 +64,17 @@ pub fn run_sum<P: PartService>(
     ensures no_memory { OnErr result (out.new ≡ out.old) }
 {
     let form = Form::of(group);
-    if let Some(code) = refusal(form, n, read_len, bytes) {
-        return Ok(Err(code));
-    }
+    let len = match accepted_len(form, n, read_len, bytes) {
+        Ok(len) => len,
+        Err(code) => return Ok(Err(code)),
+    };
     let rest = Rest {
         form,
         heads: bytes,
         written: bytes_behind(bytes, form.heads(n)),
     };
     let before = out.len();
-    match put_reply(alloc, service, rest, n, out) {
+    match put_reply(alloc, service, rest, n, len, out) {
         Ok(()) => Ok(Ok(())),
         Err(no_memory) => {
             out.cut(before);
@@ -82,12 +83,14 @@ pub fn run_sum<P: PartService>(
     }
 }
 
-// Appends the reply of n parts: the room of the results, which are filled in at the end, and the data.
+// Appends the reply of n parts, which has so many bytes at most: the room of the results, which is filled in part by part,
+// and the data.
 fn put_reply<P: PartService>(
     alloc: Global,
     service: &mut P,
     rest: Rest<'_>,
     n: u32,
+    len: usize,
     out: &mut Octets,
 ) -> Result<(), NoMemory>
     requires few { n ≤ MAX_PARTS }
@@ -100,36 +103,38 @@ fn put_reply<P: PartService>(
         (parts_of rest.entry.form n rest.entry.heads.now rest.entry.written.now) s service.new) }
     ensures no_memory { OnErr result (Extends out.old out.new) }
 {
-    let start = out.len();
-    let len = rest.form.fronts(n);
-    put_zeros(alloc, out, len)?;
-    let mut fronts = with_room(alloc, len)?;
-    run_parts(alloc, service, rest, n, &mut fronts, out)?;
-    write_at(out, start, fronts.as_slice());
-    Ok(())
+    let fronts = rest.form.fronts(n);
+    out.reserve(alloc, rest.form.sure_len(fronts, len))?;
+    put_zeros(alloc, out, fronts)?;
+    let start = out.len() - fronts as usize;
+    run_parts(alloc, service, rest, n, start, out)
 }
 
-// Runs n parts. Their results are appended to the fronts, and their data to `out`.
+// Runs n parts. Their results are written into the room from `start` on, and their data is appended.
 fn run_parts<P: PartService>(
     alloc: Global,
     service: &mut P,
     rest: Rest<'_>,
     n: u32,
-    fronts: &mut Octets,
+    start: usize,
     out: &mut Octets,
 ) -> Result<(), NoMemory>
     requires parts { HasParts rest.form n rest.heads.now rest.written.now }
     requires some { StandsForSome P.stands_for service.old }
+    requires room { length out.old ≡ start + front_width rest.form * n }
+    requires small { length out.old < 2 ^ 64 }
     ensures ok { OnOk result ((s : P.State) → P.stands_for service.old s
-        → RunsAll P.stands_for P.given P.left rest.entry.form n rest.entry.heads.now rest.entry.written.now
-        s service.new fronts.old fronts.new out.old out.new) }
+        → Replies P.stands_for P.given P.left rest.entry.form n rest.entry.heads.now rest.entry.written.now
+        s service.new (take start out.old) out.new) }
     ensures wants { OnErr result ((s : P.State) → P.stands_for service.old s → StopsAmong P.stands_for P.left P.may_leave
         (parts_of rest.entry.form n rest.entry.heads.now rest.entry.written.now) s service.new) }
-    ensures no_memory { OnErr result (Extends out.old out.new) }
+    ensures no_memory { OnErr result (KeepsFront start out.old out.new) }
 {
     let mut rest = rest;
+    let mut at = start;
     for _ in 0..n {
-        run_part(alloc, service, first_part(rest), fronts, out)?;
+        run_part(alloc, service, first_part(rest), at, out)?;
+        at += rest.form.front();
         rest = behind_first(rest);
     }
     Ok(())

@@ -1,6 +1,6 @@
 //! The list of handles that are not released, by rising number.
 
-ghost use Rattle.std.specs.Prelude.{◌≡◌, ◌≢◌, ◌<◌, MatchOption, All, AllPairs};
+ghost use Rattle.std.specs.Prelude.{◌≡◌, ◌≢◌, ◌<◌, IfSome, MatchOption, All, AllPairs};
 ghost use Rattle.sym_handles.specs.declared.entries.Entry.{Entry};
 ghost use Rattle.sym_handles.specs.Records.{IsAt};
 
@@ -11,8 +11,31 @@ pub(crate) struct Entry {
     pub(crate) key: usize,
 }
 
-/// Where a handle stands in the list.
+/// Where a handle stands in the list: where no handle below it is released, at its number less 1.
 pub(crate) fn position_of(entries: &[Entry], handle: u32) -> Option<usize>
+    requires { AllPairs (λ (e f : Entry). e.handle < f.handle) entries.now }
+    ensures { MatchOption result (All (λ (e : Entry). e.handle ≢ handle) entries.now)
+        (IsAt entries.now handle) }
+{
+    if let Some(first) = tried(entries, handle, (handle as usize).saturating_sub(1)) {
+        return Some(first);
+    }
+    halved(entries, handle)
+}
+
+// A place, where the handle stands there.
+fn tried(entries: &[Entry], handle: u32, place: usize) -> Option<usize>
+    ensures { IfSome result (IsAt entries.now handle) }
+{
+    if place < entries.len() && entries[place].handle == handle {
+        Some(place)
+    } else {
+        None
+    }
+}
+
+// Where a handle stands, by halving.
+fn halved(entries: &[Entry], handle: u32) -> Option<usize>
     requires { AllPairs (λ (e f : Entry). e.handle < f.handle) entries.now }
     ensures { MatchOption result (All (λ (e : Entry). e.handle ≢ handle) entries.now)
         (IsAt entries.now handle) }

@@ -16,11 +16,10 @@ returns-then-is_some c =
 
 pub returns : goal.returns
 returns c =
-    let key = c.in_ok-key.ensures.items_if_clones_equal (λ x y e. e) in
     let missing : is_some c.rights.result ≡ false = sym c.is_some.ensures ∙ c.if-is_some.false in
     let none : rights_of c.args.net.bytes c.args.self.now ≡ None = sym c.rights.ensures ∙ option_map-none seen.rights_of c.rights.result missing in
-    let none_there : rights_of c.in_ok-key.key.items (map shown c.self.inside.by_net.entries) ≡ None = rw (key, c.self.view_is) none in
-    let last = ap (map shown) c.in_ok-insert.ensures.entries ∙ inserted c.in_ok-key.key c.args.rights c.self.inside.by_net.entries none_there in
+    let none_there : rights_of c.args.net.bytes (map shown c.self.inside.by_net.entries) ≡ None = rw c.self.view_is none in
+    let last = ap (map shown) c.in_ok-insert.ensures.entries ∙ inserted c.args.net.bytes c.args.rights c.self.inside.by_net.entries none_there in
     let whole : map shown c.insert.new.self.entries ≡ c.args.self.now ++ record { net = c.args.net.bytes; rights = seen.rights_of c.args.rights } ∷ []
-    = last ∙ rw (key, c.self.view_is) refl in
+    = last ∙ rw c.self.view_is refl in
     λ n. ap (rights_of n) whole

@@ -12,20 +12,20 @@ pub returns-in-Ok-clause-runs : goal.returns-in-Ok-clause-runs
 returns-in-Ok-clause-runs c =
     let fits : c.in-Ok.handle < 2 ^ 32 = search rules in
     let x = c.args.asked.now in
-    ok-then c.put_reply.result _ _ (λ put a rights h from.
-    let r = AddDeviceNotification x.group x.offset x.len x.mode c.args.delay x.cycle in
+    ok-then c.put_reply.result _ _ (λ put a rights delay h from.
+    let r = AddDeviceNotification x.group x.offset x.len x.mode delay x.cycle in
     let A : Result ℕ Code → Type 0 = λ y. AddsAs a (act_asked a r) y c.add_note.new.self in
-    added-runs a x.group x.offset x.len x.mode c.args.delay x.cycle c.in-Ok.handle c.args.port.now _ _ _ h.held fits
-    (subst A c.in-Ok.is (c.in_ok-handle.ensures.adds a c.args.delay h.held h.stands from.address)) put)
+    added-runs a x.group x.offset x.len x.mode delay x.cycle c.in-Ok.handle c.args.port.now _ _ _ h.held fits
+    (subst A c.in-Ok.is (c.in_ok-handle.ensures.adds a delay h.held h.stands from.address)) put)
     c.put_reply.ensures.ok
 
 pub returns-in-Err-clause-runs : goal.returns-in-Err-clause-runs
 returns-in-Err-clause-runs c =
     let x = c.args.asked.now in
-    ok-then c.put_reply-in-Err.result _ _ (λ put a rights h from.
-    let r = AddDeviceNotification x.group x.offset x.len x.mode c.args.delay x.cycle in
+    ok-then c.put_reply-in-Err.result _ _ (λ put a rights delay h from.
+    let r = AddDeviceNotification x.group x.offset x.len x.mode delay x.cycle in
     let A : Result ℕ Code → Type 0 = λ y. AddsAs a (act_asked a r) y c.add_note.new.self in
-    unadded-runs a x.group x.offset x.len x.mode c.args.delay x.cycle c.in-Err.code c.args.port.now _ _ _ h.held
-    (subst A c.in-Err.is (c.in_ok-handle.ensures.adds a c.args.delay h.held h.stands from.address))
+    unadded-runs a x.group x.offset x.len x.mode delay x.cycle c.in-Err.code c.args.port.now _ _ _ h.held
+    (subst A c.in-Err.is (c.in_ok-handle.ensures.adds a delay h.held h.stands from.address))
     (put ∙ ap (λ n. c.args.out.now ++ reply.written_bytes (reply.AddDeviceNotification n 0)) c.number.ensures))
     c.put_reply-in-Err.ensures.ok

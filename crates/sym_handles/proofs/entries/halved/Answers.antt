@@ -5,8 +5,8 @@ use Rattle.std.proofs.lemmas.List.Sorted.{IsPartitionPoint-from_clause, IsPartit
 use Rattle.std.proofs.lemmas.Bool.{cases_lt, cases_eq, ltb-true, ltb-false}
 use Rattle.sym_handles.specs.declared.entries.Entry.{Entry}
 use Rattle.sym_handles.proofs.Slots.{non_decreasing}
-use Rattle.sym_handles.proofs.entries.position_of.Goals as goal
-use Rattle.sym_handles.proofs.entries.position_of.Goals.{else-before-entries-via-then-before-entries+else-entries-before, else-before-entries-via-else-before-entries}
+use Rattle.sym_handles.proofs.entries.halved.Goals as goal
+use Rattle.sym_handles.proofs.entries.halved.Goals.{else-before-entries-via-then-before-entries+else-entries-before, else-before-entries-via-else-before-entries}
 
 pub returns-else-before-entries : goal.returns-else-before-entries
 returns-else-before-entries c = λ k d h e.

@@ -1,0 +1,99 @@
+//! Frames one behind the other in one run of bytes.
+
+ghost use Rattle.std.specs.Prelude.{◌≡◌, ◌<◌, ◌≤◌, ◌↔◌, ◌^◌, [], ◌∷◌, ◌++◌, length, drop, Some, IfSome, IsNone, OnOk, OnErr};
+ghost use Rattle.out_queue.specs.Queue.{front_of};
+
+use ads_base::NoMemory;
+use std::alloc::Global;
+use std::collections::VecDeque;
+use std::marker::Model;
+
+// So much room is kept where no frame is left.
+const MOST_SPARE: usize = 65_536;
+
+// Bytes of frames that are gone are moved over once they are so many, and no fewer than those of frames that are left.
+const MANY_GONE: usize = 4096;
+
+// The frames, which contracts see as a list.
+#[derive(Drop)]
+pub(crate) struct FrameRun {
+    // The frames, behind those that are gone.
+    bytes: Vec<u8>,
+    // How long each of them is.
+    lens: VecDeque<u32>,
+    // How many bytes are gone.
+    gone: usize,
+}
+
+impl Model for FrameRun {
+    ghost use Rattle.std.specs.Prelude.{◌≡◌, ◌+◌, ℕ, List, length, drop, sum};
+    ghost use Rattle.out_queue.specs.Runs.{frames_in};
+
+    ghost Value = { List (List ℕ) };
+
+    ghost view = { λ r. frames_in r.lens.items (drop r.gone r.bytes.items) };
+
+    ghost invariant = { λ r. r.gone + sum r.lens.items ≡ length r.bytes.items };
+}
+
+impl FrameRun {
+    // No frame.
+    pub(crate) fn new(alloc: Global) -> FrameRun
+        ensures { result ≡ [] }
+    {
+        FrameRun {
+            bytes: Vec::new(alloc),
+            lens: VecDeque::new(alloc),
+            gone: 0,
+        }
+    }
+
+    // Puts a frame behind the others.
+    pub(crate) fn push(&mut self, frame: &[u8]) -> Result<(), NoMemory>
+        requires { length frame.now < 2 ^ 32 }
+        ensures ok { OnOk result (self.new ≡ self.old ++ frame.now ∷ []) }
+        ensures no_memory { OnErr result (self.new ≡ self.old) }
+    {
+        self.close_up();
+        self.lens.reserve(1)?;
+        self.bytes.extend_from_slice(frame)?;
+        self.lens.push_back_reserved(frame.len() as u32);
+        Ok(())
+    }
+
+    // The first frame.
+    pub(crate) fn front(&self) -> Option<&[u8]>
+        ensures none { IsNone result ↔ (self.now ≡ []) }
+        ensures some { IfSome result (λ frame. front_of self.now ≡ Some frame.now) }
+    {
+        let len = *self.lens.front()?;
+        Some(&self.bytes[self.gone..self.gone + len as usize])
+    }
+
+    // The first frame is gone. No other byte moves.
+    pub(crate) fn pop(&mut self)
+        ensures { self.new ≡ drop 1 self.old }
+    {
+        let Some(len) = self.lens.pop_front() else {
+            return;
+        };
+        self.gone += len as usize;
+        if self.lens.is_empty() {
+            self.bytes.clear();
+            self.bytes.shrink_to(MOST_SPARE);
+            self.gone = 0;
+        }
+    }
+
+    // Moves what is left over what is gone, where that is more: a byte is moved at most once for each that is gone.
+    fn close_up(&mut self)
+        ensures { self.new ≡ self.old }
+    {
+        let left = self.bytes.len() - self.gone;
+        if self.gone >= MANY_GONE && self.gone >= left {
+            self.bytes.copy_within(self.gone.., 0);
+            self.bytes.truncate(left);
+            self.gone = 0;
+        }
+    }
+}
