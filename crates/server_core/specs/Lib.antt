@@ -15,3 +15,4 @@ pub mod Outcomes
 pub mod Asked
 pub mod Reloading
 pub mod Checking
+pub mod DueChecks

@@ -12,6 +12,7 @@ mod gate;
 mod laws;
 mod outcome;
 mod reloading;
+mod rooms;
 mod served_core;
 mod server;
 mod serving;

@@ -20,6 +20,7 @@ ghost use Rattle.server_core.specs.Serves.{Serves, HasCounts, Follows, HasFailed
 use crate::clients::Clients;
 use crate::device::Device;
 use crate::events::take_event;
+use crate::rooms::Rooms;
 use crate::server::Server;
 use crate::sources::Sources;
 use crate::{Outcome, Summary};
@@ -71,6 +72,7 @@ impl<S: Sources> Core<S> {
                 clients: Clients::new(alloc),
                 summary: Summary::nothing(),
                 notes: ReloadNotes::new(alloc),
+                rooms: Rooms::new(alloc),
             },
             signals,
             failed: false,

@@ -12,6 +12,7 @@ ghost use Rattle.server_core.specs.Places.{offer_among, offers_among};
 use crate::Summary;
 use crate::clients::Clients;
 use crate::device::Device;
+use crate::rooms::Rooms;
 use crate::taking::take_piece;
 use ads_base::NoMemory;
 use ads_outside::ReloadNotes;
@@ -24,6 +25,7 @@ pub(crate) struct Server {
     pub(crate) clients: Clients,
     pub(crate) summary: Summary,
     pub(crate) notes: ReloadNotes,
+    pub(crate) rooms: Rooms,
 }
 
 impl Server {
@@ -75,6 +77,7 @@ impl Server {
             waiting,
             &mut self.device,
             &mut self.summary,
+            &mut self.rooms,
             bytes,
         )
     }

@@ -13,6 +13,7 @@ ghost use Rattle.server_core.specs.Taking.{answered, Takes, Produces, KeepsDevic
 
 use crate::Summary;
 use crate::device::Device;
+use crate::rooms::Rooms;
 use crate::turned::Turned;
 use crate::waiting::Waiting;
 use ads_base::{NoMemory, Octets};
@@ -22,22 +23,6 @@ use session::Taken;
 use std::alloc::Global;
 use std::mem;
 
-// The room of the last packet and of the last answer, which the next ones take. What stands there is not looked at.
-#[derive(Drop)]
-struct Rooms {
-    packet: Octets,
-    reply: Octets,
-}
-
-impl Rooms {
-    fn new(alloc: Global) -> Rooms {
-        Rooms {
-            packet: Octets::new(alloc),
-            reply: Octets::new(alloc),
-        }
-    }
-}
-
 /// A piece comes in, and all frames that are whole by then are taken.
 pub(crate) fn take_piece(
     alloc: Global,
@@ -45,6 +30,7 @@ pub(crate) fn take_piece(
     waiting: &mut Waiting,
     device: &mut Device,
     summary: &mut Summary,
+    rooms: &mut Rooms,
     bytes: &[u8],
 ) -> Result<(), NoMemory>
     requires { turned.old.skip ≡ false → IsConnected device.old turned.old.session }
@@ -58,8 +44,7 @@ pub(crate) fn take_piece(
         return Ok(());
     }
     turned.session.feed(alloc, bytes)?;
-    let mut rooms = Rooms::new(alloc);
-    while take_next(alloc, turned, waiting, device, summary, &mut rooms)? {}
+    while take_next(alloc, turned, waiting, device, summary, rooms)? {}
     Ok(())
 }
 

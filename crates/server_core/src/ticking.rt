@@ -1,8 +1,9 @@
 //! A tick.
 
-ghost use Rattle.std.specs.Prelude.{◌≡◌, max, OnOk};
+ghost use Rattle.std.specs.Prelude.{◌≡◌, ◌<◌, ◌≤◌, max, OnOk};
 ghost use Rattle.ads_outside.specs.declared.event.Event.TheVariants as event;
 ghost use Rattle.server_core.specs.CoreState.{CoreState, after_event};
+ghost use Rattle.server_core.specs.DueChecks.{due_checks, due_in};
 ghost use Rattle.server_core.specs.ServerView.{view_of};
 ghost use Rattle.server_core.specs.Serves.{ServesEach, ServesSome, FollowsEach};
 
@@ -20,7 +21,7 @@ use std::thread::Threads;
 const LEVELS: u32 = 3;
 
 // From so many due notifications on: a millisecond of checks. Seven joins cost about as much.
-const THREADS_FROM: usize = 8_192;
+const THREADS_FROM: u128 = 8_192;
 
 /// A tick: each signal steps, the due notifications of each connection that is not closing are checked, and the
 /// frames of their samples are produced, connection after connection.
@@ -53,18 +54,37 @@ pub(crate) fn tick<T: Threads + Sync, S: Sources>(
     server.clients.deliver(alloc, &mut server.summary)
 }
 
-// How often a list is halved: where so many checks are due that threads pay. What is due is counted and not looked at.
-fn levels_for(list: &[Turned], now: u64) -> u32 {
-    let mut due = 0usize;
-    for turned in list {
-        if !turned.skip {
-            due = due.saturating_add(turned.session.count_due(now));
-        }
-        if due >= THREADS_FROM {
-            return LEVELS;
-        }
+// How often a list is halved: three times where so many checks are due that threads pay, else not at all.
+fn levels_for(list: &[Turned], now: u64) -> u32
+    ensures few { due_checks now list.now < 8192 → result ≡ 0 }
+    ensures many { 8192 ≤ due_checks now list.now → result ≡ 3 }
+{
+    if count_due(list, now) < THREADS_FROM {
+        0
+    } else {
+        LEVELS
     }
-    0
+}
+
+// How many notifications are due. None of them is looked at.
+fn count_due(list: &[Turned], now: u64) -> u128
+    ensures { result ≡ due_checks now list.now }
+{
+    let mut due = 0u128;
+    for turned in list {
+        due += due_of(turned, now) as u128;
+    }
+    due
+}
+
+fn due_of(turned: &Turned, now: u64) -> usize
+    ensures { result ≡ due_in now turned.now }
+{
+    if turned.skip {
+        0
+    } else {
+        turned.session.count_due(now)
+    }
 }
 
 // The later of two moments.

@@ -15,8 +15,8 @@ returns-then-turned-clause-goes c = λ n x held s there.
     subst (λ (z : ServedExchange). Goes conn c.args.device.now c.args.summary.now c.args.summary.now x z) same
     (goes_still conn c.args.device.now c.args.summary.now c.args.summary.now x x.connection held s (same_counts c.args.summary.now x.connection) refl)
 
-pub loop-rooms-init : goal.loop-rooms-init
-loop-rooms-init c = record {
+pub loop-init : goal.loop-init
+loop-init c = record {
   marks = refl;
   device = record { net = refl; routes = refl; signals = refl; moment = refl };
   connected = record {
@@ -29,22 +29,22 @@ loop-rooms-init c = record {
   takes = λ n x held s is_open. none_taken _ c.args.device.now c.args.summary.now x held s is_open;
 }
 
-pub loop-rooms-preserved : goal.loop-rooms-preserved
-loop-rooms-preserved c = record {
-  marks = c.in_ok-take_next.ensures.marks ∙ c.loop-rooms.invariant.marks;
+pub loop-preserved : goal.loop-preserved
+loop-preserved c = record {
+  marks = c.in_ok-take_next.ensures.marks ∙ c.loop.invariant.marks;
   device = record {
-    net = c.in_ok-take_next.ensures.device.net ∙ c.loop-rooms.invariant.device.net;
-    routes = c.in_ok-take_next.ensures.device.routes ∙ c.loop-rooms.invariant.device.routes;
-    signals = c.in_ok-take_next.ensures.device.signals ∙ c.loop-rooms.invariant.device.signals;
-    moment = c.in_ok-take_next.ensures.device.moment ∙ c.loop-rooms.invariant.device.moment;
+    net = c.in_ok-take_next.ensures.device.net ∙ c.loop.invariant.device.net;
+    routes = c.in_ok-take_next.ensures.device.routes ∙ c.loop.invariant.device.routes;
+    signals = c.in_ok-take_next.ensures.device.signals ∙ c.loop.invariant.device.signals;
+    moment = c.in_ok-take_next.ensures.device.moment ∙ c.loop.invariant.device.moment;
   };
   connected = c.in_ok-take_next.ensures.connected;
   takes = λ n x held s is_open.
-      let first = c.loop-rooms.invariant.takes n x held s is_open in
+      let first = c.loop.invariant.takes n x held s is_open in
       let plant = first.goes.plant in
-      let more = c.in_ok-take_next.ensures.takes n first.next first.goes.holds (subst (λ p. Stands p (conn_of c.loop-rooms.turned (n, c.loop-rooms.waiting)) first.next.connection) (sym plant) first.goes.stands) first.is_open in
-      takes_more (conn_of c.loop-rooms.turned (n, c.loop-rooms.waiting)) _ c.loop-rooms.device c.take_next.new.device c.args.summary.now c.loop-rooms.summary c.take_next.new.summary x first
-      (subst (λ b. Takes b (conn_of c.take_next.new.turned (n, c.take_next.new.waiting)) c.take_next.new.device c.loop-rooms.summary c.take_next.new.summary first.next) c.if-branch.true more);
+      let more = c.in_ok-take_next.ensures.takes n first.next first.goes.holds (subst (λ p. Stands p (conn_of c.loop.turned (n, c.loop.waiting)) first.next.connection) (sym plant) first.goes.stands) first.is_open in
+      takes_more (conn_of c.loop.turned (n, c.loop.waiting)) _ c.loop.device c.take_next.new.device c.args.summary.now c.loop.summary c.take_next.new.summary x first
+      (subst (λ b. Takes b (conn_of c.take_next.new.turned (n, c.take_next.new.waiting)) c.take_next.new.device c.loop.summary c.take_next.new.summary first.next) c.if-branch.true more);
 }
 
 pub returns-clause-goes : goal.returns-clause-goes
@@ -57,20 +57,20 @@ returns-clause-goes c = λ n x held s there.
     let piece = c.args.bytes.now in
     let is_open = sym s.closing ∙ c.if-turned.false in
     let come = fed conn mid d c.args.summary.now x piece held s (c.in_ok-feed.ensures.ok (history_of conn x.connection) s.stream) c.feed.ensures.keeps refl refl refl in
-    let first = c.loop-rooms.invariant.takes n (with_piece piece x) held come.stands is_open in
-    let last = c.in_ok-take_next.ensures.takes n first.next first.goes.holds (subst (λ p. Stands p (conn_of c.loop-rooms.turned (n, c.loop-rooms.waiting)) first.next.connection) (sym first.goes.plant) first.goes.stands) first.is_open in
-    let all = takes_all (conn_of c.loop-rooms.turned (n, c.loop-rooms.waiting)) new c.loop-rooms.device e c.args.summary.now c.loop-rooms.summary c.take_next.new.summary (with_piece piece x) first
-    (subst (λ b. Takes b new e c.loop-rooms.summary c.take_next.new.summary first.next) c.if-branch.false last) in
+    let first = c.loop.invariant.takes n (with_piece piece x) held come.stands is_open in
+    let last = c.in_ok-take_next.ensures.takes n first.next first.goes.holds (subst (λ p. Stands p (conn_of c.loop.turned (n, c.loop.waiting)) first.next.connection) (sym first.goes.plant) first.goes.stands) first.is_open in
+    let all = takes_all (conn_of c.loop.turned (n, c.loop.waiting)) new c.loop.device e c.args.summary.now c.loop.summary c.take_next.new.summary (with_piece piece x) first
+    (subst (λ b. Takes b new e c.loop.summary c.take_next.new.summary first.next) c.if-branch.false last) in
     subst (λ (z : ServedExchange). Goes new e c.args.summary.now c.take_next.new.summary x z) (after_piece-settled piece x is_open there)
     (then_goes mid new d e c.args.summary.now c.args.summary.now c.take_next.new.summary x (with_piece piece x) (settled (with_piece piece x)) come all)
 
 pub returns-clause-marks : goal.returns-clause-marks
-returns-clause-marks c = c.in_ok-take_next.ensures.marks ∙ c.loop-rooms.invariant.marks
+returns-clause-marks c = c.in_ok-take_next.ensures.marks ∙ c.loop.invariant.marks
 
 pub returns-clause-device : goal.returns-clause-device
 returns-clause-device c = record {
-  net = c.take_next.ensures.device.net ∙ c.loop-rooms.invariant.device.net;
-  routes = c.take_next.ensures.device.routes ∙ c.loop-rooms.invariant.device.routes;
-  signals = c.take_next.ensures.device.signals ∙ c.loop-rooms.invariant.device.signals;
-  moment = c.take_next.ensures.device.moment ∙ c.loop-rooms.invariant.device.moment;
+  net = c.take_next.ensures.device.net ∙ c.loop.invariant.device.net;
+  routes = c.take_next.ensures.device.routes ∙ c.loop.invariant.device.routes;
+  signals = c.take_next.ensures.device.signals ∙ c.loop.invariant.device.signals;
+  moment = c.take_next.ensures.device.moment ∙ c.loop.invariant.device.moment;
 }

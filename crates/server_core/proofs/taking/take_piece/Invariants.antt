@@ -6,8 +6,8 @@ use Rattle.server_core.specs.HoldsWorld.{HoldsWorld, IsConnected}
 use Rattle.server_core.specs.Taking.{TakesSome, KeepsDevice}
 use Rattle.server_core.proofs.taking.take_piece.Given as goal
 
-abbrev pub invariant-loop-rooms : goal.invariant-loop-rooms
-invariant-loop-rooms l = record {
+abbrev pub invariant-loop : goal.invariant-loop
+invariant-loop l = record {
   marks : l.waiting.blocked ≡ l.initial.waiting.blocked;
   device : KeepsDevice l.initial.device l.device;
   connected : IsConnected l.device l.turned.session;
@@ -15,5 +15,5 @@ invariant-loop-rooms l = record {
       → x.connection.closing ≡ false → TakesSome (conn_of l.turned (n, l.waiting)) l.device l.initial.summary l.summary x;
 }
 
-abbrev pub decreases-loop-rooms : goal.decreases-loop-rooms
-decreases-loop-rooms l = length l.turned.session.stream.rest
+abbrev pub decreases-loop : goal.decreases-loop
+decreases-loop l = length l.turned.session.stream.rest

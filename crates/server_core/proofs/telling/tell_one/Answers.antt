@@ -5,6 +5,7 @@ use Rattle.server_core.proofs.telling.tell_one.Goals as goal
 pub returns-then-turned : goal.returns-then-turned
 returns-then-turned c = λ w v moved net. record {
   skip = refl;
+  left_out = λ _. refl;
   stream = refl;
   gives = λ open_ k st. absurd (true≢false (sym c.if-turned.true ∙ open_));
 }
@@ -12,6 +13,7 @@ returns-then-turned c = λ w v moved net. record {
 pub returns : goal.returns
 returns c = λ w v moved net. record {
   skip = refl;
+  left_out = λ skipped. absurd (true≢false (sym skipped ∙ c.if-turned.false));
   stream = c.reloaded.ensures.stream;
   gives = λ open_ k st. record {
     frames = c.in_ok-turned.ensures.frames w v k moved st net;
