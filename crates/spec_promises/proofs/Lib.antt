@@ -1,0 +1,8 @@
+pub mod AskedLemmas
+pub mod Seen
+pub mod WriteLemmas
+pub mod ControlLemmas
+pub mod Found
+pub mod Lives
+pub mod KeptReads
+pub mod Promised

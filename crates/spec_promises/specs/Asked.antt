@@ -1,0 +1,135 @@
+-- The requests of a log, one by one: those that pass the checks, and the parts of a sum in their order; each with what it
+-- finds, the client and the bytes as those before it left them. Beckhoff Information System, "ADS Commands", "ADS Sum Command".
+use Rattle.std.specs.Prelude.{◌≡◌, ℕ, List, [], ◌∷◌, ◌++◌, length, flat_map, if◌then◌else◌, Option, Some, None}
+use Rattle.std.specs.List.{list_any}
+use Rattle.ads_outside.specs.declared.event.Event.TheVariants as event
+use Rattle.ads_outside.specs.declared.moves.Move.{Move}
+use Rattle.ads_outside.specs.declared.moves.Move.TheVariants as move
+use Rattle.spec_plant.specs.Description.{Rights}
+use Rattle.spec_plant.specs.Rights.{rights_of}
+use Rattle.spec_plant.specs.World.{Plant, PlantPort, ByteName, Block}
+use Rattle.spec_formats.specs.Groups.{Group, SumRead, SumWrite, SumReadWrite}
+use Rattle.spec_formats.specs.Header.{AmsAddress, AmsHeader, header_of, payload_of}
+use Rattle.spec_formats.specs.Request.{Request, ReadWrite, request_of}
+use Rattle.spec_machine.specs.Connection.{Connection, connection_of, is_deaf}
+use Rattle.spec_machine.specs.MachineState.{MachineState, Exchange, exchange_of}
+use Rattle.spec_machine.specs.Piece.{packets_left, with_received, with_piece, after_packet}
+use Rattle.spec_machine.specs.World.{World, Setup, setup_of, port_numbered}
+use Rattle.spec_machine.specs.Client.{Client}
+use Rattle.spec_machine.specs.Acts.{Act, Outcome, writes_of_act}
+use Rattle.spec_machine.specs.Answers.{AnswerTable, answered_group, READ_WRITE}
+use Rattle.spec_machine.specs.Writes.{Asker}
+use Rattle.spec_machine.specs.Requests.{act_of}
+use Rattle.spec_machine.specs.Sums.{SumRequest, sum_of_reads, sum_of_writes, sum_of_read_writes, sum_refusal}
+use Rattle.spec_machine.specs.SumLaws.{Party, single_outcome, party_after}
+use Rattle.spec_machine.specs.Packets.{Check, checks_of}
+use Rattle.spec_machine.specs.AdsDevice.{DescriptionReading, ads_device}
+
+-- one request: of what plant, by whom, and the client and the bytes that it finds
+pub record Asked : Type 0 where
+  pub setup : Setup
+  pub asker : Asker
+  pub before : Party
+  pub request : Request
+
+-- what it does, how it ends, and the client and the bytes that it leaves
+abbrev pub act_of_asked : AnswerTable → Asked → Act
+act_of_asked table a = act_of table a.setup a.before.client a.asker a.request
+
+abbrev pub outcome_of_asked : AnswerTable → Asked → Outcome
+outcome_of_asked table a = single_outcome table a.setup a.asker a.before a.request
+
+abbrev pub after_asked : AnswerTable → Asked → Party
+after_asked table a = party_after table a.setup a.asker a.before a.request
+
+-- requests one after another, the first of which finds this
+unfoldable pub asked_in_turn : AnswerTable → Setup → Asker → Party → List Request → List Asked
+asked_in_turn table d k p [] = []
+asked_in_turn table d k p (r ∷ rs) =
+    record { setup = d; asker = k; before = p; request = r } ∷ asked_in_turn table d k (party_after table d k p r) rs
+
+-- what a packet asks that none of the nine checks stops
+pub record Question : Type 0 where
+  pub asker : Asker
+  pub request : Request
+
+abbrev pub question : AmsAddress → Option Rights → Option PlantPort → Option Request → Option Question
+question source (Some rights) (Some port) (Some request) =
+    Some (record { asker = record { port = port; address = source; rights = rights }; request = request })
+question source rights port request = None
+
+abbrev pub question_in : AnswerTable → Plant → List ℕ → Option AmsHeader → Option Question
+question_in table plant payload None = None
+question_in table plant payload (Some h) =
+    if list_any (λ (c : Check). c.stops) (checks_of table plant h payload) then None
+    else question h.source (rights_of h.source.net plant.routes) (port_numbered h.target.port plant.ports)
+    (request_of h.command payload)
+
+unfoldable pub question_of : AnswerTable → Plant → List ℕ → Option Question
+question_of table plant packet = question_in table plant (payload_of packet) (header_of packet)
+
+-- the parts of a sum; none of one that is refused whole
+abbrev pub parts_unless : Option ℕ → List Request → List Request
+parts_unless (Some code) parts = []
+parts_unless None parts = parts
+
+abbrev pub parts_of : ℕ → ℕ → ℕ → SumRequest → List Request
+parts_of n len read_len s = parts_unless (sum_refusal n s.data_len len s.reply_len read_len) s.parts
+
+abbrev pub requests_in : Option Group → Request → ℕ → ℕ → List ℕ → List Request
+requests_in (Some SumRead) r n read_len bytes = parts_of n (length bytes) read_len (sum_of_reads n bytes)
+requests_in (Some SumWrite) r n read_len bytes = parts_of n (length bytes) read_len (sum_of_writes n bytes)
+requests_in (Some SumReadWrite) r n read_len bytes = parts_of n (length bytes) read_len (sum_of_read_writes n bytes)
+requests_in group r n read_len bytes = r ∷ []
+
+-- a request by itself, or the parts of a sum, whose offset is their number
+unfoldable pub requests_of : AnswerTable → Request → List Request
+requests_of table (ReadWrite group offset read_len bytes) =
+    requests_in (answered_group table READ_WRITE group) (ReadWrite group offset read_len bytes) offset read_len bytes
+requests_of table r = r ∷ []
+
+abbrev pub asked_of_question : AnswerTable → Setup → Party → Option Question → List Asked
+asked_of_question table d p None = []
+asked_of_question table d p (Some q) = asked_in_turn table d q.asker p (requests_of table q.request)
+
+-- what a connection and the world are to a request
+abbrev pub party_of : Exchange World Client → Party
+party_of x = record { client = x.connection.client; memory = x.world.memory }
+
+-- the requests of a packet; none where the connection is closing by then
+abbrev pub asked_of_packet : AnswerTable → List ℕ → Exchange World Client → List Asked
+asked_of_packet table packet x =
+    if x.connection.closing then []
+    else asked_of_question table (setup_of x.world) (party_of x) (question_of table x.world.plant packet)
+
+unfoldable pub asked_of_packets : AnswerTable → DescriptionReading → List (List ℕ) → Exchange World Client → List Asked
+asked_of_packets table reading [] x = []
+asked_of_packets table reading (packet ∷ packets) x =
+    asked_of_packet table packet x
+    ++ asked_of_packets table reading packets (after_packet (ads_device table reading) packet x)
+
+-- the requests of the frames that a piece completes
+abbrev pub asked_of_piece : AnswerTable → DescriptionReading → List ℕ → Exchange World Client → List Asked
+asked_of_piece table reading piece x =
+    if is_deaf x.connection then []
+    else asked_of_packets table reading (packets_left (with_received piece x.connection)) (with_piece piece x)
+
+abbrev pub asked_at : AnswerTable → DescriptionReading → MachineState World Client → List ℕ → Option (Connection Client)
+    → List Asked
+asked_at table reading s piece None = []
+asked_at table reading s piece (Some k) = asked_of_piece table reading piece (exchange_of s k)
+
+-- the requests of a move
+unfoldable pub asked_of_move : AnswerTable → DescriptionReading → MachineState World Client → Move → List Asked
+asked_of_move table reading s (move.Event (event.Piece n piece)) =
+    asked_at table reading s piece (connection_of n s.connections)
+asked_of_move table reading s m = []
+
+-- the names that requests write
+abbrev pub names_written : AnswerTable → List Asked → List ByteName
+names_written table asked = flat_map (λ (a : Asked). writes_of_act (act_of_asked table a)) asked
+
+-- each finds the bytes that the one before it left; the first finds these, and the last leaves those
+abbrev pub Leads : AnswerTable → List Block → List Asked → List Block → Type 0
+Leads table first [] last = first ≡ last
+Leads table first (a ∷ as_) last = (a.before.memory ≡ first) × Leads table (after_asked table a).memory as_ last

@@ -1,0 +1,4 @@
+pub mod Asked
+pub mod Written
+pub mod Notified
+pub mod KeptHandles
