@@ -1,0 +1,110 @@
+-- How a router takes the frames of a connection. No public clause cites this file.
+use Rattle.std.specs.Prelude.{◌≡◌, ◌≢◌, ℕ, List, [], length, Bool, true, false, not, ◌||◌, ◌==◌, is_some, Option, Some, None}
+use Rattle.spec_plant.specs.Rights.{rights_of}
+use Rattle.ads_base.specs.declared.net_id.NetId.{NetId}
+use Rattle.spec_formats.specs.Header.{AmsHeader}
+use Rattle.spec_machine.specs.Connection.{connection_of}
+use Rattle.spec_machine.specs.Piece.{packets_left, after_rest}
+use Rattle.spec_relay.specs.RelayState.{Request, RelayConnection, RelayState, is_heard}
+use Rattle.spec_relay.specs.Requests.{requests_heard, is_answered_by, request_answered, without_first}
+use Rattle.spec_relay.specs.Routing.{at_connection, with_requests}
+use Rattle.spec_relay.specs.RelayMoves.{after_frames}
+use Rattle.ams_relay.specs.declared.asked.Asked.{Asked}
+use Rattle.ams_relay.specs.declared.peer.Peer.{Peer}
+use Rattle.ams_relay.specs.declared.router.Router.{Router}
+use Rattle.ams_relay.specs.Holds.{Owners, owner_in, Holds}
+use Rattle.ams_relay.specs.Peers.{Peers, peer_in, read_in}
+
+-- a connection is there and not closing
+pub record IsHeardAt (c : ℕ) (k : RelayConnection) (s : RelayState) : Type 0 where
+  pub found : connection_of c s.connections ≡ Some k
+  pub heard : is_heard k ≡ true
+
+-- a connection of this number was opened
+abbrev pub IsOpenedAt : ℕ → RelayState → Type 0
+IsOpenedAt c s = connection_of c s.connections ≡ None → ⊥
+
+abbrev pub number_of : RelayConnection → ℕ
+number_of k = k.number
+
+-- the requests of connections that are closing or gone are dropped
+abbrev pub IsSwept : RelayState → Type 0
+IsSwept s = requests_heard s.connections s.world.requests ≡ s.world.requests
+
+-- the request of a response is spent
+pub record SpendsOne (asker c : ℕ) (h : AmsHeader) (new : Router) (b : List ℕ) (s : RelayState) : Type 0 where
+  pub request : Request
+  pub answered : request_answered c h s.world.requests ≡ Some request
+  pub asked : request.asker ≡ asker
+  pub holds : Holds new b (with_requests (without_first (is_answered_by c h) s.world.requests) s)
+
+-- or there is none
+pub record SpendsNone (c : ℕ) (h : AmsHeader) (new : Router) (b : List ℕ) (s : RelayState) : Type 0 where
+  pub none : request_answered c h s.world.requests ≡ None
+  pub holds : Holds new b s
+
+abbrev pub Spends : Option ℕ → ℕ → AmsHeader → Router → List ℕ → RelayState → Type 0
+Spends None c h new b s = SpendsNone c h new b s
+Spends (Some asker) c h new b s = SpendsOne asker c h new b s
+
+-- a peer that is not closing
+abbrev pub is_open : Peer → Bool
+is_open p = not p.closing
+
+-- a request whose asked is there and not closing
+abbrev pub is_asked_heard : Peers → Asked → Bool
+is_asked_heard es a = read_in is_open false (peer_in a.asked es)
+
+-- a NetId is free
+pub record Frees (net : List ℕ) (os ps : Owners) : Type 0 where
+  pub free : owner_in net ps ≡ None
+  pub others : (other : List ℕ) → other ≢ net → owner_in other ps ≡ owner_in other os
+
+-- where one was owned
+abbrev pub DisownsIn : Option NetId → Owners → Owners → Type 0
+DisownsIn None os ps = ps ≡ os
+DisownsIn (Some net) os ps = Frees net.bytes os ps
+
+pub record Disowns (owned : Option NetId) (old new : Router) : Type 0 where
+  pub same : new ≡ record old { owners = new.owners }
+  pub disowned : DisownsIn owned old.owners.entries new.owners.entries
+
+-- the first two checks of a packet
+abbrev pub is_refused : List ℕ → AmsHeader → RelayState → Bool
+is_refused payload h s = not (h.len == length payload) || not (is_some (rights_of h.source.net s.world.routes))
+
+-- the bytes of each stream that are left to be cut are as many as before
+abbrev pub rest_of_peer : Peer → ℕ
+rest_of_peer p = length p.stream.rest
+
+abbrev pub rest_in : ℕ → Peers → ℕ
+rest_in n es = read_in rest_of_peer 0 (peer_in n es)
+
+abbrev pub KeepsStreams : Peers → Peers → Type 0
+KeepsStreams old new = (n : ℕ) → rest_in n new ≡ rest_in n old
+
+-- all frames of a connection that are left are taken, and a broken rest closes it
+abbrev pub packets_of : Option RelayConnection → List (List ℕ)
+packets_of None = []
+packets_of (Some k) = packets_left k
+
+abbrev pub end_of_piece : ℕ → RelayState → RelayState
+end_of_piece c s = at_connection c after_rest (after_frames c (packets_of (connection_of c s.connections)) s)
+
+-- a connection is there
+pub record IsThere (c : ℕ) (s : RelayState) : Type 0 where
+  pub connection : RelayConnection
+  pub found : connection_of c s.connections ≡ Some connection
+  pub there : connection.gone ≡ false
+
+-- a frame was taken, and what is left leads to the same end
+pub record TakesOne (c : ℕ) (new : Router) (b : List ℕ) (s : RelayState) : Type 0 where
+  pub next : RelayState
+  pub holds : Holds new b next
+  pub there : IsThere c next
+  pub same_end : end_of_piece c next ≡ end_of_piece c s
+
+-- more is to be taken, or the end is reached
+abbrev pub Takes : Bool → ℕ → Router → List ℕ → RelayState → Type 0
+Takes true c new b s = TakesOne c new b s
+Takes false c new b s = Holds new b (end_of_piece c s)

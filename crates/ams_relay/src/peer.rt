@@ -1,0 +1,69 @@
+//! One connection that is there.
+
+ghost use Rattle.std.specs.Prelude.{◌≡◌, length, nat_lt, IfOk};
+ghost use Rattle.out_queue.specs.Queue.{frames_after};
+ghost use Rattle.ams_relay.specs.Peers.{IsFresh, FitsFirst, first_left, is_offered};
+ghost use Rattle.ams_relay.specs.Touched.{is_due_peer};
+
+use crate::asked::Asked;
+use ads_base::{NetId, NoMemory};
+use ams_tcp::Splitter;
+use out_queue::OutQueue;
+use std::alloc::Global;
+use std::collections::VecDeque;
+
+/// A connection that is there: what came of it, what waits for it, and the requests that it waits for.
+#[derive(Drop)]
+pub(crate) struct Peer {
+    pub(crate) stream: Splitter,
+    pub(crate) out: OutQueue,
+    pub(crate) owned: Option<NetId>,
+    // The oldest first. Some may be of connections that are closing or gone by now.
+    pub(crate) asked: VecDeque<Asked>,
+    pub(crate) closing: bool,
+    // Its last offer was not taken whole, and it was not writable since.
+    pub(crate) blocked: bool,
+}
+
+impl Peer {
+    /// A connection of which nothing came.
+    pub(crate) fn fresh(alloc: Global) -> Result<Peer, NoMemory>
+        ensures { IfOk result IsFresh }
+    {
+        Ok(Peer {
+            stream: Splitter::new(alloc)?,
+            out: OutQueue::new(alloc)?,
+            owned: None,
+            asked: VecDeque::new(alloc),
+            closing: false,
+            blocked: false,
+        })
+    }
+
+    /// Bytes of the first frame that waits were taken.
+    pub(crate) fn took(&mut self, n: u32)
+        requires { FitsFirst n self.old.out }
+        ensures { self.new ≡ record self.old { out = frames_after n self.old.out; blocked = nat_lt n (length (first_left self.old.out)) } }
+    {
+        let Some(left) = self.out.front() else {
+            return;
+        };
+        let short = (n as usize) < left.len();
+        self.out.took(n);
+        self.blocked = short;
+    }
+
+    /// Whether something is offered, or the connection is to be shut.
+    pub(crate) fn is_due(&self) -> bool
+        ensures { result ≡ is_due_peer self.now }
+    {
+        self.is_offered() || self.closing
+    }
+
+    // Whether something is offered: a frame waits, and the connection is not blocked.
+    fn is_offered(&self) -> bool
+        ensures { result ≡ is_offered self.now }
+    {
+        !self.blocked && self.out.front().is_some()
+    }
+}

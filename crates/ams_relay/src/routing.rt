@@ -1,0 +1,143 @@
+//! A packet goes its way.
+
+ghost use Rattle.std.specs.Prelude.{◌≡◌, ℕ, ◌==◌, ◌%◌, List, Some, option_map, OnOk};
+ghost use Rattle.spec_frames.specs.Frame.{IsAmsPacket};
+ghost use Rattle.spec_formats.specs.Header.{header_of};
+ghost use Rattle.spec_relay.specs.RelayState.{RelayState, RelayConnection, owner_of};
+ghost use Rattle.spec_relay.specs.Requests.{request_answered};
+ghost use Rattle.spec_relay.specs.Ways.{is_closed_by, way_of_response, way_of_request};
+ghost use Rattle.spec_relay.specs.Routing.{after_header, after_way, with_passed, with_request_of};
+ghost use Rattle.ams_header.specs.Header.{ams_header_of};
+ghost use Rattle.ams_relay.specs.Holds.{Holds};
+ghost use Rattle.ams_relay.specs.Taking.{IsHeardAt, IsOpenedAt, IsSwept, KeepsStreams, is_refused, number_of};
+
+use crate::router::Router;
+use ads_base::NoMemory;
+use ams_header::{Header, read};
+use std::alloc::Global;
+
+impl Router {
+    /// A packet of a connection, which is there and not closing, goes its way.
+    pub(crate) fn pass(&mut self, alloc: Global, conn: u32, packet: &[u8]) -> Result<(), NoMemory>
+        requires { IsAmsPacket packet.now }
+        ensures follows { OnOk result ((b : List ℕ) (s : RelayState) (k : RelayConnection) → Holds self.old b s → IsHeardAt conn k s → IsSwept s
+            → Holds self.new b (after_header conn packet.now k s (header_of packet.now))) }
+        ensures streams { KeepsStreams self.old.peers.entries self.new.peers.entries }
+    {
+        let Some((h, payload)) = read(packet) else {
+            return Ok(());
+        };
+        if self.is_closed_by(conn, &h, payload) {
+            self.close(conn);
+            return Ok(());
+        }
+        self.own(alloc, conn, h.source.net)?;
+        if is_response(&h) {
+            self.pass_response(alloc, conn, &h, packet)
+        } else {
+            self.pass_request(alloc, conn, &h, packet)
+        }
+    }
+
+    // The first three checks: the data length, the route of the source, and its owner.
+    fn is_closed_by(&self, conn: u32, h: &Header, payload: &[u8]) -> bool
+        ensures { (b : List ℕ) (s : RelayState) (k : RelayConnection) → Holds self.now b s → IsHeardAt conn k s
+            → result ≡ is_closed_by payload.now (ams_header_of h.now) k s }
+    {
+        if self.is_refused(h, payload) {
+            return true;
+        }
+        self.is_taken(conn, h.source.net)
+    }
+
+    // The first two: the data length and the route of the source.
+    fn is_refused(&self, h: &Header, payload: &[u8]) -> bool
+        ensures { (b : List ℕ) (s : RelayState) → Holds self.now b s → result ≡ is_refused payload.now (ams_header_of h.now) s }
+    {
+        h.len as usize != payload.len() || self.routes.rights(h.source.net).is_none()
+    }
+
+    // A response goes to the asker of the oldest request that it answers.
+    fn pass_response(
+        &mut self,
+        alloc: Global,
+        conn: u32,
+        h: &Header,
+        packet: &[u8],
+    ) -> Result<(), NoMemory>
+        requires { IsAmsPacket packet.now }
+        ensures follows { OnOk result ((b : List ℕ) (s : RelayState) (k : RelayConnection) → Holds self.old b s → IsHeardAt conn k s → IsSwept s
+            → Holds self.new b (after_way conn (ams_header_of h.now) packet.now
+            (way_of_response (request_answered conn (ams_header_of h.now) s.world.requests)) s)) }
+        ensures streams { KeepsStreams self.old.peers.entries self.new.peers.entries }
+    {
+        let Some(asker) = self.spend(conn, h) else {
+            return Ok(());
+        };
+        let fitted = self.give(alloc, asker, packet)?;
+        if fitted {
+            self.counts.count_passed();
+        }
+        Ok(())
+    }
+
+    // Any other frame goes to the owner of its target.
+    fn pass_request(
+        &mut self,
+        alloc: Global,
+        conn: u32,
+        h: &Header,
+        packet: &[u8],
+    ) -> Result<(), NoMemory>
+        requires { IsAmsPacket packet.now }
+        ensures follows { OnOk result ((b : List ℕ) (s : RelayState) (k : RelayConnection) → Holds self.old b s → IsHeardAt conn k s → IsSwept s
+            → k.client ≡ Some h.now.source.net.bytes
+            → Holds self.new b (after_way conn (ams_header_of h.now) packet.now (way_of_request (owner_of h.now.target.net.bytes s.connections)) s)) }
+        ensures streams { KeepsStreams self.old.peers.entries self.new.peers.entries }
+    {
+        match self.owner_of(h.target.net) {
+            Some(target) => self.pass_to(alloc, conn, target, h, packet),
+            None => self.tell_unknown(alloc, conn, h),
+        }
+    }
+
+    // To this one, where it has room.
+    fn pass_to(
+        &mut self,
+        alloc: Global,
+        conn: u32,
+        target: u32,
+        h: &Header,
+        packet: &[u8],
+    ) -> Result<(), NoMemory>
+        requires { IsAmsPacket packet.now }
+        ensures follows { OnOk result ((b : List ℕ) (s : RelayState) (k : RelayConnection) → Holds self.old b s → IsHeardAt conn k s → IsSwept s
+            → k.client ≡ Some h.now.source.net.bytes → Some target ≡ option_map number_of (owner_of h.now.target.net.bytes s.connections)
+            → Holds self.new b (after_way conn (ams_header_of h.now) packet.now (way_of_request (owner_of h.now.target.net.bytes s.connections)) s)) }
+        ensures streams { KeepsStreams self.old.peers.entries self.new.peers.entries }
+    {
+        let fitted = self.give(alloc, target, packet)?;
+        if fitted {
+            return self.ask(alloc, conn, target, h);
+        }
+        self.tell_unknown(alloc, conn, h)
+    }
+
+    // It was passed on, and its response is waited for.
+    fn ask(&mut self, alloc: Global, conn: u32, target: u32, h: &Header) -> Result<(), NoMemory>
+        ensures follows { OnOk result ((b : List ℕ) (s : RelayState) (k : RelayConnection) → Holds self.old b s → IsHeardAt conn k s → IsSwept s
+            → k.client ≡ Some h.now.source.net.bytes → IsOpenedAt target s → Holds self.new b (with_passed (with_request_of conn target (ams_header_of h.now) s))) }
+        ensures streams { KeepsStreams self.old.peers.entries self.new.peers.entries }
+    {
+        self.remember(alloc, conn, target, h)?;
+        self.counts.count_passed();
+        Ok(())
+    }
+}
+
+// Whether a frame is a response.
+fn is_response(h: &Header) -> bool
+    ensures { result ≡ (h.now.flags % 2 == 1) }
+{
+    h.flags % 2 == 1
+}

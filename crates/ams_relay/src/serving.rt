@@ -1,0 +1,107 @@
+//! The relay as what a loop serves.
+
+ghost use Rattle.std.specs.Prelude.{◌≡◌, ℕ, List, OnOk};
+ghost use Rattle.ads_outside.specs.declared.moves.Move.TheVariants as move;
+ghost use Rattle.spec_machine.specs.Running.{OpensNew};
+ghost use Rattle.ams_relay.specs.Relays.{RelayRunning, HoldsRunning, running_after_event};
+
+use crate::Relay;
+use crate::router::Router;
+use ads_base::{ListOf, NoMemory};
+use ads_outside::Event;
+use ads_served::Served;
+use std::alloc::Global;
+use std::thread::Threads;
+
+impl Served for Relay {
+    ghost use Rattle.spec_relay.specs.RelayState.{RelayWorld, Owned};
+    ghost use Rattle.spec_relay.specs.RelayMoves.{relay_after_event};
+    ghost use Rattle.ams_relay.specs.Relays.{StandsAt, HasFailed, nothing_noted, offer_in, offers_in};
+    ghost use Rattle.spec_relay.proofs.OpenedAlone.{relay_opens_alone};
+
+    ghost World = { RelayWorld };
+
+    ghost Client = { Owned };
+
+    ghost steps = { relay_after_event };
+
+    ghost noted = { nothing_noted };
+
+    ghost serves = { StandsAt };
+
+    ghost offer_in = { offer_in };
+
+    ghost offers_left = { offers_in };
+
+    ghost has_failed = { HasFailed };
+
+    fn step<T: Threads + Sync>(
+        &mut self,
+        _rt: &T,
+        alloc: Global,
+        event: &Event,
+    ) -> Result<(), NoMemory> {
+        if self.failed {
+            return Err(NoMemory);
+        }
+        match self.router.take_event(alloc, event) {
+            Ok(()) => Ok(()),
+            Err(NoMemory) => {
+                self.failed = true;
+                Err(NoMemory)
+            }
+        }
+    }
+
+    fn connection(&self, n: usize) -> Option<u32> {
+        self.router.number(n)
+    }
+
+    fn due(&self, alloc: Global) -> Result<ListOf<u32>, NoMemory> {
+        self.router.due(alloc)
+    }
+
+    fn offer_of(&self, conn: u32) -> Option<&[u8]> {
+        self.router.offer_of(conn)
+    }
+
+    fn took(&mut self, conn: u32, n: u32) {
+        self.router.took(conn, n);
+    }
+
+    fn closing(&self, conn: u32) -> bool {
+        self.router.closing(conn)
+    }
+
+    fn remove(&mut self, conn: u32) {
+        self.router.end(conn);
+    }
+
+    ghost apart = { λ m x s. s.holds.peers.apart };
+
+    ghost opens_alone = { relay_opens_alone };
+}
+
+impl Router {
+    // An event is taken. A tick and a reload change nothing.
+    fn take_event(&mut self, alloc: Global, event: &Event) -> Result<(), NoMemory>
+        ensures { OnOk result ((x : RelayRunning) → HoldsRunning self.old x → OpensNew x event.now
+            → HoldsRunning self.new (running_after_event x event.now)) }
+    {
+        self.settle();
+        match event {
+            Event::Opened(number) => self.open(alloc, *number),
+            Event::Piece(number, bytes) => self.piece(alloc, *number, bytes.as_slice()),
+            Event::Closed(number) => {
+                self.end(*number);
+                Ok(())
+            }
+            Event::Writable(number) => {
+                self.writable(*number);
+                Ok(())
+            }
+            Event::Tick(_) => Ok(()),
+            Event::Reload(_) => Ok(()),
+        }
+    }
+}

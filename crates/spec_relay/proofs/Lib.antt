@@ -1,0 +1,9 @@
+mod Examples
+pub mod ChangeLemmas
+pub mod GivenLemmas
+pub mod TakenLemmas
+pub mod AnswerLemmas
+pub mod MarkLemmas
+pub mod RelayDelivered
+pub mod PromiseLemmas
+pub mod OpenedAlone

@@ -1,0 +1,10 @@
+pub mod RelayState
+pub mod Requests
+pub mod Ways
+pub mod Routing
+pub mod RelayMoves
+pub mod RelaySummary
+pub mod Passages
+pub mod PassedOn
+pub mod RelayLaws
+pub mod RelayPromises
