@@ -1,8 +1,9 @@
-//! The program: it ends with the exit number of the run over the real files and standard output.
+//! The program: it ends with the exit number of its run over the words of its process and the real outside.
 #![tactic(auto)]
 
+use ads_program::{exit_code, status_of};
 use std::process::ExitCode;
 
 fn main(rt: HostRuntime) -> ExitCode {
-    ExitCode::from(ads_run::status_of(&rt, &rt).number())
+    exit_code(&status_of(&rt, &rt))
 }

@@ -17,10 +17,11 @@ use Rattle.client_replies.specs.Stages.{end_meant}
 use Rattle.ads_run.specs.declared.status.Status.{Status}
 use Rattle.ads_run.specs.declared.status.Status.TheVariants as status
 use Rattle.ads_run.specs.Asking.{LocalCalling}
-use Rattle.ads_run.specs.Calling.{LinkUse, used, EndsCall, AfterLocal, EndsLocalCall, LocalTalks, PrintsAnswer, status_of_call, status_of_loop}
-use Rattle.ads_run.specs.Causes.{CauseOfCall, IsEndOfCall, IsEndOfLocal, IsNoLinkEnd}
+use Rattle.ads_run.specs.Calling.{EndsCall, AfterLocal, EndsLocalCall, LocalTalks, PrintsAnswer, status_of_call, status_of_loop}
+use Rattle.ads_run.specs.Causes.{CauseOfCall, IsBeforeRun, IsEndOfCall, IsEndOfLocal, IsNoLinkEnd}
 use Rattle.ads_run.specs.Ending.{line_alone}
 use Rattle.ads_run.specs.Prints.{PrintsEnding}
+use Rattle.ads_run.specs.Uses.{LinkUse, used}
 use Rattle.ads_run.proofs.ReadingLemmas.{rose_from}
 
 -- what the end of a call says, whose causes are these
@@ -39,7 +40,8 @@ wanting_facts C s out out_new memory is = record {
 
 -- of one that was to end so
 pub told_facts : (C : Status → Type 0) (st s : Status) (out between out_new : SinkState) → C st → C status.WriteFault → C status.Memory
-    → (st ≡ status.WriteFault → ⊥) → (st ≡ status.Usage → ⊥) → out.faults ≤ between.faults → PrintsEnding (line_alone st) s between out_new → CallFacts C s out out_new
+    → (st ≡ status.WriteFault → ⊥) → (st ≡ status.Usage → ⊥) → out.faults ≤ between.faults → PrintsEnding (line_alone st) s between out_new
+    → CallFacts C s out out_new
 told_facts C st s out between out_new cause writing memory no_fault no_usage later (inl h) = record {
   cause = subst C (sym h.0) cause;
   write_fault = λ is. absurd (no_fault (sym h.0 ∙ is));
@@ -84,7 +86,8 @@ cause_of_end x (BadPeer peer) lo ln h = h
 cause_of_end x BadValue lo ln h = h
 cause_of_end x (TimedOut sent now) lo ln h = h
 
-end_of : {O : Type 0} (x : Calling) (e : LoopEnd) (s : Status) (link : LinkUse O) (out out_new : SinkState) → Talks x (Some e) link.told link.tells link.new out out_new
+end_of : {O : Type 0} (x : Calling) (e : LoopEnd) (s : Status) (link : LinkUse O) (out out_new : SinkState)
+    → Talks x (Some e) link.told link.tells link.new out out_new
     → s ≡ status_of_loop e → IsEndOfCall x s link.new
 end_of x e s link out out_new talks is = record {
   moment = talks.moment;
@@ -127,7 +130,8 @@ no_loss (TimedOut sent now) = tt
 local_at : (x : LocalCalling) (answer : Result loop.LoopEnd NoMemory) (s : Status) (out between out_new : SinkState) → AfterLocal answer x out between
     → out.faults ≤ between.faults → PrintsAnswer answer s between out_new → CallFacts IsNoLinkEnd s out out_new
 local_at x (Ok (end.Call e)) s out between out_new called later printed =
-    told_facts IsNoLinkEnd (status_of_call (end_meant e)) s out between out_new (no_loss (end_meant e)) tt tt (no_writing (end_meant e)) (no_usage (end_meant e)) later printed
+    told_facts IsNoLinkEnd (status_of_call (end_meant e)) s out between out_new (no_loss (end_meant e)) tt tt (no_writing (end_meant e))
+    (no_usage (end_meant e)) later printed
 local_at x (Ok end.Budget) s out between out_new called later printed =
     told_facts IsNoLinkEnd status.Budget s out between out_new tt tt tt (λ e. (cc)) (λ e. (cc)) later printed
 local_at x (Ok end.LinkFault) s out between out_new called later printed = absurd called
@@ -158,7 +162,8 @@ own_at x (Ok (end.Call e)) s out between out_new link no_fault no_loss called la
 own_at x (Ok end.Budget) s out between out_new link no_fault no_loss called later printed =
     told_own (IsEndOfCall x s link.new) status.Budget s out between out_new (λ is. end_of x Budget s link out between called is) later no_fault printed
 own_at x (Ok end.LinkFault) s out between out_new link no_fault no_loss called later printed = absurd (no_loss called.0)
-own_at x (Ok end.WriteFault) s out between out_new link no_fault no_loss called later printed = not_unwritten _ out between out_new no_fault printed.1 called.0
+own_at x (Ok end.WriteFault) s out between out_new link no_fault no_loss called later printed = not_unwritten _ out between out_new no_fault printed.1
+    called.0
 own_at x (Err e) s out between out_new link no_fault no_loss called later printed = inr printed.0
 
 pub own_call : {O : Type 0} (x : Calling) (s : Status) (out out_new : SinkState) (link : LinkUse O) → (Rose out.faults out_new.faults → ⊥)
@@ -168,10 +173,12 @@ own_call x s out out_new link no_fault no_loss h = own_at x h.answer s out h.bet
 local_end : (x : LocalCalling) (e : LoopEnd) (s : Status) (out out_new : SinkState) → LocalTalks x e out out_new → s ≡ status_of_loop e → IsEndOfLocal x s
 local_end x e s out out_new talks is = record { cutting = talks.cutting; ended = e; end_is = talks.end_is; status = is }
 
-own_local_at : (x : LocalCalling) (answer : Result loop.LoopEnd NoMemory) (s : Status) (out between out_new : SinkState) → (Rose out.faults out_new.faults → ⊥)
+own_local_at : (x : LocalCalling) (answer : Result loop.LoopEnd NoMemory) (s : Status) (out between out_new : SinkState)
+    → (Rose out.faults out_new.faults → ⊥)
     → AfterLocal answer x out between → out.faults ≤ between.faults → PrintsAnswer answer s between out_new → IsEndOfLocal x s ⊎ (s ≡ status.Memory)
 own_local_at x (Ok (end.Call e)) s out between out_new no_fault called later printed =
-    told_own (IsEndOfLocal x s) (status_of_call (end_meant e)) s out between out_new (λ is. local_end x (CallEnded (end_meant e)) s out between called is) later no_fault printed
+    told_own (IsEndOfLocal x s) (status_of_call (end_meant e)) s out between out_new (λ is. local_end x (CallEnded (end_meant e)) s out between called is)
+    later no_fault printed
 own_local_at x (Ok end.Budget) s out between out_new no_fault called later printed =
     told_own (IsEndOfLocal x s) status.Budget s out between out_new (λ is. local_end x Budget s out between called is) later no_fault printed
 own_local_at x (Ok end.LinkFault) s out between out_new no_fault called later printed = absurd called
@@ -197,3 +204,26 @@ call_ends x y answer s out between out_new told tells old new same called later 
   later = later;
   prints = printed;
 }
+
+-- a call that was made is not ended by words, files, a description or a script
+not_before : (st s : Status) (old new : SinkState) → (IsBeforeRun st → ⊥) → PrintsEnding (line_alone st) s old new → IsBeforeRun s → ⊥
+not_before st s old new never (inl h) is = never (subst IsBeforeRun h.0 is)
+not_before st s old new never (inr (inl h)) is = subst IsBeforeRun h.0 is
+not_before st s old new never (inr (inr h)) is = subst IsBeforeRun h.0 is
+
+no_call_before : (e : CallEnd) → IsBeforeRun (status_of_call e) → ⊥
+no_call_before Done h = h
+no_call_before (Refused code) h = h
+no_call_before (BadPeer peer) h = h
+no_call_before BadValue h = h
+no_call_before (TimedOut sent now) h = h
+
+answer_not_before : (answer : Result loop.LoopEnd NoMemory) (s : Status) (old new : SinkState) → PrintsAnswer answer s old new → IsBeforeRun s → ⊥
+answer_not_before (Ok (end.Call e)) s old new printed is = not_before (status_of_call (end_meant e)) s old new (no_call_before (end_meant e)) printed is
+answer_not_before (Ok end.Budget) s old new printed is = not_before status.Budget s old new (λ h. h) printed is
+answer_not_before (Ok end.LinkFault) s old new printed is = not_before status.LinkFault s old new (λ h. h) printed is
+answer_not_before (Ok end.WriteFault) s old new printed is = subst IsBeforeRun printed.0 is
+answer_not_before (Err e) s old new printed is = subst IsBeforeRun printed.0 is
+
+pub call_not_before : {O : Type 0} (x : Calling) (s : Status) (out out_new : SinkState) (link : LinkUse O) → EndsCall x s out out_new link → IsBeforeRun s → ⊥
+call_not_before x s out out_new link h is = answer_not_before h.answer s h.between out_new h.prints is

@@ -35,7 +35,8 @@ pub ends_as_decided : (held : Option (List NamedFile)) (verdict_for : List Named
     → OverFiles held (λ first second. Decides (verdict_for first second) failed o)
     → OverFiles held (λ first second. EndsBy (verdict_for first second) failed s out out_new wire wire)
 ends_as_decided held verdict_for failed o s out out_new wire printed decided =
-    map_files held (λ first second. Decides (verdict_for first second) failed o) (λ first second. EndsBy (verdict_for first second) failed s out out_new wire wire)
+    map_files held (λ first second. Decides (verdict_for first second) failed o)
+    (λ first second. EndsBy (verdict_for first second) failed s out out_new wire wire)
     (λ first second d. by_decided (verdict_for first second) failed o s out out_new wire printed d) decided
 
 -- a run that wanted memory ends by any verdict
@@ -59,13 +60,13 @@ ends_file_without_memory None verdict_for failed s out out_new wire is line = ([
 ends_file_without_memory (Some files) verdict_for failed s out out_new wire is line = inl (wants_memory_so (verdict_for files) s out out_new wire is line)
 
 -- a file that gave no bytes ends the run
-pub ends_unfound : (held : Option (List NamedFile)) (v : List ℕ → Verdict) (name : List ℕ) (failed : Type 0) (o : Outcome) (text : List ℕ) (s : Status)
-    (out out_new : SinkState) (wire : WireHistory) → text ≡ o.text → PrintsEnding (record { status = o.status; text = text }) s out out_new → Finds held name failed (Err o)
+pub ends_unfound : (held : Option (List NamedFile)) (v : List ℕ → Verdict) (name : List ℕ) (failed : Type 0) (o : Outcome) (s : Status)
+    (out out_new : SinkState) (wire : WireHistory) → PrintsEnding (ending_in o) s out out_new → Finds held name failed (Err o)
     → OverFile held (λ files. EndsBy (verdict_of_file v (bytes_of files name)) failed s out out_new wire wire)
-ends_unfound held v name failed o text s out out_new wire is printed finds =
-    let P : List ℕ → Type 0 = λ t. PrintsEnding (record { status = o.status; text = t }) s out out_new in
-    map_file held (λ files. Decides (verdict_of_file v (bytes_of files name)) failed o) (λ files. EndsBy (verdict_of_file v (bytes_of files name)) failed s out out_new wire wire)
-    (λ files d. by_decided (verdict_of_file v (bytes_of files name)) failed o s out out_new wire (subst P is printed) d)
+ends_unfound held v name failed o s out out_new wire printed finds =
+    map_file held (λ files. Decides (verdict_of_file v (bytes_of files name)) failed o)
+    (λ files. EndsBy (verdict_of_file v (bytes_of files name)) failed s out out_new wire wire)
+    (λ files d. by_decided (verdict_of_file v (bytes_of files name)) failed o s out out_new wire printed d)
     (decided_none held v name failed o finds)
 
 -- a file that was read decides
@@ -77,11 +78,6 @@ ends_found held v name bytes text failed s out out_new wire wire_new is has ends
     map_file held (HasBytes name bytes) (λ files. EndsBy (verdict_of_file v (bytes_of files name)) failed s out out_new wire wire_new)
     (λ files h. subst P (sym (at_bytes v name bytes files h)) (subst P (ap v is) (inl ends_so))) has
 
--- what is printed of an outcome's bytes is printed of the outcome
-pub prints_outcome : (o : Outcome) (text : List ℕ) (s : Status) (old new : SinkState) → text ≡ o.text
-    → PrintsEnding (record { status = o.status; text = text }) s old new → PrintsEnding (ending_in o) s old new
-prints_outcome o text s old new is printed = let P : List ℕ → Type 0 = λ t. PrintsEnding (record { status = o.status; text = t }) s old new in subst P is printed
-
 pub on_err : {T E P : Type 0} (r : Result T E) → P → OnErr r P
 on_err (Ok x) p = tt
 on_err (Err e) p = p
@@ -92,5 +88,6 @@ pub prints_same : (r : Status) (text other : List ℕ) (s : Status) (old new : S
 prints_same r text other s old new is printed = let P : List ℕ → Type 0 = λ t. PrintsEnding (record { status = r; text = t }) s old new in subst P is printed
 
 -- what the reading of a file gave, seen by its variant
-pub finds_here : (held : Option (List NamedFile)) (name : List ℕ) (failed : Type 0) (found other : Result (List ℕ) Outcome) → found ≡ other → Finds held name failed found → Finds held name failed other
+pub finds_here : (held : Option (List NamedFile)) (name : List ℕ) (failed : Type 0) (found other : Result (List ℕ) Outcome) → found ≡ other
+    → Finds held name failed found → Finds held name failed other
 finds_here held name failed found other is finds = let P : Result (List ℕ) Outcome → Type 0 = λ r. Finds held name failed r in subst P is finds

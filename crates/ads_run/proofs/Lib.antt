@@ -12,4 +12,6 @@ pub mod TaskLemmas
 pub mod MigrationLemmas
 pub mod LoadLemmas
 pub mod CauseLemmas
+pub mod StoreLemmas
+pub mod OwnLemmas
 pub mod SignalLemmas

@@ -31,7 +31,8 @@ abbrev start : LocalCalling → ServedState
 start x = server_start x.description x.waves
 
 -- the answers of the link are the machine's
-is_local : (x : LocalCalling) (to : List ℕ) (moment : ℕ) (answers : List LinkAnswer) → IsLogOf served_step (start x) (call_log_up_to x.me (peer_of_local x) x.call to moment answers)
+is_local : (x : LocalCalling) (to : List ℕ) (moment : ℕ) (answers : List LinkAnswer)
+    → IsLogOf served_step (start x) (call_log_up_to x.me (peer_of_local x) x.call to moment answers)
     → IsLocalCall server (start x) x.me (peer_of_local x) x.call moment answers
 unfolding served connection_of
 is_local x to moment answers log = calls_are_local server (start x) x.me (peer_of_local x) x.call to moment answers refl log
@@ -64,7 +65,8 @@ breaks_off_locally x to old new out out_new told h =
 no_fault : Rose 0 0 → ⊥
 no_fault rose = omega (arith, rose)
 
-pub local_of_call : (x : LocalCalling) (to : List ℕ) (answer : Result loop.LoopEnd NoMemory) (old new : LocalView) (out out_new : SinkState) → IsTold old (start x) []
+pub local_of_call : (x : LocalCalling) (to : List ℕ) (answer : Result loop.LoopEnd NoMemory) (old new : LocalView) (out out_new : SinkState)
+    → IsTold old (start x) []
     → AfterCall answer (call_of_local x to) (λ o log. IsTold old o log) (λ o log. IsTold new o log) (state_of old) (state_of new) out out_new
     → AfterLocal answer x out out_new
 local_of_call x to (Ok (end.Call e)) old new out out_new told h = talks_locally x to (CallEnded (end_meant e)) old new out out_new told h
@@ -74,7 +76,8 @@ local_of_call x to (Ok end.WriteFault) old new out out_new told h = (h.0, breaks
 local_of_call x to (Err e) old new out out_new told (inl h) = inl h.silent
 local_of_call x to (Err e) old new out out_new told (inr h) = inr (breaks_off_locally x to old new out out_new told h)
 
-pub local_ends : (x : LocalCalling) (to : List ℕ) (y : Calling) (answer : Result loop.LoopEnd NoMemory) (s : Status) (old new : LocalView) (out between out_new : SinkState)
+pub local_ends : (x : LocalCalling) (to : List ℕ) (y : Calling) (answer : Result loop.LoopEnd NoMemory) (s : Status) (old new : LocalView)
+    (out between out_new : SinkState)
     → y ≡ call_of_local x to → IsTold old (start x) []
     → AfterCall answer y (λ o log. IsTold old o log) (λ o log. IsTold new o log) (state_of old) (state_of new) out between
     → NeverFalls out between → PrintsAnswer answer s between out_new → EndsLocalCall x s out out_new

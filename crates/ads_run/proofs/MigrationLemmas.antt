@@ -36,9 +36,12 @@ put_so signals name e status.Budget held old new printed is = tt
 put_so signals name e status.Memory held old new printed is = tt
 put_so signals name e status.TooLong held old new printed is = tt
 put_so signals name e (status.Refused n) held old new printed is = tt
-put_so signals name e status.BadPeer held old new printed is = tt
+put_so signals name e (status.BadPeer broke) held old new printed is = tt
 put_so signals name e (status.TimedOut m n) held old new printed is = tt
 put_so signals name e status.BadValue held old new printed is = tt
+put_so signals name e status.StoreFault held old new printed is = tt
+put_so signals name e status.StoreLimit held old new printed is = tt
+put_so signals name e status.KeeperFault held old new printed is = tt
 
 pub put_migrated : (signals : ℕ) (t : FileTask) (e : Ending) (s : Status) (held : Option (List NamedFile)) (old new : SinkState) → PrintsEnding e s old new
     → IsMigrationOf signals t e.status held e.text → HasMigratedFile signals t s held old new
@@ -56,11 +59,13 @@ at_memory signals (file_task.Replay d script) held old new = tt
 at_memory signals (file_task.Load n) held old new = tt
 
 -- a run for want of memory is no migration that is done
-pub without_memory : (signals : ℕ) (t : FileTask) (s : Status) (held : Option (List NamedFile)) (old new : SinkState) → s ≡ status.Memory → HasMigratedFile signals t s held old new
+pub without_memory : (signals : ℕ) (t : FileTask) (s : Status) (held : Option (List NamedFile)) (old new : SinkState) → s ≡ status.Memory
+    → HasMigratedFile signals t s held old new
 without_memory signals t s held old new is = subst (λ r. HasMigratedFile signals t r held old new) (sym is) (at_memory signals t held old new)
 
 -- of a task that is known
-pub of_task : (signals : ℕ) (t u : Option Task) (s : Status) (held : Option (List NamedFile)) (old new : SinkState) → t ≡ u → HasMigrated signals u s held old new → HasMigrated signals t s held old new
+pub of_task : (signals : ℕ) (t u : Option Task) (s : Status) (held : Option (List NamedFile)) (old new : SinkState) → t ≡ u
+    → HasMigrated signals u s held old new → HasMigrated signals t s held old new
 of_task signals t u s held old new is h = subst (λ x. HasMigrated signals x s held old new) (sym is) h
 
 any_at_memory : (signals : ℕ) (t : Option Task) (held : Option (List NamedFile)) (old new : SinkState) → HasMigrated signals t status.Memory held old new
@@ -69,5 +74,6 @@ any_at_memory signals (Some (task.OfFiles t)) held old new = at_memory signals t
 any_at_memory signals (Some (task.Serve d l n)) held old new = tt
 any_at_memory signals (Some (task.Ask what client)) held old new = tt
 
-pub any_without_memory : (signals : ℕ) (t : Option Task) (s : Status) (held : Option (List NamedFile)) (old new : SinkState) → s ≡ status.Memory → HasMigrated signals t s held old new
+pub any_without_memory : (signals : ℕ) (t : Option Task) (s : Status) (held : Option (List NamedFile)) (old new : SinkState) → s ≡ status.Memory
+    → HasMigrated signals t s held old new
 any_without_memory signals t s held old new is = subst (λ r. HasMigrated signals t r held old new) (sym is) (any_at_memory signals t held old new)

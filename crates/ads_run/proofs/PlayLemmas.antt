@@ -21,14 +21,16 @@ use Rattle.server_core.specs.CoreState.{started}
 use Rattle.server_core.specs.Served.{World, Client, served, served_step}
 use Rattle.server_core.specs.Serves.{CoreView, Serves, HasCounts, StandsAt}
 
-pub stands_at_start : (core : CoreView) (d : Description) (waves : List Wave) → Serves core (started d waves) → HasCounts core (started d waves) → core.server.notes ≡ [] → StandsAt core (at_start d waves)
+pub stands_at_start : (core : CoreView) (d : Description) (waves : List Wave) → Serves core (started d waves) → HasCounts core (started d waves)
+    → core.server.notes ≡ [] → StandsAt core (at_start d waves)
 stands_at_start core d waves serves counted notes = record { serves = serves; counted = counted; notes = notes }
 
 start_unused : (d : Description) (waves : List Wave) → IsUnused (at_start d waves)
 start_unused d waves = record { none = refl; free = refl }
 
 -- what the core's log and counts come to
-pub text_played : (core new : CoreView) (d : Description) (waves : List Wave) (lines : List ScriptLine) (log : List Move) (text : _) → Serves core (started d waves) → HasCounts core (started d waves) → core.server.notes ≡ []
+pub text_played : (core new : CoreView) (d : Description) (waves : List Wave) (lines : List ScriptLine) (log : List Move) (text : _)
+    → Serves core (started d waves) → HasCounts core (started d waves) → core.server.notes ≡ []
     → ((x : Standing World Client) → StandsAt core x → IsUnused x → IsPlay served_step (notes_of_event served) (StandsAt new) x lines log)
     → ((x : Standing World Client) → StandsAt new x → text ≡ log_text_of x.notes log ++ summary_text_of (summary_of x.running.state))
     → text ≡ server_text d waves lines
@@ -45,7 +47,8 @@ text_played core new d waves lines log text serves counted none play told =
     ∙ ap (λ l. text_of_log served (server_start d waves) l) played.is))
 
 -- what the core's counts come to
-pub counts_played : (core new : CoreView) (d : Description) (waves : List Wave) (lines : List ScriptLine) (log : List Move) (text : _) → Serves core (started d waves) → HasCounts core (started d waves) → core.server.notes ≡ []
+pub counts_played : (core new : CoreView) (d : Description) (waves : List Wave) (lines : List ScriptLine) (log : List Move) (text : _)
+    → Serves core (started d waves) → HasCounts core (started d waves) → core.server.notes ≡ []
     → ((x : Standing World Client) → StandsAt core x → IsUnused x → IsPlay served_step (notes_of_event served) (StandsAt new) x lines log)
     → ((x : Standing World Client) → StandsAt new x → text ≡ summary_text_of (summary_of x.running.state))
     → text ≡ counts_of_play d waves lines

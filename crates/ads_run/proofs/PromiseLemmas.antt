@@ -19,6 +19,9 @@ use Rattle.spec_laws.proofs.Exact.{changes_only_by_writes}
 use Rattle.spec_server.specs.Server.{read_description, server_device, server, server_start, server_after, server_play}
 use Rattle.spec_server.specs.ServerLaws.{IsUntouchedHere}
 use Rattle.spec_server.proofs.ServerProofs.{server_plays_in_turns, server_is_isolated, server_takes_as_alone, server_refuses_dead_handles}
+use Rattle.spec_promises.proofs.Promised.{server_holds_writes}
+use Rattle.spec_promises.proofs.Lives.{server_notifies}
+use Rattle.spec_promises.proofs.KeptReads.{server_keeps_handles}
 use Rattle.ads_run.specs.Promises.{GivesFramesInOrder, ChangesByWrites, IsServedAsAlone, BeginsAsAlone, KeepsPromises, KeepsPromisesSoFar, PlayKeepsPromises}
 
 frames_in_order : (d : Description) (waves : List Wave) (log : List Move) → KeepsTurns server (server_start d waves) log
@@ -64,6 +67,9 @@ turns_keep_promises d waves log turns = record {
   writes = λ before after m is. changes_by_writes d waves before m;
   isolated = served_as_alone d waves log turns;
   dead_handles = server_refuses_dead_handles;
+  held = λ accepted before after m is. server_holds_writes d waves accepted before m;
+  notified = λ before after is. server_notifies d waves before after;
+  kept_handles = λ accepted before after bytes is. server_keeps_handles d waves accepted before bytes;
 }
 
 begins_as_alone : (d : Description) (waves : List Wave) (log : List Move) → AreOffers server (server_start d waves) log
@@ -79,6 +85,9 @@ offers_keep_promises d waves log offers = record {
   writes = λ before after m is. changes_by_writes d waves before m;
   isolated = begins_as_alone d waves log offers;
   dead_handles = server_refuses_dead_handles;
+  held = λ accepted before after m is. server_holds_writes d waves accepted before m;
+  notified = λ before after is. server_notifies d waves before after;
+  kept_handles = λ accepted before after bytes is. server_keeps_handles d waves accepted before bytes;
 }
 
 pub play_keeps_promises : (d : Description) (waves : List Wave) (lines : List ScriptLine) → PlayKeepsPromises d waves lines

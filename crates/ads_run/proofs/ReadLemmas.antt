@@ -36,9 +36,12 @@ one_without_memory status.LinkFault old new a h = some_of_one old new a h
 one_without_memory status.Budget old new a h = some_of_one old new a h
 one_without_memory status.TooLong old new a h = some_of_one old new a h
 one_without_memory (status.Refused n) old new a h = some_of_one old new a h
-one_without_memory status.BadPeer old new a h = some_of_one old new a h
+one_without_memory (status.BadPeer broke) old new a h = some_of_one old new a h
 one_without_memory (status.TimedOut m n) old new a h = some_of_one old new a h
 one_without_memory status.BadValue old new a h = some_of_one old new a h
+one_without_memory status.StoreFault old new a h = some_of_one old new a h
+one_without_memory status.StoreLimit old new a h = some_of_one old new a h
+one_without_memory status.KeeperFault old new a h = some_of_one old new a h
 
 two_without_memory : (s : Status) (old new : Names) (a b : List ℕ) → ReadsBoth s old new a b → ReadsSome old new (a ∷ b ∷ [])
 two_without_memory status.Memory old new a b h = h
@@ -59,12 +62,16 @@ two_without_memory status.TooLong old new a b (inl h) = first_of_two old new a b
 two_without_memory status.TooLong old new a b (inr h) = some_of_two old new a b h
 two_without_memory (status.Refused n) old new a b (inl h) = first_of_two old new a b h
 two_without_memory (status.Refused n) old new a b (inr h) = some_of_two old new a b h
-two_without_memory status.BadPeer old new a b (inl h) = first_of_two old new a b h
-two_without_memory status.BadPeer old new a b (inr h) = some_of_two old new a b h
+two_without_memory (status.BadPeer broke) old new a b (inl h) = first_of_two old new a b h
+two_without_memory (status.BadPeer broke) old new a b (inr h) = some_of_two old new a b h
 two_without_memory (status.TimedOut m n) old new a b (inl h) = first_of_two old new a b h
 two_without_memory (status.TimedOut m n) old new a b (inr h) = some_of_two old new a b h
 two_without_memory status.BadValue old new a b (inl h) = first_of_two old new a b h
 two_without_memory status.BadValue old new a b (inr h) = some_of_two old new a b h
+two_without_memory status.StoreFault old new a b h = some_of_two old new a b h
+two_without_memory status.StoreLimit old new a b h = some_of_two old new a b h
+two_without_memory status.KeeperFault old new a b (inl h) = first_of_two old new a b h
+two_without_memory status.KeeperFault old new a b (inr h) = some_of_two old new a b h
 
 -- where a run ends for want of memory, it has read as far as it may
 wants_memory : (t : FileTask) (s : Status) (old new : Names) → ReadsFilesOf t s old new → ReadsFilesOf t status.Memory old new
@@ -86,9 +93,12 @@ one_fault (status.BadScript n) old new a plain h = h
 one_fault status.ReadFault old new a plain h = h
 one_fault status.TooLong old new a plain h = h
 one_fault (status.Refused n) old new a plain h = absurd plain
-one_fault status.BadPeer old new a plain h = absurd plain
+one_fault (status.BadPeer broke) old new a plain h = absurd plain
 one_fault (status.TimedOut m n) old new a plain h = absurd plain
 one_fault status.BadValue old new a plain h = absurd plain
+one_fault status.StoreFault old new a plain h = absurd plain
+one_fault status.StoreLimit old new a plain h = absurd plain
+one_fault status.KeeperFault old new a plain h = absurd plain
 
 two_fault : (s : Status) (old new : Names) (a b : List ℕ) → IsOfFileTask s → ReadsBoth s old new a b → ReadsBoth status.WriteFault old new a b
 two_fault status.Memory old new a b plain h = absurd plain
@@ -102,9 +112,12 @@ two_fault status.Usage old new a b plain h = h
 two_fault status.ReadFault old new a b plain h = h
 two_fault status.TooLong old new a b plain h = h
 two_fault (status.Refused n) old new a b plain h = absurd plain
-two_fault status.BadPeer old new a b plain h = absurd plain
+two_fault (status.BadPeer broke) old new a b plain h = absurd plain
 two_fault (status.TimedOut m n) old new a b plain h = absurd plain
 two_fault status.BadValue old new a b plain h = absurd plain
+two_fault status.StoreFault old new a b plain h = absurd plain
+two_fault status.StoreLimit old new a b plain h = absurd plain
+two_fault status.KeeperFault old new a b plain h = absurd plain
 
 writing_fails : (t : FileTask) (s : Status) (old new : Names) → IsOfFileTask s → ReadsFilesOf t s old new → ReadsFilesOf t status.WriteFault old new
 writing_fails (file_task.Selftest script) s old new plain h = one_fault s old new script plain h
@@ -139,9 +152,12 @@ reads_one status.LinkFault old new a h = h
 reads_one status.Budget old new a h = h
 reads_one status.TooLong old new a h = h
 reads_one (status.Refused n) old new a h = h
-reads_one status.BadPeer old new a h = h
+reads_one (status.BadPeer broke) old new a h = h
 reads_one (status.TimedOut m n) old new a h = h
 reads_one status.BadValue old new a h = h
+reads_one status.StoreFault old new a h = h
+reads_one status.StoreLimit old new a h = h
+reads_one status.KeeperFault old new a h = h
 
 pub reads_some_of_one : (s : Status) (old new : Names) (a : List ℕ) → s ≡ status.Memory → ReadsSome old new (a ∷ []) → ReadsOne s old new a
 reads_some_of_one s old new a is h = subst (λ r. ReadsOne r old new a) (sym is) h

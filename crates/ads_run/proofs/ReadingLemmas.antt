@@ -1,5 +1,6 @@
 -- What the readings of files decide.
-use Rattle.std.proofs.Common.{rules, ◌≡◌, ◌<◌, ◌≤◌, ℕ, List, [], ◌∷◌, Option, Some, None, Err, inl, inr, subst, ap, sym, ◌∙◌, refl, length, zero, suc, true, Bool, arith}
+use Rattle.std.proofs.Common.{rules, ◌≡◌, ◌<◌, ◌≤◌, ℕ, List, [], ◌∷◌, Option, Some, None, Err, inl, inr, subst, ap, sym, ◌∙◌, refl, length, zero, suc, true}
+use Rattle.std.proofs.Common.{Bool, arith}
 use Rattle.std.specs.Prelude.{if◌then◌else◌, IsSomeAnd, IfOk, Result, Ok}
 use Rattle.std.specs.Str.{bytes_eq}
 use Rattle.std.proofs.lemmas.Bool.{le-ltb, lt-ltb}
@@ -135,7 +136,8 @@ rose_from old mid new later rose = search rules
 pub decided_replay : (held mid_held : Option (List NamedFile)) (waves : List Wave) (script name bytes text : List ℕ) (old mid new : ℕ) (o : Outcome)
     → mid_held ≡ held → text ≡ bytes → old ≤ mid → OverFile held (HasBytes name bytes)
     → OverFile mid_held (λ second. Decides (verdict_of_replay waves (bytes_of second script) (text_verdict (length waves) text)) (Rose mid new) o)
-    → OverFiles held (λ first second. Decides (verdict_of_file (λ bytes. verdict_of_replay waves (bytes_of second script) (text_verdict (length waves) bytes)) (bytes_of first name)) (Rose old new) o)
+    → OverFiles held (λ first second. Decides (verdict_of_file (λ bytes. verdict_of_replay waves (bytes_of second script) (text_verdict (length waves) bytes))
+    (bytes_of first name)) (Rose old new) o)
 decided_replay held mid_held waves script name bytes text old mid new o same is later has decided =
     let over : List NamedFile → List ℕ → Verdict = λ second bytes. verdict_of_replay waves (bytes_of second script) (text_verdict (length waves) bytes) in
     decided_both held over name bytes (Rose old new) (Rose mid new) o (rose_from old mid new later) has
@@ -149,7 +151,8 @@ decided_alone None verdict failed o is = ([], [], inl is)
 decided_alone (Some files) verdict failed o is = inl is
 
 pub load_decided : (held : Option (List NamedFile)) (waves : List Wave) (t : FileTask) (n : ℕ) (failed : Type 0) (answer : Result Outcome NoMemory)
-    → t ≡ file_task.Load n → IfOk answer (IsOutcome (verdict_of_load waves n)) → IfOk answer (λ o. OverFiles held (λ first second. Decides (verdict_of_file_task waves t first second) failed o))
+    → t ≡ file_task.Load n → IfOk answer (IsOutcome (verdict_of_load waves n))
+    → IfOk answer (λ o. OverFiles held (λ first second. Decides (verdict_of_file_task waves t first second) failed o))
 load_decided held waves t n failed (Err e) is h = tt
 load_decided held waves t n failed (Ok o) is h =
     let P : FileTask → Type 0 = λ u. OverFiles held (λ first second. Decides (verdict_of_file_task waves u first second) failed o) in

@@ -24,14 +24,16 @@ use Rattle.ads_run.specs.declared.status.Status.TheVariants as status
 use Rattle.ads_run.specs.declared.task.Task.{Task}
 use Rattle.ads_run.specs.declared.task.Task.TheVariants as task
 use Rattle.ads_run.specs.Asking.{LocalCalling, local_calling}
-use Rattle.ads_run.specs.Calling.{LinkUse, used, EndsCall, EndsLocalCall}
+use Rattle.ads_run.specs.Calling.{EndsCall, EndsLocalCall}
 use Rattle.ads_run.specs.Ending.{line_alone}
 use Rattle.ads_run.specs.Ends.{EndsSo, EndsBy, AsksSo, AsksBy, RunsSo, RunsBy}
 use Rattle.ads_run.specs.Outcomes.{IsOutcome, Decides, HasBytes, Finds, status_of_fault}
 use Rattle.ads_run.specs.Prints.{PutsMemoryLine, PrintsEnding}
 use Rattle.ads_run.specs.Readings.{OverFile, OverFiles}
 use Rattle.ads_run.specs.Tasks.{asked_task}
-use Rattle.ads_run.specs.Verdict.{Verdict, Ends, Serves, Calls, CallsLocally, ended, verdict_of, verdict_of_task, verdict_of_file, verdict_of_called, verdict_of_local, verdict_of_ask}
+use Rattle.ads_run.specs.Uses.{LinkUse, DiskUse, KeeperUse, Uses, link_used, used, uses}
+use Rattle.ads_run.specs.Verdict.{Verdict, Ends, Serves, Calls, CallsLocally, ended, verdict_of, verdict_of_task, verdict_of_file, verdict_of_called}
+use Rattle.ads_run.specs.Verdict.{verdict_of_local, verdict_of_ask}
 use Rattle.ads_run.proofs.EndLemmas.{ending_in}
 use Rattle.ads_run.proofs.ReadingLemmas.{map_file, map_files, at_bytes, decided_none}
 
@@ -56,58 +58,65 @@ never_asked x s out out_new is line = record {
 }
 
 -- a run that called no link
-so_as_run : {O : Type 0} (v : Verdict) (s : Status) (out out_new : SinkState) (wire wire_new : WireHistory) (told : O → List LinkMove → Type 0) (state : LinkState)
-    → EndsSo v s out out_new wire wire_new → RunsSo v s out out_new wire wire_new (used told told state state)
-so_as_run (Ends e) s out out_new wire wire_new told state h = h
-so_as_run (Serves service) s out out_new wire wire_new told state h = h
-so_as_run (Calls x) s out out_new wire wire_new told state h = never_called x s out out_new told state h.0.0 h.0.1
-so_as_run (CallsLocally x) s out out_new wire wire_new told state h = never_asked x s out out_new h.0.0 h.0.1
+so_as_run : {O : Type 0} (v : Verdict) (s : Status) (out out_new : SinkState) (wire wire_new : WireHistory) (told : O → List LinkMove → Type 0)
+    (state : LinkState)
+    (disk : DiskUse) (keeper : KeeperUse) → EndsSo v s out out_new wire wire_new
+    → RunsSo v s (uses out out_new wire wire_new (used told told state state) disk keeper)
+so_as_run (Ends e) s out out_new wire wire_new told state disk keeper h = h
+so_as_run (Serves service) s out out_new wire wire_new told state disk keeper h = h
+so_as_run (Calls x) s out out_new wire wire_new told state disk keeper h = never_called x s out out_new told state h.0.0 h.0.1
+so_as_run (CallsLocally x) s out out_new wire wire_new told state disk keeper h = never_asked x s out out_new h.0.0 h.0.1
 
-by_as_run : {O : Type 0} (v : Verdict) (failed : Type 0) (s : Status) (out out_new : SinkState) (wire wire_new : WireHistory) (told : O → List LinkMove → Type 0) (state : LinkState)
-    → EndsBy v failed s out out_new wire wire_new → RunsBy v failed s out out_new wire wire_new (used told told state state)
-by_as_run v failed s out out_new wire wire_new told state (inl h) = inl (so_as_run v s out out_new wire wire_new told state h)
-by_as_run v failed s out out_new wire wire_new told state (inr h) = inr (h.0, h.1)
+by_as_run : {O : Type 0} (v : Verdict) (failed : Type 0) (s : Status) (out out_new : SinkState) (wire wire_new : WireHistory)
+    (told : O → List LinkMove → Type 0)
+    (state : LinkState) (disk : DiskUse) (keeper : KeeperUse) → EndsBy v failed s out out_new wire wire_new
+    → RunsBy v failed s (uses out out_new wire wire_new (used told told state state) disk keeper)
+by_as_run v failed s out out_new wire wire_new told state disk keeper (inl h) = inl (so_as_run v s out out_new wire wire_new told state disk keeper h)
+by_as_run v failed s out out_new wire wire_new told state disk keeper (inr h) = inr (h.0, h.1)
 
-pub ends_as_run : {O : Type 0} (held : Option (List NamedFile)) (v : List NamedFile → List NamedFile → Verdict) (failed : Type 0) (s : Status) (out out_new : SinkState)
-    (wire wire_new : WireHistory) (told : O → List LinkMove → Type 0) (state : LinkState) → OverFiles held (λ first second. EndsBy (v first second) failed s out out_new wire wire_new)
-    → OverFiles held (λ first second. RunsBy (v first second) failed s out out_new wire wire_new (used told told state state))
-ends_as_run held v failed s out out_new wire wire_new told state h =
+pub ends_as_run : {O : Type 0} (held : Option (List NamedFile)) (v : List NamedFile → List NamedFile → Verdict) (failed : Type 0) (s : Status)
+    (out out_new : SinkState)
+    (wire wire_new : WireHistory) (told : O → List LinkMove → Type 0) (state : LinkState) (disk : DiskUse) (keeper : KeeperUse)
+    → OverFiles held (λ first second. EndsBy (v first second) failed s out out_new wire wire_new)
+    → OverFiles held (λ first second. RunsBy (v first second) failed s (uses out out_new wire wire_new (used told told state state) disk keeper))
+ends_as_run held v failed s out out_new wire wire_new told state disk keeper h =
     map_files held (λ first second. EndsBy (v first second) failed s out out_new wire wire_new)
-    (λ first second. RunsBy (v first second) failed s out out_new wire wire_new (used told told state state))
-    (λ first second k. by_as_run (v first second) failed s out out_new wire wire_new told state k) h
+    (λ first second. RunsBy (v first second) failed s (uses out out_new wire wire_new (used told told state state) disk keeper))
+    (λ first second k. by_as_run (v first second) failed s out out_new wire wire_new told state disk keeper k) h
 
 -- words that are no command are told so
-pub runs_usage : {O : Type 0} (held : Option (List NamedFile)) (waves : List Wave) (failed : Type 0) (s : Status) (out out_new : SinkState) (wire : WireHistory) (link : LinkUse O)
-    → PrintsEnding (line_alone status.Usage) s out out_new
-    → OverFiles held (λ first second. RunsBy (verdict_of_task waves None first second) failed s out out_new wire wire link)
-runs_usage None waves failed s out out_new wire link printed = ([], [], inl (printed, refl))
-runs_usage (Some files) waves failed s out out_new wire link printed = inl (printed, refl)
+pub runs_usage : {O : Type 0} (held : Option (List NamedFile)) (waves : List Wave) (failed : Type 0) (s : Status) (out out_new : SinkState)
+    (wire : WireHistory)
+    (link : LinkUse O) (disk : DiskUse) (keeper : KeeperUse) → PrintsEnding (line_alone status.Usage) s out out_new
+    → OverFiles held (λ first second. RunsBy (verdict_of_task waves None first second) failed s (uses out out_new wire wire link disk keeper))
+runs_usage None waves failed s out out_new wire link disk keeper printed = ([], [], inl (printed, refl))
+runs_usage (Some files) waves failed s out out_new wire link disk keeper printed = inl (printed, refl)
 
 -- a run that called neither wire nor link
-asked_so : {O : Type 0} (v : Verdict) (s : Status) (out out_new : SinkState) (wire : WireHistory) (link : LinkUse O)
-    → AsksSo v s out out_new → RunsSo v s out out_new wire wire link
-asked_so (Ends e) s out out_new wire link h = (h, refl)
-asked_so (Serves service) s out out_new wire link h = absurd h
-asked_so (Calls x) s out out_new wire link h = absurd h
-asked_so (CallsLocally x) s out out_new wire link h = h
+asked_so : {O : Type 0} (v : Verdict) (s : Status) (out out_new : SinkState) (wire : WireHistory) (link : LinkUse O) (disk : DiskUse) (keeper : KeeperUse)
+    → AsksSo v s out out_new → RunsSo v s (uses out out_new wire wire link disk keeper)
+asked_so (Ends e) s out out_new wire link disk keeper h = (h, refl)
+asked_so (Serves service) s out out_new wire link disk keeper h = absurd h
+asked_so (Calls x) s out out_new wire link disk keeper h = absurd h
+asked_so (CallsLocally x) s out out_new wire link disk keeper h = h
 
-asked_by : {O : Type 0} (v : Verdict) (failed : Type 0) (s : Status) (out out_new : SinkState) (wire : WireHistory) (link : LinkUse O)
-    → AsksBy v failed s out out_new → RunsBy v failed s out out_new wire wire link
-asked_by v failed s out out_new wire link (inl h) = inl (asked_so v s out out_new wire link h)
-asked_by v failed s out out_new wire link (inr h) = inr (h.0, (h.1, refl))
+asked_by : {O : Type 0} (v : Verdict) (failed : Type 0) (s : Status) (out out_new : SinkState) (wire : WireHistory) (link : LinkUse O) (disk : DiskUse)
+    (keeper : KeeperUse) → AsksBy v failed s out out_new → RunsBy v failed s (uses out out_new wire wire link disk keeper)
+asked_by v failed s out out_new wire link disk keeper (inl h) = inl (asked_so v s out out_new wire link disk keeper h)
+asked_by v failed s out out_new wire link disk keeper (inr h) = inr (h.0, (h.1, refl))
 
 pub asks_as_run : {O : Type 0} (held : Option (List NamedFile)) (v : List NamedFile → Verdict) (failed : Type 0) (s : Status) (out out_new : SinkState)
-    (wire : WireHistory) (link : LinkUse O) → OverFile held (λ files. AsksBy (v files) failed s out out_new)
-    → OverFiles held (λ first second. RunsBy (v first) failed s out out_new wire wire link)
-asks_as_run None v failed s out out_new wire link h = (h.0, [], asked_by (v h.0) failed s out out_new wire link h.1)
-asks_as_run (Some files) v failed s out out_new wire link h = asked_by (v files) failed s out out_new wire link h
+    (wire : WireHistory) (link : LinkUse O) (disk : DiskUse) (keeper : KeeperUse) → OverFile held (λ files. AsksBy (v files) failed s out out_new)
+    → OverFiles held (λ first second. RunsBy (v first) failed s (uses out out_new wire wire link disk keeper))
+asks_as_run None v failed s out out_new wire link disk keeper h = (h.0, [], asked_by (v h.0) failed s out out_new wire link disk keeper h.1)
+asks_as_run (Some files) v failed s out out_new wire link disk keeper h = asked_by (v files) failed s out out_new wire link disk keeper h
 
 -- a run that called the link
-pub call_as_run : {O : Type 0} (held : Option (List NamedFile)) (x : Calling) (failed : Type 0) (s : Status) (out out_new : SinkState)
-    (wire : WireHistory) (link : LinkUse O) → EndsCall x s out out_new link
-    → OverFiles held (λ first second. RunsBy (Calls x) failed s out out_new wire wire link)
-call_as_run None x failed s out out_new wire link h = ([], [], inl h)
-call_as_run (Some files) x failed s out out_new wire link h = inl h
+pub call_as_run : {O : Type 0} (held : Option (List NamedFile)) (x : Calling) (failed : Type 0) (s : Status) (u : Uses O)
+    → EndsCall x s u.out u.out_new u.link
+    → OverFiles held (λ first second. RunsBy (Calls x) failed s u)
+call_as_run None x failed s u h = ([], [], inl h)
+call_as_run (Some files) x failed s u h = inl h
 
 -- a run that wanted memory asks by any verdict that it may have
 pub judged_without_memory : (waves : List Wave) (what : ClientTask) (client : ClientWords) (v : TextVerdict) (s : Status) (out out_new : SinkState)
@@ -116,19 +125,23 @@ judged_without_memory waves what client (Described d) s out out_new is line = ne
 judged_without_memory waves what client (Breaks n item) s out out_new is line = inr (inr (is, inl line))
 judged_without_memory waves what client NoDocument s out out_new is line = inr (inr (is, inl line))
 
-long_without_memory : (waves : List Wave) (what : ClientTask) (client : ClientWords) (bytes : List ℕ) (b : Bool) (failed : Type 0) (s : Status) (out out_new : SinkState)
-    → s ≡ status.Memory → PutsMemoryLine out out_new → AsksBy (if b then ended status.TooLong else verdict_of_local waves what client bytes) failed s out out_new
+long_without_memory : (waves : List Wave) (what : ClientTask) (client : ClientWords) (bytes : List ℕ) (b : Bool) (failed : Type 0) (s : Status)
+    (out out_new : SinkState)
+    → s ≡ status.Memory → PutsMemoryLine out out_new → AsksBy (if b then ended status.TooLong else verdict_of_local waves what client bytes) failed s out
+    out_new
 long_without_memory waves what client bytes true failed s out out_new is line = inl (inr (inr (is, inl line)))
 long_without_memory waves what client bytes false failed s out out_new is line =
     inl (judged_without_memory waves what client (text_verdict (length waves) bytes) s out out_new is line)
 
-file_without_memory : (waves : List Wave) (what : ClientTask) (client : ClientWords) (o : Option (List ℕ)) (failed : Type 0) (s : Status) (out out_new : SinkState)
+file_without_memory : (waves : List Wave) (what : ClientTask) (client : ClientWords) (o : Option (List ℕ)) (failed : Type 0) (s : Status)
+    (out out_new : SinkState)
     → s ≡ status.Memory → PutsMemoryLine out out_new → AsksBy (verdict_of_file (verdict_of_local waves what client) o) failed s out out_new
 file_without_memory waves what client None failed s out out_new is line = inl (inr (inr (is, inl line)))
 file_without_memory waves what client (Some bytes) failed s out out_new is line =
     long_without_memory waves what client bytes (nat_lt file_limit (length bytes)) failed s out out_new is line
 
-pub asks_without_memory : (held : Option (List NamedFile)) (waves : List Wave) (what : ClientTask) (client : ClientWords) (name : List ℕ) (failed : Type 0) (s : Status)
+pub asks_without_memory : (held : Option (List NamedFile)) (waves : List Wave) (what : ClientTask) (client : ClientWords) (name : List ℕ) (failed : Type 0)
+    (s : Status)
     (out out_new : SinkState) → s ≡ status.Memory → PutsMemoryLine out out_new
     → OverFile held (λ files. AsksBy (verdict_of_file (verdict_of_local waves what client) (bytes_of files name)) failed s out out_new)
 asks_without_memory None waves what client name failed s out out_new is line =
@@ -136,22 +149,24 @@ asks_without_memory None waves what client name failed s out out_new is line =
 asks_without_memory (Some files) waves what client name failed s out out_new is line =
     file_without_memory waves what client (bytes_of files name) failed s out out_new is line
 
-asks_outcome : (v : Verdict) (o : Outcome) (s : Status) (out out_new : SinkState) → IsOutcome v o → PrintsEnding (ending_in o) s out out_new → AsksSo v s out out_new
+asks_outcome : (v : Verdict) (o : Outcome) (s : Status) (out out_new : SinkState) → IsOutcome v o → PrintsEnding (ending_in o) s out out_new
+    → AsksSo v s out out_new
 asks_outcome v o s out out_new is printed = let P : Verdict → Type 0 = λ v. AsksSo v s out out_new in subst P is printed
 
-asks_decided : (v : Verdict) (failed : Type 0) (o : Outcome) (s : Status) (out out_new : SinkState) → PrintsEnding (ending_in o) s out out_new → Decides v failed o
+asks_decided : (v : Verdict) (failed : Type 0) (o : Outcome) (s : Status) (out out_new : SinkState) → PrintsEnding (ending_in o) s out out_new
+    → Decides v failed o
     → AsksBy v failed s out out_new
 asks_decided v failed o s out out_new printed (inl is) = inl (asks_outcome v o s out out_new is printed)
 asks_decided v failed o s out out_new printed (inr fault) = inr (fault.0, asks_outcome (ended status.ReadFault) o s out out_new fault.1 printed)
 
 -- a file that gave no bytes ends the run
-pub asks_unfound : (held : Option (List NamedFile)) (v : List ℕ → Verdict) (name : List ℕ) (failed : Type 0) (o : Outcome) (text : List ℕ) (s : Status)
-    (out out_new : SinkState) → text ≡ o.text → PrintsEnding (record { status = o.status; text = text }) s out out_new → Finds held name failed (Err o)
+pub asks_unfound : (held : Option (List NamedFile)) (v : List ℕ → Verdict) (name : List ℕ) (failed : Type 0) (o : Outcome) (s : Status)
+    (out out_new : SinkState) → PrintsEnding (ending_in o) s out out_new → Finds held name failed (Err o)
     → OverFile held (λ files. AsksBy (verdict_of_file v (bytes_of files name)) failed s out out_new)
-asks_unfound held v name failed o text s out out_new is printed finds =
-    let P : List ℕ → Type 0 = λ t. PrintsEnding (record { status = o.status; text = t }) s out out_new in
-    map_file held (λ files. Decides (verdict_of_file v (bytes_of files name)) failed o) (λ files. AsksBy (verdict_of_file v (bytes_of files name)) failed s out out_new)
-    (λ files d. asks_decided (verdict_of_file v (bytes_of files name)) failed o s out out_new (subst P is printed) d)
+asks_unfound held v name failed o s out out_new printed finds =
+    map_file held (λ files. Decides (verdict_of_file v (bytes_of files name)) failed o)
+    (λ files. AsksBy (verdict_of_file v (bytes_of files name)) failed s out out_new)
+    (λ files d. asks_decided (verdict_of_file v (bytes_of files name)) failed o s out out_new printed d)
     (decided_none held v name failed o finds)
 
 -- a file that was read decides
@@ -180,41 +195,58 @@ asks_described waves what client bytes d s out out_new h asked =
 
 -- how the task ends is how the words end that ask for it
 pub runs_as_asked : {O : Type 0} (held : Option (List NamedFile)) (waves : List Wave) (words : List (List ℕ)) (t : Option Task) (failed : Type 0) (s : Status)
-    (out out_new : SinkState) (wire wire_new : WireHistory) (link : LinkUse O) → asked_task words ≡ t
-    → OverFiles held (λ first second. RunsBy (verdict_of_task waves t first second) failed s out out_new wire wire_new link)
-    → OverFiles held (λ first second. RunsBy (verdict_of waves words first second) failed s out out_new wire wire_new link)
-runs_as_asked held waves words t failed s out out_new wire wire_new link asked runs =
-    let P : Option Task → Type 0 = λ a. OverFiles held (λ first second. RunsBy (verdict_of_task waves a first second) failed s out out_new wire wire_new link) in
+    (u : Uses O) → asked_task words ≡ t → OverFiles held (λ first second. RunsBy (verdict_of_task waves t first second) failed s u)
+    → OverFiles held (λ first second. RunsBy (verdict_of waves words first second) failed s u)
+runs_as_asked held waves words t failed s u asked runs =
+    let P : Option Task → Type 0 = λ a. OverFiles held (λ first second. RunsBy (verdict_of_task waves a first second) failed s u) in
     subst P (sym asked) runs
 
 -- how a task ends that is known
-pub runs_of_task : {O : Type 0} (held : Option (List NamedFile)) (waves : List Wave) (t u : Task) (failed : Type 0) (s : Status)
-    (out out_new : SinkState) (wire wire_new : WireHistory) (link : LinkUse O) → t ≡ u
-    → OverFiles held (λ first second. RunsBy (verdict_of_task waves (Some u) first second) failed s out out_new wire wire_new link)
-    → OverFiles held (λ first second. RunsBy (verdict_of_task waves (Some t) first second) failed s out out_new wire wire_new link)
-runs_of_task held waves t u failed s out out_new wire wire_new link is runs =
-    let P : Task → Type 0 = λ x. OverFiles held (λ first second. RunsBy (verdict_of_task waves (Some x) first second) failed s out out_new wire wire_new link) in
+pub runs_of_task : {O : Type 0} (held : Option (List NamedFile)) (waves : List Wave) (t other : Task) (failed : Type 0) (s : Status) (u : Uses O) → t ≡ other
+    → OverFiles held (λ first second. RunsBy (verdict_of_task waves (Some other) first second) failed s u)
+    → OverFiles held (λ first second. RunsBy (verdict_of_task waves (Some t) first second) failed s u)
+runs_of_task held waves t other failed s u is runs =
+    let P : Task → Type 0 = λ x. OverFiles held (λ first second. RunsBy (verdict_of_task waves (Some x) first second) failed s u) in
     subst P (sym is) runs
 
 -- a run that wanted memory runs by any verdict
 memory_so : {O : Type 0} (v : Verdict) (s : Status) (out out_new : SinkState) (wire : WireHistory) (told : O → List LinkMove → Type 0) (state : LinkState)
-    → s ≡ status.Memory → PutsMemoryLine out out_new → RunsSo v s out out_new wire wire (used told told state state)
-memory_so (Ends e) s out out_new wire told state is line = (inr (inr (is, inl line)), refl)
-memory_so (Serves service) s out out_new wire told state is line = inl (inr (refl, is, line))
-memory_so (Calls x) s out out_new wire told state is line = never_called x s out out_new told state is line
-memory_so (CallsLocally x) s out out_new wire told state is line = never_asked x s out out_new is line
+    (disk : DiskUse) (keeper : KeeperUse) → s ≡ status.Memory → PutsMemoryLine out out_new
+    → RunsSo v s (uses out out_new wire wire (used told told state state) disk keeper)
+memory_so (Ends e) s out out_new wire told state disk keeper is line = (inr (inr (is, inl line)), refl)
+memory_so (Serves service) s out out_new wire told state disk keeper is line = inl (inr (refl, is, line))
+memory_so (Calls x) s out out_new wire told state disk keeper is line = never_called x s out out_new told state is line
+memory_so (CallsLocally x) s out out_new wire told state disk keeper is line = never_asked x s out out_new is line
 
 pub runs_without_memory : {O : Type 0} (held : Option (List NamedFile)) (v : List NamedFile → List NamedFile → Verdict) (failed : Type 0) (s : Status)
-    (out out_new : SinkState) (wire : WireHistory) (told : O → List LinkMove → Type 0) (state : LinkState) → s ≡ status.Memory → PutsMemoryLine out out_new
-    → OverFiles held (λ first second. RunsBy (v first second) failed s out out_new wire wire (used told told state state))
-runs_without_memory None v failed s out out_new wire told state is line = ([], [], inl (memory_so (v [] []) s out out_new wire told state is line))
-runs_without_memory (Some files) v failed s out out_new wire told state is line = inl (memory_so (v files files) s out out_new wire told state is line)
+    (out out_new : SinkState) (wire : WireHistory) (told : O → List LinkMove → Type 0) (state : LinkState) (disk : DiskUse) (keeper : KeeperUse)
+    → s ≡ status.Memory → PutsMemoryLine out out_new
+    → OverFiles held (λ first second. RunsBy (v first second) failed s (uses out out_new wire wire (used told told state state) disk keeper))
+runs_without_memory None v failed s out out_new wire told state disk keeper is line =
+    ([], [], inl (memory_so (v [] []) s out out_new wire told state disk keeper is line))
+runs_without_memory (Some files) v failed s out out_new wire told state disk keeper is line =
+    inl (memory_so (v files files) s out out_new wire told state disk keeper is line)
 
 -- a client that asks this peer
-pub runs_of_peer : {O : Type 0} (held : Option (List NamedFile)) (waves : List Wave) (what : ClientTask) (client : ClientWords) (p : PeerWords) (failed : Type 0) (s : Status)
-    (out out_new : SinkState) (wire wire_new : WireHistory) (link : LinkUse O) → client.peer ≡ p
-    → OverFiles held (λ first second. RunsBy (verdict_of_ask waves what client p first) failed s out out_new wire wire_new link)
-    → OverFiles held (λ first second. RunsBy (verdict_of_task waves (Some (task.Ask what client)) first second) failed s out out_new wire wire_new link)
-runs_of_peer held waves what client p failed s out out_new wire wire_new link is runs =
-    let P : PeerWords → Type 0 = λ q. OverFiles held (λ first second. RunsBy (verdict_of_ask waves what client q first) failed s out out_new wire wire_new link) in
+pub runs_of_peer : {O : Type 0} (held : Option (List NamedFile)) (waves : List Wave) (what : ClientTask) (client : ClientWords) (p : PeerWords)
+    (failed : Type 0)
+    (s : Status) (u : Uses O) → client.peer ≡ p → OverFiles held (λ first second. RunsBy (verdict_of_ask waves what client p first) failed s u)
+    → OverFiles held (λ first second. RunsBy (verdict_of_task waves (Some (task.Ask what client)) first second) failed s u)
+runs_of_peer held waves what client p failed s u is runs =
+    let P : PeerWords → Type 0 = λ q. OverFiles held (λ first second. RunsBy (verdict_of_ask waves what client q first) failed s u) in
     subst P (sym is) runs
+
+-- a run that wanted memory, and left what it was handed in as it was
+pub runs_untouched : {O S W L : Type 0} (held : Option (List NamedFile)) (v : List NamedFile → List NamedFile → Verdict) (failed : Type 0) (s : Status)
+    (sink : S → SinkState) (out between : S) (out_new : SinkState) (history : W → WireHistory) (wire wire_new : W) (tells : L → O → List LinkMove → Type 0)
+    (state : L → LinkState) (link link_new : L) (disk : DiskUse) (keeper : KeeperUse) → s ≡ status.Memory → PutsMemoryLine (sink between) out_new
+    → between ≡ out → wire_new ≡ wire → link_new ≡ link
+    → OverFiles held (λ first second. RunsBy (v first second) failed s
+    (uses (sink out) out_new (history wire) (history wire_new) (link_used tells state link link_new) disk keeper))
+runs_untouched held v failed s sink out between out_new history wire wire_new tells state link link_new disk keeper is line same_out same_wire same_link =
+    subst (λ w. OverFiles held (λ first second. RunsBy (v first second) failed s
+    (uses (sink out) out_new (history wire) (history w) (link_used tells state link link_new) disk keeper))) (sym same_wire)
+    (subst (λ l. OverFiles held (λ first second. RunsBy (v first second) failed s
+    (uses (sink out) out_new (history wire) (history wire) (link_used tells state link l) disk keeper))) (sym same_link)
+    (runs_without_memory held v failed s (sink out) out_new (history wire) (tells link) (state link) disk keeper is
+    (subst (λ o. PutsMemoryLine (sink o) out_new) same_out line)))

@@ -52,7 +52,8 @@ turns_of : (d : Description) (waves : List Wave) (ms : List Move) → AreTurnsOf
 unfolding served
 turns_of d waves ms are = record { turns = are.turns; whole = are.are; served = are.served }
 
-offers_of : (d : Description) (waves : List Wave) (ms : List Move) → AreOffers served_step (server_start d waves) ms → AreOffers server (server_start d waves) ms
+offers_of : (d : Description) (waves : List Wave) (ms : List Move) → AreOffers served_step (server_start d waves) ms
+    → AreOffers server (server_start d waves) ms
 unfolding served
 offers_of d waves ms are = are
 
@@ -214,23 +215,27 @@ runs_service service core core_new r events s out out_new old new after prints s
     (came service core core_new r old new (subst P (sym limit) after) stands) prints
 
 -- the wire was started, and then so
-pub started_so : (service : Service) (a : Listening) (s : Status) (out out_new : SinkState) (old mid new : WireHistory) → mid ≡ listened a old → service.start ≡ a
+pub started_so : (service : Service) (a : Listening) (s : Status) (out out_new : SinkState) (old mid new : WireHistory) → mid ≡ listened a old
+    → service.start ≡ a
     → CannotTell s out out_new mid new ⊎ TellsAndRuns service s out out_new mid new → EndsService service s out out_new old new
 started_so service a s out out_new old mid new ready is after =
     let P : WireHistory → Type 0 = λ h. CannotTell s out out_new h new ⊎ TellsAndRuns service s out out_new h new in
     behind (subst P (ready ∙ ap (λ (b : Listening). listened b old) (sym is)) after)
   where
-    behind : CannotTell s out out_new (listened service.start old) new ⊎ TellsAndRuns service s out out_new (listened service.start old) new → EndsService service s out out_new old new
+    behind : CannotTell s out out_new (listened service.start old) new ⊎ TellsAndRuns service s out out_new (listened service.start old) new
+        → EndsService service s out out_new old new
     behind (inl h) = inr (inl h)
     behind (inr h) = inr (inr h)
 
-pub not_started : (service : Service) (a : Listening) (s : Status) (out out_new : SinkState) (old new : WireState) → Stops old new (listened a old.history) → service.start ≡ a
+pub not_started : (service : Service) (a : Listening) (s : Status) (out out_new : SinkState) (old new : WireState) → Stops old new (listened a old.history)
+    → service.start ≡ a
     → PrintsEnding (line_alone status.LinkFault) s out out_new → EndsService service s out out_new old.history new.history
 not_started service a s out out_new old new stops is printed =
     let P : Listening → Type 0 = λ b. StopsBehind (listened b old.history) new.history in
     inl (inl (subst P (sym is) (record { same = stops.same; stopped = stops.stopped }), printed))
 
-pub no_memory_at_start : (service : Service) (s : Status) (out out_new : SinkState) (old new : WireHistory) → new ≡ old → s ≡ status.Memory → PutsMemoryLine out out_new
+pub no_memory_at_start : (service : Service) (s : Status) (out out_new : SinkState) (old new : WireHistory) → new ≡ old → s ≡ status.Memory
+    → PutsMemoryLine out out_new
     → EndsService service s out out_new old new
 no_memory_at_start service s out out_new old new same is line = inl (inr (same, is, line))
 
@@ -239,10 +244,12 @@ pub refused_so : (waves : List Wave) (name listen bytes : List ℕ) (limit : ℕ
     → answer_of (Err f) ≡ text_verdict (length waves) bytes → PrintsEnding (line_alone (status_of_fault f)) s out out_new
     → EndsSo (verdict_of_serve waves name listen limit bytes) s out out_new wire wire
 refused_so waves name listen bytes limit fault.Syntax s out out_new wire is printed =
-    let P : TextVerdict → Type 0 = λ v. EndsSo (verdict_of_served (record { listen = listen; name = name; first = bytes }) waves limit v) s out out_new wire wire in
+    let P : TextVerdict → Type 0 = λ v. EndsSo (verdict_of_served (record { listen = listen; name = name; first = bytes }) waves limit v) s out out_new wire
+    wire in
     subst P is (printed, refl)
 refused_so waves name listen bytes limit (fault.Rule number item) s out out_new wire is printed =
-    let P : TextVerdict → Type 0 = λ v. EndsSo (verdict_of_served (record { listen = listen; name = name; first = bytes }) waves limit v) s out out_new wire wire in
+    let P : TextVerdict → Type 0 = λ v. EndsSo (verdict_of_served (record { listen = listen; name = name; first = bytes }) waves limit v) s out out_new wire
+    wire in
     subst P is (printed, refl)
 
 -- what is served of an accepted description
@@ -250,11 +257,13 @@ abbrev pub service_of : List Wave → List ℕ → List ℕ → List ℕ → ℕ
 service_of waves name listen bytes limit d =
     record { start = record { listen = listen; name = name; first = bytes }; description = d; waves = waves; limit = limit }
 
-pub served_so : (waves : List Wave) (name listen bytes : List ℕ) (limit : ℕ) (d : Description) (s : Status) (out out_new : SinkState) (wire wire_new : WireHistory)
+pub served_so : (waves : List Wave) (name listen bytes : List ℕ) (limit : ℕ) (d : Description) (s : Status) (out out_new : SinkState)
+    (wire wire_new : WireHistory)
     → Described d ≡ text_verdict (length waves) bytes → EndsService (service_of waves name listen bytes limit d) s out out_new wire wire_new
     → EndsSo (verdict_of_serve waves name listen limit bytes) s out out_new wire wire_new
 served_so waves name listen bytes limit d s out out_new wire wire_new is h =
-    let P : TextVerdict → Type 0 = λ v. EndsSo (verdict_of_served (record { listen = listen; name = name; first = bytes }) waves limit v) s out out_new wire wire_new in
+    let P : TextVerdict → Type 0 = λ v. EndsSo (verdict_of_served (record { listen = listen; name = name; first = bytes }) waves limit v) s out out_new wire
+    wire_new in
     subst P is h
 
 -- the verdict of the reader is that of the text

@@ -21,7 +21,8 @@ what_fits : (what : ClientTask) → fits_what what ≡ true → FitsClientTask w
 what_fits ask.Info h = tt
 what_fits ask.State h = tt
 what_fits ask.List h = tt
-what_fits (ask.Control ads device) h = let both = and_parts (nat_le ads 65535) (nat_le device 65535) h in (leb-true ads 65535 both.0, leb-true device 65535 both.1)
+what_fits (ask.Control ads device) h = let both = and_parts (nat_le ads 65535) (nat_le device 65535) h in
+    (leb-true ads 65535 both.0, leb-true device 65535 both.1)
 what_fits (ask.Get name) h = leb-true (length name) 65536 h
 what_fits (ask.Show name) h = leb-true (length name) 65536 h
 what_fits (ask.Set name value) h =

@@ -21,7 +21,8 @@ use Rattle.type_layout.specs.declared.port.SymbolDesc.{SymbolDesc}
 use Rattle.type_layout.specs.declared.description.Description.{Description}
 use Rattle.ads_run.specs.Told.{CanBeTold}
 
-found : (test : NamedType → Bool) (types : List NamedType) (place : ℕ) (o : Option NamedType) → slice_get types place ≡ o → option_map_or test o false ≡ true → place < length types
+found : (test : NamedType → Bool) (types : List NamedType) (place : ℕ) (o : Option NamedType) → slice_get types place ≡ o → option_map_or test o false ≡ true
+    → place < length types
 found test types place None is e = absurd (false≢true e)
 found test types place (Some t) is e = slice_get_within types place t is
 
@@ -46,12 +47,15 @@ second_of_seven a b c d e f g h =
 first_of_three : (a b c : Bool) → (a && b && c) ≡ true → a ≡ true
 first_of_three a b c h = (and_parts a b (and_parts (a && b) c h).0).0
 
-symbol_there : (types : List NamedType) (sizes : Sizes) (signals : ℕ) (s : SymbolDesc) → is_symbol types sizes signals (symbol_of s) ≡ true → NamesThere types (shape_of s.kind)
+symbol_there : (types : List NamedType) (sizes : Sizes) (signals : ℕ) (s : SymbolDesc) → is_symbol types sizes signals (symbol_of s) ≡ true
+    → NamesThere types (shape_of s.kind)
 symbol_there types sizes signals s e = names_there types (shape_of s.kind) (first_of_three _ _ _ (second_of_seven _ _ _ _ _ _ _ e))
 
-symbols_there : (types : List NamedType) (sizes : Sizes) (signals : ℕ) (ss : List SymbolDesc) → list_all (is_symbol types sizes signals) (symbols_of ss) ≡ true → All (λ (s : SymbolDesc). NamesThere types (shape_of s.kind)) ss
+symbols_there : (types : List NamedType) (sizes : Sizes) (signals : ℕ) (ss : List SymbolDesc)
+    → list_all (is_symbol types sizes signals) (symbols_of ss) ≡ true → All (λ (s : SymbolDesc). NamesThere types (shape_of s.kind)) ss
 symbols_there types sizes signals ss e =
-    let each = AllPass-from_list_all (λ s. is_symbol types sizes signals (symbol_of s)) ss (sym (list_all-map (is_symbol types sizes signals) symbol_of ss) ∙ e) in
+    let each = AllPass-from_list_all (λ s. is_symbol types sizes signals (symbol_of s)) ss
+    (sym (list_all-map (is_symbol types sizes signals) symbol_of ss) ∙ e) in
     λ k d below. symbol_there types sizes signals (slice_index_or ss k d) (each k d below)
 
 -- the last four of six tests
@@ -73,7 +77,8 @@ port_told types signals p h =
     let number = nat_lt 0 (port_of p).number && nat_le (port_of p).number 65535 in
     let apart = all_pairs are_two_names (symbols_of p.symbols) && all_pairs (are_apart types) (symbols_of p.symbols) in
     let parts = last_four number (are_facts (port_of p).facts) _ _ apart _ h in
-    let symbols = and_parts (nat_le (length (symbols_of p.symbols)) 10000) (list_all (is_symbol types (sizes_of p.sizes) signals) (symbols_of p.symbols)) parts.fourth in
+    let symbols = and_parts (nat_le (length (symbols_of p.symbols)) 10000) (list_all (is_symbol types (sizes_of p.sizes) signals) (symbols_of p.symbols))
+    parts.fourth in
     record {
       names = symbols_there types (sizes_of p.sizes) signals p.symbols symbols.1;
       image = leb-true _ _ parts.third;
@@ -84,5 +89,6 @@ port_told types signals p h =
 pub each_told : (signals : ℕ) (d : Description) → IsAccepted (description_of d) signals → All (CanBeTold (types_of d.types)) d.ports
 each_told signals d accepted =
     let types = types_of d.types in
-    let each = AllPass-from_list_all (λ p. is_port types signals (port_of p)) d.ports (sym (list_all-map (is_port types signals) port_of d.ports) ∙ accepted.each_port) in
+    let each = AllPass-from_list_all (λ p. is_port types signals (port_of p)) d.ports
+    (sym (list_all-map (is_port types signals) port_of d.ports) ∙ accepted.each_port) in
     λ k x below. port_told types signals (slice_index_or d.ports k x) (each k x below)

@@ -1,8 +1,6 @@
 -- What a client's call leaves in the link and in the sink, and with which status it ends.
 use Rattle.std.specs.Prelude.{◌≡◌, ◌⊎◌, ℕ, List, Some, Result, Ok, Err}
 use Rattle.ads_base.specs.declared.no_memory.NoMemory.{NoMemory}
-use Rattle.ads_outside.specs.declared.link_move.LinkMove.{LinkMove}
-use Rattle.ads_outside.specs.LinkState.{LinkState}
 use Rattle.ads_outside.specs.Puts.{Appends, AppendsPart}
 use Rattle.ads_outside.specs.Rose.{Rose}
 use Rattle.ads_outside.specs.SinkState.{SinkState, NeverFalls}
@@ -19,12 +17,13 @@ use Rattle.ads_run.specs.declared.status.Status.TheVariants as status
 use Rattle.ads_run.specs.Asking.{LocalCalling, peer_of_local}
 use Rattle.ads_run.specs.Ending.{line_alone}
 use Rattle.ads_run.specs.Prints.{PutsMemoryLine, PrintsEnding}
+use Rattle.ads_run.specs.Uses.{LinkUse}
 
 -- the status of a call that ended so
 abbrev pub status_of_call : CallEnd → Status
 status_of_call Done = status.Done
 status_of_call (Refused code) = status.Refused code
-status_of_call (BadPeer peer) = status.BadPeer
+status_of_call (BadPeer broke) = status.BadPeer broke
 status_of_call BadValue = status.BadValue
 status_of_call (TimedOut sent now) = status.TimedOut sent now
 
@@ -39,13 +38,6 @@ PrintsAnswer (Ok end.Budget) s old new = PrintsEnding (line_alone status.Budget)
 PrintsAnswer (Ok end.LinkFault) s old new = PrintsEnding (line_alone status.LinkFault) s old new
 PrintsAnswer (Ok end.WriteFault) s old new = (s ≡ status.WriteFault) × (new ≡ old)
 PrintsAnswer (Err e) s old new = (s ≡ status.Memory) × PutsMemoryLine old new
-
--- a link before a run and behind it: which logs it may be told, its moment and counts
-pub record LinkUse (O : Type 0) : Type 1 where
-  pub told : O → List LinkMove → Type 0
-  pub tells : O → List LinkMove → Type 0
-  pub old : LinkState
-  pub new : LinkState
 
 -- a call over the link, and its last line
 pub record EndsCall {O : Type 0} (x : Calling) (s : Status) (out out_new : SinkState) (link : LinkUse O) : Type 0 where
@@ -88,6 +80,3 @@ pub record EndsLocalCall (x : LocalCalling) (s : Status) (out out_new : SinkStat
   pub called : AfterLocal answer x out between
   pub later : NeverFalls out between
   pub prints : PrintsAnswer answer s between out_new
-
-abbrev pub used : {O : Type 0} → (O → List LinkMove → Type 0) → (O → List LinkMove → Type 0) → LinkState → LinkState → LinkUse O
-used told tells old new = record { told = told; tells = tells; old = old; new = new }

@@ -1,9 +1,8 @@
--- Why a run ended so, by the counts of the wire and of the link; and how a run ends where nothing fails.
+-- Why a run ended so, by the counts of what it is handed in; and how a run ends where nothing fails.
 use Rattle.std.specs.Prelude.{◌≡◌, ◌⊎◌, ◌<◌, ℕ, Bool, true, false, List, Option, Some, None}
 use Rattle.ads_outside.specs.FilesState.{FilesState}
 use Rattle.ads_outside.specs.LinkState.{LinkState}
 use Rattle.ads_outside.specs.Rose.{Rose, raised}
-use Rattle.ads_outside.specs.SinkState.{SinkState}
 use Rattle.ads_outside.specs.WireState.{WireHistory}
 use Rattle.serve_loop.specs.TurnTaken.{raised_by}
 use Rattle.spec_client.specs.Conversation.{LinkAnswer, LoopEnd}
@@ -20,6 +19,7 @@ use Rattle.ads_run.specs.declared.task.Task.{Task}
 use Rattle.ads_run.specs.declared.task.Task.TheVariants as task
 use Rattle.ads_run.specs.Asking.{LocalCalling, call_asked, own_address, asked_address}
 use Rattle.ads_run.specs.Calling.{status_of_loop, local_conversation}
+use Rattle.ads_run.specs.Uses.{Uses}
 use Rattle.ads_run.specs.Verdict.{Verdict, Ends, Serves, Calls, CallsLocally}
 
 -- whether a task is served over a wire
@@ -51,13 +51,20 @@ pub record FailsOfWire (limit : ℕ) (old new : WireHistory) : Type 0 where
   pub fewer : (count ≡ 0) ⊎ (count < limit)
   pub events : new.events ≡ raised_by count old.events
 
+-- only a command that keeps values on a disk or samples in a keeper ends so
+abbrev pub IsNoStoreEnd : Status → Type 0
+IsNoStoreEnd status.StoreFault = ⊥
+IsNoStoreEnd status.StoreLimit = ⊥
+IsNoStoreEnd status.KeeperFault = ⊥
+IsNoStoreEnd s = Unit {0}
+
 -- only a client's call ends so
 abbrev pub IsNoCallEnd : Status → Type 0
 IsNoCallEnd (status.Refused code) = ⊥
-IsNoCallEnd status.BadPeer = ⊥
+IsNoCallEnd (status.BadPeer broke) = ⊥
 IsNoCallEnd (status.TimedOut sent now) = ⊥
 IsNoCallEnd status.BadValue = ⊥
-IsNoCallEnd s = Unit {0}
+IsNoCallEnd s = IsNoStoreEnd s
 
 -- why a service of so many events ended so
 abbrev pub CauseOfService : ℕ → Status → WireHistory → WireHistory → Type 0
@@ -92,18 +99,19 @@ CauseOfCall x s old new = IsEndOfCall x s new
 -- in the same process no link fails
 abbrev pub IsNoLinkEnd : Status → Type 0
 IsNoLinkEnd status.LinkFault = ⊥
-IsNoLinkEnd s = Unit {0}
+IsNoLinkEnd s = IsNoStoreEnd s
 
 abbrev pub CauseOfAsking : ClientTask → ClientWords → PeerWords → Status → LinkState → LinkState → Type 0
 CauseOfAsking what client (peer.To to net) s old new =
     CauseOfCall (calling (own_address client) (asked_address net client) (call_asked what) to) s old new
 CauseOfAsking what client (peer.Local description) s old new = IsNoLinkEnd s
 
-abbrev pub HasCause : Option Task → Status → WireHistory → WireHistory → LinkState → LinkState → Type 0
-HasCause None s old new link link_new = IsNoServiceEnd s
-HasCause (Some (task.OfFiles t)) s old new link link_new = IsNoServiceEnd s
-HasCause (Some (task.Serve description listen events)) s old new link link_new = CauseOfService events s old new
-HasCause (Some (task.Ask what client)) s old new link link_new = CauseOfAsking what client client.peer s link link_new
+-- why a run of a task ended so
+abbrev pub HasCause : {O : Type 0} → Option Task → Status → Uses O → Type 0
+HasCause None s u = IsNoServiceEnd s
+HasCause (Some (task.OfFiles t)) s u = IsNoServiceEnd s
+HasCause (Some (task.Serve description listen events)) s u = CauseOfService events s u.wire u.wire_new
+HasCause (Some (task.Ask what client)) s u = CauseOfAsking what client client.peer s u.link.old u.link.new
 
 -- the words, the description or the script decided, or a file could not be read
 abbrev pub IsBeforeRun : Status → Type 0
@@ -114,13 +122,14 @@ IsBeforeRun status.ReadFault = Unit {0}
 IsBeforeRun status.TooLong = Unit {0}
 IsBeforeRun s = ⊥
 
--- no reading, no piece of output, no start of the wire, no event and no call of the link failed
-pub record NothingFailed (files files_new : FilesState) (out out_new : SinkState) (wire wire_new : WireHistory)
-    (link link_new : LinkState) : Type 0 where
+-- no reading, no piece of output, no start of the wire, no event and no call of the link, the disk or the keeper failed
+pub record NothingFailed {O : Type 0} (files files_new : FilesState) (u : Uses O) : Type 0 where
   pub reading : Rose files.faults files_new.faults → ⊥
-  pub writing : Rose out.faults out_new.faults → ⊥
-  pub serving : Rose wire.stops wire_new.stops → ⊥
-  pub talking : Rose link.faults link_new.faults → ⊥
+  pub writing : Rose u.out.faults u.out_new.faults → ⊥
+  pub serving : Rose u.wire.stops u.wire_new.stops → ⊥
+  pub talking : Rose u.link.old.faults u.link.new.faults → ⊥
+  pub storing : Rose u.disk.faults u.disk.faults_new → ⊥
+  pub keeping : Rose u.keeper.old.faults u.keeper.new.faults → ⊥
 
 -- the status is that of the call over the server in the same process
 pub record IsEndOfLocal (x : LocalCalling) (s : Status) : Type 0 where
@@ -131,8 +140,8 @@ pub record IsEndOfLocal (x : LocalCalling) (s : Status) : Type 0 where
 
 -- how a run ends where nothing failed: as its verdict says, or a service is done or took all its events, or a call is
 -- over as its conversation is; or memory was wanting
-abbrev pub IsOwnEnd : Verdict → Status → LinkState → Type 0
-IsOwnEnd (Ends ending) s link_new = (s ≡ ending.status) ⊎ (s ≡ status.Memory)
-IsOwnEnd (Serves service) s link_new = (s ≡ status.Done) ⊎ (s ≡ status.Budget) ⊎ (s ≡ status.Memory)
-IsOwnEnd (Calls x) s link_new = IsEndOfCall x s link_new ⊎ (s ≡ status.Memory)
-IsOwnEnd (CallsLocally x) s link_new = IsEndOfLocal x s ⊎ (s ≡ status.Memory)
+abbrev pub IsOwnEnd : {O : Type 0} → Verdict → Status → Uses O → Type 0
+IsOwnEnd (Ends ending) s u = (s ≡ ending.status) ⊎ (s ≡ status.Memory)
+IsOwnEnd (Serves service) s u = (s ≡ status.Done) ⊎ (s ≡ status.Budget) ⊎ (s ≡ status.Memory)
+IsOwnEnd (Calls x) s u = IsEndOfCall x s u.link.new ⊎ (s ≡ status.Memory)
+IsOwnEnd (CallsLocally x) s u = IsEndOfLocal x s ⊎ (s ≡ status.Memory)

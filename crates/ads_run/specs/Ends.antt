@@ -1,12 +1,13 @@
--- How a run may end, and what it leaves in the sink, in the wire and in the link.
+-- How a run may end, and what it leaves outside.
 use Rattle.std.specs.Prelude.{◌≡◌, ◌⊎◌}
 use Rattle.ads_outside.specs.SinkState.{SinkState}
 use Rattle.ads_outside.specs.WireState.{WireHistory}
 use Rattle.ads_run.specs.declared.status.Status.{Status}
 use Rattle.ads_run.specs.declared.status.Status.TheVariants as status
-use Rattle.ads_run.specs.Calling.{LinkUse, EndsCall, EndsLocalCall}
+use Rattle.ads_run.specs.Calling.{EndsCall, EndsLocalCall}
 use Rattle.ads_run.specs.Prints.{PutsMemoryLine, PrintsEnding}
 use Rattle.ads_run.specs.Serving.{EndsService}
+use Rattle.ads_run.specs.Uses.{Uses}
 use Rattle.ads_run.specs.Verdict.{Verdict, Ends, Serves, Calls, CallsLocally, ended}
 
 -- memory was wanting before anything was called
@@ -39,13 +40,11 @@ AsksBy verdict reading_failed s out out_new =
     AsksSo verdict s out out_new ⊎ (reading_failed × AsksSo (ended status.ReadFault) s out out_new)
 
 -- a run with any verdict
-abbrev pub RunsSo : {O : Type 0} → Verdict → Status → SinkState → SinkState → WireHistory → WireHistory → LinkUse O → Type 0
-RunsSo (Ends ending) s out out_new wire wire_new link = PrintsEnding ending s out out_new × (wire_new ≡ wire)
-RunsSo (Serves service) s out out_new wire wire_new link = EndsService service s out out_new wire wire_new
-RunsSo (Calls x) s out out_new wire wire_new link = EndsCall x s out out_new link
-RunsSo (CallsLocally x) s out out_new wire wire_new link = EndsLocalCall x s out out_new
+abbrev pub RunsSo : {O : Type 0} → Verdict → Status → Uses O → Type 0
+RunsSo (Ends ending) s u = PrintsEnding ending s u.out u.out_new × (u.wire_new ≡ u.wire)
+RunsSo (Serves service) s u = EndsService service s u.out u.out_new u.wire u.wire_new
+RunsSo (Calls x) s u = EndsCall x s u.out u.out_new u.link
+RunsSo (CallsLocally x) s u = EndsLocalCall x s u.out u.out_new
 
-abbrev pub RunsBy : {O : Type 0} → Verdict → Type 0 → Status → SinkState → SinkState → WireHistory → WireHistory → LinkUse O → Type 0
-RunsBy verdict reading_failed s out out_new wire wire_new link =
-    RunsSo verdict s out out_new wire wire_new link
-    ⊎ (reading_failed × RunsSo (ended status.ReadFault) s out out_new wire wire_new link)
+abbrev pub RunsBy : {O : Type 0} → Verdict → Type 0 → Status → Uses O → Type 0
+RunsBy verdict reading_failed s u = RunsSo verdict s u ⊎ (reading_failed × RunsSo (ended status.ReadFault) s u)

@@ -15,7 +15,9 @@ pub mod Readings
 pub mod Migrated
 pub mod Prints
 pub mod Serving
+pub mod Uses
 pub mod Calling
 pub mod Ends
 pub mod Causes
 pub mod Outcomes
+pub mod Program

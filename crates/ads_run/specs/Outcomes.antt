@@ -73,9 +73,12 @@ IsOfFileTask status.LinkFault = ⊥
 IsOfFileTask status.Budget = ⊥
 IsOfFileTask status.Memory = ⊥
 IsOfFileTask (status.Refused code) = ⊥
-IsOfFileTask status.BadPeer = ⊥
+IsOfFileTask (status.BadPeer broke) = ⊥
 IsOfFileTask (status.TimedOut sent now) = ⊥
 IsOfFileTask status.BadValue = ⊥
+IsOfFileTask status.StoreFault = ⊥
+IsOfFileTask status.StoreLimit = ⊥
+IsOfFileTask status.KeeperFault = ⊥
 IsOfFileTask s = Unit {0}
 
 -- how a service ends, whose description is accepted

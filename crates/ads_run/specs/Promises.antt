@@ -1,10 +1,13 @@
 -- What a log promises: of a script's play over a description, with signals that begin so, or of what is served.
-use Rattle.std.specs.Prelude.{◌≡◌, ℕ, List, [], ◌++◌, ◌∷◌, false}
+use Rattle.std.specs.Prelude.{◌≡◌, ℕ, List, [], ◌++◌, ◌∷◌, length, false}
 use Rattle.signals.specs.Wave.{Wave}
 use Rattle.ads_outside.specs.declared.end.End.{End}
 use Rattle.ads_outside.specs.declared.end.End.TheVariants as end
+use Rattle.ads_outside.specs.declared.event.Event.TheVariants as event
 use Rattle.ads_outside.specs.declared.moves.Move.{Move}
+use Rattle.ads_outside.specs.declared.moves.Move.TheVariants as move
 use Rattle.spec_plant.specs.Description.{Description}
+use Rattle.spec_plant.specs.Accepted.{IsAccepted}
 use Rattle.spec_plant.specs.World.{ByteName, byte_at}
 use Rattle.spec_machine.specs.Offers.{taken_of}
 use Rattle.spec_machine.specs.Turns.{KeepsTurns}
@@ -16,6 +19,9 @@ use Rattle.spec_laws.specs.Isolation.{IsAmong}
 use Rattle.spec_laws.specs.ExactWrites.{writes_of_move, is_accepted_reload}
 use Rattle.spec_server.specs.Server.{read_description, server, server_start, server_after, server_output, server_play}
 use Rattle.spec_server.specs.ServerLaws.{IsUntouchedHere, ServerRefusesDeadHandles}
+use Rattle.spec_promises.specs.Written.{HoldsWrites}
+use Rattle.spec_promises.specs.Notified.{NotifiesAfter}
+use Rattle.spec_promises.specs.KeptHandles.{KeepsHandles}
 
 -- each connection takes the machine's frames in their order
 pub record GivesFramesInOrder (d : Description) (waves : List Wave) (log : List Move) : Type 0 where
@@ -51,6 +57,14 @@ pub record KeepsPromises (d : Description) (waves : List Wave) (log : List Move)
   pub isolated : (c : ℕ) → IsUntouchedHere d waves c log → IsServedAsAlone d waves c log
   -- an access by a handle that is not live is refused and touches nothing
   pub dead_handles : ServerRefusesDeadHandles
+  -- an accepted write is held: the bytes that it addresses are those that it carries, in their order, and the next read answers them
+  pub held : IsAccepted d (length waves) → (before after : List Move) (m : Move) → log ≡ before ++ m ∷ after
+      → HoldsWrites d waves before m
+  -- each notification gives samples as it was asked to, over its whole life
+  pub notified : (before after : List Move) → log ≡ before ++ after → NotifiesAfter d waves before after
+  -- a handle that is live before and after a reload reads the same
+  pub kept_handles : IsAccepted d (length waves) → (before after : List Move) (bytes : List ℕ)
+      → log ≡ before ++ move.Event (event.Reload bytes) ∷ after → KeepsHandles d waves before bytes
 
 -- the same of what it would be given alone, where the log may be cut off in mid-turn
 pub record BeginsAsAlone (d : Description) (waves : List Wave) (c : ℕ) (log : List Move) : Type 0 where
@@ -63,6 +77,14 @@ pub record KeepsPromisesSoFar (d : Description) (waves : List Wave) (log : List 
   pub writes : (before after : List Move) (m : Move) → log ≡ before ++ m ∷ after → ChangesByWrites d waves before m
   pub isolated : (c : ℕ) → IsUntouchedHere d waves c log → BeginsAsAlone d waves c log
   pub dead_handles : ServerRefusesDeadHandles
+  -- an accepted write is held: the bytes that it addresses are those that it carries, in their order, and the next read answers them
+  pub held : IsAccepted d (length waves) → (before after : List Move) (m : Move) → log ≡ before ++ m ∷ after
+      → HoldsWrites d waves before m
+  -- each notification gives samples as it was asked to, over its whole life
+  pub notified : (before after : List Move) → log ≡ before ++ after → NotifiesAfter d waves before after
+  -- a handle that is live before and after a reload reads the same
+  pub kept_handles : IsAccepted d (length waves) → (before after : List Move) (bytes : List ℕ)
+      → log ≡ before ++ move.Event (event.Reload bytes) ∷ after → KeepsHandles d waves before bytes
 
 -- what a log promises that ended so
 abbrev pub KeepsPromisesAt : End → Description → List Wave → List Move → Type 0

@@ -39,6 +39,8 @@ abbrev pub ReadsBoth : Status → Names → Names → List ℕ → List ℕ → 
 ReadsBoth status.Done old new description script = ReadsAll old new (description ∷ script ∷ [])
 ReadsBoth (status.BadScript n) old new description script = ReadsAll old new (description ∷ script ∷ [])
 ReadsBoth (status.BadDescription n item) old new description script = ReadsAll old new (description ∷ [])
+ReadsBoth status.StoreFault old new description script = ReadsAll old new (description ∷ script ∷ [])
+ReadsBoth status.StoreLimit old new description script = ReadsAll old new (description ∷ script ∷ [])
 ReadsBoth status.Memory old new description script = ReadsSome old new (description ∷ script ∷ [])
 ReadsBoth s old new description script = ReadsOneOrBoth old new description script
 
@@ -68,6 +70,20 @@ is_over_link (peer.Local description) = false
 abbrev pub asks_link : Option Task → Bool
 asks_link (Some (task.Ask what client)) = is_over_link client.peer
 asks_link t = false
+
+-- whether a task keeps values on a disk; no command that is built does
+abbrev pub asks_disk : Option Task → Bool
+asks_disk None = false
+asks_disk (Some (task.OfFiles t)) = false
+asks_disk (Some (task.Serve description listen events)) = false
+asks_disk (Some (task.Ask what client)) = false
+
+-- whether a task records samples in a keeper; no command that is built does
+abbrev pub asks_keeper : Option Task → Bool
+asks_keeper None = false
+asks_keeper (Some (task.OfFiles t)) = false
+asks_keeper (Some (task.Serve description listen events)) = false
+asks_keeper (Some (task.Ask what client)) = false
 
 abbrev pub reads_no_file : Option Task → Bool
 reads_no_file None = true

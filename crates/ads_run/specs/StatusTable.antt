@@ -1,7 +1,6 @@
 -- How each status ends the process: its number, and the last line that it prints. This project's own choice.
 use Rattle.std.specs.Prelude.{ℕ, List, [], ◌∷◌, ◌++◌, ◌==◌, if◌then◌else◌, codes}
 use Rattle.std.specs.Fmt.{decimal}
-use Rattle.ads_base.specs.declared.peer.Peer.TheVariants as peer
 use Rattle.spec_client.specs.EndLines.{status_of_end, last_line_of_end}
 use Rattle.spec_client.specs.Stages.{CallEnd, Refused, BadPeer, TimedOut, BadValue}
 use Rattle.spec_machine.specs.SummaryText.{counted}
@@ -38,11 +37,14 @@ row_of status.WriteFault = record { number = 5; line = [] }
 row_of status.LinkFault = record { number = 6; line = line (codes "ads: link fault") }
 row_of status.Budget = record { number = 7; line = line (codes "ads: budget") }
 row_of (status.Refused code) = row_of_end (Refused code)
-row_of status.BadPeer = row_of_end (BadPeer peer.Closed)
+row_of (status.BadPeer broke) = row_of_end (BadPeer broke)
 row_of (status.TimedOut sent now) = row_of_end (TimedOut sent now)
 row_of status.BadValue = row_of_end BadValue
 row_of status.Memory = record { number = 10; line = line (codes "ads: memory") }
 row_of status.TooLong = record { number = 12; line = line (codes "ads: file too long") }
+row_of status.StoreFault = record { number = 14; line = line (codes "ads: store fault") }
+row_of status.StoreLimit = record { number = 15; line = line (codes "ads: store limit") }
+row_of status.KeeperFault = record { number = 16; line = line (codes "ads: keeper fault") }
 
 abbrev pub number_of : Status → ℕ
 number_of s = (row_of s).number

@@ -12,17 +12,18 @@ ghost use Rattle.server_core.specs.CoreState.{started};
 ghost use Rattle.server_core.specs.Serves.{Serves};
 ghost use Rattle.signals.specs.Wave.{Wave};
 ghost use Rattle.ads_run.specs.Asking.{asked_address, call_asked, local_calling, own_address};
-ghost use Rattle.ads_run.specs.Calling.{EndsCall, EndsLocalCall, used};
+ghost use Rattle.ads_run.specs.Calling.{EndsCall, EndsLocalCall};
 ghost use Rattle.ads_run.specs.Ends.{AsksBy, AsksSo};
 ghost use Rattle.ads_run.specs.Fits.{FitsClient, FitsClientTask};
 ghost use Rattle.ads_run.specs.Outcomes.{IsNoReadFault};
 ghost use Rattle.ads_run.specs.Readings.{OverFile, ReadsOne};
+ghost use Rattle.ads_run.specs.Uses.{link_used};
 ghost use Rattle.ads_run.specs.Verdict.{verdict_of_file, verdict_of_local};
 
 use crate::call_end::print_answer;
 use crate::client_call::call_of;
 use crate::client_task::ClientTask;
-use crate::ending::{end_without_memory, print_and_end};
+use crate::ending::{end_without_memory, print_outcome};
 use crate::file::bytes_of_file;
 use crate::serve::refuse;
 use crate::status::Status;
@@ -55,7 +56,7 @@ pub fn ask_over_link<L: Link, S: Sink>(
     requires what { FitsClientTask what.now }
     requires client { FitsClient client.now }
     ensures ends { EndsCall (calling (own_address client.now) (asked_address net client.now) (call_asked what.now) to.now) result
-        (S.state out.old) (S.state out.new) (used (L.tells link.old) (L.tells link.new) (L.state link.old) (L.state link.new)) }
+        (S.state out.old) (S.state out.new) (link_used L.tells L.state link.old link.new) }
 {
     match call_of(alloc, what) {
         Err(NoMemory) => end_without_memory(out),
@@ -110,7 +111,7 @@ pub fn ask_locally<T: Threads + Sync, F: Files, S: Sink, G: Sources>(
 {
     match bytes_of_file(alloc, files, description) {
         Err(NoMemory) => end_without_memory(out),
-        Ok(Err(told)) => print_and_end(out, told.text.as_slice(), told.status),
+        Ok(Err(told)) => print_outcome(out, told),
         Ok(Ok(bytes)) => ask_text(rt, alloc, what, client, bytes.as_slice(), out, signals),
     }
 }

@@ -23,7 +23,7 @@ pub fn print_answer<S: Sink>(
     ensures { PrintsAnswer answer result (S.state out.old) (S.state out.new) }
 {
     match answer {
-        Ok(LoopEnd::Call(end)) => print_line(alloc, status_of_end(&end), out),
+        Ok(LoopEnd::Call(end)) => print_line(alloc, status_of_end(end), out),
         Ok(LoopEnd::Budget) => print_line(alloc, Status::Budget, out),
         Ok(LoopEnd::LinkFault) => print_and_end(out, LINK_FAULT_LINE, Status::LinkFault),
         Ok(LoopEnd::WriteFault) => Status::WriteFault,
@@ -31,18 +31,15 @@ pub fn print_answer<S: Sink>(
     }
 }
 
-fn status_of_end(end: &CallEnd) -> Status
-    ensures { result ≡ status_of_call (end_meant end.now) }
+fn status_of_end(end: CallEnd) -> Status
+    ensures { result ≡ status_of_call (end_meant end) }
 {
     match end {
         CallEnd::Done => Status::Done,
-        CallEnd::Refused(code) => Status::Refused(*code),
-        CallEnd::BadPeer(_) => Status::BadPeer,
+        CallEnd::Refused(code) => Status::Refused(code),
+        CallEnd::BadPeer(broke) => Status::BadPeer(broke),
         CallEnd::BadValue => Status::BadValue,
-        CallEnd::TimedOut { sent, now } => Status::TimedOut {
-            sent: *sent,
-            now: *now,
-        },
+        CallEnd::TimedOut { sent, now } => Status::TimedOut { sent, now },
     }
 }
 
@@ -50,7 +47,7 @@ fn status_of_end(end: &CallEnd) -> Status
 fn print_line<S: Sink>(alloc: Global, status: Status, out: &mut S) -> Status
     ensures { PrintsEnding (line_alone status) result (S.state out.old) (S.state out.new) }
 {
-    match last_line(alloc, status) {
+    match last_line(alloc, &status) {
         Ok(line) => print_and_end(out, line.as_slice(), status),
         Err(NoMemory) => end_without_memory(out),
     }

@@ -14,7 +14,7 @@ ghost use Rattle.ads_run.specs.Readings.{OverFile, OverFiles, ReadsFilesOf, asks
 ghost use Rattle.ads_run.specs.Outcomes.{Decides, IsOfFileTask};
 
 use crate::check::check;
-use crate::ending::{end_without_memory, print_and_end};
+use crate::ending::{end_without_memory, print_outcome};
 use crate::file::bytes_of_file;
 use crate::file_task::FileTask;
 use crate::load::load;
@@ -51,7 +51,7 @@ pub fn print_file_task<T: Threads + Sync, F: Files, S: Sink, G: Sources>(
     ensures unread { asks_no_file task.now ≡ true → files.new ≡ files.old }
 {
     match outcome_of_task(rt, alloc, task, signals, files) {
-        Ok(outcome) => print_and_end(out, outcome.text.as_slice(), outcome.status),
+        Ok(outcome) => print_outcome(out, outcome),
         Err(NoMemory) => end_without_memory(out),
     }
 }

@@ -4,6 +4,7 @@ ghost use Rattle.std.specs.Prelude.{◌≡◌};
 ghost use Rattle.ads_run.specs.Prints.{PrintsEnding, PutsMemoryLine};
 
 use crate::last_line::MEMORY_LINE;
+use crate::outcome::Outcome;
 use crate::status::Status;
 use ads_outside::{Put, Sink};
 
@@ -19,6 +20,14 @@ pub fn print_and_end<S: Sink>(out: &mut S, text: &[u8], status: Status) -> Statu
         Put::Failed => Status::WriteFault,
         Put::Memory => end_without_memory(out),
     }
+}
+
+/// Prints the text of an outcome and ends with its status, or with what the sink answers.
+pub fn print_outcome<S: Sink>(out: &mut S, outcome: Outcome) -> Status
+    ensures { PrintsEnding (record { status = outcome.status; text = outcome.text }) result (S.state out.old) (S.state out.new) }
+{
+    let Outcome { status, text } = outcome;
+    print_and_end(out, text.as_slice(), status)
 }
 
 /// Ends with want of memory: its line may be cut or missing.

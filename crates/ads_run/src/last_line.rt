@@ -23,26 +23,29 @@ pub const LINK_FAULT_LINE: &[u8] = b"ads: link fault\n";
 pub const MEMORY_LINE: &[u8] = b"ads: memory\n";
 
 /// The last line of a status; no bytes where it has none.
-pub fn last_line(alloc: Global, status: Status) -> Result<Octets, NoMemory>
-    ensures { IfOk result (λ line. line ≡ last_line_of status) }
+pub fn last_line(alloc: Global, status: &Status) -> Result<Octets, NoMemory>
+    ensures { IfOk result (λ line. line ≡ last_line_of status.now) }
 {
     let text = match status {
         Status::Done => b"".as_slice(),
         Status::Usage => USAGE_LINE,
         Status::BadDescription { number, item } => {
-            return bad_description_line(alloc, number, item);
+            return bad_description_line(alloc, *number, *item);
         }
-        Status::BadScript(number) => return bad_script_line(alloc, number),
+        Status::BadScript(number) => return bad_script_line(alloc, *number),
         Status::ReadFault => b"ads: read fault\n".as_slice(),
         Status::WriteFault => b"".as_slice(),
         Status::LinkFault => LINK_FAULT_LINE,
         Status::Budget => b"ads: budget\n".as_slice(),
-        Status::Refused(code) => return refused_line(alloc, code),
-        Status::BadPeer => b"ads: bad peer\n".as_slice(),
+        Status::Refused(code) => return refused_line(alloc, *code),
+        Status::BadPeer(_) => b"ads: bad peer\n".as_slice(),
         Status::Memory => MEMORY_LINE,
-        Status::TimedOut { sent, now } => return timed_out_line(alloc, sent, now),
+        Status::TimedOut { sent, now } => return timed_out_line(alloc, *sent, *now),
         Status::TooLong => b"ads: file too long\n".as_slice(),
         Status::BadValue => b"ads: bad value\n".as_slice(),
+        Status::StoreFault => b"ads: store fault\n".as_slice(),
+        Status::StoreLimit => b"ads: store limit\n".as_slice(),
+        Status::KeeperFault => b"ads: keeper fault\n".as_slice(),
     };
     Octets::copy_of(alloc, text)
 }

@@ -1,5 +1,5 @@
-//! The server's and the client's commands as a library: `run` over any files, any wire, any link and any sink, and the
-//! run over the real ones.
+//! The server's and the client's commands as a library: `run` over any files, wire, link, sink, disk and keeper, and
+//! `run_program` over the words of a process and the signals that the program has.
 #![tactic(auto)]
 
 mod ask;
@@ -31,8 +31,9 @@ mod summary;
 mod task;
 mod top_call;
 
+pub use crate::ending::end_without_memory;
 pub use crate::laws::logs_in_turns_keep_promises;
-pub use crate::program::{run_program, status_of};
+pub use crate::program::run_program;
 pub use crate::program_signals::ProgramSignals;
 pub use crate::status::Status;
 pub use crate::top_call::run;

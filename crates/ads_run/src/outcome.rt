@@ -20,6 +20,6 @@ pub struct Outcome {
 pub fn ended(alloc: Global, status: Status) -> Result<Outcome, NoMemory>
     ensures { IfOk result (λ o. IsOutcome (verdict_ended status) o) }
 {
-    let text = last_line(alloc, status)?;
+    let text = last_line(alloc, &status)?;
     Ok(Outcome { status, text })
 }

@@ -12,7 +12,7 @@ ghost use Rattle.ads_run.specs.Readings.{OverFile, ReadsOne};
 ghost use Rattle.ads_run.specs.Verdict.{verdict_of_file, verdict_of_serve};
 
 use crate::check::bad_description;
-use crate::ending::{end_without_memory, print_and_end};
+use crate::ending::{end_without_memory, print_outcome};
 use crate::file::bytes_of_file;
 use crate::serving::start_and_run;
 use crate::status::Status;
@@ -49,7 +49,7 @@ pub fn serve<T: Threads + Sync, F: Files, W: Wire, S: Sink, G: Sources>(
 {
     match bytes_of_file(alloc, files, description) {
         Err(NoMemory) => end_without_memory(out),
-        Ok(Err(told)) => print_and_end(out, told.text.as_slice(), told.status),
+        Ok(Err(told)) => print_outcome(out, told),
         Ok(Ok(bytes)) => serve_text(
             rt,
             alloc,
@@ -107,7 +107,7 @@ pub fn refuse<S: Sink>(alloc: Global, fault: DescFault, out: &mut S) -> Status
     ensures { PrintsEnding (line_alone (status_of_fault fault)) result (S.state out.old) (S.state out.new) }
 {
     match bad_description(alloc, fault) {
-        Ok(told) => print_and_end(out, told.text.as_slice(), told.status),
+        Ok(told) => print_outcome(out, told),
         Err(NoMemory) => end_without_memory(out),
     }
 }

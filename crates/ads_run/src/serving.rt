@@ -100,7 +100,7 @@ fn print_summary<S: Sink, G: Sources>(
     ensures prints { (x : Standing World Client) → StandsAt core.now x
         → PrintsEnding (counts_and_line x.running.state status) result (S.state out.old) (S.state out.new) }
 {
-    match summary_and_line(alloc, core, status) {
+    match summary_and_line(alloc, core, &status) {
         Ok(text) => print_and_end(out, text.as_slice(), status),
         Err(NoMemory) => end_without_memory(out),
     }

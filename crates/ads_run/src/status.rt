@@ -2,8 +2,10 @@
 
 ghost use Rattle.std.specs.Prelude.{◌≡◌};
 
+use ads_base::Peer;
+
 /// The status with which the program ends.
-#[derive(Clone, Copy, Debug, PartialEq, Eq)]
+#[derive(Debug, Drop)]
 pub enum Status {
     /// The command ended.
     Done,
@@ -23,8 +25,8 @@ pub enum Status {
     Budget,
     /// An answer to a request of a client had this AMS error or, that being 0, this result.
     Refused(u32),
-    /// A peer broke the protocol, or closed the connection before the call was over.
-    BadPeer,
+    /// A peer broke the protocol, or closed the connection before the call was over: what it did.
+    BadPeer(Peer),
     /// No answer came: the moments of the request and of the tick by which it timed out.
     TimedOut { sent: u64, now: u64 },
     /// The text is no value of the symbol.
@@ -33,14 +35,20 @@ pub enum Status {
     Memory,
     /// A file has more than 16,777,216 bytes.
     TooLong,
+    /// The disk that values are kept on failed.
+    StoreFault,
+    /// What is to be kept is above a limit of the store: a body of 1,048,576 bytes, or the last number of a save or a row.
+    StoreLimit,
+    /// The keeper of recorded samples failed.
+    KeeperFault,
 }
 
 impl Status {
     ghost use Rattle.ads_run.specs.StatusTable.{number_of};
 
     /// The exit status of the process.
-    pub fn number(self) -> u8
-        ensures { result ≡ number_of self }
+    pub fn number(&self) -> u8
+        ensures { result ≡ number_of self.now }
     {
         match self {
             Status::Done => 0,
@@ -52,11 +60,14 @@ impl Status {
             Status::LinkFault => 6,
             Status::Budget => 7,
             Status::Refused(_) => 8,
-            Status::BadPeer => 9,
+            Status::BadPeer(_) => 9,
             Status::Memory => 10,
             Status::TimedOut { .. } => 11,
             Status::TooLong => 12,
             Status::BadValue => 13,
+            Status::StoreFault => 14,
+            Status::StoreLimit => 15,
+            Status::KeeperFault => 16,
         }
     }
 }

@@ -34,10 +34,10 @@ pub fn put_summary<S: Sources>(
 pub fn summary_and_line<S: Sources>(
     alloc: Global,
     core: &Core<S>,
-    status: Status,
+    status: &Status,
 ) -> Result<Octets, NoMemory>
     ensures { IfOk result (λ text. (x : Standing World Client) → StandsAt core.now x
-        → text ≡ summary_text_of (summary_of x.running.state) ++ last_line_of status) }
+        → text ≡ summary_text_of (summary_of x.running.state) ++ last_line_of status.now) }
 {
     let mut text = Octets::new(alloc);
     put_summary(alloc, core, &mut text)?;

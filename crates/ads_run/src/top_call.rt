@@ -4,7 +4,6 @@ ghost use Rattle.std.specs.Prelude.{◌<◌, ◌^◌, ◌≡◌, ◌≢◌, leng
 ghost use Rattle.ads_outside.specs.Rose.{Rose};
 ghost use Rattle.spec_plant.specs.Description as plant;
 ghost use Rattle.spec_machine.specs.ScriptLine.{ScriptLine};
-ghost use Rattle.ads_run.specs.Calling.{used};
 ghost use Rattle.ads_run.specs.Causes.{HasCause, IsBeforeRun, IsOwnEnd, NothingFailed, is_service};
 ghost use Rattle.ads_run.specs.Ending.{line_alone};
 ghost use Rattle.ads_run.specs.Ends.{RunsBy};
@@ -12,8 +11,9 @@ ghost use Rattle.ads_run.specs.Fits.{FitsTask};
 ghost use Rattle.ads_run.specs.Migrated.{HasMigrated};
 ghost use Rattle.ads_run.specs.Prints.{PrintsEnding};
 ghost use Rattle.ads_run.specs.Promises.{PlayKeepsPromises};
-ghost use Rattle.ads_run.specs.Readings.{OverFiles, ReadsFiles, asks_link, reads_no_file};
+ghost use Rattle.ads_run.specs.Readings.{OverFiles, ReadsFiles, asks_disk, asks_keeper, asks_link, reads_no_file};
 ghost use Rattle.ads_run.specs.Tasks.{asked_task};
+ghost use Rattle.ads_run.specs.Uses.{disk_used, keeper_used, link_used, uses};
 ghost use Rattle.ads_run.specs.Verdict.{verdict_of, verdict_of_task};
 
 use crate::ask::{ask_locally, ask_over_link};
@@ -26,12 +26,14 @@ use crate::task::{Task, task_asked};
 use ads_base::NoMemory;
 use ads_outside::{Files, Link, Sink, Wire};
 use cli_words::PeerWords;
+use persist_store::Disk;
+use sample_store::Keeper;
 use server_core::Sources;
 use std::alloc::Global;
 use std::thread::Threads;
 
-/// Runs the command of some words over files, a wire, a link and a sink, and says how it ended. A description may name the
-/// signals, which are numbered from 0.
+/// Runs the command of some words over files, a wire, a link, a sink, a disk and a keeper, and says how it ended. A
+/// description may name the signals, which are numbered from 0.
 ///
 /// | status | comes |
 /// |---|---|
@@ -44,16 +46,18 @@ use std::thread::Threads;
 /// | LinkFault | the wire could not be started, or gave no further event; or the link failed |
 /// | Budget | as many events were taken as `serve` was to take, or too many answers of the link were waited for |
 /// | Refused | an answer to a request of a client had this AMS error or, that being 0, this result |
-/// | BadPeer | a peer broke the protocol, or closed the connection before the call was over |
+/// | BadPeer | a peer broke the protocol, or closed the connection before the call was over: what it did |
 /// | Memory | memory was wanting |
 /// | TimedOut | a request that was sent at the first moment had no answer at the second, 5 s later |
 /// | TooLong | a file has more than 16,777,216 bytes |
 /// | BadValue | the text of `set` is no value of the symbol |
+/// | StoreFault, StoreLimit | the disk failed; what is to be kept is above a limit of the store: of no command that is built |
+/// | KeeperFault | the keeper failed: of no command that is built |
 ///
 /// Each status but Done, WriteFault and Memory prints its last line. Before it `serve` prints `listening` once the wire
 /// is started, and its summary at Done and Budget, and a client command what its call prints; all else that ends with
 /// another status than Done prints nothing else.
-pub fn run<T: Threads + Sync, F: Files, W: Wire, L: Link, S: Sink, G: Sources>(
+pub fn run<T: Threads + Sync, F: Files, W: Wire, L: Link, S: Sink, D: Disk, K: Keeper, G: Sources>(
     rt: &T,
     alloc: Global,
     words: &[String],
@@ -61,16 +65,20 @@ pub fn run<T: Threads + Sync, F: Files, W: Wire, L: Link, S: Sink, G: Sources>(
     wire: &mut W,
     link: &mut L,
     out: &mut S,
+    disk: &mut D,
+    keeper: &mut K,
     signals: G,
 ) -> Status
     requires signals { length (G.waves signals) < 2 ^ 32 }
-    // The status, all that is printed and what is left of the wire and of the link, by the bytes that the files hold, the
-    // waves of the signals, for `serve` the moves of the wire, which keep what a played script promises, and for a client
-    // the answers of the link; where the files are not told, by some bytes at each reading.
+    // The status, all that is printed and what is left of all that is handed in, by the bytes that the files hold, the waves
+    // of the signals, for `serve` the moves of the wire, which keep what a played script promises, and for a client the
+    // answers of the link; where the files are not told, by some bytes at each reading.
     ensures ends { OverFiles (F.state files.old).held (λ first second.
-        RunsBy (verdict_of (G.waves signals) (map string_bytes words.now) first second)
-        (Rose (F.state files.old).faults (F.state files.new).faults) result (S.state out.old) (S.state out.new)
-        (W.state wire.old).history (W.state wire.new).history (used (L.tells link.old) (L.tells link.new) (L.state link.old) (L.state link.new))) }
+        RunsBy (verdict_of (G.waves signals) (map string_bytes words.now) first second) (Rose (F.state files.old).faults (F.state files.new).faults) result
+        (uses (S.state out.old) (S.state out.new) (W.state wire.old).history (W.state wire.new).history
+        (link_used L.tells L.state link.old link.new)
+        (disk_used D.contents D.may_leave D.moment D.left_since D.fault_count disk.old disk.new)
+        (keeper_used K.state keeper.old keeper.new))) }
 
     // The words: usage exactly where they are no command, want of memory and a failed writing aside.
     ensures usage { result ≡ Status.Usage → asked_task (map string_bytes words.now) ≡ None }
@@ -84,22 +92,37 @@ pub fn run<T: Threads + Sync, F: Files, W: Wire, L: Link, S: Sink, G: Sources>(
     ensures held { (F.state files.new).held ≡ (F.state files.old).held }
 
     // The wire is called by `serve` alone, and there only behind an accepted description; the link by a client's command
-    // with `--to` alone.
+    // with `--to` alone; the disk and the keeper by no command that is built. Nothing is called where the words, a file, the
+    // description or the script ends the run.
     ensures no_wire { is_service (asked_task (map string_bytes words.now)) ≡ false → wire.new ≡ wire.old }
     ensures no_link { asks_link (asked_task (map string_bytes words.now)) ≡ false → link.new ≡ link.old }
-    ensures before_run { IsBeforeRun result → wire.new ≡ wire.old }
+    ensures no_disk { asks_disk (asked_task (map string_bytes words.now)) ≡ false → disk.new ≡ disk.old }
+    ensures no_keeper { asks_keeper (asked_task (map string_bytes words.now)) ≡ false → keeper.new ≡ keeper.old }
+    ensures before_run { IsBeforeRun result
+        → (wire.new ≡ wire.old) × (link.new ≡ link.old) × (disk.new ≡ disk.old) × (keeper.new ≡ keeper.old) }
 
     // The causes of faults, and of what a service ends by.
     ensures read_fault { result ≡ Status.ReadFault → Rose (F.state files.old).faults (F.state files.new).faults }
     ensures write_fault { result ≡ Status.WriteFault → Rose (S.state out.old).faults (S.state out.new).faults }
+    ensures store_fault { result ≡ Status.StoreFault → Rose (D.fault_count disk.old) (D.fault_count disk.new) }
+    ensures keeper_fault { result ≡ Status.KeeperFault → Rose (K.state keeper.old).faults (K.state keeper.new).faults }
     ensures cause { HasCause (asked_task (map string_bytes words.now)) result
-        (W.state wire.old).history (W.state wire.new).history (L.state link.old) (L.state link.new) }
+        (uses (S.state out.old) (S.state out.new) (W.state wire.old).history (W.state wire.new).history
+        (link_used L.tells L.state link.old link.new)
+        (disk_used D.contents D.may_leave D.moment D.left_since D.fault_count disk.old disk.new)
+        (keeper_used K.state keeper.old keeper.new)) }
 
     // Where nothing failed, the run ends as its verdict says; a service is done, or took all its events.
-    ensures complete { NothingFailed (F.state files.old) (F.state files.new) (S.state out.old) (S.state out.new)
-        (W.state wire.old).history (W.state wire.new).history (L.state link.old) (L.state link.new)
-        → OverFiles (F.state files.old).held (λ first second.
-        IsOwnEnd (verdict_of (G.waves signals) (map string_bytes words.now) first second) result (L.state link.new)) }
+    ensures complete { NothingFailed (F.state files.old) (F.state files.new)
+        (uses (S.state out.old) (S.state out.new) (W.state wire.old).history (W.state wire.new).history
+        (link_used L.tells L.state link.old link.new)
+        (disk_used D.contents D.may_leave D.moment D.left_since D.fault_count disk.old disk.new)
+        (keeper_used K.state keeper.old keeper.new))
+        → OverFiles (F.state files.old).held (λ first second. IsOwnEnd (verdict_of (G.waves signals) (map string_bytes words.now) first second) result
+        (uses (S.state out.old) (S.state out.new) (W.state wire.old).history (W.state wire.new).history
+        (link_used L.tells L.state link.old link.new)
+        (disk_used D.contents D.may_leave D.moment D.left_since D.fault_count disk.old disk.new)
+        (keeper_used K.state keeper.old keeper.new))) }
 
     // What `migrate` prints where it is done: the description under schema 2, of which the rules say the same.
     ensures migrated { HasMigrated (length (G.waves signals)) (asked_task (map string_bytes words.now)) result
@@ -108,12 +131,23 @@ pub fn run<T: Threads + Sync, F: Files, W: Wire, L: Link, S: Sink, G: Sources>(
     // What the log of a played script promises, whose text is printed: over any description, with these signals.
     ensures promises { (d : plant.Description) (lines : List ScriptLine) → PlayKeepsPromises d (G.waves signals) lines }
 {
-    let status = run_words(rt, alloc, words, files, wire, link, out, signals);
+    let status = run_words(
+        rt, alloc, words, files, wire, link, out, disk, keeper, signals,
+    );
     status
 }
 
 // The run of the task that the words ask for.
-fn run_words<T: Threads + Sync, F: Files, W: Wire, L: Link, S: Sink, G: Sources>(
+fn run_words<
+    T: Threads + Sync,
+    F: Files,
+    W: Wire,
+    L: Link,
+    S: Sink,
+    D: Disk,
+    K: Keeper,
+    G: Sources,
+>(
     rt: &T,
     alloc: Global,
     words: &[String],
@@ -121,13 +155,17 @@ fn run_words<T: Threads + Sync, F: Files, W: Wire, L: Link, S: Sink, G: Sources>
     wire: &mut W,
     link: &mut L,
     out: &mut S,
+    disk: &mut D,
+    keeper: &mut K,
     signals: G,
 ) -> Status
     requires signals { length (G.waves signals) < 2 ^ 32 }
     ensures ends { OverFiles (F.state files.old).held (λ first second.
-        RunsBy (verdict_of (G.waves signals) (map string_bytes words.now) first second)
-        (Rose (F.state files.old).faults (F.state files.new).faults) result (S.state out.old) (S.state out.new)
-        (W.state wire.old).history (W.state wire.new).history (used (L.tells link.old) (L.tells link.new) (L.state link.old) (L.state link.new))) }
+        RunsBy (verdict_of (G.waves signals) (map string_bytes words.now) first second) (Rose (F.state files.old).faults (F.state files.new).faults) result
+        (uses (S.state out.old) (S.state out.new) (W.state wire.old).history (W.state wire.new).history
+        (link_used L.tells L.state link.old link.new)
+        (disk_used D.contents D.may_leave D.moment D.left_since D.fault_count disk.old disk.new)
+        (keeper_used K.state keeper.old keeper.new))) }
     ensures no_command { asked_task (map string_bytes words.now) ≡ None
         → PrintsEnding (line_alone Status.Usage) result (S.state out.old) (S.state out.new) }
     ensures unread { reads_no_file (asked_task (map string_bytes words.now)) ≡ true → files.new ≡ files.old }
@@ -136,20 +174,25 @@ fn run_words<T: Threads + Sync, F: Files, W: Wire, L: Link, S: Sink, G: Sources>
     ensures held { (F.state files.new).held ≡ (F.state files.old).held }
     ensures no_wire { is_service (asked_task (map string_bytes words.now)) ≡ false → wire.new ≡ wire.old }
     ensures no_link { asks_link (asked_task (map string_bytes words.now)) ≡ false → link.new ≡ link.old }
-    ensures before_run { IsBeforeRun result → wire.new ≡ wire.old }
+    ensures no_disk { asks_disk (asked_task (map string_bytes words.now)) ≡ false → disk.new ≡ disk.old }
+    ensures no_keeper { asks_keeper (asked_task (map string_bytes words.now)) ≡ false → keeper.new ≡ keeper.old }
+    ensures before_run { IsBeforeRun result
+        → (wire.new ≡ wire.old) × (link.new ≡ link.old) × (disk.new ≡ disk.old) × (keeper.new ≡ keeper.old) }
     ensures read_fault { result ≡ Status.ReadFault → Rose (F.state files.old).faults (F.state files.new).faults }
     ensures migrated { HasMigrated (length (G.waves signals)) (asked_task (map string_bytes words.now)) result
         (F.state files.old).held (S.state out.old) (S.state out.new) }
 {
     match task_asked(alloc, words) {
-        Ok(Some(task)) => run_task(rt, alloc, &task, files, wire, link, out, signals),
+        Ok(Some(task)) => run_task(
+            rt, alloc, &task, files, wire, link, out, disk, keeper, signals,
+        ),
         Ok(None) => print_and_end(out, USAGE_LINE, Status::Usage),
         Err(NoMemory) => end_without_memory(out),
     }
 }
 
 // The run of a task.
-fn run_task<T: Threads + Sync, F: Files, W: Wire, L: Link, S: Sink, G: Sources>(
+fn run_task<T: Threads + Sync, F: Files, W: Wire, L: Link, S: Sink, D: Disk, K: Keeper, G: Sources>(
     rt: &T,
     alloc: Global,
     task: &Task,
@@ -157,19 +200,26 @@ fn run_task<T: Threads + Sync, F: Files, W: Wire, L: Link, S: Sink, G: Sources>(
     wire: &mut W,
     link: &mut L,
     out: &mut S,
+    disk: &mut D,
+    keeper: &mut K,
     signals: G,
 ) -> Status
     requires signals { length (G.waves signals) < 2 ^ 32 }
     requires fits { FitsTask (Some task.now) }
     ensures ends { OverFiles (F.state files.old).held (λ first second.
-        RunsBy (verdict_of_task (G.waves signals) (Some task.now) first second)
-        (Rose (F.state files.old).faults (F.state files.new).faults) result (S.state out.old) (S.state out.new)
-        (W.state wire.old).history (W.state wire.new).history (used (L.tells link.old) (L.tells link.new) (L.state link.old) (L.state link.new))) }
+        RunsBy (verdict_of_task (G.waves signals) (Some task.now) first second) (Rose (F.state files.old).faults (F.state files.new).faults) result
+        (uses (S.state out.old) (S.state out.new) (W.state wire.old).history (W.state wire.new).history
+        (link_used L.tells L.state link.old link.new)
+        (disk_used D.contents D.may_leave D.moment D.left_since D.fault_count disk.old disk.new)
+        (keeper_used K.state keeper.old keeper.new))) }
     ensures reads { ReadsFiles (Some task.now) result (F.state files.old).names (F.state files.new).names }
     ensures held { (F.state files.new).held ≡ (F.state files.old).held }
     ensures no_wire { is_service (Some task.now) ≡ false → wire.new ≡ wire.old }
     ensures no_link { asks_link (Some task.now) ≡ false → link.new ≡ link.old }
-    ensures before_run { IsBeforeRun result → wire.new ≡ wire.old }
+    ensures no_disk { asks_disk (Some task.now) ≡ false → disk.new ≡ disk.old }
+    ensures no_keeper { asks_keeper (Some task.now) ≡ false → keeper.new ≡ keeper.old }
+    ensures before_run { IsBeforeRun result
+        → (wire.new ≡ wire.old) × (link.new ≡ link.old) × (disk.new ≡ disk.old) × (keeper.new ≡ keeper.old) }
     ensures read_fault { result ≡ Status.ReadFault → Rose (F.state files.old).faults (F.state files.new).faults }
     ensures migrated { HasMigrated (length (G.waves signals)) (Some task.now) result
         (F.state files.old).held (S.state out.old) (S.state out.new) }

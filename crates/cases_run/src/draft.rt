@@ -3,10 +3,12 @@
 use crate::fault::Fault;
 use crate::link_case::LinkCase;
 use crate::run_case::Case;
+use crate::store_case::StoreCase;
 use crate::wire_case::WireCase;
 use ads_base::{Calls, Octets};
 use ads_outside::{Event, NamedFile, NamedFiles};
 use std::alloc::Global;
+use std::io::ErrorKind;
 use std::mem;
 
 /// What the lines of text that come belong to.
@@ -20,18 +22,22 @@ pub enum Target {
     Log,
     /// What must have been sent over the link.
     Talk,
+    /// The rows that the keeper must have.
+    Rows,
 }
 
 /// What the lines so far have said.
 #[derive(Drop)]
 pub struct Draft {
     pub words: Vec<String>,
+    pub unreadable: Option<ErrorKind>,
     pub failing_reads: Calls,
     pub failing_puts: Calls,
     pub parts: Calls,
     pub has_signals: bool,
     pub wire: WireCase,
     pub link: LinkCase,
+    pub stores: StoreCase,
     pub status: Option<u8>,
     /// Whether a comment says what the run shows.
     pub has_comment: bool,
@@ -47,12 +53,14 @@ impl Draft {
     pub fn new(alloc: Global) -> Draft {
         Draft {
             words: Vec::new(alloc),
+            unreadable: None,
             failing_reads: Calls::new(alloc),
             failing_puts: Calls::new(alloc),
             parts: Calls::new(alloc),
             has_signals: true,
             wire: WireCase::new(alloc),
             link: LinkCase::new(alloc),
+            stores: StoreCase::new(alloc),
             status: None,
             has_comment: false,
             text: Octets::new(alloc),
@@ -76,6 +84,7 @@ impl Draft {
             Target::Output => self.out = Some(bytes),
             Target::Log => self.wire.log = bytes,
             Target::Talk => self.link.talk = bytes,
+            Target::Rows => self.stores.rows = bytes,
         }
         Ok(())
     }
@@ -85,12 +94,14 @@ impl Draft {
         self.begin(alloc, Target::Nothing)?;
         let Draft {
             words,
+            unreadable,
             failing_reads,
             failing_puts,
             parts,
             has_signals,
             wire,
             link,
+            stores,
             status,
             has_comment,
             text: _text,
@@ -109,6 +120,7 @@ impl Draft {
         };
         Ok(Case {
             words,
+            unreadable,
             files,
             failing_reads,
             failing_puts,
@@ -116,6 +128,7 @@ impl Draft {
             has_signals,
             wire,
             link,
+            stores,
             status,
             out,
         })

@@ -4,9 +4,11 @@ use crate::draft::{Draft, Target};
 use crate::fault::Fault;
 use crate::folder::Folder;
 use crate::link_case::take_link_line;
+use crate::store_case::take_store_line;
 use crate::wire_case::take_wire_line;
 use ads_base::{Calls, NoMemory, Octets};
 use std::alloc::Global;
+use std::io::ErrorKind;
 use std::str;
 
 /// Reads one line into a draft. Lines `from` take the bytes of files of the folder.
@@ -39,6 +41,11 @@ pub fn take_line(
         "out" => draft.begin(alloc, Target::Output),
         "log" => draft.begin(alloc, Target::Log),
         "talk" => draft.begin(alloc, Target::Talk),
+        "rows" => draft.begin(alloc, Target::Rows),
+        "disk" | "left" | "stop" | "fail-disk" | "fail-keeper" => {
+            draft.begin(alloc, Target::Nothing)?;
+            take_store_line(alloc, &mut draft.stores, key, rest)
+        }
         "comes" | "quiet" | "ends" | "fail-link" => {
             draft.begin(alloc, Target::Nothing)?;
             take_link_line(alloc, &mut draft.link, key, rest)
@@ -61,6 +68,10 @@ fn take_setting(alloc: Global, draft: &mut Draft, key: &str, rest: &str) -> Resu
         "leave" => put_number(alloc, &mut draft.parts, rest),
         "no-signals" => {
             draft.has_signals = false;
+            Ok(())
+        }
+        "unreadable" => {
+            draft.unreadable = Some(kind_of(rest));
             Ok(())
         }
         "status" => {
@@ -126,6 +137,15 @@ fn changed(alloc: Global, text: &[u8], old: &str, new: &str) -> Result<Octets, F
     changed.put(alloc, new.as_bytes())?;
     changed.put(alloc, behind.as_bytes())?;
     Ok(changed)
+}
+
+// Why the words of a process cannot be read: memory was wanting, or one is no text.
+fn kind_of(why: &str) -> ErrorKind {
+    if why == "memory" {
+        ErrorKind::OutOfMemory
+    } else {
+        ErrorKind::InvalidData
+    }
 }
 
 fn put_words(alloc: Global, draft: &mut Draft, rest: &str) -> Result<(), Fault> {

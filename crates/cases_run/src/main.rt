@@ -1,5 +1,5 @@
-//! Tries whole runs of the server over files, a wire and a sink in memory. Each file that data/runs.txt names holds runs: their
-//! words, files and events, the calls that fail, and the status, the output and the wire's log that must come.
+//! Tries whole runs of the program over files, a wire, a link, a sink, a disk and a keeper in memory. Each file that data/runs.txt
+//! names holds runs: their words, files and events, the calls that fail, and the status, the output and the logs that must come.
 #![tactic(auto)]
 
 mod draft;
@@ -9,6 +9,7 @@ mod line;
 mod link_case;
 mod new_events;
 mod run_case;
+mod store_case;
 mod tally;
 mod told;
 mod wire_case;

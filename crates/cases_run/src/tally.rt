@@ -98,6 +98,8 @@ fn try_case<T: Threads + Sync>(
         out: Octets::copy_of(rt.alloc(), case.out.as_slice())?,
         log: Octets::copy_of(rt.alloc(), case.wire.log.as_slice())?,
         talk: Octets::copy_of(rt.alloc(), case.link.talk.as_slice())?,
+        left: Octets::copy_of(rt.alloc(), case.stores.wanted_file())?,
+        rows: Octets::copy_of(rt.alloc(), case.stores.rows.as_slice())?,
     };
     let came = run_case(threads, rt.alloc(), case)?;
     if is_as_wanted(&came, &wanted) {
@@ -115,4 +117,6 @@ fn is_as_wanted(came: &Came, wanted: &Came) -> bool {
         && came.out.as_slice() == wanted.out.as_slice()
         && came.log.as_slice() == wanted.log.as_slice()
         && came.talk.as_slice() == wanted.talk.as_slice()
+        && came.left.as_slice() == wanted.left.as_slice()
+        && came.rows.as_slice() == wanted.rows.as_slice()
 }

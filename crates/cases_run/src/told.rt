@@ -16,7 +16,8 @@ pub fn tell_difference(rt: &HostRuntime, name: &str, line: u32) -> Result<(), Fa
     Ok(())
 }
 
-/// How a run ended, or was to end: its status, what it printed, the wire's log, and what was sent over the link.
+/// How a run ended, or was to end: its status, what it printed, the wire's log, what was sent over the link, and what is left
+/// of the stores.
 pub fn tell_end(rt: &HostRuntime, word: &str, came: &Came) -> Result<(), Fault> {
     let status = came.status;
     println!(rt; "  {word}: status {status}")?;
@@ -28,6 +29,18 @@ pub fn tell_end(rt: &HostRuntime, word: &str, came: &Came) -> Result<(), Fault> 
     if came.talk.len() > 0 {
         println!(rt; "  {word}: sent over the link")?;
         tell_text(rt, came.talk.as_slice())?;
+    }
+    tell_stores(rt, word, came)
+}
+
+fn tell_stores(rt: &HostRuntime, word: &str, came: &Came) -> Result<(), Fault> {
+    if came.left.len() > 0 {
+        let digits = hex::encode(rt.alloc(), came.left.as_slice())?;
+        println!(rt; "  {word}: the disk's file x{digits}")?;
+    }
+    if came.rows.len() > 0 {
+        println!(rt; "  {word}: the keeper's rows")?;
+        tell_text(rt, came.rows.as_slice())?;
     }
     Ok(())
 }

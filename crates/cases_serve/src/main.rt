@@ -7,12 +7,13 @@ mod peer;
 mod server;
 mod talks;
 
+use ads_program::{exit_code, status_of};
 use std::process::ExitCode;
 use std::{env, io};
 
 fn main(rt: HostRuntime) -> ExitCode {
     match has_words(&rt) {
-        Ok(true) => ExitCode::from(ads_run::status_of(&rt, &rt).number()),
+        Ok(true) => exit_code(&status_of(&rt, &rt)),
         Ok(false) => tried(&rt),
         Err(_) => ExitCode::from(2),
     }

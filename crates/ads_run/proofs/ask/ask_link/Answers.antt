@@ -9,7 +9,8 @@ use Rattle.ads_run.proofs.ask.ask_link.Goals as goal
 
 pub returns-in-Err-clause-ends : goal.returns-in-Err-clause-ends
 returns-in-Err-clause-ends g c = λ d waves told net.
-    never_asked (local_calling d waves c.args.what.now c.args.client.now) c.end_without_memory.result (g.S.Sink.state c.args.out.now) (g.S.Sink.state c.end_without_memory.new.out)
+    never_asked (local_calling d waves c.args.what.now c.args.client.now) c.end_without_memory.result (g.S.Sink.state c.args.out.now)
+    (g.S.Sink.state c.end_without_memory.new.out)
     c.end_without_memory.ensures.memory c.end_without_memory.ensures.line
 
 pub returns-in-Ok-clause-ends : goal.returns-in-Ok-clause-ends

@@ -16,17 +16,23 @@ returns-in-Err-clause-ends g c =
 pub returns-in-Ok-Err-clause-ends : goal.returns-in-Ok-Err-clause-ends
 returns-in-Ok-Err-clause-ends g c =
     asks_unfound (g.F.Files.state c.args.files.now).held (verdict_of_local (g.G.Sources.waves c.args.signals) c.args.what.now c.args.client.now)
-    c.args.description.now (Rose (g.F.Files.state c.args.files.now).faults (g.F.Files.state c.bytes_of_file.new.files).faults) c.in-Ok-Err.told c.as_slice.result.now c.print_and_end.result
-    (g.S.Sink.state c.args.out.now) (g.S.Sink.state c.print_and_end.new.out) c.as_slice.ensures c.print_and_end.ensures
-    (finds_here (g.F.Files.state c.args.files.now).held c.args.description.now (Rose (g.F.Files.state c.args.files.now).faults (g.F.Files.state c.bytes_of_file.new.files).faults) c.in-Ok-Err.field-0 (Err c.in-Ok-Err.told) c.in-Ok-Err.field-0-is c.in-Ok-Err.ensures.finds)
+    c.args.description.now (Rose (g.F.Files.state c.args.files.now).faults (g.F.Files.state c.bytes_of_file.new.files).faults) c.in-Ok-Err.told
+    c.print_outcome.result
+    (g.S.Sink.state c.args.out.now) (g.S.Sink.state c.print_outcome.new.out) c.print_outcome.ensures
+    (finds_here (g.F.Files.state c.args.files.now).held c.args.description.now
+    (Rose (g.F.Files.state c.args.files.now).faults (g.F.Files.state c.bytes_of_file.new.files).faults) c.in-Ok-Err.field-0 (Err c.in-Ok-Err.told)
+    c.in-Ok-Err.field-0-is c.in-Ok-Err.ensures.finds)
 
 pub returns-in-Ok-Ok-clause-ends : goal.returns-in-Ok-Ok-clause-ends
 returns-in-Ok-Ok-clause-ends g c =
     asks_found (g.F.Files.state c.args.files.now).held (verdict_of_local (g.G.Sources.waves c.args.signals) c.args.what.now c.args.client.now)
-    c.args.description.now c.in-Ok-Ok.bytes c.as_slice-in-Ok-Ok.result.now (Rose (g.F.Files.state c.args.files.now).faults (g.F.Files.state c.bytes_of_file.new.files).faults) c.ask_text.result
+    c.args.description.now c.in-Ok-Ok.bytes c.as_slice.result.now
+    (Rose (g.F.Files.state c.args.files.now).faults (g.F.Files.state c.bytes_of_file.new.files).faults) c.ask_text.result
     (g.S.Sink.state c.args.out.now) (g.S.Sink.state c.ask_text.new.out)
-    c.as_slice-in-Ok-Ok.ensures
-    (finds_here (g.F.Files.state c.args.files.now).held c.args.description.now (Rose (g.F.Files.state c.args.files.now).faults (g.F.Files.state c.bytes_of_file.new.files).faults) c.in-Ok-Ok.field-0 (Ok c.in-Ok-Ok.bytes) c.in-Ok-Ok.field-0-is c.in-Ok-Ok.ensures.finds)
+    c.as_slice.ensures
+    (finds_here (g.F.Files.state c.args.files.now).held c.args.description.now
+    (Rose (g.F.Files.state c.args.files.now).faults (g.F.Files.state c.bytes_of_file.new.files).faults) c.in-Ok-Ok.field-0 (Ok c.in-Ok-Ok.bytes)
+    c.in-Ok-Ok.field-0-is c.in-Ok-Ok.ensures.finds)
     c.ask_text.ensures.ends
 
 pub returns-in-Ok-Ok-clause-reads : goal.returns-in-Ok-Ok-clause-reads

@@ -15,8 +15,10 @@ returns-in-Err g c = record {
 pub returns-in-Ok : goal.returns-in-Ok
 returns-in-Ok g c = record {
   ends = call_ends (calling (own_address c.args.client.now) (asked_address c.args.net c.args.client.now) (call_asked c.args.what.now) c.args.to.now) _
-      c.run_call-answer.result c.print_answer.result (g.S.Sink.state c.args.out.now) (g.S.Sink.state c.run_call-answer.new.out) (g.S.Sink.state c.print_answer.new.out)
-      (g.L.Link.tells c.args.link.now) (g.L.Link.tells c.run_call-answer.new.link) (g.L.Link.state c.args.link.now) (g.L.Link.state c.run_call-answer.new.link)
+      c.run_call-answer.result c.print_answer.result (g.S.Sink.state c.args.out.now) (g.S.Sink.state c.run_call-answer.new.out)
+      (g.S.Sink.state c.print_answer.new.out)
+      (g.L.Link.tells c.args.link.now) (g.L.Link.tells c.run_call-answer.new.link) (g.L.Link.state c.args.link.now)
+      (g.L.Link.state c.run_call-answer.new.link)
       (same_calling _ _ _ _ _ _ _ _ c.own_addr-me.ensures c.asked_addr-peer.ensures c.in-Ok.ensures.meant c.as_str.ensures)
       c.run_call-answer.ensures.called c.run_call-answer.ensures.out_later c.print_answer.ensures;
 }

@@ -10,4 +10,7 @@ returns-in-Bytes-clause-finds g c =
 
 pub returns-in_ok-told-in-TooLong-clause-finds : goal.returns-in_ok-told-in-TooLong-clause-finds
 returns-in_ok-told-in-TooLong-clause-finds g c =
-    inl (over_long (g.F.Files.state c.args.files.now).held c.args.name.now (rw c.as_str.ensures at c.in-TooLong.ensures.read), c.in_ok-told-in-TooLong.ensures)
+    inl (
+      over_long (g.F.Files.state c.args.files.now).held c.args.name.now (rw c.as_str.ensures at c.in-TooLong.ensures.read),
+      c.in_ok-told-in-TooLong.ensures,
+    )

@@ -14,6 +14,7 @@ play_counts-requires-clause-new g c κs within =
 pub returns-in-Ok-Ok-read_script : goal.returns-in-Ok-Ok-read_script
 returns-in-Ok-Ok-read_script g c =
     counts_of_load_so (g.G.Sources.waves c.args.signals) c.args.n (description_of c.in-Ok-Ok.description) c.in-Ok-Ok-read_script.script c.play_counts.result
-    (verdict_here c.in-Ok-Ok.field-0 (Ok c.in-Ok-Ok.description) c.count.result _ c.args.description.now c.in-Ok-Ok.field-0-is c.count.ensures c.in-Ok-Ok.ensures.verdict ∙ c.requires.described)
+    (verdict_here c.in-Ok-Ok.field-0 (Ok c.in-Ok-Ok.description) c.count.result _ c.args.description.now c.in-Ok-Ok.field-0-is c.count.ensures
+    c.in-Ok-Ok.ensures.verdict ∙ c.requires.described)
     (sym (c.in-Ok-Ok-read_script.ensures ∙ c.in-Ok-Ok-read_script.field-0-is) ∙ c.requires.said)
     c.play_counts.ensures

@@ -6,4 +6,5 @@ use Rattle.ads_run.proofs.play.play_counts.Goals as goal
 pub returns : goal.returns
 returns g c =
     let built = c.in_ok-core.ensures in
-    counts_played c.in_ok-core.core c.play.new.served (description_of c.args.description) (g.G.Sources.waves c.args.signals) c.args.script c.in_ok-_log._log c.in_ok-text.text built.serves built.counted built.notes c.in_ok-_log.ensures c.in_ok-text.ensures
+    counts_played c.in_ok-core.core c.play.new.served (description_of c.args.description) (g.G.Sources.waves c.args.signals) c.args.script c.in_ok-_log._log
+    c.in_ok-text.text built.serves built.counted built.notes c.in_ok-_log.ensures c.in_ok-text.ensures

@@ -1,24 +1,63 @@
--- The three signals have the program's waves.
-use Rattle.std.proofs.Common.{rules, refl}
-use Rattle.signals.specs.Wave.{Wave}
-use denote.Param.Object.{read_made}
-use Rattle.signals.specs.contracts.ramp.RampSignal.TheImpl as ramp
-use Rattle.signals.specs.contracts.square.SquareSignal.TheImpl as square
-use Rattle.signals.specs.contracts.table8.Table8Signal.TheImpl as table
+-- The run came to what `run` says; or memory was wanting, and nothing but the sink was called.
+use Rattle.std.proofs.Common.{length}
+use Rattle.ads_outside.specs.Rose.{Rose}
+use Rattle.ads_run.specs.Program.{words_behind_name}
 use Rattle.ads_run.specs.ProgramWaves.{program_waves}
-use Rattle.ads_run.proofs.SignalLemmas.{ends_with_three}
-use Rattle.ads_run.proofs.program.run_program.OwnLists.{own-1, at-1-1, at-1-2, at-1-3}
+use Rattle.ads_run.specs.Tasks.{asked_task}
+use Rattle.ads_run.specs.Uses.{disk_used, keeper_used, link_used, uses}
+use Rattle.ads_run.specs.Verdict.{verdict_of}
+use Rattle.ads_run.proofs.CauseLemmas.{cause_without_memory}
+use Rattle.ads_run.proofs.MigrationLemmas.{any_without_memory}
+use Rattle.ads_run.proofs.OwnLemmas.{own_without_memory}
+use Rattle.ads_run.proofs.PromiseLemmas.{play_keeps_promises}
+use Rattle.ads_run.proofs.RunLemmas.{runs_untouched}
 use Rattle.ads_run.proofs.program.run_program.Goals as goal
 
-pub returns-clause-ok : goal.returns-clause-ok
-returns-clause-ok g c =
-    ends_with_three _ c.new-signals.result.items c.push.new.self.items c.push-2.new.self.items c.push-3.new.self.items
-    c.into_dyn_box.result c.into_dyn_box-in_ok-new-2.result c.into_dyn_box-in_ok-new-3.result
-    ramp.ghosts.wave square.ghosts.wave table.ghosts.wave
-    c.in_ok-ramp.field-0.ramp c.in_ok-new.field-0.value c.in_ok-ramp.field-0.square c.in_ok-new-2.field-0.value c.in_ok-ramp.field-0.table c.in_ok-new-3.field-0.value
-    program_waves _ _ _ c.run.result _ _ _ _ _
-    c.run.ensures.ends c.in_ok-ramp.ensures (search rules) (search rules) (search rules) (search rules)
-    (search rules) (search rules) (search rules)
-    (read_made own-1 (own-1.entry at-1-1) at-1-1 refl Wave (λ j y. j.1.wave y) c.into_dyn_box.result.vtable c.into_dyn_box.result.value c.in_ok-new.field-0.value c.into_dyn_box.ensures.1)
-    (read_made own-1 (own-1.entry at-1-2) at-1-2 refl Wave (λ j y. j.1.wave y) c.into_dyn_box-in_ok-new-2.result.vtable c.into_dyn_box-in_ok-new-2.result.value c.in_ok-new-2.field-0.value c.into_dyn_box-in_ok-new-2.ensures.1)
-    (read_made own-1 (own-1.entry at-1-3) at-1-3 refl Wave (λ j y. j.1.wave y) c.into_dyn_box-in_ok-new-3.result.vtable c.into_dyn_box-in_ok-new-3.result.value c.in_ok-new-3.field-0.value c.into_dyn_box-in_ok-new-3.ensures.1)
+pub returns-in-Ok-clause-ends : goal.returns-in-Ok-clause-ends
+returns-in-Ok-clause-ends g c = c.in-Ok.ensures.runs.ends
+
+pub returns-in-Ok-clause-complete : goal.returns-in-Ok-clause-complete
+returns-in-Ok-clause-complete g c = c.in-Ok.ensures.runs.complete
+
+pub returns-in-Ok-clause-migrated : goal.returns-in-Ok-clause-migrated
+returns-in-Ok-clause-migrated g c = c.in-Ok.ensures.runs.migrated
+
+pub returns-in-Ok-clause-promises : goal.returns-in-Ok-clause-promises
+returns-in-Ok-clause-promises g c = c.in-Ok.ensures.runs.promises
+
+pub returns-in-Err-clause-ends : goal.returns-in-Err-clause-ends
+returns-in-Err-clause-ends g c =
+    runs_untouched (g.F.Files.state c.args.files.now).held (λ first second. verdict_of program_waves (words_behind_name c.args.words) first second)
+    (Rose (g.F.Files.state c.args.files.now).faults (g.F.Files.state c.run_signals.new.files).faults) c.end_without_memory.result
+    g.S.Sink.state c.args.out.now c.run_signals.new.out (g.S.Sink.state c.end_without_memory.new.out)
+    (λ w. (g.W.Wire.state w).history) c.args.wire.now c.run_signals.new.wire
+    g.L.Link.tells g.L.Link.state c.args.link.now c.run_signals.new.link
+    (disk_used g.D.Disk.contents g.D.Disk.may_leave g.D.Disk.moment g.D.Disk.left_since g.D.Disk.fault_count c.args.disk.now c.run_signals.new.disk)
+    (keeper_used g.K.Keeper.state c.args.keeper.now c.run_signals.new.keeper)
+    c.end_without_memory.ensures.memory c.end_without_memory.ensures.line
+    c.in-Err.ensures.no_memory.3 c.in-Err.ensures.no_memory.1 c.in-Err.ensures.no_memory.2
+
+pub returns-in-Err-clause-cause : goal.returns-in-Err-clause-cause
+returns-in-Err-clause-cause g c = cause_without_memory (asked_task (words_behind_name c.args.words)) c.end_without_memory.result
+    (uses (g.S.Sink.state c.args.out.now) (g.S.Sink.state c.end_without_memory.new.out)
+    (g.W.Wire.state c.args.wire.now).history (g.W.Wire.state c.run_signals.new.wire).history
+    (link_used g.L.Link.tells g.L.Link.state c.args.link.now c.run_signals.new.link)
+    (disk_used g.D.Disk.contents g.D.Disk.may_leave g.D.Disk.moment g.D.Disk.left_since g.D.Disk.fault_count c.args.disk.now c.run_signals.new.disk)
+    (keeper_used g.K.Keeper.state c.args.keeper.now c.run_signals.new.keeper)) c.end_without_memory.ensures.memory
+
+pub returns-in-Err-clause-complete : goal.returns-in-Err-clause-complete
+returns-in-Err-clause-complete g c = λ nothing. own_without_memory (g.F.Files.state c.args.files.now).held
+    (λ first second. verdict_of program_waves (words_behind_name c.args.words) first second) c.end_without_memory.result
+    (uses (g.S.Sink.state c.args.out.now) (g.S.Sink.state c.end_without_memory.new.out)
+    (g.W.Wire.state c.args.wire.now).history (g.W.Wire.state c.run_signals.new.wire).history
+    (link_used g.L.Link.tells g.L.Link.state c.args.link.now c.run_signals.new.link)
+    (disk_used g.D.Disk.contents g.D.Disk.may_leave g.D.Disk.moment g.D.Disk.left_since g.D.Disk.fault_count c.args.disk.now c.run_signals.new.disk)
+    (keeper_used g.K.Keeper.state c.args.keeper.now c.run_signals.new.keeper)) c.end_without_memory.ensures.memory
+
+pub returns-in-Err-clause-migrated : goal.returns-in-Err-clause-migrated
+returns-in-Err-clause-migrated g c =
+    any_without_memory (length program_waves) (asked_task (words_behind_name c.args.words)) c.end_without_memory.result
+    (g.F.Files.state c.args.files.now).held (g.S.Sink.state c.args.out.now) (g.S.Sink.state c.end_without_memory.new.out) c.end_without_memory.ensures.memory
+
+pub returns-in-Err-clause-promises : goal.returns-in-Err-clause-promises
+returns-in-Err-clause-promises g c = λ d lines. play_keeps_promises d program_waves lines

@@ -2,10 +2,12 @@
 use Rattle.std.proofs.Common.{map}
 use Rattle.std.specs.Prelude.{string_bytes}
 use Rattle.ads_outside.specs.Rose.{Rose}
-use Rattle.ads_run.specs.Calling.{used}
 use Rattle.ads_run.specs.Tasks.{asked_task}
+use Rattle.ads_run.specs.Uses.{disk_used, keeper_used, link_used, uses}
 use Rattle.ads_run.specs.Verdict.{verdict_of}
-use Rattle.ads_run.proofs.CauseLemmas.{facts_of, own_end}
+use Rattle.ads_run.proofs.CauseLemmas.{facts_of}
+use Rattle.ads_run.proofs.OwnLemmas.{own_end}
+use Rattle.ads_run.proofs.StoreLemmas.{store_fault, keeper_fault}
 use Rattle.ads_run.proofs.PromiseLemmas.{play_keeps_promises}
 use Rattle.ads_run.proofs.top_call.run.Goals as goal
 
@@ -13,33 +15,74 @@ pub returns-clause-usage : goal.returns-clause-usage
 returns-clause-usage g c =
     (facts_of (g.F.Files.state c.args.files.now).held (g.G.Sources.waves c.args.signals) (asked_task (map string_bytes c.args.words.now))
     (Rose (g.F.Files.state c.args.files.now).faults (g.F.Files.state c.run_words-status.new.files).faults) c.run_words-status.result
-    (g.S.Sink.state c.args.out.now) (g.S.Sink.state c.run_words-status.new.out)
+    (uses (g.S.Sink.state c.args.out.now) (g.S.Sink.state c.run_words-status.new.out)
     (g.W.Wire.state c.args.wire.now).history (g.W.Wire.state c.run_words-status.new.wire).history
-    (used (g.L.Link.tells c.args.link.now) (g.L.Link.tells c.run_words-status.new.link) (g.L.Link.state c.args.link.now) (g.L.Link.state c.run_words-status.new.link)) c.run_words-status.ensures.ends).usage
+    (link_used g.L.Link.tells g.L.Link.state c.args.link.now c.run_words-status.new.link)
+    (disk_used g.D.Disk.contents g.D.Disk.may_leave g.D.Disk.moment g.D.Disk.left_since g.D.Disk.fault_count c.args.disk.now c.run_words-status.new.disk)
+    (keeper_used g.K.Keeper.state c.args.keeper.now c.run_words-status.new.keeper)) c.run_words-status.ensures.ends).usage
 
 pub returns-clause-write_fault : goal.returns-clause-write_fault
 returns-clause-write_fault g c =
     (facts_of (g.F.Files.state c.args.files.now).held (g.G.Sources.waves c.args.signals) (asked_task (map string_bytes c.args.words.now))
     (Rose (g.F.Files.state c.args.files.now).faults (g.F.Files.state c.run_words-status.new.files).faults) c.run_words-status.result
-    (g.S.Sink.state c.args.out.now) (g.S.Sink.state c.run_words-status.new.out)
+    (uses (g.S.Sink.state c.args.out.now) (g.S.Sink.state c.run_words-status.new.out)
     (g.W.Wire.state c.args.wire.now).history (g.W.Wire.state c.run_words-status.new.wire).history
-    (used (g.L.Link.tells c.args.link.now) (g.L.Link.tells c.run_words-status.new.link) (g.L.Link.state c.args.link.now) (g.L.Link.state c.run_words-status.new.link)) c.run_words-status.ensures.ends).write_fault
+    (link_used g.L.Link.tells g.L.Link.state c.args.link.now c.run_words-status.new.link)
+    (disk_used g.D.Disk.contents g.D.Disk.may_leave g.D.Disk.moment g.D.Disk.left_since g.D.Disk.fault_count c.args.disk.now c.run_words-status.new.disk)
+    (keeper_used g.K.Keeper.state c.args.keeper.now c.run_words-status.new.keeper)) c.run_words-status.ensures.ends).write_fault
 
 pub returns-clause-cause : goal.returns-clause-cause
 returns-clause-cause g c =
     (facts_of (g.F.Files.state c.args.files.now).held (g.G.Sources.waves c.args.signals) (asked_task (map string_bytes c.args.words.now))
     (Rose (g.F.Files.state c.args.files.now).faults (g.F.Files.state c.run_words-status.new.files).faults) c.run_words-status.result
-    (g.S.Sink.state c.args.out.now) (g.S.Sink.state c.run_words-status.new.out)
+    (uses (g.S.Sink.state c.args.out.now) (g.S.Sink.state c.run_words-status.new.out)
     (g.W.Wire.state c.args.wire.now).history (g.W.Wire.state c.run_words-status.new.wire).history
-    (used (g.L.Link.tells c.args.link.now) (g.L.Link.tells c.run_words-status.new.link) (g.L.Link.state c.args.link.now) (g.L.Link.state c.run_words-status.new.link)) c.run_words-status.ensures.ends).cause
+    (link_used g.L.Link.tells g.L.Link.state c.args.link.now c.run_words-status.new.link)
+    (disk_used g.D.Disk.contents g.D.Disk.may_leave g.D.Disk.moment g.D.Disk.left_since g.D.Disk.fault_count c.args.disk.now c.run_words-status.new.disk)
+    (keeper_used g.K.Keeper.state c.args.keeper.now c.run_words-status.new.keeper)) c.run_words-status.ensures.ends).cause
+
+pub returns-clause-store_fault : goal.returns-clause-store_fault
+returns-clause-store_fault g c =
+    store_fault (asked_task (map string_bytes c.args.words.now)) c.run_words-status.result
+    (uses (g.S.Sink.state c.args.out.now) (g.S.Sink.state c.run_words-status.new.out)
+    (g.W.Wire.state c.args.wire.now).history (g.W.Wire.state c.run_words-status.new.wire).history
+    (link_used g.L.Link.tells g.L.Link.state c.args.link.now c.run_words-status.new.link)
+    (disk_used g.D.Disk.contents g.D.Disk.may_leave g.D.Disk.moment g.D.Disk.left_since g.D.Disk.fault_count c.args.disk.now c.run_words-status.new.disk)
+    (keeper_used g.K.Keeper.state c.args.keeper.now c.run_words-status.new.keeper))
+    (facts_of (g.F.Files.state c.args.files.now).held (g.G.Sources.waves c.args.signals) (asked_task (map string_bytes c.args.words.now))
+    (Rose (g.F.Files.state c.args.files.now).faults (g.F.Files.state c.run_words-status.new.files).faults) c.run_words-status.result
+    (uses (g.S.Sink.state c.args.out.now) (g.S.Sink.state c.run_words-status.new.out)
+    (g.W.Wire.state c.args.wire.now).history (g.W.Wire.state c.run_words-status.new.wire).history
+    (link_used g.L.Link.tells g.L.Link.state c.args.link.now c.run_words-status.new.link)
+    (disk_used g.D.Disk.contents g.D.Disk.may_leave g.D.Disk.moment g.D.Disk.left_since g.D.Disk.fault_count c.args.disk.now c.run_words-status.new.disk)
+    (keeper_used g.K.Keeper.state c.args.keeper.now c.run_words-status.new.keeper)) c.run_words-status.ensures.ends).cause
+
+pub returns-clause-keeper_fault : goal.returns-clause-keeper_fault
+returns-clause-keeper_fault g c =
+    keeper_fault (asked_task (map string_bytes c.args.words.now)) c.run_words-status.result
+    (uses (g.S.Sink.state c.args.out.now) (g.S.Sink.state c.run_words-status.new.out)
+    (g.W.Wire.state c.args.wire.now).history (g.W.Wire.state c.run_words-status.new.wire).history
+    (link_used g.L.Link.tells g.L.Link.state c.args.link.now c.run_words-status.new.link)
+    (disk_used g.D.Disk.contents g.D.Disk.may_leave g.D.Disk.moment g.D.Disk.left_since g.D.Disk.fault_count c.args.disk.now c.run_words-status.new.disk)
+    (keeper_used g.K.Keeper.state c.args.keeper.now c.run_words-status.new.keeper))
+    (facts_of (g.F.Files.state c.args.files.now).held (g.G.Sources.waves c.args.signals) (asked_task (map string_bytes c.args.words.now))
+    (Rose (g.F.Files.state c.args.files.now).faults (g.F.Files.state c.run_words-status.new.files).faults) c.run_words-status.result
+    (uses (g.S.Sink.state c.args.out.now) (g.S.Sink.state c.run_words-status.new.out)
+    (g.W.Wire.state c.args.wire.now).history (g.W.Wire.state c.run_words-status.new.wire).history
+    (link_used g.L.Link.tells g.L.Link.state c.args.link.now c.run_words-status.new.link)
+    (disk_used g.D.Disk.contents g.D.Disk.may_leave g.D.Disk.moment g.D.Disk.left_since g.D.Disk.fault_count c.args.disk.now c.run_words-status.new.disk)
+    (keeper_used g.K.Keeper.state c.args.keeper.now c.run_words-status.new.keeper)) c.run_words-status.ensures.ends).cause
 
 pub returns-clause-complete : goal.returns-clause-complete
 returns-clause-complete g c =
-    own_end (g.F.Files.state c.args.files.now).held (λ first second. verdict_of (g.G.Sources.waves c.args.signals) (map string_bytes c.args.words.now) first second)
+    own_end (g.F.Files.state c.args.files.now).held (λ first second. verdict_of (g.G.Sources.waves c.args.signals) (map string_bytes c.args.words.now) first
+    second)
     (g.F.Files.state c.args.files.now) (g.F.Files.state c.run_words-status.new.files) c.run_words-status.result
-    (g.S.Sink.state c.args.out.now) (g.S.Sink.state c.run_words-status.new.out)
+    (uses (g.S.Sink.state c.args.out.now) (g.S.Sink.state c.run_words-status.new.out)
     (g.W.Wire.state c.args.wire.now).history (g.W.Wire.state c.run_words-status.new.wire).history
-    (used (g.L.Link.tells c.args.link.now) (g.L.Link.tells c.run_words-status.new.link) (g.L.Link.state c.args.link.now) (g.L.Link.state c.run_words-status.new.link)) c.run_words-status.ensures.ends
+    (link_used g.L.Link.tells g.L.Link.state c.args.link.now c.run_words-status.new.link)
+    (disk_used g.D.Disk.contents g.D.Disk.may_leave g.D.Disk.moment g.D.Disk.left_since g.D.Disk.fault_count c.args.disk.now c.run_words-status.new.disk)
+    (keeper_used g.K.Keeper.state c.args.keeper.now c.run_words-status.new.keeper)) c.run_words-status.ensures.ends
 
 pub returns-clause-promises : goal.returns-clause-promises
 returns-clause-promises g c = λ d lines. play_keeps_promises d _ lines

@@ -5,9 +5,10 @@ use Rattle.client_loop.specs.Called.{calling}
 use Rattle.cli_words.specs.declared.client_words.PeerWords.TheVariants as peer
 use Rattle.ads_run.specs.declared.task.Task.TheVariants as task
 use Rattle.ads_run.specs.Asking.{asked_address, call_asked, own_address}
-use Rattle.ads_run.specs.Calling.{used}
 use Rattle.ads_run.specs.Ends.{EndsBy}
+use Rattle.ads_run.specs.Uses.{disk_used, keeper_used, link_used, uses}
 use Rattle.ads_run.specs.Verdict.{verdict_of_file, verdict_of_file_task, verdict_of_serve, verdict_of_local}
+use Rattle.ads_run.proofs.CallLemmas.{call_not_before}
 use Rattle.ads_run.proofs.ReadingLemmas.{over_first}
 use Rattle.ads_run.proofs.RunLemmas.{ends_as_run, asks_as_run, call_as_run, runs_of_task, runs_of_peer}
 use Rattle.ads_run.proofs.top_call.run_task.Goals as goal
@@ -15,38 +16,44 @@ use Rattle.ads_run.proofs.top_call.run_task.Goals as goal
 pub returns-in-OfFiles-clause-ends : goal.returns-in-OfFiles-clause-ends
 returns-in-OfFiles-clause-ends g c =
     let held = (g.F.Files.state c.args.files.now).held in
+    let disk = disk_used g.D.Disk.contents g.D.Disk.may_leave g.D.Disk.moment g.D.Disk.left_since g.D.Disk.fault_count c.args.disk.now c.args.disk.now in
+    let keeper = keeper_used g.K.Keeper.state c.args.keeper.now c.args.keeper.now in
     let waves = g.G.Sources.waves c.args.signals in
     let failed = Rose (g.F.Files.state c.args.files.now).faults (g.F.Files.state c.print_file_task.new.files).faults in
     let out = g.S.Sink.state c.args.out.now in
     let out_new = g.S.Sink.state c.print_file_task.new.out in
     let wire = (g.W.Wire.state c.args.wire.now).history in
-    runs_of_task held waves c.args.task.now (task.OfFiles c.in-OfFiles.task) failed c.print_file_task.result out out_new wire wire
-    (used (g.L.Link.tells c.args.link.now) (g.L.Link.tells c.args.link.now) (g.L.Link.state c.args.link.now) (g.L.Link.state c.args.link.now))
-    c.in-OfFiles.is
+    runs_of_task held waves c.args.task.now (task.OfFiles c.in-OfFiles.task) failed c.print_file_task.result
+    (uses out out_new wire wire (link_used g.L.Link.tells g.L.Link.state c.args.link.now c.args.link.now) disk keeper) c.in-OfFiles.is
     (ends_as_run held (λ first second. verdict_of_file_task waves c.in-OfFiles.task first second) failed c.print_file_task.result out out_new wire wire
-    (g.L.Link.tells c.args.link.now) (g.L.Link.state c.args.link.now) (c.print_file_task.ensures.ends wire))
+    (g.L.Link.tells c.args.link.now) (g.L.Link.state c.args.link.now) disk keeper (c.print_file_task.ensures.ends wire))
 
 pub returns-in-Serve-clause-ends : goal.returns-in-Serve-clause-ends
 returns-in-Serve-clause-ends g c =
     let held = (g.F.Files.state c.args.files.now).held in
+    let disk = disk_used g.D.Disk.contents g.D.Disk.may_leave g.D.Disk.moment g.D.Disk.left_since g.D.Disk.fault_count c.args.disk.now c.args.disk.now in
+    let keeper = keeper_used g.K.Keeper.state c.args.keeper.now c.args.keeper.now in
     let waves = g.G.Sources.waves c.args.signals in
     let failed = Rose (g.F.Files.state c.args.files.now).faults (g.F.Files.state c.serve.new.files).faults in
     let out = g.S.Sink.state c.args.out.now in
     let out_new = g.S.Sink.state c.serve.new.out in
     let wire = (g.W.Wire.state c.args.wire.now).history in
     let wire_new = (g.W.Wire.state c.serve.new.wire).history in
-    runs_of_task held waves c.args.task.now (task.Serve c.in-Serve.description c.in-Serve.listen c.in-Serve.events) failed c.serve.result out out_new wire wire_new
-    (used (g.L.Link.tells c.args.link.now) (g.L.Link.tells c.args.link.now) (g.L.Link.state c.args.link.now) (g.L.Link.state c.args.link.now))
-    c.in-Serve.is
-    (ends_as_run held (λ first second. verdict_of_file (verdict_of_serve waves c.in-Serve.description c.in-Serve.listen c.in-Serve.events) (bytes_of first c.in-Serve.description)) failed c.serve.result out out_new wire wire_new
-    (g.L.Link.tells c.args.link.now) (g.L.Link.state c.args.link.now)
+    runs_of_task held waves c.args.task.now (task.Serve c.in-Serve.description c.in-Serve.listen c.in-Serve.events) failed c.serve.result
+    (uses out out_new wire wire_new (link_used g.L.Link.tells g.L.Link.state c.args.link.now c.args.link.now) disk keeper) c.in-Serve.is
+    (ends_as_run held (λ first second. verdict_of_file (verdict_of_serve waves c.in-Serve.description c.in-Serve.listen c.in-Serve.events)
+    (bytes_of first c.in-Serve.description)) failed c.serve.result out out_new wire wire_new
+    (g.L.Link.tells c.args.link.now) (g.L.Link.state c.args.link.now) disk keeper
     (over_first held
-    (λ files. EndsBy (verdict_of_file (verdict_of_serve waves c.in-Serve.description c.in-Serve.listen c.in-Serve.events) (bytes_of files c.in-Serve.description)) failed c.serve.result out out_new wire wire_new)
+    (λ files. EndsBy (verdict_of_file (verdict_of_serve waves c.in-Serve.description c.in-Serve.listen c.in-Serve.events)
+    (bytes_of files c.in-Serve.description)) failed c.serve.result out out_new wire wire_new)
     c.serve.ensures.ends))
 
 pub returns-in-To-clause-ends : goal.returns-in-To-clause-ends
 returns-in-To-clause-ends g c =
     let held = (g.F.Files.state c.args.files.now).held in
+    let disk = disk_used g.D.Disk.contents g.D.Disk.may_leave g.D.Disk.moment g.D.Disk.left_since g.D.Disk.fault_count c.args.disk.now c.args.disk.now in
+    let keeper = keeper_used g.K.Keeper.state c.args.keeper.now c.args.keeper.now in
     let waves = g.G.Sources.waves c.args.signals in
     let failed = Rose (g.F.Files.state c.args.files.now).faults (g.F.Files.state c.args.files.now).faults in
     let out = g.S.Sink.state c.args.out.now in
@@ -54,15 +61,18 @@ returns-in-To-clause-ends g c =
     let wire = (g.W.Wire.state c.args.wire.now).history in
     let what = c.in-Ask.what in
     let client = c.in-Ask.client in
-    let link = used (g.L.Link.tells c.args.link.now) (g.L.Link.tells c.ask_over_link.new.link) (g.L.Link.state c.args.link.now) (g.L.Link.state c.ask_over_link.new.link) in
-    runs_of_task held waves c.args.task.now (task.Ask what client) failed c.ask_over_link.result out out_new wire wire link c.in-Ask.is
-    (runs_of_peer held waves what client (peer.To c.in-To.to c.in-To.net) failed c.ask_over_link.result out out_new wire wire link c.in-To.is
-    (call_as_run held (calling (own_address client) (asked_address c.in-To.net client) (call_asked what) c.in-To.to) failed c.ask_over_link.result out out_new wire link
+    let link = link_used g.L.Link.tells g.L.Link.state c.args.link.now c.ask_over_link.new.link in
+    let u = uses out out_new wire wire link disk keeper in
+    runs_of_task held waves c.args.task.now (task.Ask what client) failed c.ask_over_link.result u c.in-Ask.is
+    (runs_of_peer held waves what client (peer.To c.in-To.to c.in-To.net) failed c.ask_over_link.result u c.in-To.is
+    (call_as_run held (calling (own_address client) (asked_address c.in-To.net client) (call_asked what) c.in-To.to) failed c.ask_over_link.result u
     c.ask_over_link.ensures.ends))
 
 pub returns-in-Local-clause-ends : goal.returns-in-Local-clause-ends
 returns-in-Local-clause-ends g c =
     let held = (g.F.Files.state c.args.files.now).held in
+    let disk = disk_used g.D.Disk.contents g.D.Disk.may_leave g.D.Disk.moment g.D.Disk.left_since g.D.Disk.fault_count c.args.disk.now c.args.disk.now in
+    let keeper = keeper_used g.K.Keeper.state c.args.keeper.now c.args.keeper.now in
     let waves = g.G.Sources.waves c.args.signals in
     let failed = Rose (g.F.Files.state c.args.files.now).faults (g.F.Files.state c.ask_locally.new.files).faults in
     let out = g.S.Sink.state c.args.out.now in
@@ -70,8 +80,18 @@ returns-in-Local-clause-ends g c =
     let wire = (g.W.Wire.state c.args.wire.now).history in
     let what = c.in-Ask.what in
     let client = c.in-Ask.client in
-    let link = used (g.L.Link.tells c.args.link.now) (g.L.Link.tells c.args.link.now) (g.L.Link.state c.args.link.now) (g.L.Link.state c.args.link.now) in
-    runs_of_task held waves c.args.task.now (task.Ask what client) failed c.ask_locally.result out out_new wire wire link c.in-Ask.is
-    (runs_of_peer held waves what client (peer.Local c.in-Local.description) failed c.ask_locally.result out out_new wire wire link c.in-Local.is
-    (asks_as_run held (λ first. verdict_of_file (verdict_of_local waves what client) (bytes_of first c.in-Local.description)) failed c.ask_locally.result out out_new wire link
+    let link = link_used g.L.Link.tells g.L.Link.state c.args.link.now c.args.link.now in
+    let u = uses out out_new wire wire link disk keeper in
+    runs_of_task held waves c.args.task.now (task.Ask what client) failed c.ask_locally.result u c.in-Ask.is
+    (runs_of_peer held waves what client (peer.Local c.in-Local.description) failed c.ask_locally.result u c.in-Local.is
+    (asks_as_run held (λ first. verdict_of_file (verdict_of_local waves what client) (bytes_of first c.in-Local.description)) failed c.ask_locally.result out
+    out_new wire link disk keeper
     c.ask_locally.ensures.ends))
+
+pub returns-in-To-clause-before_run : goal.returns-in-To-clause-before_run
+returns-in-To-clause-before_run g c = λ before. absurd
+    (call_not_before (calling (own_address c.in-Ask.client) (asked_address c.in-To.net c.in-Ask.client) (call_asked c.in-Ask.what) c.in-To.to)
+    c.ask_over_link.result
+    (g.S.Sink.state c.args.out.now) (g.S.Sink.state c.ask_over_link.new.out)
+    (link_used g.L.Link.tells g.L.Link.state c.args.link.now c.ask_over_link.new.link)
+    c.ask_over_link.ensures.ends before)

@@ -2,8 +2,8 @@
 use Rattle.std.proofs.Common.{map, sym, ◌∙◌, length}
 use Rattle.std.specs.Prelude.{string_bytes, Some, None}
 use Rattle.ads_outside.specs.Rose.{Rose}
-use Rattle.ads_run.specs.Calling.{used}
 use Rattle.ads_run.specs.Tasks.{asked_task}
+use Rattle.ads_run.specs.Uses.{disk_used, keeper_used, link_used, uses}
 use Rattle.ads_run.specs.Verdict.{verdict_of}
 use Rattle.ads_run.proofs.MigrationLemmas.{of_task, any_without_memory}
 use Rattle.ads_run.proofs.RunLemmas.{runs_as_asked, runs_usage, runs_without_memory}
@@ -13,27 +13,39 @@ pub returns-in-Ok-Some-clause-ends : goal.returns-in-Ok-Some-clause-ends
 returns-in-Ok-Some-clause-ends g c =
     runs_as_asked (g.F.Files.state c.args.files.now).held (g.G.Sources.waves c.args.signals) (map string_bytes c.args.words.now) (Some c.in-Ok-Some.task)
     (Rose (g.F.Files.state c.args.files.now).faults (g.F.Files.state c.run_task.new.files).faults) c.run_task.result
-    (g.S.Sink.state c.args.out.now) (g.S.Sink.state c.run_task.new.out) (g.W.Wire.state c.args.wire.now).history (g.W.Wire.state c.run_task.new.wire).history
-    (used (g.L.Link.tells c.args.link.now) (g.L.Link.tells c.run_task.new.link) (g.L.Link.state c.args.link.now) (g.L.Link.state c.run_task.new.link))
+    (uses (g.S.Sink.state c.args.out.now) (g.S.Sink.state c.run_task.new.out)
+    (g.W.Wire.state c.args.wire.now).history (g.W.Wire.state c.run_task.new.wire).history
+    (link_used g.L.Link.tells g.L.Link.state c.args.link.now c.run_task.new.link)
+    (disk_used g.D.Disk.contents g.D.Disk.may_leave g.D.Disk.moment g.D.Disk.left_since g.D.Disk.fault_count c.args.disk.now c.run_task.new.disk)
+    (keeper_used g.K.Keeper.state c.args.keeper.now c.run_task.new.keeper))
     (sym c.in-Ok-Some.ensures.asked ∙ c.in-Ok-Some.field-0-is) c.run_task.ensures.ends
 
 pub returns-in-Ok-None-clause-ends : goal.returns-in-Ok-None-clause-ends
 returns-in-Ok-None-clause-ends g c =
-    runs_as_asked (g.F.Files.state c.args.files.now).held (g.G.Sources.waves c.args.signals) (map string_bytes c.args.words.now) None
-    (Rose (g.F.Files.state c.args.files.now).faults (g.F.Files.state c.args.files.now).faults) c.print_and_end.result
-    (g.S.Sink.state c.args.out.now) (g.S.Sink.state c.print_and_end.new.out) (g.W.Wire.state c.args.wire.now).history (g.W.Wire.state c.args.wire.now).history
-    (used (g.L.Link.tells c.args.link.now) (g.L.Link.tells c.args.link.now) (g.L.Link.state c.args.link.now) (g.L.Link.state c.args.link.now))
+    let held = (g.F.Files.state c.args.files.now).held in
+    let failed = Rose (g.F.Files.state c.args.files.now).faults (g.F.Files.state c.args.files.now).faults in
+    runs_as_asked held (g.G.Sources.waves c.args.signals) (map string_bytes c.args.words.now) None failed c.print_and_end.result
+    (uses (g.S.Sink.state c.args.out.now) (g.S.Sink.state c.print_and_end.new.out)
+    (g.W.Wire.state c.args.wire.now).history (g.W.Wire.state c.args.wire.now).history
+    (link_used g.L.Link.tells g.L.Link.state c.args.link.now c.args.link.now)
+    (disk_used g.D.Disk.contents g.D.Disk.may_leave g.D.Disk.moment g.D.Disk.left_since g.D.Disk.fault_count c.args.disk.now c.args.disk.now)
+    (keeper_used g.K.Keeper.state c.args.keeper.now c.args.keeper.now))
     (sym c.in-Ok-None.ensures.asked ∙ c.in-Ok-None.field-0-is)
-    (runs_usage (g.F.Files.state c.args.files.now).held (g.G.Sources.waves c.args.signals)
-    (Rose (g.F.Files.state c.args.files.now).faults (g.F.Files.state c.args.files.now).faults) c.print_and_end.result (g.S.Sink.state c.args.out.now) (g.S.Sink.state c.print_and_end.new.out)
-    (g.W.Wire.state c.args.wire.now).history (used (g.L.Link.tells c.args.link.now) (g.L.Link.tells c.args.link.now) (g.L.Link.state c.args.link.now) (g.L.Link.state c.args.link.now)) c.print_and_end.ensures)
+    (runs_usage held (g.G.Sources.waves c.args.signals) failed c.print_and_end.result (g.S.Sink.state c.args.out.now) (g.S.Sink.state c.print_and_end.new.out)
+    (g.W.Wire.state c.args.wire.now).history (link_used g.L.Link.tells g.L.Link.state c.args.link.now c.args.link.now)
+    (disk_used g.D.Disk.contents g.D.Disk.may_leave g.D.Disk.moment g.D.Disk.left_since g.D.Disk.fault_count c.args.disk.now c.args.disk.now)
+    (keeper_used g.K.Keeper.state c.args.keeper.now c.args.keeper.now) c.print_and_end.ensures)
 
 pub returns-in-Err-clause-ends : goal.returns-in-Err-clause-ends
 returns-in-Err-clause-ends g c =
-    runs_without_memory (g.F.Files.state c.args.files.now).held (λ first second. verdict_of (g.G.Sources.waves c.args.signals) (map string_bytes c.args.words.now) first second)
+    runs_without_memory (g.F.Files.state c.args.files.now).held
+    (λ first second. verdict_of (g.G.Sources.waves c.args.signals) (map string_bytes c.args.words.now) first second)
     (Rose (g.F.Files.state c.args.files.now).faults (g.F.Files.state c.args.files.now).faults) c.end_without_memory.result
     (g.S.Sink.state c.args.out.now) (g.S.Sink.state c.end_without_memory.new.out) (g.W.Wire.state c.args.wire.now).history
-    (g.L.Link.tells c.args.link.now) (g.L.Link.state c.args.link.now) c.end_without_memory.ensures.memory c.end_without_memory.ensures.line
+    (g.L.Link.tells c.args.link.now) (g.L.Link.state c.args.link.now)
+    (disk_used g.D.Disk.contents g.D.Disk.may_leave g.D.Disk.moment g.D.Disk.left_since g.D.Disk.fault_count c.args.disk.now c.args.disk.now)
+    (keeper_used g.K.Keeper.state c.args.keeper.now c.args.keeper.now)
+    c.end_without_memory.ensures.memory c.end_without_memory.ensures.line
 
 pub returns-in-Ok-Some-clause-migrated : goal.returns-in-Ok-Some-clause-migrated
 returns-in-Ok-Some-clause-migrated g c =

@@ -1,0 +1,72 @@
+//! The run of the program over the words of its process and the real outside.
+
+ghost use Rattle.std.specs.Prelude.{◌≡◌, Err, None};
+ghost use Rattle.std.specs.Process.{exit_status};
+ghost use Rattle.ads_outside.specs.Rose.{Rose};
+ghost use Rattle.ads_run.specs.Ending.{line_alone};
+ghost use Rattle.ads_run.specs.Prints.{PrintsEnding};
+ghost use Rattle.ads_run.specs.Program.{words_behind_name};
+ghost use Rattle.ads_run.specs.StatusTable.{number_of};
+ghost use Rattle.ads_run.specs.Tasks.{asked_task};
+
+use crate::real_outside::RealOutside;
+use ads_base::NoMemory;
+use ads_edge::RealSink;
+use ads_outside::Sink;
+use ads_run::{Status, end_without_memory, run_program};
+use std::env;
+use std::io::ErrorKind;
+use std::process::ExitCode;
+use std::thread::Threads;
+
+/// The status of the run over the words of the process, its standard output and the rest of its outside, with the threads
+/// that the program may start.
+pub fn status_of<T: Threads + Sync>(rt: &HostRuntime, threads: &T) -> Status {
+    let mut out = RealSink::new(rt);
+    run_real(rt, threads, words_of_process(rt), &mut out)
+}
+
+/// What the process ends with.
+pub fn exit_code(status: &Status) -> ExitCode
+    ensures { exit_status result ≡ number_of status.now }
+{
+    ExitCode::from(status.number())
+}
+
+/// `run_program` over a sink and the rest of the outside of the process, of which nothing is told.
+pub fn run_real<T: Threads + Sync, S: Sink>(
+    rt: &HostRuntime,
+    threads: &T,
+    words: Result<Vec<String>, ErrorKind>,
+    out: &mut S,
+) -> Status
+    ensures unreadable { words ≡ Err ErrorKind.OutOfMemory → result ≡ Status.Memory }
+    ensures usage { result ≡ Status.Usage → asked_task (words_behind_name words) ≡ None }
+    ensures no_command { asked_task (words_behind_name words) ≡ None
+        → PrintsEnding (line_alone Status.Usage) result (S.state out.old) (S.state out.new) }
+    ensures write_fault { result ≡ Status.WriteFault → Rose (S.state out.old).faults (S.state out.new).faults }
+{
+    match RealOutside::new(rt) {
+        Ok(mut outside) => run_program(
+            threads,
+            rt.alloc(),
+            words,
+            &mut outside.files,
+            &mut outside.wire,
+            &mut outside.link,
+            out,
+            &mut outside.disk,
+            &mut outside.keeper,
+        ),
+        Err(NoMemory) => end_without_memory(out),
+    }
+}
+
+// The words of the process, the program's name first; or what failed where they could not be read, as a word that is not
+// UTF-8.
+fn words_of_process(rt: &HostRuntime) -> Result<Vec<String>, ErrorKind> {
+    match env::args(rt) {
+        Ok(args) => args.collect(rt.alloc()).map_err(|_| ErrorKind::OutOfMemory),
+        Err(error) => Err(error.kind()),
+    }
+}
