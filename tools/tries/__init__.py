@@ -1,0 +1,1 @@
+"""What `try.py` tries of the tools, a file for each."""
