@@ -308,9 +308,10 @@ def offers():
 EVENTS = {"open": "opened", "bytes": "piece", "close": "closed", "tick": "tick", "writable": "writable"}
 
 
-def served(fails, cuts, events):
-    """What `serve` prints and what happens on its wire, where the n-th call of the wire fails and the n-th offer takes at most so many bytes."""
-    server, log, calls, cut = model.Server(PLANT, SIGNALS), [], 0, list(cuts)
+def served(machine, fails, cuts, events, limit=1000):
+    """What `serve` or `relay` prints and what happens on its wire, where the n-th call of the wire fails, the n-th offer takes at most so many bytes, and so many events
+    are taken."""
+    log, calls, cut = [], 0, list(cuts)
 
     def call():
         nonlocal calls
@@ -319,30 +320,30 @@ def served(fails, cuts, events):
 
     if not call():
         return 6, "ads: link fault\n", log
-    for event in events:
+    for event in events[:limit]:
         if not call():
             return 6, "listening\nads: link fault\n", log
         log.append(f"{EVENTS[event[0]]} {event[1]}")
-        conn = server.conns.get(event[1])
+        conn = machine.conns.get(event[1])
         if event[0] == "open":
-            server.conns[event[1]], server.opened = model.Connection(), server.opened + 1
+            machine.conns[event[1]], machine.opened = model.Connection(), machine.opened + 1
         elif event[0] == "tick":
-            server.tick(event[1])
+            machine.tick(event[1])
         elif event[0] == "close":
-            server.conns.pop(event[1], None)
+            machine.conns.pop(event[1], None)
         elif event[0] == "writable":
             if conn:
                 conn.blocked = False
         elif conn and not conn.closing:
             conn.stream += event[2]
-            server.take(conn)
-        for number in list(server.conns):
-            conn = server.conns[number]
+            machine.take(conn)
+        for number in list(machine.conns):
+            conn = machine.conns[number]
             while conn.queue and not conn.blocked:
                 given = conn.queue[0]
                 if not call():
                     log.append(f"lost {number}")
-                    del server.conns[number]
+                    del machine.conns[number]
                     break
                 took = min(len(given), cut.pop(0)) if cut else len(given)
                 conn.queued -= took
@@ -350,19 +351,27 @@ def served(fails, cuts, events):
                 conn.queue[0], conn.blocked = given[took:], took < len(given)
                 if not conn.blocked:
                     conn.queue.pop(0)
-            if number in server.conns and server.conns[number].closing:
+            if number in machine.conns and machine.conns[number].closing:
                 log.append(f"shut {number}")
                 calls += 1
-                del server.conns[number]
+                del machine.conns[number]
+    counts = f"listening\n{machine.summary()}\n"
+    if len(events) >= limit:
+        return 7, counts + "ads: budget\n", log
     if not call():
         return 6, "listening\nads: link fault\n", log
-    counts = f"connections {server.opened} requests {server.requests} replies {server.replies} samples {server.samples} reloads 0 0\n"
-    return 0, "listening\n" + counts, log
+    return 0, counts, log
 
 
-def serve(said, fails, cuts, events, puts=None, leave=None):
-    status, out, log = served(fails, cuts, events)
-    lines = [f"# {said}", "words serve plant.toml --listen 127.0.0.1:48898 --events 1000", "file plant.toml", "from plant.toml"]
+def serve(said, fails, cuts, events, puts=None):
+    return on_a_wire(said, "serve plant.toml", model.Server(PLANT, SIGNALS), fails, cuts, events, puts)
+
+
+def on_a_wire(said, words, machine, fails, cuts, events, puts=None, limit=1000):
+    """A run of `serve` or `relay` over a wire."""
+    status, out, log = served(machine, fails, cuts, events, limit)
+    plant = words.split()[1]
+    lines = [f"# {line}" for line in said.splitlines()] + [f"words {words} --listen 127.0.0.1:48898 --events {limit}", f"file {plant}", f"from {plant}"]
     lines += [f"fail-wire {fails}"] if fails else []
     lines += [f"cut {it}" for it in cuts]
     for event in events:
@@ -450,23 +459,24 @@ def shown():
                f"words replay plant.toml it.script\nfile plant.toml\nfrom shown_{schema}.toml\nfile it.script\n{script}\nstatus 0\nout\n{came}\n")
 
 
-def main():
-    made = list(shown())
-    with open(os.path.join(DATA, "shown.runs"), "w") as it:
+def written(name, runs):
+    made = list(runs())
+    with open(os.path.join(DATA, f"{name}.runs"), "w") as it:
         it.write("----\n".join(made))
-    print(f"shown.runs: {len(made)} runs")
-    for name, runs in (("frames", frames), ("lengths", lengths), ("sums", sums), ("edges", edges), ("limits", limits), ("reloads", reloads), ("offers", offers), ("faults", faults), ("calls", calls)):
-        made = list(runs())
-        with open(os.path.join(DATA, f"hostile_{name}.runs"), "w") as it:
-            it.write("----\n".join(made))
-        print(f"hostile_{name}.runs: {len(made)} runs")
-    import hostile_peers  # noqa: PLC0415 (it uses this file)
+    print(f"{name}.runs: {len(made)} runs")
 
+
+def main():
+    import hostile_peers  # noqa: PLC0415 (they use this file)
+    import relay_runs  # noqa: PLC0415
+
+    written("shown", shown)
+    for name, runs in (("frames", frames), ("lengths", lengths), ("sums", sums), ("edges", edges), ("limits", limits), ("reloads", reloads), ("offers", offers), ("faults", faults), ("calls", calls)):
+        written(f"hostile_{name}", runs)
     for name, runs in hostile_peers.SUBJECTS.items():
-        made = list(runs())
-        with open(os.path.join(DATA, f"peer_{name}.runs"), "w") as it:
-            it.write("----\n".join(made))
-        print(f"peer_{name}.runs: {len(made)} runs")
+        written(f"peer_{name}", runs)
+    for name, runs in relay_runs.SUBJECTS.items():
+        written(name, runs)
     return 0
 
 

@@ -1,4 +1,4 @@
-"""The server as a plain model, written from the protocol alone: what a device answers to a script of `ads replay`, byte for byte.
+"""The server and the relay as plain models, written from the protocol alone: what a device answers to a script of `ads replay`, and what `ads relay` passes on, byte for byte.
 
 It shares nothing with the program or its definitions, and is written for reading, not for speed. `python3 bench/random_runs.py` compares the two over random
 descriptions and scripts. A description is a dict with the keys of its text; a script is a list of events (see `turn`).
@@ -17,7 +17,7 @@ SIZE_OF = {0xF025: "inputs", 0xF035: "outputs", 0x4025: "memory", 0x4045: "data"
 GROUP_OF = {area: group for group, area in BYTES_OF.items()}
 SUMS = (0xF080, 0xF081, 0xF082)
 RIGHTS = {"read": 1, "write": 2, "control": 3}
-LIVE, WATCHES, QUEUED, MOST = 4096, 512, 4194304, 2000000
+LIVE, WATCHES, QUEUED, RECORDS, MOST = 4096, 512, 4194304, 4096, 2000000
 
 
 class Refused(Exception):
@@ -273,6 +273,39 @@ class Connection:
         self.queue, self.queued, self.closing, self.blocked, self.room, self.fails = [], 0, False, False, None, False
 
 
+def framed(target, source, command, flags, error, number, payload):
+    ams = target + source + u16(command) + u16(flags) + u32(len(payload)) + u32(error) + u32(number) + payload
+    return b"\0\0" + u32(len(ams)) + ams
+
+
+def queued(conn, frame):
+    """Whether a frame waits for a connection now. One that is closing is given nothing more, and one whose queue has no room becomes closing."""
+    if conn.closing:
+        return False
+    if conn.queued + len(frame) > QUEUED:
+        conn.closing = True
+        return False
+    conn.queue.append(frame)
+    conn.queued += len(frame)
+    return True
+
+
+def packets(conn):
+    """The AMS packets that came whole on a connection, each taken off its stream as it is asked for, while the connection is not closing; it becomes closing where no frame follows."""
+    while not conn.closing:
+        head = conn.stream[:6]
+        if len(head) < 6:
+            return
+        length = struct.unpack("<I", head[2:])[0]
+        if head[:2] != b"\0\0" or not 32 <= length <= 2097152:
+            conn.closing = True
+            return
+        if len(conn.stream) < 6 + length:
+            return
+        ams, conn.stream = conn.stream[6:6 + length], conn.stream[6 + length:]
+        yield ams
+
+
 class Server:
     """A device with its clients. `signals` are the waves of the signals."""
 
@@ -291,30 +324,12 @@ class Server:
     # Frames.
 
     def produce(self, conn, target, source, command, flags, error, number, payload, kind, samples=0):
-        if conn.closing:
-            return
-        ams = target + source + u16(command) + u16(flags) + u32(len(payload)) + u32(error) + u32(number) + payload
-        frame = b"\0\0" + u32(len(ams)) + ams
-        if conn.queued + len(frame) > QUEUED:
-            conn.closing = True
-            return
-        conn.queue.append(frame)
-        conn.queued += len(frame)
-        self.replies += kind == "reply"
-        self.samples += samples
+        if queued(conn, framed(target, source, command, flags, error, number, payload)):
+            self.replies += kind == "reply"
+            self.samples += samples
 
     def take(self, conn):
-        while not conn.closing:
-            head = conn.stream[:6]
-            if len(head) < 6:
-                return
-            length = struct.unpack("<I", head[2:])[0]
-            if head[:2] != b"\0\0" or not 32 <= length <= 2097152:
-                conn.closing = True
-                return
-            if len(conn.stream) < 6 + length:
-                return
-            ams, conn.stream = conn.stream[6:6 + length], conn.stream[6 + length:]
+        for ams in packets(conn):
             self.requests += 1
             self.frame(conn, ams)
 
@@ -635,52 +650,140 @@ class Server:
             self.notes(conn, ended, net)
 
 
+    def reloaded(self, it):
+        """The line of a reload: of an accepted description, or of the number of the rule that one breaks."""
+        if isinstance(it, int):
+            self.refused += 1
+            return [f"reload refused {it}"]
+        self.reload(it)
+        return [f"reload ok {self.version}"]
+
+    def summary(self):
+        return (f"connections {self.opened} requests {self.requests} replies {self.replies} samples {self.samples} "
+                f"reloads {self.accepted} {self.refused}")
+
+
+class Relay:
+    """A router between connections, each of which owns the NetId of the frames that it sends. Of a description it uses the routes alone."""
+
+    def __init__(self, d):
+        self.routes = {net_of(route["net"]) for route in d.get("route", [])}
+        self.opened, self.frames, self.passed, self.unknown = 0, 0, 0, 0
+        # (asked: the asker, the asked, and what a response to the request says of itself; the oldest first)
+        self.conns, self.owned, self.asked = {}, {}, []
+
+    def heard(self):
+        """The connections that are there and not closing."""
+        return {conn for conn in self.conns.values() if not conn.closing}
+
+    def owner(self, net):
+        return next((conn for conn in self.heard() if self.owned.get(conn) == net), None)
+
+    def take(self, conn):
+        for ams in packets(conn):
+            self.frames += 1
+            self.frame(conn, ams)
+
+    def frame(self, conn, ams):
+        target, source = ams[:8], ams[8:16]
+        command, flags, length, _, number = struct.unpack("<HHIII", ams[16:32])
+        whole, own = b"\0\0" + u32(len(ams)) + ams, self.owned.get(conn)
+        if length != len(ams) - 32 or source[:6] not in self.routes or (own != source[:6] if own else self.owner(source[:6])):
+            conn.closing = True
+            return
+        self.owned[conn] = source[:6]
+        if flags & 1:
+            self.response(conn, (target, source, command, number), whole)
+            return
+        to = self.owner(target[:6])
+        if to and queued(to, whole):
+            self.passed += 1
+            if command != 8:
+                self.remember(conn, to, (source, target, command, number))
+            return
+        self.unknown += 1
+        if command != 8:
+            queued(conn, framed(source, target, command, 5, 7, number, b""))
+
+    def response(self, conn, said, whole):
+        """A response: to the asker of the oldest request that it answers, which is spent; else nobody is told."""
+        for at, (asker, asked, wanted) in enumerate(self.asked):
+            if asked is conn and wanted == said and asker in self.heard():
+                del self.asked[at]
+                self.passed += queued(asker, whole)
+                return
+
+    def remember(self, asker, asked, wanted):
+        """A request is remembered, among the last 4,096 of its asker. Those of connections that are gone or closing are forgotten."""
+        self.asked.append((asker, asked, wanted))
+        if len(self.asked) > RECORDS:
+            # (no sooner can there be too many of one)
+            heard = self.heard()
+            self.asked = [it for it in self.asked if it[0] in heard and it[1] in heard]
+            own = [it for it in self.asked if it[0] is asker]
+            if len(own) > RECORDS:
+                self.asked.remove(own[0])
+
+    def tick(self, time):
+        """Nothing."""
+
+    def reloaded(self, it):
+        """Another description changes nothing, and no line tells of it."""
+        return []
+
+    def summary(self):
+        return f"connections {self.opened} frames {self.frames} passed {self.passed} unknown {self.unknown}"
+
+
 def play(d, signals, events):
     """What `replay` prints of these events, with its summary."""
-    server, lines = Server(d, signals), []
+    return played(Server(d, signals), events)
+
+
+def relayed(d, events):
+    """What `relay` prints of them."""
+    return played(Relay(d), events)
+
+
+def played(machine, events):
+    lines = []
     for event in events:
-        turn(server, event, lines)
-    lines.append(f"connections {server.opened} requests {server.requests} replies {server.replies} samples {server.samples} "
-                 f"reloads {server.accepted} {server.refused}")
-    return "".join(line + "\n" for line in lines)
+        turn(machine, event, lines)
+    return "".join(line + "\n" for line in [*lines, machine.summary()])
 
 
-def turn(server, event, lines):
-    """One event and the offers behind it: ("open", C), ("bytes", C, given), ("close", C), ("tick", T), ("reload", description or number of a broken rule),
-    ("room", C, N), ("fail", C)."""
-    kind, conn = event[0], server.conns.get(event[1]) if event[0] not in ("tick", "reload") else None
+def turn(machine, event, lines):
+    """One event of a server or a relay, and the offers behind it: ("open", C), ("bytes", C, given), ("close", C), ("tick", T), ("reload", description or number of
+    a broken rule), ("room", C, N), ("fail", C)."""
+    kind, conn = event[0], machine.conns.get(event[1]) if event[0] not in ("tick", "reload") else None
     if kind == "open":
-        server.conns[event[1]] = Connection()
-        server.opened += 1
+        machine.conns[event[1]] = Connection()
+        machine.opened += 1
     elif kind == "bytes" and conn and not conn.closing:
         conn.stream += event[2]
-        server.take(conn)
+        machine.take(conn)
     elif kind == "close" and conn:
-        del server.conns[event[1]]
+        del machine.conns[event[1]]
     elif kind == "tick":
-        server.tick(event[1])
-    elif kind == "reload" and isinstance(event[1], int):
-        server.refused += 1
-        lines.append(f"reload refused {event[1]}")
+        machine.tick(event[1])
     elif kind == "reload":
-        server.reload(event[1])
-        lines.append(f"reload ok {server.version}")
+        lines += machine.reloaded(event[1])
     elif kind == "room" and conn:
         conn.room, conn.blocked = event[2], False
     elif kind == "fail" and conn:
         conn.fails = True
     if kind != "fail":
-        for number in list(server.conns):
-            serve(server, number, lines)
+        for number in list(machine.conns):
+            serve(machine, number, lines)
 
 
-def serve(server, number, lines):
+def serve(machine, number, lines):
     """The offers of one connection behind an event."""
-    conn = server.conns[number]
+    conn = machine.conns[number]
     while conn.queue and not conn.blocked:
         if conn.fails:
             lines.append(f"lost {number}")
-            del server.conns[number]
+            del machine.conns[number]
             return
         frame = conn.queue[0]
         took = len(frame) if conn.room is None else min(len(frame), conn.room)
@@ -695,4 +798,4 @@ def serve(server, number, lines):
             conn.queue.pop(0)
     if conn.closing:
         lines.append(f"shut {number}")
-        del server.conns[number]
+        del machine.conns[number]

@@ -1,8 +1,8 @@
 #!/usr/bin/env python3
-"""Random descriptions and scripts: what `ads replay` prints against a model of the protocol in plain Python (bench/model.py), byte for byte; random clients of
-`ads serve` over loopback, each of whose bytes must be the model's; client commands over loopback to peers that answer by the model and then damage, repeat, cut or
-leave out what they say: each byte that is sent, what is printed and the status must be those of the model of a client (bench/client.py); and damaged descriptions and
-scripts, which must end with a status of their own and never crash or hang.
+"""Random descriptions and scripts: what `ads replay` prints against a model of the protocol in plain Python (bench/model.py), byte for byte, and what `ads relay`
+passes on between askers and targets, some of which lie; random clients of `ads serve` and `ads relay` over loopback, each of whose bytes must be the model's; client
+commands over loopback to peers that answer by the model and then damage, repeat, cut or leave out what they say: each byte that is sent, what is printed and the status
+must be those of the model of a client (bench/client.py); and damaged descriptions and scripts, which must end with a status of their own and never crash or hang.
 
     python3 bench/random_runs.py [--seconds N] [--seed N] [--program PATH] [--keep FOLDER]
 
@@ -358,6 +358,71 @@ def script(r, d, notes=True):
     return events
 
 
+def relay_frame(r, machine, number, nets):
+    """A frame of a connection of a relay: a request, a notification, or a response to what it was asked; some of them from others, or not as they should be."""
+    conn = machine.conns[number]
+    free = [net for net in nets if not machine.owner(model.net_of(net))]
+    own = machine.owned.get(conn) or model.net_of(r.choice(free if free and r.random() < 0.95 else nets))
+    source, target = own + model.u16(r.choice((851, 851, 32905))), model.net_of(r.choice((*nets, "5.1.2.3.1.1"))) + model.u16(r.choice((851, 851, 32905)))
+    command, flags, invoke, payload = r.choice((2, 2, 2, 4, 8, 9, 0, 65535)), r.choice((4, 4, 4, 4, 5, 0, 0xFFFF)), r.randrange(3), r.randbytes(r.choice((0, 4, 12, 70)))
+    asked = [wanted for _, to, wanted in machine.asked if to is conn]
+    if asked and r.random() < 0.6:
+        target, source, command, invoke = r.choice(asked)
+        flags = r.choice((5, 5, 5, 1))
+        if r.random() < 0.1:
+            target = target[:6] + model.u16(r.randrange(65536))
+        invoke ^= r.random() < 0.1
+    if r.random() < 0.02:
+        source = model.net_of(r.choice((*nets, "9.9.9.9.1.1"))) + source[6:]
+    length = len(payload) + (r.choice((1, -1 if payload else 1)) if r.random() < 0.01 else 0)
+    ams = target + source + model.u16(command) + model.u16(flags) + model.u32(length) + model.u32(r.choice((0, 0, 7))) + model.u32(invoke) + payload
+    return (b"\1\0" if r.random() < 0.005 else b"\0\0") + model.u32(len(ams)) + ams
+
+
+def note_to_itself(frame):
+    """A notification to the source of a frame."""
+    ams = frame[14:22] + frame[14:22] + model.u16(8) + model.u16(4) + bytes(12)
+    return b"\0\0" + model.u32(len(ams)) + ams
+
+
+def relay_script(r, d, is_served=False):
+    """Events of a relay's connections. Over loopback these are frames alone, each with a notification of its sender to itself, which says that the frame was taken."""
+    events, opened, machine = [], 0, model.Relay(d)
+    nets = [route["net"] for route in d["route"]]
+
+    def happens(*event):
+        events.append(event)
+        model.turn(machine, event, [])
+
+    for _ in range(r.choice((10, 50, 200))):
+        choice, live = r.random(), sorted(machine.conns)
+        if not live or choice < (0.08 if len(live) < len(nets) else 0.02):
+            opened += 1
+            happens("open", opened)
+        elif is_served:
+            number = r.choice(live)
+            frame = relay_frame(r, machine, number, nets)
+            happens("bytes", number, frame + note_to_itself(frame))
+        elif choice < 0.85:
+            number = r.choice(live)
+            stream = b"".join(relay_frame(r, machine, number, nets) for _ in range(r.choice((1, 1, 1, 3))))
+            while stream and number in machine.conns:
+                cut = len(stream) if r.random() < 0.8 else r.randint(1, len(stream))
+                happens("bytes", number, stream[:cut])
+                stream = stream[cut:]
+        elif choice < 0.88:
+            happens("close", r.choice(live))
+        elif choice < 0.93:
+            happens("room", r.choice(live), r.choice((0, 10, 38, 200, 5000, 2 ** 64 - 1)))
+        elif choice < 0.95:
+            happens("fail", r.choice(live))
+        elif choice < 0.98:
+            happens("tick", r.randrange(2 ** 64))
+        else:
+            happens("reload", 0, r.choice(("= 1\n", toml_of(d), "")))
+    return events
+
+
 def lines_of(r, events):
     lines = []
     for event in events:
@@ -398,10 +463,21 @@ def one_replay(program, seed, folder):
     r = random.Random(seed)
     d = description(r)
     events = script(r, d)
-    write(folder, "plant.toml", toml_of(d))
-    write(folder, "it.script", lines_of(r, events))
-    status, out, err = ran(program, ["replay", "plant.toml", "it.script"], folder)
-    wanted = model.play(d, SIGNALS, events)
+    return played(program, "replay", toml_of(d), lines_of(r, events), model.play(d, SIGNALS, events), folder)
+
+
+def one_relay(program, seed, folder):
+    """The same of a relay."""
+    r = random.Random(seed)
+    d = description(r)
+    events = relay_script(r, d)
+    return played(program, "relay", toml_of(d), lines_of(r, events), model.relayed(d, events), folder)
+
+
+def played(program, command, plant, text, wanted, folder):
+    write(folder, "plant.toml", plant)
+    write(folder, "it.script", text)
+    status, out, err = ran(program, [command, "plant.toml", "it.script"], folder)
     write(folder, "came", out)
     write(folder, "wanted", wanted)
     if status != 0 or err or out.decode(errors="replace") != wanted:
@@ -419,13 +495,13 @@ def received(conn, count):
     return given
 
 
-def talked(events, d, port):
-    """Plays events over sockets against the model; what differs, or None. A whole frame is sent before anything is waited for."""
-    server, conns = model.Server(d, SIGNALS), {}
+def talked(events, machine, port):
+    """Plays events over sockets against the model of a server or a relay; what differs, or None. A whole frame is sent before anything is waited for."""
+    conns = {}
     try:
         for event in events:
             lines, conn = [], conns.get(event[1])
-            model.turn(server, event, lines)
+            model.turn(machine, event, lines)
             if event[0] == "open":
                 conns[event[1]] = socket.create_connection(("127.0.0.1", port), timeout=20)
             elif conn is None:
@@ -434,21 +510,35 @@ def talked(events, d, port):
                 conns.pop(event[1]).close()
             else:
                 conn.sendall(event[2])
-            wanted = b"".join(bytes.fromhex(line.split()[2]) for line in lines if line.startswith("out "))
-            came = received(conn, len(wanted)) if wanted else b""
-            if came != wanted:
-                return f"connection {event[1]}: {came.hex()} came, {wanted.hex()} was wanted"
-            if any(line.startswith("shut ") for line in lines):
-                rest = conn.recv(1)
-                conns.pop(event[1]).close()
-                if rest:
-                    return f"connection {event[1]} went on, which was to be shut"
+            said = not_told(conns, lines)
+            if said:
+                return said
     except OSError as fault:
         return f"{event[0]} {event[1]}: {fault}"
     finally:
         for conn in conns.values():
             conn.close()
     return None
+
+
+def not_told(conns, lines):
+    """What connections are not told of what these lines say; None where they are told all of it, and are shut."""
+    for line in lines:
+        word, number, *given = line.split()
+        wanted = bytes.fromhex("".join(given))
+        came = received(conns[int(number)], len(wanted)) if word == "out" else rest(conns.pop(int(number)))
+        if came != wanted:
+            return f"connection {number}: {came.hex()} came, {wanted.hex() or 'its end'} was wanted"
+    return None
+
+
+def rest(conn):
+    """What comes on a connection that is to be shut."""
+    with conn:
+        try:
+            return conn.recv(1)
+        except ConnectionResetError:
+            return b""
 
 
 def one_served(program, seed, folder):
@@ -460,16 +550,27 @@ def one_served(program, seed, folder):
             symbol.pop("signal", None)
     # (samples, ticks and reloads come by the clock)
     events = [event for event in script(r, d, notes=False) if event[0] in ("open", "bytes", "close")]
+    return listened(program, "serve", d, events, model.Server(d, SIGNALS), folder)
+
+
+def one_relayed(program, seed, folder):
+    """Random askers and targets of a relay over loopback."""
+    r = random.Random(seed)
+    d = description(r)
+    return listened(program, "relay", d, relay_script(r, d, True), model.Relay(d), folder)
+
+
+def listened(program, command, d, events, machine, folder):
     write(folder, "plant.toml", toml_of(d))
     with socket.socket() as free:
         free.bind(("127.0.0.1", 0))
         port = free.getsockname()[1]
-    words = [program, "serve", "plant.toml", "--listen", f"127.0.0.1:{port}", "--events", "1000000000"]
+    words = [program, command, "plant.toml", "--listen", f"127.0.0.1:{port}", "--events", "1000000000"]
     with subprocess.Popen(words, cwd=folder, stdout=subprocess.PIPE, stderr=subprocess.PIPE) as it:
         try:
             if it.stdout.readline() != b"listening\n":
                 return "it does not listen"
-            said = talked(events, d, port)
+            said = talked(events, machine, port)
             return said or (f"it ended with {it.returncode}" if it.poll() is not None else None)
         finally:
             it.kill()
@@ -686,6 +787,11 @@ def one_damaged(program, seed, folder):
     return None
 
 
+def has_relay(program, folder):
+    """Whether the program has the command: without it the words are no command, which is status 1."""
+    return ran(program, ["relay", "no.toml", "no.script"], folder)[0] != 1
+
+
 def main():
     it = argparse.ArgumentParser(description=__doc__, formatter_class=argparse.RawDescriptionHelpFormatter)
     it.add_argument("--seconds", type=float, default=60)
@@ -693,10 +799,12 @@ def main():
     it.add_argument("--program", default=PROGRAM)
     it.add_argument("--keep", default=os.path.join(tempfile.gettempdir(), "ads_random"))
     given = it.parse_args()
-    program, begun, seed, counts, wrong = os.path.abspath(given.program), time.time(), given.seed, {"replays": 0, "served": 0, "peers": 0, "damaged": 0}, 0
+    program, begun, seed, counts, wrong = os.path.abspath(given.program), time.time(), given.seed, dict.fromkeys(("replays", "relays", "served", "relayed", "peers", "damaged"), 0), 0
     with tempfile.TemporaryDirectory() as folder:
+        relays = has_relay(program, folder)
         while time.time() - begun < given.seconds and wrong < 10:
-            for name, one, own in (("replays", one_replay, seed), ("served", one_served, seed), *(("peers", one_peer, 8 * seed + k) for k in range(8)), ("damaged", one_damaged, seed)):
+            kinds = [("replays", one_replay, seed), ("relays", one_relay, seed), ("served", one_served, seed), ("relayed", one_relayed, seed), *(("peers", one_peer, 8 * seed + k) for k in range(8)), ("damaged", one_damaged, seed)]
+            for name, one, own in [kind for kind in kinds if relays or kind[0] not in ("relays", "relayed")]:
                 said = one(program, own, folder)
                 counts[name] += 1
                 if said:
@@ -708,7 +816,7 @@ def main():
                             write(kept, file, one_file.read())
                     print(f"{name}, seed {own}: {said}; kept in {kept}")
             seed += 1
-    print(f"{counts['replays']} scripts, {counts['served']} plants and {counts['peers']} client commands over loopback against the models, {counts['damaged']} damaged inputs, {wrong} wrong, seeds {given.seed} to {seed - 1}")
+    print(f"{counts['replays'] + counts['relays']} scripts, {counts['served'] + counts['relayed']} plants and {counts['peers']} client commands over loopback against the models, {counts['damaged']} damaged inputs, {wrong} wrong, seeds {given.seed} to {seed - 1}")
     return 1 if wrong else 0
 
 

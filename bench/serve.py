@@ -92,13 +92,13 @@ def plan_all(plan_of):
 class Bench:
     """Both servers, the C server last, and loads of them; all in a folder of their own, until the stack ends them."""
 
-    def __init__(self, stack, program, quick):
-        self.stack, self.quick = stack, quick
+    def __init__(self, stack, program, quick, command="serve", description=None):
+        self.stack, self.quick, self.client = stack, quick, f"./{command}_client"
         os.chdir(stack.enter_context(tempfile.TemporaryDirectory()))
-        for name in ("serve_limit", "serve_client"):
+        for name in (f"{command}_limit", f"{command}_client"):
             subprocess.run(["gcc", "-O2", "-pthread", "-o", name, f"{HERE}/{name}.c"], check=True)
-        pathlib.Path("plant.toml").write_text(toml_of(plant(0, SYMBOLS)))
-        self.servers = [self.serve([program, "serve", "plant.toml", "--events", str(2 ** 64 - 1), "--listen"], "127.0.0.1:"), self.serve(["./serve_limit"], "")]
+        pathlib.Path("plant.toml").write_text(toml_of(description or plant(0, SYMBOLS)))
+        self.servers = [self.serve([program, command, "plant.toml", "--events", str(2 ** 64 - 1), "--listen"], "127.0.0.1:"), self.serve([f"./{command}_limit"], "")]
 
     def start(self, command, **more):
         process = subprocess.Popen(command, stdout=subprocess.PIPE, **more)
@@ -120,7 +120,7 @@ class Bench:
     def load(self, server, *numbers):
         port, process = server
         with open("plan", "rb") as it:
-            return self.start(["./serve_client", port, str(process.pid), *map(str, numbers)], stdin=it)
+            return self.start([self.client, port, str(process.pid), *map(str, numbers)], stdin=it)
 
     def medians(self, *numbers):
         """Of both servers: replies a second, processor ns of each, the longest gap in ms. And the ratios of the first two to the C server's, each the median of what the turns gave."""
@@ -139,8 +139,8 @@ def figures(server, client):
     said = client.stdout.read().split()
     if client.wait():
         sys.exit(f"{server[1].args[0]} under {' '.join(client.args)}: status {client.returncode}")
-    count, took, cost, gap = map(float, said)
-    return count / took, 1e9 * cost / max(count, 1), 1e3 * gap
+    count, took, cost, *gap = map(float, said)
+    return count / took, 1e9 * cost / max(count, 1), *(1e3 * it for it in gap)
 
 
 def requests(bench, plot):

@@ -1,0 +1,261 @@
+#!/usr/bin/env python3
+"""Runs the commands that the pages show, over the built program, and compares what they say is printed.
+
+    python3 bench/docs.py [PROGRAM] [PAGE ..]
+
+PROGRAM is crates/ads/out/ads where it is absent (`rt run` in crates/ads builds it, and so does .ci/run). Of a page each block
+```console is run, line by line in one shell, in a folder of its own that holds the examples: a line `$ ..` is a command, the lines
+behind it are all that it prints. `rt try -- ..` and `rt run -- ..` stand for the program itself. Ports are replaced by free ones.
+The spellings in the table of values and the examples of the manual page are tried, the answers that docs/CONNECTING.md tells asked
+for (connecting.py), the cases counted, and the links between the pages followed. Each difference is told with its page and line; status 1 where there is one.
+"""
+import pathlib
+import queue
+import re
+import shutil
+import socket
+import subprocess
+import sys
+import tempfile
+import threading
+import time
+
+import connecting
+
+ROOT = pathlib.Path(__file__).resolve().parent.parent
+LINKED = ["README.md", *sorted(str(p.relative_to(ROOT)) for p in (ROOT / "docs").glob("*.md"))]
+PAGES = [page for page in LINKED if "```console" in (ROOT / page).read_text()]
+MARK = "--- that was it ---"
+RT = 'rt() { if [ "$1" = try ] || [ "$1" = run ]; then shift; [ "$1" = -- ] && shift; ads "$@"; fi; }\n'
+SECONDS = 30
+
+
+def free_port():
+    with socket.socket() as s:
+        s.bind(("127.0.0.1", 0))
+        return str(s.getsockname()[1])
+
+
+def blocks(page):
+    """The commands of a page: (line number, command, wanted lines)."""
+    found, inside = [], False
+    for number, line in enumerate((ROOT / page).read_text().split("\n"), 1):
+        if line.startswith("```"):
+            inside = line.strip() == "```console"
+        elif inside and line.startswith("$ "):
+            found.append((number, line[2:], []))
+        elif inside and found:
+            found[-1][2].append(line)
+    return found
+
+
+class Shell:
+    """A shell whose lines of output come through a queue."""
+
+    def __init__(self, folder):
+        self.errors = open(folder / "errors.txt", "w+")
+        self.process = subprocess.Popen(["bash"], cwd=folder, stdin=subprocess.PIPE, stdout=subprocess.PIPE, stderr=self.errors,
+                                        text=True, bufsize=1)
+        self.lines = queue.Queue()
+        threading.Thread(target=self.read, daemon=True).start()
+        self.say(RT)
+
+    def read(self):
+        for line in self.process.stdout:
+            self.lines.put(line.rstrip("\n"))
+        self.lines.put(None)
+
+    def say(self, text):
+        self.process.stdin.write(text)
+        self.process.stdin.flush()
+
+    def take(self, until):
+        try:
+            return self.lines.get(timeout=max(0.0, until - time.time()))
+        except queue.Empty:
+            return None
+
+    def run(self, command, wanted):
+        """All lines that a command prints; of one in the background as many as are wanted."""
+        until, got, ended = time.time() + SECONDS, [], False
+        behind = command.rstrip().endswith("&")
+        self.say(command + ("; wait 2>/dev/null" if command.startswith("kill ") else "") + f"\necho '{MARK}'\n")
+        while not ended or (behind and len(got) < wanted):
+            line = self.take(until)
+            if line is None and not ended:
+                # (what the command started is ended, so that the next command has its turn)
+                subprocess.run(["pkill", "-P", str(self.process.pid)])
+                got.append(f"(not done after {SECONDS} seconds)")
+                until = time.time() + 5
+                if len(got) > wanted + 2:
+                    return got
+                continue
+            if line is None:
+                return got + ["(nothing more came)"]
+            if line == MARK:
+                ended = True
+            else:
+                got.append(line)
+        return got
+
+    def stop(self):
+        self.say("kill $(jobs -p) 2>/dev/null\nexit\n")
+        try:
+            self.process.wait(10)
+        except subprocess.TimeoutExpired:
+            self.process.kill()
+
+
+def try_page(page, program, folder):
+    shutil.rmtree(folder, ignore_errors=True)
+    (folder / "crates/ads/out").mkdir(parents=True)
+    (folder / "crates/ads/out/ads").symlink_to(program)
+    shutil.copytree(ROOT / "examples", folder / "examples")
+    for name in ("docs", "tools", "bench"):
+        (folder / name).symlink_to(ROOT / name)
+    ports, wrong, commands = {}, 0, blocks(page)
+    shell = Shell(folder)
+    shell.say(f"PATH={folder}/crates/ads/out:$PATH\n")
+    for number, command, wanted in commands:
+        for port in re.findall(r"\b(?:127\.0\.0\.1|0\.0\.0\.0):(\d+)", command):
+            ports.setdefault(port, free_port())
+        tried = re.sub(r"(\b(?:127\.0\.0\.1|0\.0\.0\.0):)(\d+)", lambda m: m.group(1) + ports[m.group(2)], command)
+        got = shell.run(tried, len(wanted))
+        if got != wanted:
+            wrong += 1
+            print(f"{page}:{number}: {command}")
+            for line in wanted:
+                print(f"  said  {line}")
+            for line in got:
+                print(f"  came  {line}")
+            shell.errors.seek(0)
+            for line in shell.errors.read().split("\n")[-3:]:
+                if line:
+                    print(f"  error {line}")
+    shell.stop()
+    print(f"{page}: {len(commands)} commands, {wrong} otherwise")
+    return wrong
+
+
+PLANT = """schema = 2
+net = "5.1.2.3.1.1"
+[[route]]
+net = "192.168.0.9.1.1"
+rights = "control"
+[[type]]
+name = "Mode"
+base = "INT"
+value = [{{ name = "Auto", number = 2 }}, {{ name = "Off", number = 0 }}]
+[[port]]
+port = 851
+name = "Values"
+major = 1
+minor = 0
+build = 0
+data = 64
+[[port.symbol]]
+name = "V.x"
+type = "{}"
+area = "data"
+offset = 0
+"""
+REFUSED = 13
+
+
+def try_values(program, folder):
+    """The table of values: each spelling that `set` takes or refuses, over a symbol of the row's type."""
+    rows = (ROOT / "docs/COMMANDS.md").read_text().split("| `set` refuses, with status 13 |\n|---|---|---|\n")[1].split("\n\n")[0]
+    count = wrong = 0
+    for row in rows.split("\n"):
+        kind, takes, refuses = [re.findall(r"`([^`]+)`", cell) for cell in row.strip("| ").split(" | ")]
+        (folder / "values.toml").write_text(PLANT.format(kind[0]))
+        for texts, status in ((takes, 0), (refuses, REFUSED)):
+            for text in texts:
+                ended = subprocess.run([program, "set", "V.x", "--local", folder / "values.toml", "--me", "192.168.0.9.1.1", "--", text],
+                                       stdout=subprocess.PIPE, text=True)
+                count += 1
+                if ended.returncode != status:
+                    wrong += 1
+                    print(f"docs/COMMANDS.md: {kind[0]} := {text}: status {ended.returncode}, {ended.stdout.strip()}")
+    print(f"docs/COMMANDS.md: {count} spellings of values, {wrong} otherwise")
+    return wrong
+
+
+def try_manual(program):
+    """The manual page: it has each command and each last line of docs/COMMANDS.md, and what it shows in the same process is done."""
+    manual, pages = (ROOT / "docs/ads.1").read_text(), (ROOT / "docs/COMMANDS.md").read_text()
+    rows = [[re.findall(r"`([^`]+)`", cell) for cell in line.strip("| ").split(" | ")] for line in pages.split("\n") if line.startswith("| ")]
+    wanted = {text for row in rows for text in row[0] if re.fullmatch(r"[a-z]+", text)}
+    wanted |= {text for row in rows for cell in row for text in cell if text.startswith("ads: ")}
+    missing = sorted(text for text in wanted if not re.search(rf"\b{re.escape(text)}\b", manual))
+    for text in missing:
+        print(f"docs/ads.1: {text} of docs/COMMANDS.md is not there")
+    shown = [line for part in manual.split(".Bd ")[1:] for line in part.split(".Ed")[0].replace("\\(dq", '"').split("\n")[1:] if "--local" in line]
+    wrong = len(missing)
+    for line in shown:
+        ended = subprocess.run(["bash", "-c", 'ads() { "$PROGRAM" "$@"; }; export -f ads; timeout() { shift; "$@"; }; ' + line], cwd=ROOT / "examples",
+                               env={"PROGRAM": str(program), "PATH": "/usr/bin:/bin"}, stdout=subprocess.DEVNULL)
+        if ended.returncode:
+            wrong += 1
+            print(f"docs/ads.1: {line}: status {ended.returncode}")
+    print(f"docs/ads.1: {len(wanted)} words of docs/COMMANDS.md, {len(shown)} commands, {wrong} otherwise")
+    return wrong
+
+
+def count_cases():
+    """The figures of docs/GUARANTEES.md: cases, whole runs, and the hostile ones among them."""
+    data, text = ROOT / "crates/cases_run/data", (ROOT / "docs/GUARANTEES.md").read_text()
+    runs = {name: len([part for part in re.split(r"^----$", (data / name).read_text(), flags=re.M) if part.strip()])
+            for name in (data / "runs.txt").read_text().split()}
+    figures = {"cases": int((ROOT / "crates/cases/stdout").read_text().split("\n")[-2].split()[0]), "runs": sum(runs.values()),
+               "hostile runs": sum(count for name, count in runs.items() if name.startswith(("hostile", "peer_")))}
+    wrong = [name for name, count in figures.items() if f"{count:,}" not in text]
+    for name in wrong:
+        print(f"docs/GUARANTEES.md: there are {figures[name]:,} {name}")
+    return len(wrong)
+
+
+def anchors(path):
+    """The anchors of a page, as the sites that show it make them."""
+    found = set()
+    for line in path.read_text().split("\n"):
+        if line.startswith("#"):
+            title = re.sub(r"[^\w\- ]", "", line.lstrip("#").strip().lower()).replace(" ", "-")
+            found.add(title)
+    return found
+
+
+def follow_links(page):
+    wrong, count = 0, 0
+    text = re.sub(r"```.*?```", "", (ROOT / page).read_text(), flags=re.S)
+    for target in re.findall(r"\]\(([^)\s]+)\)", text):
+        if re.match(r"[a-z]+:", target):
+            continue
+        count += 1
+        name, _, anchor = target.partition("#")
+        path = (ROOT / page).parent / name if name else ROOT / page
+        if not path.exists() or (anchor and path.suffix == ".md" and anchor not in anchors(path)):
+            wrong += 1
+            print(f"{page}: the link {target} leads nowhere")
+    return count, wrong
+
+
+def main(words):
+    pages = [word for word in words if word.endswith(".md")]
+    programs = [word for word in words if not word.endswith(".md")]
+    program = pathlib.Path(programs[0] if programs else ROOT / "crates/ads/out/ads").resolve()
+    if not program.is_file():
+        print(f"there is no program at {program}: `rt run` in crates/ads builds it")
+        return 2
+    wrong = 0
+    with tempfile.TemporaryDirectory() as folder:
+        for page in pages or PAGES:
+            wrong += try_page(page, program, pathlib.Path(folder) / "tried")
+        wrong += try_values(program, pathlib.Path(folder)) + try_manual(program) + count_cases() + connecting.try_steps(program)
+    counts = [follow_links(page) for page in LINKED]
+    print(f"{sum(c for c, _ in counts)} links, {sum(w for _, w in counts)} of them lead nowhere")
+    return 1 if wrong or any(w for _, w in counts) else 0
+
+
+if __name__ == "__main__":
+    sys.exit(main(sys.argv[1:]))
