@@ -3,7 +3,7 @@ use Rattle.std.proofs.Common.{◌≡◌, ◌≢◌, ℕ, suc, ◌+◌, ◌-◌, 
 use Rattle.std.proofs.Common.{[], ◌∷◌, ◌++◌, length, map, take, drop, get_or, Option, Some, None, IsSome, refl, sym, ap}
 use Rattle.std.proofs.Common.{◌∙◌, subst, arith, inl, inr}
 use Rattle.std.specs.List.{All, filter, filter_map, insert, remove, position, position_or_len}
-use Rattle.std.proofs.lemmas.Bool.{cases_lt, cases_Bool, false≢true, le-leb, lt-leb}
+use Rattle.std.proofs.lemmas.Bool.{cases_lt, cases_Bool, false≢true, le-leb, lt-leb, lt-ltb}
 use Rattle.std.proofs.lemmas.List.{length-map, get_or-map, append_assoc, take_at, drop_at, length-take-le}
 use Rattle.std.proofs.lemmas.List.{length-append}
 use Rattle.std.proofs.Math.Seq.{drop-cons}
@@ -19,6 +19,15 @@ use Rattle.notify_table.specs.Schedules.{no_watch, nth_watch, watch_in, watch_at
 use Rattle.notify_table.specs.Schedules.{AreScheduled, IsSettled}
 use Rattle.notify_table.proofs.Filtered.{insert-remove, All-insert, All-remove, map-insert, map-remove, OncePer-others}
 use Rattle.notify_table.proofs.Filtered.{OncePer-insert, OncePer-remove, length-insert_one}
+
+-- where the first passes, it is the first that does
+pub first_passes : {X : Type 0} (p : X → Bool) (xs : List X) (x : X) → 0 < length xs → x ≡ get_or xs 0 x → p x ≡ true
+    → position p xs ≡ Some 0
+first_passes p [] x some is passes = absurd (omega (arith, some))
+first_passes p (y ∷ ys) x some is passes =
+    let first : p y ≡ true = subst (λ z. p z ≡ true) is passes in
+    let at_first : position_or_len p (y ∷ ys) ≡ 0 = rw first refl in
+    rw (at_first, lt-ltb 0 (length (y ∷ ys)) (omega arith)) refl
 
 module _ (old new : Slab (Watch Range)) (key : ℕ) (slot : Option (Watch Range)) where
   -- where the record of one key changes, the others are as they were

@@ -118,7 +118,7 @@ impl Record {
     {
         match self.last {
             None => true,
-            Some(_) => self.spec.mode == Mode::Cycle || bytes != self.sent.as_slice(),
+            Some(_) => self.spec.mode == Mode::Cycle || !self.sent.is(bytes),
         }
     }
 }

@@ -1,7 +1,7 @@
 //! The live notifications of one connection, in the order in which their checks become due.
 
 ghost use Rattle.std.specs.Prelude.{◌≡◌, ℕ, ◌+◌, ◌<◌, ◌≤◌, [], map, filter, length, insert, remove, position};
-ghost use Rattle.std.specs.Prelude.{nat_eq, IsSome, IfSome, Some, All, option_map, IfOk, OnOk, OnErr};
+ghost use Rattle.std.specs.Prelude.{nat_eq, IsSome, IfSome, Some, IsTrue, All, option_map, IfOk, OnOk, OnErr};
 ghost use Rattle.slab.specs.Slab.{get, slab_len, Updates};
 ghost use Rattle.spec_machine.specs.Watches.{is_due, is_sent, after_check, watch_after_reload, watches_after_reload};
 ghost use Rattle.index_groups.specs.Access.{range_meant};
@@ -191,7 +191,21 @@ impl Schedule {
 fn place_of_handle(turns: &VecDeque<Turn>, handle: u32) -> Option<usize>
     ensures { result ≡ position (λ t. nat_eq (handle_of_turn t) handle) turns.now.items }
 {
+    // The first is due the longest, so mostly it is looked for.
+    if is_first(turns, handle) {
+        return Some(0);
+    }
     turns.iter().position(|turn| turn.handle == handle)
+}
+
+// Whether the first turn is that of a handle.
+fn is_first(turns: &VecDeque<Turn>, handle: u32) -> bool
+    ensures { IsTrue result → position (λ t. nat_eq (handle_of_turn t) handle) turns.now.items ≡ Some 0 }
+{
+    match turns.front() {
+        Some(turn) => turn.handle == handle,
+        None => false,
+    }
 }
 
 fn spec_of(records: &Slab<Record>, key: usize) -> Spec

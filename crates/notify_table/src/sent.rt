@@ -1,6 +1,6 @@
 //! The bytes that a notification last sent.
 
-ghost use Rattle.std.specs.Prelude.{◌≡◌, length, bytes_eq, IfOk};
+ghost use Rattle.std.specs.Prelude.{◌≡◌, ◌≤◌, length, take, bytes_eq, IfOk};
 
 use ads_base::NoMemory;
 use std::alloc::Global;
@@ -55,15 +55,48 @@ impl SentBytes {
         }
     }
 
+    // Whether it holds these bytes.
+    pub fn is(&self, bytes: &[u8]) -> bool
+        ensures { result ≡ bytes_eq bytes.now self.now }
+    {
+        are_same(bytes, self.as_slice())
+    }
+
     // As many other bytes.
     pub fn put(&mut self, bytes: &[u8])
         requires { length bytes.now ≡ length self.old }
         ensures { self.new ≡ bytes.now }
     {
         if self.len <= FEW {
-            self.few[..self.len].copy_from_slice(bytes);
+            self.few = few_of(bytes);
         } else {
             self.many.as_mut_slice().copy_from_slice(bytes);
         }
     }
+}
+
+// Whether two runs of bytes are the same. Four are compared in one step, where any number of them is a call.
+fn are_same(bytes: &[u8], others: &[u8]) -> bool
+    ensures { result ≡ bytes_eq bytes.now others.now }
+{
+    if let Some(four) = bytes.as_array::<4>() {
+        if let Some(other) = others.as_array::<4>() {
+            return *four == *other;
+        }
+    }
+    bytes == others
+}
+
+// At most eight bytes, and zeros behind them. Four are moved in one step.
+fn few_of(bytes: &[u8]) -> [u8; FEW]
+    requires { length bytes.now ≤ 8 }
+    ensures { take (length bytes.now) result ≡ bytes.now }
+{
+    if let Some(four) = bytes.as_array::<4>() {
+        let [a, b, c, d] = *four;
+        return [a, b, c, d, 0, 0, 0, 0];
+    }
+    let mut few = [0; FEW];
+    few[..bytes.len()].copy_from_slice(bytes);
+    few
 }

@@ -85,7 +85,25 @@ pub(crate) fn take_turn(turns: &mut VecDeque<Turn>, at: usize) -> Turn
     ensures len { deque_len turns.new + 1 ≡ deque_len turns.old }
     ensures capacity { deque_capacity turns.new ≡ deque_capacity turns.old }
 {
+    // The first is due the longest, so mostly it is taken; it leaves its place without a move of the others.
+    if at == 0 {
+        return take_first(turns);
+    }
     match turns.remove(at) {
+        Some(turn) => turn,
+        None => unreachable!(),
+    }
+}
+
+// Takes the first turn out. Its room stays.
+fn take_first(turns: &mut VecDeque<Turn>) -> Turn
+    requires { 0 < deque_len turns.old }
+    ensures value { result ≡ slice_index_or turns.old.items 0 result }
+    ensures items { turns.new.items ≡ remove turns.old.items 0 }
+    ensures len { deque_len turns.new + 1 ≡ deque_len turns.old }
+    ensures capacity { deque_capacity turns.new ≡ deque_capacity turns.old }
+{
+    match turns.pop_front() {
         Some(turn) => turn,
         None => unreachable!(),
     }
