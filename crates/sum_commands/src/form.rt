@@ -4,6 +4,8 @@ ghost use Rattle.std.specs.Prelude.{◌≡◌, ◌≤◌, ◌*◌, ℕ, List};
 ghost use Rattle.spec_machine.specs.Sums.{MAX_PARTS};
 ghost use Rattle.sum_commands.specs.SumCommand.{sum_of};
 
+use index_groups::{SUM_READ, SUM_WRITE};
+
 // How the parts of a sum are packed.
 #[derive(Clone, Copy)]
 pub(crate) enum Form {
@@ -25,8 +27,8 @@ impl Form {
         ensures { (n : ℕ) (bytes : List ℕ) → sum_in result n bytes ≡ sum_of group n bytes }
     {
         match group {
-            0xF080 => Form::Reads,
-            0xF081 => Form::Writes,
+            SUM_READ => Form::Reads,
+            SUM_WRITE => Form::Writes,
             _ => Form::ReadWrites,
         }
     }
