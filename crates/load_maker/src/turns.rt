@@ -10,6 +10,7 @@ use crate::lines::put_tick;
 use crate::requests::put_request_line;
 use ads_base::{NoMemory, Octets};
 use ads_commands::Request;
+use index_groups::PROCESS_BYTES;
 use std::alloc::Global;
 
 /// Appends the lines of `n` requests, as the row of numbers says that begins with `n`.
@@ -79,7 +80,7 @@ fn put_read(
     ensures { OnOk result (out.new ≡ out.old ++ line_text (request_line client (10 + i) (Read DATA (4 * symbol) 4))) }
 {
     let request = Request::Read {
-        group: 0x4040,
+        group: PROCESS_BYTES,
         offset: 4 * symbol,
         len: 4,
     };
@@ -99,7 +100,7 @@ fn put_write(
 {
     let value = i.to_le_bytes();
     let request = Request::Write {
-        group: 0x4040,
+        group: PROCESS_BYTES,
         offset: 4 * symbol,
         bytes: &value,
     };

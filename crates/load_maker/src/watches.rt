@@ -7,6 +7,7 @@ ghost use Rattle.load_maker.specs.LoadScript.{clients, watch_line, watch_lines};
 use crate::requests::put_request_line;
 use ads_base::{NoMemory, Octets};
 use ads_commands::Request;
+use index_groups::PROCESS_BYTES;
 use std::alloc::Global;
 
 /// Appends the lines in which the four clients watch ten values each.
@@ -38,7 +39,7 @@ fn put_watch(alloc: Global, out: &mut Octets, client: u8, j: u32) -> Result<(), 
     ensures { OnOk result (out.new ≡ out.old ++ line_text (watch_line client j)) }
 {
     let request = Request::Add {
-        group: 0x4040,
+        group: PROCESS_BYTES,
         offset: 4 * (25 * (u32::from(client) - 1) + j),
         len: 4,
         mode: 4,
