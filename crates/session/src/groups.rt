@@ -4,27 +4,28 @@ ghost use Rattle.std.specs.Prelude.{◌≡◌};
 ghost use Rattle.spec_formats.specs.Groups.{group_of};
 ghost use Rattle.session.specs.HandleGroups as groups;
 
+use index_groups::{HANDLE_BY_NAME, RELEASE_HANDLE, VALUE_BY_HANDLE};
 use port_device::{Group, group_named};
 
 /// Whether the group of a number gives a handle by a name.
 pub(crate) fn is_handle_by_name(number: u32) -> bool
     ensures { result ≡ groups.is_handle_by_name (group_of number) }
 {
-    number == 0xF003
+    number == HANDLE_BY_NAME
 }
 
 /// Whether the group of a number is that of values by their handles.
 pub(crate) fn is_value_by_handle(number: u32) -> bool
     ensures { result ≡ groups.is_value_by_handle (group_of number) }
 {
-    number == 0xF005
+    number == VALUE_BY_HANDLE
 }
 
 /// Whether the group of a number releases a handle.
 pub(crate) fn is_release(number: u32) -> bool
     ensures { result ≡ groups.is_release (group_of number) }
 {
-    number == 0xF006
+    number == RELEASE_HANDLE
 }
 
 /// Whether the group of a number is that of a sum.
