@@ -7,6 +7,7 @@ pub mod WriteLemmas
 pub mod Tests
 pub mod GrantLemmas
 pub mod NotesHead
+pub mod SampleCells
 pub mod NotesGrouped
 pub mod TickBytes
 pub mod TickChecks

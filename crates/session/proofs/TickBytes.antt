@@ -1,5 +1,5 @@
 -- What a check finds in a range of a port.
-use Rattle.std.proofs.Common.{◌≡◌, ℕ, ◌/◌, ◌%◌, ◌^◌, ◌<◌, ◌≤◌, List, set, get_or, Option, Some, None, Ok, refl, sym, ap, subst, ◌∙◌, arith}
+use Rattle.std.proofs.Common.{◌≡◌, ℕ, ◌+◌, ◌/◌, ◌%◌, ◌^◌, ◌<◌, ◌≤◌, List, [], ◌∷◌, length, get_or, Option, Some, None, Ok, refl, sym, ap, subst, ◌∙◌, arith}
 use Rattle.std.proofs.Math.Nat.{div-eq_of_lt}
 use Rattle.std.proofs.Math.Pow.{pow_mono}
 use Rattle.spec_plant.specs.Description.{Area}
@@ -11,7 +11,7 @@ use Rattle.spec_machine.specs.World.{World, names_at, numbers_from}
 use Rattle.port_device.proofs.PortsLemmas.{found_is_held}
 use Rattle.port_device.specs.Holds.{HoldsPort, HoldsPorts, HoldsFound}
 use Rattle.port_device.specs.PortMemory.{PortMemory, PortsMemory, memory_numbered}
-use Rattle.session.specs.Checks.{bytes_there, IsInSizes, IsInFound, IsReadable}
+use Rattle.session.specs.Checks.{bytes_found, IsInSizes, IsInFound, IsReadable}
 
 -- the plant's sizes are the table's
 same_sizes : (w : World) (p : PlantPort) (m : PortMemory) → HoldsPort w p m → p.sizes ≡ m.table.sizes
@@ -51,12 +51,26 @@ not_missing m number range readable missing =
     by_found (Some p) None held within same = held
     by_found (Some p) (Some g) held within same = cc
 
+-- a bit that can be read stands in a byte that can
+pub byte_of_bit : (m : PortsMemory) (number : ℕ) (area : Area) (at_ bit : ℕ) → IsReadable m number (Bit area at_ bit)
+    → IsReadable m number (Bytes area at_ 1)
+byte_of_bit m number area at_ bit readable = record {
+  world = readable.world;
+  holds = readable.holds;
+  within = whole (port_numbered number readable.world.plant.ports) readable.within;
+}
+  where
+    whole : (o : Option PlantPort) → IsInFound o (Bit area at_ bit) → IsInFound o (Bytes area at_ 1)
+    whole None within = within
+    whole (Some p) within = omega (arith, within)
+
 -- a bit of the byte that was found
-pub bit_found : (w : World) (p : PlantPort) (area : Area) (at_ bit value : ℕ) (out : List ℕ)
-    → out ≡ bytes_there w (addressed_by_range p (Ok (Bytes area at_ 1))) → value ≡ (get_or out 0 0 / 2 ^ bit) % 2
-    → set out 0 value ≡ bytes_there w (addressed_by_range p (Ok (Bit area at_ bit)))
+pub bit_found : (w : World) (o : Option PlantPort) (area : Area) (at_ bit value : ℕ) (bytes : List ℕ)
+    → bytes ≡ bytes_found w o (Bytes area at_ 1) → length bytes ≡ 1 → value ≡ (get_or bytes 0 0 / 2 ^ bit) % 2
+    → value ∷ [] ≡ bytes_found w o (Bit area at_ bit)
 unfolding names_at numbers_from
-bit_found w p area at_ bit value out found is = rw (is, found) refl
+bit_found w None area at_ bit value bytes found one is = absurd (let none = rw found at one in omega (arith, none))
+bit_found w (Some p) area at_ bit value bytes found one is = rw (is, found) refl
 
 -- a byte has no bit above its eighth
 pub no_bit : (byte bit : ℕ) → byte < 256 → 8 ≤ bit → 0 ≡ (byte / 2 ^ bit) % 2

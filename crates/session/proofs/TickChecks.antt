@@ -92,10 +92,6 @@ check_is w now handle old new before after s bytes sent is due found sends table
     by_sample None e d sends = absurd e
     by_sample (Some v) e d sends = by_sent v e d sent sends ∙ ap (λ b. samples_of now b v) (found_is v e)
 
-pub first_of_both : {X : Type 0} (P Q : X → Type 0) (o : Option X) → IsSomeAnd o (λ x. P x × Q x) → IsSomeAnd o P
-first_of_both P Q None both = both
-first_of_both P Q (Some x) both = both.0
-
 -- ---- handles rise
 
 above_watches : (v : Watch Range) (vs : List (Watch Range)) → IsStrictlyIncreasing (map handle_of (v ∷ vs))

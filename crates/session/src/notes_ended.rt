@@ -24,7 +24,7 @@ pub(crate) fn end_frames(
         map produced_of frames ≡ frames_of_samples net.bytes time (samples_of_ended ended.now)) }
     ensures short { IfOk result (All IsNoteFrame) }
 {
-    let mut groups = NoteGroups::new(alloc);
+    let mut groups = NoteGroups::new(alloc, ended.len());
     add_ended(alloc, ended, &mut groups)?;
     groups.into_frames(alloc, net, time)
 }

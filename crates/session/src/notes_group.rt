@@ -1,6 +1,7 @@
 //! The samples that go from one port to one address, written into their frame.
 
 ghost use Rattle.std.specs.Prelude.{◌≡◌, ◌+◌, ◌<◌, ◌≤◌, ◌++◌, length, IfOk, OnOk};
+ghost use Rattle.std.specs.Int.{w32, to_le_bytes};
 ghost use Rattle.spec_formats.specs.Notification.{sample_bytes};
 ghost use Rattle.notify_table.specs.Specs.{address_of};
 ghost use Rattle.session.specs.NoteFrames.{produced_of, IsNoteFrame};
@@ -8,9 +9,18 @@ ghost use Rattle.session.specs.NoteGroups.{is_group_for, no_samples, group_with,
 
 use crate::NoteFrame;
 use crate::notes_head::{HEAD, put_head};
-use ads_base::{AmsAddr, NetId, NoMemory, Octets, put32};
+use ads_base::{AmsAddr, NetId, NoMemory, Octets};
 use std::alloc::Global;
 use std::marker::Model;
+
+// How many bytes stand before those of a sample: handle 4, size 4.
+const SAMPLE_HEAD: usize = 8;
+
+// A connection has no more notifications.
+const MOST_SAMPLES: usize = 512;
+
+// How many bytes a sample of four bytes has.
+const SAMPLE_OF_FOUR: usize = 12;
 
 /// Samples from a port to an address. Contracts see how many they are, and their text.
 #[derive(Drop)]
@@ -35,11 +45,17 @@ impl Model for NoteGroup {
 }
 
 impl NoteGroup {
-    /// No samples yet.
-    pub fn new(alloc: Global, port: u16, to: AmsAddr) -> Result<NoteGroup, NoMemory>
+    /// No samples yet, and room for so many of four bytes.
+    pub fn new(
+        alloc: Global,
+        port: u16,
+        to: AmsAddr,
+        expected: usize,
+    ) -> Result<NoteGroup, NoMemory>
         ensures { IfOk result (λ group. group ≡ no_samples port (address_of to)) }
     {
         let mut bytes = Octets::new(alloc);
+        bytes.reserve(alloc, HEAD + expected.min(MOST_SAMPLES) * SAMPLE_OF_FOUR)?;
         bytes.put(alloc, &[0; HEAD])?;
         Ok(NoteGroup {
             port,
@@ -95,8 +111,29 @@ fn put_sample(alloc: Global, handle: u32, bytes: &[u8], out: &mut Octets) -> Res
     ensures longer { length out.old ≤ length out.new }
     ensures short { length out.new ≤ length out.old + 2056 }
 {
-    put32(alloc, out, handle)?;
-    put32(alloc, out, bytes.len() as u32)?;
+    // Most samples have four bytes, and are appended in one step.
+    if let Some(four) = bytes.as_array::<4>() {
+        return out.put_array(alloc, &sample_of_four(handle, *four));
+    }
+    out.put_array(alloc, &sample_head(handle, bytes.len() as u32))?;
     out.put(alloc, bytes)?;
     Ok(())
+}
+
+// What stands before the bytes of a sample: handle 4, size 4.
+fn sample_head(handle: u32, len: u32) -> [u8; SAMPLE_HEAD]
+    ensures { result ≡ to_le_bytes w32 handle ++ to_le_bytes w32 len }
+{
+    let [h0, h1, h2, h3] = handle.to_le_bytes();
+    let [l0, l1, l2, l3] = len.to_le_bytes();
+    [h0, h1, h2, h3, l0, l1, l2, l3]
+}
+
+// A sample of four bytes.
+fn sample_of_four(handle: u32, bytes: [u8; 4]) -> [u8; SAMPLE_OF_FOUR]
+    ensures { result ≡ sample_bytes (sample handle bytes) }
+{
+    let [h0, h1, h2, h3, l0, l1, l2, l3] = sample_head(handle, 4);
+    let [b0, b1, b2, b3] = bytes;
+    [h0, h1, h2, h3, l0, l1, l2, l3, b0, b1, b2, b3]
 }

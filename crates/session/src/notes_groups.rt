@@ -19,6 +19,8 @@ use std::marker::Model;
 pub(crate) struct NoteGroups {
     groups: Vec<NoteGroup>,
     added: u32,
+    // Mostly all samples are of one group, so the first makes room for so many at once.
+    expected: usize,
 }
 
 impl Model for NoteGroups {
@@ -33,12 +35,14 @@ impl Model for NoteGroups {
 }
 
 impl NoteGroups {
-    pub fn new(alloc: Global) -> NoteGroups
+    /// No groups yet, where so many samples may come.
+    pub fn new(alloc: Global, expected: usize) -> NoteGroups
         ensures { result ≡ no_groups }
     {
         NoteGroups {
             groups: Vec::new(alloc),
             added: 0,
+            expected,
         }
     }
 
@@ -84,7 +88,12 @@ impl NoteGroups {
             ++ group_with (sample handle bytes.now) (no_samples port (address_of to)) ∷ []) }
         ensures added { self.new.added ≡ self.old.added }
     {
-        let mut group = NoteGroup::new(alloc, port, to)?;
+        let expected = if self.groups.is_empty() {
+            self.expected
+        } else {
+            1
+        };
+        let mut group = NoteGroup::new(alloc, port, to, expected)?;
         group.add(alloc, handle, bytes)?;
         self.groups.push(group)?;
         Ok(())
@@ -95,7 +104,11 @@ impl NoteGroups {
         ensures frames { IfOk result (λ frames. map produced_of frames ≡ map (frame_of_group net.bytes now) self.groups) }
         ensures short { IfOk result (All IsNoteFrame) }
     {
-        let NoteGroups { groups, added: _ } = self;
+        let NoteGroups {
+            groups,
+            added: _,
+            expected: _,
+        } = self;
         let mut frames = FrameList::new(alloc);
         for group in groups {
             frames.push(alloc, group.into_frame(net, now))?;

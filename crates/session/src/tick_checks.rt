@@ -2,6 +2,7 @@
 
 ghost use Rattle.std.specs.Prelude.{◌≡◌, ◌+◌, ◌<◌, ◌≤◌, length, map, All, Some, IsTrue, IsSomeAnd, IfOk, OnOk, option_map};
 ghost use Rattle.std.specs.List.Sorted.{IsStrictlyIncreasing};
+ghost use Rattle.spec_plant.specs.Named.{port_numbered};
 ghost use Rattle.spec_machine.specs.Stamps.{frames_of_samples};
 ghost use Rattle.spec_machine.specs.Watches.{is_due};
 ghost use Rattle.spec_machine.specs.World.{World};
@@ -9,13 +10,13 @@ ghost use Rattle.index_groups.specs.Access.{range_meant};
 ghost use Rattle.notify_table.specs.Specs.{new_watch, before_checks};
 ghost use Rattle.notify_table.specs.Table.{watch_of_handle, watched_len, due_handles, IsTable};
 ghost use Rattle.port_device.specs.Holds.{HoldsPorts};
-ghost use Rattle.session.specs.Checks.{IsReadable, AreReadable, IsCheck, AreChecked, samples_found, table_checked};
+ghost use Rattle.session.specs.Checks.{bytes_found, IsReadable, AreReadable, IsCheck, AreChecked, samples_found, table_checked};
 ghost use Rattle.session.specs.NoteGroups.{no_groups};
 ghost use Rattle.session.specs.NoteFrames.{produced_of, IsNoteFrame};
 
 use crate::FrameList;
 use crate::notes_groups::NoteGroups;
-use crate::tick_bytes::peek;
+use crate::tick_bytes::{bit_in, bytes_in};
 use ads_base::{NetId, NoMemory, Steps};
 use index_groups::Reach;
 use notify_table::{Handles32, Spec, Watches};
@@ -23,9 +24,6 @@ use port_device::Ports;
 use std::alloc::Global;
 use std::marker::Brand;
 use std::sync::ledger::{Blank, Ledger};
-
-// The most bytes that a notification watches.
-const MOST_BYTES: usize = 2048;
 
 /// Checks all notifications that are due at a moment, by rising handle, and gives the frames of their samples. It costs what is
 /// due.
@@ -43,7 +41,7 @@ pub(crate) fn check_due(
     ensures short { IfOk result (All IsNoteFrame) }
 {
     let handles = due(alloc, watches, now)?;
-    let mut groups = NoteGroups::new(alloc);
+    let mut groups = NoteGroups::new(alloc, handles.len());
     check_all(alloc, watches, ports, handles.as_slice(), now, &mut groups)?;
     groups.into_frames(alloc, net, now)
 }
@@ -65,9 +63,8 @@ fn check_all(
     ensures { OnOk result ((w : World) → HoldsPorts w ports.now
         → AreChecked w now handles.now watches.old watches.new groups.new.groups) }
 {
-    let mut room = [0; MOST_BYTES];
     for handle in handles {
-        check(alloc, watches, ports, *handle, now, &mut room, groups)?;
+        check(alloc, watches, ports, *handle, now, groups)?;
     }
     Ok(())
 }
@@ -79,7 +76,6 @@ fn check(
     ports: &Ports,
     handle: u32,
     now: u64,
-    room: &mut [u8; MOST_BYTES],
     groups: &mut NoteGroups,
 ) -> Result<(), NoMemory>
     requires due { IsSomeAnd (watch_of_handle handle watches.old)
@@ -90,19 +86,7 @@ fn check(
     ensures added { groups.new.added ≤ groups.old.added + 1 }
 {
     match watches.spec(handle) {
-        Some(spec) => {
-            let len = len_of(spec.reach);
-            check_spec(
-                alloc,
-                watches,
-                ports,
-                handle,
-                now,
-                &spec,
-                &mut room[..len],
-                groups,
-            )
-        }
+        Some(spec) => check_spec(alloc, watches, ports, handle, now, &spec, groups),
         None => unreachable!(),
     }
 }
@@ -115,35 +99,53 @@ fn check_spec(
     handle: u32,
     now: u64,
     spec: &Spec,
-    out: &mut [u8],
     groups: &mut NoteGroups,
 ) -> Result<(), NoMemory>
     requires spec { IsSomeAnd (watch_of_handle handle watches.old) (λ v. new_watch handle spec.now ≡ before_checks v) }
     requires due { IsSomeAnd (watch_of_handle handle watches.old)
         (λ v. IsTrue (is_due now v) × IsReadable ports.now v.port v.watched) }
-    requires room { length out.old ≡ watched_len (range_meant spec.now.reach) }
-    requires short { length out.old ≤ 2048 }
+    requires short { watched_len (range_meant spec.now.reach) ≤ 2048 }
     requires few { groups.old.added < 512 }
     ensures check { OnOk result ((w : World) → HoldsPorts w ports.now
         → IsCheck w now handle watches.old groups.old.groups watches.new groups.new.groups) }
     ensures added { groups.new.added ≤ groups.old.added + 1 }
 {
-    peek(ports, spec.port, spec.reach, out);
-    if watches.checked(handle, now, out) {
-        groups.add(alloc, spec.port, spec.to, handle, out)?;
+    match spec.reach {
+        Reach::Bytes { area, at, len } => {
+            let bytes = bytes_in(ports, spec.port, area, at, len);
+            check_bytes(alloc, watches, handle, now, spec, bytes, groups)
+        }
+        Reach::Bit { area, at, bit } => {
+            let byte = [bit_in(ports, spec.port, area, at, bit)];
+            check_bytes(alloc, watches, handle, now, spec, &byte, groups)
+        }
+        Reach::Size { area: _ } => unreachable!(),
     }
-    Ok(())
 }
 
-// How many bytes a check takes.
-fn len_of(reach: Reach) -> usize
-    ensures { result ≡ watched_len (range_meant reach) }
+// Checks the notification with this handle, which was added as this, where these are its bytes.
+fn check_bytes(
+    alloc: Global,
+    watches: &mut Watches,
+    handle: u32,
+    now: u64,
+    spec: &Spec,
+    bytes: &[u8],
+    groups: &mut NoteGroups,
+) -> Result<(), NoMemory>
+    requires spec { IsSomeAnd (watch_of_handle handle watches.old) (λ v. new_watch handle spec.now ≡ before_checks v) }
+    requires due { IsSomeAnd (watch_of_handle handle watches.old) (λ v. IsTrue (is_due now v)) }
+    requires len { length bytes.now ≡ watched_len (range_meant spec.now.reach) }
+    requires short { length bytes.now ≤ 2048 }
+    requires few { groups.old.added < 512 }
+    ensures check { OnOk result ((w : World) → bytes.now ≡ bytes_found w (port_numbered spec.now.port w.plant.ports) (range_meant spec.now.reach)
+        → IsCheck w now handle watches.old groups.old.groups watches.new groups.new.groups) }
+    ensures added { groups.new.added ≤ groups.old.added + 1 }
 {
-    match reach {
-        Reach::Bytes { len, .. } => len as usize,
-        Reach::Bit { .. } => 1,
-        Reach::Size { .. } => 0,
+    if watches.checked(handle, now, bytes) {
+        groups.add(alloc, spec.port, spec.to, handle, bytes)?;
     }
+    Ok(())
 }
 
 fn due(alloc: Global, watches: &Watches, now: u64) -> Result<Handles32, NoMemory>
