@@ -5,7 +5,7 @@ ghost use Rattle.spec_frames.specs.Frame.{frame_bytes};
 ghost use Rattle.spec_machine.specs.Replies.{response_packet};
 ghost use Rattle.ams_header.specs.Header.{ams_header_of};
 
-use crate::room::write_at;
+use crate::room::{AMS_HEADER, FRAME_HEADER, HEADERS, write_at};
 use ads_base::{NoMemory, Octets};
 use ams_header::{Header, answer_of, put};
 
@@ -23,9 +23,13 @@ pub(crate) fn framed(h: &Header, error: u32, out: Octets) -> Result<Octets, NoMe
     }
     let mut frame = out;
     write_at(&mut frame, 0, &[0, 0]);
-    write_at(&mut frame, 2, &((total - 6) as u32).to_le_bytes());
-    let mut header = [0; 32];
-    put(&answer_of(h, error, (total - 38) as u32), &mut header);
-    write_at(&mut frame, 6, &header);
+    write_at(
+        &mut frame,
+        2,
+        &((total - FRAME_HEADER) as u32).to_le_bytes(),
+    );
+    let mut header = [0; AMS_HEADER];
+    put(&answer_of(h, error, (total - HEADERS) as u32), &mut header);
+    write_at(&mut frame, FRAME_HEADER, &header);
     Ok(frame)
 }

@@ -5,12 +5,19 @@ ghost use Rattle.spec_formats.specs.Header.{header_bytes};
 ghost use Rattle.notify_table.specs.Specs.{address_of};
 ghost use Rattle.session.specs.NoteGroups.{head_text, lead_text, stamp_head_text, notification_header};
 
+use crate::room::{AMS_HEADER, FRAME_HEADER, HEADERS};
 use ads_base::{AmsAddr, Octets};
 use ams_header::{Header, put};
 
 /// How many bytes stand before the samples: AMS/TCP header 6, AMS header 32, length 4, number of stamps 4, time 8, number of
 /// samples 4.
 pub(crate) const HEAD: usize = 58;
+
+// How many of these stand behind the headers: length 4, number of stamps 4, time 8, number of samples 4.
+const STAMP_HEAD: usize = 20;
+
+// The length of a notification does not count its own bytes.
+const LENGTH: u32 = 4;
 
 // The command DeviceNotification.
 const NOTIFICATION: u16 = 8;
@@ -27,21 +34,21 @@ pub(crate) fn put_head(bytes: &mut Octets, to: AmsAddr, from: AmsAddr, now: u64,
     ensures header { length (header_bytes (notification_header (address_of to) (address_of from) (length bytes.old - 38))) ≡ 32 }
     ensures len { length bytes.new ≡ length bytes.old }
 {
-    let len = bytes.len() as u32 - 38;
-    write_at(bytes, 0, &lead(len + 32));
-    write_at(bytes, 6, &header(to, from, len));
-    write_at(bytes, 38, &stamp(len - 4, now, count));
+    let len = (bytes.len() - HEADERS) as u32;
+    write_at(bytes, 0, &lead(len + AMS_HEADER as u32));
+    write_at(bytes, FRAME_HEADER, &header(to, from, len));
+    write_at(bytes, HEADERS, &stamp(len - LENGTH, now, count));
 }
 
 // Two reserved bytes and the length of the AMS packet.
-fn lead(len: u32) -> [u8; 6]
+fn lead(len: u32) -> [u8; FRAME_HEADER]
     ensures { result ≡ lead_text len }
 {
     let [l0, l1, l2, l3] = len.to_le_bytes();
     [0, 0, l0, l1, l2, l3]
 }
 
-fn header(to: AmsAddr, from: AmsAddr, len: u32) -> [u8; 32]
+fn header(to: AmsAddr, from: AmsAddr, len: u32) -> [u8; AMS_HEADER]
     ensures { result ≡ header_bytes (notification_header (address_of to) (address_of from) len) }
 {
     let header = Header {
@@ -53,13 +60,13 @@ fn header(to: AmsAddr, from: AmsAddr, len: u32) -> [u8; 32]
         error: 0,
         id: 0,
     };
-    let mut bytes = [0; 32];
+    let mut bytes = [0; AMS_HEADER];
     put(&header, &mut bytes);
     bytes
 }
 
 // The length of the stamp, one stamp, its moment and the number of its samples.
-fn stamp(len: u32, now: u64, count: u32) -> [u8; 20]
+fn stamp(len: u32, now: u64, count: u32) -> [u8; STAMP_HEAD]
     ensures { result ≡ stamp_head_text len now count }
 {
     let [l0, l1, l2, l3] = len.to_le_bytes();

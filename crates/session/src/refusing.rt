@@ -7,9 +7,10 @@ ghost use Rattle.spec_machine.specs.Replies.{reply_payload};
 ghost use Rattle.ads_commands.specs.Reply.{IsWritableReply, reply_meant};
 
 use ads_commands::{DeviceFacts, Reply};
+use return_codes::Code;
 
 // Parameter size not correct.
-const INVALID_SIZE: u32 = 0x705;
+const INVALID_SIZE: u32 = Code::C705 as u32;
 
 const NO_FACTS: DeviceFacts = DeviceFacts {
     major: 0,

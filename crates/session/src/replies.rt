@@ -17,6 +17,9 @@ use return_codes::Code;
 use std::alloc::Global;
 use sym_handles::Handles;
 
+/// Bytes in front of the data of a reply to Read or ReadWrite: result 4, length 4.
+pub(crate) const FRONT: usize = 8;
+
 /// 0, or the number of the code that refuses.
 pub(crate) fn number_in(answer: Result<(), Code>) -> u32
     ensures { result ≡ code_in answer }
@@ -34,7 +37,7 @@ pub(crate) fn fill_front(out: &mut Octets, start: usize, number: u32)
     ensures { out.new ≡ take start out.old ++ (to_le_bytes w32 number
         ++ (to_le_bytes w32 (length out.old - (start + 8)) ++ drop (start + 8) out.old)) }
 {
-    let len = (out.len() - (start + 8)) as u32;
+    let len = (out.len() - (start + FRONT)) as u32;
     write_at(out, start, &number.to_le_bytes());
     write_at(out, start + 4, &len.to_le_bytes());
 }
@@ -56,7 +59,7 @@ pub(crate) fn read_reply(
         → out.new ≡ out.old ++ reply_payload READ (outcome_asked a (Read group offset len))) }
 {
     let start = out.len();
-    put_room(alloc, out, 8)?;
+    put_room(alloc, out, FRONT)?;
     let answer = reading::read(alloc, handles, port, number, group, offset, len, out)?;
     fill_front(out, start, number_in(answer));
     Ok(())
@@ -82,7 +85,7 @@ pub(crate) fn read_write_reply(
         → Asks (asking_after a (ReadWrite group offset len bytes.now)) port.now handles.new) }
 {
     let start = out.len();
-    put_room(alloc, out, 8)?;
+    put_room(alloc, out, FRONT)?;
     let answer = granting::read_write(
         alloc, handles, port, number, group, offset, len, bytes, out,
     )?;

@@ -5,10 +5,16 @@ ghost use Rattle.std.specs.Prelude.{◌≡◌, ◌≤◌, ◌+◌, ◌++◌, len
 use ads_base::{NoMemory, Octets};
 use std::alloc::Global;
 
+/// Bytes of the AMS/TCP header: two reserved, and the length of the AMS packet.
+pub(crate) const FRAME_HEADER: usize = 6;
+
+/// Bytes of the AMS header.
+pub(crate) const AMS_HEADER: usize = 32;
+
 /// Bytes of the AMS/TCP header and the AMS header.
 pub(crate) const HEADERS: usize = 38;
 
-const ZEROS: [u8; 38] = [0; 38];
+const ZEROS: [u8; HEADERS] = [0; HEADERS];
 
 /// Appends room for so many bytes.
 pub(crate) fn put_room(alloc: Global, out: &mut Octets, len: usize) -> Result<(), NoMemory>
