@@ -2,6 +2,7 @@
 
 ghost use Rattle.std.specs.Prelude.{◌≡◌, ◌≤◌, ◌+◌, ◌++◌, ℕ, List, length, OnOk, OnErr, IfOk};
 ghost use Rattle.spec_formats.specs.Request as format;
+ghost use Rattle.ads_commands.specs.Reply.{facts_meant};
 ghost use Rattle.ads_commands.specs.Request.{request_meant};
 ghost use Rattle.port_device.specs.Endings.{KeepsDescription};
 ghost use Rattle.port_device.specs.PortMemory.{PortMemory};
@@ -12,11 +13,12 @@ ghost use Rattle.session.specs.Single.{SumState, IsSingle, part_outcome, state_a
 ghost use Rattle.spec_formats.specs.Ranges.{greatest_len};
 ghost use Rattle.sum_commands.specs.SumCommand.{sum_of, refusal_in, refused_by, sum_reply, left_by_sum};
 ghost use Rattle.ads_base.specs.declared.ams_addr.AmsAddr.{AmsAddr};
+ghost use Rattle.type_layout.specs.Descriptions.{facts_of};
 ghost use Rattle.type_layout.specs.declared.description.Rights.{Rights};
 
 use crate::asker::Asker;
 use crate::groups::is_sum;
-use crate::replies::{fill_front, number_in, read_reply, read_write_reply};
+use crate::replies::{FRONT, fill_front, number_in, read_reply, read_write_reply};
 use crate::room::put_room;
 use crate::single::Single;
 use crate::watching::NoteRequest;
@@ -27,7 +29,7 @@ use port_device::Port;
 use return_codes::Code;
 use std::alloc::Global;
 use sum_commands::run_sum;
-use type_layout::Rights;
+use type_layout::{DeviceFacts4, Rights};
 
 impl Session {
     ghost use Rattle.session.specs.Runs.{AsksSession, IsFrom, Runs};
@@ -97,14 +99,7 @@ impl Session {
         ensures { OnOk result ((a : Asking) → AsksSession a port.now self.now
             → Runs a format.ReadDeviceInfo out.old out.new port.now self.now) }
     {
-        let facts = port.facts();
-        let name = facts.name;
-        let told = DeviceFacts {
-            major: facts.major,
-            minor: facts.minor,
-            build: facts.build,
-            name,
-        };
+        let told = told_of(port.facts());
         put_reply(alloc, &Reply::Info(0, told), out)
     }
 
@@ -287,7 +282,7 @@ impl Session {
         ensures stream { self.new.stream ≡ self.old.stream }
     {
         let start = out.len();
-        put_room(alloc, out, 8)?;
+        put_room(alloc, out, FRONT)?;
         let mut single = Single {
             handles: &mut self.handles,
             port: &mut *port,
@@ -298,6 +293,19 @@ impl Session {
         let answer = run_parts(alloc, &mut single, group, count, len, bytes, out)?;
         fill_front(out, start, number_in(answer));
         Ok(())
+    }
+}
+
+// What a device tells of itself, as its reply has it.
+fn told_of(facts: DeviceFacts4) -> DeviceFacts
+    ensures { facts_meant result ≡ facts_of facts }
+{
+    let name = facts.name;
+    DeviceFacts {
+        major: facts.major,
+        minor: facts.minor,
+        build: facts.build,
+        name,
     }
 }
 
