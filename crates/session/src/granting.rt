@@ -6,6 +6,7 @@ ghost use Rattle.spec_formats.specs.Request.{ReadWrite};
 ghost use Rattle.spec_machine.specs.ByName.{read_write_group, grant_act};
 ghost use Rattle.spec_machine.specs.Client as client;
 ghost use Rattle.port_device.specs.Answers.{AnswersAct};
+ghost use Rattle.port_device.specs.PortMemory.{PortMemory};
 ghost use Rattle.session.specs.Asking.{Asking, act_asked, asking_after, after_act};
 ghost use Rattle.session.specs.Asks.{Asks, SomeAsks};
 ghost use Rattle.session.specs.Grants.{IsPlaceNamed, handle_act};
@@ -68,7 +69,7 @@ fn grant(
         return Ok(Err(Code::C705));
     }
     match port.place(name) {
-        Ok(place) => grant_place(alloc, handles, port, number, place, out),
+        Ok(place) => grant_place(alloc, handles, number, place, out),
         Err(code) => Ok(Err(code)),
     }
 }
@@ -77,19 +78,16 @@ fn grant(
 fn grant_place(
     alloc: Global,
     handles: &mut Handles,
-    port: &Port,
     number: u16,
     place: Place,
     out: &mut Octets,
 ) -> Result<Result<(), Code>, NoMemory>
-    requires number { number ≡ port.now.number }
-    ensures answer { IfOk result (λ answer. (a : Asking) (named : client.Place) → Asks a port.now handles.old
+    ensures answer { (port : PortMemory) → number ≡ port.number → IfOk result (λ answer. (a : Asking) (named : client.Place) → Asks a port handles.old
         → IsPlaceNamed a place named → AnswersAct a.world (grant_act a.client a.asker.port named) answer out.old out.new) }
-    ensures leaves { OnOk result ((a : Asking) (named : client.Place) → Asks a port.now handles.old
-        → IsPlaceNamed a place named → Asks (after_act a (grant_act a.client a.asker.port named)) port.now handles.new) }
+    ensures leaves { (port : PortMemory) → number ≡ port.number → OnOk result ((a : Asking) (named : client.Place) → Asks a port handles.old
+        → IsPlaceNamed a place named → Asks (after_act a (grant_act a.client a.asker.port named)) port handles.new) }
     ensures no_memory { OnErr result (out.new ≡ out.old) }
 {
-    let _known = port;
     match handles.grant(alloc, number, place)? {
         Ok(handle) => {
             put32(alloc, out, handle)?;

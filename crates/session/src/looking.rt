@@ -7,6 +7,7 @@ ghost use Rattle.spec_machine.specs.Handles as machine;
 ghost use Rattle.spec_machine.specs.Reach.{addressed_by_status};
 ghost use Rattle.spec_machine.specs.Reads.{read_act};
 ghost use Rattle.port_device.specs.Answers.{AnswersAct, IsPlaceOf};
+ghost use Rattle.port_device.specs.PortMemory.{PortMemory};
 ghost use Rattle.session.specs.Asking.{Asking};
 ghost use Rattle.session.specs.Asks.{Asks, SomeAsks, LooksUp};
 ghost use Rattle.session.specs.StandsFor.{KeptFor};
@@ -19,14 +20,11 @@ use sym_handles::Handles;
 use symbol_table::Place;
 
 /// The place of a handle of this port; 0x710 where it was never granted here or is released, 0x711 where it is outdated.
-pub(crate) fn look(handles: &Handles, port: &Port, number: u16, handle: u32) -> Result<Place, Code>
-    requires some { SomeAsks port.now handles.now }
-    requires number { number ≡ port.now.number }
+pub(crate) fn look(handles: &Handles, number: u16, handle: u32) -> Result<Place, Code>
     ensures looks { (ports : List PlantPort) (hs : List (machine.Handle client.Place)) → KeptFor ports hs handles.now
         → LooksUp ports number (machine.kept_status hs handle number) result }
-    ensures placed { IfOk result (IsPlaceOf port.now.table) }
+    ensures placed { (port : PortMemory) → SomeAsks port handles.now → number ≡ port.number → IfOk result (IsPlaceOf port.table) }
 {
-    let _known = port;
     handles.look(handle, number)
 }
 
@@ -47,7 +45,7 @@ pub(crate) fn read_value(
         (machine.kept_status a.client.handles handle a.asker.port.number) len)) answer out.old out.new) }
     ensures no_memory { OnErr result (out.new ≡ out.old) }
 {
-    match look(handles, port, number, handle) {
+    match look(handles, number, handle) {
         Ok(place) => port.read_place(alloc, place, len, out),
         Err(code) => Ok(Err(code)),
     }

@@ -13,6 +13,7 @@ ghost use Rattle.notify_table.specs.Specs.{address_of, mode_meant};
 ghost use Rattle.notify_table.specs.Table.{watched_len, CanBeWatched};
 ghost use Rattle.index_groups.specs.Access.{range_meant};
 ghost use Rattle.port_device.specs.Holds.{HoldsPort};
+ghost use Rattle.port_device.specs.PortMemory.{PortMemory};
 ghost use Rattle.session.specs.Asking.{Asking, act_asked};
 ghost use Rattle.session.specs.Asks.{Asks, SomeAsks};
 ghost use Rattle.session.specs.StandsFor.{StandsFor};
@@ -191,7 +192,7 @@ fn watched(
     ensures len { IfOk result (λ reach. watched_len (range_meant reach) ≡ len) }
 {
     if is_value_by_handle(group) {
-        return watched_by_handle(handles, port, number, offset, len);
+        return watched_by_handle(handles, number, offset, len);
     }
     if !is_bytes_or_bit(group) {
         return Err(Code::C702);
@@ -200,21 +201,13 @@ fn watched(
 }
 
 // The first bytes of a value by its handle.
-fn watched_by_handle(
-    handles: &Handles,
-    port: &Port,
-    number: u16,
-    handle: u32,
-    len: u32,
-) -> Result<Reach, Code>
-    requires some { SomeAsks port.now handles.now }
-    requires number { number ≡ port.now.number }
-    ensures watched { (a : Asking) → Asks a port.now handles.now
+fn watched_by_handle(handles: &Handles, number: u16, handle: u32, len: u32) -> Result<Reach, Code>
+    ensures watched { (a : Asking) (port : PortMemory) → number ≡ port.number → Asks a port handles.now
         → IsWatched a.world.plant.ports a.asker.port.number len
         (addressed_by_status a.asker.port.number (kept_status a.client.handles handle a.asker.port.number) len) result }
     ensures len { IfOk result (λ reach. watched_len (range_meant reach) ≡ len) }
 {
-    match look(handles, port, number, handle) {
+    match look(handles, number, handle) {
         Ok(place) => {
             if len > place.len {
                 return Err(Code::C705);

@@ -77,7 +77,7 @@ fn write_value(
     if !may_write(rights) {
         return Err(Code::C704);
     }
-    match look(handles, port, number, handle) {
+    match look(handles, number, handle) {
         Ok(place) => port.write_place(place, bytes, rights, net),
         Err(code) => Err(code),
     }

@@ -7,13 +7,13 @@ pub returns-in-Ok-clause-answer : goal.returns-in-Ok-clause-answer
 returns-in-Ok-clause-answer c =
     handle-answers c.args.port.now c.args.handles.now c.args.len c.args.name.now c.in-Ok.place c.grant_place.result _ _
     (λ a asks. found-handle a c.args.len c.args.name.now c.in-Ok.place c.if-len-lt4.false (c.in-Ok.ensures.found a.world a.asker.port asks.held))
-    c.grant_place.ensures.answer
+    (c.grant_place.ensures.answer c.args.port.now c.requires.number)
 
 pub returns-in-Ok-clause-leaves : goal.returns-in-Ok-clause-leaves
 returns-in-Ok-clause-leaves c =
     handle-leaves c.args.port.now c.args.handles.now _ c.args.len c.args.name.now c.in-Ok.place c.grant_place.result
     (λ a asks. found-handle a c.args.len c.args.name.now c.in-Ok.place c.if-len-lt4.false (c.in-Ok.ensures.found a.world a.asker.port asks.held))
-    c.grant_place.ensures.leaves
+    (c.grant_place.ensures.leaves c.args.port.now c.requires.number)
 
 pub returns-then-len-lt4-clause-answer : goal.returns-then-len-lt4-clause-answer
 returns-then-len-lt4-clause-answer c = λ a asks.

@@ -5,4 +5,5 @@ pub returns-clause-looks : goal.returns-clause-looks
 returns-clause-looks c = λ ports hs kept_for. looks-up ports hs _ c.args.handle c.args.number _ kept_for c.look.ensures.answer
 
 pub returns-clause-placed : goal.returns-clause-placed
-returns-clause-placed c = looked-placed c.args.port.now c.args.handles.now c.args.handle c.args.number _ c.requires.some c.requires.number c.look.ensures.answer
+returns-clause-placed c = λ port some number.
+    looked-placed port c.args.handles.now c.args.handle c.args.number _ some number c.look.ensures.answer

@@ -1,6 +1,9 @@
 use Rattle.session.proofs.ValueLemmas.{value-read, value-refused}
 use Rattle.session.proofs.looking.read_value.Goals as goal
 
+pub read_place-requires : goal.read_place-requires
+read_place-requires c = c.in-Ok.ensures.placed c.args.port.now c.requires.some c.requires.number
+
 pub returns-in-Ok-clause-answer : goal.returns-in-Ok-clause-answer
 returns-in-Ok-clause-answer c =
     value-read c.args.port.now c.args.handles.now c.args.number c.args.handle c.args.len c.in-Ok.place _ _ _ c.requires.number

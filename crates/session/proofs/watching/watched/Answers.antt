@@ -8,7 +8,7 @@ use Rattle.session.proofs.watching.watched.Goals as goal
 pub returns-then-is_value_by_handle-clause-watched : goal.returns-then-is_value_by_handle-clause-watched
 returns-then-is_value_by_handle-clause-watched c = λ a asks.
     watched_by_value a c.args.group c.args.offset c.args.len c.watched_by_handle.result
-    (sym c.is_value_by_handle.ensures ∙ c.if-is_value_by_handle.true) (c.watched_by_handle.ensures.watched a asks)
+    (sym c.is_value_by_handle.ensures ∙ c.if-is_value_by_handle.true) (c.watched_by_handle.ensures.watched a c.args.port.now c.requires.number asks)
 
 pub returns-then-not-is_bytes_or_bit-clause-watched : goal.returns-then-not-is_bytes_or_bit-clause-watched
 returns-then-not-is_bytes_or_bit-clause-watched c = λ a asks.
