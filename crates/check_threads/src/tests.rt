@@ -61,6 +61,7 @@ fn turned(alloc: Global) -> Result<Turned, NoMemory>
 }
 
 #[test]
+#[tactic(auto, using(port_device::proofs::BuiltLemmas::accepted_may_be_built))]
 fn both_halves_are_checked_at_once(rt: HostRuntime) -> Result<(), Fail> {
     let alloc = rt.alloc();
     let ports = Ports::build(alloc, &smallest(alloc)?)?;

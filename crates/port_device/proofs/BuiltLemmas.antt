@@ -1,4 +1,4 @@
--- The ports that are built of an accepted description hold its world.
+-- The ports that are built of a description that they may begin with hold its world.
 use Rattle.std.proofs.Common.{◌≡◌, ℕ, zero, suc, ◌<◌, List, [], ◌∷◌, length, map, refl, sym, ◌∙◌, ap, subst, arith}
 use Rattle.std.specs.Prelude.{Some, slice_get, slice_index_or, All}
 use Rattle.signals.specs.Wave.{Wave}
@@ -6,7 +6,10 @@ use Rattle.spec_plant.specs.Listed.{NamedType}
 use Rattle.spec_plant.specs.Description.{Port, Description}
 use Rattle.spec_plant.specs.World.{plant_port, plant_of}
 use Rattle.spec_plant.specs.Sound.{Each, IsSoundPort, IsSoundPlant}
-use Rattle.spec_plant.proofs.SoundLemmas.{accepted_are_sound, accepted_are_numbered_apart}
+use Rattle.spec_plant.specs.AcceptedTypes.{AreTypes}
+use Rattle.spec_persistent.specs.Otherwise.{PortBeginsOtherwise}
+use Rattle.spec_persistent.proofs.OtherwiseLemmas.{beside, begun_is_sound, begun_is_numbered_apart}
+use Rattle.spec_persistent.proofs.StoredLemmas.{accepted_may_begin}
 use Rattle.spec_machine.specs.World.{RUN, first_memory, world_of}
 use Rattle.spec_machine.specs.PortBytes.{PortBytes, Holds}
 use Rattle.spec_machine.proofs.Reloaded.{begins_with_first_image}
@@ -15,20 +18,36 @@ use Rattle.type_layout.specs.Descriptions.{port_of, ports_of, description_of}
 use Rattle.type_layout.specs.declared.port.PortDesc.{PortDesc}
 use Rattle.type_layout.specs.declared.description.Description as layout
 use Rattle.port_device.specs.PortMemory.{PortMemory}
-use Rattle.port_device.specs.Holds.{HoldEach, HoldsPorts, WasAccepted}
+use Rattle.port_device.specs.Holds.{HoldEach, HoldsPorts, WasAccepted, MayBeBuilt}
 use Rattle.port_device.specs.FirstPorts.{IsOfAccepted, IsFirstPort, AreFirstPorts}
 
--- each port of a description that was accepted
-pub each_of_accepted : (d : layout.Description) (types : List NamedType) → WasAccepted (description_of d) → (description_of d).types ≡ types
+-- an accepted description is one that ports may begin with
+pub accepted_may_be_built : (d : Description) → WasAccepted d → MayBeBuilt d
+accepted_may_be_built d was = record { signals = was.signals; is = accepted_may_begin d was.signals was.is }
+
+-- its types are accepted
+pub types_of_built : (d : Description) → MayBeBuilt d → AreTypes d.types
+types_of_built d may = subst (λ (x : Description). AreTypes x.types) (sym may.is.otherwise.same) may.is.accepted.types
+
+-- each of its ports
+pub each_of_built : (d : layout.Description) (types : List NamedType) → MayBeBuilt (description_of d) → (description_of d).types ≡ types
     → All (λ (p : PortDesc). IsOfAccepted types (port_of p)) d.ports
-each_of_accepted d types was e k x u = record {
-  description = description_of d;
-  signals = was.signals;
-  accepted = was.is;
-  types_are = e;
-  place = k;
-  there = there d.ports k u;
-}
+each_of_built d types may e k x u =
+    let o = may.is.otherwise in
+    let first = may.is.first in
+    let p : Port = port_of (slice_index_or d.ports k x) in
+    let found : slice_get o.ports k ≡ Some p = ap (λ (y : Description). slice_get y.ports k) (sym o.same) ∙ there d.ports k u in
+    let pair = beside PortBeginsOtherwise first.ports o.ports k p o.each found in
+    record {
+      description = first;
+      signals = may.signals;
+      accepted = may.is.accepted;
+      types_are = ap (λ (y : Description). y.types) (sym o.same) ∙ e;
+      place = k;
+      before = pair.0;
+      there = pair.1;
+      otherwise = pair.2;
+    }
   where
     there : (ps : List PortDesc) (i : ℕ) → i < length ps → slice_get (ports_of ps) i ≡ Some (port_of (slice_index_or ps i x))
     there [] i h = absurd (omega (arith, h))
@@ -71,16 +90,16 @@ first_each d waves types (p ∷ ps) (m ∷ ms) sound e ports first =
       first_each d waves types ps ms sound e (ports.1) (first.1),
     )
 
-pub first_ports_hold : (d : Description) (waves : List Wave) (types : List NamedType) (ms : List PortMemory) → WasAccepted d → d.types ≡ types
+pub first_ports_hold : (d : Description) (waves : List Wave) (types : List NamedType) (ms : List PortMemory) → MayBeBuilt d → d.types ≡ types
     → AreFirstPorts types 1 d.ports ms → HoldsPorts (world_of d waves) (record { types = types; version = 1; ports = ms })
-first_ports_hold d waves types ms was e first =
-    let sound = accepted_are_sound d was.signals was.is in
+first_ports_hold d waves types ms may e first =
+    let sound = begun_is_sound d may.signals may.is in
     let P : List NamedType → Type 0 = λ ts. HoldEach (world_of d waves) (map (plant_port ts) d.ports) ms in
     let Q : List NamedType → Type 0 = λ ts. Each (IsSoundPort (plant_of d).ports) (map (plant_port ts) d.ports) in
     record {
       types = sym e;
       version = refl;
       plant_sound = sound;
-      apart = accepted_are_numbered_apart d was.signals was.is;
+      apart = begun_is_numbered_apart d may.signals may.is;
       each = subst P (sym e) (first_each d waves types d.ports ms sound e (subst Q e sound) first);
     }

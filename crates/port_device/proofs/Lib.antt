@@ -22,6 +22,10 @@ mod PlaceWrites
 mod PortLemmas
 pub mod PortsLemmas
 pub mod PutLemmas
+pub mod OtherwiseLemmas
+mod PersistentLemmas
+mod PersistentCounts
+mod PersistentBodies
 mod ReadLemmas
 mod StepLemmas
 mod TypeLengths

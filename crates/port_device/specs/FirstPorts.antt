@@ -4,6 +4,7 @@ use Rattle.spec_plant.specs.Listed.{NamedType}
 use Rattle.spec_plant.specs.Description.{Sizes, size_in, Port, Description}
 use Rattle.spec_plant.specs.Accepted.{IsAccepted}
 use Rattle.spec_plant.specs.World.{plant_port}
+use Rattle.spec_persistent.specs.Otherwise.{PortBeginsOtherwise}
 use Rattle.symbol_table.specs.Rows.{symbol_of_row}
 use Rattle.symbol_table.specs.Tables.{TableSymbol, IsTableOf}
 use Rattle.symbol_table.specs.declared.row.SymbolRow.{SymbolRow}
@@ -11,14 +12,16 @@ use Rattle.spec_machine.specs.World.{RUN}
 use Rattle.spec_machine.specs.PortLaws.{IsFirstImage}
 use Rattle.port_device.specs.PortMemory.{PortMemory}
 
--- a port of an accepted description with these types
+-- a port that begins as one of an accepted description with these types does, or otherwise
 pub record IsOfAccepted (types : List NamedType) (port : Port) : Type 0 where
   pub description : Description
   pub signals : ℕ
   pub accepted : IsAccepted description signals
   pub types_are : description.types ≡ types
   pub place : ℕ
-  pub there : slice_get description.ports place ≡ Some port
+  pub before : Port
+  pub there : slice_get description.ports place ≡ Some before
+  pub otherwise : PortBeginsOtherwise before port
 
 -- its initial bytes lie in its area
 abbrev pub FitsSymbol : Sizes → TableSymbol → Type 0

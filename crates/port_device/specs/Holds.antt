@@ -5,6 +5,7 @@ use Rattle.spec_plant.specs.Accepted.{IsAccepted}
 use Rattle.spec_plant.specs.World.{PlantPort, plant_port}
 use Rattle.spec_plant.specs.Named.{AreNumberedApart}
 use Rattle.spec_plant.specs.Sound.{IsSoundPlant, IsSoundPort}
+use Rattle.spec_persistent.specs.Otherwise.{MayBegin}
 use Rattle.symbol_table.specs.Tables.{IsTableOf}
 use Rattle.spec_machine.specs.World.{World}
 use Rattle.spec_machine.specs.PortBytes as bytes
@@ -46,6 +47,12 @@ pub record HoldSomeWorld (m : PortsMemory) : Type 0 where
 pub record WasAccepted (d : Description) : Type 0 where
   pub signals : ℕ
   pub is : IsAccepted d signals
+
+-- a description that ports may begin with, for some number of signals: an accepted one, but that its persistent symbols may
+-- begin with other bytes
+pub record MayBeBuilt (d : Description) : Type 0 where
+  pub signals : ℕ
+  pub is : MayBegin d signals
 
 -- the port that was found of the plant is held by the one that was found of these; or neither was found
 abbrev pub HoldsFound : World → Option PlantPort → Option PortMemory → Type 0

@@ -4,6 +4,7 @@ pub mod Answers
 pub mod Endings
 pub mod Changed
 pub mod Groups
+pub mod PersistentRows
 pub mod Rows
 pub mod Uploads
 pub mod Signals

@@ -16,6 +16,7 @@ mod kept;
 mod marks;
 mod moving;
 mod naming;
+mod persistent;
 mod port;
 mod ports;
 mod reading;

@@ -7,7 +7,7 @@ ghost use Rattle.signals.specs.Wave.{Wave};
 ghost use Rattle.type_layout.specs.Descriptions.{description_of};
 ghost use Rattle.spec_machine.specs.World.{world_of};
 ghost use Rattle.port_device.specs.PortMemory.{memory_numbered};
-ghost use Rattle.port_device.specs.Holds.{HoldsPorts, WasAccepted};
+ghost use Rattle.port_device.specs.Holds.{HoldsPorts, MayBeBuilt};
 ghost use Rattle.port_device.specs.PlaceOfPort.{place_numbered};
 
 use crate::Port;
@@ -47,9 +47,10 @@ impl Model for Ports {
 impl Ports {
     ghost use Rattle.port_device.specs.Lends.{LendsPort};
 
-    /// The ports of an accepted description, with their first bytes, in state 5 (RUN) and with symbol version 1.
+    /// The ports of an accepted description, with their first bytes, in state 5 (RUN) and with symbol version 1. Persistent
+    /// symbols may begin with other bytes than was accepted, as many as they have.
     pub fn build(alloc: Global, d: &Description) -> Result<Ports, NoMemory>
-        requires { WasAccepted (description_of d.now) }
+        requires { MayBeBuilt (description_of d.now) }
         ensures { IfOk result (λ ports. (signals : List Wave) → HoldsPorts (world_of (description_of d.now) signals) ports) }
     {
         let types = shared_types(alloc, &d.types)?;

@@ -2,7 +2,7 @@
 
 ghost use Rattle.std.specs.Prelude.{◌≡◌, ◌<◌, ◌^◌, List, length, IfOk};
 ghost use Rattle.signals.specs.Wave.{Wave};
-ghost use Rattle.spec_plant.specs.Accepted.{IsAccepted};
+ghost use Rattle.spec_persistent.specs.Otherwise.{MayBegin};
 ghost use Rattle.spec_server.specs.Server.{server_start};
 ghost use Rattle.type_layout.specs.Descriptions.{description_of};
 
@@ -26,9 +26,9 @@ pub(crate) struct Device {
 impl Device {
     ghost use Rattle.server_core.specs.HoldsWorld.{HoldsState};
 
-    /// The device of an accepted description for this number of signals, before any tick.
+    /// The device of a description that one with this number of signals may begin with, before any tick.
     pub(crate) fn build(alloc: Global, d: &Description, signals: u32) -> Result<Device, NoMemory>
-        requires { IsAccepted (description_of d.now) signals }
+        requires { MayBegin (description_of d.now) signals }
         ensures { IfOk result (λ device. (waves : List Wave) → signals ≡ length waves → length waves < 2 ^ 32
             → HoldsState device waves (server_start (description_of d.now) waves)) }
     {

@@ -2,13 +2,14 @@
 
 ghost use Rattle.std.specs.Prelude.{◌≡◌, ◌≤◌, ◌<◌, ◌^◌, ◌++◌, [], ℕ, List, length, filter, slice_get, IfOk, OnOk, OnErr, IfSome, IsErr, Some, option_copied};
 ghost use Rattle.type_layout.specs.Descriptions.{description_of};
-ghost use Rattle.spec_plant.specs.Accepted.{IsAccepted};
+ghost use Rattle.spec_persistent.specs.Otherwise.{MayBegin};
 ghost use Rattle.ads_outside.specs.declared.moves.Move.TheVariants as move;
 ghost use Rattle.spec_machine.specs.MachineState.{present_numbers};
 ghost use Rattle.spec_machine.specs.Outcomes.{outcome_of_event};
 ghost use Rattle.spec_machine.specs.RunText.{notes_of_event};
 ghost use Rattle.spec_machine.specs.Summary.{summary_of};
 ghost use Rattle.out_queue.specs.Queue.{QUEUE_LIMIT};
+ghost use Rattle.port_device.specs.Holds.{HoldsPorts};
 ghost use Rattle.ads_served.specs.Due.{is_due};
 ghost use Rattle.server_core.specs.Counts.{counts_in};
 ghost use Rattle.server_core.specs.CoreState.{CoreState, started, after_event, after_move, OpensNew};
@@ -56,10 +57,11 @@ impl<S: Sources> Model for Core<S> {
 }
 
 impl<S: Sources> Core<S> {
-    /// The core of an accepted description and its signals, without a connection.
+    /// The core of an accepted description and its signals, without a connection. Persistent symbols may begin with other
+    /// bytes than was accepted, as many as they have.
     pub fn build(alloc: Global, d: Description, signals: S) -> Result<Core<S>, NoMemory>
         requires few { length (S.waves signals) < 2 ^ 32 }
-        requires accepted { IsAccepted (description_of d) (length (S.waves signals)) }
+        requires accepted { MayBegin (description_of d) (length (S.waves signals)) }
         ensures serves { IfOk result (λ core. Serves core (started (description_of d) (S.waves signals))) }
         ensures counted { IfOk result (λ core. HasCounts core (started (description_of d) (S.waves signals))) }
         ensures notes { IfOk result (λ core. core.server.notes ≡ []) }
@@ -174,6 +176,13 @@ impl<S: Sources> Core<S> {
         ensures { (x : CoreState) → HasCounts self.now x → counts_in result ≡ summary_of x.state }
     {
         self.server.summary
+    }
+
+    /// The ports of the plant that it serves.
+    pub fn ports(&self) -> &Ports
+        ensures { (x : CoreState) → Serves self.now x → HoldsPorts x.state.world result.now }
+    {
+        &self.server.device.ports
     }
 
     /// What became of the reloads, in their order.

@@ -72,6 +72,7 @@ fn accepted(alloc: Global, args: &mut Args<'_>) -> Result<Description, Fault>
 }
 
 // DESCRIPTION: the numbers of those of its ports that are found.
+#[tactic(auto, using(port_device::proofs::BuiltLemmas::accepted_may_be_built))]
 fn build(
     alloc: Global,
     plant: &mut Option<Plant>,
@@ -149,6 +150,7 @@ fn pass(bank: &mut Bank) {
 }
 
 // DESCRIPTION LATER PORT AREA AT LEN: where a reload of the later description puts these bytes.
+#[tactic(auto, using(port_device::proofs::BuiltLemmas::accepted_may_be_built))]
 fn moves(alloc: Global, args: &mut Args<'_>, answer: &mut Answer) -> Result<(), Fault> {
     let before = accepted(alloc, args)?;
     let after = accepted(alloc, args)?;

@@ -6,19 +6,19 @@ use Rattle.type_layout.specs.Descriptions.{port_of, ports_of, description_of}
 use Rattle.type_layout.specs.NamedTypes.{types_of}
 use Rattle.type_layout.specs.declared.port.PortDesc.{PortDesc}
 use Rattle.port_device.specs.FirstPorts.{IsOfAccepted, AreFirstPorts}
-use Rattle.port_device.proofs.BuiltLemmas.{each_of_accepted, first_ports_hold}
+use Rattle.port_device.proofs.BuiltLemmas.{each_of_built, types_of_built, first_ports_hold}
 use Rattle.port_device.proofs.ports.Ports.build.Goals as goal
 
 pub types_size-requires : goal.types_size-requires
 types_size-requires c =
     let same = ap types_of c.deref.ensures ∙ c.in_ok-types.ensures in
-    subst AreTypes (sym same) c.requires.is.types
+    subst AreTypes (sym same) (types_of_built (description_of c.args.d.now) c.requires)
 
 pub first_ports-requires-clause-each : goal.first_ports-requires-clause-each
 first_ports-requires-clause-each c =
     let types = types_of (arc_value c.in_ok-types.types) in
     let P : List PortDesc → Type 0 = λ ps. All (λ (p : PortDesc). IsOfAccepted types (port_of p)) ps in
-    subst P (sym c.as_slice.ensures) (each_of_accepted c.args.d.now types c.requires (sym c.in_ok-types.ensures))
+    subst P (sym c.as_slice.ensures) (each_of_built c.args.d.now types c.requires (sym c.in_ok-types.ensures))
 
 pub returns : goal.returns
 returns c =
@@ -28,4 +28,4 @@ returns c =
     λ signals. first_ports_hold (description_of c.args.d.now) signals types c.in_ok-ports.ports.items c.requires (sym c.in_ok-types.ensures) first
 
 pub invariant_of-result : goal.invariant_of-result
-invariant_of-result c = subst AreTypes (sym c.in_ok-types.ensures) c.requires.is.types
+invariant_of-result c = subst AreTypes (sym c.in_ok-types.ensures) (types_of_built (description_of c.args.d.now) c.requires)

@@ -14,7 +14,7 @@ use Rattle.port_device.specs.Moved.{HasTypes}
 use Rattle.port_device.specs.PortMemory.{PortsMemory}
 use Rattle.port_device.specs.Reloaded.{AreCompared}
 use Rattle.port_device.specs.ReloadedPorts.{AreReloadedPorts}
-use Rattle.port_device.proofs.BuiltLemmas.{each_of_accepted}
+use Rattle.port_device.proofs.BuiltLemmas.{accepted_may_be_built, each_of_built}
 use Rattle.port_device.proofs.KeptLemmas.{held-types}
 use Rattle.port_device.proofs.ReloadedPorts.{reloaded-ports-hold}
 use Rattle.port_device.proofs.ports.Ports.reload.Goals as goal
@@ -28,7 +28,7 @@ pub reloaded_ports-requires-clause-each : goal.reloaded_ports-requires-clause-ea
 reloaded_ports-requires-clause-each c =
     let types = types_of (arc_value c.in_ok-types.types) in
     let P : List PortDesc → Type 0 = λ ps. All (λ (p : PortDesc). IsOfAccepted types (port_of p)) ps in
-    subst P (sym c.as_slice.ensures) (each_of_accepted c.args.d.now types c.requires (sym c.in_ok-types.ensures))
+    subst P (sym c.as_slice.ensures) (each_of_built c.args.d.now types (accepted_may_be_built (description_of c.args.d.now) c.requires) (sym c.in_ok-types.ensures))
 
 pub returns : goal.returns
 returns c = λ w held.

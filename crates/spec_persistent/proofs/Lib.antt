@@ -1,0 +1,3 @@
+mod PersistentExamples
+pub mod OtherwiseLemmas
+pub mod StoredLemmas

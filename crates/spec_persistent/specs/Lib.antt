@@ -1,0 +1,4 @@
+pub mod Persistent
+pub mod Stored
+pub mod Otherwise
+pub mod Laws
