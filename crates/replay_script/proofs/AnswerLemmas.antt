@@ -201,7 +201,7 @@ plays_room lines left rest log rooms after failing looking ends c n is plays set
     }
 
 -- the next offer to a connection fails
-fails_answered : (peers : Peers) (c : ℕ) (rest : List ScriptLine) (ms : List Move) → BeginsTurn ms → AnsweredBy (with_failing c peers) rest ms → AnsweredBy peers (FailsNext c ∷ rest) ms
+pub fails_answered : (peers : Peers) (c : ℕ) (rest : List ScriptLine) (ms : List Move) → BeginsTurn ms → AnsweredBy (with_failing c peers) rest ms → AnsweredBy peers (FailsNext c ∷ rest) ms
 unfolding AnsweredBy
 fails_answered peers c rest [] begins answered = answered
 fails_answered peers c rest (move.Event e ∷ ms) begins answered = answered

@@ -9,5 +9,6 @@ pub mod FreshLemmas
 pub mod RoomLemmas
 pub mod AnswerLemmas
 pub mod PlayedLemmas
+pub mod BeginLemmas
 pub mod PlayingLemmas
 pub mod StandingPlayed

@@ -1,5 +1,5 @@
 -- How a script answers: which event comes next, and which log is answered by it.
-use Rattle.std.specs.Prelude.{◌≡◌, List, [], ◌∷◌, length, true, false, Option, Some, None, IsSomeAnd}
+use Rattle.std.specs.Prelude.{◌≡◌, List, [], ◌∷◌, ◌++◌, length, true, false, Option, Some, None, IsSomeAnd}
 use Rattle.ads_outside.specs.declared.event.Event.{Event}
 use Rattle.ads_outside.specs.declared.event.Event.TheVariants as event
 use Rattle.ads_outside.specs.declared.moves.Move.{Move}
@@ -53,3 +53,23 @@ AnsweredBy peers lines (move.Shut c ∷ ms) =
 abbrev pub HasOneLog : (W C : Type 0) → Type 0
 HasOneLog W C = (step : EventStep W C) (s : MachineState W C) (lines : List ScriptLine) (log : List Move)
     → KeepsTurns step s log → AnsweredBy first_peers lines log → log ≡ play_of step s lines
+
+-- A log has the events of a first part of these lines, and each offer is answered as they say.
+pub record AnsweredSoFar (peers : Peers) (lines : List ScriptLine) (log : List Move) : Type 0 where
+  pub read : List ScriptLine
+  pub left : List ScriptLine
+  pub whole : lines ≡ read ++ left
+  pub answered : AnsweredBy peers read log
+
+abbrev pub IsFirstPart : List Move → List Move → Type 0
+IsFirstPart first whole = (rest : List Move) × (whole ≡ first ++ rest)
+
+-- What is answered by a script so far is so wherever it is cut off.
+abbrev pub IsAnsweredAtEachCut : Type 0
+IsAnsweredAtEachCut = (lines : List ScriptLine) (log later : List Move)
+    → AnsweredSoFar first_peers lines (log ++ later) → AnsweredSoFar first_peers lines log
+
+-- A log that keeps the turns and is answered by a script so far begins the script's play.
+abbrev pub BeginsItsPlay : (W C : Type 0) → Type 0
+BeginsItsPlay W C = (step : EventStep W C) (s : MachineState W C) (lines : List ScriptLine) (log : List Move)
+    → KeepsTurns step s log → AnsweredSoFar first_peers lines log → IsFirstPart log (play_of step s lines)

@@ -1,6 +1,6 @@
 //! The play of a script on what is served.
 
-ghost use Rattle.std.specs.Prelude.{◌≡◌, ◌+◌, [], length, IfOk, IfSome};
+ghost use Rattle.std.specs.Prelude.{◌≡◌, ◌≤◌, ◌+◌, ◌^◌, [], length, IfOk, IfSome, IfNone};
 ghost use Rattle.ads_served.specs.Standing.{Standing};
 ghost use Rattle.replay_script.specs.Fresh.{OpenNew};
 ghost use Rattle.replay_script.specs.Playing.{IsUnused, IsPlay};
@@ -40,7 +40,8 @@ pub fn play<T: Threads + Sync, M: Served>(
 // One more than the lines, so that the loop ends where the script does. No memory holds so many lines that this has
 // no number.
 fn limit_of(script: &Script) -> Option<u64>
-    ensures { IfSome result (λ limit. limit ≡ length script.now + 1) }
+    ensures one_more { IfSome result (λ limit. limit ≡ length script.now + 1) }
+    ensures too_many { IfNone result (2 ^ 64 ≤ length script.now + 1) }
 {
     (script.as_slice().len() as u64).checked_add(1)
 }

@@ -55,6 +55,8 @@ impl Model for ScriptWire {
 }
 
 impl ScriptWire {
+    ghost use Rattle.spec_machine.specs.Peers.{first_peers};
+    ghost use Rattle.replay_script.specs.Answering.{AnsweredSoFar};
     ghost use Rattle.replay_script.specs.ScriptWire.{unplayed, IsPlayed};
 
     /// A wire that plays a script whose lines open each connection once, as those do that were read.
@@ -81,6 +83,7 @@ impl ScriptWire {
     pub fn into_log(self) -> Log
         ensures log { result ≡ self.log }
         ensures played { IsPlayed self }
+        ensures so_far { AnsweredSoFar first_peers self.lines result }
         ensures few { events_in result ≤ length self.lines }
     {
         let ScriptWire {

@@ -1,0 +1,6 @@
+pub mod BodyLemmas
+pub mod SaveLemmas
+pub mod SavingLemmas
+pub mod TurnLemmas
+pub mod KeepLemmas
+pub mod ToldLemmas

@@ -1,0 +1,4 @@
+pub mod Bodies
+pub mod Saving
+pub mod Ending
+pub mod Keeping

@@ -1,0 +1,12 @@
+//! The loop of a server that keeps what its persistent symbols hold: turns, and saves of the body after each tick and at the end.
+#![tactic(auto)]
+
+mod keep_end;
+mod keeping;
+mod persistent;
+mod save_end;
+mod saving;
+
+pub use keep_end::KeepEnd;
+pub use keeping::keep_turns;
+pub use persistent::Persistent;

@@ -1,0 +1,72 @@
+//! The body of what is served is saved, where it does not stand already.
+
+ghost use Rattle.std.specs.Prelude.{◌≡◌, ◌≤◌, ◌<◌, ◌^◌, ℕ, List, length, true, false, None, option_map, bytes_eq};
+ghost use Rattle.ads_outside.specs.Rose.{Rose};
+ghost use Rattle.ads_served.specs.Standing.{Standing};
+ghost use Rattle.spec_store.specs.BodyText.{is_body_text};
+ghost use Rattle.persist_store.specs.Store.{IsReady, body_of};
+ghost use Rattle.keep_loop.specs.Bodies.{is_standing};
+ghost use Rattle.keep_loop.specs.Saving.{AfterSave, StandsForSome};
+
+use crate::Persistent;
+use crate::save_end::SaveEnd;
+use ads_base::NoMemory;
+use persist_store::{Disk, Saved, Store};
+use std::alloc::Global;
+
+/// Saves the body of what is served, where it differs from the store's or nothing stands.
+pub(crate) fn save_body<M: Persistent, D: Disk>(
+    alloc: Global,
+    served: &M,
+    store: &mut Store,
+    disk: &mut D,
+) -> SaveEnd
+    requires some { StandsForSome (M.serves served.now) }
+    requires ready { IsReady D.contents D.may_leave disk.old store.old }
+    requires open { store.old.shut ≡ false }
+    ensures saved { AfterSave result (λ body. (x : Standing M.World M.Client) → M.serves served.now x → body ≡ M.body_of x.running.state.world)
+        D.contents D.moment D.left_since disk.old disk.new store.old store.new }
+    ensures ready { IsReady D.contents D.may_leave disk.new store.new }
+    ensures untold { D.contents disk.old ≡ None → D.contents disk.new ≡ None }
+    ensures later { D.fault_count disk.old ≤ D.fault_count disk.new }
+    ensures failed { result ≡ SaveEnd.Failed → Rose (D.fault_count disk.old) (D.fault_count disk.new) }
+{
+    match served.body(alloc) {
+        Ok(body) => save_new(alloc, store, disk, body.as_slice()),
+        Err(NoMemory) => SaveEnd::Memory,
+    }
+}
+
+// Saves a body, where it differs from the store's or nothing stands.
+fn save_new<D: Disk>(alloc: Global, store: &mut Store, disk: &mut D, body: &[u8]) -> SaveEnd
+    requires text { is_body_text body.now ≡ true }
+    requires ready { IsReady D.contents D.may_leave disk.old store.old }
+    requires open { store.old.shut ≡ false }
+    ensures saved { AfterSave result (λ b. b ≡ body.now)
+        D.contents D.moment D.left_since disk.old disk.new store.old store.new }
+    ensures ready { IsReady D.contents D.may_leave disk.new store.new }
+    ensures untold { D.contents disk.old ≡ None → D.contents disk.new ≡ None }
+    ensures later { D.fault_count disk.old ≤ D.fault_count disk.new }
+    ensures failed { result ≡ SaveEnd.Failed → Rose (D.fault_count disk.old) (D.fault_count disk.new) }
+{
+    if stands(store, body) {
+        return SaveEnd::Same;
+    }
+    match store.save(alloc, disk, body) {
+        Ok(Saved::Done) => SaveEnd::Saved,
+        Ok(Saved::Failed) => SaveEnd::Failed,
+        Ok(Saved::Limit) => SaveEnd::Limit,
+        Ok(Saved::Shut) => unreachable!(),
+        Err(NoMemory) => SaveEnd::Memory,
+    }
+}
+
+// Whether a body stands already.
+fn stands(store: &Store, body: &[u8]) -> bool
+    ensures { result ≡ is_standing (body_of store.now) body.now }
+{
+    match store.body() {
+        None => false,
+        Some(stood) => stood == body,
+    }
+}

@@ -1,0 +1,2 @@
+pub mod MappedTurns
+pub mod SizedSymbols
