@@ -1,0 +1,5 @@
+pub mod KeptDisk
+pub mod KeptSaves
+pub mod KeptPlay
+pub mod KeptScript
+pub mod Begun
