@@ -6,3 +6,4 @@ pub mod Verdicts
 pub mod Decided
 pub mod NextLemmas
 pub mod IssueLemmas
+pub mod PromiseLemmas

@@ -4,3 +4,4 @@ pub mod Represents
 pub mod Unanswered
 pub mod Samples
 pub mod Hears
+pub mod Promised

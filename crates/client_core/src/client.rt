@@ -9,6 +9,7 @@ ghost use Rattle.ams_header.specs.Header.{address_of};
 ghost use Rattle.client_core.specs.Heard.{heard_meant, issued_meant};
 ghost use Rattle.client_core.specs.Kept.{bytes_left};
 ghost use Rattle.client_core.specs.Represents.{Represents, StandsFor};
+ghost use Rattle.client_core.specs.Promised.{IsPromised};
 ghost use Rattle.client_core.specs.Hears.{StandsStill, Hears, HearsFrames, Turns, HeardAt, Cuts, Applies, Holds, IsAtBroken, IsHearing, hearing_in_frames, with_waiting};
 ghost use Rattle.spec_client.specs.Client.{Client as Spec};
 ghost use Rattle.ams_tcp.specs.History.{IsFrameCut};
@@ -133,6 +134,8 @@ impl Client {
     pub fn next(&mut self, alloc: Global) -> Result<Heard, NoMemory>
         ensures heard { IfOk result (λ heard. (me peer : AmsAddress) (h : ClientHistory) → Represents me peer self.old h
             → heard_meant heard ≡ heard_after me peer h) }
+        ensures promised { IfOk result (λ heard. (me peer : AmsAddress) (h : ClientHistory) → Represents me peer self.old h
+            → IsPromised me peer h (heard_meant heard)) }
         ensures stands { OnOk result ((me peer : AmsAddress) (h : ClientHistory) → Represents me peer self.old h
             → Represents me peer self.new (h ++ Next ∷ [])) }
         ensures no_memory { OnErr result ((me peer : AmsAddress) (h : ClientHistory) → Represents me peer self.old h

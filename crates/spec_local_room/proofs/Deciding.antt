@@ -1,0 +1,316 @@
+-- What the server decides of a request of a call, and what its answer is read as.
+use Rattle.std.proofs.Common.{◌≡◌, ◌⊎◌, ℕ, ◌+◌, ◌<◌, ◌^◌, List, [], ◌∷◌, length, drop, Bool, true, false, not, refl, sym, ap, ◌∙◌, subst, inl, inr, arith}
+use Rattle.std.specs.Prelude.{Option, Some, None, is_none, Result, Ok, Err, ◌==◌, ◌||◌, ◌%◌, nat_le, nat_lt, bytes_eq, if◌then◌else◌}
+use Rattle.std.specs.Int.{w32, to_le_bytes}
+use Rattle.std.proofs.lemmas.Bool.{cases_Bool, cond-true, cond-false, leb-false, eqb-true}
+use Rattle.std.proofs.lemmas.Nat.{from_le_bytes-to_le_bytes_4}
+use Rattle.std.proofs.lemmas.Slice.Eq.{bytes_eq-Decides}
+use Rattle.spec_plant.specs.Description.{Rights}
+use Rattle.spec_plant.specs.Finding.{Found, found_of}
+use Rattle.spec_plant.specs.Rights.{rights_of}
+use Rattle.spec_plant.specs.World.{Plant, PlantPort}
+use Rattle.spec_formats.specs.Codes.{invalid_ams_length, unknown_ams_command, target_machine_not_found, target_port_not_found, unknown_command_id, invalid_size}
+use Rattle.spec_formats.specs.Commands.{ADD_DEVICE_NOTIFICATION, DEVICE_NOTIFICATION, READ_WRITE}
+use Rattle.spec_formats.specs.Groups.{Group, ExtendedInfoByName, SumRead, SumWrite, SumReadWrite, group_of, group_in}
+use Rattle.spec_formats.specs.Header.{AmsHeader, request_flags}
+use Rattle.spec_formats.specs.Numbers.{number32}
+use Rattle.spec_formats.specs.Request as request
+use Rattle.spec_formats.specs.Request.{Request, request_of, request_in, request_bytes, command_of}
+use Rattle.spec_formats.specs.SymbolEntry.{entry_bytes}
+use Rattle.spec_machine.specs.Access.{Addressed}
+use Rattle.spec_machine.specs.Acts.{Act, Refusal, Allowed, changing, effect_of, client_after_acts}
+use Rattle.spec_machine.specs.Answers.{all_answered, answered_group}
+use Rattle.spec_machine.specs.ByName.{MAX_NUMBER, if_found, read_write_group}
+use Rattle.spec_machine.specs.Client.{Client, client_after, Adds, NoEffect}
+use Rattle.spec_machine.specs.Decisions.{Decision, NoAnswer, EndConnection, AmsError, Perform, Single, refuse, acts_in}
+use Rattle.spec_machine.specs.Entries.{entry_of_part}
+use Rattle.spec_machine.specs.Packets.{Check, checks_of, checked, decide_passed, decide_header}
+use Rattle.spec_machine.specs.Reads.{fixed_reply}
+use Rattle.spec_machine.specs.Requests.{mode_of, MAX_WATCHES, next_watch, add_watch, add_reached, add_act, act_of}
+use Rattle.spec_machine.specs.Sums.{SumRequest, sum_refusal, sum_of_reads, sum_of_writes, sum_of_read_writes, given_in_turn}
+use Rattle.spec_machine.specs.SumPackets.{acts_of, decide_parts, decide_read_write, decide_request}
+use Rattle.spec_machine.specs.Watches.{Watch, Mode}
+use Rattle.spec_machine.specs.World.{Setup, port_numbered}
+use Rattle.spec_machine.specs.Writes.{Asker}
+use Rattle.spec_client.specs.Calls.{entry_request}
+
+-- checks that stop a packet, and the decision where none does
+
+abbrev AllLead : (Decision → Type 0) → List Check → Type 0
+AllLead P [] = Unit {0}
+AllLead P (c ∷ cs) = (c.stops ≡ true → P c.leads_to) × AllLead P cs
+
+abbrev NoneStops : List Check → Type 0
+NoneStops [] = Unit {0}
+NoneStops (c ∷ cs) = (c.stops ≡ false) × NoneStops cs
+
+checked_holds : (P : Decision → Type 0) (cs : List Check) (d : Decision) → AllLead P cs → (NoneStops cs → P d) → P (checked cs d)
+checked_holds P [] d all passed = passed tt
+checked_holds P (c ∷ cs) d all passed = elim (cases_Bool c.stops) [
+  | inl stops ↦ subst P (sym (cond-true c.stops _ _ stops)) (all.0 stops)
+  | inr goes ↦ subst P (sym (cond-false c.stops _ _ goes)) (checked_holds P cs d all.1 (λ rest. passed (goes, rest)))
+]
+
+-- the packet is answered, or the connection ends
+abbrev pub IsReplied : Decision → Type 0
+IsReplied NoAnswer = ⊥
+IsReplied EndConnection = Unit {0}
+IsReplied (AmsError code) = code < 2 ^ 32
+IsReplied (Perform acts form) = Unit {0}
+
+replied_parts : (d : Setup) (c : Client) (k : Asker) (s : SumRequest) (o : Option ℕ) → IsReplied (decide_parts all_answered d c k s o)
+replied_parts d c k s None = tt
+replied_parts d c k s (Some code) = tt
+
+replied_read_write : (d : Setup) (c : Client) (k : Asker) (g : Option Group) (r : Request) (n len : ℕ) (bytes : List ℕ)
+    → IsReplied (decide_read_write all_answered d c k g r n len bytes)
+replied_read_write d c k (Some SumRead) r n len bytes =
+    let s = sum_of_reads n bytes in replied_parts d c k s (sum_refusal n s.data_len (length bytes) s.reply_len len)
+replied_read_write d c k (Some SumWrite) r n len bytes =
+    let s = sum_of_writes n bytes in replied_parts d c k s (sum_refusal n s.data_len (length bytes) s.reply_len len)
+replied_read_write d c k (Some SumReadWrite) r n len bytes =
+    let s = sum_of_read_writes n bytes in replied_parts d c k s (sum_refusal n s.data_len (length bytes) s.reply_len len)
+replied_read_write d c k g r n len bytes = tt
+
+replied_request : (d : Setup) (c : Client) (k : Asker) (r : Request) → IsReplied (decide_request all_answered d c k r)
+unfolding decide_request
+replied_request d c k (request.ReadWrite group offset len bytes) =
+    replied_read_write d c k (answered_group all_answered READ_WRITE group) (request.ReadWrite group offset len bytes) offset len bytes
+replied_request d c k r = tt
+
+-- who is answered: none where a check fails
+record Passes (plant : Plant) (h : AmsHeader) (payload : List ℕ) (P : Decision → Type 0) (d : Setup) (c : Client) : Type 0 where
+  holds : (k : Asker) (r : Request) → k.address ≡ h.source → k.port.number ≡ h.target.port → h.target.net ≡ plant.net → request_of h.command payload ≡ Some r
+      → P (decide_request all_answered d c k r)
+
+not_true : (b : Bool) → not b ≡ false → b ≡ true
+not_true true e = refl
+not_true false e = absurd (let f : true ≡ false = e in cc)
+
+true_false : true ≡ false → ⊥
+true_false e = cc
+
+found_number : (number : ℕ) (ports : List PlantPort) (p : PlantPort) → port_numbered number ports ≡ Some p → p.number ≡ number
+found_number number [] p e = cc
+found_number number (q ∷ ports) p e = elim (cases_Bool (q.number == number)) [
+  | inl is ↦ let f = rw is at e in let same : q ≡ p = cc in sym (ap (λ (x : PlantPort). x.number) same) ∙ eqb-true q.number number is
+  | inr no_one ↦ found_number number ports p (rw no_one at e)
+]
+
+passed_so : (P : Decision → Type 0) (d : Setup) (c : Client) (h : AmsHeader) (payload : List ℕ) → Passes d.plant h payload P d c
+    → (rights : Option Rights) (port : Option PlantPort) (r : Option Request) → port_numbered h.target.port d.plant.ports ≡ port → request_of h.command payload ≡ r
+    → is_none rights ≡ false → h.target.net ≡ d.plant.net → is_none port ≡ false → is_none r ≡ false
+    → P (decide_passed all_answered d c h.source rights port r)
+passed_so P d c h payload by None port r p q e net f g = absurd (true_false e)
+passed_so P d c h payload by (Some rights) None r p q e net f g = absurd (true_false f)
+passed_so P d c h payload by (Some rights) (Some port) None p q e net f g = absurd (true_false g)
+passed_so P d c h payload by (Some rights) (Some port) (Some r) p q e net f g =
+    by.holds (record { port = port; address = h.source; rights = rights }) r refl (found_number h.target.port d.plant.ports port p) net q
+
+-- what holds of the refusals and of each request that passes holds of what is decided
+decided : (P : Decision → Type 0) (d : Setup) (c : Client) (h : AmsHeader) (payload : List ℕ)
+    → ((code : ℕ) → code < 2 ^ 32 → P (AmsError code)) → P EndConnection → ((code : ℕ) → P (refuse code)) → h.flags ≡ request_flags → (h.command == DEVICE_NOTIFICATION) ≡ false
+    → Passes d.plant h payload P d c → P (decide_header all_answered d c payload (Some h))
+decided P d c h payload error ends refused flags other by =
+    let port = port_numbered h.target.port d.plant.ports in
+    let r = request_of h.command payload in
+    let rights = rights_of h.source.net d.plant.routes in
+    let response : (h.flags % 2 == 1) ≡ false = rw flags refl in
+    checked_holds P (checks_of all_answered d.plant h payload) (decide_passed all_answered d c h.source rights port r) (
+      (λ e. error invalid_ams_length (omega arith)),
+      (
+        (λ e. absurd (true_false (sym e ∙ response))),
+        (
+          (λ e. error unknown_ams_command (omega arith)),
+          (
+            (λ e. ends),
+            (
+              (λ e. error target_machine_not_found (omega arith)),
+              (
+                (λ e. error target_port_not_found (omega arith)),
+                ((λ e. absurd (true_false (sym e ∙ other))), ((λ e. error unknown_command_id (omega arith)), ((λ e. refused invalid_size), tt))),
+              ),
+            ),
+          ),
+        ),
+      ),
+    )
+    (λ none.
+    passed_so P d c h payload by rights port r refl refl none.1.1.1.0
+    ((bytes_eq-Decides h.target.net d.plant.net).0 (not_true (bytes_eq h.target.net d.plant.net) none.1.1.1.1.0)) none.1.1.1.1.1.0 none.1.1.1.1.1.1.1.1.0)
+
+pub replied : (d : Setup) (c : Client) (h : AmsHeader) (payload : List ℕ) → h.flags ≡ request_flags → (h.command == DEVICE_NOTIFICATION) ≡ false
+    → IsReplied (decide_header all_answered d c payload (Some h))
+replied d c h payload flags other =
+    decided IsReplied d c h payload (λ code small. small) tt (λ code. tt) flags other
+    (record { holds = λ k r address port net is. replied_request d c k r })
+
+-- an entry by name changes nothing of the client
+
+abbrev Keeps : Client → Decision → Type 0
+Keeps c d = client_after_acts c (acts_in d) ≡ c
+
+no_acts : (c : Client) → client_after_acts c [] ≡ c
+unfolding client_after_acts
+no_acts c = refl
+
+one_act : (c : Client) (a : Act) → effect_of a ≡ NoEffect → client_after_acts c (a ∷ []) ≡ c
+unfolding client_after_acts client_after
+one_act c a none = rw none refl
+
+one_acts : (d : Setup) (c : Client) (k : Asker) (r : Request) → acts_of all_answered d c k (r ∷ []) ≡ act_of all_answered d c k r ∷ []
+unfolding acts_of given_in_turn
+one_acts d c k r = refl
+
+fixed_keeps : (len : ℕ) (bytes : List ℕ) → effect_of (fixed_reply len bytes) ≡ NoEffect
+fixed_keeps len bytes = go (nat_lt len (length bytes))
+  where
+    go : (b : Bool) → effect_of (if b then Refusal invalid_size else Allowed (record { fixed = bytes; reads = []; writes = []; effect = NoEffect })) ≡ NoEffect
+    go true = refl
+    go false = refl
+
+found_keeps : (len : ℕ) (o : Option Found) → effect_of (if_found o (λ f. fixed_reply len (entry_bytes (entry_of_part f)))) ≡ NoEffect
+found_keeps len None = refl
+found_keeps len (Some f) = fixed_keeps len (entry_bytes (entry_of_part f))
+
+entry_group : answered_group all_answered READ_WRITE 0xF009 ≡ Some ExtendedInfoByName
+unfolding answered_group group_of group_in
+entry_group = refl
+
+entry_act : (d : Setup) (c : Client) (k : Asker) (offset len : ℕ) (name : List ℕ)
+    → effect_of (act_of all_answered d c k (request.ReadWrite 0xF009 offset len name)) ≡ NoEffect
+unfolding act_of read_write_group
+entry_act d c k offset len name =
+    ap (λ g. effect_of (read_write_group c k.port g len name)) entry_group ∙ found_keeps len (found_of k.port.symbols name)
+
+entry_decided : (d : Setup) (c : Client) (k : Asker) (offset len : ℕ) (name : List ℕ) → Keeps c (decide_request all_answered d c k (request.ReadWrite 0xF009 offset len name))
+unfolding decide_request
+entry_decided d c k offset len name =
+    let r = request.ReadWrite 0xF009 offset len name in
+    ap (λ g. client_after_acts c (acts_in (decide_read_write all_answered d c k g r offset len name))) entry_group
+    ∙ ap (client_after_acts c) (one_acts d c k r)
+    ∙ one_act c (act_of all_answered d c k r) (entry_act d c k offset len name)
+
+-- what the payload is read as, where it is read
+read_write_read : (p : List ℕ) (r : Request) → request_of READ_WRITE p ≡ Some r → r ≡ request.ReadWrite (number32 0 p) (number32 4 p) (number32 8 p) (drop 16 p)
+unfolding request_of request_in
+read_write_read p r e = go (length p == 16 + number32 12 p) e
+  where
+    go : (b : Bool) → (if b then Some (request.ReadWrite (number32 0 p) (number32 4 p) (number32 8 p) (drop 16 p)) else None) ≡ Some r
+        → r ≡ request.ReadWrite (number32 0 p) (number32 4 p) (number32 8 p) (drop 16 p)
+    go true e = cc
+    go false e = absurd cc
+
+addition_read : (p : List ℕ) (r : Request) → request_of ADD_DEVICE_NOTIFICATION p ≡ Some r
+    → r ≡ request.AddDeviceNotification (number32 0 p) (number32 4 p) (number32 8 p) (number32 12 p) (number32 16 p) (number32 20 p)
+unfolding request_of request_in
+addition_read p r e = go (length p == 40) e
+  where
+    wanted : Request
+    wanted = request.AddDeviceNotification (number32 0 p) (number32 4 p) (number32 8 p) (number32 12 p) (number32 16 p) (number32 20 p)
+
+    go : (b : Bool) → (if b then Some wanted else None) ≡ Some r → r ≡ wanted
+    go true e = cc
+    go false e = absurd cc
+
+entry_number : (name : List ℕ) → number32 0 (request_bytes (entry_request name)) ≡ 0xF009
+entry_number name = from_le_bytes-to_le_bytes_4 0xF009 (omega arith)
+
+pub entry_keeps : (d : Setup) (c : Client) (h : AmsHeader) (name : List ℕ) → h.flags ≡ request_flags → h.command ≡ READ_WRITE
+    → Keeps c (decide_header all_answered d c (request_bytes (entry_request name)) (Some h))
+entry_keeps d c h name flags command =
+    let p = request_bytes (entry_request name) in
+    decided (Keeps c) d c h p (λ code small. no_acts c) (no_acts c) (λ code. one_act c (Refusal code) refl) flags (ap (λ n. n == DEVICE_NOTIFICATION) command)
+    (record {
+      holds = λ k r address port net is.
+          let read = read_write_read p r (sym (ap (λ n. request_of n p) command) ∙ is) in
+          let same : r ≡ request.ReadWrite 0xF009 (number32 4 p) (number32 8 p) (drop 16 p)
+          = read ∙ ap (λ g. request.ReadWrite g (number32 4 p) (number32 8 p) (drop 16 p)) (entry_number name) in
+          subst (λ x. Keeps c (decide_request all_answered d c k x)) (sym same) (entry_decided d c k (number32 4 p) (number32 8 p) (drop 16 p));
+    })
+
+-- an addition gives one notification more, or nothing changes
+
+-- a notification from this port to this address
+pub record IsWatch (h : AmsHeader) (plant : Plant) (w : Watch (List Addressed)) : Type 0 where
+  pub handle : w.handle < 2 ^ 32
+  pub port : w.port ≡ h.target.port
+  pub address : w.address ≡ h.source
+  pub net : h.target.net ≡ plant.net
+
+pub record Adding (h : AmsHeader) (plant : Plant) (d : Decision) : Type 0 where
+  pub w : Watch (List Addressed)
+  pub is : d ≡ Perform (changing (to_le_bytes w32 w.handle) (Adds w) ∷ []) Single
+  pub watch : IsWatch h plant w
+
+abbrev pub AddsOrKeeps : Client → AmsHeader → Plant → Decision → Type 0
+AddsOrKeeps c h plant d = Keeps c d ⊎ Adding h plant d
+
+-- an act that adds so, or is a refusal
+record AddsAct (h : AmsHeader) (plant : Plant) (a : Act) : Type 0 where
+  w : Watch (List Addressed)
+  is : a ≡ changing (to_le_bytes w32 w.handle) (Adds w)
+  watch : IsWatch h plant w
+
+abbrev ActCase : AmsHeader → Plant → Act → Type 0
+ActCase h plant a = (effect_of a ≡ NoEffect) ⊎ AddsAct h plant a
+
+both_false : (a b : Bool) → (a || b) ≡ false → b ≡ false
+both_false true b e = absurd (let f : true ≡ false = e in cc)
+both_false false b e = e
+
+watch_case : (h : AmsHeader) (plant : Plant) (c : Client) (k : Asker) (mode : Mode) (cycle : ℕ) (watched : List Addressed)
+    → k.address ≡ h.source → k.port.number ≡ h.target.port → h.target.net ≡ plant.net → ActCase h plant (add_watch c (next_watch c k mode cycle watched))
+watch_case h plant c k mode cycle watched address port net =
+    let w = next_watch c k mode cycle watched in
+    let full = nat_le MAX_WATCHES (length c.watches) || nat_le MAX_NUMBER c.additions in
+    elim (cases_Bool full) [
+      | inl is ↦ inl (ap effect_of (cond-true full _ _ is))
+      | inr room ↦
+          let less = leb-false MAX_NUMBER c.additions (both_false (nat_le MAX_WATCHES (length c.watches)) (nat_le MAX_NUMBER c.additions) room) in
+          inr (record {
+            w = w;
+            is = cond-false full _ _ room;
+            watch = record { handle = omega (arith, less); port = port; address = address; net = net };
+          })
+    ]
+
+reached_case : (h : AmsHeader) (plant : Plant) (c : Client) (k : Asker) (mode : Mode) (len cycle : ℕ) (o : Result (List Addressed) ℕ)
+    → k.address ≡ h.source → k.port.number ≡ h.target.port → h.target.net ≡ plant.net → ActCase h plant (add_reached c k mode len cycle o)
+reached_case h plant c k mode len cycle (Err code) address port net = inl refl
+reached_case h plant c k mode len cycle (Ok watched) address port net = elim (cases_Bool (len == 0)) [
+  | inl zero ↦ inl (ap effect_of (cond-true (len == 0) _ _ zero))
+  | inr some ↦ subst (ActCase h plant) (sym (cond-false (len == 0) _ _ some)) (watch_case h plant c k mode cycle watched address port net)
+]
+
+add_case : (h : AmsHeader) (plant : Plant) (c : Client) (k : Asker) (g : Option Group) (offset len cycle : ℕ) (m : Option Mode)
+    → k.address ≡ h.source → k.port.number ≡ h.target.port → h.target.net ≡ plant.net → ActCase h plant (add_act c k g offset len cycle m)
+add_case h plant c k g offset len cycle None address port net = inl refl
+add_case h plant c k g offset len cycle (Some mode) address port net = elim (cases_Bool (nat_lt 2048 len)) [
+  | inl big ↦ inl (ap effect_of (cond-true (nat_lt 2048 len) _ _ big))
+  | inr small ↦ subst (ActCase h plant) (sym (cond-false (nat_lt 2048 len) _ _ small)) (reached_case h plant c k mode len cycle _ address port net)
+]
+
+single_case : (h : AmsHeader) (plant : Plant) (c : Client) (a : Act) → ActCase h plant a → AddsOrKeeps c h plant (Perform (a ∷ []) Single)
+single_case h plant c a (inl keeps) = inl (one_act c a keeps)
+single_case h plant c a (inr adds) = inr (record { w = adds.w; is = ap (λ x. Perform (x ∷ []) Single) adds.is; watch = adds.watch })
+
+addition_decided : (d : Setup) (c : Client) (h : AmsHeader) (k : Asker) (g o l m y z : ℕ) → k.address ≡ h.source → k.port.number ≡ h.target.port → h.target.net ≡ d.plant.net
+    → AddsOrKeeps c h d.plant (decide_request all_answered d c k (request.AddDeviceNotification g o l m y z))
+unfolding decide_request act_of
+addition_decided d c h k g o l m y z address port net =
+    let r = request.AddDeviceNotification g o l m y z in
+    subst (λ acts. AddsOrKeeps c h d.plant (Perform acts Single)) (sym (one_acts d c k r))
+    (single_case h d.plant c (act_of all_answered d c k r) (add_case h d.plant c k _ o l z (mode_of m) address port net))
+
+pub addition_adds : (d : Setup) (c : Client) (h : AmsHeader) (payload : List ℕ) → h.flags ≡ request_flags → h.command ≡ ADD_DEVICE_NOTIFICATION
+    → AddsOrKeeps c h d.plant (decide_header all_answered d c payload (Some h))
+addition_adds d c h p flags command =
+    decided (AddsOrKeeps c h d.plant) d c h p (λ code small. inl (no_acts c)) (inl (no_acts c)) (λ code. inl (one_act c (Refusal code) refl)) flags
+    (ap (λ n. n == DEVICE_NOTIFICATION) command)
+    (record {
+      holds = λ k r address port net is.
+          let read = addition_read p r (sym (ap (λ n. request_of n p) command) ∙ is) in
+          subst (λ x. AddsOrKeeps c h d.plant (decide_request all_answered d c k x)) (sym read)
+          (addition_decided d c h k (number32 0 p) (number32 4 p) (number32 8 p) (number32 12 p) (number32 16 p) (number32 20 p) address port net);
+    })

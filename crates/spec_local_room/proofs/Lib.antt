@@ -1,0 +1,11 @@
+mod Coming
+mod Hearing
+mod Turning
+mod Pieces
+mod Deciding
+mod Responding
+mod Ticking
+mod Leading
+mod Scenes
+mod Running
+mod LocalAnswers

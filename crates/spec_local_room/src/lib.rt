@@ -1,0 +1,13 @@
+//! Calls over the closed server in the same process: they have room, so they are the same in every cutting.
+#![tactic(auto)]
+
+ghost use Rattle.spec_local_room.specs.Laws.{LocalCallsHaveRoom, LocalCallsAreOne, LocalLinksAreOne, LocalCallsEnd};
+
+/// A bounded call over the server's machine has room, so it is the same however its answers are cut, over the machine and
+/// over a link to it; and it ends, by no timeout, and only where a value is set for a text that is none.
+pub fn local_calls_have_room()
+    ensures room { LocalCallsHaveRoom }
+    ensures one { LocalCallsAreOne }
+    ensures link { LocalLinksAreOne }
+    ensures ends { LocalCallsEnd }
+{}
