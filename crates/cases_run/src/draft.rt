@@ -1,14 +1,10 @@
 //! A case while its lines are read.
 
 use crate::fault::Fault;
-use crate::link_case::LinkCase;
-use crate::run_case::Case;
-use crate::store_case::StoreCase;
-use crate::wire_case::WireCase;
-use ads_base::{Calls, Octets};
-use ads_outside::{Event, NamedFile, NamedFiles};
+use crate::given::Given;
+use ads_base::Octets;
+use ads_outside::{Event, NamedFile};
 use std::alloc::Global;
-use std::io::ErrorKind;
 use std::mem;
 
 /// What the lines of text that come belong to.
@@ -29,43 +25,33 @@ pub enum Target {
 /// What the lines so far have said.
 #[derive(Drop)]
 pub struct Draft {
-    pub words: Vec<String>,
-    pub unreadable: Option<ErrorKind>,
-    pub failing_reads: Calls,
-    pub failing_puts: Calls,
-    pub parts: Calls,
-    pub has_signals: bool,
-    pub wire: WireCase,
-    pub link: LinkCase,
-    pub stores: StoreCase,
+    pub given: Given,
     pub status: Option<u8>,
     /// Whether a comment says what the run shows.
     pub has_comment: bool,
     /// The text that is being written down, and whose it is.
     pub text: Octets,
     target: Target,
-    files: NamedFiles,
     out: Option<Octets>,
+}
+
+/// What a run is given, and the status and the text that must come.
+#[derive(Drop)]
+pub struct Case {
+    pub given: Given,
+    pub status: u8,
+    pub out: Octets,
 }
 
 impl Draft {
     /// Nothing is said yet.
     pub fn new(alloc: Global) -> Draft {
         Draft {
-            words: Vec::new(alloc),
-            unreadable: None,
-            failing_reads: Calls::new(alloc),
-            failing_puts: Calls::new(alloc),
-            parts: Calls::new(alloc),
-            has_signals: true,
-            wire: WireCase::new(alloc),
-            link: LinkCase::new(alloc),
-            stores: StoreCase::new(alloc),
+            given: Given::new(alloc),
             status: None,
             has_comment: false,
             text: Octets::new(alloc),
             target: Target::Nothing,
-            files: NamedFiles::new(alloc),
             out: None,
         }
     }
@@ -79,58 +65,34 @@ impl Draft {
                     return Err(Fault::Off("text that belongs to no file and is no output"));
                 }
             }
-            Target::File(name) => self.files.push(alloc, NamedFile { name, bytes })?,
-            Target::Reload => self.wire.events.push(alloc, Event::Reload(bytes))?,
+            Target::File(name) => {
+                let file = NamedFile { name, bytes };
+                self.given.files.push(alloc, file)?
+            }
+            Target::Reload => self.given.wire.events.push(alloc, Event::Reload(bytes))?,
             Target::Output => self.out = Some(bytes),
-            Target::Log => self.wire.log = bytes,
-            Target::Talk => self.link.talk = bytes,
-            Target::Rows => self.stores.rows = bytes,
+            Target::Log => self.given.wire.log = bytes,
+            Target::Talk => self.given.link.talk = bytes,
+            Target::Rows => self.given.stores.rows = bytes,
         }
         Ok(())
     }
 
-    /// The case that all lines describe.
-    pub fn finish(mut self, alloc: Global) -> Result<Case, Fault> {
+    /// The case that all lines describe. The draft says nothing then.
+    pub fn finish(&mut self, alloc: Global) -> Result<Case, Fault> {
         self.begin(alloc, Target::Nothing)?;
-        let Draft {
-            words,
-            unreadable,
-            failing_reads,
-            failing_puts,
-            parts,
-            has_signals,
-            wire,
-            link,
-            stores,
-            status,
-            has_comment,
-            text: _text,
-            target: _target,
-            files,
-            out,
-        } = self;
-        if !has_comment {
+        if !self.has_comment {
             return Err(Fault::Off("no comment says what the run shows"));
         }
-        let Some(status) = status else {
+        let Some(status) = self.status else {
             return Err(Fault::Off("no line says which status must come"));
         };
-        let Some(out) = out else {
+        let Some(out) = mem::replace(&mut self.out, None) else {
             return Err(Fault::Off("no line says what must be printed"));
         };
-        Ok(Case {
-            words,
-            unreadable,
-            files,
-            failing_reads,
-            failing_puts,
-            parts,
-            has_signals,
-            wire,
-            link,
-            stores,
-            status,
-            out,
-        })
+        self.status = None;
+        self.has_comment = false;
+        let given = mem::replace(&mut self.given, Given::new(alloc));
+        Ok(Case { given, status, out })
     }
 }

@@ -44,15 +44,15 @@ pub fn take_line(
         "rows" => draft.begin(alloc, Target::Rows),
         "disk" | "left" | "stop" | "fail-disk" | "fail-keeper" => {
             draft.begin(alloc, Target::Nothing)?;
-            take_store_line(alloc, &mut draft.stores, key, rest)
+            take_store_line(alloc, &mut draft.given.stores, key, rest)
         }
         "comes" | "quiet" | "ends" | "fail-link" => {
             draft.begin(alloc, Target::Nothing)?;
-            take_link_line(alloc, &mut draft.link, key, rest)
+            take_link_line(alloc, &mut draft.given.link, key, rest)
         }
         "opened" | "piece" | "closed" | "tick" | "writable" | "fail-wire" | "cut" => {
             draft.begin(alloc, Target::Nothing)?;
-            take_wire_line(alloc, &mut draft.wire, key, rest)
+            take_wire_line(alloc, &mut draft.given.wire, key, rest)
         }
         _ => take_setting(alloc, draft, key, rest),
     }
@@ -63,15 +63,15 @@ fn take_setting(alloc: Global, draft: &mut Draft, key: &str, rest: &str) -> Resu
     match key {
         "words" => put_words(alloc, draft, rest),
         "word" => put_word(alloc, draft, rest),
-        "fail-read" => put_number(alloc, &mut draft.failing_reads, rest),
-        "fail-put" => put_number(alloc, &mut draft.failing_puts, rest),
-        "leave" => put_number(alloc, &mut draft.parts, rest),
+        "fail-read" => put_number(alloc, &mut draft.given.failing_reads, rest),
+        "fail-put" => put_number(alloc, &mut draft.given.failing_puts, rest),
+        "leave" => put_number(alloc, &mut draft.given.parts, rest),
         "no-signals" => {
-            draft.has_signals = false;
+            draft.given.has_signals = false;
             Ok(())
         }
         "unreadable" => {
-            draft.unreadable = Some(kind_of(rest));
+            draft.given.unreadable = Some(kind_of(rest));
             Ok(())
         }
         "status" => {
@@ -156,7 +156,7 @@ fn put_words(alloc: Global, draft: &mut Draft, rest: &str) -> Result<(), Fault> 
 }
 
 fn put_word(alloc: Global, draft: &mut Draft, word: &str) -> Result<(), Fault> {
-    push_word(alloc, &mut draft.words, word)?;
+    push_word(alloc, &mut draft.given.words, word)?;
     Ok(())
 }
 

@@ -5,6 +5,7 @@
 mod draft;
 mod fault;
 mod folder;
+mod given;
 mod line;
 mod link_case;
 mod new_events;

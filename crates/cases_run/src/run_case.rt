@@ -1,39 +1,24 @@
 //! A run over files, a wire, a link, a sink, a disk and a keeper in memory.
 
+ghost use Rattle.std.specs.Prelude.{[], IsTrue};
+ghost use Rattle.ads_outside.specs.Opened.{are_new};
+
 use crate::fault::Fault;
+use crate::given::Given;
 use crate::link_case::{LinkCase, talk_of};
 use crate::new_events::open_new;
-use crate::store_case::{StoreCase, Stores, rows_of};
+use crate::store_case::{StoreCase, rows_of};
 use crate::wire_case::WireCase;
 use crate::wire_log::log_text;
-use ads_base::{Calls, NoMemory, Octets};
-use ads_outside::{MemFiles, MemLink, MemSink, MemWire, NamedFiles};
+use ads_base::{NoMemory, Octets};
+use ads_outside::{Files, Link, LinkMove, MemFiles, MemLink, MemSink, MemWire, Move, Sink, Wire};
 use ads_run::{Status, run, run_program};
+use persist_store::{Disk, MemDisk};
+use sample_store::{Keeper, MapKeeper};
 use signals::Signal;
 use std::alloc::Global;
 use std::io::ErrorKind;
 use std::thread::Threads;
-
-/// What a run is given, and what must come of it.
-#[derive(Drop)]
-pub struct Case {
-    pub words: Vec<String>,
-    /// Why the words of the process cannot be read.
-    pub unreadable: Option<ErrorKind>,
-    pub files: NamedFiles,
-    /// The readings that fail, and the pieces whose writing fails, counted from 1.
-    pub failing_reads: Calls,
-    pub failing_puts: Calls,
-    /// How many bytes the failing pieces leave, in their order.
-    pub parts: Calls,
-    /// Whether the program's three signals are handed in, or none.
-    pub has_signals: bool,
-    pub wire: WireCase,
-    pub link: LinkCase,
-    pub stores: StoreCase,
-    pub status: u8,
-    pub out: Octets,
-}
 
 /// What came: the number of the status, what was printed, the wire's log, what was sent over the link, and what is left of the
 /// disk's file and of the keeper's rows.
@@ -47,19 +32,23 @@ pub struct Came {
     pub rows: Octets,
 }
 
-// What a run is handed in, in memory.
-#[derive(Drop)]
-struct Outside {
-    files: MemFiles,
-    wire: MemWire,
-    link: MemLink,
-    sink: MemSink,
-    stores: Stores,
+/// Runs the words that are given over the files, the wire, the link and the stores.
+pub fn run_case<T: Threads + Sync>(
+    threads: &T,
+    alloc: Global,
+    given: Given,
+) -> Result<Came, Fault> {
+    if !open_new(alloc, given.wire.events.as_slice())? {
+        return Err(Fault::Off("two connections have one number"));
+    }
+    run_given(threads, alloc, given)
 }
 
-/// Runs the words of a case over its files, its wire, its link and its stores.
-pub fn run_case<T: Threads + Sync>(threads: &T, alloc: Global, case: Case) -> Result<Came, Fault> {
-    let Case {
+// The same, where no two connections have one number.
+fn run_given<T: Threads + Sync>(threads: &T, alloc: Global, given: Given) -> Result<Came, Fault>
+    requires { IsTrue (are_new given.wire.events []) }
+{
+    let Given {
         words,
         unreadable,
         files,
@@ -70,37 +59,86 @@ pub fn run_case<T: Threads + Sync>(threads: &T, alloc: Global, case: Case) -> Re
         wire,
         link,
         stores,
-        status: _,
-        out: _wanted,
-    } = case;
+    } = given;
     let WireCase {
         events,
         failing_calls,
         cuts,
-        log: _wanted_log,
+        log: _log,
     } = wire;
     let LinkCase {
         events: link_events,
         failing_calls: link_fails,
-        talk: _wanted_talk,
+        talk: _talk,
     } = link;
-    if !open_new(alloc, events.as_slice())? {
-        return Err(Fault::Off("two connections have one number"));
-    }
-    let mut outside = Outside {
-        files: MemFiles::new(alloc, files, failing_reads),
-        wire: MemWire::new(alloc, events, failing_calls, cuts),
-        link: MemLink::new(alloc, link_events, link_fails),
-        sink: MemSink::with_parts(alloc, failing_puts, parts),
-        stores: Stores::of(alloc, stores),
-    };
-    let status = if has_signals {
+    let StoreCase {
+        file,
+        failing_disk,
+        stop,
+        left: _left,
+        failing_keeper,
+        rows: _rows,
+    } = stores;
+    let mut files = MemFiles::new(alloc, files, failing_reads);
+    let mut wire = MemWire::new(alloc, events, failing_calls, cuts);
+    let mut link = MemLink::new(alloc, link_events, link_fails);
+    let mut sink = MemSink::with_parts(alloc, failing_puts, parts);
+    let mut disk = MemDisk::new(alloc, file, failing_disk, stop);
+    let mut keeper = MapKeeper::new(alloc, failing_keeper);
+    let status = run_words(
+        threads,
+        alloc,
+        words,
+        unreadable,
+        has_signals,
+        &mut files,
+        &mut wire,
+        &mut link,
+        &mut sink,
+        &mut disk,
+        &mut keeper,
+    );
+    let came = came_of(alloc, status, sink.bytes(), wire.log(), link.log(), &keeper);
+    with_file(came, disk.file())
+}
+
+// What came, with the file that is left.
+fn with_file(came: Result<Came, Fault>, left: Octets) -> Result<Came, Fault> {
+    let mut came = came?;
+    came.left = left;
+    Ok(came)
+}
+
+// The run with the program's signals, or with none. No type of the outside is named here: what is known of all of them at once
+// keeps the search for contracts that no call can meet busy without an end.
+fn run_words<T: Threads + Sync, F: Files, W: Wire, L: Link, S: Sink, D: Disk, K: Keeper>(
+    threads: &T,
+    alloc: Global,
+    words: Vec<String>,
+    unreadable: Option<ErrorKind>,
+    has_signals: bool,
+    files: &mut F,
+    wire: &mut W,
+    link: &mut L,
+    sink: &mut S,
+    disk: &mut D,
+    keeper: &mut K,
+) -> Result<Status, NoMemory> {
+    if has_signals {
         let words = words_of_process(alloc, words, unreadable)?;
-        run_with_signals(threads, alloc, words, &mut outside)
-    } else {
-        run_without_signals(threads, alloc, words.as_slice(), &mut outside)
-    };
-    came_of(alloc, status, outside)
+        return Ok(run_program(threads, alloc, words, files, wire, link, sink, disk, keeper));
+    }
+    Ok(run_without_signals(
+        threads,
+        alloc,
+        words.as_slice(),
+        files,
+        wire,
+        link,
+        sink,
+        disk,
+        keeper,
+    ))
 }
 
 // The words of a process: the program's name, and the words of a case; or why they cannot be read.
@@ -112,70 +150,49 @@ fn words_of_process(
     if let Some(kind) = unreadable {
         return Ok(Err(kind));
     }
-    let mut all = Vec::new(alloc);
-    all.push(String::from_str(alloc, "ads")?)?;
-    for word in words {
-        all.push(word)?;
-    }
+    let mut all = words;
+    let name = String::from_str(alloc, "ads")?;
+    all.insert(0, name)?;
     Ok(Ok(all))
 }
 
-fn run_with_signals<T: Threads + Sync>(
-    threads: &T,
-    alloc: Global,
-    words: Result<Vec<String>, ErrorKind>,
-    outside: &mut Outside,
-) -> Status {
-    run_program(
-        threads,
-        alloc,
-        words,
-        &mut outside.files,
-        &mut outside.wire,
-        &mut outside.link,
-        &mut outside.sink,
-        &mut outside.stores.disk,
-        &mut outside.stores.keeper,
-    )
-}
-
-fn run_without_signals<T: Threads + Sync>(
+fn run_without_signals<T: Threads + Sync, F: Files, W: Wire, L: Link, S: Sink, D: Disk, K: Keeper>(
     threads: &T,
     alloc: Global,
     words: &[String],
-    outside: &mut Outside,
+    files: &mut F,
+    wire: &mut W,
+    link: &mut L,
+    sink: &mut S,
+    disk: &mut D,
+    keeper: &mut K,
 ) -> Status {
     let none: Vec<Box<dyn Signal>> = Vec::new(alloc);
     run(
-        threads,
-        alloc,
-        words,
-        &mut outside.files,
-        &mut outside.wire,
-        &mut outside.link,
-        &mut outside.sink,
-        &mut outside.stores.disk,
-        &mut outside.stores.keeper,
-        none,
+        threads, alloc, words, files, wire, link, sink, disk, keeper, none,
     )
 }
 
-// What came, and what is left of all that was handed in.
-fn came_of(alloc: Global, status: Status, outside: Outside) -> Result<Came, Fault> {
-    let Outside {
-        files: _files,
-        wire,
-        link,
-        sink,
-        stores,
-    } = outside;
-    let Stores { disk, keeper } = stores;
+// What came, but for the file that is left.
+fn came_of(
+    alloc: Global,
+    status: Result<Status, NoMemory>,
+    out: &[u8],
+    log: &[Move],
+    talk: &[LinkMove],
+    keeper: &MapKeeper,
+) -> Result<Came, Fault> {
+    let status = status?;
+    let out = Octets::copy_of(alloc, out)?;
+    let log = log_text(alloc, log)?;
+    let talk = talk_of(alloc, talk)?;
+    let rows = rows_of(alloc, keeper)?;
     Ok(Came {
         status: status.number(),
-        out: Octets::copy_of(alloc, sink.bytes())?,
-        log: log_text(alloc, wire.log())?,
-        talk: talk_of(alloc, link.log())?,
-        left: disk.file(),
-        rows: rows_of(alloc, &keeper)?,
+        out,
+        log,
+        talk,
+        left: Octets::new(alloc),
+        rows,
     })
 }

@@ -1,11 +1,12 @@
 //! The disk and the keeper of a run, and what must be left of them.
 
 use crate::fault::Fault;
-use crate::wire_case::{bytes_of, number_of};
-use ads_base::{Calls, Octets};
-use persist_store::{MemDisk, Stop};
+use crate::wire_case::{bytes_of, number_of, put_digits};
+use ads_base::{Calls, NoMemory, Octets};
+use persist_store::Stop;
 use sample_store::{MapKeeper, Row};
 use std::alloc::Global;
+use std::mem;
 
 /// The file of a disk in memory, which of its calls fail and in which the machine stops, and the file that must be left;
 /// which calls of a keeper in memory fail, and the rows that it must have.
@@ -33,36 +34,11 @@ impl StoreCase {
         }
     }
 
-    /// The file that must be left.
-    pub fn wanted_file(&self) -> &[u8] {
-        match &self.left {
-            Some(left) => left.as_slice(),
-            None => self.file.as_slice(),
-        }
-    }
-}
-
-/// A disk and a keeper in memory.
-#[derive(Drop)]
-pub struct Stores {
-    pub disk: MemDisk,
-    pub keeper: MapKeeper,
-}
-
-impl Stores {
-    /// Those that a case describes.
-    pub fn of(alloc: Global, case: StoreCase) -> Stores {
-        let StoreCase {
-            file,
-            failing_disk,
-            stop,
-            left: _left,
-            failing_keeper,
-            rows: _rows,
-        } = case;
-        Stores {
-            disk: MemDisk::new(alloc, file, failing_disk, stop),
-            keeper: MapKeeper::new(alloc, failing_keeper),
+    /// Takes out the file that must be left.
+    pub fn take_left(&mut self, alloc: Global) -> Result<Octets, NoMemory> {
+        match mem::replace(&mut self.left, None) {
+            Some(left) => Ok(left),
+            None => Octets::copy_of(alloc, self.file.as_slice()),
         }
     }
 }
@@ -75,21 +51,63 @@ pub fn take_store_line(
     rest: &str,
 ) -> Result<(), Fault> {
     match key {
-        "disk" => {
-            stores.file = bytes_of(alloc, rest)?;
-            Ok(())
-        }
-        "left" => {
-            stores.left = Some(bytes_of(alloc, rest)?);
-            Ok(())
-        }
-        "stop" => {
-            stores.stop = Some(stop_of(alloc, rest)?);
-            Ok(())
-        }
-        "fail-disk" => Ok(stores.failing_disk.push(alloc, number_of(rest)?)?),
-        _ => Ok(stores.failing_keeper.push(alloc, number_of(rest)?)?),
+        "disk" => take_file(alloc, stores, rest),
+        "left" => take_wanted_file(alloc, stores, rest),
+        "stop" => take_stop(alloc, stores, rest),
+        "fail-disk" => take_call(alloc, &mut stores.failing_disk, rest),
+        _ => take_call(alloc, &mut stores.failing_keeper, rest),
     }
+}
+
+fn take_file(alloc: Global, stores: &mut StoreCase, rest: &str) -> Result<(), Fault> {
+    let file = file_of(alloc, rest)?;
+    stores.file = file;
+    Ok(())
+}
+
+fn take_wanted_file(alloc: Global, stores: &mut StoreCase, rest: &str) -> Result<(), Fault> {
+    let left = file_of(alloc, rest)?;
+    stores.left = Some(left);
+    Ok(())
+}
+
+fn take_stop(alloc: Global, stores: &mut StoreCase, rest: &str) -> Result<(), Fault> {
+    let stop = stop_of(alloc, rest)?;
+    stores.stop = Some(stop);
+    Ok(())
+}
+
+fn take_call(alloc: Global, calls: &mut Calls, rest: &str) -> Result<(), Fault> {
+    let number = number_of(rest)?;
+    calls.push(alloc, number)?;
+    Ok(())
+}
+
+// `0107 z12`: bytes in hexadecimal, and so many zeros.
+fn file_of(alloc: Global, text: &str) -> Result<Octets, Fault> {
+    let mut file = Octets::new(alloc);
+    for part in text.split_ascii_whitespace() {
+        put_part(alloc, &mut file, part)?;
+    }
+    Ok(file)
+}
+
+fn put_part(alloc: Global, file: &mut Octets, part: &str) -> Result<(), Fault> {
+    match part.strip_prefix('z') {
+        Some(count) => {
+            let count = number_of(count)?;
+            put_zeros(alloc, file, count)?;
+            Ok(())
+        }
+        None => put_digits(alloc, file, part),
+    }
+}
+
+fn put_zeros(alloc: Global, file: &mut Octets, count: u64) -> Result<(), NoMemory> {
+    for _ in 0..count {
+        file.push(alloc, 0)?;
+    }
+    Ok(())
 }
 
 // `3 07`: the number of a call, and the bytes that stand at its place afterwards.

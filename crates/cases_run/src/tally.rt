@@ -1,14 +1,13 @@
 //! All runs, and how many went as wanted.
 
-use crate::draft::Draft;
+use crate::draft::{Case, Draft};
 use crate::fault::Fault;
 use crate::folder::Folder;
 use crate::line::take_line;
-use crate::run_case::{Came, Case, run_case};
+use crate::run_case::{Came, run_case};
 use crate::told::{tell_difference, tell_end, tell_fault};
-use ads_base::Octets;
+use std::str;
 use std::thread::Threads;
-use std::{mem, str};
 
 /// The file that names the others.
 const LIST: &str = "runs.txt";
@@ -68,20 +67,44 @@ fn try_runs<T: Threads + Sync>(
     tally: &mut Tally,
 ) -> Result<(), Fault> {
     let bytes = folder.read(name)?;
-    let Ok(text) = str::from_utf8(bytes.as_slice()) else {
+    let mut draft = Draft::new(rt.alloc());
+    try_text(
+        rt,
+        threads,
+        folder,
+        name,
+        bytes.as_slice(),
+        line,
+        &mut draft,
+        tally,
+    )
+}
+
+// The runs of the text of a file.
+fn try_text<T: Threads + Sync>(
+    rt: &HostRuntime,
+    threads: &T,
+    folder: &mut Folder,
+    name: &str,
+    bytes: &[u8],
+    line: &mut u32,
+    draft: &mut Draft,
+    tally: &mut Tally,
+) -> Result<(), Fault> {
+    let Ok(text) = str::from_utf8(bytes) else {
         return Err(Fault::Off("the file is no text"));
     };
-    let mut draft = Draft::new(rt.alloc());
     for text in text.lines() {
         *line = line.saturating_add(1);
         if text == PARTING {
-            let whole = mem::replace(&mut draft, Draft::new(rt.alloc()));
-            try_case(rt, threads, name, *line, whole.finish(rt.alloc())?, tally)?;
+            let case = draft.finish(rt.alloc())?;
+            try_case(rt, threads, name, *line, case, tally)?;
         } else {
-            take_line(rt.alloc(), folder, &mut draft, text)?;
+            take_line(rt.alloc(), folder, draft, text)?;
         }
     }
-    try_case(rt, threads, name, *line, draft.finish(rt.alloc())?, tally)
+    let case = draft.finish(rt.alloc())?;
+    try_case(rt, threads, name, *line, case, tally)
 }
 
 // A run, which ends before this line of its file.
@@ -93,23 +116,33 @@ fn try_case<T: Threads + Sync>(
     case: Case,
     tally: &mut Tally,
 ) -> Result<(), Fault> {
-    let wanted = Came {
-        status: case.status,
-        out: Octets::copy_of(rt.alloc(), case.out.as_slice())?,
-        log: Octets::copy_of(rt.alloc(), case.wire.log.as_slice())?,
-        talk: Octets::copy_of(rt.alloc(), case.link.talk.as_slice())?,
-        left: Octets::copy_of(rt.alloc(), case.stores.wanted_file())?,
-        rows: Octets::copy_of(rt.alloc(), case.stores.rows.as_slice())?,
-    };
-    let came = run_case(threads, rt.alloc(), case)?;
-    if is_as_wanted(&came, &wanted) {
+    let Case {
+        mut given,
+        status,
+        out,
+    } = case;
+    let wanted = given.take_wanted(rt.alloc(), status, out)?;
+    let came = run_case(threads, rt.alloc(), given)?;
+    tell(rt, name, line, &came, &wanted, tally)
+}
+
+// A run that went as wanted is counted, and of another one is told how.
+fn tell(
+    rt: &HostRuntime,
+    name: &str,
+    line: u32,
+    came: &Came,
+    wanted: &Came,
+    tally: &mut Tally,
+) -> Result<(), Fault> {
+    if is_as_wanted(came, wanted) {
         tally.good = tally.good.saturating_add(1);
         return Ok(());
     }
     tally.differing = tally.differing.saturating_add(1);
     tell_difference(rt, name, line)?;
-    tell_end(rt, "came", &came)?;
-    tell_end(rt, "wanted", &wanted)
+    tell_end(rt, "came", came)?;
+    tell_end(rt, "wanted", wanted)
 }
 
 fn is_as_wanted(came: &Came, wanted: &Came) -> bool {

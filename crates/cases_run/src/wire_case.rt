@@ -69,11 +69,17 @@ fn piece_of(alloc: Global, rest: &str) -> Result<Event, Fault> {
 pub fn bytes_of(alloc: Global, digits: &str) -> Result<Octets, Fault> {
     let mut bytes = Octets::new(alloc);
     for part in digits.split_ascii_whitespace() {
-        let part = hex::decode(alloc, part);
-        let part = part.map_err(|_| Fault::Off("no bytes in hexadecimal"))?;
-        bytes.put(alloc, part.as_slice())?;
+        put_digits(alloc, &mut bytes, part)?;
     }
     Ok(bytes)
+}
+
+/// Appends bytes in hexadecimal.
+pub fn put_digits(alloc: Global, bytes: &mut Octets, digits: &str) -> Result<(), Fault> {
+    let decoded = hex::decode(alloc, digits);
+    let decoded = decoded.map_err(|_| Fault::Off("no bytes in hexadecimal"))?;
+    bytes.put(alloc, decoded.as_slice())?;
+    Ok(())
 }
 
 fn conn_of(text: &str) -> Result<u32, Fault> {
