@@ -19,7 +19,7 @@ use Rattle.ads_run.specs.declared.status.Status.TheVariants as status
 use Rattle.ads_run.specs.Asking.{LocalCalling}
 use Rattle.ads_run.specs.Calling.{EndsCall, AfterLocal, EndsLocalCall, LocalTalks, PrintsAnswer, status_of_call, status_of_loop}
 use Rattle.ads_run.specs.Causes.{CauseOfCall, IsBeforeRun, IsEndOfCall, IsEndOfLocal, IsNoLinkEnd}
-use Rattle.ads_run.specs.Ending.{line_alone}
+use Rattle.ads_run.specs.Ending.{Ending, line_alone}
 use Rattle.ads_run.specs.Prints.{PrintsEnding}
 use Rattle.ads_run.specs.Uses.{LinkUse, used}
 use Rattle.ads_run.proofs.ReadingLemmas.{rose_from}
@@ -31,7 +31,7 @@ pub record CallFacts (C : Status → Type 0) (s : Status) (out out_new : SinkSta
   pub usage : s ≡ status.Usage → ⊥
 
 -- of one that wanted memory
-wanting_facts : (C : Status → Type 0) (s : Status) (out out_new : SinkState) → C status.Memory → s ≡ status.Memory → CallFacts C s out out_new
+pub wanting_facts : (C : Status → Type 0) (s : Status) (out out_new : SinkState) → C status.Memory → s ≡ status.Memory → CallFacts C s out out_new
 wanting_facts C s out out_new memory is = record {
   cause = subst C (sym is) memory;
   write_fault = λ e. let other : status.Memory ≡ status.WriteFault = sym is ∙ e in cc;
@@ -39,23 +39,29 @@ wanting_facts C s out out_new memory is = record {
 }
 
 -- of one that was to end so
-pub told_facts : (C : Status → Type 0) (st s : Status) (out between out_new : SinkState) → C st → C status.WriteFault → C status.Memory
-    → (st ≡ status.WriteFault → ⊥) → (st ≡ status.Usage → ⊥) → out.faults ≤ between.faults → PrintsEnding (line_alone st) s between out_new
+pub ending_told : (C : Status → Type 0) (e : Ending) (s : Status) (out between out_new : SinkState) → C e.status → C status.WriteFault → C status.Memory
+    → (e.status ≡ status.WriteFault → ⊥) → (e.status ≡ status.Usage → ⊥) → out.faults ≤ between.faults → PrintsEnding e s between out_new
     → CallFacts C s out out_new
-told_facts C st s out between out_new cause writing memory no_fault no_usage later (inl h) = record {
+ending_told C e s out between out_new cause writing memory no_fault no_usage later (inl h) = record {
   cause = subst C (sym h.0) cause;
   write_fault = λ is. absurd (no_fault (sym h.0 ∙ is));
   usage = λ is. no_usage (sym h.0 ∙ is);
 }
-told_facts C st s out between out_new cause writing memory no_fault no_usage later (inr (inl h)) = record {
+ending_told C e s out between out_new cause writing memory no_fault no_usage later (inr (inl h)) = record {
   cause = subst C (sym h.0) writing;
   write_fault = λ is. rose_from out.faults between.faults out_new.faults later h.1.1;
   usage = λ is. let other : status.WriteFault ≡ status.Usage = sym h.0 ∙ is in cc;
 }
-told_facts C st s out between out_new cause writing memory no_fault no_usage later (inr (inr h)) = wanting_facts C s out out_new memory h.0
+ending_told C e s out between out_new cause writing memory no_fault no_usage later (inr (inr h)) = wanting_facts C s out out_new memory h.0
+
+pub told_facts : (C : Status → Type 0) (st s : Status) (out between out_new : SinkState) → C st → C status.WriteFault → C status.Memory
+    → (st ≡ status.WriteFault → ⊥) → (st ≡ status.Usage → ⊥) → out.faults ≤ between.faults → PrintsEnding (line_alone st) s between out_new
+    → CallFacts C s out out_new
+told_facts C st s out between out_new cause writing memory no_fault no_usage later printed =
+    ending_told C (line_alone st) s out between out_new cause writing memory no_fault no_usage later printed
 
 -- of one whose text could not be written
-unwritten_facts : (C : Status → Type 0) (s : Status) (out between out_new : SinkState) → C status.WriteFault → s ≡ status.WriteFault → out_new ≡ between
+pub unwritten_facts : (C : Status → Type 0) (s : Status) (out between out_new : SinkState) → C status.WriteFault → s ≡ status.WriteFault → out_new ≡ between
     → Rose out.faults between.faults → CallFacts C s out out_new
 unwritten_facts C s out between out_new writing is same rose = record {
   cause = subst C (sym is) writing;

@@ -1,9 +1,10 @@
 -- What the end of a run says of its cause.
 use Rattle.std.proofs.Common.{◌≡◌, rules, ℕ, List, Option, Some, None, inl, inr, subst, ap, sym, ◌∙◌, refl, zero, length}
-use Rattle.std.specs.Prelude.{◌⊎◌, ◌≤◌, Bool, true, false, Result, Ok, Err, nat_lt, if◌then◌else◌}
+use Rattle.std.specs.Prelude.{◌≤◌, Bool, true, false, Result, Ok, Err, nat_lt, if◌then◌else◌}
 use Rattle.signals.specs.Wave.{Wave}
 use Rattle.ads_outside.specs.declared.end.End.{End}
 use Rattle.ads_outside.specs.declared.end.End.TheVariants as end
+use Rattle.ads_outside.specs.declared.listening.Listening.{Listening}
 use Rattle.ads_outside.specs.declared.moves.Move.{Move}
 use Rattle.ads_outside.specs.declared.named_file.NamedFile.{NamedFile}
 use Rattle.ads_outside.specs.Limit.{file_limit}
@@ -33,19 +34,18 @@ use Rattle.client_loop.specs.Called.{calling}
 use Rattle.ads_run.specs.declared.client_task.ClientTask.{ClientTask}
 use Rattle.ads_run.specs.Asking.{local_calling, call_asked, own_address, asked_address}
 use Rattle.ads_run.specs.BuiltIn.{built_in}
-use Rattle.ads_run.specs.Causes.{CauseOfAsking, IsNoLinkEnd, HasCause, EndsOfWire, TakesAll, FailsOfWire}
+use Rattle.ads_run.specs.Causes.{CauseOfAsking, CauseOfService, IsNoLinkEnd, HasCause, EndsOfWire, TakesAll, FailsOfWire}
 use Rattle.ads_run.specs.Ending.{Ending, line_alone}
 use Rattle.ads_run.specs.Ends.{RunsSo, RunsBy}
 use Rattle.ads_run.specs.Prints.{PrintsEnding}
 use Rattle.ads_run.specs.Readings.{OverFiles}
-use Rattle.ads_run.specs.Service.{Service, ending_after}
+use Rattle.ads_run.specs.Service.{Service, ServedMachine, OfRelay, server_with, ending_after}
 use Rattle.ads_run.specs.Serving.{MakesMoves, PrintsAt, EndsService}
 use Rattle.ads_run.specs.Uses.{Uses}
 use Rattle.ads_run.specs.Verdict.{Verdict, ended, prints, verdict_of_lines, verdict_of_script, verdict_of_description, verdict_of_file, verdict_of_replay}
-use Rattle.ads_run.specs.Verdict.{verdict_of_migrated, verdict_of_served, verdict_of_serve, verdict_of_file_task, verdict_of_task, verdict_of_called}
-use Rattle.ads_run.specs.Verdict.{verdict_of_local, verdict_of_ask}
-use Rattle.ads_run.proofs.CallLemmas.{CallFacts, told_facts, call_facts, local_facts}
-use Rattle.ads_run.proofs.ReadingLemmas.{rose_from}
+use Rattle.ads_run.specs.Verdict.{verdict_of_migrated, verdict_of_served, verdict_of_service, verdict_of_file_task, verdict_of_task, verdict_of_called}
+use Rattle.ads_run.specs.Verdict.{verdict_of_local, verdict_of_ask, verdict_of_relay, verdict_of_relay_lines, verdict_of_relay_script}
+use Rattle.ads_run.proofs.CallLemmas.{CallFacts, ending_told, told_facts, wanting_facts, unwritten_facts, call_facts, local_facts}
 
 -- what the end of a run of a task says
 pub record Facts {O : Type 0} (asked : Option Task) (s : Status) (u : Uses O) : Type 0 where
@@ -61,6 +61,7 @@ writing_cause : {O : Type 0} (asked : Option Task) (u : Uses O) → HasCause ask
 writing_cause None u = tt
 writing_cause (Some (task.OfFiles t)) u = tt
 writing_cause (Some (task.Serve d l n)) u = tt
+writing_cause (Some (task.RelayServe d l n)) u = tt
 writing_cause (Some (task.Ask what client)) u = at_writing what client client.peer u.link.old u.link.new
 
 at_memory : (what : ClientTask) (client : ClientWords) (p : PeerWords) (lo ln : LinkState) → CauseOfAsking what client p status.Memory lo ln
@@ -71,6 +72,7 @@ memory_cause : {O : Type 0} (asked : Option Task) (u : Uses O) → HasCause aske
 memory_cause None u = tt
 memory_cause (Some (task.OfFiles t)) u = tt
 memory_cause (Some (task.Serve d l n)) u = tt
+memory_cause (Some (task.RelayServe d l n)) u = tt
 memory_cause (Some (task.Ask what client)) u = at_memory what client client.peer u.link.old u.link.new
 
 pub cause_without_memory : {O : Type 0} (asked : Option Task) (s : Status) (u : Uses O) → s ≡ status.Memory → HasCause asked s u
@@ -84,6 +86,7 @@ reading_cause : {O : Type 0} (asked : Option Task) (u : Uses O) → HasCause ask
 reading_cause None u = tt
 reading_cause (Some (task.OfFiles t)) u = tt
 reading_cause (Some (task.Serve d l n)) u = tt
+reading_cause (Some (task.RelayServe d l n)) u = tt
 reading_cause (Some (task.Ask what client)) u = at_reading what client client.peer u.link.old u.link.new
 
 -- of a run that was to end so
@@ -103,31 +106,6 @@ ending_facts asked e s u cause no_fault usage (inr (inr h)) = record {
   cause = cause_without_memory asked s u h.0;
   write_fault = λ is. let other : status.Memory ≡ status.WriteFault = sym h.0 ∙ is in cc;
   usage = λ is. let other : status.Memory ≡ status.Usage = sym h.0 ∙ is in cc;
-}
-
--- of a run that wanted memory
-memory_facts : {O : Type 0} (asked : Option Task) (s : Status) (u : Uses O) → s ≡ status.Memory → Facts asked s u
-memory_facts asked s u is = record {
-  cause = cause_without_memory asked s u is;
-  write_fault = λ e. let other : status.Memory ≡ status.WriteFault = sym is ∙ e in cc;
-  usage = λ e. let other : status.Memory ≡ status.Usage = sym is ∙ e in cc;
-}
-
--- of one that could not write
-writing_facts : {O : Type 0} (asked : Option Task) (s : Status) (u : Uses O) → s ≡ status.WriteFault → Rose u.out.faults u.out_new.faults → Facts asked s u
-writing_facts asked s u is rose = record {
-  cause = subst (λ t. HasCause asked t u) (sym is) (writing_cause asked u);
-  write_fault = λ e. rose;
-  usage = λ e. let other : status.WriteFault ≡ status.Usage = sym is ∙ e in cc;
-}
-
--- of a service that put a piece before
-facts_before : {O : Type 0} (d l : List ℕ) (limit : ℕ) (s : Status) (between : SinkState) (u : Uses O) → u.out.faults ≤ between.faults
-    → Facts (Some (task.Serve d l limit)) s (record u { out = between }) → Facts (Some (task.Serve d l limit)) s u
-facts_before d l limit s between u later f = record {
-  cause = f.cause;
-  write_fault = λ is. rose_from u.out.faults between.faults u.out_new.faults later (f.write_fault is);
-  usage = f.usage;
 }
 
 -- the causes of a service's ends
@@ -177,33 +155,41 @@ start_cause service wire wire_new same stopped = record {
   events = ap (λ (x : WireHistory). x.events) same;
 }
 
+-- why a service of so many events ended, over what its wire did
+abbrev ServiceCause : ℕ → WireHistory → WireHistory → Status → Type 0
+ServiceCause limit wire wire_new s = CauseOfService limit s wire wire_new
+
 -- of a service that ran
-run_facts : {O : Type 0} (d l : List ℕ) (service : Service) (r : End) (moves : List Move) (s : Status) (u : Uses O)
-    → MakesMoves service r moves (listened service.start u.wire) u.wire_new → PrintsAt r (ending_after service moves r) s u.out u.out_new
-    → Facts (Some (task.Serve d l service.limit)) s u
-run_facts d l service end.Done moves s u made printed =
-    ending_facts (Some (task.Serve d l service.limit)) (ending_after service moves end.Done) s u
-    (done_cause service moves u.wire u.wire_new made) (λ e. (cc)) (λ e. (cc)) printed
-run_facts d l service end.Budget moves s u made printed =
-    ending_facts (Some (task.Serve d l service.limit)) (ending_after service moves end.Budget) s u
-    (budget_cause service moves u.wire u.wire_new made) (λ e. (cc)) (λ e. (cc)) printed
-run_facts d l service end.LinkFault moves s u made printed =
-    ending_facts (Some (task.Serve d l service.limit)) (ending_after service moves end.LinkFault) s u
-    (fault_cause service moves u.wire u.wire_new made) (λ e. (cc)) (λ e. (cc)) printed
-run_facts d l service end.Memory moves s u made printed = memory_facts (Some (task.Serve d l service.limit)) s u printed.0
+run_facts : (service : Service) (r : End) (moves : List Move) (s : Status) (out between out_new : SinkState) (wire wire_new : WireHistory)
+    → out.faults ≤ between.faults → MakesMoves service r moves (listened service.start wire) wire_new
+    → PrintsAt r (ending_after service moves r) s between out_new → CallFacts (ServiceCause service.limit wire wire_new) s out out_new
+run_facts service end.Done moves s out between out_new wire wire_new later made printed =
+    ending_told (ServiceCause service.limit wire wire_new) (ending_after service moves end.Done) s out between out_new
+    (done_cause service moves wire wire_new made) tt tt (λ e. (cc)) (λ e. (cc)) later printed
+run_facts service end.Budget moves s out between out_new wire wire_new later made printed =
+    ending_told (ServiceCause service.limit wire wire_new) (ending_after service moves end.Budget) s out between out_new
+    (budget_cause service moves wire wire_new made) tt tt (λ e. (cc)) (λ e. (cc)) later printed
+run_facts service end.LinkFault moves s out between out_new wire wire_new later made printed =
+    ending_told (ServiceCause service.limit wire wire_new) (ending_after service moves end.LinkFault) s out between out_new
+    (fault_cause service moves wire wire_new made) tt tt (λ e. (cc)) (λ e. (cc)) later printed
+run_facts service end.Memory moves s out between out_new wire wire_new later made printed =
+    wanting_facts (ServiceCause service.limit wire wire_new) s out out_new tt printed.0
+
+same_faults : (out : SinkState) → out.faults ≤ out.faults
+same_faults out = search rules
 
 -- of a service
-service_facts : {O : Type 0} (d l : List ℕ) (service : Service) (s : Status) (u : Uses O) → EndsService service s u.out u.out_new u.wire u.wire_new
-    → Facts (Some (task.Serve d l service.limit)) s u
-service_facts d l service s u (inl (inl h)) =
-    ending_facts (Some (task.Serve d l service.limit)) (line_alone status.LinkFault) s u
-    (start_cause service u.wire u.wire_new h.0.same h.0.stopped) (λ e. (cc)) (λ e. (cc)) h.1
-service_facts d l service s u (inl (inr h)) = memory_facts (Some (task.Serve d l service.limit)) s u h.1
-service_facts d l service s u (inr (inl (same, inl h))) = writing_facts (Some (task.Serve d l service.limit)) s u h.0 h.1.1
-service_facts d l service s u (inr (inl (same, inr h))) = memory_facts (Some (task.Serve d l service.limit)) s u h.0
-service_facts d l service s u (inr (inr h)) =
-    facts_before d l service.limit s h.between u h.later.faults
-    (run_facts d l service h.runs.ended h.runs.moves s (record u { out = h.between }) h.runs.wire h.runs.prints)
+service_facts : (service : Service) (s : Status) (out out_new : SinkState) (wire wire_new : WireHistory) → EndsService service s out out_new wire wire_new
+    → CallFacts (ServiceCause service.limit wire wire_new) s out out_new
+service_facts service s out out_new wire wire_new (inl (inl h)) =
+    ending_told (ServiceCause service.limit wire wire_new) (line_alone status.LinkFault) s out out out_new
+    (start_cause service wire wire_new h.0.same h.0.stopped) tt tt (λ e. (cc)) (λ e. (cc)) (same_faults out) h.1
+service_facts service s out out_new wire wire_new (inl (inr h)) = wanting_facts (ServiceCause service.limit wire wire_new) s out out_new tt h.1
+service_facts service s out out_new wire wire_new (inr (inl (same, inl h))) =
+    unwritten_facts (ServiceCause service.limit wire wire_new) s out out_new out_new tt h.0 refl h.1.1
+service_facts service s out out_new wire wire_new (inr (inl (same, inr h))) = wanting_facts (ServiceCause service.limit wire wire_new) s out out_new tt h.0
+service_facts service s out out_new wire wire_new (inr (inr h)) =
+    run_facts service h.runs.ended h.runs.moves s out h.between out_new wire wire_new h.told.later.faults h.runs.wire h.runs.prints
 
 -- what holds of each ending of a task that asks its files alone, and of one that was refused
 record Holds (P : Verdict → Type 0) : Type 0 where
@@ -230,6 +216,10 @@ of_lines P h d waves (Err n) = h.script n
 of_script : (P : Verdict → Type 0) → Holds P → (d : Description) (waves : List Wave) (o : Option (List ℕ)) → P (verdict_of_file (verdict_of_script d waves) o)
 of_script P h d waves o = of_file P (verdict_of_script d waves) o h.unread h.long (λ bytes. of_lines P h d waves (server_script bytes))
 
+of_relay_lines : (P : Verdict → Type 0) → Holds P → (d : Description) (r : Result (List ScriptLine) ℕ) → P (verdict_of_relay_lines d r)
+of_relay_lines P h d (Ok lines) = h.prints_ _
+of_relay_lines P h d (Err n) = h.script n
+
 of_check : (P : Verdict → Type 0) → Holds P → (v : TextVerdict) → P (verdict_of_description v)
 of_check P h (Described d) = h.prints_ _
 of_check P h (Breaks n item) = h.bad n item
@@ -239,6 +229,12 @@ of_replay : (P : Verdict → Type 0) → Holds P → (waves : List Wave) (script
 of_replay P h waves script (Described d) = of_script P h d waves script
 of_replay P h waves script (Breaks n item) = h.bad n item
 of_replay P h waves script NoDocument = h.bad 0 0
+
+of_relay : (P : Verdict → Type 0) → Holds P → (script : Option (List ℕ)) (v : TextVerdict) → P (verdict_of_relay script v)
+of_relay P h script (Described d) =
+    of_file P (verdict_of_relay_script d) script h.unread h.long (λ bytes. of_relay_lines P h d (server_script bytes))
+of_relay P h script (Breaks n item) = h.bad n item
+of_relay P h script NoDocument = h.bad 0 0
 
 of_migrated : (P : Verdict → Type 0) → Holds P → (bytes : List ℕ) (v : TextVerdict) → P (verdict_of_migrated bytes v)
 of_migrated P h bytes (Described d) = h.prints_ _
@@ -254,6 +250,9 @@ of_file_task P h waves (file_task.Check d) first second =
 of_file_task P h waves (file_task.Replay d script) first second =
     of_file P (λ bytes. verdict_of_replay waves (bytes_of second script) (text_verdict (length waves) bytes)) (bytes_of first d) h.unread h.long
     (λ bytes. of_replay P h waves (bytes_of second script) (text_verdict (length waves) bytes))
+of_file_task P h waves (file_task.Relay d script) first second =
+    of_file P (λ bytes. verdict_of_relay (bytes_of second script) (text_verdict (length waves) bytes)) (bytes_of first d) h.unread h.long
+    (λ bytes. of_relay P h (bytes_of second script) (text_verdict (length waves) bytes))
 of_file_task P h waves (file_task.Load n) first second = h.prints_ _
 of_file_task P h waves (file_task.Migrate d) first second =
     of_file P (λ bytes. verdict_of_migrated bytes (text_verdict (length waves) bytes)) (bytes_of first d) h.unread h.long
@@ -272,14 +271,28 @@ file_facts t s u =
       long = λ h. facts (line_alone status.TooLong) tt (λ e. (cc)) (λ e. (cc)) h.0;
     }
 
-serve_facts : {O : Type 0} (waves : List Wave) (d l bytes : List ℕ) (limit : ℕ) (s : Status) (u : Uses O) (v : TextVerdict)
-    → RunsSo (verdict_of_served (record { listen = l; name = d; first = bytes }) waves limit v) s u → Facts (Some (task.Serve d l limit)) s u
-serve_facts waves d l bytes limit s u (Described x) h =
-    service_facts d l (record { start = record { listen = l; name = d; first = bytes }; description = x; waves = waves; limit = limit }) s u h
-serve_facts waves d l bytes limit s u (Breaks n item) h =
-    ending_facts (Some (task.Serve d l limit)) (line_alone (status.BadDescription n item)) s u tt (λ e. (cc)) (λ e. (cc)) h.0
-serve_facts waves d l bytes limit s u NoDocument h =
-    ending_facts (Some (task.Serve d l limit)) (line_alone (status.BadDescription 0 0)) s u tt (λ e. (cc)) (λ e. (cc)) h.0
+-- of a service whose description is judged so
+judged_facts : {O : Type 0} (start : Listening) (machine : Description → ServedMachine) (limit : ℕ) (s : Status) (u : Uses O) (v : TextVerdict)
+    → RunsSo (verdict_of_served start machine limit v) s u → CallFacts (ServiceCause limit u.wire u.wire_new) s u.out u.out_new
+judged_facts start machine limit s u (Described x) h =
+    service_facts (record { start = start; machine = machine x; limit = limit }) s u.out u.out_new u.wire u.wire_new h
+judged_facts start machine limit s u (Breaks n item) h =
+    ending_told (ServiceCause limit u.wire u.wire_new) (line_alone (status.BadDescription n item)) s u.out u.out u.out_new tt tt tt (λ e. (cc)) (λ e. (cc))
+    (same_faults u.out) h.0
+judged_facts start machine limit s u NoDocument h =
+    ending_told (ServiceCause limit u.wire u.wire_new) (line_alone (status.BadDescription 0 0)) s u.out u.out u.out_new tt tt tt (λ e. (cc)) (λ e. (cc))
+    (same_faults u.out) h.0
+
+-- of a service of a file's description
+served_facts : {O : Type 0} (signals : ℕ) (machine : Description → ServedMachine) (d l : List ℕ) (limit : ℕ) (first : List NamedFile) (s : Status) (u : Uses O)
+    → RunsSo (verdict_of_file (verdict_of_service signals machine d l limit) (bytes_of first d)) s u
+    → CallFacts (ServiceCause limit u.wire u.wire_new) s u.out u.out_new
+served_facts signals machine d l limit first s u h =
+    let C : Status → Type 0 = ServiceCause limit u.wire u.wire_new in
+    of_file (λ v. RunsSo v s u → CallFacts C s u.out u.out_new) (verdict_of_service signals machine d l limit) (bytes_of first d)
+    (λ k. ending_told C (line_alone status.ReadFault) s u.out u.out u.out_new tt tt tt (λ e. (cc)) (λ e. (cc)) (same_faults u.out) k.0)
+    (λ k. ending_told C (line_alone status.TooLong) s u.out u.out u.out_new tt tt tt (λ e. (cc)) (λ e. (cc)) (same_faults u.out) k.0)
+    (λ bytes k. judged_facts (record { listen = l; name = d; first = bytes }) machine limit s u (text_verdict signals bytes) k) h
 
 ended_facts : (st s : Status) (out out_new : SinkState) → IsNoLinkEnd st → (st ≡ status.WriteFault → ⊥) → (st ≡ status.Usage → ⊥)
     → PrintsEnding (line_alone st) s out out_new → CallFacts IsNoLinkEnd s out out_new
@@ -309,10 +322,11 @@ facts_so waves None first second s u h = ending_facts None (line_alone status.Us
 facts_so waves (Some (task.OfFiles t)) first second s u h =
     of_file_task (λ v. RunsSo v s u → Facts (Some (task.OfFiles t)) s u) (file_facts t s u) waves t first second h
 facts_so waves (Some (task.Serve d l limit)) first second s u h =
-    of_file (λ v. RunsSo v s u → Facts (Some (task.Serve d l limit)) s u) (verdict_of_serve waves d l limit) (bytes_of first d)
-    (λ k. ending_facts (Some (task.Serve d l limit)) (line_alone status.ReadFault) s u tt (λ e. (cc)) (λ e. (cc)) k.0)
-    (λ k. ending_facts (Some (task.Serve d l limit)) (line_alone status.TooLong) s u tt (λ e. (cc)) (λ e. (cc)) k.0)
-    (λ bytes k. serve_facts waves d l bytes limit s u (text_verdict (length waves) bytes) k) h
+    let f = served_facts (length waves) (server_with waves) d l limit first s u h in
+    record { cause = f.cause; write_fault = f.write_fault; usage = λ is. absurd (f.usage is) }
+facts_so waves (Some (task.RelayServe d l limit)) first second s u h =
+    let f = served_facts (length waves) OfRelay d l limit first s u h in
+    record { cause = f.cause; write_fault = f.write_fault; usage = λ is. absurd (f.usage is) }
 facts_so waves (Some (task.Ask what client)) first second s u h =
     let f = asked_facts waves what client client.peer first s u h in
     record { cause = f.cause; write_fault = f.write_fault; usage = λ is. absurd (f.usage is) }

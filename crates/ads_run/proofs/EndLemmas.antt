@@ -13,6 +13,7 @@ use Rattle.ads_run.specs.Ends.{EndsSo, EndsBy}
 use Rattle.ads_run.specs.Outcomes.{IsOutcome, Decides, HasBytes, Finds}
 use Rattle.ads_run.specs.Prints.{PutsMemoryLine, PrintsEnding}
 use Rattle.ads_run.specs.Readings.{OverFile, OverFiles}
+use Rattle.ads_run.specs.Service.{counts_and_line}
 use Rattle.ads_run.specs.Verdict.{Verdict, Ends, Serves, Calls, CallsLocally, ended, verdict_of_file}
 use Rattle.ads_run.proofs.ReadingLemmas.{map_file, map_files, at_bytes, decided_none}
 
@@ -86,6 +87,11 @@ on_err (Err e) p = p
 pub prints_same : (r : Status) (text other : List ℕ) (s : Status) (old new : SinkState) → text ≡ other
     → PrintsEnding (record { status = r; text = text }) s old new → PrintsEnding (record { status = r; text = other }) s old new
 prints_same r text other s old new is printed = let P : List ℕ → Type 0 = λ t. PrintsEnding (record { status = r; text = t }) s old new in subst P is printed
+
+-- the same counts
+pub counts_same : (r : Status) (text other : List ℕ) (s : Status) (old new : SinkState) → text ≡ other
+    → PrintsEnding (counts_and_line text r) s old new → PrintsEnding (counts_and_line other r) s old new
+counts_same r text other s old new is printed = let P : List ℕ → Type 0 = λ t. PrintsEnding (counts_and_line t r) s old new in subst P is printed
 
 -- what the reading of a file gave, seen by its variant
 pub finds_here : (held : Option (List NamedFile)) (name : List ℕ) (failed : Type 0) (found other : Result (List ℕ) Outcome) → found ≡ other

@@ -1,5 +1,6 @@
 mod ToldLemmas
 pub mod PlayLemmas
+pub mod RelayPlayLemmas
 pub mod PromiseLemmas
 pub mod ReadingLemmas
 pub mod ReadLemmas
@@ -7,6 +8,7 @@ pub mod EndLemmas
 pub mod RunLemmas
 pub mod CallLemmas
 pub mod LocalLemmas
+pub mod MachineLemmas
 pub mod ServiceLemmas
 pub mod TaskLemmas
 pub mod MigrationLemmas

@@ -49,6 +49,7 @@ put_migrated signals (file_task.Migrate name) e s held old new printed is = put_
 put_migrated signals (file_task.Selftest script) e s held old new printed is = tt
 put_migrated signals (file_task.Check d) e s held old new printed is = tt
 put_migrated signals (file_task.Replay d script) e s held old new printed is = tt
+put_migrated signals (file_task.Relay d script) e s held old new printed is = tt
 put_migrated signals (file_task.Load n) e s held old new printed is = tt
 
 at_memory : (signals : ℕ) (t : FileTask) (held : Option (List NamedFile)) (old new : SinkState) → HasMigratedFile signals t status.Memory held old new
@@ -56,6 +57,7 @@ at_memory signals (file_task.Migrate name) held old new = tt
 at_memory signals (file_task.Selftest script) held old new = tt
 at_memory signals (file_task.Check d) held old new = tt
 at_memory signals (file_task.Replay d script) held old new = tt
+at_memory signals (file_task.Relay d script) held old new = tt
 at_memory signals (file_task.Load n) held old new = tt
 
 -- a run for want of memory is no migration that is done
@@ -72,6 +74,7 @@ any_at_memory : (signals : ℕ) (t : Option Task) (held : Option (List NamedFile
 any_at_memory signals None held old new = tt
 any_at_memory signals (Some (task.OfFiles t)) held old new = at_memory signals t held old new
 any_at_memory signals (Some (task.Serve d l n)) held old new = tt
+any_at_memory signals (Some (task.RelayServe d l n)) held old new = tt
 any_at_memory signals (Some (task.Ask what client)) held old new = tt
 
 pub any_without_memory : (signals : ℕ) (t : Option Task) (s : Status) (held : Option (List NamedFile)) (old new : SinkState) → s ≡ status.Memory

@@ -50,7 +50,7 @@ own_service service s u no_fault no_stop (inr (inl (same, inl h))) = absurd (no_
 own_service service s u no_fault no_stop (inr (inl (same, inr h))) = inr (inr h.0)
 own_service service s u no_fault no_stop (inr (inr h)) =
     own_run service h.runs.ended h.runs.moves s h.between u.out_new u.wire u.wire_new u
-    (λ rose. no_fault (rose_from u.out.faults h.between.faults u.out_new.faults h.later.faults rose)) no_stop h.runs.wire h.runs.prints
+    (λ rose. no_fault (rose_from u.out.faults h.between.faults u.out_new.faults h.told.later.faults rose)) no_stop h.runs.wire h.runs.prints
 
 own_so : {O : Type 0} (v : Verdict) (s : Status) (files files_new : FilesState) (u : Uses O) → NothingFailed files files_new u → RunsSo v s u → IsOwnEnd v s u
 own_so (Ends e) s files files_new u nothing h = own_ending e s u.out u.out_new nothing.writing h.0

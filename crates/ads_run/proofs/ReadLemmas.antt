@@ -78,6 +78,7 @@ wants_memory : (t : FileTask) (s : Status) (old new : Names) → ReadsFilesOf t 
 wants_memory (file_task.Selftest script) s old new h = one_without_memory s old new script h
 wants_memory (file_task.Check description) s old new h = one_without_memory s old new description h
 wants_memory (file_task.Replay description script) s old new h = two_without_memory s old new description script h
+wants_memory (file_task.Relay description script) s old new h = two_without_memory s old new description script h
 wants_memory (file_task.Load n) s old new h = h
 wants_memory (file_task.Migrate description) s old new h = one_without_memory s old new description h
 
@@ -123,6 +124,7 @@ writing_fails : (t : FileTask) (s : Status) (old new : Names) → IsOfFileTask s
 writing_fails (file_task.Selftest script) s old new plain h = one_fault s old new script plain h
 writing_fails (file_task.Check description) s old new plain h = one_fault s old new description plain h
 writing_fails (file_task.Replay description script) s old new plain h = two_fault s old new description script plain h
+writing_fails (file_task.Relay description script) s old new plain h = two_fault s old new description script plain h
 writing_fails (file_task.Load n) s old new plain h = h
 writing_fails (file_task.Migrate description) s old new plain h = one_fault s old new description plain h
 

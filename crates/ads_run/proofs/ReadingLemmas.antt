@@ -18,7 +18,7 @@ use Rattle.ads_run.specs.declared.file_task.FileTask.{FileTask}
 use Rattle.ads_run.specs.declared.file_task.FileTask.TheVariants as file_task
 use Rattle.ads_run.specs.declared.outcome.Outcome.{Outcome}
 use Rattle.ads_run.specs.declared.status.Status.TheVariants as status
-use Rattle.ads_run.specs.Verdict.{Verdict, ended, verdict_of_file, verdict_of_replay, verdict_of_load, verdict_of_file_task}
+use Rattle.ads_run.specs.Verdict.{Verdict, ended, verdict_of_file, verdict_of_replay, verdict_of_relay, verdict_of_load, verdict_of_file_task}
 use Rattle.ads_run.specs.Outcomes.{IsOutcome, Decides, HasBytes, IsLong, Finds}
 use Rattle.ads_run.specs.Readings.{OverFile, OverFiles}
 
@@ -140,6 +140,18 @@ pub decided_replay : (held mid_held : Option (List NamedFile)) (waves : List Wav
     (bytes_of first name)) (Rose old new) o)
 decided_replay held mid_held waves script name bytes text old mid new o same is later has decided =
     let over : List NamedFile → List ℕ → Verdict = λ second bytes. verdict_of_replay waves (bytes_of second script) (text_verdict (length waves) bytes) in
+    decided_both held over name bytes (Rose old new) (Rose mid new) o (rose_from old mid new later) has
+    (subst (λ (b : List ℕ). OverFile held (λ second. Decides (over second b) (Rose mid new) o)) is
+    (subst (λ (h : Option (List NamedFile)). OverFile h (λ second. Decides (over second text) (Rose mid new) o)) same decided))
+
+-- the same of a relay
+pub decided_relay : (held mid_held : Option (List NamedFile)) (signals : ℕ) (script name bytes text : List ℕ) (old mid new : ℕ) (o : Outcome)
+    → mid_held ≡ held → text ≡ bytes → old ≤ mid → OverFile held (HasBytes name bytes)
+    → OverFile mid_held (λ second. Decides (verdict_of_relay (bytes_of second script) (text_verdict signals text)) (Rose mid new) o)
+    → OverFiles held (λ first second. Decides (verdict_of_file (λ bytes. verdict_of_relay (bytes_of second script) (text_verdict signals bytes))
+    (bytes_of first name)) (Rose old new) o)
+decided_relay held mid_held signals script name bytes text old mid new o same is later has decided =
+    let over : List NamedFile → List ℕ → Verdict = λ second bytes. verdict_of_relay (bytes_of second script) (text_verdict signals bytes) in
     decided_both held over name bytes (Rose old new) (Rose mid new) o (rose_from old mid new later) has
     (subst (λ (b : List ℕ). OverFile held (λ second. Decides (over second b) (Rose mid new) o)) is
     (subst (λ (h : Option (List NamedFile)). OverFile h (λ second. Decides (over second text) (Rose mid new) o)) same decided))

@@ -43,6 +43,7 @@ store_cause : {O : Type 0} (asked : Option Task) (u : Uses O) → HasCause asked
 store_cause None u h = absurd h
 store_cause (Some (task.OfFiles t)) u h = absurd h
 store_cause (Some (task.Serve d l n)) u h = absurd h
+store_cause (Some (task.RelayServe d l n)) u h = absurd h
 store_cause (Some (task.Ask what client)) u h = absurd (asking_stores_nothing what client client.peer u.link.old u.link.new h)
 
 pub store_fault : {O : Type 0} (asked : Option Task) (s : Status) (u : Uses O) → HasCause asked s u → s ≡ status.StoreFault
@@ -54,6 +55,7 @@ keeper_cause : {O : Type 0} (asked : Option Task) (u : Uses O) → HasCause aske
 keeper_cause None u h = absurd h
 keeper_cause (Some (task.OfFiles t)) u h = absurd h
 keeper_cause (Some (task.Serve d l n)) u h = absurd h
+keeper_cause (Some (task.RelayServe d l n)) u h = absurd h
 keeper_cause (Some (task.Ask what client)) u h = absurd (asking_keeps_nothing what client client.peer u.link.old u.link.new h)
 
 pub keeper_fault : {O : Type 0} (asked : Option Task) (s : Status) (u : Uses O) → HasCause asked s u → s ≡ status.KeeperFault

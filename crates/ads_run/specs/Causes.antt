@@ -27,6 +27,7 @@ abbrev pub is_service : Option Task → Bool
 is_service None = false
 is_service (Some (task.OfFiles t)) = false
 is_service (Some (task.Serve description listen events)) = true
+is_service (Some (task.RelayServe description listen events)) = true
 is_service (Some (task.Ask what client)) = false
 
 -- the wire gave fewer events than that, and then answered End
@@ -111,6 +112,7 @@ abbrev pub HasCause : {O : Type 0} → Option Task → Status → Uses O → Typ
 HasCause None s u = IsNoServiceEnd s
 HasCause (Some (task.OfFiles t)) s u = IsNoServiceEnd s
 HasCause (Some (task.Serve description listen events)) s u = CauseOfService events s u.wire u.wire_new
+HasCause (Some (task.RelayServe description listen events)) s u = CauseOfService events s u.wire u.wire_new
 HasCause (Some (task.Ask what client)) s u = CauseOfAsking what client client.peer s u.link.old u.link.new
 
 -- the words, the description or the script decided, or a file could not be read

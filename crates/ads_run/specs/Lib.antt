@@ -15,6 +15,7 @@ pub mod Readings
 pub mod Migrated
 pub mod Prints
 pub mod Serving
+pub mod Machine
 pub mod Uses
 pub mod Calling
 pub mod Ends

@@ -54,6 +54,7 @@ abbrev pub ReadsFilesOf : FileTask → Status → Names → Names → Type 0
 ReadsFilesOf (file_task.Selftest script) s old new = ReadsOne s old new script
 ReadsFilesOf (file_task.Check description) s old new = ReadsOne s old new description
 ReadsFilesOf (file_task.Replay description script) s old new = ReadsBoth s old new description script
+ReadsFilesOf (file_task.Relay description script) s old new = ReadsBoth s old new description script
 ReadsFilesOf (file_task.Load n) s old new = ReadsAll old new []
 ReadsFilesOf (file_task.Migrate description) s old new = ReadsOne s old new description
 
@@ -76,6 +77,7 @@ abbrev pub asks_disk : Option Task → Bool
 asks_disk None = false
 asks_disk (Some (task.OfFiles t)) = false
 asks_disk (Some (task.Serve description listen events)) = false
+asks_disk (Some (task.RelayServe description listen events)) = false
 asks_disk (Some (task.Ask what client)) = false
 
 -- whether a task records samples in a keeper; no command that is built does
@@ -83,12 +85,14 @@ abbrev pub asks_keeper : Option Task → Bool
 asks_keeper None = false
 asks_keeper (Some (task.OfFiles t)) = false
 asks_keeper (Some (task.Serve description listen events)) = false
+asks_keeper (Some (task.RelayServe description listen events)) = false
 asks_keeper (Some (task.Ask what client)) = false
 
 abbrev pub reads_no_file : Option Task → Bool
 reads_no_file None = true
 reads_no_file (Some (task.OfFiles t)) = asks_no_file t
 reads_no_file (Some (task.Serve description listen events)) = false
+reads_no_file (Some (task.RelayServe description listen events)) = false
 reads_no_file (Some (task.Ask what client)) = is_over_link client.peer
 
 -- of a client's command: the description of the server in the same process
@@ -100,4 +104,5 @@ abbrev pub ReadsFiles : Option Task → Status → Names → Names → Type 0
 ReadsFiles None s old new = ReadsAll old new []
 ReadsFiles (Some (task.OfFiles t)) s old new = ReadsFilesOf t s old new
 ReadsFiles (Some (task.Serve description listen events)) s old new = ReadsOne s old new description
+ReadsFiles (Some (task.RelayServe description listen events)) s old new = ReadsOne s old new description
 ReadsFiles (Some (task.Ask what client)) s old new = ReadsOfPeer client.peer s old new

@@ -51,6 +51,10 @@ task_of_command (Some (command.Show name client)) = task_of_ask (ask.Show name) 
 task_of_command (Some (command.Set name value client)) = task_of_ask (ask.Set name value) client
 task_of_command (Some (command.Watch name change cycle count client)) =
     task_of_ask (ask.Watch name change cycle count) client
+task_of_command (Some (command.Relay description script)) =
+    Some (task.OfFiles (file_task.Relay description script))
+task_of_command (Some (command.RelayServe description listen events)) =
+    Some (task.RelayServe description listen events)
 task_of_command (Some c) = None
 
 -- the task that the words ask for, if they are a command that is built

@@ -8,6 +8,8 @@ use Rattle.signals.specs.Wave.{Wave}
 use Rattle.spec_plant.specs.Description.{Description}
 use Rattle.spec_machine.specs.ScriptLine.{ScriptLine}
 use Rattle.spec_rules.specs.TextVerdict.{TextVerdict, Described, Breaks, NoDocument, text_verdict}
+use Rattle.spec_relay.specs.RelayState.{relay_start}
+use Rattle.spec_relay.specs.RelaySummary.{relay_text}
 use Rattle.spec_server.specs.Server.{server_script, server_text}
 use Rattle.description_migration.specs.Migration.{migrated_text}
 use Rattle.cli_words.specs.declared.client_words.ClientWords.{ClientWords}
@@ -26,10 +28,10 @@ use Rattle.ads_run.specs.BuiltIn.{built_in}
 use Rattle.ads_run.specs.Ending.{Ending, line_alone}
 use Rattle.ads_run.specs.Load.{load_text}
 use Rattle.ads_run.specs.Report.{report_of}
-use Rattle.ads_run.specs.Service.{Service}
+use Rattle.ads_run.specs.Service.{Service, ServedMachine, OfRelay, server_with}
 use Rattle.ads_run.specs.Tasks.{asked_task}
 
--- the run ends so; or a description is served, and what comes over the wire decides
+-- the run ends so; or the server or the relay of a description is served, and what comes over the wire decides
 pub data Verdict : Type 0 where
   Ends : Ending → Verdict
   Serves : Service → Verdict
@@ -53,6 +55,14 @@ verdict_of_lines d waves (Err number) = ended (status.BadScript number)
 abbrev pub verdict_of_script : Description → List Wave → List ℕ → Verdict
 verdict_of_script d waves bytes = verdict_of_lines d waves (server_script bytes)
 
+-- the play of a script over the relay of a description; or the script's first line off the grammar
+abbrev pub verdict_of_relay_lines : Description → Result (List ScriptLine) ℕ → Verdict
+verdict_of_relay_lines d (Ok lines) = prints (relay_text (relay_start d) lines)
+verdict_of_relay_lines d (Err number) = ended (status.BadScript number)
+
+abbrev pub verdict_of_relay_script : Description → List ℕ → Verdict
+verdict_of_relay_script d bytes = verdict_of_relay_lines d (server_script bytes)
+
 -- the description's report, or what is wrong with it; 0 stands for no TOML document
 abbrev pub verdict_of_description : TextVerdict → Verdict
 verdict_of_description (Described d) = prints (report_of d)
@@ -71,6 +81,12 @@ verdict_of_replay waves script (Described d) = verdict_of_file (verdict_of_scrip
 verdict_of_replay waves script (Breaks number item) = ended (status.BadDescription number item)
 verdict_of_replay waves script NoDocument = ended (status.BadDescription 0 0)
 
+-- the same over its relay
+abbrev pub verdict_of_relay : Option (List ℕ) → TextVerdict → Verdict
+verdict_of_relay script (Described d) = verdict_of_file (verdict_of_relay_script d) script
+verdict_of_relay script (Breaks number item) = ended (status.BadDescription number item)
+verdict_of_relay script NoDocument = ended (status.BadDescription 0 0)
+
 abbrev pub verdict_of_check : ℕ → List ℕ → Verdict
 verdict_of_check signals bytes = verdict_of_description (text_verdict signals bytes)
 
@@ -87,18 +103,22 @@ verdict_of_migrate signals bytes = verdict_of_migrated bytes (text_verdict signa
 abbrev pub verdict_of_load : List Wave → ℕ → Verdict
 verdict_of_load waves n = prints (load_text waves n)
 
--- what is wrong with the description; where nothing is, it is served
-abbrev pub verdict_of_served : Listening → List Wave → ℕ → TextVerdict → Verdict
-verdict_of_served start waves limit (Described d) =
-    Serves (record { start = start; description = d; waves = waves; limit = limit })
-verdict_of_served start waves limit (Breaks number item) = ended (status.BadDescription number item)
-verdict_of_served start waves limit NoDocument = ended (status.BadDescription 0 0)
+-- what is wrong with the description; where nothing is, its machine is served
+abbrev pub verdict_of_served : Listening → (Description → ServedMachine) → ℕ → TextVerdict → Verdict
+verdict_of_served start machine limit (Described d) =
+    Serves (record { start = start; machine = machine d; limit = limit })
+verdict_of_served start machine limit (Breaks number item) = ended (status.BadDescription number item)
+verdict_of_served start machine limit NoDocument = ended (status.BadDescription 0 0)
 
 -- a description with this name and these bytes, where to listen, and how many events are taken at most
+abbrev pub verdict_of_service : ℕ → (Description → ServedMachine) → List ℕ → List ℕ → ℕ → List ℕ → Verdict
+verdict_of_service signals machine name listen limit bytes =
+    verdict_of_served (record { listen = listen; name = name; first = bytes }) machine limit
+    (text_verdict signals bytes)
+
 abbrev pub verdict_of_serve : List Wave → List ℕ → List ℕ → ℕ → List ℕ → Verdict
 verdict_of_serve waves name listen limit bytes =
-    verdict_of_served (record { listen = listen; name = name; first = bytes }) waves limit
-    (text_verdict (length waves) bytes)
+    verdict_of_service (length waves) (server_with waves) name listen limit bytes
 
 -- the verdict on a task that asks its files alone. The files are those at the first reading and those at the second.
 abbrev pub verdict_of_file_task : List Wave → FileTask → List NamedFile → List NamedFile → Verdict
@@ -108,6 +128,9 @@ verdict_of_file_task waves (file_task.Check description) first second =
     verdict_of_file (verdict_of_check (length waves)) (bytes_of first description)
 verdict_of_file_task waves (file_task.Replay description script) first second =
     verdict_of_file (λ bytes. verdict_of_replay waves (bytes_of second script) (text_verdict (length waves) bytes))
+    (bytes_of first description)
+verdict_of_file_task waves (file_task.Relay description script) first second =
+    verdict_of_file (λ bytes. verdict_of_relay (bytes_of second script) (text_verdict (length waves) bytes))
     (bytes_of first description)
 verdict_of_file_task waves (file_task.Load n) first second = verdict_of_load waves n
 verdict_of_file_task waves (file_task.Migrate description) first second =
@@ -135,6 +158,8 @@ verdict_of_task waves None first second = ended status.Usage
 verdict_of_task waves (Some (task.OfFiles t)) first second = verdict_of_file_task waves t first second
 verdict_of_task waves (Some (task.Serve description listen events)) first second =
     verdict_of_file (verdict_of_serve waves description listen events) (bytes_of first description)
+verdict_of_task waves (Some (task.RelayServe description listen events)) first second =
+    verdict_of_file (verdict_of_service (length waves) OfRelay description listen events) (bytes_of first description)
 verdict_of_task waves (Some (task.Ask what client)) first second = verdict_of_ask waves what client client.peer first
 
 -- the verdict on words, with signals that begin so

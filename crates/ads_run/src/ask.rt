@@ -117,6 +117,7 @@ pub fn ask_locally<T: Threads + Sync, F: Files, S: Sink, G: Sources>(
 }
 
 // The server of a description of these bytes is asked, if it is accepted.
+#[tactic(auto, using(spec_persistent::proofs::StoredLemmas::accepted_may_begin))]
 fn ask_text<T: Threads + Sync, S: Sink, G: Sources>(
     rt: &T,
     alloc: Global,

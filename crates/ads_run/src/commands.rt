@@ -20,6 +20,7 @@ use crate::file_task::FileTask;
 use crate::load::load;
 use crate::migrate::migrate_file;
 use crate::outcome::Outcome;
+use crate::relaying::relay;
 use crate::replay::replay;
 use crate::selftest::selftest;
 use crate::status::Status;
@@ -90,6 +91,10 @@ fn outcome_of_task<T: Threads + Sync, F: Files, G: Sources>(
             description,
             script,
         } => replay(rt, alloc, description, script, signals, files),
+        FileTask::Relay {
+            description,
+            script,
+        } => relay(rt, alloc, description, script, signals, files),
         FileTask::Load { n } => load(rt, alloc, *n as u32, signals),
         FileTask::Migrate { description } => migrate_file(
             alloc,

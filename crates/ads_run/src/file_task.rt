@@ -11,6 +11,8 @@ pub enum FileTask {
     Check { description: Text },
     /// A script is played on a description.
     Replay { description: Text, script: Text },
+    /// A script is played on the relay of a description.
+    Relay { description: Text, script: Text },
     /// A script that is made is played on a description that is made, by a number of at most 100,000.
     Load { n: u64 },
     /// A description is printed under schema 2.

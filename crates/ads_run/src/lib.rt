@@ -1,4 +1,4 @@
-//! The server's and the client's commands as a library: `run` over any files, wire, link, sink, disk and keeper, and
+//! The server's, the relay's and the client's commands as a library: `run` over any files, wire, link, sink, disk and keeper, and
 //! `run_program` over the words of a process and the signals that the program has.
 #![tactic(auto)]
 
@@ -20,11 +20,17 @@ mod outcome;
 mod play;
 mod program;
 mod program_signals;
+mod relay_play;
+mod relay_run;
+mod relay_serve;
+mod relay_summary;
+mod relaying;
 mod replay;
 mod report;
 mod script_run;
 mod selftest;
 mod serve;
+mod server_run;
 mod serving;
 mod status;
 mod summary;

@@ -13,7 +13,7 @@ ghost use Rattle.replay_script.specs.Fresh.{OpenNew};
 ghost use Rattle.server_core.specs.Served.{World, Client};
 ghost use Rattle.server_core.specs.Serves.{StandsAt};
 
-use crate::summary::put_summary;
+use crate::summary::{put_summary, summary_line};
 use ads_base::{NoMemory, Octets};
 use ads_outside::Log;
 use replay_script::{Script, log_text};
@@ -23,6 +23,7 @@ use std::thread::Threads;
 use type_layout::Description;
 
 /// The printed text of a script's play: its log, and the summary.
+#[tactic(auto, using(spec_persistent::proofs::StoredLemmas::accepted_may_begin))]
 pub fn play<T: Threads + Sync, G: Sources>(
     rt: &T,
     alloc: Global,
@@ -42,6 +43,7 @@ pub fn play<T: Threads + Sync, G: Sources>(
 }
 
 /// The summary line of a script's play.
+#[tactic(auto, using(spec_persistent::proofs::StoredLemmas::accepted_may_begin))]
 pub fn play_counts<T: Threads + Sync, G: Sources>(
     rt: &T,
     alloc: Global,
@@ -56,17 +58,7 @@ pub fn play_counts<T: Threads + Sync, G: Sources>(
 {
     let mut core = Core::build(alloc, description, signals)?;
     let _log = replay_script::play(rt, alloc, &mut core, script)?;
-    let text = counts_text(alloc, &core)?;
-    Ok(text)
-}
-
-// The summary line of a core.
-fn counts_text<S: Sources>(alloc: Global, core: &Core<S>) -> Result<Octets, NoMemory>
-    ensures { IfOk result (λ text. (x : Standing World Client) → StandsAt core.now x
-        → text ≡ summary_text_of (summary_of x.running.state)) }
-{
-    let mut text = Octets::new(alloc);
-    put_summary(alloc, core, &mut text)?;
+    let text = summary_line(alloc, &core)?;
     Ok(text)
 }
 

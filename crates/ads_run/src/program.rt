@@ -4,6 +4,7 @@ ghost use Rattle.std.specs.Prelude.{◌≡◌, drop, false, length, map, string_
 ghost use Rattle.ads_outside.specs.Rose.{Rose};
 ghost use Rattle.spec_plant.specs.Description as plant;
 ghost use Rattle.spec_machine.specs.ScriptLine.{ScriptLine};
+ghost use Rattle.spec_relay.specs.RelayPromises.{RelayPlayKeepsPromises};
 ghost use Rattle.ads_run.specs.Causes.{HasCause, IsBeforeRun, IsOwnEnd, NothingFailed, is_service};
 ghost use Rattle.ads_run.specs.Ending.{line_alone};
 ghost use Rattle.ads_run.specs.Ends.{RunsBy};
@@ -97,8 +98,10 @@ pub fn run_program<T: Threads + Sync, F: Files, W: Wire, L: Link, S: Sink, D: Di
     ensures migrated { HasMigrated (length program_waves) (asked_task (words_behind_name words)) result
         (F.state files.old).held (S.state out.old) (S.state out.new) }
 
-    // What the log of a played script promises, whose text is printed: over any description, with these signals.
+    // What the log of a played script promises, whose text is printed: over any description, with these signals; and over its
+    // relay.
     ensures promises { (d : plant.Description) (lines : List ScriptLine) → PlayKeepsPromises d program_waves lines }
+    ensures relayed { (d : plant.Description) (lines : List ScriptLine) → RelayPlayKeepsPromises d lines }
 {
     match run_signals(rt, alloc, words, files, wire, link, out, disk, keeper) {
         Ok(status) => status,

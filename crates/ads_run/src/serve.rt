@@ -14,7 +14,7 @@ ghost use Rattle.ads_run.specs.Verdict.{verdict_of_file, verdict_of_serve};
 use crate::check::bad_description;
 use crate::ending::{end_without_memory, print_outcome};
 use crate::file::bytes_of_file;
-use crate::serving::start_and_run;
+use crate::server_run::start_server;
 use crate::status::Status;
 use ads_base::NoMemory;
 use ads_outside::{Files, Sink, Wire};
@@ -65,6 +65,7 @@ pub fn serve<T: Threads + Sync, F: Files, W: Wire, S: Sink, G: Sources>(
 }
 
 // A description of these bytes is served, if it is accepted.
+#[tactic(auto, using(spec_persistent::proofs::StoredLemmas::accepted_may_begin))]
 fn serve_text<T: Threads + Sync, W: Wire, S: Sink, G: Sources>(
     rt: &T,
     alloc: Global,
@@ -87,7 +88,7 @@ fn serve_text<T: Threads + Sync, W: Wire, S: Sink, G: Sources>(
         Ok(Err(fault)) => refuse(alloc, fault, out),
         Ok(Ok(built)) => match Core::build(alloc, built, signals) {
             Err(NoMemory) => end_without_memory(out),
-            Ok(mut core) => start_and_run(
+            Ok(mut core) => start_server(
                 rt,
                 alloc,
                 listen.as_str(),

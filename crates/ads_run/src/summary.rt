@@ -8,10 +8,7 @@ ghost use Rattle.replay_script.specs.Shown.{summary_from};
 ghost use Rattle.server_core.specs.Counts.{counts_in};
 ghost use Rattle.server_core.specs.Served.{World, Client};
 ghost use Rattle.server_core.specs.Serves.{StandsAt};
-ghost use Rattle.ads_run.specs.StatusTable.{last_line_of};
 
-use crate::last_line::last_line;
-use crate::status::Status;
 use ads_base::{NoMemory, Octets};
 use replay_script::{Counts, summary_text};
 use server_core::{Core, Sources, Summary};
@@ -30,19 +27,13 @@ pub fn put_summary<S: Sources>(
     Ok(())
 }
 
-/// The summary line of a core, and the last line of a status.
-pub fn summary_and_line<S: Sources>(
-    alloc: Global,
-    core: &Core<S>,
-    status: &Status,
-) -> Result<Octets, NoMemory>
+/// The summary line of a core.
+pub fn summary_line<S: Sources>(alloc: Global, core: &Core<S>) -> Result<Octets, NoMemory>
     ensures { IfOk result (λ text. (x : Standing World Client) → StandsAt core.now x
-        → text ≡ summary_text_of (summary_of x.running.state) ++ last_line_of status.now) }
+        → text ≡ summary_text_of (summary_of x.running.state)) }
 {
     let mut text = Octets::new(alloc);
     put_summary(alloc, core, &mut text)?;
-    let line = last_line(alloc, status)?;
-    text.put(alloc, line.as_slice())?;
     Ok(text)
 }
 

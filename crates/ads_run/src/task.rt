@@ -21,6 +21,12 @@ pub enum Task {
         listen: Text,
         events: u64,
     },
+    /// The relay of a description is served over the wire, until so many events were taken.
+    RelayServe {
+        description: Text,
+        listen: Text,
+        events: u64,
+    },
     /// A client asks a server.
     Ask {
         what: ClientTask,
@@ -106,6 +112,26 @@ fn task_of(command: Option<Command>) -> Option<Task>
             },
             client,
         ),
+        Some(
+            Command::Relay {
+                description,
+                script,
+            },
+        ) => Some(Task::OfFiles(FileTask::Relay {
+            description,
+            script,
+        })),
+        Some(
+            Command::RelayServe {
+                description,
+                listen,
+                events,
+            },
+        ) => Some(Task::RelayServe {
+            description,
+            listen,
+            events,
+        }),
         _ => None,
     }
 }

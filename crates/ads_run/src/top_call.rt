@@ -4,6 +4,7 @@ ghost use Rattle.std.specs.Prelude.{◌<◌, ◌^◌, ◌≡◌, ◌≢◌, leng
 ghost use Rattle.ads_outside.specs.Rose.{Rose};
 ghost use Rattle.spec_plant.specs.Description as plant;
 ghost use Rattle.spec_machine.specs.ScriptLine.{ScriptLine};
+ghost use Rattle.spec_relay.specs.RelayPromises.{RelayPlayKeepsPromises};
 ghost use Rattle.ads_run.specs.Causes.{HasCause, IsBeforeRun, IsOwnEnd, NothingFailed, is_service};
 ghost use Rattle.ads_run.specs.Ending.{line_alone};
 ghost use Rattle.ads_run.specs.Ends.{RunsBy};
@@ -20,6 +21,7 @@ use crate::ask::{ask_locally, ask_over_link};
 use crate::commands::print_file_task;
 use crate::ending::{end_without_memory, print_and_end};
 use crate::last_line::USAGE_LINE;
+use crate::relay_serve::serve_relay;
 use crate::serve::serve;
 use crate::status::Status;
 use crate::task::{Task, task_asked};
@@ -37,14 +39,14 @@ use std::thread::Threads;
 ///
 /// | status | comes |
 /// |---|---|
-/// | Done | the command ended, and of `serve` the wire; all that it prints is in the sink |
+/// | Done | the command ended, and of a service (`serve`, and `relay` with `--listen`) the wire; all that it prints is in the sink |
 /// | Usage | the words are no command that is built |
 /// | BadDescription | the least broken rule of the description, and in it the least item; or it is no TOML document |
 /// | BadScript | the script's first line off the grammar has this number |
 /// | ReadFault | a file could not be read |
 /// | WriteFault | the sink could not be written |
 /// | LinkFault | the wire could not be started, or gave no further event; or the link failed |
-/// | Budget | as many events were taken as `serve` was to take, or too many answers of the link were waited for |
+/// | Budget | as many events were taken as a service was to take, or too many answers of the link were waited for |
 /// | Refused | an answer to a request of a client had this AMS error or, that being 0, this result |
 /// | BadPeer | a peer broke the protocol, or closed the connection before the call was over: what it did |
 /// | Memory | memory was wanting |
@@ -54,7 +56,7 @@ use std::thread::Threads;
 /// | StoreFault, StoreLimit | the disk failed; what is to be kept is above a limit of the store: of no command that is built |
 /// | KeeperFault | the keeper failed: of no command that is built |
 ///
-/// Each status but Done, WriteFault and Memory prints its last line. Before it `serve` prints `listening` once the wire
+/// Each status but Done, WriteFault and Memory prints its last line. Before it a service prints `listening` once the wire
 /// is started, and its summary at Done and Budget, and a client command what its call prints; all else that ends with
 /// another status than Done prints nothing else.
 pub fn run<T: Threads + Sync, F: Files, W: Wire, L: Link, S: Sink, D: Disk, K: Keeper, G: Sources>(
@@ -71,7 +73,7 @@ pub fn run<T: Threads + Sync, F: Files, W: Wire, L: Link, S: Sink, D: Disk, K: K
 ) -> Status
     requires signals { length (G.waves signals) < 2 ^ 32 }
     // The status, all that is printed and what is left of all that is handed in, by the bytes that the files hold, the waves
-    // of the signals, for `serve` the moves of the wire, which keep what a played script promises, and for a client the
+    // of the signals, for a service the moves of the wire, which keep what a played script promises, and for a client the
     // answers of the link; where the files are not told, by some bytes at each reading.
     ensures ends { OverFiles (F.state files.old).held (λ first second.
         RunsBy (verdict_of (G.waves signals) (map string_bytes words.now) first second) (Rose (F.state files.old).faults (F.state files.new).faults) result
@@ -91,7 +93,7 @@ pub fn run<T: Threads + Sync, F: Files, W: Wire, L: Link, S: Sink, D: Disk, K: K
         (F.state files.old).names (F.state files.new).names }
     ensures held { (F.state files.new).held ≡ (F.state files.old).held }
 
-    // The wire is called by `serve` alone, and there only behind an accepted description; the link by a client's command
+    // The wire is called by a service alone, and there only behind an accepted description; the link by a client's command
     // with `--to` alone; the disk and the keeper by no command that is built. Nothing is called where the words, a file, the
     // description or the script ends the run.
     ensures no_wire { is_service (asked_task (map string_bytes words.now)) ≡ false → wire.new ≡ wire.old }
@@ -128,8 +130,10 @@ pub fn run<T: Threads + Sync, F: Files, W: Wire, L: Link, S: Sink, D: Disk, K: K
     ensures migrated { HasMigrated (length (G.waves signals)) (asked_task (map string_bytes words.now)) result
         (F.state files.old).held (S.state out.old) (S.state out.new) }
 
-    // What the log of a played script promises, whose text is printed: over any description, with these signals.
+    // What the log of a played script promises, whose text is printed: over any description, with these signals; and over its
+    // relay.
     ensures promises { (d : plant.Description) (lines : List ScriptLine) → PlayKeepsPromises d (G.waves signals) lines }
+    ensures relayed { (d : plant.Description) (lines : List ScriptLine) → RelayPlayKeepsPromises d lines }
 {
     let status = run_words(
         rt, alloc, words, files, wire, link, out, disk, keeper, signals,
@@ -232,6 +236,21 @@ fn run_task<T: Threads + Sync, F: Files, W: Wire, L: Link, S: Sink, D: Disk, K: 
             listen,
             events,
         } => serve(
+            rt,
+            alloc,
+            description,
+            listen,
+            *events,
+            files,
+            wire,
+            out,
+            signals,
+        ),
+        Task::RelayServe {
+            description,
+            listen,
+            events,
+        } => serve_relay(
             rt,
             alloc,
             description,

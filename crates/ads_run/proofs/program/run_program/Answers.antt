@@ -1,6 +1,7 @@
 -- The run came to what `run` says; or memory was wanting, and nothing but the sink was called.
 use Rattle.std.proofs.Common.{length}
 use Rattle.ads_outside.specs.Rose.{Rose}
+use Rattle.spec_relay.proofs.PromiseLemmas.{relay_play_keeps_promises}
 use Rattle.ads_run.specs.Program.{words_behind_name}
 use Rattle.ads_run.specs.ProgramWaves.{program_waves}
 use Rattle.ads_run.specs.Tasks.{asked_task}
@@ -61,3 +62,9 @@ returns-in-Err-clause-migrated g c =
 
 pub returns-in-Err-clause-promises : goal.returns-in-Err-clause-promises
 returns-in-Err-clause-promises g c = λ d lines. play_keeps_promises d program_waves lines
+
+pub returns-in-Ok-clause-relayed : goal.returns-in-Ok-clause-relayed
+returns-in-Ok-clause-relayed g c = λ d lines. relay_play_keeps_promises d lines
+
+pub returns-in-Err-clause-relayed : goal.returns-in-Err-clause-relayed
+returns-in-Err-clause-relayed g c = λ d lines. relay_play_keeps_promises d lines

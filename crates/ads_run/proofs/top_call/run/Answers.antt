@@ -1,6 +1,7 @@
 -- How the run ended says why, and what a play promises is proved of every script.
 use Rattle.std.proofs.Common.{map}
 use Rattle.std.specs.Prelude.{string_bytes}
+use Rattle.spec_relay.proofs.PromiseLemmas.{relay_play_keeps_promises}
 use Rattle.ads_outside.specs.Rose.{Rose}
 use Rattle.ads_run.specs.Tasks.{asked_task}
 use Rattle.ads_run.specs.Uses.{disk_used, keeper_used, link_used, uses}
@@ -83,6 +84,9 @@ returns-clause-complete g c =
     (link_used g.L.Link.tells g.L.Link.state c.args.link.now c.run_words-status.new.link)
     (disk_used g.D.Disk.contents g.D.Disk.may_leave g.D.Disk.moment g.D.Disk.left_since g.D.Disk.fault_count c.args.disk.now c.run_words-status.new.disk)
     (keeper_used g.K.Keeper.state c.args.keeper.now c.run_words-status.new.keeper)) c.run_words-status.ensures.ends
+
+pub returns-clause-relayed : goal.returns-clause-relayed
+returns-clause-relayed g c = λ d lines. relay_play_keeps_promises d lines
 
 pub returns-clause-promises : goal.returns-clause-promises
 returns-clause-promises g c = λ d lines. play_keeps_promises d _ lines

@@ -1,4 +1,5 @@
 -- The task's own run.
+use Rattle.std.proofs.Common.{length}
 use Rattle.ads_outside.specs.Named.{bytes_of}
 use Rattle.ads_outside.specs.Rose.{Rose}
 use Rattle.client_loop.specs.Called.{calling}
@@ -6,8 +7,9 @@ use Rattle.cli_words.specs.declared.client_words.PeerWords.TheVariants as peer
 use Rattle.ads_run.specs.declared.task.Task.TheVariants as task
 use Rattle.ads_run.specs.Asking.{asked_address, call_asked, own_address}
 use Rattle.ads_run.specs.Ends.{EndsBy}
+use Rattle.ads_run.specs.Service.{OfRelay}
 use Rattle.ads_run.specs.Uses.{disk_used, keeper_used, link_used, uses}
-use Rattle.ads_run.specs.Verdict.{verdict_of_file, verdict_of_file_task, verdict_of_serve, verdict_of_local}
+use Rattle.ads_run.specs.Verdict.{verdict_of_file, verdict_of_file_task, verdict_of_serve, verdict_of_service, verdict_of_local}
 use Rattle.ads_run.proofs.CallLemmas.{call_not_before}
 use Rattle.ads_run.proofs.ReadingLemmas.{over_first}
 use Rattle.ads_run.proofs.RunLemmas.{ends_as_run, asks_as_run, call_as_run, runs_of_task, runs_of_peer}
@@ -48,6 +50,28 @@ returns-in-Serve-clause-ends g c =
     (λ files. EndsBy (verdict_of_file (verdict_of_serve waves c.in-Serve.description c.in-Serve.listen c.in-Serve.events)
     (bytes_of files c.in-Serve.description)) failed c.serve.result out out_new wire wire_new)
     c.serve.ensures.ends))
+
+pub returns-in-RelayServe-clause-ends : goal.returns-in-RelayServe-clause-ends
+returns-in-RelayServe-clause-ends g c =
+    let held = (g.F.Files.state c.args.files.now).held in
+    let disk = disk_used g.D.Disk.contents g.D.Disk.may_leave g.D.Disk.moment g.D.Disk.left_since g.D.Disk.fault_count c.args.disk.now c.args.disk.now in
+    let keeper = keeper_used g.K.Keeper.state c.args.keeper.now c.args.keeper.now in
+    let waves = g.G.Sources.waves c.args.signals in
+    let failed = Rose (g.F.Files.state c.args.files.now).faults (g.F.Files.state c.serve_relay.new.files).faults in
+    let out = g.S.Sink.state c.args.out.now in
+    let out_new = g.S.Sink.state c.serve_relay.new.out in
+    let wire = (g.W.Wire.state c.args.wire.now).history in
+    let wire_new = (g.W.Wire.state c.serve_relay.new.wire).history in
+    runs_of_task held waves c.args.task.now (task.RelayServe c.in-RelayServe.description c.in-RelayServe.listen c.in-RelayServe.events) failed
+    c.serve_relay.result (uses out out_new wire wire_new (link_used g.L.Link.tells g.L.Link.state c.args.link.now c.args.link.now) disk keeper)
+    c.in-RelayServe.is
+    (ends_as_run held (λ first second. verdict_of_file (verdict_of_service (length waves) OfRelay c.in-RelayServe.description
+    c.in-RelayServe.listen c.in-RelayServe.events) (bytes_of first c.in-RelayServe.description)) failed c.serve_relay.result out out_new wire wire_new
+    (g.L.Link.tells c.args.link.now) (g.L.Link.state c.args.link.now) disk keeper
+    (over_first held
+    (λ files. EndsBy (verdict_of_file (verdict_of_service (length waves) OfRelay c.in-RelayServe.description
+    c.in-RelayServe.listen c.in-RelayServe.events) (bytes_of files c.in-RelayServe.description)) failed c.serve_relay.result out out_new wire wire_new)
+    c.serve_relay.ensures.ends))
 
 pub returns-in-To-clause-ends : goal.returns-in-To-clause-ends
 returns-in-To-clause-ends g c =
