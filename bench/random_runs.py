@@ -1,6 +1,6 @@
 #!/usr/bin/env python3
 """Random descriptions and scripts: what `ads replay` prints against a model of the protocol in plain Python (bench/model.py), byte for byte, and what `ads relay`
-passes on between askers and targets, some of which lie; random clients of `ads serve` and `ads relay` over loopback, each of whose bytes must be the model's; client
+passes on between askers and targets, some of which lie; what `ads keep`, where it is built, prints and leaves of a file (bench/store.py); random clients of `ads serve` and `ads relay` over loopback, each of whose bytes must be the model's; client
 commands over loopback to peers that answer by the model and then damage, repeat, cut or leave out what they say: each byte that is sent, what is printed and the status
 must be those of the model of a client (bench/client.py); and damaged descriptions and scripts, which must end with a status of their own and never crash or hang.
 
@@ -23,6 +23,7 @@ HERE = os.path.dirname(os.path.abspath(__file__))
 sys.path.insert(0, HERE)
 import client  # noqa: E402
 import model  # noqa: E402
+import store  # noqa: E402
 
 PROGRAM = os.path.join(HERE, "..", "crates", "ads", "out", "ads")
 SIGNALS = [list(range(1000)), [0] * 10 + [1] * 10, [3, 1, 4, 1, 5, 9, 2, 6]]
@@ -474,6 +475,35 @@ def one_relay(program, seed, folder):
     return played(program, "relay", toml_of(d), lines_of(r, events), model.relayed(d, events), folder)
 
 
+def one_kept(program, seed, folder):
+    """Runs of `keep` one behind another over one file, which is damaged now and then; some over a description that changed in between."""
+    r = random.Random(seed)
+    d, file = description(r), b""
+    for _ in range(r.choice((1, 2, 3))):
+        if r.random() < 0.3:
+            it = bytearray(file)
+            for _ in range(r.randint(1, 3) if it else 0):
+                at = r.choice((r.randrange(min(len(it), 300)), r.randrange(len(it)), store.SECOND if len(it) > store.SECOND else 0))
+                it[at] = r.choice((0, 1, 255, r.randrange(256)))
+            file = bytes(it[:r.choice((len(it), len(it), r.randrange(len(it) + 1)))])
+        events = script(r, d)[:r.choice((3, 20, 60))]
+        disk = store.Disk(file)
+        status, wanted, _ = store.kept(d, SIGNALS, events, disk)
+        write(folder, "store", file)
+        write(folder, "before", file)
+        write(folder, "plant.toml", toml_of(d))
+        write(folder, "it.script", lines_of(r, events))
+        came, out, err = ran(program, ["keep", "plant.toml", "it.script", "store"], folder)
+        write(folder, "came", out)
+        write(folder, "wanted", wanted)
+        with open(os.path.join(folder, "store"), "rb") as it:
+            file = it.read()
+        if came != status or err or out.decode(errors="replace") != wanted or file != disk.file:
+            return f"keep: status {came}, {status} was wanted; {len(out)} bytes came, {len(wanted)} were wanted; the file {'is as wanted' if file == disk.file else 'differs'}"
+        d = changed(r, d) if r.random() < 0.5 else d
+    return None
+
+
 def played(program, command, plant, text, wanted, folder):
     write(folder, "plant.toml", plant)
     write(folder, "it.script", text)
@@ -787,9 +817,9 @@ def one_damaged(program, seed, folder):
     return None
 
 
-def has_relay(program, folder):
-    """Whether the program has the command: without it the words are no command, which is status 1."""
-    return ran(program, ["relay", "no.toml", "no.script"], folder)[0] != 1
+def has(program, folder, *words):
+    """Whether the program has a command: without it the words are no command, which is status 1."""
+    return ran(program, list(words), folder)[0] != 1
 
 
 def main():
@@ -799,12 +829,13 @@ def main():
     it.add_argument("--program", default=PROGRAM)
     it.add_argument("--keep", default=os.path.join(tempfile.gettempdir(), "ads_random"))
     given = it.parse_args()
-    program, begun, seed, counts, wrong = os.path.abspath(given.program), time.time(), given.seed, dict.fromkeys(("replays", "relays", "served", "relayed", "peers", "damaged"), 0), 0
+    program, begun, seed, counts, wrong = os.path.abspath(given.program), time.time(), given.seed, dict.fromkeys(("replays", "relays", "kept", "served", "relayed", "peers", "damaged"), 0), 0
     with tempfile.TemporaryDirectory() as folder:
-        relays = has_relay(program, folder)
+        relays, keeps = has(program, folder, "relay", "no.toml", "no.script"), has(program, folder, "keep", "no.toml", "no.script", "no.store")
+        left_out = {*(() if relays else ("relays", "relayed")), *(() if keeps else ("kept",))}
         while time.time() - begun < given.seconds and wrong < 10:
-            kinds = [("replays", one_replay, seed), ("relays", one_relay, seed), ("served", one_served, seed), ("relayed", one_relayed, seed), *(("peers", one_peer, 8 * seed + k) for k in range(8)), ("damaged", one_damaged, seed)]
-            for name, one, own in [kind for kind in kinds if relays or kind[0] not in ("relays", "relayed")]:
+            kinds = [("replays", one_replay, seed), ("relays", one_relay, seed), ("kept", one_kept, seed), ("served", one_served, seed), ("relayed", one_relayed, seed), *(("peers", one_peer, 8 * seed + k) for k in range(8)), ("damaged", one_damaged, seed)]
+            for name, one, own in [kind for kind in kinds if kind[0] not in left_out]:
                 said = one(program, own, folder)
                 counts[name] += 1
                 if said:
@@ -816,7 +847,7 @@ def main():
                             write(kept, file, one_file.read())
                     print(f"{name}, seed {own}: {said}; kept in {kept}")
             seed += 1
-    print(f"{counts['replays'] + counts['relays']} scripts, {counts['served'] + counts['relayed']} plants and {counts['peers']} client commands over loopback against the models, {counts['damaged']} damaged inputs, {wrong} wrong, seeds {given.seed} to {seed - 1}")
+    print(f"{counts['replays'] + counts['relays'] + counts['kept']} scripts, {counts['served'] + counts['relayed']} plants and {counts['peers']} client commands over loopback against the models, {counts['damaged']} damaged inputs, {wrong} wrong, seeds {given.seed} to {seed - 1}")
     return 1 if wrong else 0
 
 

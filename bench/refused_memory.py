@@ -41,6 +41,7 @@ RUNS = {
     "the report of a description": ["check", "plant.toml"],
     "a description under schema 2": ["migrate", "plant.toml"],
     "a load of 20 requests": ["load", "20"],
+    "a relay between a panel and a rig": ["relay", "plant.toml", "relay.script"],
     **{f"a client in the same process: {said}": [*words, "--local", "plant.toml", "--me", "192.168.0.9.1.1"] for said, words in {
         "name and version": ["info"], "the states": ["state"], "other states": ["control", "6", "0"],
         "a value": ["get", "Main.title"], "a value that is set": ["set", "Main.count", "7"], "a list": ["list"], "the leaves of an array": ["show", "Main.axis"],
@@ -95,7 +96,7 @@ def built(folder):
 
 def written(folder):
     """The files of the runs, and the words of each."""
-    for name in ("plant.toml", "plant.script", "state.script", "overlap.toml"):
+    for name in ("plant.toml", "plant.script", "state.script", "overlap.toml", "relay.script"):
         with open(os.path.join(HERE, "..", "examples", name), "rb") as one, open(os.path.join(folder, name), "wb") as it:
             it.write(one.read())
     for name in ("plant.toml", "plant2.toml"):
