@@ -10,8 +10,8 @@ numbers_to zero = []
 numbers_to (suc n) = numbers_to n ++ suc n ∷ []
 
 -- the numbers up to the last were opened; neither its log nor what it was started with is told
-abbrev pub state_of_sockets : ℕ → ℕ → ℕ → ℕ → WireState
-state_of_sockets last events stops faults = record {
+abbrev pub state_of_sockets : ℕ → ℕ → ℕ → ℕ → ℕ → WireState
+state_of_sockets last events stops faults wants = record {
   history = record {
     log = None;
     starts = None;
@@ -21,6 +21,7 @@ state_of_sockets last events stops faults = record {
     stops = stops;
   };
   faults = faults;
+  wants = wants;
 }
 
 -- something is to be done without a wait: for a connection, or someone knocks and there is a place

@@ -89,6 +89,7 @@ impl<R: Net + Clock + Drop> Link for RealLink<R> {
         };
         let Some(now) = later_moment(&self.rt, self.counts.moment()) else {
             self.faults = self.faults.saturating_add(1);
+            self.counts.break_off();
             return Received::Failed;
         };
         match came {
@@ -106,6 +107,7 @@ impl<R: Net + Clock + Drop> Link for RealLink<R> {
             }
             Heard::Failed => {
                 self.faults = self.faults.saturating_add(1);
+                self.counts.break_off();
                 Received::Failed
             }
         }

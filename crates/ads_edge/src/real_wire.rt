@@ -28,6 +28,7 @@ pub struct RealWire<R: Net + Clock + SystemFiles + Drop> {
     events: u64,
     stops: u64,
     faults: u64,
+    wants: u64,
 }
 
 impl<R: Net + Clock + SystemFiles + Drop> RealWire<R> {
@@ -42,6 +43,7 @@ impl<R: Net + Clock + SystemFiles + Drop> RealWire<R> {
             events: 0,
             stops: 0,
             faults: 0,
+            wants: 0,
         })
     }
 }
@@ -49,7 +51,7 @@ impl<R: Net + Clock + SystemFiles + Drop> RealWire<R> {
 impl<R: Net + Clock + SystemFiles + Drop> Wire for RealWire<R> {
     ghost use Rattle.ads_edge.specs.Sockets.{state_of_sockets};
 
-    ghost state = { λ w. state_of_sockets w.last w.events w.stops w.faults };
+    ghost state = { λ w. state_of_sockets w.last w.events w.stops w.faults w.wants };
 
     ghost Kept = { Unit {0} };
 
@@ -74,7 +76,10 @@ impl<R: Net + Clock + SystemFiles + Drop> Wire for RealWire<R> {
                 self.stops = self.stops.saturating_add(1);
                 Started::Failed
             }
-            Err(NoMemory) => Started::Memory,
+            Err(NoMemory) => {
+                self.wants = self.wants.saturating_add(1);
+                Started::Memory
+            }
         }
     }
 
@@ -123,7 +128,10 @@ impl<R: Net + Clock + SystemFiles + Drop> Wire for RealWire<R> {
                 self.stops = self.stops.saturating_add(1);
                 Next::Failed
             }
-            Turn::Memory => Next::Memory,
+            Turn::Memory => {
+                self.wants = self.wants.saturating_add(1);
+                Next::Memory
+            }
         }
     }
 
@@ -138,7 +146,10 @@ impl<R: Net + Clock + SystemFiles + Drop> Wire for RealWire<R> {
                 self.faults = self.faults.saturating_add(1);
                 Offer::Failed
             }
-            Err(NoMemory) => Offer::Memory,
+            Err(NoMemory) => {
+                self.wants = self.wants.saturating_add(1);
+                Offer::Memory
+            }
         }
     }
 
@@ -149,7 +160,10 @@ impl<R: Net + Clock + SystemFiles + Drop> Wire for RealWire<R> {
         };
         match shut {
             Ok(()) => Shut::Done,
-            Err(NoMemory) => Shut::Memory,
+            Err(NoMemory) => {
+                self.wants = self.wants.saturating_add(1);
+                Shut::Memory
+            }
         }
     }
 }

@@ -10,11 +10,16 @@ use Rattle.ads_outside.specs.declared.link_event.LinkEvent.TheVariants as event
 use Rattle.ads_outside.specs.declared.link_move.LinkMove.{LinkMove}
 use Rattle.ads_outside.specs.declared.link_move.LinkMove.TheVariants as move
 use Rattle.ads_outside.specs.Rose.{Rose}
-use Rattle.ads_outside.specs.LinkState.{LinkState, connected_at, bytes_came, quiet_came, closed_came}
+use Rattle.ads_outside.specs.LinkState.{LinkState, connected_at, bytes_came, quiet_came, closed_came, broke_off}
 
 -- a failed call raised the count, and all else is as before
 pub record LinkFails (old new : LinkState) : Type 0 where
   pub same : new.history ≡ old.history
+  pub faulted : Rose old.faults new.faults
+
+-- to receive failed: it raised the count, the history says so, and all else is as before
+pub record LinkBreaks (old new : LinkState) : Type 0 where
+  pub broken : new.history ≡ broke_off old.history
   pub faulted : Rose old.faults new.faults
 
 abbrev pub Connects : Connected → LinkState → LinkState → Type 0
@@ -38,7 +43,7 @@ abbrev pub Receives : Received → ℕ → LinkState → LinkState → Type 0
 Receives (received.Bytes n now) size old new = BringsBytes n now size old new
 Receives (received.Quiet now) size old new = new.history ≡ quiet_came now old.history
 Receives (received.Closed now) size old new = new.history ≡ closed_came now old.history
-Receives received.Failed size old new = LinkFails old new
+Receives received.Failed size old new = LinkBreaks old new
 Receives received.Memory size old new = new.history ≡ old.history
 
 -- the address is noted, also where the connection failed; want of memory leaves the log as it was

@@ -11,6 +11,8 @@ pub record LinkHistory : Type 0 where
   pub quiet : ℕ
   -- it answered that the peer closed the connection, since it was connected
   pub closed : Bool
+  -- to receive failed, since it was connected
+  pub broken : Bool
 
 pub record LinkState : Type 0 where
   pub history : LinkHistory
@@ -19,11 +21,11 @@ pub record LinkState : Type 0 where
 
 -- before any answer
 abbrev pub not_connected : LinkHistory
-not_connected = record { moment = 0; answers = 0; quiet = 0; closed = false }
+not_connected = record { moment = 0; answers = 0; quiet = 0; closed = false; broken = false }
 
 -- it is connected at this moment
 abbrev pub connected_at : ℕ → LinkHistory
-connected_at now = record { moment = now; answers = 0; quiet = 0; closed = false }
+connected_at now = record { moment = now; answers = 0; quiet = 0; closed = false; broken = false }
 
 -- one more answer, at this moment
 abbrev pub answered : ℕ → LinkHistory → LinkHistory
@@ -40,6 +42,10 @@ quiet_came now h = record h { moment = now; answers = raised h.answers; quiet = 
 -- the peer closed the connection
 abbrev pub closed_came : ℕ → LinkHistory → LinkHistory
 closed_came now h = record h { moment = now; answers = raised h.answers; quiet = 0; closed = true }
+
+-- to receive failed
+abbrev pub broke_off : LinkHistory → LinkHistory
+broke_off h = record h { broken = true }
 
 -- neither the moment nor the count of faults falls
 pub record LinkNeverFalls (old new : LinkState) : Type 0 where

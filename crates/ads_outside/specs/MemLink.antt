@@ -11,7 +11,7 @@ use Rattle.ads_outside.specs.declared.link_event.LinkEvent.TheVariants as event
 use Rattle.ads_outside.specs.declared.link_move.LinkMove.{LinkMove}
 use Rattle.ads_outside.specs.declared.link_move.LinkMove.TheVariants as move
 use Rattle.ads_outside.specs.FailingCalls.{FailingCalls, none_made, fails_next, called, faulted}
-use Rattle.ads_outside.specs.LinkState.{LinkHistory, LinkState, not_connected, connected_at, bytes_came, quiet_came, closed_came}
+use Rattle.ads_outside.specs.LinkState.{LinkHistory, LinkState, not_connected, connected_at, bytes_came, quiet_came, closed_came, broke_off}
 
 pub record HeldLink : Type 0 where
   -- what comes, in order; how much of it came, and how many bytes of the next of it
@@ -172,5 +172,6 @@ abbrev pub after_recv : Received → HeldLink → ℕ → HeldLink
 after_recv (received.Bytes n now) l size = record (after_coming (coming l size) l) { failing = called l.failing }
 after_recv (received.Quiet now) l size = record (after_coming (coming l size) l) { failing = called l.failing }
 after_recv (received.Closed now) l size = record (after_coming (coming l size) l) { failing = called l.failing }
-after_recv received.Failed l size = record l { failing = faulted l.failing }
+after_recv received.Failed l size =
+    record l { history = broke_off l.history; failing = faulted l.failing }
 after_recv received.Memory l size = record l { failing = called l.failing }

@@ -30,6 +30,7 @@ pub record HeldWire : Type 0 where
   pub counted : ℕ
   pub ends : ℕ
   pub stops : ℕ
+  pub wants : ℕ
 
 abbrev pub unused_wire : List Event → List ℕ → List ℕ → HeldWire
 unused_wire events fails cuts = record {
@@ -43,6 +44,7 @@ unused_wire events fails cuts = record {
   counted = 0;
   ends = 0;
   stops = 0;
+  wants = 0;
 }
 
 -- it tells all
@@ -57,6 +59,7 @@ state_of_held w = record {
     stops = w.stops;
   };
   faults = w.failing.faults;
+  wants = w.wants;
 }
 
 -- the events that are left open numbers that were not opened before
@@ -92,7 +95,7 @@ after_start started.Failed w a = record w {
   failing = faulted w.failing;
   stops = raised w.stops;
 }
-after_start started.Memory w a = record w { failing = called w.failing }
+after_start started.Memory w a = record w { failing = called w.failing; wants = raised w.wants }
 
 abbrev pub after_next : Next → HeldWire → HeldWire
 after_next (next.Event e) w = record w {
@@ -103,7 +106,7 @@ after_next (next.Event e) w = record w {
 }
 after_next next.End w = record w { failing = called w.failing; ends = raised w.ends }
 after_next next.Failed w = record w { failing = faulted w.failing; stops = raised w.stops }
-after_next next.Memory w = record w { failing = called w.failing }
+after_next next.Memory w = record w { failing = called w.failing; wants = raised w.wants }
 
 abbrev pub after_offer : Offer → HeldWire → ℕ → List ℕ → HeldWire
 after_offer (offer.Took n) w c bytes = record w {
@@ -116,11 +119,11 @@ after_offer offer.Failed w c bytes = record w {
   failing = faulted w.failing;
   offers = raised w.offers;
 }
-after_offer offer.Memory w c bytes = record w { failing = called w.failing }
+after_offer offer.Memory w c bytes = record w { failing = called w.failing; wants = raised w.wants }
 
 abbrev pub after_shut : Shut → HeldWire → ℕ → HeldWire
 after_shut shut.Done w c = record w { log = w.log ++ move.Shut c ∷ []; failing = called w.failing }
-after_shut shut.Memory w c = record w { failing = called w.failing }
+after_shut shut.Memory w c = record w { failing = called w.failing; wants = raised w.wants }
 
 -- after an event was given, if there was one
 abbrev pub given_to : Option Event → HeldWire → HeldWire

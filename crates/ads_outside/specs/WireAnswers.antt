@@ -20,11 +20,16 @@ pub record Stops (old new : WireState) (rest : WireHistory) : Type 0 where
   pub stopped : Rose old.history.stops new.history.stops
   pub faulted : Rose old.faults new.faults
 
+-- memory was wanting: the count says so, and all else is as before
+pub record Wants (old new : WireState) : Type 0 where
+  pub same : new.history ≡ old.history
+  pub wanted : Rose old.wants new.wants
+
 -- what it was started with is noted, also where it failed; want of memory leaves all as it was
 abbrev pub Starts : Started → WireState → WireState → Listening → Type 0
 Starts started.Ready old new a = new.history ≡ listened a old.history
 Starts started.Failed old new a = Stops old new (listened a old.history)
-Starts started.Memory old new a = new.history ≡ old.history
+Starts started.Memory old new a = Wants old new
 
 -- an event is new, and is given; want of memory leaves all as it was
 abbrev pub Gives : Next → WireState → WireState → Type 0
@@ -32,7 +37,7 @@ Gives (next.Event e) old new =
     IsTrue (is_new e old.history.opened) × (new.history ≡ event_given e old.history)
 Gives next.End old new = new.history ≡ end_answered old.history
 Gives next.Failed old new = Stops old new old.history
-Gives next.Memory old new = new.history ≡ old.history
+Gives next.Memory old new = Wants old new
 
 -- of what was offered a first part is taken, or the connection is lost
 abbrev pub Takes : Offer → WireState → WireState → ℕ → List ℕ → Type 0
@@ -40,9 +45,9 @@ Takes (offer.Took n) old new c bytes = (n ≤ length bytes)
     × (new.history ≡ logged (move.Took c (length bytes) (take n bytes)) old.history)
 Takes offer.Failed old new c bytes =
     (new.history ≡ logged (move.Lost c) old.history) × Rose old.faults new.faults
-Takes offer.Memory old new c bytes = new.history ≡ old.history
+Takes offer.Memory old new c bytes = Wants old new
 
 -- a connection is shut, or nothing changed
 abbrev pub Shuts : Shut → WireState → WireState → ℕ → Type 0
 Shuts shut.Done old new c = new.history ≡ logged (move.Shut c) old.history
-Shuts shut.Memory old new c = new.history ≡ old.history
+Shuts shut.Memory old new c = Wants old new

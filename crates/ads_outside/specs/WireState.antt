@@ -1,4 +1,4 @@
--- What is known of a wire: what its calls led to, and how many of them failed.
+-- What is known of a wire: what its calls led to, how many of them failed, and how often memory was wanting.
 use Rattle.std.specs.Prelude.{ℕ, List, [], ◌∷◌, ◌++◌, Option}
 use Rattle.std.specs.Option.{option_map}
 use Rattle.ads_outside.specs.declared.event.Event.{Event}
@@ -26,6 +26,8 @@ pub record WireState : Type 0 where
   pub history : WireHistory
   -- how many calls failed
   pub faults : ℕ
+  -- in how many calls memory was wanting
+  pub wants : ℕ
 
 -- a move is logged
 abbrev pub logged : Move → WireHistory → WireHistory

@@ -1,7 +1,7 @@
 //! What a link tells of its answers, whatever it is.
 
 ghost use Rattle.std.specs.Prelude.{◌≡◌};
-ghost use Rattle.ads_outside.specs.LinkState.{not_connected, connected_at, bytes_came, quiet_came, closed_came};
+ghost use Rattle.ads_outside.specs.LinkState.{not_connected, connected_at, bytes_came, quiet_came, closed_came, broke_off};
 
 use std::marker::Model;
 
@@ -13,6 +13,7 @@ pub struct LinkCounts {
     answers: u64,
     quiet: u64,
     closed: bool,
+    broken: bool,
 }
 
 impl Model for LinkCounts {
@@ -20,7 +21,7 @@ impl Model for LinkCounts {
 
     ghost Value = { LinkHistory };
 
-    ghost view = { λ l. record { moment = l.moment; answers = l.answers; quiet = l.quiet; closed = l.closed } };
+    ghost view = { λ l. record { moment = l.moment; answers = l.answers; quiet = l.quiet; closed = l.closed; broken = l.broken } };
 }
 
 impl LinkCounts {
@@ -33,6 +34,7 @@ impl LinkCounts {
             answers: 0,
             quiet: 0,
             closed: false,
+            broken: false,
         }
     }
 
@@ -52,6 +54,7 @@ impl LinkCounts {
             answers: 0,
             quiet: 0,
             closed: false,
+            broken: false,
         };
     }
 
@@ -78,6 +81,13 @@ impl LinkCounts {
         self.answer(now);
         self.quiet = 0;
         self.closed = true;
+    }
+
+    /// To receive failed.
+    pub fn break_off(&mut self)
+        ensures { self.new ≡ broke_off self.old }
+    {
+        self.broken = true;
     }
 }
 

@@ -335,6 +335,7 @@ impl Link for MemLink {
     {
         if self.failing.fails_next() {
             self.failing.fault();
+            self.counts.break_off();
             return Received::Failed;
         }
         let given = self.give(buf);

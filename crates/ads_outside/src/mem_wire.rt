@@ -28,6 +28,7 @@ pub struct MemWire {
     counted: u64,
     ends: u64,
     stops: u64,
+    wants: u64,
 }
 
 impl Model for MemWire {
@@ -49,6 +50,7 @@ impl Model for MemWire {
       counted = m.counted;
       ends = m.ends;
       stops = m.stops;
+      wants = m.wants;
     } };
 
     ghost invariant = { λ m. IsTrue (are_new (drop m.given m.events) (opened_in m.log)) };
@@ -76,6 +78,7 @@ impl MemWire {
             counted: 0,
             ends: 0,
             stops: 0,
+            wants: 0,
         }
     }
 
@@ -101,7 +104,7 @@ impl MemWire {
     ghost use Rattle.std.specs.Prelude.{IfSome};
     ghost use Rattle.ads_outside.specs.Opened.{is_new, opened_in, opened_by_move};
     ghost use Rattle.ads_outside.specs.MemWire.{given_to};
-    ghost use Rattle.ads_outside.specs.FailingCalls.{faulted};
+    ghost use Rattle.ads_outside.specs.FailingCalls.{called, faulted};
     ghost use Rattle.ads_outside.specs.Rose.{raised};
     ghost use Rattle.ads_outside.specs.declared.moves.Move.TheVariants as move;
 
@@ -170,6 +173,15 @@ impl MemWire {
         Ok(())
     }
 
+    // Memory was wanting in a call.
+    fn want(&mut self)
+        ensures wanted { self.new ≡ record self.old { failing = called self.old.failing; wants = raised self.old.wants } }
+        ensures later { self.old.wants ≤ self.new.wants }
+    {
+        self.failing.call();
+        self.wants = self.wants.saturating_add(1);
+    }
+
     // One more call failed, and it was one of `start` or `next`.
     fn stop(&mut self)
         ensures stopped { self.new ≡ record self.old { failing = faulted self.old.failing; stops = raised self.old.stops } }
@@ -217,11 +229,12 @@ impl Wire for MemWire {
             (record { listen = listen.now; name = name.now; first = first.now }) }
         ensures kept { self.new.events ≡ self.old.events }
         ensures later { self.old.failing.faults ≤ self.new.failing.faults }
+        ensures wanted { self.old.wants ≤ self.new.wants }
         ensures answer { result ≢ Started.Memory → result ≡ started_of self.old }
         ensures counted { self.new ≡ after_start result self.old (record { listen = listen.now; name = name.now; first = first.now }) }
     {
         if self.note(listen, name, first).is_err() {
-            self.failing.call();
+            self.want();
             return Started::Memory;
         }
         if self.failing.fails_next() {
@@ -236,6 +249,7 @@ impl Wire for MemWire {
         ensures gives { Gives result (state_of_held self.old) (state_of_held self.new) }
         ensures kept { self.new.events ≡ self.old.events }
         ensures later { self.old.failing.faults ≤ self.new.failing.faults }
+        ensures wanted { self.old.wants ≤ self.new.wants }
         ensures answer { result ≢ Next.Memory → result ≡ next_of self.old }
         ensures counted { self.new ≡ after_next result self.old }
     {
@@ -243,18 +257,21 @@ impl Wire for MemWire {
             self.stop();
             return Next::Failed;
         }
-        let given = self.give();
-        self.failing.call();
-        match given {
+        match self.give() {
             Ok(Some(event)) => {
+                self.failing.call();
                 self.counted = self.counted.saturating_add(1);
                 Next::Event(event)
             }
             Ok(None) => {
+                self.failing.call();
                 self.ends = self.ends.saturating_add(1);
                 Next::End
             }
-            Err(NoMemory) => Next::Memory,
+            Err(NoMemory) => {
+                self.want();
+                Next::Memory
+            }
         }
     }
 
@@ -263,6 +280,7 @@ impl Wire for MemWire {
         ensures takes { Takes result (state_of_held self.old) (state_of_held self.new) conn bytes.now }
         ensures kept { self.new.events ≡ self.old.events }
         ensures later { self.old.failing.faults ≤ self.new.failing.faults }
+        ensures wanted { self.old.wants ≤ self.new.wants }
         ensures answer { result ≢ Offer.Memory → result ≡ offer_of self.old bytes.now }
         ensures counted { self.new ≡ after_offer result self.old conn bytes.now }
     {
@@ -274,7 +292,7 @@ impl Wire for MemWire {
             self.put_taken(conn, bytes, taken)
         };
         if put.is_err() {
-            self.failing.call();
+            self.want();
             return Offer::Memory;
         }
         self.offers = self.offers.saturating_add(1);
@@ -290,14 +308,19 @@ impl Wire for MemWire {
         ensures shuts { Shuts result (state_of_held self.old) (state_of_held self.new) conn }
         ensures kept { self.new.events ≡ self.old.events }
         ensures later { self.old.failing.faults ≤ self.new.failing.faults }
+        ensures wanted { self.old.wants ≤ self.new.wants }
         ensures answer { result ≢ Shut.Memory → result ≡ Shut.Done }
         ensures counted { self.new ≡ after_shut result self.old conn }
     {
-        let put = self.put(Move::Shut(conn));
-        self.failing.call();
-        match put {
-            Ok(()) => Shut::Done,
-            Err(NoMemory) => Shut::Memory,
+        match self.put(Move::Shut(conn)) {
+            Ok(()) => {
+                self.failing.call();
+                Shut::Done
+            }
+            Err(NoMemory) => {
+                self.want();
+                Shut::Memory
+            }
         }
     }
 }

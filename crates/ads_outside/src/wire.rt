@@ -10,7 +10,7 @@ pub trait Wire {
     ghost use Rattle.ads_outside.specs.WireAnswers.{Starts, Gives, Takes, Shuts};
     ghost use Rattle.ads_outside.specs.WireState.{WireState};
 
-    /// What its calls led to, where that is told, and how many of them failed.
+    /// What its calls led to, where that is told, how many of them failed, and in how many memory was wanting.
     ghost state: { Self → WireState };
 
     /// What no call changes.
@@ -31,24 +31,28 @@ pub trait Wire {
         ensures starts { Starts result (state self.old) (state self.new)
             (record { listen = listen.now; name = name.now; first = first.now }) }
         ensures kept { kept self.new ≡ kept self.old }
-        ensures later { (state self.old).faults ≤ (state self.new).faults };
+        ensures later { (state self.old).faults ≤ (state self.new).faults }
+        ensures wanted { (state self.old).wants ≤ (state self.new).wants };
 
     /// The next event.
     fn next(&mut self) -> Next
         ensures gives { Gives result (state self.old) (state self.new) }
         ensures kept { kept self.new ≡ kept self.old }
-        ensures later { (state self.old).faults ≤ (state self.new).faults };
+        ensures later { (state self.old).faults ≤ (state self.new).faults }
+        ensures wanted { (state self.old).wants ≤ (state self.new).wants };
 
     /// Offers bytes to a connection.
     fn offer(&mut self, conn: u32, bytes: &[u8]) -> Offer
         requires { length bytes.now < 2 ^ 32 }
         ensures takes { Takes result (state self.old) (state self.new) conn bytes.now }
         ensures kept { kept self.new ≡ kept self.old }
-        ensures later { (state self.old).faults ≤ (state self.new).faults };
+        ensures later { (state self.old).faults ≤ (state self.new).faults }
+        ensures wanted { (state self.old).wants ≤ (state self.new).wants };
 
     /// Shuts a connection.
     fn shut(&mut self, conn: u32) -> Shut
         ensures shuts { Shuts result (state self.old) (state self.new) conn }
         ensures kept { kept self.new ≡ kept self.old }
-        ensures later { (state self.old).faults ≤ (state self.new).faults };
+        ensures later { (state self.old).faults ≤ (state self.new).faults }
+        ensures wanted { (state self.old).wants ≤ (state self.new).wants };
 }
