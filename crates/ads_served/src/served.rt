@@ -63,9 +63,12 @@ pub trait Served {
         ensures { (x : Standing World Client) → serves self.now x → result ≡ slice_get (present_numbers x.running.state) n };
 
     /// The connections that have something to be offered or are to be shut, in the order of opening. Others may
-    /// stand among them, and none is left out that is to be served.
-    fn due(&self, alloc: Global) -> Result<ListOf<u32>, NoMemory>
-        ensures { IfOk result (λ numbers. (x : Standing World Client) → serves self.now x → LeavesOutIdle x.running numbers) };
+    /// stand among them, and none is left out that is to be served. After want of memory `step` answers want of memory
+    /// from then on.
+    fn due(&mut self, alloc: Global) -> Result<ListOf<u32>, NoMemory>
+        ensures due { IfOk result (λ numbers. (x : Standing World Client) → serves self.new x → LeavesOutIdle x.running numbers) }
+        ensures stays { OnOk result ((x : Standing World Client) → serves self.old x → serves self.new x) }
+        ensures no_memory { OnErr result (has_failed self.new) };
 
     /// What is left of the first frame that waits for a connection; None where it is not there, nothing waits, or it
     /// is blocked: its last offer was not taken whole, and it was not writable since.

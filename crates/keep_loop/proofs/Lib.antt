@@ -4,3 +4,4 @@ pub mod SavingLemmas
 pub mod TurnLemmas
 pub mod KeepLemmas
 pub mod ToldLemmas
+mod WantLemmas

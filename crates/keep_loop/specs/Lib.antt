@@ -2,3 +2,4 @@ pub mod Bodies
 pub mod Saving
 pub mod Ending
 pub mod Keeping
+pub mod Wanting

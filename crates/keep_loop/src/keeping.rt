@@ -8,6 +8,7 @@ ghost use Rattle.keep_loop.specs.Ending.{EndsBySave};
 ghost use Rattle.serve_loop.specs.TurnTaken.{StandsOver};
 ghost use Rattle.keep_loop.specs.Saving.{LeavesEach, StandsForSome};
 ghost use Rattle.keep_loop.specs.Keeping.{AfterKeep, TookTurns, CountsSaves, StandsAtEnd};
+ghost use Rattle.keep_loop.specs.Wanting.{WantsToKeep};
 
 use crate::save_end::SaveEnd;
 use crate::saving::save_body;
@@ -44,6 +45,9 @@ pub fn keep_turns<T: Threads + Sync, W: Wire, M: Persistent, D: Disk>(
     ensures store_fault { result ≡ KeepEnd.StoreFault → Rose (D.fault_count disk.old) (D.fault_count disk.new) }
     ensures later { D.fault_count disk.old ≤ D.fault_count disk.new }
     ensures wire_later { (W.state wire.old).faults ≤ (W.state wire.new).faults }
+    ensures wanted { (W.state wire.old).wants ≤ (W.state wire.new).wants }
+    ensures memory { result ≡ KeepEnd.Memory → WantsToKeep M.steps M.noted (M.serves served.old) (M.serves served.new)
+        (M.has_failed served.new) (W.state wire.old) (W.state wire.new) limit }
 {
     let mut saved = 0u64;
     for _taken in 0..limit {

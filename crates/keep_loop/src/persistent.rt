@@ -6,6 +6,7 @@ ghost use Rattle.spec_machine.specs.Moves.{EventStep};
 ghost use Rattle.ads_served.specs.Standing.{Standing, Noting};
 ghost use Rattle.spec_store.specs.BodyText.{is_body_text};
 ghost use Rattle.serve_loop.specs.TurnTaken.{AfterTurn};
+ghost use Rattle.serve_loop.specs.Wanting.{WasWanting};
 ghost use Rattle.keep_loop.specs.Bodies.{BodyOf};
 
 use ads_base::{NoMemory, Octets};
@@ -33,12 +34,17 @@ pub trait Persistent {
     /// The body text of a world.
     ghost body_of: { BodyOf World };
 
+    /// Memory was refused to it.
+    ghost has_failed: { Self → Type 0 };
+
     /// Takes one event of the wire, and offers each connection what waits for it.
     fn turn<T: Threads + Sync, W: Wire>(&mut self, rt: &T, alloc: Global, wire: &mut W) -> TurnEnd
         requires { IsSync T.row }
         ensures turn { AfterTurn result steps noted (serves self.old) (serves self.new) (W.state wire.old) (W.state wire.new) }
         ensures kept { W.kept wire.new ≡ W.kept wire.old }
-        ensures later { (W.state wire.old).faults ≤ (W.state wire.new).faults };
+        ensures later { (W.state wire.old).faults ≤ (W.state wire.new).faults }
+        ensures wanted { (W.state wire.old).wants ≤ (W.state wire.new).wants }
+        ensures memory { result ≡ TurnEnd.Memory → WasWanting (has_failed self.new) (W.state wire.old) (W.state wire.new) };
 
     /// The body text of the world that it stands for.
     fn body(&self, alloc: Global) -> Result<Octets, NoMemory>

@@ -26,7 +26,7 @@ impl<S: Sources> Model for KeptCore<S> {
 impl<S: Sources> Persistent for KeptCore<S> {
     ghost use Rattle.spec_machine.specs.RunText.{notes_of_event};
     ghost use Rattle.server_core.specs.Served as device;
-    ghost use Rattle.server_core.specs.Serves.{StandsAt};
+    ghost use Rattle.server_core.specs.Serves.{StandsAt, HasFailed};
     ghost use Rattle.keep_play.specs.KeptSaves.{body_of_world};
 
     ghost World = { device.World };
@@ -38,6 +38,8 @@ impl<S: Sources> Persistent for KeptCore<S> {
     ghost noted = { notes_of_event device.served };
 
     ghost serves = { StandsAt };
+
+    ghost has_failed = { HasFailed };
 
     ghost body_of = { body_of_world };
 

@@ -23,10 +23,11 @@ pub record PlayedScript : Type 0 where
   pub at : ℕ
   pub log : List Move
   pub starts : List Listening
-  -- the events that were given, how often End was answered, the offers that failed
+  -- the events that were given, how often End was answered, the offers that failed, the calls that wanted memory
   pub events : ℕ
   pub ends : ℕ
   pub faults : ℕ
+  pub wants : ℕ
 
 -- it tells all; no start and no next event ever fails
 abbrev pub state_of_played : PlayedScript → WireState
@@ -40,11 +41,12 @@ state_of_played w = record {
     stops = 0;
   };
   faults = w.faults;
+  wants = w.wants;
 }
 
 abbrev pub unplayed : List ScriptLine → PlayedScript
 unplayed lines =
-    record { lines = lines; at = 0; log = []; starts = []; events = 0; ends = 0; faults = 0 }
+    record { lines = lines; at = 0; log = []; starts = []; events = 0; ends = 0; faults = 0; wants = 0 }
 
 -- once End was answered, the log has all events of the script, and each offer is answered as its lines say
 abbrev pub IsPlayed : PlayedScript → Type 0

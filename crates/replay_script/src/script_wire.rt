@@ -32,6 +32,7 @@ pub struct ScriptWire {
     events: u64,
     ends: u64,
     faults: u64,
+    wants: u64,
 }
 
 impl Model for ScriptWire {
@@ -49,6 +50,7 @@ impl Model for ScriptWire {
       events = w.events;
       ends = w.ends;
       faults = w.faults;
+      wants = w.wants;
     } };
 
     ghost invariant = { λ w. PlaysOn (map line_meant w.lines) (drop w.at (map line_meant w.lines)) w.log.items w.rooms w.failing w.looking w.ends };
@@ -76,6 +78,7 @@ impl ScriptWire {
             events: 0,
             ends: 0,
             faults: 0,
+            wants: 0,
         }
     }
 
@@ -98,6 +101,7 @@ impl ScriptWire {
             events: _,
             ends: _,
             faults: _,
+            wants: _,
         } = self;
         ListOf::from_vec(log)
     }
@@ -214,7 +218,15 @@ impl ScriptWire {
         self.ends = self.ends.saturating_add(1);
     }
 
-    // An offer of which so many bytes are taken.
+    // Memory was wanting in a call.
+    fn want(&mut self)
+        ensures wanted { self.new ≡ record self.old { wants = raised self.old.wants } }
+        ensures later { self.old.wants ≤ self.new.wants }
+    {
+        self.wants = self.wants.saturating_add(1);
+    }
+
+    // An offer of which so many bytes are taken. Where memory was wanting while the next event was looked for, it still is.
     fn put_taken(&mut self, conn: u32, bytes: &[u8]) -> Result<u32, NoMemory>
         requires { length bytes.now < 2 ^ 32 }
         ensures taken { IfOk result (λ n. self.new ≡ record self.old { log = self.old.log ++ move.Took conn (length bytes.now) (take n bytes.now) ∷ [] }) }
@@ -298,7 +310,10 @@ impl Wire for ScriptWire {
     fn start(&mut self, listen: &str, name: &str, first: &[u8]) -> Started {
         match self.note(listen, name, first) {
             Ok(()) => Started::Ready,
-            Err(NoMemory) => Started::Memory,
+            Err(NoMemory) => {
+                self.want();
+                Started::Memory
+            }
         }
     }
 
@@ -306,7 +321,10 @@ impl Wire for ScriptWire {
         match self.give() {
             Ok(Some(event)) => Next::Event(event),
             Ok(None) => Next::End,
-            Err(NoMemory) => Next::Memory,
+            Err(NoMemory) => {
+                self.want();
+                Next::Memory
+            }
         }
     }
 
@@ -314,19 +332,28 @@ impl Wire for ScriptWire {
         if self.failing.has(conn) {
             return match self.put_lost(conn) {
                 Ok(()) => Offer::Failed,
-                Err(NoMemory) => Offer::Memory,
+                Err(NoMemory) => {
+                    self.want();
+                    Offer::Memory
+                }
             };
         }
         match self.put_taken(conn, bytes) {
             Ok(n) => Offer::Took(n),
-            Err(NoMemory) => Offer::Memory,
+            Err(NoMemory) => {
+                self.want();
+                Offer::Memory
+            }
         }
     }
 
     fn shut(&mut self, conn: u32) -> Shut {
         match self.put_shut(conn) {
             Ok(()) => Shut::Done,
-            Err(NoMemory) => Shut::Memory,
+            Err(NoMemory) => {
+                self.want();
+                Shut::Memory
+            }
         }
     }
 }

@@ -5,3 +5,4 @@ pub mod PresentLemmas
 pub mod RoundLemmas
 pub mod TurnLemmas
 pub mod EndLemmas
+pub mod WantLemmas

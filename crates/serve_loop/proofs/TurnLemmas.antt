@@ -29,6 +29,7 @@ use Rattle.serve_loop.specs.Serving.{running_after_all, ServesAll}
 use Rattle.serve_loop.specs.TurnTaken.{StandsOver, ComesBy, IsTurnOf, turn_of_event, TakesEvent, Stays, BreaksTurn, AfterTurn, AreTurnsOf, TakesTurns, EndsBefore}
 use Rattle.serve_loop.proofs.LeadLemmas.{leads_nowhere, leads_then, breaks_nowhere, breaks_then, AreOffers-append, standing-running}
 use Rattle.serve_loop.proofs.OfferLemmas.{running-append}
+use Rattle.serve_loop.proofs.WantLemmas.{rose_later}
 
 -- an event leaves each connection with a number that was opened
 event-numbers : {W C : Type 0} (step : EventStep W C) → OpensAlone step → (opened : List ℕ) (e : Event) (s : MachineState W C) → HasNumbersIn opened s → HasNumbersIn (opened ++ opened_by e) (step s e)
@@ -188,9 +189,6 @@ ends-after (move.Event e ∷ ms) h = ends-after ms (event_given e h)
 ends-after (move.Took c offered bytes ∷ ms) h = ends-after ms (history_after_move h (move.Took c offered bytes))
 ends-after (move.Lost c ∷ ms) h = ends-after ms (history_after_move h (move.Lost c))
 ends-after (move.Shut c ∷ ms) h = ends-after ms (history_after_move h (move.Shut c))
-
-rose_later : (a b c : ℕ) → a ≤ b → Rose b c → Rose a c
-rose_later a b c later rose = omega arith
 
 -- a fault behind other calls
 pub stops_later : (old mid new : WireState) → mid.history.stops ≡ old.history.stops → old.faults ≤ mid.faults → Stops mid new mid.history → Stops old new mid.history

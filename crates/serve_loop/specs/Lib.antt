@@ -2,3 +2,4 @@ pub mod Leads
 pub mod Serving
 pub mod TurnTaken
 pub mod ToldLog
+pub mod Wanting

@@ -5,6 +5,7 @@ ghost use Rattle.ads_outside.specs.Rose.{Rose, raised};
 ghost use Rattle.ads_served.specs.Standing.{Standing};
 ghost use Rattle.serve_loop.specs.ToldLog.{WhereTold, LogsOffers, LogsTurns};
 ghost use Rattle.serve_loop.specs.TurnTaken.{StandsOver, AfterServe, GaveEvents};
+ghost use Rattle.serve_loop.specs.Wanting.{WasWanting};
 
 use crate::{TurnEnd, turn};
 use ads_outside::{End, Wire};
@@ -35,6 +36,8 @@ pub fn serve<T: Threads + Sync, W: Wire, M: Served>(
     ensures no_link_fault { result ≢ End.LinkFault → (W.state wire.new).history.stops ≡ (W.state wire.old).history.stops }
     ensures kept { W.kept wire.new ≡ W.kept wire.old }
     ensures later { (W.state wire.old).faults ≤ (W.state wire.new).faults }
+    ensures wanted { (W.state wire.old).wants ≤ (W.state wire.new).wants }
+    ensures memory { result ≡ End.Memory → WasWanting (M.has_failed served.new) (W.state wire.old) (W.state wire.new) }
 {
     let ended = take_turns(rt, alloc, served, wire, limit);
     ended
@@ -51,6 +54,8 @@ fn take_turns<T: Threads + Sync, W: Wire, M: Served>(
     ensures serve { AfterServe result M.steps M.noted (M.serves served.old) (M.serves served.new) (W.state wire.old) (W.state wire.new) limit }
     ensures kept { W.kept wire.new ≡ W.kept wire.old }
     ensures later { (W.state wire.old).faults ≤ (W.state wire.new).faults }
+    ensures wanted { (W.state wire.old).wants ≤ (W.state wire.new).wants }
+    ensures memory { result ≡ End.Memory → WasWanting (M.has_failed served.new) (W.state wire.old) (W.state wire.new) }
 {
     for _taken in 0..limit {
         match turn(rt, alloc, served, wire) {

@@ -1,6 +1,8 @@
 //! The offers to one connection.
 
 ghost use Rattle.std.specs.Prelude.{◌≡◌, ◌≤◌, ◌<◌, IfOk, OnErr};
+ghost use Rattle.ads_outside.specs.Rose.{Rose};
+ghost use Rattle.ads_outside.specs.WireAnswers.{Wants};
 ghost use Rattle.serve_loop.specs.Leads.{Breaks};
 ghost use Rattle.serve_loop.specs.Serving.{AfterOffer, AfterOffers};
 
@@ -32,6 +34,8 @@ pub(crate) fn offer_all<W: Wire, M: Served>(
         (W.state wire.old).history (W.state wire.new).history 0) }
     ensures kept { W.kept wire.new ≡ W.kept wire.old }
     ensures later { (W.state wire.old).faults ≤ (W.state wire.new).faults }
+    ensures wanted { (W.state wire.old).wants ≤ (W.state wire.new).wants }
+    ensures memory { OnErr result (Rose (W.state wire.old).wants (W.state wire.new).wants) }
 {
     loop {
         match offer_one(served, wire, conn)? {
@@ -52,9 +56,10 @@ fn offer_one<W: Wire, M: Served>(
         (W.state wire.old).history (W.state wire.new).history conn) }
     ensures fewer { IfOk result (λ offered. offered ≡ Offered.Taken
         → M.offers_left served.new conn < M.offers_left served.old conn) }
-    ensures no_memory { OnErr result ((W.state wire.new).history ≡ (W.state wire.old).history) }
+    ensures no_memory { OnErr result (Wants (W.state wire.old) (W.state wire.new)) }
     ensures kept { W.kept wire.new ≡ W.kept wire.old }
     ensures later { (W.state wire.old).faults ≤ (W.state wire.new).faults }
+    ensures wanted { (W.state wire.old).wants ≤ (W.state wire.new).wants }
 {
     let Some(left) = served.offer_of(conn) else {
         return Ok(Offered::Nothing);

@@ -1,6 +1,7 @@
 //! The connections are served, one after another.
 
 ghost use Rattle.std.specs.Prelude.{◌≡◌, ◌≤◌, OnOk, OnErr};
+ghost use Rattle.ads_outside.specs.Rose.{Rose};
 ghost use Rattle.serve_loop.specs.Leads.{Leads, Breaks};
 ghost use Rattle.serve_loop.specs.Serving.{EndsWhereThere, ServesAllOf};
 
@@ -21,6 +22,8 @@ pub(crate) fn serve_each<W: Wire, M: Served>(
         (W.state wire.old).history (W.state wire.new).history 0) }
     ensures kept { W.kept wire.new ≡ W.kept wire.old }
     ensures later { (W.state wire.old).faults ≤ (W.state wire.new).faults }
+    ensures wanted { (W.state wire.old).wants ≤ (W.state wire.new).wants }
+    ensures memory { OnErr result (Rose (W.state wire.old).wants (W.state wire.new).wants) }
 {
     for number in numbers {
         serve_one(served, wire, *number)?;
@@ -36,6 +39,8 @@ fn serve_one<W: Wire, M: Served>(served: &mut M, wire: &mut W, conn: u32) -> Res
         (W.state wire.old).history (W.state wire.new).history 0) }
     ensures kept { W.kept wire.new ≡ W.kept wire.old }
     ensures later { (W.state wire.old).faults ≤ (W.state wire.new).faults }
+    ensures wanted { (W.state wire.old).wants ≤ (W.state wire.new).wants }
+    ensures memory { OnErr result (Rose (W.state wire.old).wants (W.state wire.new).wants) }
 {
     if offer_all(served, wire, conn)? {
         return Ok(());

@@ -5,6 +5,7 @@ ghost use Rattle.ads_outside.specs.WireState.{WireHistory};
 ghost use Rattle.serve_loop.specs.Leads.{Leads, Breaks};
 ghost use Rattle.serve_loop.specs.Serving.{ServesAll};
 ghost use Rattle.serve_loop.specs.TurnTaken.{ComesBy, AfterTurn, turn_of_event};
+ghost use Rattle.serve_loop.specs.Wanting.{WasWanting};
 
 use crate::TurnEnd;
 use crate::rounds::serve_each;
@@ -25,6 +26,8 @@ pub fn turn<T: Threads + Sync, W: Wire, M: Served>(
     ensures turn { AfterTurn result M.steps M.noted (M.serves served.old) (M.serves served.new) (W.state wire.old) (W.state wire.new) }
     ensures kept { W.kept wire.new ≡ W.kept wire.old }
     ensures later { (W.state wire.old).faults ≤ (W.state wire.new).faults }
+    ensures wanted { (W.state wire.old).wants ≤ (W.state wire.new).wants }
+    ensures memory { result ≡ TurnEnd.Memory → WasWanting (M.has_failed served.new) (W.state wire.old) (W.state wire.new) }
 {
     let event = match wire.next() {
         Next::Event(event) => event,
@@ -66,6 +69,8 @@ fn take_event<T: Threads + Sync, W: Wire, M: Served>(
         (W.state wire.old).history (W.state wire.new).history 0) }
     ensures kept { W.kept wire.new ≡ W.kept wire.old }
     ensures later { (W.state wire.old).faults ≤ (W.state wire.new).faults }
+    ensures wanted { (W.state wire.old).wants ≤ (W.state wire.new).wants }
+    ensures memory { OnErr result (WasWanting (M.has_failed served.new) (W.state wire.old) (W.state wire.new)) }
 {
     served.step(rt, alloc, event)?;
     let numbers = served.due(alloc)?;

@@ -164,11 +164,20 @@ impl<S: Sources> Core<S> {
     }
 
     /// The numbers of the connections that have something to be offered or are to be shut, in the order of opening. It costs
-    /// what events touched since they were last served: one connection, but for a tick and a reload.
-    pub fn due(&self, alloc: Global) -> Result<ListOf<u32>, NoMemory>
-        ensures { IfOk result (λ numbers. (x : CoreState) → Serves self.now x → numbers ≡ filter (is_due x) (present_numbers x.state)) }
+    /// what events touched since they were last served: one connection, but for a tick and a reload. After want of memory
+    /// `step` answers want of memory from then on.
+    pub fn due(&mut self, alloc: Global) -> Result<ListOf<u32>, NoMemory>
+        ensures due { IfOk result (λ numbers. (x : CoreState) → Serves self.new x → numbers ≡ filter (is_due x) (present_numbers x.state)) }
+        ensures stays { OnOk result (self.new ≡ self.old) }
+        ensures no_memory { OnErr result (HasFailed self.new) }
     {
-        self.server.clients.due(alloc)
+        match self.server.clients.due(alloc) {
+            Ok(numbers) => Ok(numbers),
+            Err(NoMemory) => {
+                self.failed = true;
+                Err(NoMemory)
+            }
+        }
     }
 
     /// The counts of the run.

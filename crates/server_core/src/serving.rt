@@ -44,7 +44,7 @@ impl<S: Sources> Served for Core<S> {
         self.connection(n)
     }
 
-    fn due(&self, alloc: Global) -> Result<ListOf<u32>, NoMemory> {
+    fn due(&mut self, alloc: Global) -> Result<ListOf<u32>, NoMemory> {
         self.due(alloc)
     }
 

@@ -1,7 +1,9 @@
 -- Each way out of the loop, and one turn more.
-use Rattle.std.proofs.Common.{refl, ◌∙◌, arith}
+use Rattle.std.proofs.Common.{refl, ◌∙◌, arith, inl, inr}
 use Rattle.std.proofs.Math.Nat.{le_refl, le_trans}
 use Rattle.keep_loop.proofs.KeepLemmas.{keeps_first, keeps_other, keeps_same, keeps_saved, some_after_tick, some_at_end, fails_at_tick, limit_at_tick, memory_at_tick, memory_in_turn, link_fault, budget, ends_here}
+use Rattle.serve_loop.proofs.WantLemmas.{wanting_later}
+use Rattle.keep_loop.proofs.WantLemmas.{wants_at_tick, wants_at_end}
 use Rattle.keep_loop.proofs.keeping.keep_turns.Goals as goal
 use Rattle.keep_loop.proofs.keeping.keep_turns.Goals.{in-Tick+in-Same, in-Tick+in-Saved, in-Other}
 
@@ -15,6 +17,7 @@ loop-taken-init g c = record {
   kept = refl;
   later = le_refl _;
   wire_later = le_refl _;
+  wanted = le_refl _;
 }
 
 pub save_body-requires-clause-some : goal.save_body-requires-clause-some
@@ -39,6 +42,24 @@ returns-in-Memory-save_body-clause-keeps g c = memory_at_tick g.M.Persistent.bod
     (g.M.Persistent.serves c.args.served.now) (g.M.Persistent.serves c.loop-taken.served) (g.M.Persistent.serves c.turn.new.self) (g.W.Wire.state c.args.wire.now) (g.W.Wire.state c.loop-taken.wire).history (g.W.Wire.state c.turn.new.wire) c.loop-taken._taken c.args.limit
     c.args.disk.now c.loop-taken.disk c.save_body.new.disk c.args.store.now c.loop-taken.store c.loop-taken.saved c.loop-taken-test.true c.loop-taken.invariant.so_far c.in-Tick.ensures.turn
     c.in-Memory-save_body.ensures.saved
+
+-- memory was wanting in the turn, or in the save behind it
+pub returns-in-Memory-clause-memory : goal.returns-in-Memory-clause-memory
+returns-in-Memory-clause-memory g c = λ is.
+    inl (wanting_later _ (g.W.Wire.state c.args.wire.now) (g.W.Wire.state c.loop-taken.wire) (g.W.Wire.state c.turn.new.wire)
+    c.loop-taken.invariant.wanted (c.in-Memory.ensures.memory refl))
+
+pub returns-in-Memory-save_body-clause-memory : goal.returns-in-Memory-save_body-clause-memory
+returns-in-Memory-save_body-clause-memory g c = λ is.
+    inr (wants_at_tick _ _ (g.M.Persistent.serves c.args.served.now) (g.M.Persistent.serves c.loop-taken.served) (g.M.Persistent.serves c.turn.new.self)
+    (g.W.Wire.state c.args.wire.now).history (g.W.Wire.state c.loop-taken.wire).history (g.W.Wire.state c.turn.new.wire).history
+    c.loop-taken._taken c.args.limit _ c.loop-taken-test.true c.loop-taken.invariant.so_far.keeps.turns c.in-Tick.ensures.turn)
+
+pub returns-in-End-clause-memory : goal.returns-in-End-clause-memory
+returns-in-End-clause-memory g c = λ is.
+    inr (wants_at_end _ _ (g.M.Persistent.serves c.args.served.now) (g.M.Persistent.serves c.loop-taken.served) (g.M.Persistent.serves c.turn.new.self)
+    (g.W.Wire.state c.args.wire.now).history (g.W.Wire.state c.loop-taken.wire).history (g.W.Wire.state c.turn.new.wire).history
+    c.loop-taken._taken c.args.limit c.loop-taken-test.true c.loop-taken.invariant.so_far.keeps.turns c.in-End.ensures.turn.0 c.in-End.ensures.turn.1)
 
 pub save_last-requires-clause-some : goal.save_last-requires-clause-some
 save_last-requires-clause-some g c = some_at_end g.M.Persistent.body_of g.M.Persistent.steps g.M.Persistent.noted g.D.Disk.contents g.D.Disk.may_leave g.D.Disk.moment g.D.Disk.left_since
@@ -74,6 +95,7 @@ loop-taken-preserved g c = elim c.match-turn.branch [
     kept = c.turn.ensures.kept ∙ c.loop-taken.invariant.kept;
     later = le_trans c.loop-taken.invariant.later w.in-Same.ensures.later;
     wire_later = le_trans c.loop-taken.invariant.wire_later c.turn.ensures.later;
+    wanted = le_trans c.loop-taken.invariant.wanted c.turn.ensures.wanted;
   }
   | in-Tick+in-Saved w ↦ rw (w.store-is, w.disk-is, w.saved-is) record {
     so_far = keeps_saved g.M.Persistent.body_of g.M.Persistent.steps g.M.Persistent.noted g.D.Disk.contents g.D.Disk.may_leave g.D.Disk.moment g.D.Disk.left_since
@@ -85,6 +107,7 @@ loop-taken-preserved g c = elim c.match-turn.branch [
     kept = c.turn.ensures.kept ∙ c.loop-taken.invariant.kept;
     later = le_trans c.loop-taken.invariant.later w.in-Saved.ensures.later;
     wire_later = le_trans c.loop-taken.invariant.wire_later c.turn.ensures.later;
+    wanted = le_trans c.loop-taken.invariant.wanted c.turn.ensures.wanted;
   }
   | in-Other w ↦ rw (w.store-is, w.disk-is, w.saved-is) record {
     so_far = keeps_other g.M.Persistent.body_of g.M.Persistent.steps g.M.Persistent.noted g.D.Disk.contents g.D.Disk.may_leave g.D.Disk.moment g.D.Disk.left_since
@@ -96,6 +119,7 @@ loop-taken-preserved g c = elim c.match-turn.branch [
     kept = c.turn.ensures.kept ∙ c.loop-taken.invariant.kept;
     later = c.loop-taken.invariant.later;
     wire_later = le_trans c.loop-taken.invariant.wire_later c.turn.ensures.later;
+    wanted = le_trans c.loop-taken.invariant.wanted c.turn.ensures.wanted;
   }
 ]
 

@@ -16,4 +16,5 @@ invariant-loop-taken g l = record {
   kept : g.W.Wire.kept l.wire ≡ g.W.Wire.kept l.initial.wire;
   later : g.D.Disk.fault_count l.initial.disk ≤ g.D.Disk.fault_count l.disk;
   wire_later : (g.W.Wire.state l.initial.wire).faults ≤ (g.W.Wire.state l.wire).faults;
+  wanted : (g.W.Wire.state l.initial.wire).wants ≤ (g.W.Wire.state l.wire).wants;
 }

@@ -9,4 +9,5 @@ invariant-loop-taken g l = record {
       (g.W.Wire.state l.initial.wire).history (g.W.Wire.state l.wire).history l._taken;
   kept : g.W.Wire.kept l.wire ≡ g.W.Wire.kept l.initial.wire;
   later : (g.W.Wire.state l.initial.wire).faults ≤ (g.W.Wire.state l.wire).faults;
+  wanted : (g.W.Wire.state l.initial.wire).wants ≤ (g.W.Wire.state l.wire).wants;
 }

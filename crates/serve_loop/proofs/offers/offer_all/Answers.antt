@@ -3,6 +3,7 @@ use Rattle.std.proofs.Common.{refl, ◌∙◌}
 use Rattle.std.proofs.Math.Nat.{le_refl, le_trans}
 use Rattle.serve_loop.proofs.LeadLemmas.{leads_nowhere, leads_then, breaks_here, on_err}
 use Rattle.serve_loop.proofs.ServeLemmas.{begins_nothing, begins_begins, begins_ends, begins_all}
+use Rattle.serve_loop.proofs.WantLemmas.{rose_later}
 use Rattle.serve_loop.proofs.offers.offer_all.Goals as goal
 
 pub loop-init : goal.loop-init
@@ -10,17 +11,22 @@ loop-init g c = record {
   led = leads_nowhere _ _ _ _ _ _ _ refl (λ x serves. serves) (λ x serves. begins_nothing _ _ x.running);
   kept = refl;
   later = le_refl _;
+  wanted = le_refl _;
 }
 
 pub returns-in_err-offer_one-clause-no_memory : goal.returns-in_err-offer_one-clause-no_memory
 returns-in_err-offer_one-clause-no_memory g c =
-    on_err _ (breaks_here _ _ _ _ _ _ _ _ _ (λ x ms begins. begins.offers) c.loop.invariant.led c.in_err-offer_one.ensures.no_memory)
+    on_err _ (breaks_here _ _ _ _ _ _ _ _ _ (λ x ms begins. begins.offers) c.loop.invariant.led c.in_err-offer_one.ensures.no_memory.same)
+
+pub returns-in_err-offer_one-clause-memory : goal.returns-in_err-offer_one-clause-memory
+returns-in_err-offer_one-clause-memory g c = on_err _ (rose_later _ _ _ c.loop.invariant.wanted c.in_err-offer_one.ensures.no_memory.wanted)
 
 pub loop-preserved : goal.loop-preserved
 loop-preserved g c = record {
   led = leads_then _ _ _ _ _ _ _ _ 0 0 _ _ _ (begins_begins _ _) c.loop.invariant.led (rw c.in-Taken.is at c.in_ok-offer_one.ensures.ok);
   kept = c.offer_one.ensures.kept ∙ c.loop.invariant.kept;
   later = le_trans c.loop.invariant.later c.offer_one.ensures.later;
+  wanted = le_trans c.loop.invariant.wanted c.offer_one.ensures.wanted;
 }
 
 pub returns-in-Lost-clause-ok : goal.returns-in-Lost-clause-ok

@@ -10,6 +10,7 @@ invariant-loop g l = record {
       (g.W.Wire.state l.initial.wire).history (g.W.Wire.state l.wire).history 0 (Begins g.M.Served.steps l.conn);
   kept : g.W.Wire.kept l.wire ≡ g.W.Wire.kept l.initial.wire;
   later : (g.W.Wire.state l.initial.wire).faults ≤ (g.W.Wire.state l.wire).faults;
+  wanted : (g.W.Wire.state l.initial.wire).wants ≤ (g.W.Wire.state l.wire).wants;
 }
 
 abbrev pub decreases-loop : goal.decreases-loop

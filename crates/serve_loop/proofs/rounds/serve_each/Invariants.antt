@@ -10,4 +10,5 @@ invariant-loop-number g l = record {
       (g.W.Wire.state l.initial.wire).history (g.W.Wire.state l.wire).history 0 (RoundFrom g.M.Served.steps l.numbers l.number-index);
   kept : g.W.Wire.kept l.wire ≡ g.W.Wire.kept l.initial.wire;
   later : (g.W.Wire.state l.initial.wire).faults ≤ (g.W.Wire.state l.wire).faults;
+  wanted : (g.W.Wire.state l.initial.wire).wants ≤ (g.W.Wire.state l.wire).wants;
 }

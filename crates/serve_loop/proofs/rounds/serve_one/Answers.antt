@@ -4,6 +4,7 @@ use Rattle.ads_outside.specs.declared.moves.Move.TheVariants as move
 use Rattle.spec_machine.specs.Running.{is_to_be_shut_at}
 use Rattle.serve_loop.proofs.LeadLemmas.{leads_one, leads_then, leads_so, breaks_here}
 use Rattle.serve_loop.proofs.ServeLemmas.{IsShutting, ends_there, ends_open, ends_shut, leads_seen}
+use Rattle.serve_loop.proofs.WantLemmas.{rose_later}
 use Rattle.serve_loop.proofs.rounds.serve_one.Goals as goal
 
 -- the connection is lost
@@ -26,4 +27,7 @@ returns-in-Done-clause-ok g c =
 
 pub returns-in-Memory-clause-no_memory : goal.returns-in-Memory-clause-no_memory
 returns-in-Memory-clause-no_memory g c =
-    breaks_here _ _ _ _ _ _ _ _ _ (λ x ms all. all.begins.offers) (rw c.if-branch.false at c.in_ok-offer_all.ensures.ok) c.in-Memory.ensures.shuts
+    breaks_here _ _ _ _ _ _ _ _ _ (λ x ms all. all.begins.offers) (rw c.if-branch.false at c.in_ok-offer_all.ensures.ok) c.in-Memory.ensures.shuts.same
+
+pub returns-in-Memory-clause-memory : goal.returns-in-Memory-clause-memory
+returns-in-Memory-clause-memory g c = rose_later _ _ _ c.offer_all.ensures.wanted c.in-Memory.ensures.shuts.wanted

@@ -1,5 +1,5 @@
 -- The event, what is due, and the connections.
-use Rattle.std.proofs.Common.{refl}
+use Rattle.std.proofs.Common.{refl, inl, inr}
 use Rattle.serve_loop.proofs.LeadLemmas.{breaks_nowhere, leads_from, on_err}
 use Rattle.serve_loop.proofs.TurnLemmas.{comes_to}
 use Rattle.serve_loop.proofs.turning.take_event.Goals as goal
@@ -7,15 +7,25 @@ use Rattle.serve_loop.proofs.turning.take_event.Goals as goal
 pub returns-in_err-step-clause-no_memory : goal.returns-in_err-step-clause-no_memory
 returns-in_err-step-clause-no_memory g c = on_err _ (breaks_nowhere _ _ _ _ _ refl)
 
+pub returns-in_err-step-clause-memory : goal.returns-in_err-step-clause-memory
+returns-in_err-step-clause-memory g c = on_err _ (inr c.in_err-step.ensures.no_memory)
+
 pub returns-in_err-numbers-clause-no_memory : goal.returns-in_err-numbers-clause-no_memory
 returns-in_err-numbers-clause-no_memory g c = on_err _ (breaks_nowhere _ _ _ _ _ refl)
 
+pub returns-in_err-numbers-clause-memory : goal.returns-in_err-numbers-clause-memory
+returns-in_err-numbers-clause-memory g c = on_err _ (inr c.in_err-numbers.ensures.no_memory)
+
 pub returns-in_err-serve_each-clause-no_memory : goal.returns-in_err-serve_each-clause-no_memory
 returns-in_err-serve_each-clause-no_memory g c =
-    on_err _ (leads_from _ _ _ _ _ _ _ _ _ _ (comes_to _ _ _ _ _ c.in_ok-step.ensures.follows) (λ y ms serves offers. offers) c.in_err-serve_each.ensures.no_memory)
+    on_err _ (leads_from _ _ _ _ _ _ _ _ _ _
+    (λ y comes. c.in_ok-numbers.ensures.stays y (comes_to _ _ _ (g.M.Served.serves c.step.new.self) _ c.in_ok-step.ensures.follows y comes)) (λ y ms serves offers. offers) c.in_err-serve_each.ensures.no_memory)
+
+pub returns-in_err-serve_each-clause-memory : goal.returns-in_err-serve_each-clause-memory
+returns-in_err-serve_each-clause-memory g c = on_err _ (inl c.in_err-serve_each.ensures.memory)
 
 pub returns-clause-ok : goal.returns-clause-ok
 returns-clause-ok g c =
-    leads_from _ _ _ _ _ _ _ _ _ _ (comes_to _ _ _ _ _ c.in_ok-step.ensures.follows)
-    (λ y ms serves all. all (rw c.as_slice.ensures (c.in_ok-numbers.ensures y serves)) (g.met.M.Served.apart c.step.new.self y serves))
+    leads_from _ _ _ _ _ _ _ _ _ _ (λ y comes. c.in_ok-numbers.ensures.stays y (comes_to _ _ _ (g.M.Served.serves c.step.new.self) _ c.in_ok-step.ensures.follows y comes))
+    (λ y ms serves all. all (rw c.as_slice.ensures (c.in_ok-numbers.ensures.due y serves)) (g.met.M.Served.apart c.due.new.self y serves))
     c.in_ok-serve_each.ensures.ok

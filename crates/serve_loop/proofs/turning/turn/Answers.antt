@@ -1,9 +1,21 @@
 -- An event that the wire gave, and what follows it.
+use Rattle.std.proofs.Common.{sym, ◌∙◌, inl}
 use Rattle.serve_loop.proofs.TurnLemmas.{takes_event, breaks_event, breaks_none, told_turn}
+use Rattle.serve_loop.proofs.WantLemmas.{wanting_later, event_is_told}
 use Rattle.serve_loop.proofs.turning.turn.Goals as goal
 
 pub returns-in-Memory-clause-turn : goal.returns-in-Memory-clause-turn
-returns-in-Memory-clause-turn g c = breaks_none _ _ _ _ _ c.in-Memory.ensures.gives
+returns-in-Memory-clause-turn g c = breaks_none _ _ _ _ _ c.in-Memory.ensures.gives.same
+
+pub returns-in-Memory-clause-memory : goal.returns-in-Memory-clause-memory
+returns-in-Memory-clause-memory g c = λ is. inl c.in-Memory.ensures.gives.wanted
+
+pub returns-in-Ok-clause-memory : goal.returns-in-Ok-clause-memory
+returns-in-Ok-clause-memory g c = λ is. absurd (event_is_told c.in-Event.event (sym c.told_of.ensures ∙ is))
+
+pub returns-clause-memory : goal.returns-clause-memory
+returns-clause-memory g c = λ is.
+    wanting_later _ (g.W.Wire.state c.args.wire.now) (g.W.Wire.state c.next.new.self) (g.W.Wire.state c.take_event.new.wire) c.next.ensures.wanted c.in-Err.ensures.memory
 
 pub returns-in-Ok-clause-turn : goal.returns-in-Ok-clause-turn
 returns-in-Ok-clause-turn g c =

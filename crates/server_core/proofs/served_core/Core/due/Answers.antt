@@ -2,10 +2,9 @@ use Rattle.std.proofs.Common.{◌∙◌, sym, subst}
 use Rattle.server_core.specs.ServerView.{view_of}
 use Rattle.server_core.specs.Serves.{CoreView, Serves}
 use Rattle.server_core.proofs.NumbersDue.{due_numbers_are}
-use Rattle.server_core.proofs.ReloadLemmas.{if_ok}
 use Rattle.server_core.proofs.served_core.Core.due.Goals as goal
 
-pub returns : goal.returns
-returns g c = if_ok c.due.result (λ numbers e. λ x s.
+pub returns-in-Ok-clause-due : goal.returns-in-Ok-clause-due
+returns-in-Ok-clause-due g c = λ x s.
     let here = subst (λ (v : CoreView). Serves v x) (sym c.self.view_is) s in
-    e ∙ due_numbers_are (view_of c.self.inside.server) (g.S.Sources.waves c.self.inside.signals) x here.server) c.due.ensures
+    c.in-Ok.ensures ∙ due_numbers_are (view_of c.self.inside.server) (g.S.Sources.waves c.self.inside.signals) x here.server

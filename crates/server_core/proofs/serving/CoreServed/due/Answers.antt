@@ -1,9 +1,13 @@
 use Rattle.std.proofs.Common.{ℕ, List, sym, subst}
 use Rattle.ads_served.specs.Due.{LeavesOutIdle}
 use Rattle.ads_served.proofs.DueLemmas.{leaves_out_idle}
+use Rattle.server_core.specs.Serves.{CoreView, StandsAt}
 use Rattle.server_core.proofs.ReloadLemmas.{if_ok}
 use Rattle.server_core.proofs.serving.CoreServed.due.Goals as goal
 
-pub returns : goal.returns
-returns g c = if_ok c.due.result (λ numbers e. λ x s.
-    subst (λ (ns : List ℕ). LeavesOutIdle x.running ns) (sym (e x.running s.serves)) (leaves_out_idle x.running)) c.due.ensures
+pub returns-clause-due : goal.returns-clause-due
+returns-clause-due g c = if_ok c.due.result (λ numbers e. λ x s.
+    subst (λ (ns : List ℕ). LeavesOutIdle x.running ns) (sym (e x.running s.serves)) (leaves_out_idle x.running)) c.due.ensures.due
+
+pub returns-clause-stays : goal.returns-clause-stays
+returns-clause-stays g c = if_ok c.due.result (λ numbers same. λ x s. subst (λ (v : CoreView). StandsAt v x) (sym same) s) c.due.ensures.stays
