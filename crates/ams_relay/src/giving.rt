@@ -16,6 +16,7 @@ use ams_tcp::put_frame;
 use out_queue::Pushed;
 use return_codes::Code;
 use std::alloc::Global;
+use std::mem;
 
 // The command of a notification.
 pub(crate) const DEVICE_NOTIFICATION: u16 = 8;
@@ -39,14 +40,17 @@ impl Router {
         if self.peers[i].closing {
             return Ok(false);
         }
-        let mut frame = Octets::new(alloc);
+        let mut frame = mem::replace(&mut self.frame, Octets::new(alloc));
+        frame.cut(0);
         put_frame(alloc, packet, &mut frame)?;
         match self.peers[i].out.push(alloc, frame.as_slice())? {
             Pushed::Done => {
+                self.frame = frame;
                 self.touched = self.touched.with(number);
                 Ok(true)
             }
             Pushed::Over => {
+                self.frame = frame;
                 self.close(number);
                 Ok(false)
             }

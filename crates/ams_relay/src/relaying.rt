@@ -4,10 +4,11 @@ ghost use Rattle.std.specs.Prelude.{◌≡◌, ◌≢◌, ◌≤◌};
 ghost use Rattle.ads_outside.specs.Rose.{Rose, raised};
 ghost use Rattle.serve_loop.specs.ToldLog.{WhereTold, LogsOffers, LogsTurns};
 ghost use Rattle.serve_loop.specs.TurnTaken.{StandsOver, AfterServe, GaveEvents};
+ghost use Rattle.serve_loop.specs.Wanting.{WasWanting};
 ghost use Rattle.spec_plant.specs.Description.{Description};
 ghost use Rattle.spec_relay.specs.RelayState.{relay_start};
 ghost use Rattle.spec_relay.specs.RelayMoves.{relay_after_event};
-ghost use Rattle.ams_relay.specs.Relays.{RelayStanding, StandsAt, LogsPromises, nothing_noted, standing_at_start};
+ghost use Rattle.ams_relay.specs.Relays.{RelayStanding, StandsAt, HasFailed, LogsPromises, nothing_noted, standing_at_start};
 
 use crate::Relay;
 use ads_outside::{End, Wire};
@@ -41,6 +42,8 @@ pub fn relay<T: Threads + Sync, W: Wire>(
     ensures no_link_fault { result ≢ End.LinkFault → (W.state wire.new).history.stops ≡ (W.state wire.old).history.stops }
     ensures kept { W.kept wire.new ≡ W.kept wire.old }
     ensures later { (W.state wire.old).faults ≤ (W.state wire.new).faults }
+    ensures wanted { (W.state wire.old).wants ≤ (W.state wire.new).wants }
+    ensures memory { result ≡ End.Memory → WasWanting (HasFailed r.new) (W.state wire.old) (W.state wire.new) }
 {
     serve(rt, alloc, r, wire, limit)
 }

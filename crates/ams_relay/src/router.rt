@@ -11,7 +11,7 @@ ghost use Rattle.ams_relay.specs.Relays.{RelayStanding, StandsAt, standing_at_st
 use crate::RelaySummary;
 use crate::peer::Peer;
 use crate::touched::Touched;
-use ads_base::NoMemory;
+use ads_base::{NoMemory, Octets};
 use indexmap::IndexMap;
 use net_routes::Routes;
 use std::alloc::Global;
@@ -28,6 +28,8 @@ pub(crate) struct Router {
     pub(crate) counts: RelaySummary,
     /// Who may have something to be offered, or is to be shut.
     pub(crate) touched: Touched,
+    /// The room of the frame that was given last, for the next one.
+    pub(crate) frame: Octets,
 }
 
 impl Router {
@@ -45,6 +47,7 @@ impl Router {
             owners: IndexMap::new(alloc),
             counts: RelaySummary::nothing(),
             touched: Touched::Nothing,
+            frame: Octets::new(alloc),
         }
     }
 

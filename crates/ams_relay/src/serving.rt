@@ -57,8 +57,14 @@ impl Served for Relay {
         self.router.number(n)
     }
 
-    fn due(&self, alloc: Global) -> Result<ListOf<u32>, NoMemory> {
-        self.router.due(alloc)
+    fn due(&mut self, alloc: Global) -> Result<ListOf<u32>, NoMemory> {
+        match self.router.due(alloc) {
+            Ok(numbers) => Ok(numbers),
+            Err(NoMemory) => {
+                self.failed = true;
+                Err(NoMemory)
+            }
+        }
     }
 
     fn offer_of(&self, conn: u32) -> Option<&[u8]> {

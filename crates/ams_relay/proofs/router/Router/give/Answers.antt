@@ -31,7 +31,7 @@ returns-in-Done-clause-follows c = λ b s h.
     let place = c.in-Some.ensures.found in
     let was : peer_in n old.peers.entries ≡ Some p = place.value ∙ c.index_mut.ensures.value in
     let is_open : p.closing ≡ false = sym (ap (λ (x : Peer). x.closing) (some_same c.index.result.now p (sym c.index.ensures ∙ c.index_mut.ensures.value))) ∙ c.if-index.false in
-    let frame : c.as_slice.result.now ≡ frame_bytes packet = c.as_slice.ensures ∙ c.in_ok-put_frame.ensures.ok ∙ ap (λ xs. xs ++ frame_bytes packet) c.new-frame.ensures in
+    let frame : c.as_slice.result.now ≡ frame_bytes packet = c.as_slice.ensures ∙ c.in_ok-put_frame.ensures.ok ∙ ap (λ xs. xs ++ frame_bytes packet) c.cut.ensures in
     let room : queued p.out + length c.as_slice.result.now ≤ 4194304 = elim (cases_lt 4194304 (queued p.out + length c.as_slice.result.now)) [
       | inl over ↦ absurd (let both = sym c.in-Done.is ∙ c.in_ok-push.ensures.over.1 over in cc)
       | inr fits ↦ fits
@@ -45,8 +45,8 @@ returns-in-Done-clause-follows c = λ b s h.
       given_fitting n b packet p q old _ s h was is_open room_f (frame_some packet) is sets refl refl refl (idle_touched n q old.peers.entries _ old.touched c.with-self.result sets c.with-self.ensures h.idle),
     )
 
-pub returns-clause-follows : goal.returns-clause-follows
-returns-clause-follows c = λ b s h.
+pub returns-in-Over-clause-follows : goal.returns-in-Over-clause-follows
+returns-in-Over-clause-follows c = λ b s h.
     let old = c.args.self.now in
     let n = c.args.number in
     let packet = c.args.packet.now in
@@ -54,7 +54,7 @@ returns-clause-follows c = λ b s h.
     let place = c.in-Some.ensures.found in
     let was : peer_in n old.peers.entries ≡ Some p = place.value ∙ c.index_mut.ensures.value in
     let is_open : p.closing ≡ false = sym (ap (λ (x : Peer). x.closing) (some_same c.index.result.now p (sym c.index.ensures ∙ c.index_mut.ensures.value))) ∙ c.if-index.false in
-    let frame : c.as_slice.result.now ≡ frame_bytes packet = c.as_slice.ensures ∙ c.in_ok-put_frame.ensures.ok ∙ ap (λ xs. xs ++ frame_bytes packet) c.new-frame.ensures in
+    let frame : c.as_slice.result.now ≡ frame_bytes packet = c.as_slice.ensures ∙ c.in_ok-put_frame.ensures.ok ∙ ap (λ xs. xs ++ frame_bytes packet) c.cut.ensures in
     let over : 4194304 < queued p.out + length (frame_bytes packet) = subst (λ (f : List ℕ). 4194304 < queued p.out + length f) frame (c.in_ok-push.ensures.over.0 c.in-Over.is) in
     let q : Peer = record p { out = c.push.new.self } in
     let same : q ≡ p = ap (λ (o : List (List ℕ)). record p { out = o }) (c.in_ok-push.ensures.unchanged (ap (λ x. Ok x) c.in-Over.is)) in
