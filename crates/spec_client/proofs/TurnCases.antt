@@ -3,7 +3,7 @@ use Rattle.std.proofs.Common.{◌≡◌, ℕ, zero, suc, ◌≤◌, List, [], �
 use Rattle.std.specs.Prelude.{if◌then◌else◌}
 use Rattle.spec_client.specs.Client.{Client}
 use Rattle.spec_client.specs.Hearing.{next_hearing, hearings_left}
-use Rattle.spec_client.specs.Stages.{Output, Stage, Finished}
+use Rattle.spec_client.specs.Stages.{Output, Stage, Finished, FinishedRecording}
 use Rattle.spec_client.specs.Steps.{after_heard}
 use Rattle.spec_client.specs.Runner.{Runner, Turned, runner_after_hearing, is_not_yet, resting, is_over, given, turn_within, turn}
 use Rattle.spec_client.specs.Laws.{goes_on, turn_hearing, turn_of_stage, turn_by_cases, TurnByCases}
@@ -55,10 +55,12 @@ enough (suc n) (suc m) now c stage [] few many =
 
 over_by_stage : (now : ℕ) (r : Runner) (stage : Stage) → is_over stage ≡ true → resting stage r ≡ turn_of_stage now r stage
 over_by_stage now r (Finished end) e = refl
+over_by_stage now r (FinishedRecording end entries) e = refl
 over_by_stage now r stage e = absurd (let h : false ≡ true = e in cc)
 
 hears_by_stage : (now : ℕ) (r : Runner) (stage : Stage) → is_over stage ≡ false → turn_of_stage now r stage ≡ turn_hearing now r (next_hearing r.client)
 hears_by_stage now r (Finished end) e = absurd (let h : true ≡ false = e in cc)
+hears_by_stage now r (FinishedRecording end entries) e = absurd (let h : true ≡ false = e in cc)
 hears_by_stage now r stage e = refl
 
 -- behind something that was heard there are turns enough

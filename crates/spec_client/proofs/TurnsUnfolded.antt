@@ -7,7 +7,7 @@ use Rattle.spec_formats.specs.Request.{Request}
 use Rattle.spec_client.specs.Heard.{Heard, Answered, Sampled, Ended, Stray, TimedOut, NotYet, Broken}
 use Rattle.spec_client.specs.Client.{Client, is_full, next_id, with_request, client_after_issue}
 use Rattle.spec_client.specs.Hearing.{Hearing, next_hearing, hearings_left}
-use Rattle.spec_client.specs.Stages.{Output, ToSend, ToPrint, Stage, Finished}
+use Rattle.spec_client.specs.Stages.{Output, ToSend, ToPrint, ToKeep, CallEnd, BadPeer, Stage, Records, Finished, FinishedRecording, ended_at}
 use Rattle.spec_client.specs.Steps.{after_heard}
 use Rattle.spec_client.specs.Runner.{Runner, Wait, Turned, turned, Turns, runner_after_hearing, is_not_yet, given, resting, is_over, turn_within, after_step, all_given, joined, turns_within, turns}
 use Rattle.spec_client.specs.Unanswered.{Unanswered, is_timed_out}
@@ -27,16 +27,19 @@ given_left : (now : ℕ) (o : Output) (r : Runner) → hearings_left (given now 
 unfolding given client_after_issue
 given_left now (ToSend request) r = either_left r.client (next_id r.client) request now (is_full r.client)
 given_left now (ToPrint text) r = refl
+given_left now (ToKeep row) r = refl
 
 given_stage : (now : ℕ) (o : Output) (r : Runner) → (given now o r).runner.stage ≡ r.stage
 unfolding given
 given_stage now (ToSend request) r = refl
 given_stage now (ToPrint text) r = refl
+given_stage now (ToKeep row) r = refl
 
 given_pending : (now : ℕ) (o : Output) (r : Runner) → (given now o r).runner.pending ≡ r.pending
 unfolding given
 given_pending now (ToSend request) r = refl
 given_pending now (ToPrint text) r = refl
+given_pending now (ToKeep row) r = refl
 
 all_left : (now : ℕ) (os : List Output) (r : Runner) → hearings_left (all_given now os r).runner.client ≡ hearings_left r.client
 unfolding all_given
@@ -54,10 +57,14 @@ unfolding turns_within
 finished zero now r e = refl
 finished (suc n) now r e = rw e refl
 
+ended_is_over : (stage : Stage) (end : CallEnd) → (is_over (ended_at stage end).stage ≡ true) × ((ended_at stage end).outputs ≡ [])
+ended_is_over (Records wait r) end = (refl, refl)
+ended_is_over stage end = (refl, refl)
+
 broken_is_over : (stage : Stage) (h : Heard) → goes_on h ≡ false → is_not_yet h ≡ false
     → (is_over (after_heard stage h).stage ≡ true) × ((after_heard stage h).outputs ≡ [])
 unfolding after_heard
-broken_is_over stage (Broken p) ends waits = (refl, refl)
+broken_is_over stage (Broken p) ends waits = ended_is_over stage (BadPeer p)
 broken_is_over stage NotYet ends waits = absurd (let e : true ≡ false = waits in cc)
 broken_is_over stage (Answered id error command payload) ends waits = absurd (let e : true ≡ false = ends in cc)
 broken_is_over stage (Sampled handle time bytes) ends waits = absurd (let e : true ≡ false = ends in cc)
@@ -134,6 +141,9 @@ unfolding turns_within all_given given
 given_first n now c stage (ToSend request) os =
     let t = giving now c stage os (ToSend request) in
     pulled (is_over stage) (is_not_yet (heard_by now t.runner).heard) t (all_given now os t.runner) (turns_within n now (behind now t.runner)) (behind now t.runner)
+given_first n now c stage (ToKeep row) os =
+    let t = giving now c stage os (ToKeep row) in
+    pulled (is_over stage) (is_not_yet (heard_by now t.runner).heard) t (all_given now os t.runner) (turns_within n now (behind now t.runner)) (behind now t.runner)
 given_first n now c stage (ToPrint text) os =
     let t = giving now c stage os (ToPrint text) in
     pulled (is_over stage) (is_not_yet (heard_by now t.runner).heard) t (all_given now os t.runner) (turns_within n now (behind now t.runner)) (behind now t.runner)
@@ -143,14 +153,17 @@ steps_behind : (now : ℕ) (o : Output) (r : Runner)
 unfolding given
 steps_behind now (ToSend request) r = refl
 steps_behind now (ToPrint text) r = refl
+steps_behind now (ToKeep row) r = refl
 
 pub waiting : (stage : Stage) (r : Runner) → is_over stage ≡ false → resting stage r ≡ turned Wait r
 waiting (Finished end) r e = absurd (let h : true ≡ false = e in cc)
+waiting (FinishedRecording end entries) r e = absurd (let h : true ≡ false = e in cc)
 waiting stage r e = refl
 
 over_rests : (now : ℕ) (stage : Stage) (r : Runner) → is_over stage ≡ true
     → turns_behind now (resting stage r).step (resting stage r).runner ≡ record { steps = []; runner = r }
 over_rests now (Finished end) r e = refl
+over_rests now (FinishedRecording end entries) r e = refl
 over_rests now stage r e = absurd (let h : false ≡ true = e in cc)
 
 abbrev Unfolds : ℕ → ℕ → Runner → Type 0

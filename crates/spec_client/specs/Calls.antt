@@ -27,6 +27,8 @@ pub data Call : Type 0 where
   Symbols : Call
   Watch : (name : List ℕ) → Watching → Call
   Show : (name : List ℕ) → Call
+  -- the rows have the numbers from a first one on
+  Record : (names : List (List ℕ)) → Watching → (first : ℕ) → Call
 
 -- This project's own choice: the greatest read length of an entry, and the greatest size of a symbol.
 abbrev pub ENTRY_LEN : ℕ

@@ -2,9 +2,10 @@
 use Rattle.std.specs.Prelude.{ℕ, ◌+◌, List, [], ◌∷◌, ◌++◌, ◌==◌, ◌||◌, if◌then◌else◌, Option, Some, None}
 use Rattle.ads_base.specs.declared.peer.Peer.TheVariants as peer
 use Rattle.spec_formats.specs.Header.{AmsAddress}
+use Rattle.spec_samples.specs.Row.{Row}
 use Rattle.spec_client.specs.Calls.{Call}
-use Rattle.spec_client.specs.Stages.{CallEnd, BadPeer, Stage, Finished}
-use Rattle.spec_client.specs.Runner.{Runner, new_runner, runner_after_feed, runner_after_tick, CallStep, Send, Print, Turns, turns}
+use Rattle.spec_client.specs.Stages.{CallEnd, BadPeer, Stage, Finished, FinishedRecording}
+use Rattle.spec_client.specs.Runner.{Runner, new_runner, runner_after_feed, runner_after_tick, CallStep, Send, Print, Keep, Turns, turns}
 
 -- an answer of a link, with its moment
 pub data LinkAnswer : Type 0 where
@@ -28,6 +29,8 @@ pub record Conversation : Type 0 where
   pub quiet : ℕ
   pub sent : List Sent
   pub text : List ℕ
+  -- the rows that were given to be kept
+  pub kept : List Row
   pub end : Option LoopEnd
 
 -- This project's own choice: a call ends after so many answers of Quiet in a row, or so many answers in all.
@@ -63,8 +66,14 @@ printed_by [] = []
 printed_by (Print text ∷ steps) = text ++ printed_by steps
 printed_by (step ∷ steps) = printed_by steps
 
+abbrev pub kept_by : List CallStep → List Row
+kept_by [] = []
+kept_by (Keep row ∷ steps) = row ∷ kept_by steps
+kept_by (step ∷ steps) = kept_by steps
+
 abbrev pub end_of_stage : Stage → Option LoopEnd
 end_of_stage (Finished end) = Some (CallEnded end)
+end_of_stage (FinishedRecording end entries) = Some (CallEnded end)
 end_of_stage stage = None
 
 unfoldable pub conversation_after_turns : Conversation → Turns → Conversation
@@ -72,6 +81,7 @@ conversation_after_turns c ts = record c {
   runner = ts.runner;
   sent = c.sent ++ sent_by c.answers ts.steps;
   text = c.text ++ printed_by ts.steps;
+  kept = c.kept ++ kept_by ts.steps;
   end = end_of_stage ts.runner.stage;
 }
 
@@ -83,6 +93,7 @@ conversation_begun me peer call now = conversation_after_turns (record {
   quiet = 0;
   sent = [];
   text = [];
+  kept = [];
   end = None;
 }) (turns now (new_runner me peer call))
 

@@ -3,7 +3,7 @@ use Rattle.std.specs.Prelude.{◌≡◌, ℕ, ◌<◌, [], Bool, true, false, Li
 use Rattle.spec_client.specs.Heard.{Heard, NotYet, Broken}
 use Rattle.spec_client.specs.Client.{Client}
 use Rattle.spec_client.specs.Hearing.{Hearing, next_hearing, hearings_left}
-use Rattle.spec_client.specs.Stages.{Output, Stage, Finished}
+use Rattle.spec_client.specs.Stages.{Output, Stage, Finished, FinishedRecording}
 use Rattle.spec_client.specs.Runner.{Runner, CallStep, Wait, Over, Turned, turned, given, is_not_yet, runner_after_hearing, turn, Turns, turns, after_step}
 
 -- something was heard behind which more may be heard
@@ -25,6 +25,7 @@ turn_hearing now r x =
 -- a turn with nothing to give
 abbrev pub turn_of_stage : ℕ → Runner → Stage → Turned
 turn_of_stage now r (Finished end) = turned (Over end) r
+turn_of_stage now r (FinishedRecording end entries) = turned (Over end) r
 turn_of_stage now r stage = turn_hearing now r (next_hearing r.client)
 
 abbrev pub turn_by_cases : ℕ → Runner → List Output → Turned

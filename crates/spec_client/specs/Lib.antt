@@ -12,9 +12,11 @@ pub mod Leaves
 pub mod LeafTypes
 pub mod Stages
 pub mod Entries
+pub mod Recordings
 pub mod Replies
 pub mod Steps
 pub mod Runner
+pub mod TotalLines
 pub mod Conversation
 pub mod CallOver
 pub mod EndLines

@@ -11,7 +11,8 @@ use Rattle.spec_client.specs.Entries.{one_entry_in, entries_in, types_in}
 use Rattle.spec_client.specs.Leaves.{Leaf, leaves_of, leaf_line}
 use Rattle.spec_client.specs.LeafTypes.{is_sound_text}
 use Rattle.spec_client.specs.Printed.{line, ok_line, facts_line, state_line, entry_line}
-use Rattle.spec_client.specs.Stages.{Refused, BadValue, ToSend, ToPrint, Purpose, ToGet, ToSet, ToWatch, ToShow, Stage, AwaitsFacts, AwaitsState, AwaitsLast, AwaitsEntry, AwaitsValue, AwaitsHandle, AwaitsWrite, AwaitsUploadInfo, AwaitsUpload, AwaitsNotification, Watches, AwaitsTypeInfo, AwaitsTypes, AwaitsLeaves, Progress, progress, stay, ended, done_with, bad_text}
+use Rattle.spec_client.specs.Stages.{Refused, BadValue, ToSend, ToPrint, Purpose, ToGet, ToSet, ToWatch, ToShow, RecordWait, ForEntry, ForNotification, ForDeletion, Recording, Stage, AwaitsFacts, AwaitsState, AwaitsLast, AwaitsEntry, AwaitsValue, AwaitsHandle, AwaitsWrite, AwaitsUploadInfo, AwaitsUpload, AwaitsNotification, Watches, AwaitsTypeInfo, AwaitsTypes, AwaitsLeaves, Records, Progress, progress, stay, ended, ended_at, done_with, bad_text}
+use Rattle.spec_client.specs.Recordings.{after_record_entry, after_notification, after_deletion}
 use Rattle.spec_client.specs.ValueReading.{value_of_text}
 
 -- the bytes that a reply gives, where it gives bytes
@@ -86,6 +87,13 @@ after_leaves size leaves bytes payload =
     if length bytes == size then done_with (map (λ l. ToPrint (leaf_line bytes l)) leaves)
     else ended (bad_text payload)
 
+-- what a reply with the result 0 leads to in a recording
+abbrev pub after_record_reply : RecordWait → Recording → Reply → List ℕ → Progress
+after_record_reply ForEntry r reply payload = after_record_entry r (one_entry_in (bytes_given reply)) payload
+after_record_reply (ForNotification name) r reply payload = after_notification r (handle_given reply) name
+after_record_reply (ForDeletion left) r reply payload = after_deletion left r
+after_record_reply wait r reply payload = stay (Records wait r)
+
 -- what a reply with the result 0 leads to
 unfoldable pub after_reply : Stage → Reply → List ℕ → Progress
 after_reply AwaitsFacts reply payload = done_with (ToPrint (facts_given reply) ∷ [])
@@ -103,14 +111,15 @@ after_reply (AwaitsNotification e watching) reply payload = stay (Watches e (han
 after_reply (AwaitsTypeInfo name e) reply payload = after_type_info name e (bytes_given reply) payload
 after_reply (AwaitsTypes name e count) reply payload = after_types name e (types_in count (bytes_given reply)) payload
 after_reply (AwaitsLeaves size leaves) reply payload = after_leaves size leaves (bytes_given reply) payload
+after_reply (Records wait r) reply payload = after_record_reply wait r reply payload
 after_reply stage reply payload = stay stage
 
 abbrev pub after_reply_read : Stage → Option Reply → List ℕ → Progress
-after_reply_read stage None payload = ended (bad_text payload)
+after_reply_read stage None payload = ended_at stage (bad_text payload)
 after_reply_read stage (Some reply) payload =
-    if result_of reply == 0 then after_reply stage reply payload else ended (Refused (result_of reply))
+    if result_of reply == 0 then after_reply stage reply payload else ended_at stage (Refused (result_of reply))
 
 -- an answer with an AMS error or a result refuses
 unfoldable pub after_answer : Stage → ℕ → Option Reply → List ℕ → Progress
 after_answer stage error reply payload =
-    if error == 0 then after_reply_read stage reply payload else ended (Refused error)
+    if error == 0 then after_reply_read stage reply payload else ended_at stage (Refused error)

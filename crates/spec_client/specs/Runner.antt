@@ -1,11 +1,12 @@
 -- A call that runs: its client, where it stands, and what it gives, one step a turn.
 use Rattle.std.specs.Prelude.{ℕ, zero, suc, List, [], ◌∷◌, ◌++◌, Bool, true, false, if◌then◌else◌}
 use Rattle.spec_formats.specs.Header.{AmsAddress}
+use Rattle.spec_samples.specs.Row.{Row}
 use Rattle.spec_client.specs.Heard.{Heard, NotYet}
 use Rattle.spec_client.specs.Client.{Client, new_client, next_id, request_frame, client_after_issue, client_after_feed, client_after_tick}
 use Rattle.spec_client.specs.Hearing.{Hearing, next_hearing, hearings_left}
 use Rattle.spec_client.specs.Calls.{Call}
-use Rattle.spec_client.specs.Stages.{CallEnd, Output, ToSend, ToPrint, Stage, Finished, Progress}
+use Rattle.spec_client.specs.Stages.{CallEnd, Output, ToSend, ToPrint, ToKeep, Stage, Finished, FinishedRecording, Progress}
 use Rattle.spec_client.specs.Steps.{begun, after_heard}
 
 pub record Runner : Type 0 where
@@ -14,10 +15,11 @@ pub record Runner : Type 0 where
   -- what it gives before it hears anything more
   pub pending : List Output
 
--- a step: bytes to send, text to print, a wait for more bytes, or the call's end
+-- a step: bytes to send, text to print, a row to keep, a wait for more bytes, or the call's end
 pub data CallStep : Type 0 where
   Send : List ℕ → CallStep
   Print : List ℕ → CallStep
+  Keep : Row → CallStep
   Wait : CallStep
   Over : CallEnd → CallStep
 
@@ -53,14 +55,17 @@ unfoldable pub given : ℕ → Output → Runner → Turned
 given now (ToSend request) r =
     turned (Send (request_frame r.client (next_id r.client) request)) (record r { client = client_after_issue r.client request now })
 given now (ToPrint text) r = turned (Print text) r
+given now (ToKeep row) r = turned (Keep row) r
 
 -- a runner that gives nothing is over, or it waits
 abbrev pub resting : Stage → Runner → Turned
 resting (Finished end) r = turned (Over end) r
+resting (FinishedRecording end entries) r = turned (Over end) r
 resting stage r = turned Wait r
 
 abbrev pub is_over : Stage → Bool
 is_over (Finished end) = true
+is_over (FinishedRecording end entries) = true
 is_over stage = false
 
 -- what is given first, or else what follows

@@ -6,9 +6,10 @@ use Rattle.spec_formats.specs.SymbolEntry.{SymbolEntry}
 use Rattle.spec_formats.specs.ValueText.{value_text}
 use Rattle.spec_client.specs.Heard.{Heard, Answered, Sampled, Ended, Broken}
 use Rattle.spec_client.specs.Heard as heard
-use Rattle.spec_client.specs.Calls.{Call, Info, State, Control, Get, Set, Symbols, Watch, Show, entry_request, upload_info_request}
+use Rattle.spec_client.specs.Calls.{Call, Info, State, Control, Get, Set, Symbols, Watch, Show, Record, entry_request, upload_info_request}
 use Rattle.spec_client.specs.Printed.{ok_line, ended_line, sample_line}
-use Rattle.spec_client.specs.Stages.{BadPeer, TimedOut, ToSend, ToPrint, ToGet, ToSet, ToWatch, ToShow, Stage, AwaitsFacts, AwaitsState, AwaitsLast, AwaitsEntry, AwaitsUploadInfo, Watches, Progress, progress, stay, ended, done_with}
+use Rattle.spec_client.specs.Stages.{BadPeer, TimedOut, ToSend, ToPrint, ToGet, ToSet, ToWatch, ToShow, Stage, AwaitsFacts, AwaitsState, AwaitsLast, AwaitsEntry, AwaitsUploadInfo, Watches, Records, Progress, progress, stay, ended_at, done_with}
+use Rattle.spec_client.specs.Recordings.{recording_begun, recorded_at, after_record_sample, after_record_end}
 use Rattle.spec_client.specs.Replies.{after_answer}
 
 -- behind the last sample the notification is deleted
@@ -25,20 +26,22 @@ after_watched_sample e handle (suc left) time bytes =
 unfoldable pub after_sample : Stage → ℕ → ℕ → List ℕ → Progress
 after_sample (Watches e watched left) handle time bytes =
     if handle == watched then after_watched_sample e watched left time bytes else stay (Watches e watched left)
+after_sample (Records wait r) handle time bytes = after_record_sample wait r time bytes (recorded_at r handle)
 after_sample stage handle time bytes = stay stage
 
--- where the watched notification ends, the call is done
+-- where the watched notification ends, the call is done; a recording goes on without one that ended
 unfoldable pub after_end : Stage → ℕ → Progress
 after_end (Watches e watched left) handle =
     if handle == watched then done_with (ToPrint ended_line ∷ []) else stay (Watches e watched left)
+after_end (Records wait r) handle = after_record_end wait r handle
 after_end stage handle = stay stage
 
 unfoldable pub after_heard : Stage → Heard → Progress
 after_heard stage (Answered id error command payload) = after_answer stage error (reply_of command payload) payload
 after_heard stage (Sampled handle time bytes) = after_sample stage handle time bytes
 after_heard stage (Ended handle) = after_end stage handle
-after_heard stage (heard.TimedOut id sent now) = ended (TimedOut sent now)
-after_heard stage (Broken peer) = ended (BadPeer peer)
+after_heard stage (heard.TimedOut id sent now) = ended_at stage (TimedOut sent now)
+after_heard stage (Broken peer) = ended_at stage (BadPeer peer)
 after_heard stage h = stay stage
 
 -- the first request of a call
@@ -51,3 +54,4 @@ begun (Set name text) = progress (AwaitsEntry (ToSet text) name) (ToSend (entry_
 begun Symbols = progress AwaitsUploadInfo (ToSend upload_info_request ∷ [])
 begun (Watch name watching) = progress (AwaitsEntry (ToWatch watching) name) (ToSend (entry_request name) ∷ [])
 begun (Show name) = progress (AwaitsEntry ToShow name) (ToSend (entry_request name) ∷ [])
+begun (Record names watching first) = recording_begun names watching first

@@ -4,7 +4,7 @@ use Rattle.std.specs.Prelude.{Option, Some, None}
 use Rattle.spec_formats.specs.Header.{AmsAddress}
 use Rattle.spec_client.specs.Calls.{Call}
 use Rattle.spec_client.specs.Hearing.{next_hearing, hearings_left}
-use Rattle.spec_client.specs.Stages.{Output, ToSend, ToPrint, Stage}
+use Rattle.spec_client.specs.Stages.{Output, ToSend, ToPrint, ToKeep, Stage}
 use Rattle.spec_client.specs.Runner.{Runner, new_runner, given, runner_after_hearing, is_over, is_not_yet, Turns, all_given, turns_within, turns}
 use Rattle.spec_client.specs.Conversation.{LinkAnswer, LoopEnd, Conversation, bytes_of, moment_of, runner_after_answer}
 use Rattle.spec_client.specs.Conversation.{with_answer, unless_ended, after_answer_unless, conversation_begun}
@@ -13,7 +13,8 @@ use Rattle.spec_client.specs.CallOver.{conversation_after_all}
 use Rattle.spec_client_laws.specs.Runs.{runner_after_move, OneWaitsOverLinks}
 use Rattle.spec_client_laws.specs.Runs as run
 use Rattle.spec_client_laws.proofs.HearingCases.{if_both, next_case}
-use Rattle.spec_client_laws.proofs.RunLemmas.{sends_of, is_listening, Steady, given_good, heard_steady, move_steady, begun_steady}
+use Rattle.spec_client_laws.proofs.RecordingLemmas.{sends_of, is_listening}
+use Rattle.spec_client_laws.proofs.RunLemmas.{Steady, given_good, heard_steady, move_steady, begun_steady}
 
 -- a runner that has given all, at this stage
 record Given (stage : Stage) (r : Runner) : Type 0 where
@@ -25,11 +26,13 @@ given-pending : (now : ℕ) (output : Output) (r : Runner) → (given now output
 unfolding given
 given-pending now (ToSend request) r = refl
 given-pending now (ToPrint text) r = refl
+given-pending now (ToKeep row) r = refl
 
 given-same : (now : ℕ) (output : Output) (r : Runner) → (given now output r).runner.stage ≡ r.stage
 unfolding given
 given-same now (ToSend request) r = refl
 given-same now (ToPrint text) r = refl
+given-same now (ToKeep row) r = refl
 
 gives_all : (now : ℕ) (outputs : List Output) (r : Runner) → r.pending ≡ outputs → Steady r → Given r.stage (all_given now outputs r).runner
 unfolding all_given

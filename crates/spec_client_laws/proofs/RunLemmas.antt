@@ -15,15 +15,16 @@ use Rattle.spec_client.specs.Heard.{Heard, Answered, Sampled, Ended, Stray, Time
 use Rattle.spec_client.specs.Unanswered.{Unanswered, is_outstanding_at, is_timed_out_at, outstanding_count, after_tick_of, without_first}
 use Rattle.spec_client.specs.Client.{Client, next_id, request_frame, is_full, client_after_issue, client_after_tick}
 use Rattle.spec_client.specs.Hearing.{Hearing, next_hearing, hearings_left}
-use Rattle.spec_client.specs.Calls.{Call, Info, State, Control, Get, Set, Symbols, Watch, Show}
+use Rattle.spec_client.specs.Calls.{Call, Info, State, Control, Get, Set, Symbols, Watch, Show, Record}
 use Rattle.spec_client.specs.Entries.{one_entry_in, entries_in, types_in}
 use Rattle.spec_client.specs.LeafTypes.{is_sound_text}
-use Rattle.spec_client.specs.Stages.{CallEnd, Output, ToSend, ToPrint, Purpose, ToGet, ToSet, ToWatch, ToShow, Stage}
+use Rattle.spec_client.specs.Stages.{CallEnd, Output, ToSend, ToPrint, ToKeep, Purpose, ToGet, ToSet, ToWatch, ToShow, Stage}
 use Rattle.spec_client.specs.Stages.{AwaitsFacts, AwaitsState, AwaitsLast, AwaitsEntry, AwaitsValue, AwaitsHandle}
 use Rattle.spec_client.specs.Stages.{AwaitsWrite, AwaitsUploadInfo, AwaitsUpload, AwaitsNotification, Watches}
-use Rattle.spec_client.specs.Stages.{AwaitsTypeInfo, AwaitsTypes, AwaitsLeaves, Finished, Progress, stay}
+use Rattle.spec_client.specs.Stages.{AwaitsTypeInfo, AwaitsTypes, AwaitsLeaves, RecordWait, ForSamples, Recording, Records, Finished, FinishedRecording, Progress, stay, ended_at}
 use Rattle.spec_client.specs.Replies.{bytes_given, handle_given, after_value_read, after_entry, after_entry_read}
 use Rattle.spec_client.specs.Replies.{after_upload, after_types, after_reply, after_answer}
+use Rattle.spec_client.specs.Recordings.{recorded_at}
 use Rattle.spec_client.specs.Steps.{with_samples_left, after_watched_sample, after_sample, after_end, after_heard, begun}
 use Rattle.spec_client.specs.ValueReading.{value_of_text}
 use Rattle.spec_client.specs.Runner.{Runner, CallStep, Send, Wait, Turned, new_runner, given, resting, is_over}
@@ -34,41 +35,46 @@ use Rattle.spec_client_laws.specs.Runs.{is_known, TakesKnown, TakesGivenAfter, P
 use Rattle.spec_client_laws.specs.Runs as run
 use Rattle.spec_client_laws.proofs.CountLemmas.{asked-any}
 use Rattle.spec_client_laws.proofs.HearingCases.{if_both, EndsNone, HearingCase, next_case}
+use Rattle.spec_client_laws.proofs.RecordingLemmas.{sends_of, rows_in, is_listening, RecordsOn, reply_on, sample_on, end_on, begins_on}
 
--- how many requests are to be sent
-abbrev pub sends_of : List Output → ℕ
-sends_of [] = 0
-sends_of (ToSend request ∷ outputs) = suc (sends_of outputs)
-sends_of (ToPrint text ∷ outputs) = sends_of outputs
+abbrev pub is_recording : Stage → Bool
+is_recording (Records wait r) = true
+is_recording stage = false
 
-abbrev pub is_listening : Stage → Bool
-is_listening (Watches e handle left) = true
-is_listening stage = false
-
--- a progress that sends one request at most, and does not listen
+-- a progress that sends one request at most, does not listen, and is no recording's that goes on
 pub record Plain (p : Progress) : Type 0 where
   pub other : is_listening p.stage ≡ false
+  pub apart : is_recording p.stage ≡ false
   pub few : sends_of p.outputs ≤ 1
+  pub none : rows_in p.outputs ≡ []
+
+pub plain_ended : (stage : Stage) (end : CallEnd) → Plain (ended_at stage end)
+plain_ended (Records wait r) end = record { other = refl; apart = refl; few = omega arith; none = refl }
+plain_ended stage end = record { other = refl; apart = refl; few = omega arith; none = refl }
 
 plain_end : (end : CallEnd) → Plain (record { stage = Finished end; outputs = [] })
-plain_end end = record { other = refl; few = omega arith }
+plain_end end = record { other = refl; apart = refl; few = omega arith; none = refl }
 
 prints_only : {A : Type 0} (f : A → List ℕ) (xs : List A) → sends_of (map (λ x. ToPrint (f x)) xs) ≡ 0
 prints_only f [] = refl
 prints_only f (x ∷ xs) = prints_only f xs
 
+keeps_none : {A : Type 0} (f : A → List ℕ) (xs : List A) → rows_in (map (λ x. ToPrint (f x)) xs) ≡ []
+keeps_none f [] = refl
+keeps_none f (x ∷ xs) = keeps_none f xs
+
 plain_prints : {A : Type 0} (end : CallEnd) (f : A → List ℕ) (xs : List A) → Plain (record { stage = Finished end; outputs = map (λ x. ToPrint (f x)) xs })
-plain_prints end f xs = let e = prints_only f xs in record { other = refl; few = omega (arith, e) }
+plain_prints end f xs = let e = prints_only f xs in record { other = refl; apart = refl; few = omega (arith, e); none = keeps_none f xs }
 
 plain_value : (name : List ℕ) (o : Option (List ℕ)) → Plain (after_value_read name o)
 plain_value name None = plain_end _
-plain_value name (Some value) = record { other = refl; few = omega arith }
+plain_value name (Some value) = record { other = refl; apart = refl; few = omega arith; none = refl }
 
 plain_entry : (purpose : Purpose) (name : List ℕ) (e : SymbolEntry) → Plain (after_entry purpose name e)
-plain_entry ToGet name e = record { other = refl; few = omega arith }
+plain_entry ToGet name e = record { other = refl; apart = refl; few = omega arith; none = refl }
 plain_entry (ToSet text) name e = plain_value name (value_of_text e.type_id e.size text)
-plain_entry (ToWatch watching) name e = record { other = refl; few = omega arith }
-plain_entry ToShow name e = record { other = refl; few = omega arith }
+plain_entry (ToWatch watching) name e = record { other = refl; apart = refl; few = omega arith; none = refl }
+plain_entry ToShow name e = record { other = refl; apart = refl; few = omega arith; none = refl }
 
 plain_entry_read : (purpose : Purpose) (name : List ℕ) (o : Option SymbolEntry) (payload : List ℕ) → Plain (after_entry_read purpose name o payload)
 plain_entry_read purpose name None payload = plain_end _
@@ -81,7 +87,7 @@ plain_upload (Some entries) payload = plain_prints _ _ entries
 plain_types : (name : List ℕ) (e : SymbolEntry) (o : Option (List TypeEntry)) (payload : List ℕ) → Plain (after_types name e o payload)
 plain_types name e None payload = plain_end _
 plain_types name e (Some types) payload =
-    if_both Plain (is_sound_text types e.size (type_text_of e.type_name)) _ _ (λ t. record { other = refl; few = omega arith }) (λ t. plain_end _)
+    if_both Plain (is_sound_text types e.size (type_text_of e.type_name)) _ _ (λ t. record { other = refl; apart = refl; few = omega arith; none = refl }) (λ t. plain_end _)
 
 -- a reply: a plain progress; or the notification that it gave a handle of is listened to; or nothing changes
 pub record Listens (reply : Reply) (p : Progress) : Type 0 where
@@ -92,36 +98,46 @@ pub record Listens (reply : Reply) (p : Progress) : Type 0 where
 pub record StaysSo (stage : Stage) (p : Progress) : Type 0 where
   pub now : p ≡ stay stage
 
+-- a recording that goes on
+pub record OfRecording (stage : Stage) (reply : Reply) (p : Progress) : Type 0 where
+  pub wait : RecordWait
+  pub recording : Recording
+  pub was : stage ≡ Records wait recording
+  pub on : RecordsOn (handle_given reply ∷ []) recording 0 p
+
 abbrev pub ReplyCase : Stage → Reply → Progress → Type 0
-ReplyCase stage reply p = Plain p ⊎ (Listens reply p ⊎ StaysSo stage p)
+ReplyCase stage reply p = Plain p ⊎ (Listens reply p ⊎ (StaysSo stage p ⊎ OfRecording stage reply p))
 
 plain_last : (text : List ℕ) (reply : Reply) (payload : List ℕ) → Plain (after_reply (AwaitsLast text) reply payload)
 unfolding after_reply
-plain_last [] reply payload = record { other = refl; few = omega arith }
-plain_last (c ∷ cs) reply payload = record { other = refl; few = omega arith }
+plain_last [] reply payload = record { other = refl; apart = refl; few = omega arith; none = refl }
+plain_last (c ∷ cs) reply payload = record { other = refl; apart = refl; few = omega arith; none = refl }
 
 reply_case : (stage : Stage) (reply : Reply) (payload : List ℕ) → ReplyCase stage reply (after_reply stage reply payload)
 unfolding after_reply
-reply_case AwaitsFacts reply payload = inl (record { other = refl; few = omega arith })
-reply_case AwaitsState reply payload = inl (record { other = refl; few = omega arith })
+reply_case AwaitsFacts reply payload = inl (record { other = refl; apart = refl; few = omega arith; none = refl })
+reply_case AwaitsState reply payload = inl (record { other = refl; apart = refl; few = omega arith; none = refl })
 reply_case (AwaitsLast text) reply payload = inl (plain_last text reply payload)
 reply_case (AwaitsEntry purpose name) reply payload = inl (plain_entry_read purpose name (one_entry_in (bytes_given reply)) payload)
 reply_case (AwaitsValue e) reply payload =
-    inl (if_both Plain (length (bytes_given reply) == e.size) _ _ (λ t. record { other = refl; few = omega arith }) (λ t. plain_end _))
+    inl (if_both Plain (length (bytes_given reply) == e.size) _ _ (λ t. record { other = refl; apart = refl; few = omega arith; none = refl }) (λ t. plain_end _))
 reply_case (AwaitsHandle value) reply payload =
-    inl (if_both Plain (length (bytes_given reply) == 4) _ _ (λ t. record { other = refl; few = omega arith }) (λ t. plain_end _))
-reply_case (AwaitsWrite handle) reply payload = inl (record { other = refl; few = omega arith })
+    inl (if_both Plain (length (bytes_given reply) == 4) _ _ (λ t. record { other = refl; apart = refl; few = omega arith; none = refl }) (λ t. plain_end _))
+reply_case (AwaitsWrite handle) reply payload = inl (record { other = refl; apart = refl; few = omega arith; none = refl })
 reply_case AwaitsUploadInfo reply payload =
-    inl (if_both Plain (length (bytes_given reply) == 8) _ _ (λ t. record { other = refl; few = omega arith }) (λ t. plain_end _))
+    inl (if_both Plain (length (bytes_given reply) == 8) _ _ (λ t. record { other = refl; apart = refl; few = omega arith; none = refl }) (λ t. plain_end _))
 reply_case (AwaitsUpload count) reply payload = inl (plain_upload (entries_in count (bytes_given reply)) payload)
 reply_case (AwaitsNotification e watching) reply payload = inr (inl (record { entry = e; left = watching.count; now = refl }))
-reply_case (Watches e handle left) reply payload = inr (inr (record { now = refl }))
+reply_case (Watches e handle left) reply payload = inr (inr (inl (record { now = refl })))
 reply_case (AwaitsTypeInfo name e) reply payload =
-    inl (if_both Plain (length (bytes_given reply) == 24) _ _ (λ t. record { other = refl; few = omega arith }) (λ t. plain_end _))
+    inl (if_both Plain (length (bytes_given reply) == 24) _ _ (λ t. record { other = refl; apart = refl; few = omega arith; none = refl }) (λ t. plain_end _))
 reply_case (AwaitsTypes name e count) reply payload = inl (plain_types name e (types_in count (bytes_given reply)) payload)
 reply_case (AwaitsLeaves size leaves) reply payload =
     inl (if_both Plain (length (bytes_given reply) == size) _ _ (λ t. plain_prints _ _ leaves) (λ t. plain_end _))
-reply_case (Finished end) reply payload = inl (record { other = refl; few = omega arith })
+reply_case (Records wait r) reply payload =
+    inr (inr (inr (record { wait = wait; recording = r; was = refl; on = reply_on wait r reply payload })))
+reply_case (FinishedRecording end entries) reply payload = inl (record { other = refl; apart = refl; few = omega arith; none = refl })
+reply_case (Finished end) reply payload = inl (record { other = refl; apart = refl; few = omega arith; none = refl })
 
 abbrev pub AnswerCase : Stage → Option Reply → Progress → Type 0
 AnswerCase stage None p = Plain p
@@ -129,11 +145,11 @@ AnswerCase stage (Some reply) p = ReplyCase stage reply p
 
 pub answer_case : (stage : Stage) (error : ℕ) (o : Option Reply) (payload : List ℕ) → AnswerCase stage o (after_answer stage error o payload)
 unfolding after_answer
-answer_case stage error None payload = if_both Plain (error == 0) _ _ (λ t. plain_end _) (λ t. plain_end _)
+answer_case stage error None payload = if_both Plain (error == 0) _ _ (λ t. plain_ended stage _) (λ t. plain_ended stage _)
 answer_case stage error (Some reply) payload =
     if_both (ReplyCase stage reply) (error == 0) _ _
-    (λ t. if_both (ReplyCase stage reply) (result_of reply == 0) _ _ (λ u. reply_case stage reply payload) (λ u. inl (plain_end _)))
-    (λ t. inl (plain_end _))
+    (λ t. if_both (ReplyCase stage reply) (result_of reply == 0) _ _ (λ u. reply_case stage reply payload) (λ u. inl (plain_ended stage _)))
+    (λ t. inl (plain_ended stage _))
 
 -- a progress over so many requests that wait
 pub record SteadyOver (n : ℕ) (p : Progress) : Type 0 where
@@ -150,10 +166,12 @@ answer_steady : (stage : Stage) (o : Option Reply) (p : Progress) → AnswerCase
 answer_steady stage None p h = plain_steady p h
 answer_steady stage (Some reply) p (inl h) = plain_steady p h
 answer_steady stage (Some reply) p (inr (inl h)) = subst (SteadyOver 0) (sym h.now) (record { few = omega arith; quiet = λ e. refl })
-answer_steady stage (Some reply) p (inr (inr h)) = subst (SteadyOver 0) (sym h.now) (stay_steady stage 0 (omega arith) (λ e. refl))
+answer_steady stage (Some reply) p (inr (inr (inl h))) = subst (SteadyOver 0) (sym h.now) (stay_steady stage 0 (omega arith) (λ e. refl))
+answer_steady stage (Some reply) p (inr (inr (inr h))) = record { few = h.on.few; quiet = h.on.quiet }
 
-end_steady : (end : CallEnd) (n : ℕ) → n ≤ 1 → SteadyOver n (record { stage = Finished end; outputs = [] })
-end_steady end n l = record { few = omega (arith, l); quiet = λ e. absurd (false≢true e) }
+end_steady : (stage : Stage) (end : CallEnd) (n : ℕ) → n ≤ 1 → SteadyOver n (ended_at stage end)
+end_steady (Records wait r) end n l = record { few = omega (arith, l); quiet = λ e. absurd (false≢true e) }
+end_steady stage end n l = record { few = omega (arith, l); quiet = λ e. absurd (false≢true e) }
 
 sample_steady : (e : SymbolEntry) (watched left handle time : ℕ) (bytes : List ℕ) → SteadyOver 0 (after_sample (Watches e watched left) handle time bytes)
 unfolding after_sample
@@ -181,13 +199,17 @@ other_steady stage (Answered id error command payload) n e l q = absurd e
 other_steady stage (TimedOut id sent now) n e l q = absurd e
 other_steady (Watches s watched left) (Sampled handle time bytes) n e l q =
     subst (λ k. SteadyOver k (after_sample (Watches s watched left) handle time bytes)) (sym (q refl)) (sample_steady s watched left handle time bytes)
+other_steady (Records wait r) (Sampled handle time bytes) n e l q =
+    let g = sample_on wait r time bytes (recorded_at r handle) n l q in record { few = g.few; quiet = g.quiet }
 other_steady stage (Sampled handle time bytes) n e l q = stay_steady stage n l q
 other_steady (Watches s watched left) (Ended handle) n e l q =
     subst (λ k. SteadyOver k (after_end (Watches s watched left) handle)) (sym (q refl)) (ended_steady s watched left handle)
+other_steady (Records wait r) (Ended handle) n e l q =
+    let g = end_on wait r handle n l q in record { few = g.few; quiet = g.quiet }
 other_steady stage (Ended handle) n e l q = stay_steady stage n l q
 other_steady stage (Stray id) n e l q = stay_steady stage n l q
 other_steady stage NotYet n e l q = stay_steady stage n l q
-other_steady stage (Broken peer) n e l q = end_steady _ n l
+other_steady stage (Broken peer) n e l q = end_steady stage _ n l
 
 -- requests without one
 
@@ -217,7 +239,7 @@ heard_steady stage c x (inl t) l q =
     let fewer = without-shorter (is_timed_out_at t.request.id) c.unanswered in
     let same = ap length t.left in
     subst (λ h. SteadyOver (length x.client.unanswered) (after_heard stage h)) (sym t.heard)
-    (end_steady _ (length x.client.unanswered) (omega (arith, l, fewer, same)))
+    (end_steady stage _ (length x.client.unanswered) (omega (arith, l, fewer, same)))
 heard_steady stage c x (inr (inl a)) l q =
     let h = a.header in
     let some = list_any (λ (u : Unanswered). is_outstanding_at h.id u && (u.command == h.command)) c.unanswered in
@@ -253,12 +275,20 @@ no_send step e bytes f = let g : Wait ≡ Send bytes = sym e ∙ f in cc
 
 rests : (now : ℕ) (stage : Stage) (r : Runner) → Steady r → GoodTurn now (resting stage r)
 rests now (Finished end) r s = record { steady = s; sends = λ bytes e. cc }
+rests now (FinishedRecording end entries) r s = record { steady = s; sends = λ bytes e. cc }
 rests now stage r s = record { steady = s; sends = λ bytes e. cc }
 
 pub given_good : (now : ℕ) (output : Output) (outputs : List Output) (r : Runner) → r.pending ≡ output ∷ outputs → Steady r
     → GoodTurn now (given now output (record r { pending = outputs }))
 unfolding given client_after_issue
 given_good now (ToPrint text) outputs r e s =
+    let l = s.few in
+    let same = ap sends_of e in
+    record {
+      steady = record { few = omega (arith, l, same); quiet = λ h. let z = s.quiet h in omega (arith, z, same) };
+      sends = λ bytes f. cc;
+    }
+given_good now (ToKeep row) outputs r e s =
     let l = s.few in
     let same = ap sends_of e in
     record {
@@ -320,6 +350,7 @@ begun_steady me peer (Set name text) = record { few = omega arith; quiet = λ e.
 begun_steady me peer Symbols = record { few = omega arith; quiet = λ e. absurd (false≢true e) }
 begun_steady me peer (Watch name watching) = record { few = omega arith; quiet = λ e. absurd (false≢true e) }
 begun_steady me peer (Show name) = record { few = omega arith; quiet = λ e. absurd (false≢true e) }
+begun_steady me peer (Record names watching first) = let g = begins_on names watching first in record { few = g.few; quiet = g.quiet }
 
 pub move_steady : (r : Runner) (m : RunMove) → Steady r → Steady (runner_after_move r m)
 unfolding runner_after_move client_after_tick

@@ -3,6 +3,7 @@
 
 ghost use Rattle.spec_client_laws.specs.Fates.{AnswersAreOfRequests, TimeoutsAreOfRequests, WaitingTimeOutInTime};
 ghost use Rattle.spec_client_laws.specs.Fates.{RequestsEndOnce};
+ghost use Rattle.spec_client_laws.specs.KeptRows.{KeepsCounted};
 ghost use Rattle.spec_client_laws.specs.Runs.{OneWaitsOverLinks, PrintsGivenSamples, SendsOneByOne};
 
 /// Each request is answered at most once, and by a response of its invoke id, its command and its addresses; and where it
@@ -20,7 +21,13 @@ pub fn requests_are_sent_one_by_one()
     ensures links { OneWaitsOverLinks }
 {}
 
-/// A sample at which a call prints or sends anything is of a handle that an answer gave before.
+/// A sample at which a call prints, sends or keeps anything is of a handle that an answer gave before.
 pub fn samples_come_behind_their_handle()
     ensures { PrintsGivenSamples }
+{}
+
+/// The rows that a recording gives to be kept have the numbers from its first one on, each once, and are at most as many as it
+/// was asked for; any other call gives none.
+pub fn kept_rows_are_counted()
+    ensures { KeepsCounted }
 {}

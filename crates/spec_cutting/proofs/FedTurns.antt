@@ -8,7 +8,7 @@ use Rattle.spec_formats.specs.Request.{Request}
 use Rattle.spec_client.specs.Heard.{Heard, Answered, Sampled, Ended, Stray, TimedOut, NotYet, Broken}
 use Rattle.spec_client.specs.Client.{Client, is_full, next_id, with_request, client_after_issue, client_after_feed}
 use Rattle.spec_client.specs.Hearing.{Hearing, next_hearing, hearings_left}
-use Rattle.spec_client.specs.Stages.{Output, ToSend, ToPrint, Stage, Finished, stay}
+use Rattle.spec_client.specs.Stages.{Output, ToSend, ToPrint, ToKeep, Stage, Finished, FinishedRecording, stay}
 use Rattle.spec_client.specs.Steps.{after_heard}
 use Rattle.spec_client.specs.Runner.{Runner, Wait, Turned, turned, Turns, runner_after_hearing, runner_after_feed, is_not_yet, given, is_over, turn, after_step, joined, turns}
 use Rattle.spec_client.specs.Unanswered.{Unanswered, is_timed_out}
@@ -31,6 +31,7 @@ steps_behind : (now : ℕ) (o : Output) (r : Runner)
 unfolding given
 steps_behind now (ToSend request) r = refl
 steps_behind now (ToPrint text) r = refl
+steps_behind now (ToKeep row) r = refl
 
 pub turns_given : (now : ℕ) (c : Client) (stage : Stage) (o : Output) (os : List Output)
     → turns now (at c stage (o ∷ os)) ≡ after_step (given now o (at c stage os)) (turns now (given now o (at c stage os)).runner)
@@ -40,6 +41,7 @@ turns_given now c stage o os =
 over_behind : (now : ℕ) (c : Client) (stage kept : Stage) → is_over stage ≡ true
     → turns_behind now (turn_of_stage now (at c kept []) stage).step (turn_of_stage now (at c kept []) stage).runner ≡ still c kept
 over_behind now c (Finished end) kept over = refl
+over_behind now c (FinishedRecording end entries) kept over = refl
 over_behind now c stage kept over = absurd (let e : false ≡ true = over in cc)
 
 pub turns_over : (now : ℕ) (c : Client) (stage : Stage) → is_over stage ≡ true → turns now (at c stage []) ≡ still c stage
@@ -48,6 +50,7 @@ turns_over now c stage over =
 
 hears : (now : ℕ) (r : Runner) (stage : Stage) → is_over stage ≡ false → turn_of_stage now r stage ≡ turn_hearing now r (next_hearing r.client)
 hears now r (Finished end) on = absurd (let e : true ≡ false = on in cc)
+hears now r (FinishedRecording end entries) on = absurd (let e : true ≡ false = on in cc)
 hears now r stage on = refl
 
 stays : (stage : Stage) (h : Heard) → is_not_yet h ≡ true → after_heard stage h ≡ stay stage
@@ -145,6 +148,9 @@ holds now P by (suc n) c stage (ToSend request ∷ os) few =
 holds now P by (suc n) c stage (ToPrint text ∷ os) few =
     subst (P (at c stage (ToPrint text ∷ os))) (sym (turns_given now c stage (ToPrint text) os))
     (by.gives c stage (ToPrint text) os _ (holds now P by (suc n) c stage os few))
+holds now P by (suc n) c stage (ToKeep row ∷ os) few =
+    subst (P (at c stage (ToKeep row ∷ os))) (sym (turns_given now c stage (ToKeep row) os))
+    (by.gives c stage (ToKeep row) os _ (holds now P by (suc n) c stage os few))
 
 pub by_turns : (now : ℕ) (P : Runner → Turns → Type 0) → IsByTurns now P → (r : Runner) → P r (turns now r)
 by_turns now P by r = holds now P by (hearings_left r.client) r.client r.stage r.pending (omega arith)
@@ -169,6 +175,7 @@ unfolding given client_after_issue
 fed_given now c stage (ToSend request) os more =
     ap (λ (d : Client). turned (given now (ToSend request) (at c stage os)).step (at d stage os)) (fed_issue c request (next_id c) now more (is_full c))
 fed_given now c stage (ToPrint text) os more = refl
+fed_given now c stage (ToKeep row) os more = refl
 
 abbrev GoOn : ℕ → List ℕ → Runner → Turns → Type 0
 GoOn now more r ts = turns now (runner_after_feed r more) ≡ joined ts.steps (turns now (runner_after_feed ts.runner more))

@@ -3,10 +3,11 @@ use Rattle.std.proofs.Common.{◌≡◌, ℕ, ◌≤◌, List, [], ◌∷◌, �
 use Rattle.std.specs.Prelude.{◌⊎◌, Option, Some, None, ◌==◌, if◌then◌else◌}
 use Rattle.std.proofs.lemmas.Bool.{eqb-true}
 use Rattle.std.proofs.lemmas.List.{append-nil}
+use Rattle.spec_samples.specs.Row.{Row}
 use Rattle.spec_client.specs.Client.{client_after_feed, client_after_tick}
-use Rattle.spec_client.specs.Stages.{Stage, Finished}
-use Rattle.spec_client.specs.Runner.{Runner, CallStep, Send, Print, Wait, Over, Turns, is_over, joined, runner_after_feed, runner_after_tick, turns}
-use Rattle.spec_client.specs.Conversation.{LinkAnswer, Bytes, Quiet, Closed, LoopEnd, Conversation, MAX_ANSWERS, printed_by, end_of_stage, runner_after_answer, conversation_after}
+use Rattle.spec_client.specs.Stages.{Stage, Finished, FinishedRecording}
+use Rattle.spec_client.specs.Runner.{Runner, CallStep, Send, Print, Keep, Wait, Over, Turns, is_over, joined, runner_after_feed, runner_after_tick, turns}
+use Rattle.spec_client.specs.Conversation.{LinkAnswer, Bytes, Quiet, Closed, LoopEnd, Conversation, MAX_ANSWERS, printed_by, kept_by, end_of_stage, runner_after_answer, conversation_after}
 use Rattle.spec_client.specs.CallOver.{conversation_after_all}
 use Rattle.spec_client.proofs.TurnsUnfolded.{at}
 use Rattle.spec_local.proofs.Scenes.{over_stays, one_more}
@@ -25,6 +26,7 @@ requests-append : (a b : List CallStep) → requests_by (a ++ b) ≡ requests_by
 requests-append [] b = refl
 requests-append (Send bytes ∷ a) b = ap (λ l. bytes ∷ l) (requests-append a b)
 requests-append (Print text ∷ a) b = requests-append a b
+requests-append (Keep row ∷ a) b = requests-append a b
 requests-append (Wait ∷ a) b = requests-append a b
 requests-append (Over end ∷ a) b = requests-append a b
 
@@ -33,18 +35,28 @@ printed-append [] b = refl
 printed-append (Print text ∷ a) b = ap (λ l. text ++ l) (printed-append a b) ∙ sym (append_assoc text (printed_by a) (printed_by b))
 printed-append (Send bytes ∷ a) b = printed-append a b
 printed-append (Wait ∷ a) b = printed-append a b
+printed-append (Keep row ∷ a) b = printed-append a b
 printed-append (Over end ∷ a) b = printed-append a b
+
+kept-append : (a b : List CallStep) → kept_by (a ++ b) ≡ kept_by a ++ kept_by b
+kept-append [] b = refl
+kept-append (Keep row ∷ a) b = ap (λ l. row ∷ l) (kept-append a b)
+kept-append (Print text ∷ a) b = kept-append a b
+kept-append (Send bytes ∷ a) b = kept-append a b
+kept-append (Wait ∷ a) b = kept-append a b
+kept-append (Over end ∷ a) b = kept-append a b
 
 none_some : (o : Option LoopEnd) (e : LoopEnd) → o ≡ None → o ≡ Some e → ⊥
 none_some o e none some = cc
 
 ends_over : (stage : Stage) (e : LoopEnd) → end_of_stage stage ≡ Some e → is_over stage ≡ true
 ends_over (Finished end) e is = refl
+ends_over (FinishedRecording end entries) e is = refl
 ends_over stage e is = absurd (none_some None e refl is)
 
 -- the view behind these turns of bytes
 abbrev bytes_view : View → Turns → Option LoopEnd → View
-bytes_view v ts end = view_of ts.runner 0 (v.sent ++ requests_by ts.steps) (v.text ++ printed_by ts.steps) end
+bytes_view v ts end = view_of ts.runner 0 (v.sent ++ requests_by ts.steps) (v.text ++ printed_by ts.steps) (v.kept ++ kept_by ts.steps) end
 
 bytes_behind : (v : View) (ts : Turns) (bytes : List ℕ) (now : ℕ) → view_behind v (Bytes bytes now) ts ≡ bytes_view v ts (end_of_stage ts.runner.stage)
 bytes_behind v ts bytes now = ap (bytes_view v ts) (no_end (end_of_stage ts.runner.stage) bytes now)
@@ -61,18 +73,24 @@ cut_ended v now more bytes r e is =
     let ts = turns now r in
     let rest = ended_turns now more ts.runner (ends_over ts.runner.stage e is) (none_pending now r) in
     sym (ap (λ us. view_behind v (Bytes bytes now) (joined ts.steps us)) rest
-    ∙ ap (λ o. view_of (at (client_after_feed ts.runner.client more) ts.runner.stage []) 0 (v.sent ++ requests_by (ts.steps ++ [])) (v.text ++ printed_by (ts.steps ++ [])) (ended_so o 0 (Bytes bytes now))) is
-    ∙ ap (λ steps. view_of ts.runner 0 (v.sent ++ requests_by steps) (v.text ++ printed_by steps) (Some e)) (append-nil ts.steps))
+    ∙ ap (λ o. view_of (at (client_after_feed ts.runner.client more) ts.runner.stage []) 0 (v.sent ++ requests_by (ts.steps ++ []))
+    (v.text ++ printed_by (ts.steps ++ [])) (v.kept ++ kept_by (ts.steps ++ [])) (ended_so o 0 (Bytes bytes now))) is
+    ∙ ap (λ steps. view_of ts.runner 0 (v.sent ++ requests_by steps) (v.text ++ printed_by steps) (v.kept ++ kept_by steps) (Some e)) (append-nil ts.steps))
 
 -- where it goes on
 cut_going_on : (v : View) (now : ℕ) (bytes other : List ℕ) (ts us : Turns)
     → view_behind (bytes_view v ts None) (Bytes other now) us ≡ view_behind v (Bytes bytes now) (joined ts.steps us)
 cut_going_on v now bytes other ts us =
     bytes_behind (bytes_view v ts None) us other now
-    ∙ ap (λ l. view_of us.runner 0 l ((v.text ++ printed_by ts.steps) ++ printed_by us.steps) (end_of_stage us.runner.stage))
+    ∙ ap (λ l. view_of us.runner 0 l ((v.text ++ printed_by ts.steps) ++ printed_by us.steps) ((v.kept ++ kept_by ts.steps) ++ kept_by us.steps)
+    (end_of_stage us.runner.stage))
     (append_assoc v.sent (requests_by ts.steps) (requests_by us.steps) ∙ ap (λ l. v.sent ++ l) (sym (requests-append ts.steps us.steps)))
-    ∙ ap (λ l. view_of us.runner 0 (v.sent ++ requests_by (ts.steps ++ us.steps)) l (end_of_stage us.runner.stage))
+    ∙ ap (λ l. view_of us.runner 0 (v.sent ++ requests_by (ts.steps ++ us.steps)) l ((v.kept ++ kept_by ts.steps) ++ kept_by us.steps)
+    (end_of_stage us.runner.stage))
     (append_assoc v.text (printed_by ts.steps) (printed_by us.steps) ∙ ap (λ l. v.text ++ l) (sym (printed-append ts.steps us.steps)))
+    ∙ ap (λ l. view_of us.runner 0 (v.sent ++ requests_by (ts.steps ++ us.steps)) (v.text ++ printed_by (ts.steps ++ us.steps)) l
+    (end_of_stage us.runner.stage))
+    (append_assoc v.kept (kept_by ts.steps) (kept_by us.steps) ∙ ap (λ l. v.kept ++ l) (sym (kept-append ts.steps us.steps)))
     ∙ sym (bytes_behind v (joined ts.steps us) bytes now)
 
 -- both parts of what came, one after the other
@@ -150,22 +168,29 @@ all_views c (a ∷ ds) few =
     all_views (conversation_after c a) ds few
     ∙ ap (λ v. view_after_all v ds) (view_after_answer c a (λ on. let one = one_more c a on in omega (arith, one, more, few)))
 
-sent_of : (r : Runner) (q : ℕ) (s : List (List ℕ)) (t : List ℕ) (o : Option LoopEnd) → (view_of r q s t o).sent ≡ s
-sent_of r q s t None = refl
-sent_of r q s t (Some e) = refl
+sent_of : (r : Runner) (q : ℕ) (s : List (List ℕ)) (t : List ℕ) (k : List Row) (o : Option LoopEnd) → (view_of r q s t k o).sent ≡ s
+sent_of r q s t k None = refl
+sent_of r q s t k (Some e) = refl
 
-text_of : (r : Runner) (q : ℕ) (s : List (List ℕ)) (t : List ℕ) (o : Option LoopEnd) → (view_of r q s t o).text ≡ t
-text_of r q s t None = refl
-text_of r q s t (Some e) = refl
+text_of : (r : Runner) (q : ℕ) (s : List (List ℕ)) (t : List ℕ) (k : List Row) (o : Option LoopEnd) → (view_of r q s t k o).text ≡ t
+text_of r q s t k None = refl
+text_of r q s t k (Some e) = refl
+
+kept_of : (r : Runner) (q : ℕ) (s : List (List ℕ)) (t : List ℕ) (k : List Row) (o : Option LoopEnd) → (view_of r q s t k o).kept ≡ k
+kept_of r q s t k None = refl
+kept_of r q s t k (Some e) = refl
 
 pub view_sent : (c : Conversation) → (view c).sent ≡ bytes_sent c
-view_sent c = sent_of c.runner c.quiet (bytes_sent c) c.text c.end
+view_sent c = sent_of c.runner c.quiet (bytes_sent c) c.text c.kept c.end
 
 -- calls with the same view are the same
 pub same_views : (c d : Conversation) → view c ≡ view d → IsSameCall c d
 same_views c d same = record {
   sent = sym (view_sent c) ∙ ap (λ (v : View). v.sent) same ∙ view_sent d;
-  text = sym (text_of c.runner c.quiet (bytes_sent c) c.text c.end) ∙ ap (λ (v : View). v.text) same ∙ text_of d.runner d.quiet (bytes_sent d) d.text d.end;
+  text = sym (text_of c.runner c.quiet (bytes_sent c) c.text c.kept c.end) ∙ ap (λ (v : View). v.text) same
+      ∙ text_of d.runner d.quiet (bytes_sent d) d.text d.kept d.end;
+  kept = sym (kept_of c.runner c.quiet (bytes_sent c) c.text c.kept c.end) ∙ ap (λ (v : View). v.kept) same
+      ∙ kept_of d.runner d.quiet (bytes_sent d) d.text d.kept d.end;
   end = sym (view_end c) ∙ ap (λ (v : View). v.end) same ∙ view_end d;
 }
 

@@ -12,6 +12,7 @@ use Rattle.spec_machine.specs.MachineState.{MachineState}
 use Rattle.spec_machine.specs.Moves.{state_after_move}
 use Rattle.spec_machine.specs.Offers.{is_closing, is_closing_at}
 use Rattle.spec_machine.specs.Running.{is_to_be_shut}
+use Rattle.spec_samples.specs.Row.{Row}
 use Rattle.spec_client.specs.Conversation.{LinkAnswer, Bytes, Quiet, Closed, LoopEnd, moment_of, runner_after_answer}
 use Rattle.spec_client.specs.Runner.{Runner, turns, Turns}
 use Rattle.spec_local.specs.LocalCall.{Answered, answered, waiting_or, waiting_bytes, next_tick, bytes_taken, answer_after_tick, local_answer}
@@ -91,14 +92,14 @@ record SendsMore (v w : View) : Type 0 where
   more : List (List ℕ)
   is : w.sent ≡ v.sent ++ more
 
-view_of_sent : (r : Runner) (q : ℕ) (s : List (List ℕ)) (t : List ℕ) (o : Option LoopEnd) → (view_of r q s t o).sent ≡ s
-view_of_sent r q s t None = refl
-view_of_sent r q s t (Some e) = refl
+view_of_sent : (r : Runner) (q : ℕ) (s : List (List ℕ)) (t : List ℕ) (k : List Row) (o : Option LoopEnd) → (view_of r q s t k o).sent ≡ s
+view_of_sent r q s t k None = refl
+view_of_sent r q s t k (Some e) = refl
 
 sends_so : (v : View) (a : LinkAnswer) (o : Option LoopEnd) → SendsMore v (view_unless o v a)
 sends_so v a None =
     let ts : Turns = turns (moment_of a) (runner_after_answer v.runner a) in
-    record { more = requests_by ts.steps; is = view_of_sent _ _ (v.sent ++ requests_by ts.steps) _ _ }
+    record { more = requests_by ts.steps; is = view_of_sent _ _ (v.sent ++ requests_by ts.steps) _ _ _ }
 sends_so v a (Some e) = record { more = []; is = sym (append-nil v.sent) }
 
 sends_more : (v : View) (a : LinkAnswer) → SendsMore v (view_after v a)

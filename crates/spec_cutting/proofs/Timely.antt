@@ -15,7 +15,7 @@ use Rattle.spec_client.specs.Unanswered.{Unanswered, TIMEOUT, is_overdue, after_
 use Rattle.spec_client.specs.PassedOver.{is_response}
 use Rattle.spec_client.specs.Client.{Client, is_full, client_after_issue, client_after_tick, packets_left}
 use Rattle.spec_client.specs.Hearing.{Hearing, is_answer, is_off_its_text, response_hearing, samples_hearing, notification_hearing, header_hearing, packet_hearing, rest_hearing, with_one_taken, packets_hearing, hearing_of_samples, hearing_unless_broken, hearing_of_timeout, next_hearing}
-use Rattle.spec_client.specs.Stages.{Output, ToSend, ToPrint, Stage}
+use Rattle.spec_client.specs.Stages.{Output, ToSend, ToPrint, ToKeep, Stage}
 use Rattle.spec_client.specs.Runner.{Runner, given, runner_after_hearing, runner_after_tick, turns}
 use Rattle.spec_client.proofs.TurnsUnfolded.{at}
 use Rattle.spec_cutting.proofs.FedTurns.{by_turns}
@@ -128,6 +128,7 @@ timely_given : (now : ℕ) (o : Output) (r : Runner) → IsTimely now r.client �
 unfolding given
 timely_given now (ToSend request) r timely = timely_issue now r.client request timely
 timely_given now (ToPrint text) r timely = timely
+timely_given now (ToKeep row) r timely = timely
 
 timely_behind : (now : ℕ) (c : Client) (stage : Stage) → IsTimely now c → IsTimely now (runner_after_hearing stage (next_hearing c)).client
 unfolding runner_after_hearing

@@ -17,8 +17,9 @@ uncut (answer ∷ answers) = before answer (uncut answers)
 abbrev pub bytes_sent : Conversation → List (List ℕ)
 bytes_sent c = map (λ (s : Sent). s.bytes) c.sent
 
--- calls that sent the same, printed the same and ended alike
+-- calls that sent the same, printed the same, kept the same rows and ended alike
 pub record IsSameCall (c d : Conversation) : Type 0 where
   pub sent : bytes_sent c ≡ bytes_sent d
   pub text : c.text ≡ d.text
+  pub kept : c.kept ≡ d.kept
   pub end : c.end ≡ d.end

@@ -1,8 +1,12 @@
--- Notifications and leaves over the machine of the plant, by computation.
-use Rattle.std.specs.Prelude.{◌≡◌, refl, ℕ, [], ◌∷◌, codes, flat_map}
-use Rattle.spec_client.specs.Calls.{Watching, SERVER_CYCLE, SERVER_ON_CHANGE, Watch, Show}
+-- Notifications, leaves and recordings over the machine of the plant, by computation.
+use Rattle.std.specs.Prelude.{◌≡◌, refl, ℕ, List, [], ◌∷◌, codes, flat_map}
+use Rattle.spec_frames.proofs.Hex.{hex}
+use Rattle.spec_plant.proofs.Plant.{ENGINEER}
+use Rattle.spec_samples.specs.Row.{Row}
+use Rattle.spec_client.specs.Calls.{Watching, SERVER_CYCLE, SERVER_ON_CHANGE, Watch, Show, Record}
+use Rattle.spec_client.specs.Conversation.{Conversation}
 use Rattle.spec_client.specs.Printed.{line}
-use Rattle.spec_local.proofs.Told.{told}
+use Rattle.spec_local.proofs.Told.{told, called}
 use Rattle.spec_frames.specs.Division.{ams_length_of, is_header, front_of, packet_of, behind_frame, frames_from, frames_of, left_behind, rest_of}
 use Rattle.spec_plant.specs.Finding.{found_of}
 use Rattle.spec_plant.specs.Parts.{part_behind}
@@ -54,6 +58,7 @@ use Rattle.spec_client.specs.LeafTypes.{type_named, is_sound_elem}
 use Rattle.spec_client.specs.Leaves.{leaves_of_elem}
 use Rattle.spec_client.specs.Printed.{escaped}
 use Rattle.spec_client.specs.ReadNames.{handle_parts}
+use Rattle.spec_client.specs.Recordings.{after_deletion}
 use Rattle.spec_client.specs.Replies.{after_reply, after_answer}
 use Rattle.spec_client.specs.Runner.{runner_after_hearing, given, turn_within, all_given, turns_within}
 use Rattle.spec_client.specs.Steps.{after_sample, after_end, after_heard, begun}
@@ -69,6 +74,12 @@ use Rattle.hex.specs.Hex.{encode_with, decode_pairs}
 abbrev on_change : ℕ → Watching
 on_change count = record { mode = SERVER_ON_CHANGE; cycle = 0; count = count }
 
+abbrev recorded : Conversation
+recorded = called 65535 ENGINEER 851 (Record (codes "Main.wave" ∷ codes "Main.count" ∷ []) (on_change 4) 1)
+
+abbrev row : ℕ → List ℕ → ℕ → List ℕ → Row
+row number name time bytes = record { number = number; name = name; time = time; bytes = hex bytes }
+
 record WatchRows : Type 0 where
   -- three samples on change
   watch : told (Watch (codes "Main.wave") (on_change 3)) ≡ 0 ∷ flat_map line (codes "100000 3" ∷ codes "200000 1" ∷ codes "300000 4" ∷ [])
@@ -76,7 +87,12 @@ record WatchRows : Type 0 where
   cyclic : told (Watch (codes "Main.count") (record { mode = SERVER_CYCLE; cycle = 200000; count = 2 })) ≡ 0 ∷ flat_map line (codes "100000 42" ∷ codes "300000 42" ∷ [])
   -- the leaves of an element of an array of structures
   show : told (Show (codes "Main.axis[2]")) ≡ 0 ∷ flat_map line (codes "Main.axis[2].active FALSE" ∷ codes "Main.axis[2].pos 0" ∷ codes "Main.axis[2].label ''" ∷ [])
+  -- the rows of a recording, in the order of their coming
+  kept : recorded.kept ≡ row 1 (codes "Main.wave") 100000 (codes "0300") ∷ row 2 (codes "Main.count") 100000 (codes "2a000000")
+      ∷ row 3 (codes "Main.wave") 200000 (codes "0100") ∷ row 4 (codes "Main.wave") 300000 (codes "0400") ∷ []
+  -- a recording prints nothing by itself
+  silent : told (Record (codes "Main.wave" ∷ codes "Main.count" ∷ []) (on_change 4) 1) ≡ 0 ∷ []
 
 watch_rows : WatchRows
-unfolding name_behind comment_behind says_something type_size type_align ams_length_of is_header front_of packet_of behind_frame frames_from frames_of left_behind rest_of found_of part_behind type_text trees_behind trees_of byte_at with_byte text_in group_in group_of header_of sample_of samples_of stamp_of stamps_of notification_of byte_range bit_range size_range range_in range_of written_bytes reply_in reply_of request_in request_of is_entry entry_of is_fields after_sub_in after_subs_in is_entry_of_ads_formats_typeentryreading type_entry_of form_of signed_text before_nul quoted_byte quoted text_of memory_after_puts outcomes_of memory_after_acts client_after_acts answered_group read_write_group client_after client_after_reload ended_of produce produce_all connection_of put_back entry_of_part connection_after_tick connection_after_reload state_after_event grant_in is_released_in place_after handle_in with_released handles_after state_after_move state_after left_after blocked_after taken_of decide after_packet after_packets after_piece reach_of read_group is_kept memory_after_reload world_after_reload client_reloaded reply_in_forms outcome_in_all response_packet performed act_of grouped frames_of_samples samples_at watches_after_tick acts_of decide_request given_in_turn left_in_turn sum_refusal packed world_after_tick client_after_tick watches_after_reload ended_watches numbers_from name_at names_at content_of write_group control_act conversation_after_all issued_by client_after_issue client_after_tick_of_ads_client_client conversation_after_turns conversation_going_on conversation_after entries_in types_in packet_hearing packets_hearing next_hearing client_after_move client_after_of_ads_client_history all_heard type_named is_sound_elem leaves_of_elem escaped handle_parts after_reply after_answer runner_after_hearing given turn_within all_given turns_within after_sample after_end after_heard begun free_id without_first least_id unquoted made_value is_text_of value_of_text machine_after_pieces bytes_taken answer_after_tick local_answer scene_after scene_after_answers answers_in digits encode_with decode_pairs
-watch_rows = record { watch = refl; cyclic = refl; show = refl }
+unfolding name_behind comment_behind says_something type_size type_align ams_length_of is_header front_of packet_of behind_frame frames_from frames_of left_behind rest_of found_of part_behind type_text trees_behind trees_of byte_at with_byte text_in group_in group_of header_of sample_of samples_of stamp_of stamps_of notification_of byte_range bit_range size_range range_in range_of written_bytes reply_in reply_of request_in request_of is_entry entry_of is_fields after_sub_in after_subs_in is_entry_of_ads_formats_typeentryreading type_entry_of form_of signed_text before_nul quoted_byte quoted text_of memory_after_puts outcomes_of memory_after_acts client_after_acts answered_group read_write_group client_after client_after_reload ended_of produce produce_all connection_of put_back entry_of_part connection_after_tick connection_after_reload state_after_event grant_in is_released_in place_after handle_in with_released handles_after state_after_move state_after left_after blocked_after taken_of decide after_packet after_packets after_piece reach_of read_group is_kept memory_after_reload world_after_reload client_reloaded reply_in_forms outcome_in_all response_packet performed act_of grouped frames_of_samples samples_at watches_after_tick acts_of decide_request given_in_turn left_in_turn sum_refusal packed world_after_tick client_after_tick watches_after_reload ended_watches numbers_from name_at names_at content_of write_group control_act conversation_after_all issued_by client_after_issue client_after_tick_of_ads_client_client conversation_after_turns conversation_going_on conversation_after entries_in types_in packet_hearing packets_hearing next_hearing client_after_move client_after_of_ads_client_history all_heard type_named is_sound_elem leaves_of_elem escaped handle_parts after_deletion after_reply after_answer runner_after_hearing given turn_within all_given turns_within after_sample after_end after_heard begun free_id without_first least_id unquoted made_value is_text_of value_of_text machine_after_pieces bytes_taken answer_after_tick local_answer scene_after scene_after_answers answers_in digits encode_with decode_pairs
+watch_rows = record { watch = refl; cyclic = refl; show = refl; kept = refl; silent = refl }

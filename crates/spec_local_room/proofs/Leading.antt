@@ -16,7 +16,7 @@ use Rattle.spec_formats.specs.TypeEntry.{TypeEntry}
 use Rattle.spec_formats.specs.ValueText.{value_text}
 use Rattle.spec_plant.specs.TypeTexts.{type_text_of}
 use Rattle.spec_machine.proofs.Find.{test_same}
-use Rattle.spec_client.specs.Calls.{Call, Info, State, Control, Get, Set, Symbols, Watch, Show, Watching, MAX_SIZE, entry_request, value_request, handle_request, write_request, release_request, upload_info_request, upload_request, type_info_request, type_upload_request, addition_request}
+use Rattle.spec_client.specs.Calls.{Call, Info, State, Control, Get, Set, Symbols, Watch, Show, Record, Watching, MAX_SIZE, entry_request, value_request, handle_request, write_request, release_request, upload_info_request, upload_request, type_info_request, type_upload_request, addition_request}
 use Rattle.spec_client.specs.Conversation.{LoopEnd, CallEnded, end_of_stage}
 use Rattle.spec_client.specs.Entries.{is_taken, entries_in, types_in, first_of, one_entry_in}
 use Rattle.spec_client.specs.Heard.{Heard, heard_of_sample, Sampled, Ended}
@@ -24,7 +24,7 @@ use Rattle.spec_client.specs.LeafTypes.{is_sound_text}
 use Rattle.spec_client.specs.Printed.{sample_line}
 use Rattle.spec_client.specs.Replies.{bytes_given, handle_given, after_value_read, after_entry, after_entry_read, after_upload, after_types, after_reply, after_answer}
 use Rattle.spec_client.specs.Runner.{is_over}
-use Rattle.spec_client.specs.Stages.{CallEnd, BadValue, Output, ToSend, ToPrint, Purpose, ToGet, ToSet, ToWatch, ToShow, Stage, AwaitsFacts, AwaitsState, AwaitsLast, AwaitsEntry, AwaitsValue, AwaitsHandle, AwaitsWrite, AwaitsUploadInfo, AwaitsUpload, AwaitsNotification, Watches, AwaitsTypeInfo, AwaitsTypes, AwaitsLeaves, Finished, Progress, progress, stay}
+use Rattle.spec_client.specs.Stages.{CallEnd, Refused, BadValue, Output, ToSend, ToPrint, Purpose, ToGet, ToSet, ToWatch, ToShow, Stage, AwaitsFacts, AwaitsState, AwaitsLast, AwaitsEntry, AwaitsValue, AwaitsHandle, AwaitsWrite, AwaitsUploadInfo, AwaitsUpload, AwaitsNotification, Watches, AwaitsTypeInfo, AwaitsTypes, AwaitsLeaves, Records, Finished, FinishedRecording, Progress, progress, stay, ended_at, bad_text}
 use Rattle.spec_client.specs.Steps.{after_heard, after_sample, after_end, with_samples_left, begun}
 use Rattle.spec_client.specs.ValueReading.{made_value, is_value, are_bytes, is_text_of, value_of_text}
 use Rattle.spec_machine.specs.Access.{Addressed}
@@ -78,6 +78,7 @@ frames_left stage = 0
 
 pub awaits_on : (sets : Bool) (stage : Stage) → Awaits sets stage → is_over stage ≡ false
 awaits_on sets (Finished end) awaits = absurd awaits
+awaits_on sets (FinishedRecording end entries) awaits = absurd awaits
 awaits_on sets stage awaits = refl
 
 -- a request that is sent
@@ -138,6 +139,20 @@ if_both P false x y first second = second refl
 
 over_now : (sets : Bool) (end : CallEnd) (outputs : List Output) → IsAnswered sets (CallEnded end) → IsOver sets (progress (Finished end) outputs)
 over_now sets end outputs answered = record { end = CallEnded end; is = refl; over = refl; answered = answered }
+
+-- a call at any stage ends so
+pub record IsEnd (end : CallEnd) (p : Progress) : Type 0 where
+  pub is : end_of_stage p.stage ≡ Some (CallEnded end)
+  pub over : is_over p.stage ≡ true
+  pub silent : p.outputs ≡ []
+
+pub at_end : (stage : Stage) (end : CallEnd) → IsEnd end (ended_at stage end)
+at_end (Records wait r) end = record { is = refl; over = refl; silent = refl }
+at_end stage end = record { is = refl; over = refl; silent = refl }
+
+over_at : (sets : Bool) (stage : Stage) (end : CallEnd) → IsAnswered sets (CallEnded end) → IsOver sets (ended_at stage end)
+over_at sets stage end answered =
+    let so = at_end stage end in record { end = CallEnded end; is = so.is; over = so.over; answered = answered }
 
 -- the lengths of requests
 
@@ -370,11 +385,12 @@ leads_reply sets stage reply payload awaits = absurd awaits
 pub leads : (sets : Bool) (stage : Stage) (error : ℕ) (o : Option Reply) (payload : List ℕ) → Awaits sets stage → Leads sets stage o (after_answer stage error o payload)
 unfolding after_answer
 leads sets stage error None payload awaits =
-    if_both (Leads sets stage None) (error == 0) _ _ (λ t. inl (over_now sets _ [] tt)) (λ t. inl (over_now sets _ [] tt))
+    if_both (Leads sets stage None) (error == 0) _ _ (λ t. inl (over_at sets stage (bad_text payload) tt)) (λ t. inl (over_at sets stage (Refused error) tt))
 leads sets stage error (Some reply) payload awaits =
     if_both (Leads sets stage (Some reply)) (error == 0) _ _
-    (λ t. if_both (Leads sets stage (Some reply)) (result_of reply == 0) _ _ (λ u. leads_reply sets stage reply payload awaits) (λ u. inl (over_now sets _ [] tt)))
-    (λ t. inl (over_now sets _ [] tt))
+    (λ t. if_both (Leads sets stage (Some reply)) (result_of reply == 0) _ _ (λ u. leads_reply sets stage reply payload awaits)
+    (λ u. inl (over_at sets stage (Refused (result_of reply)) tt)))
+    (λ t. inl (over_at sets stage (Refused error) tt))
 
 -- a sample of the notification that is watched
 
@@ -494,3 +510,4 @@ begins (Show name) bounded = record {
   few = omega arith;
   none = tt;
 }
+begins (Record names watching first) bounded = absurd bounded

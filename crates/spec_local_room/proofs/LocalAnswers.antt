@@ -438,6 +438,7 @@ begun_good reading s me peer call x =
       quiet = 0;
       sent = [];
       text = [];
+      kept = [];
       end = None;
     }) t in
     let few = b.few in

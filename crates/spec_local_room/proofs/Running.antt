@@ -26,7 +26,7 @@ use Rattle.spec_client.specs.Heard.{heard_of_sample}
 use Rattle.spec_client.specs.Hearing.{Hearing, hearing, broken_hearing, next_hearing, with_one_taken}
 use Rattle.spec_client.specs.Replies.{handle_given, after_answer}
 use Rattle.spec_client.specs.Runner.{Runner, Turns, turns, is_over, is_not_yet, Print, Send}
-use Rattle.spec_client.specs.Stages.{BadPeer, Stage, Finished, Watches, AwaitsNotification, Progress, AwaitsEntry, AwaitsLast, ToPrint, ToSend, ToWatch, ended, progress, stay}
+use Rattle.spec_client.specs.Stages.{BadPeer, Stage, Finished, FinishedRecording, Watches, AwaitsNotification, Progress, AwaitsEntry, AwaitsLast, ToPrint, ToSend, ToWatch, ended_at, progress, stay}
 use Rattle.spec_client.specs.Steps.{after_heard}
 use Rattle.spec_client.proofs.TurnsUnfolded.{at}
 use Rattle.spec_local.specs.LocalCall.{Answered, answered, waiting_bytes, machine_after_pieces, scene_after}
@@ -37,7 +37,7 @@ use Rattle.spec_local_room.proofs.Hearing.{IsSilent, FedStill, FedBroken, FedWho
 use Rattle.spec_local_room.proofs.Turning.{over_stays_over, sends_one, prints_one, prints_and_sends, hears_so, IsBehind, is_behind, end_so}
 use Rattle.spec_local_room.proofs.Pieces.{TakesWhole}
 use Rattle.spec_local_room.proofs.Ticking.{KeepsFew}
-use Rattle.spec_local_room.proofs.Leading.{Awaits, awaits_on, frames_left, HasNone, IsOver, leads, sample_leads, short_deletion, Asks, HadNone, IsShort, Leads, SampleLeads}
+use Rattle.spec_local_room.proofs.Leading.{Awaits, awaits_on, frames_left, HasNone, IsOver, at_end, leads, sample_leads, short_deletion, Asks, HadNone, IsShort, Leads, SampleLeads}
 use Rattle.spec_local_room.proofs.Scenes.{Machine, Link, Stands, Talks, Knows, Answering, Sampling, FRAME, Waits, EndsSo, Good, issued, issued_is, issued_silent, device, asked}
 use Rattle.spec_client.specs.Unanswered.{MAX_ID}
 use Rattle.spec_formats.specs.SymbolEntry.{SymbolEntry}
@@ -122,6 +122,7 @@ not_counted quiet answers few some =
 
 pub no_end : (stage : Stage) → is_over stage ≡ false → end_of_stage stage ≡ None
 no_end (Finished end) on = absurd (let e : true ≡ false = on in cc)
+no_end (FinishedRecording end entries) on = absurd (let e : true ≡ false = on in cc)
 no_end stage on = refl
 
 -- an answer of bytes behind which it goes on
@@ -249,11 +250,15 @@ broken_step reading sets me peer s c x bytes fed =
     let a = Bytes bytes now in
     let y = broken_hearing cl fed.broken in
     let end = BadPeer fed.broken in
-    let ts = still y.client (Finished end) in
-    let heard_so : turns now (at cl stage []) ≡ ts = hears_so now cl y.client stage y talks.going fed.is refl refl ∙ turns_over now y.client (Finished end) refl in
+    let p = ended_at stage end in
+    let so = at_end stage end in
+    let ts = still y.client p.stage in
+    let heard_so : turns now (at cl stage []) ≡ ts
+    = hears_so now cl y.client stage y talks.going fed.is refl refl
+    ∙ ap (λ os. turns now (at y.client p.stage os)) so.silent ∙ turns_over now y.client p.stage so.over in
     let b = is_behind c a ts talks.on (ap (turns now) (fed_runner me peer now c x.cl stage bytes talks) ∙ heard_so) in
     step_still reading sets me peer c (answered a (taken_by (length bytes) s)) ts b refl
-    (inr (over_behind sets c a ts (conversation_after c a) (Finished end) (CallEnded end) b refl refl tt (few_answers sets me peer s c x)))
+    (inr (over_behind sets c a ts (conversation_after c a) p.stage (CallEnded end) b refl so.is tt (few_answers sets me peer s c x)))
 
 -- what stands behind a whole frame
 record WholeTaken (reading : DescriptionReading) (sets : Bool) (me peer : AmsAddress) (net : List ℕ) (now : ℕ) (c : Conversation) (a : Given)
@@ -484,15 +489,18 @@ whole_step reading sets me peer s c x bytes w t mine other m fed =
           }) m.knows m.answer.read (leads sets stage h.error (reply_of h.command (payload_of m.p)) (payload_of m.p) m.awaits)
       | inr broken ↦
           let end = BadPeer broken.broken in
-          let ts = still got.x.client (Finished end) in
-          let heard_is : after_heard stage got.x.heard ≡ ended end = ap (after_heard stage) broken.heard in
+          let last = ended_at stage end in
+          let so = at_end stage end in
+          let ts = still got.x.client last.stage in
+          let heard_is : after_heard stage got.x.heard ≡ last = ap (after_heard stage) broken.heard in
           let some : is_not_yet got.x.heard ≡ false = ap is_not_yet broken.heard in
           let turned : turns now (runner_after_answer c.runner (Bytes bytes now)) ≡ ts
           = ap (turns now) fed_so ∙ hears_so now cl got.x.client stage got.x talks.going hears some refl
-          ∙ ap (λ (p : Progress). turns now (at got.x.client p.stage p.outputs)) heard_is ∙ turns_over now got.x.client (Finished end) refl in
+          ∙ ap (λ (p : Progress). turns now (at got.x.client p.stage p.outputs)) heard_is
+          ∙ ap (λ os. turns now (at got.x.client last.stage os)) so.silent ∙ turns_over now got.x.client last.stage so.over in
           let b = is_behind c (Bytes bytes now) ts talks.on turned in
           step_still reading sets me peer c a ts b refl
-          (inr (over_behind sets c (Bytes bytes now) ts (conversation_after c (Bytes bytes now)) (Finished end) (CallEnded end) b refl refl tt few))
+          (inr (over_behind sets c (Bytes bytes now) ts (conversation_after c (Bytes bytes now)) last.stage (CallEnded end) b refl so.is tt few))
     ]
 
 -- a sample is whole

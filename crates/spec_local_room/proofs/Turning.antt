@@ -6,7 +6,7 @@ use Rattle.std.proofs.Math.Seq.{drop-append_seam}
 use Rattle.spec_formats.specs.Request.{Request}
 use Rattle.spec_client.specs.Client.{Client, next_id, request_frame, client_after_issue}
 use Rattle.spec_client.specs.Hearing.{Hearing, next_hearing}
-use Rattle.spec_client.specs.Stages.{BadPeer, Output, ToSend, ToPrint, Stage}
+use Rattle.spec_client.specs.Stages.{BadPeer, Output, ToSend, ToPrint, ToKeep, Stage}
 use Rattle.spec_client.specs.Steps.{after_heard}
 use Rattle.spec_client.specs.Runner.{Runner, Send, Print, Turns, turns, given, is_over, is_not_yet, after_step, runner_after_hearing}
 use Rattle.spec_client.specs.Conversation.{LinkAnswer, Bytes, Quiet, Closed, LoopEnd, CallEnded, Budget, MAX_QUIET, MAX_ANSWERS, Conversation, moment_of, quiet_after, sent_by, end_of_stage, runner_after_answer, with_answer, conversation_after_turns, conversation_going_on, conversation_after, unless_ended, ended_by, end_by_answer}
@@ -18,11 +18,13 @@ given_stage : (now : ℕ) (o : Output) (r : Runner) → (given now o r).runner.s
 unfolding given
 given_stage now (ToSend request) r = refl
 given_stage now (ToPrint text) r = refl
+given_stage now (ToKeep row) r = refl
 
 given_rest : (now : ℕ) (o : Output) (r : Runner) → (given now o r).runner.pending ≡ r.pending
 unfolding given
 given_rest now (ToSend request) r = refl
 given_rest now (ToPrint text) r = refl
+given_rest now (ToKeep row) r = refl
 
 -- a runner by its parts
 runner_is : (r : Runner) (stage : Stage) (os : List Output) → r.stage ≡ stage → r.pending ≡ os → r ≡ at r.client stage os

@@ -9,7 +9,7 @@ use Rattle.spec_machine.specs.Connection.{connection_of}
 use Rattle.spec_machine.specs.MachineState.{MachineState}
 use Rattle.spec_machine.specs.Moves.{EventStep}
 use Rattle.spec_machine.specs.World.{World}
-use Rattle.spec_client.specs.Calls.{Call, Info, State, Control, Get, Set, Symbols, Watch, Show}
+use Rattle.spec_client.specs.Calls.{Call, Info, State, Control, Get, Set, Symbols, Watch, Show, Record}
 use Rattle.spec_client.specs.CallLog.{call_log_up_to}
 use Rattle.spec_client.specs.CallOver.{call_over}
 use Rattle.spec_client.specs.Conversation.{LinkAnswer, LoopEnd, CallEnded, Conversation}
@@ -26,7 +26,7 @@ MAX_NAME = 65536
 abbrev pub MAX_SAMPLES : ℕ
 MAX_SAMPLES = 1000000
 
--- a call whose name is short, and that takes a sample at least and not too many
+-- a call of one name at most, that is short, and that takes a sample at least and not too many; no recording
 abbrev pub IsBounded : Call → Type 0
 IsBounded Info = Unit {0}
 IsBounded State = Unit {0}
@@ -36,6 +36,7 @@ IsBounded (Set name text) = length name ≤ MAX_NAME
 IsBounded Symbols = Unit {0}
 IsBounded (Watch name watching) = (length name ≤ MAX_NAME) × (1 ≤ watching.count) × (watching.count ≤ MAX_SAMPLES)
 IsBounded (Show name) = length name ≤ MAX_NAME
+IsBounded (Record names watching first) = ⊥
 
 -- the server's machine, over any reading of descriptions
 abbrev pub closed_step : DescriptionReading → EventStep World served.Client
