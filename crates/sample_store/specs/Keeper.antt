@@ -3,6 +3,7 @@ use Rattle.std.specs.Prelude.{◌≡◌, ℕ, ◌+◌, ◌≤◌, List, length, 
 use Rattle.spec_samples.specs.Row.{Row}
 use Rattle.spec_samples.specs.Rows.{rows_after_put}
 use Rattle.spec_samples.specs.Totals.{total_of}
+use Rattle.spec_samples.specs.Laws.{AreCountedFrom}
 use Rattle.sample_store.specs.declared.keeper_open.KeeperOpen.{KeeperOpen}
 use Rattle.sample_store.specs.declared.keeper_open.KeeperOpen.TheVariants as open_
 use Rattle.sample_store.specs.declared.kept.Kept.{Kept}
@@ -15,6 +16,11 @@ pub record KeeperState : Type 0 where
   pub rows : Option (List Row)
   pub faults : ℕ
 
+-- the rows have the numbers from 1 on, where they are told
+abbrev pub AreNumbered : Option (List Row) → Type 0
+AreNumbered None = Unit {0}
+AreNumbered (Some rows) = AreCountedFrom 1 rows
+
 -- so many rows are there, where they are told
 abbrev pub Counts : KeeperOpen → Option (List Row) → Type 0
 Counts (open_.Ready n) (Some rows) = n ≡ length rows
@@ -22,7 +28,7 @@ Counts (open_.Ready n) None = Unit {0}
 Counts open_.Failed rows = Unit {0}
 Counts open_.Memory rows = Unit {0}
 
--- the number is there or the next one, where rows have the numbers from 1 on and are told
+-- the number is there or the next one, where rows are told
 abbrev pub IsNext : Option (List Row) → ℕ → Type 0
 IsNext None n = Unit {0}
 IsNext (Some rows) n = n ≤ length rows + 1

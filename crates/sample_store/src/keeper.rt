@@ -4,10 +4,10 @@ ghost use Rattle.std.specs.Prelude.{◌≡◌, ◌≤◌, ◌<◌, ◌^◌};
 
 use crate::{KeeperOpen, Kept, Row, Totalled};
 
-/// A table of recorded samples. It may tell its rows; a table on a disk does not.
+/// A table of recorded samples. It may tell its rows, which have the numbers from 1 on; a table on a disk does not.
 pub trait Keeper {
     ghost use Rattle.ads_outside.specs.Rose.{Rose};
-    ghost use Rattle.sample_store.specs.Keeper.{KeeperState, Counts, IsNext, Keeps, Totals};
+    ghost use Rattle.sample_store.specs.Keeper.{KeeperState, AreNumbered, Counts, IsNext, Keeps, Totals};
     ghost use Rattle.sample_store.specs.Views.{row_kept};
 
     /// The rows, where they are told, and how many calls failed.
@@ -20,6 +20,7 @@ pub trait Keeper {
     /// Opens the table of a name, and tells how many rows it has.
     fn open(&mut self, name: &str) -> KeeperOpen
         ensures counts { Counts result (state self.old).rows }
+        ensures numbers { AreNumbered (state self.new).rows }
         ensures rows { (state self.new).rows ≡ (state self.old).rows }
         ensures later { (state self.old).faults ≤ (state self.new).faults }
         ensures failed { result ≡ KeeperOpen.Failed → Rose (state self.old).faults (state self.new).faults };
@@ -30,12 +31,14 @@ pub trait Keeper {
         requires most { row.now.number < 2 ^ 63 }
         requires next { IsNext (state self.old).rows row.now.number }
         ensures kept { Keeps result (state self.old).rows (state self.new).rows (row_kept row.now) }
+        ensures numbers { AreNumbered (state self.new).rows }
         ensures later { (state self.old).faults ≤ (state self.new).faults }
         ensures failed { result ≡ Kept.Failed → Rose (state self.old).faults (state self.new).faults };
 
     /// What is told of all rows of a name.
     fn total(&mut self, name: &[u8]) -> Totalled
         ensures told { Totals result (state self.old).rows name.now }
+        ensures numbers { AreNumbered (state self.new).rows }
         ensures rows { (state self.new).rows ≡ (state self.old).rows }
         ensures later { (state self.old).faults ≤ (state self.new).faults }
         ensures failed { result ≡ Totalled.Failed → Rose (state self.old).faults (state self.new).faults };

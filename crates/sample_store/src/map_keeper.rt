@@ -1,6 +1,6 @@
 //! Samples in memory, for tests.
 
-ghost use Rattle.std.specs.Prelude.{◌≡◌, ◌≤◌, [], true, Some, option_map};
+ghost use Rattle.std.specs.Prelude.{◌≡◌, ◌≤◌, ◌<◌, ◌+◌, [], length, true, Some, option_map};
 
 use crate::places::put_row;
 use crate::totals::total_of;
@@ -20,12 +20,15 @@ pub struct MapKeeper {
 
 impl Model for MapKeeper {
     ghost use Rattle.std.specs.Prelude.{map};
+    ghost use Rattle.spec_samples.specs.Laws.{AreCountedFrom};
     ghost use Rattle.sample_store.specs.Views.{row_kept};
     ghost use Rattle.sample_store.specs.MapKeeper.{HeldRows};
 
     ghost Value = { HeldRows };
 
     ghost view = { λ m. record { rows = map row_kept m.rows.items; failing = m.failing } };
+
+    ghost invariant = { λ m. AreCountedFrom 1 (map row_kept m.rows.items) };
 }
 
 impl MapKeeper {
@@ -61,7 +64,7 @@ impl Keeper for MapKeeper {
     ghost use Rattle.ads_outside.specs.FailingCalls.{fails_next};
     ghost use Rattle.sample_store.specs.MapKeeper.{failing_after};
     ghost use Rattle.ads_outside.specs.Rose.{Rose};
-    ghost use Rattle.sample_store.specs.Keeper.{Counts, Keeps, Totals};
+    ghost use Rattle.sample_store.specs.Keeper.{AreNumbered, Counts, Keeps, Totals};
     ghost use Rattle.sample_store.specs.Views.{row_kept};
 
     ghost state = { λ m. record { rows = Some m.rows; faults = m.failing.faults } };
@@ -72,6 +75,7 @@ impl Keeper for MapKeeper {
 
     fn open(&mut self, _name: &str) -> KeeperOpen
         ensures counts { Counts result (Some self.old.rows) }
+        ensures numbers { AreNumbered (Some self.new.rows) }
         ensures rows { Some self.new.rows ≡ Some self.old.rows }
         ensures later { self.old.failing.faults ≤ self.new.failing.faults }
         ensures failed { result ≡ KeeperOpen.Failed → Rose self.old.failing.faults self.new.failing.faults }
@@ -88,7 +92,10 @@ impl Keeper for MapKeeper {
     }
 
     fn put(&mut self, row: &Row) -> Kept
+        requires some { 0 < row.now.number }
+        requires next { row.now.number ≤ length self.old.rows + 1 }
         ensures kept { Keeps result (Some self.old.rows) (Some self.new.rows) (row_kept row.now) }
+        ensures numbers { AreNumbered (Some self.new.rows) }
         ensures later { self.old.failing.faults ≤ self.new.failing.faults }
         ensures failed { result ≡ Kept.Failed → Rose self.old.failing.faults self.new.failing.faults }
         ensures fails { fails_next self.old.failing ≡ true → result ≡ Kept.Failed }
@@ -108,6 +115,7 @@ impl Keeper for MapKeeper {
 
     fn total(&mut self, name: &[u8]) -> Totalled
         ensures told { Totals result (Some self.old.rows) name.now }
+        ensures numbers { AreNumbered (Some self.new.rows) }
         ensures rows { Some self.new.rows ≡ Some self.old.rows }
         ensures later { self.old.failing.faults ≤ self.new.failing.faults }
         ensures failed { result ≡ Totalled.Failed → Rose self.old.failing.faults self.new.failing.faults }

@@ -1,0 +1,73 @@
+-- Tables whose rows have the numbers from 1 on.
+use Rattle.std.proofs.Common.{◌≡◌, ◌⊎◌, ℕ, suc, ◌+◌, ◌≤◌, ◌<◌, List, [], ◌∷◌, ◌++◌, length, true, refl, sym, ap, inl, inr, arith}
+use Rattle.std.specs.Prelude.{is_some, ◌==◌, nat_lt, map, Result, Ok, Err, OnOk, OnErr}
+use Rattle.std.proofs.lemmas.Bool.{cases_Bool, cases_lt, false≢true, eqb-true}
+use Rattle.spec_samples.specs.Row.{Row}
+use Rattle.sample_store.specs.declared.row.Row as code
+use Rattle.sample_store.specs.Views.{row_kept}
+use Rattle.spec_samples.specs.Rows.{row_numbered, rows_after_put}
+use Rattle.spec_samples.specs.Laws.{AreCountedFrom}
+use Rattle.spec_samples.proofs.CountLemmas.{put_last, put_there, counted-last}
+
+-- a put of a number that is there or the next one
+pub counted_after_put : (rows : List Row) (put : Row) → AreCountedFrom 1 rows → 0 < put.number → put.number ≤ length rows + 1
+    → AreCountedFrom 1 (rows_after_put rows put)
+counted_after_put rows put counted some most = elim (cases_lt (length rows) put.number) [
+  | inl more ↦
+      let next : put.number ≡ 1 + length rows = omega (arith, more, most) in
+      rw (put_last 1 rows put counted next) (counted-last 1 rows put counted next)
+  | inr there ↦ rw (put_there 1 rows put counted (omega (arith, some)) (omega (arith, there))) counted
+]
+
+-- no rows have the numbers from 1 on
+pub none_counted : AreCountedFrom 1 []
+unfolding AreCountedFrom
+none_counted = tt
+
+-- so have those behind a put, also where it was not done
+pub counted_behind : {A B : Type 0} (answer : Result A B) (old new : List code.Row) (put : Row)
+    → OnOk answer (map row_kept new ≡ rows_after_put (map row_kept old) put) → OnErr answer (new ≡ old)
+    → AreCountedFrom 1 (map row_kept old) → 0 < put.number → put.number ≤ length (map row_kept old) + 1 → AreCountedFrom 1 (map row_kept new)
+counted_behind (Ok u) old new put done kept counted some most = rw done (counted_after_put (map row_kept old) put counted some most)
+counted_behind (Err e) old new put done kept counted some most = rw kept counted
+
+-- a put adds a row, or its number is there and nothing changes
+grows_or_there : (rows : List Row) (put : Row) → (length (rows_after_put rows put) ≡ length rows + 1)
+    ⊎ ((rows_after_put rows put ≡ rows) × (is_some (row_numbered put.number rows) ≡ true))
+unfolding rows_after_put
+grows_or_there [] put = inl refl
+grows_or_there (r ∷ rs) put = elim (cases_Bool (nat_lt r.number put.number)) [
+  | inl less ↦ elim (grows_or_there rs put) [
+    | inl more ↦ inl (rw less (omega (arith, more)))
+    | inr there ↦ inr (rw less (ap (λ (l : List Row). r ∷ l) there.0), later r.number there.1)
+  ]
+  | inr not_less ↦ elim (cases_Bool (r.number == put.number)) [
+    | inl same ↦ inr (rw (not_less, same) refl, rw same refl)
+    | inr other ↦ inl (rw (not_less, other) (omega arith))
+  ]
+]
+  where
+    later : (n : ℕ) → is_some (row_numbered put.number rs) ≡ true → is_some (row_numbered put.number (r ∷ rs)) ≡ true
+    later n e = elim (cases_Bool (r.number == put.number)) [ inl same ↦ rw same refl | inr other ↦ rw other e ]
+
+-- a number that is there is one of theirs
+there_below : (n k : ℕ) (rows : List Row) → AreCountedFrom n rows → is_some (row_numbered k rows) ≡ true → k < n + length rows
+unfolding AreCountedFrom
+there_below n k [] counted e = absurd (false≢true e)
+there_below n k (r ∷ rs) counted e = elim (cases_Bool (r.number == k)) [
+  | inl same ↦ let is = eqb-true r.number k same in let here = counted.0 in omega (arith, is, here)
+  | inr other ↦
+      let rest : is_some (row_numbered k rs) ≡ true = rw other at e in
+      let below = there_below (n + 1) k rs (counted.1) rest in
+      omega (arith, below)
+]
+
+-- where the rows then have the numbers from 1 on, a put of a number one more than there are rows adds a row
+pub next_grows : (rows : List Row) (put : Row) → put.number ≡ length rows + 1 → AreCountedFrom 1 (rows_after_put rows put)
+    → length (rows_after_put rows put) ≡ length rows + 1
+next_grows rows put next counted = elim (grows_or_there rows put) [
+  | inl more ↦ more
+  | inr there ↦
+      let below = there_below 1 put.number rows (rw there.0 at counted) there.1 in
+      absurd (omega (arith, next, below))
+]
