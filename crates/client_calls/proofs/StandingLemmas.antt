@@ -25,7 +25,9 @@ use Rattle.spec_client.specs.Hearing.{next_hearing, samples_in, hearings_left}
 use Rattle.spec_client.specs.History.{ClientMove, Issue, Fed, Tick, Next, ClientHistory, client_after, client_after_move, heard_after, issued_after}
 use Rattle.spec_client.specs.Calls.{Call}
 use Rattle.spec_client.specs.Stages as stages
-use Rattle.spec_client.specs.Stages.{ToSend, ToPrint}
+use Rattle.spec_client.specs.Stages.{ToSend, ToPrint, ToKeep, entries_taken}
+use Rattle.sample_store.specs.Views.{row_kept}
+use Rattle.sample_store.specs.declared.row.Row.{Row}
 use Rattle.spec_client.specs.Steps.{begun, after_heard}
 use Rattle.spec_client.specs.Runner as runner
 use Rattle.spec_client.specs.Runner.{Runner, Turned, turned, given, turn, is_over, is_not_yet, new_runner, runner_after_feed, runner_after_tick, runner_after_hearing}
@@ -33,14 +35,15 @@ use Rattle.spec_client.specs.Laws.{goes_on}
 use Rattle.spec_client.proofs.Hearings.{hearings_fall}
 use Rattle.client_core.specs.Kept.{Kept, waiting_count}
 use Rattle.client_core.specs.Represents.{StandsFor as CoreStands, Represents as CoreRepresents, Streams, IsNextFrame}
-use Rattle.client_replies.specs.Sound.{HasShortTexts, HasShortData, IsSound}
+use Rattle.client_replies.specs.Rows.{HasNumbers}
+use Rattle.client_replies.specs.Sound.{HasShortTexts, HasShortData, HasShortNames, IsSound}
 use Rattle.client_replies.specs.Stages.{end_meant}
 use Rattle.client_replies.specs.declared.stage.CallEnd.{CallEnd}
 use Rattle.client_replies.specs.declared.stage.CallEnd.TheVariants as end
-use Rattle.client_replies.proofs.SoundRunners.{sound_new, sound_feed, sound_tick, few_outstanding, sendable_first, not_full, sound_issued, sound_printed, sound_heard}
+use Rattle.client_replies.proofs.SoundRunners.{sound_new, sound_feed, sound_tick, few_outstanding, sendable_first, not_full, sound_issued, sound_printed, sound_kept, sound_heard}
 use Rattle.client_calls.specs.Kept.{RunnerKept, waiting_packets, packets_kept, hearings_kept, with_first}
 use Rattle.client_calls.specs.Represents.{StandsFor, IsGoingOn, StandsStill}
-use Rattle.client_calls.specs.Steps.{step_meant, UnlessOver}
+use Rattle.client_calls.specs.Steps.{step_meant, UnlessOver, IsKeepable, end_in}
 use Rattle.client_calls.specs.Turns.{IsTurned, Turns, Gives, TakesIn, GoesOn, Rests}
 use Rattle.client_calls.specs.declared.call_step.CallStep.{CallStep}
 use Rattle.client_calls.specs.declared.call_step.CallStep.TheVariants as out
@@ -158,12 +161,21 @@ stands_still old new still stage pending r s = record {
   sound = s.sound;
 }
 
+unless_over : (out : CallStep) (P : Type 0) → P → UnlessOver out P
+unless_over (out.Send bytes) P p = p
+unless_over (out.Print text) P p = p
+unless_over (out.Keep row) P p = p
+unless_over out.Wait P p = p
+unless_over (out.Over end) P p = tt
+
 -- a step that goes on, and the runner behind it
 turned_as : (now : ℕ) (new : RunnerKept) (r behind : Runner) (step : runner.CallStep) (out : CallStep) → turn now r ≡ turned step behind → step_meant out ≡ step
-    → UnlessOver out (StandsFor new behind) → IsTurned now new out r
-turned_as now new r behind step out is same stands = record {
+    → StandsFor new behind → IsKeepable out → IsTurned now new out r
+turned_as now new r behind step out is same stands keepable = record {
   step_is = same ∙ ap (λ (t : Turned). t.step) (sym is);
-  stands = subst (λ (x : Runner). UnlessOver out (StandsFor new x)) (ap (λ (t : Turned). t.runner) (sym is)) stands;
+  stands = unless_over out _ (subst (StandsFor new) (ap (λ (t : Turned). t.runner) (sym is)) stands);
+  entries = ap entries_taken stands.stage_is ∙ ap (λ (t : Turned). entries_taken t.runner.stage) (sym is);
+  keepable = keepable;
 }
 
 -- a text is printed
@@ -181,7 +193,24 @@ printed_turned now k text r s =
       stage_is = s.stage_is;
       pending_is = refl;
       sound = sound_printed r text k.pending pending s.sound;
-    })
+    }) tt
+
+-- a row is kept
+pub kept_turned : (now : ℕ) (k : RunnerKept) (row : Row) (r : Runner) → StandsFor (with_first (ToKeep (row_kept row)) k) r → IsTurned now k (out.Keep row) r
+unfolding given
+kept_turned now k row r s =
+    let behind : Runner = record r { pending = k.pending } in
+    let pending : r.pending ≡ ToKeep (row_kept row) ∷ k.pending = sym s.pending_is in
+    turned_as now k r behind (runner.Keep (row_kept row)) (out.Keep row) (turn_given now r (ToKeep (row_kept row)) k.pending pending) refl (record {
+      me = s.me;
+      peer = s.peer;
+      history = s.history;
+      client_is = s.client_is;
+      client = s.client;
+      stage_is = s.stage_is;
+      pending_is = refl;
+      sound = sound_kept r (row_kept row) k.pending pending s.sound;
+    }) (sendable_first r (ToKeep (row_kept row)) k.pending pending s.sound).0
 
 -- what is issued for a request of a runner that is stood for
 abbrev pub IssuesAs : Kept → Request → Issued → Type 0
@@ -211,7 +240,7 @@ sent_turned now old new request issued r issues moves stage pending s =
     (turn_given now r (ToSend request) old.pending first)
     (ap runner.Send (issued_frame r.client request issued free told))
     (stands_moved (with_first (ToSend request) old) new r behind (Issue request now) moves refl (stage ∙ s.stage_is) pending
-    (sound_issued r request old.pending now first s.sound) s)
+    (sound_issued r request old.pending now first s.sound) s) tt
 
 -- an issue leaves what is to be heard
 pub issued_hearings : (now : ℕ) (old new : RunnerKept) (request : Request) (r : Runner) → Moves old.client new.client (Issue request now)
@@ -292,26 +321,30 @@ rests_waiting old new quiet at hears moves stage pending = record {
   turned = λ now r s.
       turned_as now new r (runner_after_hearing r.stage (next_hearing r.client)) runner.Wait out.Wait
       (turn_waits now r (sym s.pending_is ∙ quiet) (not_over old r at s) (sym (heard_is old spec.NotYet r hears s))) refl
-      (stands_heard old new spec.NotYet r quiet hears moves (stay_as old new stage (pending ∙ quiet)) s);
+      (stands_heard old new spec.NotYet r quiet hears moves (stay_as old new stage (pending ∙ quiet)) s) tt;
 }
 
 pub rests_broken : (old new : RunnerKept) (peer : Peer) → old.pending ≡ [] → is_over old.stage ≡ false → HearsAs old.client (spec.Broken peer)
-    → Rests old new (out.Over (end.BadPeer peer))
-rests_broken old new peer quiet at hears = record {
+    → new.stage ≡ old.stage → Rests old new (out.Over (end.BadPeer peer))
+rests_broken old new peer quiet at hears stage = record {
   rests = tt;
-  turned = λ now r s. record {
-    step_is = sym (turn_broken now r peer (sym s.pending_is ∙ quiet) (not_over old r at s) (sym (heard_is old (spec.Broken peer) r hears s)));
-    stands = tt;
-  };
+  turned = λ now r s.
+      let b = turn_broken now r peer (sym s.pending_is ∙ quiet) (not_over old r at s) (sym (heard_is old (spec.Broken peer) r hears s)) in
+      record { step_is = sym b.step; stands = tt; entries = ap entries_taken (stage ∙ s.stage_is) ∙ sym b.entries; keepable = tt };
 }
 
-pub rests_over : (old new : RunnerKept) (e : CallEnd) → old.pending ≡ [] → old.stage ≡ stages.Finished (end_meant e) → Rests old new (out.Over e)
-rests_over old new e quiet at = record {
+pub rests_over : (old new : RunnerKept) (e : CallEnd) → old.pending ≡ [] → end_in old.stage ≡ Some (end_meant e)
+    → entries_taken new.stage ≡ entries_taken old.stage → Rests old new (out.Over e)
+rests_over old new e quiet at same = record {
   rests = tt;
-  turned = λ now r s. record {
-    step_is = ap (λ (t : Turned). t.step) (sym (turn_finished now r (end_meant e) (sym s.pending_is ∙ quiet) (sym s.stage_is ∙ at)));
-    stands = tt;
-  };
+  turned = λ now r s.
+      let over = turn_finished now r (end_meant e) (sym s.pending_is ∙ quiet) (ap end_in (sym s.stage_is) ∙ at) in
+      record {
+        step_is = ap (λ (t : Turned). t.step) (sym over);
+        stands = tt;
+        entries = same ∙ ap entries_taken s.stage_is ∙ ap (λ (t : Turned). entries_taken t.runner.stage) (sym over);
+        keepable = tt;
+      };
 }
 
 -- a runner that is open, with what it keeps
@@ -404,13 +437,14 @@ waiting_inside client new stage pending value heard is quiet at waits hears move
     (rests_waiting old (kept new stage pending) (ap (λ (k : RunnerKept). k.pending) is ∙ quiet) (ap (λ (k : RunnerKept). is_over k.stage) is ∙ at)
     (subst (HearsAs client) waits hears) moves refl refl)
 
-pub broken_inside : (client : Kept) (stage : stages.Stage) (pending : List stages.Output) (value new : RunnerKept) (heard : spec.Heard) (peer : Peer)
+pub broken_inside : (client next : Kept) (stage : stages.Stage) (pending : List stages.Output) (value : RunnerKept) (heard : spec.Heard) (peer : Peer)
     → kept client stage pending ≡ value → value.pending ≡ [] → is_over value.stage ≡ false → heard ≡ spec.Broken peer → HearsAs client heard
-    → Rests value new (out.Over (end.BadPeer peer))
-broken_inside client stage pending value new heard peer is quiet at breaks hears =
+    → Rests value (kept next stage pending) (out.Over (end.BadPeer peer))
+broken_inside client next stage pending value heard peer is quiet at breaks hears =
     let old = kept client stage pending in
+    let new = kept next stage pending in
     subst (λ k. Rests k new (out.Over (end.BadPeer peer))) is
-    (rests_broken old new peer (ap (λ (k : RunnerKept). k.pending) is ∙ quiet) (ap (λ (k : RunnerKept). is_over k.stage) is ∙ at) (subst (HearsAs client) breaks hears))
+    (rests_broken old new peer (ap (λ (k : RunnerKept). k.pending) is ∙ quiet) (ap (λ (k : RunnerKept). is_over k.stage) is ∙ at) (subst (HearsAs client) breaks hears) refl)
 
 pub going_inside : (client next : Kept) (stage : stages.Stage) (pending : List stages.Output) (value new : RunnerKept) (heard : spec.Heard)
     → kept client stage pending ≡ value → value.pending ≡ [] → is_over value.stage ≡ false → goes_on heard ≡ true → HearsAs client heard → Moves client next Next
@@ -435,3 +469,14 @@ goes_by (told.Sample handle time bytes) no_wait no_break = refl
 goes_by (told.Ended handle) no_wait no_break = refl
 goes_by (told.Stray id) no_wait no_break = refl
 goes_by (told.TimedOut id sent now) no_wait no_break = refl
+
+numbers_of : (stage : stages.Stage) → HasShortNames stage → HasNumbers stage
+numbers_of (stages.Records wait r) short = short.1
+numbers_of stage short = tt
+
+-- a call that goes on has numbers for its rows
+pub numbers_inside : (client : Kept) (stage : stages.Stage) (pending : List stages.Output) (value : RunnerKept) → kept client stage pending ≡ value → IsGoingOn value
+    → HasNumbers stage
+numbers_inside client stage pending value is going =
+    let s = going.1 in
+    numbers_of stage (subst HasShortNames (sym (ap (λ (k : RunnerKept). k.stage) is ∙ s.stage_is)) s.sound.names)

@@ -1,10 +1,10 @@
 -- A turn on its way.
 use Rattle.std.proofs.Common.{◌≡◌, ℕ, ◌+◌, ◌*◌, ◌^◌, ◌≤◌, ◌<◌, List, [], ◌∷◌, length, refl, sym, ap, ◌∙◌, subst, arith, lit≤}
-use Rattle.spec_client.specs.Stages.{Output}
+use Rattle.spec_client.specs.Stages.{Output, entries_taken}
 use Rattle.spec_client.specs.Runner.{Runner, Turned, turn}
 use Rattle.client_calls.specs.Kept.{RunnerKept, hearings_kept, turns_left, with_first}
 use Rattle.client_calls.specs.Represents.{StandsFor, IsGoingOn}
-use Rattle.client_calls.specs.Steps.{step_meant, UnlessOver, IfGives}
+use Rattle.client_calls.specs.Steps.{step_meant, UnlessOver, IfGives, IsKeepable}
 use Rattle.client_calls.specs.Turns.{IsTurned, Turns, Passes, PassesAll, Gives, GoesOn, Rests, IsRest, Steps, OnItsWay}
 use Rattle.client_calls.specs.declared.call_step.CallStep.{CallStep}
 use Rattle.client_calls.specs.declared.call_step.CallStep.TheVariants as out
@@ -41,6 +41,8 @@ turned_behind now end step new r p turned =
     record {
       step_is = t.step_is ∙ ap (λ (x : Turned). x.step) (sym p.same);
       stands = subst (λ (x : Turned). UnlessOver step (StandsFor end x.runner)) (sym p.same) t.stands;
+      entries = t.entries ∙ ap (λ (x : Turned). entries_taken x.runner.stage) (sym p.same);
+      keepable = t.keepable;
     }
 
 -- the step is that of the turn
@@ -50,6 +52,7 @@ way_turned now old new end step way turned r s = turned_behind now end step new 
 if_gives : (step : CallStep) (P : Type 0) → P → IfGives step P
 if_gives (out.Send bytes) P p = p
 if_gives (out.Print text) P p = p
+if_gives (out.Keep row) P p = p
 if_gives out.Wait P p = tt
 if_gives (out.Over e) P p = tt
 
@@ -68,6 +71,7 @@ given_steps now old given end output step is turned g =
 rest_falls : (step : CallStep) (P : Type 0) → IsRest step → IfGives step P
 rest_falls (out.Send bytes) P e = absurd e
 rest_falls (out.Print text) P e = absurd e
+rest_falls (out.Keep row) P e = absurd e
 rest_falls out.Wait P e = tt
 rest_falls (out.Over end) P e = tt
 
@@ -78,6 +82,7 @@ rest_steps now old new step r = record { turned = r.turned now; falls = rest_fal
 falls_less : (step : CallStep) (a b c : ℕ) → b ≤ c → IfGives step (a < b) → IfGives step (a < c)
 falls_less (out.Send bytes) a b c more less = omega arith
 falls_less (out.Print text) a b c more less = omega arith
+falls_less (out.Keep row) a b c more less = omega arith
 falls_less out.Wait a b c more less = tt
 falls_less (out.Over end) a b c more less = tt
 
@@ -92,5 +97,13 @@ pub stands_told : (now : ℕ) (old new : RunnerKept) (step : CallStep) → Turns
     → UnlessOver step ((r : Runner) → StandsFor old r → StandsFor new (turn now r).runner)
 stands_told now old new (out.Send bytes) turned = λ r s. (turned r s).stands
 stands_told now old new (out.Print text) turned = λ r s. (turned r s).stands
+stands_told now old new (out.Keep row) turned = λ r s. (turned r s).stands
 stands_told now old new out.Wait turned = λ r s. (turned r s).stands
 stands_told now old new (out.Over e) turned = tt
+
+pub entries_told : (now : ℕ) (old new : RunnerKept) (step : CallStep) → Turns now old new step → (r : Runner) → StandsFor old r
+    → entries_taken new.stage ≡ entries_taken (turn now r).runner.stage
+entries_told now old new step turned r s = (turned r s).entries
+
+pub keepable_told : (now : ℕ) (old new : RunnerKept) (step : CallStep) → Turns now old new step → IsGoingOn old → IsKeepable step
+keepable_told now old new step turned going = (turned going.0 going.1).keepable

@@ -1,4 +1,6 @@
 pub mod Kept
 pub mod Represents
 pub mod Steps
+pub mod Recording
+pub mod Sending
 pub mod Turns

@@ -1,17 +1,20 @@
 -- What the parts of a turn do, over every runner that is stood for. No public clause cites this file.
 use Rattle.std.specs.Prelude.{◌≡◌, ℕ, ◌<◌, ◌≤◌, ◌^◌, [], length, Option, Some, None}
 use Rattle.spec_client.specs.Heard.{Heard}
+use Rattle.spec_client.specs.Stages.{entries_taken}
 use Rattle.spec_client.specs.Steps.{after_heard}
 use Rattle.spec_client.specs.Runner.{Runner, turn}
 use Rattle.client_calls.specs.Kept.{RunnerKept, hearings_kept, turns_left}
 use Rattle.client_calls.specs.Represents.{StandsFor, IsGoingOn}
-use Rattle.client_calls.specs.Steps.{step_meant, UnlessOver, IfGives}
+use Rattle.client_calls.specs.Steps.{step_meant, UnlessOver, IfGives, IsKeepable}
 use Rattle.client_calls.specs.declared.call_step.CallStep.{CallStep}
 
 -- the step is that of the runner's turn, and what is kept stands for the runner behind it
 pub record IsTurned (now : ℕ) (new : RunnerKept) (step : CallStep) (r : Runner) : Type 0 where
   pub step_is : step_meant step ≡ (turn now r).step
   pub stands : UnlessOver step (StandsFor new (turn now r).runner)
+  pub entries : entries_taken new.stage ≡ entries_taken (turn now r).runner.stage
+  pub keepable : IsKeepable step
 
 abbrev pub Turns : ℕ → RunnerKept → RunnerKept → CallStep → Type 0
 Turns now old new step = (r : Runner) → StandsFor old r → IsTurned now new step r

@@ -2,6 +2,7 @@
 
 use ads_base::Octets;
 use client_replies::CallEnd;
+use sample_store::Row;
 
 /// What a call gives when it has its turn.
 #[derive(Debug, Drop)]
@@ -10,6 +11,8 @@ pub enum CallStep {
     Send(Octets),
     /// A text is to be printed.
     Print(Octets),
+    /// A row is to be kept.
+    Keep(Row),
     /// The call waits for more bytes.
     Wait,
     Over(CallEnd),

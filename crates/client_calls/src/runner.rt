@@ -1,24 +1,31 @@
 //! A call that runs.
 
-ghost use Rattle.std.specs.Prelude.{◌≡◌, ◌<◌, [], false, IfOk, OnOk, OnErr, MatchOption};
+ghost use Rattle.std.specs.Prelude.{◌≡◌, ◌<◌, ℕ, List, [], false, Some, IfOk, OnOk, OnErr, MatchOption, option_map, slice_get};
 ghost use Rattle.ams_header.specs.Header.{address_of};
 ghost use Rattle.spec_client.specs.Runner.{new_runner, runner_after_feed, runner_after_tick, turn, is_over};
 ghost use Rattle.spec_client.specs.Runner.{Runner as Spec};
 ghost use Rattle.spec_client.specs.Stages as stages;
+ghost use Rattle.spec_client.specs.Stages.{entries_taken};
+ghost use Rattle.spec_formats.specs.SymbolEntry.{SymbolEntry};
 ghost use Rattle.client_core.specs.Heard.{heard_meant};
 ghost use Rattle.client_replies.specs.Kept.{request_kept};
+ghost use Rattle.client_replies.specs.Rows.{HasNumbers};
 ghost use Rattle.client_replies.specs.Sound.{HasShortTexts};
 ghost use Rattle.client_replies.specs.Stages.{call_meant, end_meant, output_kept};
 ghost use Rattle.client_calls.specs.Kept.{hearings_kept, turns_left, with_first};
+ghost use Rattle.client_calls.specs.Recording.{AreNames, CanRecord, record_meant};
 ghost use Rattle.client_calls.specs.Represents.{StandsFor, IsGoingOn, StandsStill};
-ghost use Rattle.client_calls.specs.Steps.{step_meant, UnlessOver, IfGives};
+ghost use Rattle.client_calls.specs.Sending.{SendsAlone};
+ghost use Rattle.client_calls.specs.Steps.{step_meant, UnlessOver, IfGives, IsKeepable, end_in};
 ghost use Rattle.client_calls.specs.Turns.{Turns, Gives, Does, Hears, TakesIn};
 
-use crate::CallStep;
 use crate::hearing::after_heard;
+use crate::{CallStep, Names, RecordSpec};
 use ads_base::{AmsAddr, NoMemory};
 use client_core::{Client, Heard};
-use client_replies::{Asked, Call, CallEnd, Output, Progress, Stage, begun};
+use client_replies::{
+    Asked, Call, CallEnd, Output, Progress, Stage, Watching, begun, recording_begun,
+};
 use std::alloc::Global;
 use std::collections::VecDeque;
 use std::marker::Model;
@@ -62,6 +69,49 @@ impl Runner {
         })
     }
 
+    /// A recording that begins: of these names, with the rows from a first number on.
+    pub fn record(
+        alloc: Global,
+        names: &Names,
+        spec: RecordSpec,
+        me: AmsAddr,
+        peer: AmsAddr,
+    ) -> Result<Runner, NoMemory>
+        requires names { AreNames names.now }
+        requires spec { CanRecord spec }
+        ensures { IfOk result (λ r. StandsFor r (new_runner (address_of me) (address_of peer) (record_meant names.now spec))) }
+    {
+        let watching = Watching {
+            mode: spec.mode,
+            cycle: spec.cycle,
+            count: spec.count,
+        };
+        let client = Client::new(alloc, me, peer)?;
+        let Progress { stage, outputs } = recording_begun(
+            alloc,
+            names.as_slice(),
+            watching,
+            spec.first,
+        )?;
+        Ok(Runner {
+            client,
+            stage,
+            pending: VecDeque::from_vec(outputs.into_vec()),
+        })
+    }
+
+    /// The name and the type id of the entry of a recording's name, counted from 0; also behind `Over`.
+    #[tactic(auto, using(crate::proofs::EntryAt::entry_at))]
+    pub fn entry(&self, n: usize) -> Option<(&[u8], u32)>
+        ensures { option_map {U = List ℕ × ℕ} (λ (name, id). (name.now, id)) result
+            ≡ option_map (λ (e : SymbolEntry). (e.name, e.type_id)) (slice_get (entries_taken self.now.stage) n) }
+    {
+        match self.stage.entries().get(n) {
+            Some(entry) => Some((entry.name.as_slice(), entry.type_id)),
+            None => None,
+        }
+    }
+
     /// Bytes came.
     pub fn feed(&mut self, alloc: Global, piece: &[u8]) -> Result<(), NoMemory>
         ensures stands { OnOk result ((r : Spec) → StandsFor self.old r → StandsFor self.new (runner_after_feed r piece.now)) }
@@ -78,12 +128,16 @@ impl Runner {
         self.client.tick(now);
     }
 
-    /// The call has its turn. After `Over`, and after want of memory, it is not used again.
+    /// The call has its turn. After `Over` only its entries are asked for, and after want of memory it is not used again.
     pub fn turn(&mut self, alloc: Global, now: u64) -> Result<CallStep, NoMemory>
         requires { IsGoingOn self.old }
         ensures step { IfOk result (λ step. (r : Spec) → StandsFor self.old r → step_meant step ≡ (turn now r).step) }
         ensures stands { IfOk result (λ step. UnlessOver step ((r : Spec) → StandsFor self.old r → StandsFor self.new (turn now r).runner)) }
         ensures falls { IfOk result (λ step. IfGives step (turns_left self.new < turns_left self.old)) }
+        ensures entries { OnOk result ((r : Spec) → StandsFor self.old r
+            → entries_taken self.new.stage ≡ entries_taken (turn now r).runner.stage) }
+        ensures alone { IfOk result (SendsAlone now self.old) }
+        ensures keepable { IfOk result IsKeepable }
     {
         match self.take_turn(alloc, now) {
             Ok(step) => Ok(step),
@@ -140,6 +194,7 @@ impl Runner {
     {
         match output {
             Output::ToPrint(text) => Ok(CallStep::Print(text)),
+            Output::ToKeep(row) => Ok(CallStep::Keep(row)),
             Output::ToSend(asked) => {
                 let step = self.send(alloc, &asked, now)?;
                 Ok(step)
@@ -195,10 +250,14 @@ impl Runner {
     // The end of a call that is over.
     fn take_end(&mut self) -> Option<CallEnd>
         ensures { MatchOption result ((self.new ≡ self.old) × (is_over self.old.stage ≡ false))
-            (λ end. self.old.stage ≡ stages.Finished (end_meant end)) }
+            (λ end. (end_in self.old.stage ≡ Some (end_meant end)) × (entries_taken self.new.stage ≡ entries_taken self.old.stage)) }
     {
         match mem::replace(&mut self.stage, Stage::AwaitsOk) {
             Stage::Finished(end) => Some(end),
+            Stage::FinishedRecording(end, entries) => {
+                self.stage = Stage::FinishedRecording(CallEnd::Done, entries);
+                Some(end)
+            }
             stage => {
                 self.stage = stage;
                 None
@@ -208,6 +267,7 @@ impl Runner {
 
     // What was heard is taken in.
     fn take_in(&mut self, alloc: Global, heard: Heard) -> Result<(), NoMemory>
+        requires { HasNumbers self.old.stage }
         ensures { OnOk result (TakesIn self.old (heard_meant heard) self.new) }
     {
         let stage = mem::replace(&mut self.stage, Stage::AwaitsOk);

@@ -13,23 +13,20 @@ use Rattle.spec_client.specs.Calls.{MAX_SIZE, value_request, write_request, uplo
 use Rattle.spec_client.specs.Entries.{one_entry_in, entries_in, first_of, is_taken, types_in}
 use Rattle.spec_client.specs.Leaves.{leaves_of, leaf_line}
 use Rattle.spec_client.specs.Printed.{line, entry_line, sample_line, ended_line}
-use Rattle.spec_client.specs.Stages.{ToSend, ToPrint, Purpose, ToGet, ToSet, ToWatch, ToShow, Stage, AwaitsFacts, AwaitsState, AwaitsLast, AwaitsEntry, AwaitsValue, AwaitsHandle, AwaitsWrite, AwaitsUploadInfo, AwaitsUpload, AwaitsNotification, Watches, AwaitsTypeInfo, AwaitsTypes, AwaitsLeaves, Finished, CallEnd, Refused, Progress, progress, stay, ended, done_with, bad_text}
+use Rattle.spec_client.specs.Stages.{ToSend, ToPrint, Purpose, ToGet, ToSet, ToWatch, ToShow, Stage, AwaitsFacts, AwaitsState, AwaitsLast, AwaitsEntry, AwaitsValue, AwaitsHandle, AwaitsWrite, AwaitsUploadInfo, AwaitsUpload, AwaitsNotification, Watches, AwaitsTypeInfo, AwaitsTypes, AwaitsLeaves, ForSamples, Records, Finished, FinishedRecording, CallEnd, BadPeer, Refused, Progress, progress, stay, ended, ended_at, done_with, bad_text}
+use Rattle.spec_client.specs.Stages as stages
+use Rattle.spec_client.specs.Recordings.{recorded_at}
 use Rattle.spec_client.specs.Replies.{bytes_given, after_entry, after_entry_read, after_value_read, after_upload, after_types, after_reply, after_reply_read, after_answer}
 use Rattle.spec_client.specs.Steps.{with_samples_left, after_watched_sample, after_sample, after_end, after_heard}
 use Rattle.spec_client.specs.ValueReading.{value_of_text}
 use Rattle.value_text.proofs.ValuesFound.{values_found}
 use Rattle.client_replies.specs.Sound.{AreSendable, HasShortData, HasShortNames, asked_count, most_asked}
 use Rattle.client_replies.proofs.Answering.{answers}
+use Rattle.client_replies.proofs.RecordingKeeps.{Keeps, keeps_recording_end, keeps_record_reply, keeps_record_sample, keeps_record_end}
 
 either : {X : Type 0} (P : X → Type 0) (b : Bool) (x y : X) → P x → P y → P (if b then x else y)
 either P true x y first second = first
 either P false x y first second = second
-
--- short, and with so many outstanding requests it asks for one at most
-pub record Keeps (n : ℕ) (p : Progress) : Type 0 where
-  pub names : HasShortNames p.stage
-  pub sendable : AreSendable p.outputs
-  pub one_by_one : asked_count p.outputs + n ≤ most_asked p.stage
 
 abbrev Ends : Progress → Type 0
 Ends p = Keeps 0 p
@@ -43,8 +40,9 @@ printed_sends : {X : Type 0} (f : X → List ℕ) (xs : List X) → AreSendable 
 printed_sends f [] = tt
 printed_sends f (x ∷ xs) = (tt, printed_sends f xs)
 
-ends_with : (end : CallEnd) → Ends (ended end)
-ends_with end = record { names = tt; sendable = tt; one_by_one = lit≤ tt }
+keeps_end_at : (stage : Stage) (end : CallEnd) (n : ℕ) → n ≤ 1 → Keeps n (ended_at stage end)
+keeps_end_at (Records wait r) end n few = keeps_recording_end end r n few
+keeps_end_at stage end n few = record { names = tt; sendable = tt; one_by_one = omega (arith, few) }
 
 ends_bad : (payload : List ℕ) → Ends (ended (bad_text payload))
 ends_bad payload = record { names = tt; sendable = tt; one_by_one = lit≤ tt }
@@ -132,17 +130,19 @@ keeps_reply (AwaitsTypeInfo name e) reply payload short =
 keeps_reply (AwaitsTypes name e count) reply payload short = keeps_types name e (types_in count (bytes_given reply)) payload short
 keeps_reply (AwaitsLeaves size leaves) reply payload short =
     either Ends _ _ _ (prints_all (leaf_line (bytes_given reply)) leaves) (ends_bad payload)
+keeps_reply (Records wait r) reply payload short = keeps_record_reply wait r reply payload short
+keeps_reply (FinishedRecording end entries) reply payload short = record { names = tt; sendable = tt; one_by_one = lit≤ tt }
 keeps_reply (Finished end) reply payload short = record { names = tt; sendable = tt; one_by_one = lit≤ tt }
 
 keeps_reply_read : (stage : Stage) (o : Option Reply) (payload : List ℕ) → HasShortNames stage → Ends (after_reply_read stage o payload)
-keeps_reply_read stage None payload short = record { names = tt; sendable = tt; one_by_one = lit≤ tt }
+keeps_reply_read stage None payload short = keeps_end_at stage _ 0 (lit≤ tt)
 keeps_reply_read stage (Some reply) payload short =
-    either Ends (result_of reply == 0) _ _ (keeps_reply stage reply payload short) (ends_with (Refused (result_of reply)))
+    either Ends (result_of reply == 0) _ _ (keeps_reply stage reply payload short) (keeps_end_at stage (Refused (result_of reply)) 0 (lit≤ tt))
 
 keeps_answer : (stage : Stage) (error : ℕ) (o : Option Reply) (payload : List ℕ) → HasShortNames stage → Ends (after_answer stage error o payload)
 unfolding after_answer
 keeps_answer stage error o payload short =
-    either Ends (error == 0) _ _ (keeps_reply_read stage o payload short) (ends_with (Refused error))
+    either Ends (error == 0) _ _ (keeps_reply_read stage o payload short) (keeps_end_at stage (Refused error) 0 (lit≤ tt))
 
 keeps_stay : (stage : Stage) (n : ℕ) → HasShortNames stage → n ≤ most_asked stage → Keeps n (stay stage)
 keeps_stay stage n short one = record { names = short; sendable = tt; one_by_one = omega arith }
@@ -159,6 +159,7 @@ keeps_sample : (stage : Stage) (n handle time : ℕ) (bytes : List ℕ) → HasS
 unfolding after_sample
 keeps_sample (Watches e watched left) n handle time bytes short one =
     either (Keeps n) (handle == watched) _ _ (keeps_watched e watched left n time bytes one) (keeps_stay (Watches e watched left) n tt one)
+keeps_sample (Records wait r) n handle time bytes short one = keeps_record_sample wait r time bytes (recorded_at r handle) n short one
 keeps_sample stage n handle time bytes short one = keeps_stay stage n short one
 
 keeps_end : (stage : Stage) (n handle : ℕ) → HasShortNames stage → n ≤ most_asked stage → Keeps n (after_end stage handle)
@@ -168,10 +169,12 @@ keeps_end (Watches e watched left) n handle short one =
   where
     ends_line : (n : ℕ) → n ≤ 0 → Keeps n (done_with (ToPrint ended_line ∷ []))
     ends_line n none = record { names = tt; sendable = (tt, tt); one_by_one = omega arith }
+keeps_end (Records wait r) n handle short one = keeps_record_end wait r handle n short one
 keeps_end stage n handle short one = keeps_stay stage n short one
 
 pub at_most_one : (stage : Stage) → most_asked stage ≤ 1
 at_most_one (Watches e handle left) = lit≤ tt
+at_most_one (Records ForSamples r) = lit≤ tt
 at_most_one stage = lit≤ tt
 
 -- with so many outstanding requests behind what is heard
@@ -184,6 +187,6 @@ keeps_heard stage (Answered id error command payload) n short one =
 keeps_heard stage (Sampled handle time bytes) n short one = keeps_sample stage n handle time bytes short (omega arith)
 keeps_heard stage (Ended handle) n short one = keeps_end stage n handle short (omega arith)
 keeps_heard stage (Stray id) n short one = keeps_stay stage n short (omega arith)
-keeps_heard stage (TimedOut id sent now) n short one = record { names = tt; sendable = tt; one_by_one = omega (arith, at_most_one stage) }
+keeps_heard stage (TimedOut id sent now) n short one = keeps_end_at stage (stages.TimedOut sent now) n (omega (arith, one, at_most_one stage))
 keeps_heard stage NotYet n short one = keeps_stay stage n short (omega arith)
-keeps_heard stage (Broken peer) n short one = record { names = tt; sendable = tt; one_by_one = omega (arith, at_most_one stage) }
+keeps_heard stage (Broken peer) n short one = keeps_end_at stage (BadPeer peer) n (omega (arith, one, at_most_one stage))

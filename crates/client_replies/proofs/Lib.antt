@@ -1,6 +1,11 @@
+pub mod Apart
 pub mod EntryLines
 pub mod ValueLemmas
 pub mod Shown
 pub mod Answering
+pub mod RecordingKeeps
 pub mod Keeping
 pub mod SoundRunners
+pub mod Mapped
+pub mod Outputs
+pub mod SampleParts

@@ -5,16 +5,18 @@ use Rattle.std.proofs.lemmas.Bool.{lt-leb}
 use Rattle.std.proofs.lemmas.List.Sums.{sum_by-append}
 use Rattle.spec_formats.specs.Header.{AmsAddress}
 use Rattle.spec_formats.specs.Request.{Request, command_of}
+use Rattle.spec_samples.specs.Row.{Row}
 use Rattle.spec_client.specs.Unanswered.{Unanswered, MAX_OUTSTANDING, outstanding_count}
 use Rattle.spec_client.specs.Client.{Client, next_id, is_full, client_after_issue, client_after_tick}
 use Rattle.spec_client.specs.Hearing.{next_hearing}
-use Rattle.spec_client.specs.Calls.{Call, Info, State, Control, Get, Set, Symbols, Watch, Show}
-use Rattle.spec_client.specs.Stages.{Output, ToSend, ToPrint}
+use Rattle.spec_client.specs.Calls.{Call, Info, State, Control, Get, Set, Symbols, Watch, Show, Record}
+use Rattle.spec_client.specs.Stages.{Output, ToSend, ToPrint, ToKeep}
 use Rattle.spec_client.specs.Steps.{begun}
 use Rattle.spec_client.specs.Runner.{Runner, new_runner, runner_after_feed, runner_after_tick, runner_after_hearing}
 use Rattle.client_replies.specs.Sound.{HasShortTexts, IsSendable, AreSendable, IsSound, asked_count}
 use Rattle.client_replies.proofs.Answering.{count-tick, asked_falls}
 use Rattle.client_replies.proofs.Keeping.{keeps_heard, at_most_one}
+use Rattle.client_replies.proofs.RecordingKeeps.{keeps_begun}
 
 pub sound_new : (me peer : AmsAddress) (call : Call) → HasShortTexts call → IsSound (new_runner me peer call)
 unfolding begun
@@ -26,6 +28,9 @@ sound_new me peer (Set name text) short = record { names = short.0; sendable = (
 sound_new me peer Symbols short = record { names = tt; sendable = (tt, tt); one_by_one = lit≤ tt }
 sound_new me peer (Watch name watching) short = record { names = short; sendable = (omega arith, tt); one_by_one = lit≤ tt }
 sound_new me peer (Show name) short = record { names = short; sendable = (omega arith, tt); one_by_one = lit≤ tt }
+sound_new me peer (Record names watching first) short =
+    let k = keeps_begun names watching first (short.0) (short.1) (short.2) in
+    record { names = k.names; sendable = k.sendable; one_by_one = k.one_by_one }
 
 pub sound_feed : (r : Runner) (piece : List ℕ) → IsSound r → IsSound (runner_after_feed r piece)
 sound_feed r piece s = record { names = s.names; sendable = s.sendable; one_by_one = s.one_by_one }
@@ -76,6 +81,15 @@ pub sound_printed : (r : Runner) (text : List ℕ) (outputs : List Output) → r
     → IsSound (record r { pending = outputs })
 sound_printed r text outputs is s =
     let sendable = sendable_first r (ToPrint text) outputs is s in
+    let asked : asked_count r.pending ≡ asked_count outputs = ap asked_count is in
+    let one = s.one_by_one in
+    record { names = s.names; sendable = sendable.1; one_by_one = omega arith }
+
+-- a row is kept
+pub sound_kept : (r : Runner) (row : Row) (outputs : List Output) → r.pending ≡ ToKeep row ∷ outputs → IsSound r
+    → IsSound (record r { pending = outputs })
+sound_kept r row outputs is s =
+    let sendable = sendable_first r (ToKeep row) outputs is s in
     let asked : asked_count r.pending ≡ asked_count outputs = ap asked_count is in
     let one = s.one_by_one in
     record { names = s.names; sendable = sendable.1; one_by_one = omega arith }

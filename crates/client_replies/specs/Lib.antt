@@ -2,3 +2,5 @@ pub mod Kept
 pub mod Stages
 pub mod Parts
 pub mod Sound
+pub mod Rows
+pub mod RecordParts

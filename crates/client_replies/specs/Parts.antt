@@ -1,5 +1,5 @@
 -- The parts of what a reply leads to, as the code has them. No public clause cites this file.
-use Rattle.std.specs.Prelude.{ℕ, List, ◌++◌, map, length, ◌==◌, if◌then◌else◌, Option, Some, None, option_map, option_and_then}
+use Rattle.std.specs.Prelude.{ℕ, List, Bool, true, false, ◌++◌, map, length, ◌==◌, if◌then◌else◌, Option, Some, None, option_map, option_and_then}
 use Rattle.spec_formats.specs.SymbolEntry.{SymbolEntry, entry_of}
 use Rattle.spec_client.specs.Entries.{is_taken}
 use Rattle.spec_client.specs.Printed.{entry_line}
@@ -26,3 +26,8 @@ outputs_behind before entries = option_map (λ es. before ++ lines_of es) entrie
 abbrev pub told : Option Progress → List ℕ → stages.Progress
 told (Some p) payload = progress_kept p
 told None payload = stages.ended (stages.bad_text payload)
+
+-- a recording goes on at this stage
+abbrev pub is_recording : stages.Stage → Bool
+is_recording (stages.Records wait r) = true
+is_recording stage = false

@@ -1,16 +1,21 @@
 -- Runners whose requests can be sent, one after another.
-use Rattle.std.specs.Prelude.{ℕ, ◌+◌, ◌≤◌, List, [], ◌∷◌, length}
+use Rattle.std.specs.Prelude.{ℕ, ◌+◌, ◌≤◌, ◌<◌, ◌^◌, List, [], ◌∷◌, length}
 use Rattle.spec_formats.specs.Request as request
 use Rattle.spec_client.specs.Unanswered.{outstanding_count}
-use Rattle.spec_client.specs.Calls.{Call, Info, State, Control, Get, Set, Symbols, Watch, Show, MAX_SIZE}
-use Rattle.spec_client.specs.Stages.{Output, ToSend, ToPrint, Stage, AwaitsEntry, AwaitsHandle, AwaitsTypeInfo, AwaitsTypes, Watches}
+use Rattle.spec_client.specs.Calls.{Call, Info, State, Control, Get, Set, Symbols, Watch, Show, Record, MAX_SIZE}
+use Rattle.spec_client.specs.Stages.{Output, ToSend, ToPrint, ToKeep, ForSamples, Stage, AwaitsEntry, AwaitsHandle, AwaitsTypeInfo, AwaitsTypes, Watches, Records}
 use Rattle.spec_client.specs.Runner.{Runner}
+use Rattle.client_replies.specs.Rows.{HasRowNumbers}
 
 -- the greatest length of a text of a call
 abbrev pub MAX_TEXT : ℕ
 MAX_TEXT = 65536
 
--- each text of the call is short
+abbrev pub AreShort : List (List ℕ) → Type 0
+AreShort [] = Unit {0}
+AreShort (name ∷ names) = (length name ≤ MAX_TEXT) × AreShort names
+
+-- each text of the call is short, and its rows have numbers from 1 to 2 ^ 63 - 1
 abbrev pub HasShortTexts : Call → Type 0
 HasShortTexts Info = Unit {0}
 HasShortTexts State = Unit {0}
@@ -20,6 +25,7 @@ HasShortTexts (Set name text) = (length name ≤ MAX_TEXT) × (length text ≤ M
 HasShortTexts Symbols = Unit {0}
 HasShortTexts (Watch name watching) = length name ≤ MAX_TEXT
 HasShortTexts (Show name) = length name ≤ MAX_TEXT
+HasShortTexts (Record names watching first) = AreShort names × (0 < first) × (first + watching.count ≤ 2 ^ 63)
 
 -- the greatest length of the data of a request
 abbrev pub MAX_DATA : ℕ
@@ -36,6 +42,7 @@ HasShortData r = Unit {0}
 abbrev pub IsSendable : Output → Type 0
 IsSendable (ToSend r) = HasShortData r
 IsSendable (ToPrint text) = Unit {0}
+IsSendable (ToKeep row) = (0 < row.number) × (row.number < 2 ^ 63)
 
 abbrev pub AreSendable : List Output → Type 0
 AreSendable [] = Unit {0}
@@ -47,6 +54,7 @@ HasShortNames (AwaitsEntry purpose name) = length name ≤ MAX_TEXT
 HasShortNames (AwaitsHandle value) = length value ≤ MAX_SIZE
 HasShortNames (AwaitsTypeInfo name e) = length name ≤ MAX_TEXT
 HasShortNames (AwaitsTypes name e count) = length name ≤ MAX_TEXT
+HasShortNames (Records wait r) = AreShort r.names × HasRowNumbers r
 HasShortNames stage = Unit {0}
 
 -- how many requests are to be sent
@@ -54,10 +62,12 @@ abbrev pub asked_count : List Output → ℕ
 asked_count [] = 0
 asked_count (ToSend r ∷ outputs) = 1 + asked_count outputs
 asked_count (ToPrint text ∷ outputs) = asked_count outputs
+asked_count (ToKeep row ∷ outputs) = asked_count outputs
 
--- a call that watches waits for no answer, and any other for one at most
+-- a call that waits for samples waits for no answer, and any other for one at most
 abbrev pub most_asked : Stage → ℕ
 most_asked (Watches e handle left) = 0
+most_asked (Records ForSamples r) = 0
 most_asked stage = 1
 
 -- the call's requests can be sent, one after another

@@ -3,12 +3,17 @@ use Rattle.std.specs.Prelude.{ℕ, [], map}
 use Rattle.spec_client.specs.Calls as calls
 use Rattle.spec_client.specs.Printed.{ok_line}
 use Rattle.spec_client.specs.Stages as stages
+use Rattle.sample_store.specs.Views.{row_kept}
 use Rattle.client_leaves.specs.Kept.{leaf_kept}
 use Rattle.client_replies.specs.Kept.{entry_kept, request_kept}
 use Rattle.client_replies.specs.declared.call.Call.{Call}
 use Rattle.client_replies.specs.declared.call.Call.TheVariants as call
 use Rattle.client_replies.specs.declared.call.Mode2.{Mode2}
 use Rattle.client_replies.specs.declared.call.Mode2.TheVariants as mode
+use Rattle.client_replies.specs.declared.recording.Recorded.{Recorded}
+use Rattle.client_replies.specs.declared.recording.Recording.{Recording}
+use Rattle.client_replies.specs.declared.recording.RecordWait.{RecordWait}
+use Rattle.client_replies.specs.declared.recording.RecordWait.TheVariants as wait
 use Rattle.client_replies.specs.declared.watching.Watching.{Watching}
 use Rattle.client_replies.specs.declared.stage.CallEnd.{CallEnd}
 use Rattle.client_replies.specs.declared.stage.CallEnd.TheVariants as end
@@ -50,12 +55,33 @@ end_meant (end.TimedOut sent now) = stages.TimedOut sent now
 abbrev pub output_kept : Output → stages.Output
 output_kept (output.ToSend asked) = stages.ToSend (request_kept asked)
 output_kept (output.ToPrint text) = stages.ToPrint text
+output_kept (output.ToKeep row) = stages.ToKeep (row_kept row)
 
 abbrev pub purpose_kept : Purpose → stages.Purpose
 purpose_kept purpose.ToGet = stages.ToGet
 purpose_kept (purpose.ToSet text) = stages.ToSet text
 purpose_kept (purpose.ToWatch w) = stages.ToWatch (watching_kept w)
 purpose_kept purpose.ToShow = stages.ToShow
+
+abbrev pub recorded_kept : Recorded → stages.Recorded
+recorded_kept n = record { handle = n.handle; name = n.name }
+
+abbrev pub recording_kept : Recording → stages.Recording
+recording_kept r = record {
+  watching = watching_kept r.watching;
+  first = r.first;
+  names = r.names.items;
+  entries = map entry_kept r.entries;
+  notifications = map recorded_kept r.notifications;
+  ended = r.ended;
+  kept = r.kept;
+}
+
+abbrev pub wait_kept : RecordWait → stages.RecordWait
+wait_kept wait.ForEntry = stages.ForEntry
+wait_kept (wait.ForNotification name) = stages.ForNotification name
+wait_kept wait.ForSamples = stages.ForSamples
+wait_kept (wait.ForDeletion left) = stages.ForDeletion left.items
 
 abbrev pub stage_kept : Stage → stages.Stage
 stage_kept stage.AwaitsFacts = stages.AwaitsFacts
@@ -73,7 +99,9 @@ stage_kept (stage.Watches e handle left) = stages.Watches (entry_kept e) handle 
 stage_kept (stage.AwaitsTypeInfo name e) = stages.AwaitsTypeInfo name (entry_kept e)
 stage_kept (stage.AwaitsTypes name e count) = stages.AwaitsTypes name (entry_kept e) count
 stage_kept (stage.AwaitsLeaves size leaves) = stages.AwaitsLeaves size (map leaf_kept leaves)
+stage_kept (stage.Records w r) = stages.Records (wait_kept w) (recording_kept r)
 stage_kept (stage.Finished e) = stages.Finished (end_meant e)
+stage_kept (stage.FinishedRecording e entries) = stages.FinishedRecording (end_meant e) (map entry_kept entries)
 
 abbrev pub progress_kept : Progress → stages.Progress
 progress_kept p = stages.progress (stage_kept p.stage) (map output_kept p.outputs)

@@ -1,17 +1,20 @@
 //! The lines that client commands print.
 
-ghost use Rattle.std.specs.Prelude.{◌≡◌, ◌∷◌, ◌++◌, [], codes, take, drop, IfOk, OnOk};
+ghost use Rattle.std.specs.Prelude.{◌≡◌, ◌∷◌, ◌++◌, [], codes, take, drop, option_map, IfOk, OnOk};
 ghost use Rattle.std.specs.Fmt.{decimal};
 ghost use Rattle.spec_formats.specs.ValueText.{before_nul, value_text};
 ghost use Rattle.ads_commands.specs.Reply.{facts_meant};
 ghost use Rattle.symbol_info.specs.Entry.{entry_meant};
+ghost use Rattle.sample_store.specs.Views.{total_told};
 ghost use Rattle.spec_client.specs.Printed as printed;
+ghost use Rattle.spec_client.specs.TotalLines.{total_text};
 ghost use Rattle.spec_client.specs.Leaves as leaves;
 ghost use Rattle.client_leaves.specs.Kept.{leaf_kept};
 
 use ads_base::{NoMemory, Octets};
 use ads_commands::DeviceFacts;
 use client_leaves::Leaf;
+use sample_store::Total;
 use std::alloc::Global;
 use symbol_info::Entry;
 use value_text::to_text;
@@ -154,6 +157,50 @@ pub(crate) fn sample_line(
     to_text(alloc, type_id, bytes, &mut text)?;
     text.push(alloc, b'\n')?;
     Ok(text)
+}
+
+/// Appends the line of a recording's name: how many rows it has, and the moment and the value of the last one.
+pub fn put_total_line(
+    alloc: Global,
+    text: &mut Octets,
+    name: &[u8],
+    type_id: u32,
+    total: &Option<Total>,
+) -> Result<(), NoMemory>
+    ensures { OnOk result (text.new ≡ text.old ++ printed.line (printed.escaped name.now ++ codes " count "
+        ++ total_text type_id (option_map total_told total.now))) }
+{
+    put_escaped(alloc, text, name)?;
+    text.put(alloc, b" count ")?;
+    put_total(alloc, text, type_id, total)?;
+    text.push(alloc, b'\n')?;
+    Ok(())
+}
+
+fn put_total(
+    alloc: Global,
+    text: &mut Octets,
+    type_id: u32,
+    total: &Option<Total>,
+) -> Result<(), NoMemory>
+    ensures { OnOk result (text.new ≡ text.old ++ total_text type_id (option_map total_told total.now)) }
+{
+    match total {
+        Some(total) => put_found(alloc, text, type_id, total),
+        None => text.put(alloc, b"0"),
+    }
+}
+
+fn put_found(alloc: Global, text: &mut Octets, type_id: u32, total: &Total) -> Result<(), NoMemory>
+    ensures { OnOk result (text.new ≡ text.old ++ decimal total.now.count ++ codes " last " ++ decimal total.now.time
+        ++ codes " " ++ value_text type_id total.now.bytes) }
+{
+    put_decimal(alloc, text, total.count)?;
+    text.put(alloc, b" last ")?;
+    put_decimal(alloc, text, total.time)?;
+    text.push(alloc, b' ')?;
+    to_text(alloc, type_id, total.bytes.as_slice(), text)?;
+    Ok(())
 }
 
 // A name: its bytes before the first NUL.

@@ -5,6 +5,7 @@ ghost use Rattle.spec_client.specs.Stages as stages;
 ghost use Rattle.client_replies.specs.Kept.{request_kept};
 ghost use Rattle.client_replies.specs.Stages.{end_meant, stage_kept, output_kept, progress_kept};
 
+use crate::recordings::recording_ended;
 use crate::stage::{Asked, CallEnd, Output, Progress, Stage};
 use ads_base::{ListOf, NoMemory, Octets};
 use std::alloc::Global;
@@ -19,11 +20,21 @@ pub fn stay(alloc: Global, stage: Stage) -> Progress
     }
 }
 
-/// The call ends here.
-pub fn ended(alloc: Global, end: CallEnd) -> Progress
+/// A call that is no recording ends here.
+pub(crate) fn ended(alloc: Global, end: CallEnd) -> Progress
     ensures { progress_kept result ≡ stages.ended (end_meant end) }
 {
     stay(alloc, Stage::Finished(end))
+}
+
+/// The call ends at this stage, whichever it is.
+pub fn ended_at(alloc: Global, stage: Stage, end: CallEnd) -> Progress
+    ensures { progress_kept result ≡ stages.ended_at (stage_kept stage) (end_meant end) }
+{
+    match stage {
+        Stage::Records(_, r) => recording_ended(end, r, ListOf::new(alloc)),
+        _ => ended(alloc, end),
+    }
 }
 
 /// The call goes on behind one output.

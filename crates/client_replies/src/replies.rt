@@ -1,6 +1,6 @@
 //! What the answer to a call's request leads to.
 
-ghost use Rattle.std.specs.Prelude.{◌≡◌, ◌≤◌, ◌∷◌, [], ℕ, List, IfOk};
+ghost use Rattle.std.specs.Prelude.{◌≡◌, ◌≤◌, ◌∷◌, [], ℕ, List, false, IfOk};
 ghost use Rattle.spec_formats.specs.Reply.{reply_of, result_of};
 ghost use Rattle.ads_commands.specs.Reply.{reply_meant};
 ghost use Rattle.spec_client.specs.Calls.{release_request};
@@ -11,7 +11,7 @@ ghost use Rattle.spec_client.specs.Entries.{one_entry_in, entries_in};
 ghost use Rattle.spec_client.specs.ValueReading.{value_of_text};
 ghost use Rattle.client_replies.specs.Kept.{entry_kept};
 ghost use Rattle.client_replies.specs.Stages.{stage_kept, purpose_kept, progress_kept};
-ghost use Rattle.client_replies.specs.Parts.{told};
+ghost use Rattle.client_replies.specs.Parts.{told, is_recording};
 
 use crate::asking::{
     addition_request, handle_request, release_request, type_info_request, upload_request,
@@ -21,6 +21,7 @@ use crate::entries::{entry_lines, one_entry};
 use crate::own_entry::OwnEntry;
 use crate::printed::{facts_line, ok_line, state_line, value_line};
 use crate::progress::{done_with, ended, sending, stay};
+use crate::record_answers::record_answered;
 use crate::showing::{after_leaves, after_type_info, after_types};
 use crate::stage::{CallEnd, Progress, Purpose, Stage};
 use crate::values::read_value;
@@ -29,7 +30,6 @@ use ads_commands::{Reply, read_reply};
 use std::alloc::Global;
 
 /// What an answer leads to: its AMS error, its command, and its bytes behind the AMS header.
-#[tactic(auto, unfolding(spec_client::specs::Replies::after_answer))]
 pub fn after_answer(
     alloc: Global,
     stage: Stage,
@@ -37,6 +37,25 @@ pub fn after_answer(
     command: u16,
     payload: Octets,
 ) -> Result<Progress, NoMemory>
+    ensures { IfOk result (λ p. progress_kept p
+        ≡ replies.after_answer (stage_kept stage) error (reply_of command payload) payload) }
+{
+    match stage {
+        Stage::Records(wait, r) => record_answered(alloc, wait, r, error, command, payload),
+        other => after_other(alloc, other, error, command, payload),
+    }
+}
+
+// What an answer leads to in a call that is no recording.
+#[tactic(auto, using(crate::proofs::Apart::ends_apart), unfolding(spec_client::specs::Replies::after_answer))]
+fn after_other(
+    alloc: Global,
+    stage: Stage,
+    error: u32,
+    command: u16,
+    payload: Octets,
+) -> Result<Progress, NoMemory>
+    requires { is_recording (stage_kept stage) ≡ false }
     ensures { IfOk result (λ p. progress_kept p
         ≡ replies.after_answer (stage_kept stage) error (reply_of command payload) payload) }
 {
@@ -50,12 +69,14 @@ pub fn after_answer(
 }
 
 // Nothing where the payload is not what was asked for.
+#[tactic(auto, using(crate::proofs::Apart::ends_apart))]
 fn after_payload(
     alloc: Global,
     stage: Stage,
     command: u16,
     payload: &[u8],
 ) -> Result<Option<Progress>, NoMemory>
+    requires { is_recording (stage_kept stage) ≡ false }
     ensures { IfOk result (λ found. told found payload.now
         ≡ replies.after_reply_read (stage_kept stage) (reply_of command payload.now) payload.now) }
 {
@@ -69,7 +90,7 @@ fn after_payload(
     after_reply(alloc, stage, &reply)
 }
 
-fn result_in(r: &Reply<'_>) -> u32
+pub(crate) fn result_in(r: &Reply<'_>) -> u32
     ensures { result ≡ result_of (reply_meant r.now) }
 {
     match *r {
@@ -80,7 +101,7 @@ fn result_in(r: &Reply<'_>) -> u32
 }
 
 // The bytes that a reply gives, where it gives bytes.
-fn bytes_given<'a>(r: &Reply<'a>) -> &'a [u8]
+pub(crate) fn bytes_given<'a>(r: &Reply<'a>) -> &'a [u8]
     ensures { result.now ≡ replies.bytes_given (reply_meant r.now) }
 {
     match *r {
@@ -89,7 +110,7 @@ fn bytes_given<'a>(r: &Reply<'a>) -> &'a [u8]
     }
 }
 
-fn handle_given(r: &Reply<'_>) -> u32
+pub(crate) fn handle_given(r: &Reply<'_>) -> u32
     ensures { result ≡ replies.handle_given (reply_meant r.now) }
 {
     match *r {
@@ -101,6 +122,7 @@ fn handle_given(r: &Reply<'_>) -> u32
 // What a reply with the result 0 leads to.
 #[tactic(auto, unfolding(spec_client::specs::Replies::after_reply))]
 fn after_reply(alloc: Global, stage: Stage, reply: &Reply<'_>) -> Result<Option<Progress>, NoMemory>
+    requires { is_recording (stage_kept stage) ≡ false }
     ensures { IfOk result (λ found. (payload : List ℕ) → told found payload
         ≡ replies.after_reply (stage_kept stage) (reply_meant reply.now) payload) }
 {
@@ -133,7 +155,11 @@ fn after_reply(alloc: Global, stage: Stage, reply: &Reply<'_>) -> Result<Option<
         Stage::AwaitsLeaves(size, leaves) => {
             after_leaves(alloc, size, leaves.as_slice(), bytes_given(reply))
         }
+        Stage::Records(wait, r) => Ok(Some(stay(alloc, Stage::Records(wait, r)))),
         Stage::Finished(end) => Ok(Some(stay(alloc, Stage::Finished(end)))),
+        Stage::FinishedRecording(end, entries) => {
+            Ok(Some(stay(alloc, Stage::FinishedRecording(end, entries))))
+        }
     }
 }
 

@@ -1,9 +1,16 @@
 //! Where a call stands, and what it gives to be done.
 
+ghost use Rattle.std.specs.Prelude.{◌≡◌, map};
+ghost use Rattle.spec_client.specs.Stages.{entries_taken};
+ghost use Rattle.client_replies.specs.Kept.{entry_kept};
+ghost use Rattle.client_replies.specs.Stages.{stage_kept};
+
 use crate::own_entry::OwnEntry;
+use crate::recording::{RecordWait, Recording};
 use crate::watching::Watching;
 use ads_base::{ListOf, Octets, Peer};
 use client_leaves::Leaf;
+use sample_store::Row;
 
 /// How a call ended. Moments count 100 ns from 1 January 1601.
 #[derive(Debug, Drop)]
@@ -64,6 +71,7 @@ pub enum Asked {
 pub enum Output {
     ToSend(Asked),
     ToPrint(Octets),
+    ToKeep(Row),
 }
 
 /// What a symbol's entry is asked for.
@@ -102,7 +110,23 @@ pub enum Stage {
     AwaitsTypes(Octets, OwnEntry, u32),
     /// A value of this size, whose leaves are printed.
     AwaitsLeaves(u32, ListOf<Leaf>),
+    Records(RecordWait, Recording),
     Finished(CallEnd),
+    /// A recording that ended, with the entries that it took.
+    FinishedRecording(CallEnd, ListOf<OwnEntry>),
+}
+
+impl Stage {
+    /// The entries that a recording took, in the order of its names, also where it has ended.
+    pub fn entries(&self) -> &[OwnEntry]
+        ensures { map entry_kept result.now ≡ entries_taken (stage_kept self.now) }
+    {
+        match self {
+            Stage::Records(_, r) => r.entries.as_slice(),
+            Stage::FinishedRecording(_, entries) => entries.as_slice(),
+            _ => &[],
+        }
+    }
 }
 
 /// Where a call stands then, and what is to be done before anything more is heard.

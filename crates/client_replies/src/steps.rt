@@ -5,6 +5,7 @@ ghost use Rattle.spec_client.specs.Calls as calls;
 ghost use Rattle.spec_client.specs.Stages as stages;
 ghost use Rattle.spec_client.specs.Steps as steps;
 ghost use Rattle.client_replies.specs.Kept.{entry_kept};
+ghost use Rattle.client_replies.specs.Rows.{HasNumbers};
 ghost use Rattle.client_replies.specs.Stages.{call_meant, purpose_kept, stage_kept, progress_kept};
 
 use crate::asking::{entry_request, upload_info_request};
@@ -12,12 +13,13 @@ use crate::call::Call;
 use crate::own_entry::OwnEntry;
 use crate::printed::{ended_line, sample_line};
 use crate::progress::{done_with, sending, stay};
+use crate::recordings::{after_record_end, after_record_sample};
 use crate::stage::{Asked, Output, Progress, Purpose, Stage};
 use crate::watching::Watching;
 use ads_base::{ListOf, NoMemory, Octets};
 use std::alloc::Global;
 
-/// What a sample leads to: those of other notifications, and those that nobody waits for, are passed over.
+/// What a sample leads to: a recording gives a row; those of other notifications, and those that nobody waits for, are passed over.
 #[tactic(auto, unfolding(spec_client::specs::Steps::after_sample))]
 pub fn after_sample(
     alloc: Global,
@@ -26,6 +28,7 @@ pub fn after_sample(
     time: u64,
     bytes: &[u8],
 ) -> Result<Progress, NoMemory>
+    requires { HasNumbers (stage_kept stage) }
     ensures { IfOk result (λ p. progress_kept p ≡ steps.after_sample (stage_kept stage) handle time bytes.now) }
 {
     match stage {
@@ -36,6 +39,7 @@ pub fn after_sample(
                 Ok(stay(alloc, Stage::Watches(entry, watched, left)))
             }
         }
+        Stage::Records(wait, r) => after_record_sample(alloc, wait, r, handle, time, bytes),
         other => Ok(stay(alloc, other)),
     }
 }
@@ -84,7 +88,7 @@ fn with_samples_left(
     })
 }
 
-/// What the end of a notification leads to: a call that watches it is done.
+/// What the end of a notification leads to: a call that watches it is done, and a recording goes on without it.
 #[tactic(auto, unfolding(spec_client::specs::Steps::after_end))]
 pub fn after_end(alloc: Global, stage: Stage, handle: u32) -> Result<Progress, NoMemory>
     ensures { IfOk result (λ p. progress_kept p ≡ steps.after_end (stage_kept stage) handle) }
@@ -98,6 +102,7 @@ pub fn after_end(alloc: Global, stage: Stage, handle: u32) -> Result<Progress, N
                 Ok(stay(alloc, Stage::Watches(entry, watched, left)))
             }
         }
+        Stage::Records(wait, r) => after_record_end(alloc, wait, r, handle),
         other => Ok(stay(alloc, other)),
     }
 }

@@ -2,7 +2,7 @@ use Rattle.std.proofs.Common.{map, ap, true, ◌≡◌}
 use Rattle.spec_client.specs.Laws.{goes_on}
 use Rattle.client_core.specs.Heard.{heard_meant}
 use Rattle.client_replies.specs.Stages.{stage_kept, output_kept}
-use Rattle.client_calls.proofs.StandingLemmas.{kept, waiting_inside, broken_inside, going_inside, goes_by}
+use Rattle.client_calls.proofs.StandingLemmas.{waiting_inside, broken_inside, going_inside, numbers_inside, goes_by}
 use Rattle.client_calls.proofs.runner.Runner.hear_more.Goals as goal
 
 pub returns-in-NotYet : goal.returns-in-NotYet
@@ -12,7 +12,7 @@ returns-in-NotYet c =
 
 pub returns-in-Broken : goal.returns-in-Broken
 returns-in-Broken c =
-    broken_inside c.self.inside.client (stage_kept c.self.inside.stage) (map output_kept c.self.inside.pending.items) c.args.self.now (kept c.next.new.self (stage_kept c.self.inside.stage) (map output_kept c.self.inside.pending.items)) (heard_meant c.in_ok-heard.heard) c.in-Broken.peer c.self.view_is c.requires.quiet c.requires.on
+    broken_inside c.self.inside.client c.next.new.self (stage_kept c.self.inside.stage) (map output_kept c.self.inside.pending.items) c.args.self.now (heard_meant c.in_ok-heard.heard) c.in-Broken.peer c.self.view_is c.requires.quiet c.requires.on
     (ap heard_meant c.in-Broken.is) c.in_ok-heard.ensures.heard
 
 pub returns-in_ok-take_in-in_default : goal.returns-in_ok-take_in-in_default
@@ -20,3 +20,7 @@ returns-in_ok-take_in-in_default c =
     let goes : goes_on (heard_meant c.in_ok-heard.heard) ≡ true = goes_by c.in_ok-heard.heard (λ e. c.in_default.not-NotYet e) (λ p e. c.in_default.not-Broken p e) in
     going_inside c.self.inside.client c.next.new.self (stage_kept c.self.inside.stage) (map output_kept c.self.inside.pending.items) c.args.self.now c.take_in.new.self (heard_meant c.in_ok-heard.heard) c.self.view_is c.requires.quiet c.requires.on goes
     c.in_ok-heard.ensures.heard c.in_ok-heard.ensures.stands c.in_ok-take_in-in_default.ensures c.requires.going
+
+pub take_in-requires : goal.take_in-requires
+take_in-requires c =
+    numbers_inside c.self.inside.client (stage_kept c.self.inside.stage) (map output_kept c.self.inside.pending.items) c.args.self.now c.self.view_is c.requires.going
