@@ -1,7 +1,7 @@
 -- What an answer makes of a conversation that goes on.
 use Rattle.std.proofs.Common.{◌≡◌, ◌+◌, ◌++◌, length, drop, Option, Some, None, refl, sym, ap, ◌∙◌}
 use Rattle.std.proofs.Math.Seq.{drop-append_seam}
-use Rattle.spec_client.specs.Conversation.{LinkAnswer, Bytes, Quiet, Closed, LoopEnd, Conversation, moment_of, quiet_after, sent_by, printed_by, end_of_stage, end_by_answer, runner_after_answer, with_answer, unless_ended, after_answer_unless, conversation_after_turns, conversation_going_on, conversation_after}
+use Rattle.spec_client.specs.Conversation.{LinkAnswer, Bytes, Quiet, Closed, LoopEnd, Conversation, moment_of, quiet_after, sent_by, printed_by, kept_by, end_of_stage, end_by_answer, runner_after_answer, with_answer, unless_ended, after_answer_unless, conversation_after_turns, conversation_going_on, conversation_after}
 use Rattle.spec_client.specs.Runner.{Turns, turns}
 use Rattle.spec_client.specs.CallLog.{sent_behind}
 
@@ -39,6 +39,22 @@ text_after c a on = ap (λ (d : Conversation). d.text) (goes c a on) ∙ same_te
 sent_after : (c : Conversation) (a : LinkAnswer) → c.end ≡ None → (conversation_after c a).sent ≡ c.sent ++ sent_by (c.answers + 1) (turns_after c a).steps
 unfolding conversation_after_turns
 sent_after c a on = ap (λ (d : Conversation). d.sent) (goes c a on) ∙ same_sent (before_end c a) a (before_end c a).end
+
+same_kept : (v : Conversation) (a : LinkAnswer) (end : Option LoopEnd) → (unless_ended v a end).kept ≡ v.kept
+same_kept v a None = refl
+same_kept v a (Some e) = refl
+
+pub kept_after : (c : Conversation) (a : LinkAnswer) → c.end ≡ None → (conversation_after c a).kept ≡ c.kept ++ kept_by (turns_after c a).steps
+unfolding conversation_after_turns
+kept_after c a on = ap (λ (d : Conversation). d.kept) (goes c a on) ∙ same_kept (before_end c a) a (before_end c a).end
+
+same_runner : (v : Conversation) (a : LinkAnswer) (end : Option LoopEnd) → (unless_ended v a end).runner ≡ v.runner
+same_runner v a None = refl
+same_runner v a (Some e) = refl
+
+pub runner_after : (c : Conversation) (a : LinkAnswer) → c.end ≡ None → (conversation_after c a).runner ≡ (turns_after c a).runner
+unfolding conversation_after_turns
+runner_after c a on = ap (λ (d : Conversation). d.runner) (goes c a on) ∙ same_runner (before_end c a) a (before_end c a).end
 
 pub behind_is : (c : Conversation) (a : LinkAnswer) → c.end ≡ None → sent_behind c a ≡ sent_by (c.answers + 1) (turns_after c a).steps
 behind_is c a on = ap (drop (length c.sent)) (sent_after c a on) ∙ drop-append_seam c.sent (sent_by (c.answers + 1) (turns_after c a).steps)

@@ -1,10 +1,12 @@
 -- Counts that do not fall, call by call; and some cases of an answer.
-use Rattle.std.proofs.Common.{Option, Some, None}
+use Rattle.std.proofs.Common.{◌≤◌, Option, Some, None}
 use Rattle.std.proofs.Math.Nat.{le_refl, le_trans}
 use Rattle.std.specs.Prelude.{Result, Ok, Err, IfOk, MatchOption}
 use Rattle.ads_base.specs.declared.no_memory.NoMemory.{NoMemory}
 use Rattle.ads_outside.specs.LinkState.{LinkState, LinkNeverFalls}
 use Rattle.ads_outside.specs.SinkState.{SinkState, NeverFalls}
+use Rattle.sample_store.specs.Keeper.{KeeperState}
+use Rattle.client_loop.specs.Outlets.{Outlets, outlets, IsLater}
 use Rattle.client_loop.specs.declared.turning.Turned.{Turned}
 
 pub link_same : (a : LinkState) → LinkNeverFalls a a
@@ -18,6 +20,19 @@ sink_same a = record { faults = le_refl a.faults; wants = le_refl a.wants }
 
 pub sink_then : (a b c : SinkState) → NeverFalls a b → NeverFalls b c → NeverFalls a c
 sink_then a b c x y = record { faults = le_trans x.faults y.faults; wants = le_trans x.wants y.wants }
+
+pub out_same : (a : Outlets) → IsLater a a
+out_same a = record { sink = sink_same a.sink; keeper = le_refl a.keeper.faults }
+
+pub out_then : (a b c : Outlets) → IsLater a b → IsLater b c → IsLater a c
+out_then a b c x y = record { sink = sink_then a.sink b.sink c.sink x.sink y.sink; keeper = le_trans x.keeper y.keeper }
+
+-- only the sink, or only the keeper, was called
+pub sink_later : (a b : SinkState) (k : KeeperState) → NeverFalls a b → IsLater (outlets a k) (outlets b k)
+sink_later a b k x = record { sink = x; keeper = le_refl k.faults }
+
+pub keeper_later : (a : SinkState) (j k : KeeperState) → j.faults ≤ k.faults → IsLater (outlets a j) (outlets a k)
+keeper_later a j k x = record { sink = sink_same a; keeper = x }
 
 -- a number that fell, whatever is told
 pub falls_told : (result : Result (Option Turned) NoMemory) (P : Type 0) → P → IfOk result (λ told. MatchOption told P (λ turned. Unit {0}))

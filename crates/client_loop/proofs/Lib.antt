@@ -2,9 +2,13 @@ pub mod SaidLemmas
 pub mod RestLemmas
 pub mod LogLemmas
 pub mod GoingLemmas
+pub mod ReadyLemmas
 pub mod TurnLemmas
 pub mod RoundLemmas
 pub mod OverLemmas
 pub mod TalkLemmas
+pub mod LineLemmas
+pub mod FinishLemmas
+pub mod RecordLemmas
 pub mod LaterLemmas
 pub mod ComeLemmas

@@ -7,16 +7,18 @@ use Rattle.ads_base.specs.declared.no_memory.NoMemory.{NoMemory}
 use Rattle.ads_outside.specs.declared.link_move.LinkMove.{LinkMove}
 use Rattle.ads_outside.specs.LinkState.{LinkState}
 use Rattle.ads_outside.specs.Puts.{Appends, AppendsPart}
-use Rattle.ads_outside.specs.SinkState.{SinkState}
+use Rattle.spec_client.specs.Stages.{entries_taken}
 use Rattle.spec_client.specs.CallOver.{conversation_after_all}
 use Rattle.spec_client.specs.Conversation as conversation
 use Rattle.spec_client.specs.Conversation.{LinkAnswer, Conversation, MAX_ANSWERS, conversation_after}
 use Rattle.spec_client.specs.CallLog.{sent_moves, sent_last, log_behind, log_up_to}
 use Rattle.client_calls.specs.Kept.{RunnerKept}
 use Rattle.client_calls.specs.Represents.{StandsFor}
-use Rattle.client_loop.specs.declared.loop_end.LoopEnd.{LoopEnd}
 use Rattle.client_loop.specs.declared.loop_end.LoopEnd.TheVariants as end
-use Rattle.client_loop.specs.LinkAfter.{history_after_answer, history_after_answers}
+use Rattle.client_loop.specs.declared.record_end.RecordEnd.{RecordEnd}
+use Rattle.client_loop.specs.declared.record_end.RecordEnd.TheVariants as record_end
+use Rattle.client_loop.specs.LinkAfter.{history_after_answer, history_after_answers, history_left}
+use Rattle.client_loop.specs.Outlets.{Outlets, IsLater, Adds, AddsPart}
 use Rattle.client_loop.specs.Said.{SendsSome, SentSome}
 use Rattle.client_loop.specs.Hearing.{GoesOver, StopsOver, EndsOver, end_at_last, IsAt, Hears, HearsAll, IsBegun}
 use Rattle.client_loop.proofs.LogLemmas.{over_append, history_append, awaited_append, log_append, log_up_to_append, last_append, log_in_two}
@@ -27,7 +29,7 @@ abbrev end_at : ℕ → Option conversation.LoopEnd
 end_at n = if n == MAX_ANSWERS + 1 then Some conversation.Budget else None
 
 -- no answer came yet
-pub hears_none : {O : Type 0} (c : Conversation) (k : RunnerKept) (tells : O → List LinkMove → Type 0) (link : LinkState) (out : SinkState)
+pub hears_none : {O : Type 0} (c : Conversation) (k : RunnerKept) (tells : O → List LinkMove → Type 0) (link : LinkState) (out : Outlets)
     → IsBegun k c → HearsAll c k 0 0 tells tells link link out out
 unfolding conversation_after_all log_behind
 hears_none c k tells link out b = record {
@@ -39,6 +41,7 @@ hears_none c k tells link out b = record {
   count_is = b.count_is;
   end_is = b.on ∙ sym (ap end_at b.count_is);
   text = λ base before. before;
+  rows = λ base before. before;
   told = λ o log told. tells_same tells o log told;
 }
 
@@ -46,7 +49,7 @@ before_last : (n : ℕ) → n < MAX_ANSWERS → end_at (n + 1) ≡ None
 before_last n few = ap (λ b. if b then Some conversation.Budget else None) (ne_eqb (n + 1) (MAX_ANSWERS + 1) (λ e. omega arith))
 
 -- fewer answers than are waited for came
-pub is_at : {O : Type 0} (c : Conversation) (k : RunnerKept) (quiet count : ℕ) (first second : O → List LinkMove → Type 0) (link mid_link : LinkState) (out mid : SinkState)
+pub is_at : {O : Type 0} (c : Conversation) (k : RunnerKept) (quiet count : ℕ) (first second : O → List LinkMove → Type 0) (link mid_link : LinkState) (out mid : Outlets)
     → count < MAX_ANSWERS → (h : HearsAll c k quiet count first second link mid_link out mid) → IsAt k quiet (conversation_after_all c h.answers)
 is_at c k quiet count first second link mid_link out mid few h = record {
   on = h.end_is ∙ ap end_at h.count_is ∙ before_last count few;
@@ -55,7 +58,7 @@ is_at c k quiet count first second link mid_link out mid few h = record {
 }
 
 -- one answer more
-pub hears_more : {O : Type 0} (c : Conversation) (k new : RunnerKept) (quiet more count : ℕ) (first second third : O → List LinkMove → Type 0) (link mid_link new_link : LinkState) (out mid new_out : SinkState)
+pub hears_more : {O : Type 0} (c : Conversation) (k new : RunnerKept) (quiet more count : ℕ) (first second third : O → List LinkMove → Type 0) (link mid_link new_link : LinkState) (out mid new_out : Outlets)
     → count < MAX_ANSWERS → HearsAll c k quiet count first second link mid_link out mid
     → ((x : Conversation) → IsAt k quiet x → Hears x new more second third mid_link new_link mid new_out)
     → HearsAll c new more (count + 1) first third link new_link out new_out
@@ -75,25 +78,29 @@ hears_more c k new quiet more count first second third link mid_link new_link ou
       quiet_is = ap (λ (y : Conversation). y.quiet) over ∙ r.quiet_is;
       count_is = ap (λ (y : Conversation). y.answers) over ∙ r.count ∙ ap (λ n. n + 1) h.count_is;
       end_is = subst (λ (y : Conversation). y.end ≡ end_at_last y) back r.end_is;
-      text = λ base before. subst (λ (y : Conversation). Appends base new_out.held y.text) back (r.text base (h.text base before));
+      text = λ base before. subst (λ (y : Conversation). Appends base new_out.sink.held y.text) back (r.text base (h.text base before));
+      rows = λ base before. subst (λ (y : Conversation). Adds base new_out.keeper.rows y.kept) back (r.rows base (h.rows base before));
       told = λ o log told.
           subst (λ ms. third o (log ++ ms)) (sym (log_append [] c h.answers (a ∷ [])))
           (tells_more third o log (log_behind [] c h.answers) (log_behind [] x (a ∷ [])) (r.told o (log ++ log_behind [] c h.answers) (h.told o log told)));
     }
 
 -- and then it ends so
-over_behind : {O : Type 0} (ended : Option conversation.LoopEnd) (c : Conversation) (k : RunnerKept) (quiet count : ℕ) (first second third : O → List LinkMove → Type 0) (link mid_link new_link : LinkState) (out mid new_out : SinkState)
-    → (h : HearsAll c k quiet count first second link mid_link out mid) → GoesOver (conversation_after_all c h.answers) ended second third mid_link new_link mid new_out
-    → GoesOver c ended first third link new_link out new_out
-over_behind ended c k quiet count first second third link mid_link new_link out mid new_out h g =
+over_behind : {O : Type 0} (ended : Option conversation.LoopEnd) (c : Conversation) (k new : RunnerKept) (quiet count : ℕ) (first second third : O → List LinkMove → Type 0) (link mid_link new_link : LinkState) (out mid new_out : Outlets)
+    → (h : HearsAll c k quiet count first second link mid_link out mid) → GoesOver (conversation_after_all c h.answers) new ended second third mid_link new_link mid new_out
+    → GoesOver c new ended first third link new_link out new_out
+over_behind ended c k new quiet count first second third link mid_link new_link out mid new_out h g =
     let x = conversation_after_all c h.answers in
     let over = over_append c h.answers g.answers in
     record {
       answers = h.answers ++ g.answers;
-      history = g.history ∙ ap (λ y. history_after_answers y g.answers) h.history ∙ sym (history_append link.history h.answers g.answers);
+      history =
+          g.history ∙ ap (λ y. history_left ended (history_after_answers y g.answers)) h.history ∙ ap (history_left ended) (sym (history_append link.history h.answers g.answers));
       awaited = awaited_append c h.answers g.answers h.awaited g.awaited;
       end_is = ap (λ (y : Conversation). y.end) over ∙ g.end_is;
-      text = λ base before. subst (λ (y : Conversation). Appends base new_out.held y.text) (sym over) (g.text base (h.text base before));
+      entries = g.entries ∙ ap (λ (y : Conversation). entries_taken y.runner.stage) (sym over);
+      text = λ base before. subst (λ (y : Conversation). Appends base new_out.sink.held y.text) (sym over) (g.text base (h.text base before));
+      rows = λ base before. subst (λ (y : Conversation). Adds base new_out.keeper.rows y.kept) (sym over) (g.rows base (h.rows base before));
       told = λ o log told.
           subst (λ ms. third o (log ++ ms)) (sym (log_append [] c h.answers g.answers))
           (tells_more third o log (log_behind [] c h.answers) (log_behind [] x g.answers) (g.told o (log ++ log_behind [] c h.answers) (h.told o log told)));
@@ -126,7 +133,7 @@ stops_with (b ∷ more) c front tells o log s =
     (subst (λ ms. SentSome (sent_last [] x (b ∷ more)) tells o (log ++ ms)) (sym (log_up_to_append [] c front b more))
     (subst (λ ms. SentSome (sent_last [] x (b ∷ more)) tells o ms) (append_assoc log (log_behind [] c front) (log_up_to [] x (b ∷ more))) s))
 
-stops_behind : {O : Type 0} (c : Conversation) (k : RunnerKept) (quiet count : ℕ) (first second third : O → List LinkMove → Type 0) (link mid_link new_link : LinkState) (out mid new_out : SinkState)
+stops_behind : {O : Type 0} (c : Conversation) (k : RunnerKept) (quiet count : ℕ) (first second third : O → List LinkMove → Type 0) (link mid_link new_link : LinkState) (out mid new_out : Outlets)
     → (h : HearsAll c k quiet count first second link mid_link out mid) → StopsOver (conversation_after_all c h.answers) second third mid_link new_link mid new_out
     → StopsOver c first third link new_link out new_out
 stops_behind c k quiet count first second third link mid_link new_link out mid new_out h g =
@@ -135,40 +142,50 @@ stops_behind c k quiet count first second third link mid_link new_link out mid n
       answers = h.answers ++ g.answers;
       history = g.history ∙ ap (λ y. history_after_answers y g.answers) h.history ∙ sym (history_append link.history h.answers g.answers);
       awaited = awaited_append c h.answers g.answers h.awaited g.awaited;
-      text = λ base before. subst (λ (y : Conversation). AppendsPart base new_out.held y.text) (sym over) (g.text base (h.text base before));
+      text = λ base before. subst (λ (y : Conversation). AppendsPart base new_out.sink.held y.text) (sym over) (g.text base (h.text base before));
+      rows = λ base before. subst (λ (y : Conversation). AddsPart base new_out.keeper.rows y.kept) (sym over) (g.rows base (h.rows base before));
       told = λ o log told. stops_with g.answers c h.answers third o log (g.told o (log ++ log_behind [] c h.answers) (h.told o log told));
     }
 
-pub ends_behind : {O : Type 0} (result : Result LoopEnd NoMemory) (c : Conversation) (k : RunnerKept) (quiet count : ℕ) (first second third : O → List LinkMove → Type 0) (link mid_link new_link : LinkState) (out mid new_out : SinkState)
-    → link.faults ≤ mid_link.faults → out.faults ≤ mid.faults → count < MAX_ANSWERS → HearsAll c k quiet count first second link mid_link out mid
-    → ((x : Conversation) → IsAt k quiet x → EndsOver result x second third mid_link new_link mid new_out)
-    → EndsOver result c first third link new_link out new_out
-ends_behind (Ok (end.Call e)) c k quiet count first second third link mid_link new_link out mid new_out linked outed few h ends =
-    over_behind _ c k quiet count first second third link mid_link new_link out mid new_out h (ends _ (is_at c k quiet count first second link mid_link out mid few h))
-ends_behind (Ok end.Budget) c k quiet count first second third link mid_link new_link out mid new_out linked outed few h ends =
-    over_behind _ c k quiet count first second third link mid_link new_link out mid new_out h (ends _ (is_at c k quiet count first second link mid_link out mid few h))
-ends_behind (Ok end.LinkFault) c k quiet count first second third link mid_link new_link out mid new_out linked outed few h ends =
+pub ends_behind : {O : Type 0} (result : Result RecordEnd NoMemory) (c : Conversation) (k new : RunnerKept) (quiet count : ℕ) (first second third : O → List LinkMove → Type 0) (link mid_link new_link : LinkState) (out mid new_out : Outlets)
+    → link.faults ≤ mid_link.faults → IsLater out mid → count < MAX_ANSWERS → HearsAll c k quiet count first second link mid_link out mid
+    → ((x : Conversation) → IsAt k quiet x → EndsOver result x new second third mid_link new_link mid new_out)
+    → EndsOver result c new first third link new_link out new_out
+ends_behind (Ok (record_end.Loop (end.Call e))) c k new quiet count first second third link mid_link new_link out mid new_out linked outed few h ends =
+    over_behind _ c k new quiet count first second third link mid_link new_link out mid new_out h (ends _ (is_at c k quiet count first second link mid_link out mid few h))
+ends_behind (Ok (record_end.Loop end.Budget)) c k new quiet count first second third link mid_link new_link out mid new_out linked outed few h ends =
+    over_behind _ c k new quiet count first second third link mid_link new_link out mid new_out h (ends _ (is_at c k quiet count first second link mid_link out mid few h))
+ends_behind (Ok (record_end.Loop end.LinkFault)) c k new quiet count first second third link mid_link new_link out mid new_out linked outed few h ends =
     let e = ends _ (is_at c k quiet count first second link mid_link out mid few h) in (
       rose_later link.faults mid_link.faults new_link.faults linked e.0,
       elim e.1 [
-        | inl g ↦ inl (over_behind None c k quiet count first second third link mid_link new_link out mid new_out h g)
+        | inl g ↦ inl (over_behind None c k new quiet count first second third link mid_link new_link out mid new_out h g)
         | inr g ↦ inr (stops_behind c k quiet count first second third link mid_link new_link out mid new_out h g)
       ],
     )
-ends_behind (Ok end.WriteFault) c k quiet count first second third link mid_link new_link out mid new_out linked outed few h ends =
-    let e = ends _ (is_at c k quiet count first second link mid_link out mid few h) in
-    (rose_later out.faults mid.faults new_out.faults outed e.0, stops_behind c k quiet count first second third link mid_link new_link out mid new_out h e.1)
-ends_behind (Err e) c k quiet count first second third link mid_link new_link out mid new_out linked outed few h ends =
+ends_behind (Ok (record_end.Loop end.WriteFault)) c k new quiet count first second third link mid_link new_link out mid new_out linked outed few h ends =
+    let e = ends _ (is_at c k quiet count first second link mid_link out mid few h) in (
+      rose_later out.sink.faults mid.sink.faults new_out.sink.faults outed.sink.faults e.0,
+      stops_behind c k quiet count first second third link mid_link new_link out mid new_out h e.1,
+    )
+ends_behind (Ok record_end.KeeperFault) c k new quiet count first second third link mid_link new_link out mid new_out linked outed few h ends =
+    let e = ends _ (is_at c k quiet count first second link mid_link out mid few h) in (
+      rose_later out.keeper.faults mid.keeper.faults new_out.keeper.faults outed.keeper e.0,
+      stops_behind c k quiet count first second third link mid_link new_link out mid new_out h e.1,
+    )
+ends_behind (Err e) c k new quiet count first second third link mid_link new_link out mid new_out linked outed few h ends =
     stops_behind c k quiet count first second third link mid_link new_link out mid new_out h (ends _ (is_at c k quiet count first second link mid_link out mid few h))
 
 -- all answers that are waited for came
-pub hears_last : {O : Type 0} (c : Conversation) (k : RunnerKept) (quiet count : ℕ) (first second : O → List LinkMove → Type 0) (link new_link : LinkState) (out new_out : SinkState)
-    → count ≡ MAX_ANSWERS → HearsAll c k quiet count first second link new_link out new_out → GoesOver c (Some conversation.Budget) first second link new_link out new_out
+pub hears_last : {O : Type 0} (c : Conversation) (k : RunnerKept) (quiet count : ℕ) (first second : O → List LinkMove → Type 0) (link new_link : LinkState) (out new_out : Outlets)
+    → count ≡ MAX_ANSWERS → HearsAll c k quiet count first second link new_link out new_out → GoesOver c k (Some conversation.Budget) first second link new_link out new_out
 hears_last c k quiet count first second link new_link out new_out all h = record {
   answers = h.answers;
   history = h.history;
   awaited = h.awaited;
   end_is = h.end_is ∙ ap end_at (h.count_is ∙ ap (λ n. n + 1) all);
+  entries = ap entries_taken h.stands.stage_is;
   text = h.text;
+  rows = h.rows;
   told = h.told;
 }

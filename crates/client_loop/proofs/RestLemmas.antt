@@ -2,19 +2,21 @@
 use Rattle.std.proofs.Common.{◌≡◌, ℕ, zero, suc, List, [], ◌∷◌, ◌++◌, Bool, true, false, Some, None, refl, sym, ap, ◌∙◌, subst, append_assoc}
 use Rattle.std.specs.Prelude.{if◌then◌else◌}
 use Rattle.spec_client.specs.Client.{Client}
+use Rattle.spec_samples.specs.Row.{Row}
 use Rattle.spec_client.specs.Heard.{Heard, NotYet}
 use Rattle.spec_client.specs.Hearing.{next_hearing}
-use Rattle.spec_client.specs.Stages.{CallEnd, Output, ToSend, ToPrint, Stage, Finished}
+use Rattle.spec_client.specs.Stages.{CallEnd, Output, ToSend, ToPrint, ToKeep, Stage, Finished, FinishedRecording}
 use Rattle.spec_client.specs.Steps.{after_heard}
-use Rattle.spec_client.specs.Runner.{Runner, CallStep, Send, Print, Wait, Over, Turned, turned, given, resting, is_over, is_not_yet, runner_after_hearing, turn_within, turn, Turns, turns, after_step, joined}
+use Rattle.spec_client.specs.Runner.{Runner, CallStep, Send, Print, Keep, Wait, Over, Turned, turned, given, resting, is_over, is_not_yet, runner_after_hearing, turn_within, turn, Turns, turns, after_step, joined}
 use Rattle.spec_client.specs.Laws.{turns_behind}
-use Rattle.spec_client.specs.Conversation.{Sent, CallEnded, end_of_stage, sent_by, printed_by}
+use Rattle.spec_client.specs.Conversation.{Sent, CallEnded, end_of_stage, sent_by, printed_by, kept_by}
 use Rattle.spec_client.proofs.TurnsUnfolded.{at, turns_unfold}
 
 -- the stage behind a step by which a turn rests
 abbrev pub RestsBy : CallStep → Stage → Type 0
 RestsBy (Send bytes) stage = Unit {0}
 RestsBy (Print text) stage = Unit {0}
+RestsBy (Keep row) stage = Unit {0}
 RestsBy Wait stage = end_of_stage stage ≡ None
 RestsBy (Over end) stage = end_of_stage stage ≡ Some (CallEnded end)
 
@@ -25,9 +27,11 @@ given_right : (now : ℕ) (o : Output) (r : Runner) → IsRight (given now o r)
 unfolding given
 given_right now (ToSend request) r = tt
 given_right now (ToPrint text) r = tt
+given_right now (ToKeep row) r = tt
 
 resting_right : (stage : Stage) (r : Runner) → r.stage ≡ stage → IsRight (resting stage r)
 resting_right (Finished end) r e = ap end_of_stage e
+resting_right (FinishedRecording end entries) r e = ap end_of_stage e
 resting_right stage r e = ap end_of_stage e
 
 heard_stage : (stage : Stage) (h : Heard) → is_not_yet h ≡ true → (after_heard stage h).stage ≡ stage
@@ -65,6 +69,9 @@ unfolds_sent now r bytes is = unfolds_by now r (Send bytes) (sym is) ∙ ap (λ 
 pub unfolds_printed : (now : ℕ) (r : Runner) (text : List ℕ) → Print text ≡ (turn now r).step → turns now r ≡ after_step (turn now r) (turns now (turn now r).runner)
 unfolds_printed now r text is = unfolds_by now r (Print text) (sym is) ∙ ap (λ s. after_step (turned s (turn now r).runner) (turns now (turn now r).runner)) is
 
+pub unfolds_kept : (now : ℕ) (r : Runner) (row : Row) → Keep row ≡ (turn now r).step → turns now r ≡ after_step (turn now r) (turns now (turn now r).runner)
+unfolds_kept now r row is = unfolds_by now r (Keep row) (sym is) ∙ ap (λ s. after_step (turned s (turn now r).runner) (turns now (turn now r).runner)) is
+
 -- nothing is given
 pub unfolds_waiting : (now : ℕ) (r : Runner) → (turn now r).step ≡ Wait → turns now r ≡ record { steps = []; runner = (turn now r).runner }
 unfolds_waiting now r is = unfolds_by now r Wait is
@@ -76,6 +83,7 @@ pub sent-append : (n : ℕ) (steps more : List CallStep) → sent_by n (steps ++
 sent-append n [] more = refl
 sent-append n (Send bytes ∷ steps) more = ap (λ (x : List Sent). record { answers = n; bytes = bytes } ∷ x) (sent-append n steps more)
 sent-append n (Print text ∷ steps) more = sent-append n steps more
+sent-append n (Keep row ∷ steps) more = sent-append n steps more
 sent-append n (Wait ∷ steps) more = sent-append n steps more
 sent-append n (Over end ∷ steps) more = sent-append n steps more
 
@@ -83,8 +91,17 @@ pub printed-append : (steps more : List CallStep) → printed_by (steps ++ more)
 printed-append [] more = refl
 printed-append (Send bytes ∷ steps) more = printed-append steps more
 printed-append (Print text ∷ steps) more = ap (λ x. text ++ x) (printed-append steps more) ∙ sym (append_assoc text (printed_by steps) (printed_by more))
+printed-append (Keep row ∷ steps) more = printed-append steps more
 printed-append (Wait ∷ steps) more = printed-append steps more
 printed-append (Over end ∷ steps) more = printed-append steps more
+
+pub kept-append : (steps more : List CallStep) → kept_by (steps ++ more) ≡ kept_by steps ++ kept_by more
+kept-append [] more = refl
+kept-append (Send bytes ∷ steps) more = kept-append steps more
+kept-append (Print text ∷ steps) more = kept-append steps more
+kept-append (Keep row ∷ steps) more = ap (λ (x : List Row). row ∷ x) (kept-append steps more)
+kept-append (Wait ∷ steps) more = kept-append steps more
+kept-append (Over end ∷ steps) more = kept-append steps more
 
 -- one step more was taken
 pub joined_step : (steps : List CallStep) (a b : Turns) (t : Turned) (all : Turns) → all ≡ joined steps a → a ≡ after_step t b → all ≡ joined (steps ++ t.step ∷ []) b

@@ -1,56 +1,61 @@
 -- The first turns of a call, and the whole call behind the connection.
-use Rattle.std.proofs.Common.{◌≡◌, ℕ, ◌≤◌, List, [], ◌∷◌, ◌++◌, Option, None, refl, sym, ap, ◌∙◌, subst, inl, inr, append_assoc}
+use Rattle.std.proofs.Common.{◌≡◌, ℕ, ◌≤◌, List, [], ◌∷◌, ◌++◌, Bool, true, false, Option, None, refl, sym, ap, ◌∙◌, subst, inl, inr, append_assoc}
 use Rattle.std.specs.Prelude.{Result, Ok, Err}
 use Rattle.std.proofs.lemmas.List.{append-nil}
 use Rattle.ads_base.specs.declared.no_memory.NoMemory.{NoMemory}
 use Rattle.spec_formats.specs.Header.{AmsAddress}
 use Rattle.ads_outside.specs.declared.link_move.LinkMove.{LinkMove}
 use Rattle.ads_outside.specs.declared.link_move.LinkMove.TheVariants as move
-use Rattle.ads_outside.specs.LinkState.{LinkState, connected_at}
+use Rattle.ads_outside.specs.LinkState.{LinkState, LinkHistory, connected_at}
 use Rattle.ads_outside.specs.SinkState.{SinkState}
 use Rattle.spec_client.specs.Calls.{Call}
 use Rattle.spec_client.specs.CallOver.{conversation_after_all}
 use Rattle.spec_client.specs.Conversation as conversation
-use Rattle.spec_client.specs.Conversation.{LinkAnswer, Conversation, Sent, CallEnded, printed_by, sent_by, conversation_begun, conversation_after_turns}
+use Rattle.spec_client.specs.Conversation.{LinkAnswer, Bytes, Quiet, Closed, Conversation, printed_by, kept_by, sent_by, conversation_begun, conversation_after_turns}
 use Rattle.spec_client.specs.Runner.{new_runner, turns}
 use Rattle.spec_client.specs.CallLog.{sent_moves, sent_last, log_behind, log_up_to}
 use Rattle.client_replies.specs.declared.stage.CallEnd.{CallEnd}
 use Rattle.client_calls.specs.Kept.{RunnerKept}
 use Rattle.client_loop.specs.declared.loop_end.LoopEnd.{LoopEnd}
 use Rattle.client_loop.specs.declared.loop_end.LoopEnd.TheVariants as end
+use Rattle.client_loop.specs.declared.record_end.RecordEnd.{RecordEnd}
+use Rattle.client_loop.specs.declared.record_end.RecordEnd.TheVariants as record_end
 use Rattle.client_loop.specs.declared.turning.Turned.TheVariants as turned
-use Rattle.client_loop.specs.LinkAfter.{history_after_answers}
+use Rattle.client_loop.specs.LinkAfter.{history_after_answer, history_after_answers, history_left}
+use Rattle.client_loop.specs.Outlets.{Outlets, outlets, IsLater}
 use Rattle.client_loop.specs.Said.{SentSome, Gives, GivesSome}
 use Rattle.client_loop.specs.Turning.{AfterTurns}
-use Rattle.client_loop.specs.Called.{Calling, Talks, BreaksOff, AfterCall}
-use Rattle.client_loop.specs.Hearing.{IsWhole, IsPart, EndsOver, EndsFrom, IsBegun}
+use Rattle.client_loop.specs.Called.{Calling, Talks, BreaksOff, Fails, AfterCall}
+use Rattle.client_loop.specs.Hearing.{IsWhole, IsPart, EndsOver, EndsFrom, IsBegun, TalksAlone, all_of, none_of, no_rows}
 use Rattle.client_loop.proofs.LogLemmas.{log_pending}
 use Rattle.client_loop.proofs.OverLemmas.{told_whole}
-use Rattle.client_loop.proofs.SaidLemmas.{puts_nothing, puts_then, puts_part, puts_none, tells_more, tells_same, all_some}
+use Rattle.client_loop.proofs.SaidLemmas.{puts_nothing, puts_then, puts_part, puts_none, adds_then, adds_part, adds_none, tells_more, tells_same, all_some}
 use Rattle.client_loop.proofs.TurnLemmas.{rose_later}
 
 -- the call waits behind its first turns
-pub begins : {O : Type 0} (me peer : AmsAddress) (call : Call) (now : ℕ) (k : RunnerKept) (first second : O → List LinkMove → Type 0) (link mid_link : LinkState) (out mid : SinkState)
+pub begins : {O : Type 0} (me peer : AmsAddress) (call : Call) (now : ℕ) (k : RunnerKept) (first second : O → List LinkMove → Type 0) (link mid_link : LinkState) (out mid : Outlets)
     → AfterTurns (Ok turned.Waits) now k first second link mid_link out mid 1 (new_runner me peer call) → IsBegun k (conversation_begun me peer call now)
 unfolding conversation_after_turns
 begins me peer call now k first second link mid_link out mid t = record { on = t.1; stands = t.0; quiet_is = refl; count_is = refl }
 
 -- what the first turns gave
-pub gives_begun : {O : Type 0} (me peer : AmsAddress) (call : Call) (now : ℕ) (k : RunnerKept) (first second : O → List LinkMove → Type 0) (link mid_link : LinkState) (out mid : SinkState)
+pub gives_begun : {O : Type 0} (me peer : AmsAddress) (call : Call) (now : ℕ) (k : RunnerKept) (first second : O → List LinkMove → Type 0) (link mid_link : LinkState) (out mid : Outlets)
     → AfterTurns (Ok turned.Waits) now k first second link mid_link out mid 1 (new_runner me peer call)
-    → Gives (conversation_begun me peer call now).sent (conversation_begun me peer call now).text first second out.held mid.held
+    → let c = conversation_begun me peer call now in Gives c.sent c.text c.kept first second out mid
 unfolding conversation_after_turns
 gives_begun me peer call now k first second link mid_link out mid t = t.2
 
-whole_from : {O : Type 0} (c : Conversation) (ended : Option conversation.LoopEnd) (first second third : O → List LinkMove → Type 0) (link mid_link new_link : LinkState) (out mid new_out : SinkState)
-    → mid_link.history ≡ link.history → Gives c.sent c.text first second out.held mid.held → IsWhole c.text [] c ended second third mid_link new_link mid new_out
-    → IsWhole [] c.sent c ended first third link new_link out new_out
-whole_from c ended first second third link mid_link new_link out mid new_out same gives g = record {
+whole_from : {O : Type 0} (c : Conversation) (new : RunnerKept) (ended : Option conversation.LoopEnd) (first second third : O → List LinkMove → Type 0) (link mid_link new_link : LinkState) (out mid new_out : Outlets)
+    → mid_link.history ≡ link.history → Gives c.sent c.text c.kept first second out mid → IsWhole (all_of c) c new ended second third mid_link new_link mid new_out
+    → IsWhole (none_of c) c new ended first third link new_link out new_out
+whole_from c new ended first second third link mid_link new_link out mid new_out same gives g = record {
   answers = g.answers;
-  history = g.history ∙ ap (λ h. history_after_answers h g.answers) same;
+  history = g.history ∙ ap (λ h. history_left ended (history_after_answers h g.answers)) same;
   awaited = g.awaited;
   end_is = g.end_is;
-  text = λ base before. g.text base (puts_then base out.held mid.held [] c.text before gives.put);
+  entries = g.entries;
+  text = λ base before. g.text base (puts_then base out.sink.held mid.sink.held [] c.text before gives.put);
+  rows = λ base before. g.rows base (adds_then base out.keeper.rows mid.keeper.rows [] c.kept before gives.kept);
   told = λ o log told.
       subst (λ ms. third o (log ++ ms)) (sym (log_pending c.sent c g.answers))
       (tells_more third o log (sent_moves c.sent) (log_behind [] c g.answers) (g.told o (log ++ sent_moves c.sent) (gives.told o log told)));
@@ -69,109 +74,128 @@ part_with [] c tells o log s =
     }
 part_with (b ∷ more) c tells o log s = subst (λ ms. SentSome (sent_last [] c (b ∷ more)) tells o ms) (append_assoc log (sent_moves c.sent) (log_up_to [] c (b ∷ more))) s
 
-part_from : {O : Type 0} (c : Conversation) (first second third : O → List LinkMove → Type 0) (link mid_link new_link : LinkState) (out mid new_out : SinkState)
-    → mid_link.history ≡ link.history → Gives c.sent c.text first second out.held mid.held → IsPart c.text [] c second third mid_link new_link mid new_out
-    → IsPart [] c.sent c first third link new_link out new_out
+part_from : {O : Type 0} (c : Conversation) (first second third : O → List LinkMove → Type 0) (link mid_link new_link : LinkState) (out mid new_out : Outlets)
+    → mid_link.history ≡ link.history → Gives c.sent c.text c.kept first second out mid → IsPart (all_of c) c second third mid_link new_link mid new_out
+    → IsPart (none_of c) c first third link new_link out new_out
 part_from c first second third link mid_link new_link out mid new_out same gives g = record {
   answers = g.answers;
   history = g.history ∙ ap (λ h. history_after_answers h g.answers) same;
   awaited = g.awaited;
-  text = λ base before. g.text base (puts_then base out.held mid.held [] c.text before gives.put);
+  text = λ base before. g.text base (puts_then base out.sink.held mid.sink.held [] c.text before gives.put);
+  rows = λ base before. g.rows base (adds_then base out.keeper.rows mid.keeper.rows [] c.kept before gives.kept);
   told = λ o log told. part_with g.answers c third o log (g.told o (log ++ sent_moves c.sent) (gives.told o log told));
 }
 
 -- the answers behind the first turns
-pub ends_from : {O : Type 0} (result : Result LoopEnd NoMemory) (c : Conversation) (first second third : O → List LinkMove → Type 0) (link mid_link new_link : LinkState) (out mid new_out : SinkState)
-    → mid_link.history ≡ link.history → link.faults ≤ mid_link.faults → out.faults ≤ mid.faults → Gives c.sent c.text first second out.held mid.held
-    → EndsOver result c second third mid_link new_link mid new_out → EndsFrom result c first third link new_link out new_out
-ends_from (Ok (end.Call e)) c first second third link mid_link new_link out mid new_out same linked outed gives g = whole_from c _ first second third link mid_link new_link out mid new_out same gives g
-ends_from (Ok end.Budget) c first second third link mid_link new_link out mid new_out same linked outed gives g = whole_from c _ first second third link mid_link new_link out mid new_out same gives g
-ends_from (Ok end.LinkFault) c first second third link mid_link new_link out mid new_out same linked outed gives g = (
+pub ends_from : {O : Type 0} (result : Result RecordEnd NoMemory) (c : Conversation) (new : RunnerKept) (first second third : O → List LinkMove → Type 0) (link mid_link new_link : LinkState) (out mid new_out : Outlets)
+    → mid_link.history ≡ link.history → link.faults ≤ mid_link.faults → IsLater out mid → Gives c.sent c.text c.kept first second out mid
+    → EndsOver result c new second third mid_link new_link mid new_out → EndsFrom result c new first third link new_link out new_out
+ends_from (Ok (record_end.Loop (end.Call e))) c new first second third link mid_link new_link out mid new_out same linked outed gives g =
+    whole_from c new _ first second third link mid_link new_link out mid new_out same gives g
+ends_from (Ok (record_end.Loop end.Budget)) c new first second third link mid_link new_link out mid new_out same linked outed gives g =
+    whole_from c new _ first second third link mid_link new_link out mid new_out same gives g
+ends_from (Ok (record_end.Loop end.LinkFault)) c new first second third link mid_link new_link out mid new_out same linked outed gives g = (
   rose_later link.faults mid_link.faults new_link.faults linked g.0,
   elim g.1 [
-    | inl w ↦ inl (whole_from c None first second third link mid_link new_link out mid new_out same gives w)
+    | inl w ↦ inl (whole_from c new None first second third link mid_link new_link out mid new_out same gives w)
     | inr w ↦ inr (part_from c first second third link mid_link new_link out mid new_out same gives w)
   ],
 )
-ends_from (Ok end.WriteFault) c first second third link mid_link new_link out mid new_out same linked outed gives g =
-    (rose_later out.faults mid.faults new_out.faults outed g.0, part_from c first second third link mid_link new_link out mid new_out same gives g.1)
-ends_from (Err e) c first second third link mid_link new_link out mid new_out same linked outed gives g = part_from c first second third link mid_link new_link out mid new_out same gives g
+ends_from (Ok (record_end.Loop end.WriteFault)) c new first second third link mid_link new_link out mid new_out same linked outed gives g = (
+  rose_later out.sink.faults mid.sink.faults new_out.sink.faults outed.sink.faults g.0,
+  part_from c first second third link mid_link new_link out mid new_out same gives g.1,
+)
+ends_from (Ok record_end.KeeperFault) c new first second third link mid_link new_link out mid new_out same linked outed gives g = (
+  rose_later out.keeper.faults mid.keeper.faults new_out.keeper.faults outed.keeper g.0,
+  part_from c first second third link mid_link new_link out mid new_out same gives g.1,
+)
+ends_from (Err e) c new first second third link mid_link new_link out mid new_out same linked outed gives g =
+    part_from c first second third link mid_link new_link out mid new_out same gives g
 
 -- the call is over by its first turns
-pub over_first : {O : Type 0} (e : CallEnd) (me peer : AmsAddress) (call : Call) (now : ℕ) (k : RunnerKept) (first second : O → List LinkMove → Type 0) (link new_link : LinkState) (out new_out : SinkState)
+pub over_first : {O : Type 0} (e : CallEnd) (me peer : AmsAddress) (call : Call) (now : ℕ) (k : RunnerKept) (first second : O → List LinkMove → Type 0) (link new_link : LinkState) (out new_out : Outlets)
     → new_link.history ≡ link.history → AfterTurns (Ok (turned.Over e)) now k first second link new_link out new_out 1 (new_runner me peer call)
-    → EndsFrom (Ok (end.Call e)) (conversation_begun me peer call now) first second link new_link out new_out
+    → EndsFrom (Ok (record_end.Loop (end.Call e))) (conversation_begun me peer call now) k first second link new_link out new_out
 unfolding conversation_after_turns conversation_after_all log_behind
 over_first e me peer call now k first second link new_link out new_out same t = record {
   answers = [];
   history = same;
   awaited = tt;
   end_is = t.0;
-  text = λ base before. puts_then base out.held new_out.held [] (printed_by (turns now (new_runner me peer call)).steps) before t.1.put;
+  entries = t.2;
+  text = λ base before. puts_then base out.sink.held new_out.sink.held [] (printed_by (turns now (new_runner me peer call)).steps) before t.1.put;
+  rows = λ base before. adds_then base out.keeper.rows new_out.keeper.rows [] (kept_by (turns now (new_runner me peer call)).steps) before t.1.kept;
   told = t.1.told;
 }
 
-part_first : {O : Type 0} (me peer : AmsAddress) (call : Call) (now : ℕ) (first second : O → List LinkMove → Type 0) (link new_link : LinkState) (out new_out : SinkState)
+part_first : {O : Type 0} (me peer : AmsAddress) (call : Call) (now : ℕ) (first second : O → List LinkMove → Type 0) (link new_link : LinkState) (out new_out : Outlets)
     → new_link.history ≡ link.history
-    → GivesSome (sent_by 1 (turns now (new_runner me peer call)).steps) (printed_by (turns now (new_runner me peer call)).steps) first second out.held new_out.held
-    → let c = conversation_begun me peer call now in IsPart [] c.sent c first second link new_link out new_out
+    → let steps = (turns now (new_runner me peer call)).steps in GivesSome (sent_by 1 steps) (printed_by steps) (kept_by steps) first second out new_out
+    → let c = conversation_begun me peer call now in IsPart (none_of c) c first second link new_link out new_out
 unfolding conversation_after_turns conversation_after_all log_up_to sent_last
 part_first me peer call now first second link new_link out new_out same gives = record {
   answers = [];
   history = same;
   awaited = tt;
-  text = λ base before. puts_part base out.held new_out.held [] (printed_by (turns now (new_runner me peer call)).steps) before gives.put;
+  text = λ base before. puts_part base out.sink.held new_out.sink.held [] (printed_by (turns now (new_runner me peer call)).steps) before gives.put;
+  rows = λ base before. adds_part base out.keeper.rows new_out.keeper.rows [] (kept_by (turns now (new_runner me peer call)).steps) before gives.kept;
   told = λ o log told. subst (λ ms. SentSome (sent_by 1 (turns now (new_runner me peer call)).steps) second o ms) (sym (append-nil log)) (gives.told o log told);
 }
 
-pub link_first : {O : Type 0} (me peer : AmsAddress) (call : Call) (now : ℕ) (k : RunnerKept) (first second : O → List LinkMove → Type 0) (link new_link : LinkState) (out new_out : SinkState)
+pub link_first : {O : Type 0} (me peer : AmsAddress) (call : Call) (now : ℕ) (k : RunnerKept) (first second : O → List LinkMove → Type 0) (link new_link : LinkState) (out new_out : Outlets)
     → new_link.history ≡ link.history → AfterTurns (Ok turned.LinkFault) now k first second link new_link out new_out 1 (new_runner me peer call)
-    → EndsFrom (Ok end.LinkFault) (conversation_begun me peer call now) first second link new_link out new_out
+    → EndsFrom (Ok (record_end.Loop end.LinkFault)) (conversation_begun me peer call now) k first second link new_link out new_out
 link_first me peer call now k first second link new_link out new_out same t = (t.0, inr (part_first me peer call now first second link new_link out new_out same t.1))
 
-pub write_first : {O : Type 0} (me peer : AmsAddress) (call : Call) (now : ℕ) (k : RunnerKept) (first second : O → List LinkMove → Type 0) (link new_link : LinkState) (out new_out : SinkState)
+pub write_first : {O : Type 0} (me peer : AmsAddress) (call : Call) (now : ℕ) (k : RunnerKept) (first second : O → List LinkMove → Type 0) (link new_link : LinkState) (out new_out : Outlets)
     → new_link.history ≡ link.history → AfterTurns (Ok turned.WriteFault) now k first second link new_link out new_out 1 (new_runner me peer call)
-    → EndsFrom (Ok end.WriteFault) (conversation_begun me peer call now) first second link new_link out new_out
+    → EndsFrom (Ok (record_end.Loop end.WriteFault)) (conversation_begun me peer call now) k first second link new_link out new_out
 write_first me peer call now k first second link new_link out new_out same t = (t.0, part_first me peer call now first second link new_link out new_out same t.1)
 
-pub memory_first : {O : Type 0} (e : NoMemory) (me peer : AmsAddress) (call : Call) (now : ℕ) (k : RunnerKept) (first second : O → List LinkMove → Type 0) (link new_link : LinkState) (out new_out : SinkState)
+pub keeper_first : {O : Type 0} (me peer : AmsAddress) (call : Call) (now : ℕ) (k : RunnerKept) (first second : O → List LinkMove → Type 0) (link new_link : LinkState) (out new_out : Outlets)
+    → new_link.history ≡ link.history → AfterTurns (Ok turned.KeeperFault) now k first second link new_link out new_out 1 (new_runner me peer call)
+    → EndsFrom (Ok record_end.KeeperFault) (conversation_begun me peer call now) k first second link new_link out new_out
+keeper_first me peer call now k first second link new_link out new_out same t = (t.0, part_first me peer call now first second link new_link out new_out same t.1)
+
+pub memory_first : {O : Type 0} (e : NoMemory) (me peer : AmsAddress) (call : Call) (now : ℕ) (k : RunnerKept) (first second : O → List LinkMove → Type 0) (link new_link : LinkState) (out new_out : Outlets)
     → new_link.history ≡ link.history → AfterTurns (Err e) now k first second link new_link out new_out 1 (new_runner me peer call)
-    → EndsFrom (Err e) (conversation_begun me peer call now) first second link new_link out new_out
+    → EndsFrom (Err e) (conversation_begun me peer call now) k first second link new_link out new_out
 memory_first e me peer call now k first second link new_link out new_out same t = part_first me peer call now first second link new_link out new_out same t
 
 -- memory was wanting before them
-pub never_first : {O : Type 0} (c : Conversation) (tells : O → List LinkMove → Type 0) (link : LinkState) (out : SinkState) → IsPart [] c.sent c tells tells link link out out
+pub never_first : {O : Type 0} (c : Conversation) (tells : O → List LinkMove → Type 0) (link : LinkState) (out : Outlets) → IsPart (none_of c) c tells tells link link out out
 unfolding conversation_after_all log_up_to sent_last
 never_first c tells link out = record {
   answers = [];
   history = refl;
   awaited = tt;
-  text = λ base before. puts_part base out.held out.held [] c.text before (puts_none out.held c.text);
+  text = λ base before. puts_part base out.sink.held out.sink.held [] c.text before (puts_none out.sink.held c.text);
+  rows = λ base before. adds_part base out.keeper.rows out.keeper.rows [] c.kept before (adds_none out.keeper.rows c.kept);
   told = λ o log told. record { moves = []; told = tells_same tells o (log ++ []) (tells_same tells o log told); some = tt };
 }
 
-abbrev begun_by : Calling → ℕ → Conversation
+abbrev pub begun_by : Calling → ℕ → Conversation
 begun_by x now = conversation_begun x.me x.peer x.call now
 
-abbrev Joins : {O : Type 0} → Calling → ℕ → (O → List LinkMove → Type 0) → (O → List LinkMove → Type 0) → Type 0
+abbrev pub Joins : {O : Type 0} → Calling → ℕ → (O → List LinkMove → Type 0) → (O → List LinkMove → Type 0) → Type 0
 Joins {O} x now first second = (o : O) (log : List LinkMove) → first o log → second o (log ++ move.Connected x.to now ∷ [])
 
-talks_from : {O : Type 0} (x : Calling) (now : ℕ) (ended : Option conversation.LoopEnd) (first second third : O → List LinkMove → Type 0) (mid_link new_link : LinkState) (out new_out : SinkState)
-    → mid_link.history ≡ connected_at now → Joins x now first second → IsWhole [] (begun_by x now).sent (begun_by x now) ended second third mid_link new_link out new_out
-    → Talks x ended first third new_link out new_out
-talks_from x now ended first second third mid_link new_link out new_out at joins g = record {
+abbrev pub talks_from : {O : Type 0} (x : Calling) (now : ℕ) (k : RunnerKept) (ended : Option conversation.LoopEnd) (first second third : O → List LinkMove → Type 0) (mid_link new_link : LinkState) (out new_out : Outlets)
+    → mid_link.history ≡ connected_at now → Joins x now first second → IsWhole (none_of (begun_by x now)) (begun_by x now) k ended second third mid_link new_link out new_out
+    → Talks x ended first third new_link out.sink new_out.sink
+talks_from x now k ended first second third mid_link new_link out new_out at joins g = record {
   moment = now;
   answers = g.answers;
-  history = g.history ∙ ap (λ h. history_after_answers h g.answers) at;
+  history = g.history ∙ ap (λ h. history_left ended (history_after_answers h g.answers)) at;
   awaited = g.awaited;
   end_is = g.end_is;
-  text = g.text out.held (puts_nothing out.held);
+  text = g.text out.sink.held (puts_nothing out.sink.held);
   told = λ o log told. tells_more third o log (move.Connected x.to now ∷ []) (log_behind (begun_by x now).sent (begun_by x now) g.answers) (g.told o (log ++ move.Connected x.to now ∷ []) (joins o log told));
 }
 
-breaks_from : {O : Type 0} (x : Calling) (now : ℕ) (first second third : O → List LinkMove → Type 0) (mid_link new_link : LinkState) (out new_out : SinkState)
-    → mid_link.history ≡ connected_at now → Joins x now first second → IsPart [] (begun_by x now).sent (begun_by x now) second third mid_link new_link out new_out
-    → BreaksOff x first third new_link out new_out
+abbrev pub breaks_from : {O : Type 0} (x : Calling) (now : ℕ) (first second third : O → List LinkMove → Type 0) (mid_link new_link : LinkState) (out new_out : Outlets)
+    → mid_link.history ≡ connected_at now → Joins x now first second → IsPart (none_of (begun_by x now)) (begun_by x now) second third mid_link new_link out new_out
+    → BreaksOff x first third new_link out.sink new_out.sink
 breaks_from x now first second third mid_link new_link out new_out at joins g =
     let c = begun_by x now in
     record {
@@ -179,25 +203,59 @@ breaks_from x now first second third mid_link new_link out new_out at joins g =
       answers = g.answers;
       history = g.history ∙ ap (λ h. history_after_answers h g.answers) at;
       awaited = g.awaited;
-      text = g.text out.held (puts_nothing out.held);
+      text = g.text out.sink.held (puts_nothing out.sink.held);
       told = λ o log told.
           subst (λ ms. SentSome (sent_last c.sent c g.answers) third o ms) (append_assoc log (move.Connected x.to now ∷ []) (log_up_to c.sent c g.answers))
           (g.told o (log ++ move.Connected x.to now ∷ []) (joins o log told));
     }
 
+-- an answer says nothing of whether to receive failed
+same_broken : (h : LinkHistory) (a : LinkAnswer) → (history_after_answer h a).broken ≡ h.broken
+same_broken h (Bytes bytes now) = refl
+same_broken h (Quiet now) = refl
+same_broken h (Closed now) = refl
+
+pub all_broken : (h : LinkHistory) (answers : List LinkAnswer) → (history_after_answers h answers).broken ≡ h.broken
+all_broken h [] = refl
+all_broken h (a ∷ answers) = all_broken (history_after_answer h a) answers ∙ same_broken h a
+
+-- a link that failed, by which call
+fails_so : {O : Type 0} (broken : Bool) (x : Calling) (first third : O → List LinkMove → Type 0) (new_link : LinkState) (out new_out : SinkState)
+    → new_link.history.broken ≡ broken → Fails broken x first third new_link out new_out → Fails new_link.history.broken x first third new_link out new_out
+fails_so broken x first third new_link out new_out is f = subst (λ b. Fails b x first third new_link out new_out) (sym is) f
+
+recv_fails : {O : Type 0} (x : Calling) (first third : O → List LinkMove → Type 0) (new_link : LinkState) (out new_out : SinkState)
+    → Talks x None first third new_link out new_out → Fails new_link.history.broken x first third new_link out new_out
+recv_fails x first third new_link out new_out t = fails_so true x first third new_link out new_out (ap (λ (h : LinkHistory). h.broken) t.history) t
+
+send_fails : {O : Type 0} (x : Calling) (first third : O → List LinkMove → Type 0) (new_link : LinkState) (out new_out : SinkState)
+    → BreaksOff x first third new_link out new_out → Fails new_link.history.broken x first third new_link out new_out
+send_fails x first third new_link out new_out t =
+    fails_so false x first third new_link out new_out (ap (λ (h : LinkHistory). h.broken) t.history ∙ all_broken (connected_at t.moment) t.answers) t
+
 -- the whole call, behind its connection
 pub calls : {O : Type 0} (result : Result LoopEnd NoMemory) (x : Calling) (now : ℕ) (first second third : O → List LinkMove → Type 0) (link mid_link new_link : LinkState) (out new_out : SinkState)
     → mid_link.history ≡ connected_at now → link.faults ≤ mid_link.faults → Joins x now first second
-    → EndsFrom result (begun_by x now) second third mid_link new_link out new_out → AfterCall result x first third link new_link out new_out
-calls (Ok (end.Call e)) x now first second third link mid_link new_link out new_out at later joins g = talks_from x now _ first second third mid_link new_link out new_out at joins g
-calls (Ok end.Budget) x now first second third link mid_link new_link out new_out at later joins g = talks_from x now _ first second third mid_link new_link out new_out at joins g
+    → TalksAlone result (begun_by x now) second third mid_link new_link out new_out → AfterCall result x first third link new_link out new_out
+calls (Ok (end.Call e)) x now first second third link mid_link new_link out new_out at later joins g =
+    talks_from x now g.0 _ first second third mid_link new_link (outlets out no_rows) (outlets new_out no_rows) at joins g.1
+calls (Ok end.Budget) x now first second third link mid_link new_link out new_out at later joins g =
+    talks_from x now g.0 _ first second third mid_link new_link (outlets out no_rows) (outlets new_out no_rows) at joins g.1
 calls (Ok end.LinkFault) x now first second third link mid_link new_link out new_out at later joins g = (
-  rose_later link.faults mid_link.faults new_link.faults later g.0,
-  elim g.1 [
-    | inl w ↦ inr (inl (talks_from x now None first second third mid_link new_link out new_out at joins w))
-    | inr w ↦ inr (inr (breaks_from x now first second third mid_link new_link out new_out at joins w))
+  rose_later link.faults mid_link.faults new_link.faults later g.1.0,
+  elim g.1.1 [
+    | inl w ↦ inr (recv_fails x first third new_link out new_out
+        (talks_from x now g.0 None first second third mid_link new_link (outlets out no_rows) (outlets new_out no_rows) at joins w))
+    | inr w ↦ inr (send_fails x first third new_link out new_out
+        (breaks_from x now first second third mid_link new_link (outlets out no_rows) (outlets new_out no_rows) at joins w))
   ],
 )
 calls (Ok end.WriteFault) x now first second third link mid_link new_link out new_out at later joins g =
-    (g.0, breaks_from x now first second third mid_link new_link out new_out at joins g.1)
-calls (Err e) x now first second third link mid_link new_link out new_out at later joins g = inr (breaks_from x now first second third mid_link new_link out new_out at joins g)
+    (g.1.0, breaks_from x now first second third mid_link new_link (outlets out no_rows) (outlets new_out no_rows) at joins g.1.1)
+calls (Err e) x now first second third link mid_link new_link out new_out at later joins g =
+    inr (breaks_from x now first second third mid_link new_link (outlets out no_rows) (outlets new_out no_rows) at joins g)
+
+-- there is no memory for its runner
+pub never_called : {O : Type 0} (e : NoMemory) (c : Conversation) (tells : O → List LinkMove → Type 0) (link : LinkState) (out : SinkState)
+    → TalksAlone (Err e) c tells tells link link out out
+never_called e c tells link out = never_first c tells link (outlets out no_rows)

@@ -1,5 +1,5 @@
 -- What a call over a link leaves in the link and in the sink.
-use Rattle.std.specs.Prelude.{◌≡◌, ◌⊎◌, ℕ, List, [], ◌∷◌, ◌++◌, Option, Some, None, Result, Ok, Err}
+use Rattle.std.specs.Prelude.{◌≡◌, ◌⊎◌, ℕ, List, [], ◌∷◌, ◌++◌, Bool, true, false, Option, Some, None, Result, Ok, Err}
 use Rattle.ads_base.specs.declared.no_memory.NoMemory.{NoMemory}
 use Rattle.spec_formats.specs.Header.{AmsAddress}
 use Rattle.ads_outside.specs.declared.connected.Connected.{Connected}
@@ -18,7 +18,7 @@ use Rattle.spec_client.specs.CallLog.{call_log, call_log_up_to, call_sent_last}
 use Rattle.client_replies.specs.Stages.{end_meant}
 use Rattle.client_loop.specs.declared.loop_end.LoopEnd.{LoopEnd}
 use Rattle.client_loop.specs.declared.loop_end.LoopEnd.TheVariants as end
-use Rattle.client_loop.specs.LinkAfter.{history_over}
+use Rattle.client_loop.specs.LinkAfter.{history_over, history_left}
 use Rattle.client_loop.specs.Said.{SentSome}
 
 -- a call, between which addresses it is made, and what the link is connected to
@@ -53,13 +53,13 @@ LogsSome {O} x moment answers old_tells new_tells = (o : O) (log : List LinkMove
     → SentSome (call_sent_last x.me x.peer x.call moment answers) new_tells o
     (log ++ call_log_up_to x.me x.peer x.call x.to moment answers)
 
--- The link was connected at a moment and gave some answers, each to a call that went on. The call over them ended so, or goes on;
--- all that it sent was sent, and all its text was put.
+-- The link was connected at a moment and gave some answers, each to a call that went on. The call over them ended so; or it goes on,
+-- and to receive failed behind them. All that it sent was sent, and all its text was put.
 pub record Talks {O : Type 0} (x : Calling) (ended : Option conversation.LoopEnd)
     (old_tells new_tells : O → List LinkMove → Type 0) (new : LinkState) (out out_new : SinkState) : Type 0 where
   pub moment : ℕ
   pub answers : List LinkAnswer
-  pub history : new.history ≡ history_over moment answers
+  pub history : new.history ≡ history_left ended (history_over moment answers)
   pub awaited : AreAwaited (conversation_begun x.me x.peer x.call moment) answers
   pub end_is : (over x moment answers).end ≡ ended
   pub text : Appends out.held out_new.held (over x moment answers).text
@@ -83,7 +83,14 @@ pub record NeverBegins {O : Type 0} (x : Calling) (answer : Connected)
   pub silent : out_new ≡ out
   pub told : (o : O) (log : List LinkMove) → old_tells o log → new_tells o (log_after_connect answer x.to log)
 
--- what a call leaves, by how it ended
+-- A link that was connected failed. Where its history says that to receive failed, no text is lost: all was heard, sent and put up to that.
+-- Else to send failed.
+abbrev pub Fails : {O : Type 0} → (broken : Bool) → Calling → (O → List LinkMove → Type 0) → (O → List LinkMove → Type 0)
+    → LinkState → SinkState → SinkState → Type 0
+Fails true x old_tells new_tells new out out_new = Talks x None old_tells new_tells new out out_new
+Fails false x old_tells new_tells new out out_new = BreaksOff x old_tells new_tells new out out_new
+
+-- What a call leaves, by how it ended. Want of memory may come at each call, also behind a text that was put whole.
 abbrev pub AfterCall : {O : Type 0} → Result LoopEnd NoMemory → Calling → (O → List LinkMove → Type 0)
     → (O → List LinkMove → Type 0) → LinkState → LinkState → SinkState → SinkState → Type 0
 AfterCall (Ok (end.Call e)) x old_tells new_tells old new out out_new =
@@ -93,8 +100,7 @@ AfterCall (Ok end.Budget) x old_tells new_tells old new out out_new =
 AfterCall (Ok end.LinkFault) x old_tells new_tells old new out out_new =
     Rose old.faults new.faults
     × (NeverBegins x connected.Failed old_tells new_tells old new out out_new
-    ⊎ Talks x None old_tells new_tells new out out_new
-    ⊎ BreaksOff x old_tells new_tells new out out_new)
+    ⊎ Fails new.history.broken x old_tells new_tells new out out_new)
 AfterCall (Ok end.WriteFault) x old_tells new_tells old new out out_new =
     Rose out.faults out_new.faults × BreaksOff x old_tells new_tells new out out_new
 AfterCall (Err e) x old_tells new_tells old new out out_new =

@@ -1,5 +1,9 @@
 pub mod LinkAfter
+pub mod Outlets
+pub mod Ready
 pub mod Said
 pub mod Called
+pub mod Recorded
 pub mod Turning
 pub mod Hearing
+pub mod Lines

@@ -8,13 +8,17 @@ use Rattle.ads_outside.specs.LinkState.{LinkState}
 use Rattle.ads_outside.specs.Puts.{Appends, AppendsPart}
 use Rattle.ads_outside.specs.Rose.{Rose}
 use Rattle.ads_outside.specs.SinkState.{SinkState}
-use Rattle.spec_client.specs.Conversation.{CallEnded, sent_by, printed_by, end_of_stage}
+use Rattle.spec_samples.specs.Row.{Row}
+use Rattle.sample_store.specs.Keeper.{KeeperState}
+use Rattle.spec_client.specs.Stages.{entries_taken}
+use Rattle.spec_client.specs.Conversation.{CallEnded, sent_by, printed_by, kept_by, end_of_stage}
 use Rattle.spec_client.specs.Runner.{Runner, CallStep, Wait, Over, turn, turns, after_step, joined}
 use Rattle.client_replies.specs.Stages.{end_meant}
 use Rattle.client_calls.specs.Kept.{RunnerKept}
 use Rattle.client_calls.specs.Represents.{StandsFor}
 use Rattle.client_loop.specs.declared.turning.Turned.{Turned}
 use Rattle.client_loop.specs.declared.turning.Turned.TheVariants as turned
+use Rattle.client_loop.specs.Outlets.{Outlets, Adds}
 use Rattle.client_loop.specs.Said.{Gives, GivesSome}
 
 -- bytes are sent whole
@@ -29,14 +33,14 @@ SendsPart {O} bytes old_tells new_tells =
 
 -- these steps were given, where so many answers stand before them
 abbrev pub GivesSteps : {O : Type 0} → ℕ → List CallStep → (O → List LinkMove → Type 0) → (O → List LinkMove → Type 0)
-    → SinkState → SinkState → Type 0
+    → Outlets → Outlets → Type 0
 GivesSteps n steps old_tells new_tells out new_out =
-    Gives (sent_by n steps) (printed_by steps) old_tells new_tells out.held new_out.held
+    Gives (sent_by n steps) (printed_by steps) (kept_by steps) old_tells new_tells out new_out
 
 abbrev pub GivesSomeSteps : {O : Type 0} → ℕ → List CallStep → (O → List LinkMove → Type 0) → (O → List LinkMove → Type 0)
-    → SinkState → SinkState → Type 0
+    → Outlets → Outlets → Type 0
 GivesSomeSteps n steps old_tells new_tells out new_out =
-    GivesSome (sent_by n steps) (printed_by steps) old_tells new_tells out.held new_out.held
+    GivesSome (sent_by n steps) (printed_by steps) (kept_by steps) old_tells new_tells out new_out
 
 -- what became of bytes that were to be sent
 abbrev pub AfterSend : {O : Type 0} → Result (Option Turned) NoMemory → (O → List LinkMove → Type 0)
@@ -55,9 +59,16 @@ AfterPut (Ok (Some turned.WriteFault)) out new_out text =
 AfterPut (Ok (Some other)) out new_out text = ⊥
 AfterPut (Err e) out new_out text = AppendsPart out.held new_out.held text
 
+-- what became of a row that was to be kept
+abbrev pub AfterKeep : Result (Option Turned) NoMemory → KeeperState → KeeperState → Row → Type 0
+AfterKeep (Ok None) old new row = Adds old.rows new.rows (row ∷ [])
+AfterKeep (Ok (Some turned.KeeperFault)) old new row = (new.rows ≡ old.rows) × Rose old.faults new.faults
+AfterKeep (Ok (Some other)) old new row = ⊥
+AfterKeep (Err e) old new row = new.rows ≡ old.rows
+
 -- what became of one turn of a runner, which gives a step or rests
 abbrev pub AfterTurn : {O : Type 0} → Result (Option Turned) NoMemory → ℕ → RunnerKept → (O → List LinkMove → Type 0)
-    → (O → List LinkMove → Type 0) → LinkState → LinkState → SinkState → SinkState → ℕ → Runner → Type 0
+    → (O → List LinkMove → Type 0) → LinkState → LinkState → Outlets → Outlets → ℕ → Runner → Type 0
 AfterTurn (Ok None) now new old_tells new_tells link new_link out new_out n r =
     StandsFor new (turn now r).runner × (turns now r ≡ after_step (turn now r) (turns now (turn now r).runner))
     × GivesSteps n ((turn now r).step ∷ []) old_tells new_tells out new_out
@@ -65,12 +76,17 @@ AfterTurn (Ok (Some turned.Waits)) now new old_tells new_tells link new_link out
     StandsFor new (turn now r).runner × ((turn now r).step ≡ Wait) × GivesSteps n [] old_tells new_tells out new_out
 AfterTurn (Ok (Some (turned.Over end))) now new old_tells new_tells link new_link out new_out n r =
     ((turn now r).step ≡ Over (end_meant end)) × GivesSteps n [] old_tells new_tells out new_out
+    × (entries_taken new.stage ≡ entries_taken (turn now r).runner.stage)
 AfterTurn (Ok (Some turned.LinkFault)) now new old_tells new_tells link new_link out new_out n r =
     Rose link.faults new_link.faults
     × (turns now r ≡ after_step (turn now r) (turns now (turn now r).runner))
     × GivesSomeSteps n ((turn now r).step ∷ []) old_tells new_tells out new_out
+AfterTurn (Ok (Some turned.KeeperFault)) now new old_tells new_tells link new_link out new_out n r =
+    Rose out.keeper.faults new_out.keeper.faults
+    × (turns now r ≡ after_step (turn now r) (turns now (turn now r).runner))
+    × GivesSomeSteps n ((turn now r).step ∷ []) old_tells new_tells out new_out
 AfterTurn (Ok (Some turned.WriteFault)) now new old_tells new_tells link new_link out new_out n r =
-    Rose out.faults new_out.faults
+    Rose out.sink.faults new_out.sink.faults
     × (turns now r ≡ after_step (turn now r) (turns now (turn now r).runner))
     × GivesSomeSteps n ((turn now r).step ∷ []) old_tells new_tells out new_out
 AfterTurn (Err e) now new old_tells new_tells link new_link out new_out n r =
@@ -78,23 +94,37 @@ AfterTurn (Err e) now new old_tells new_tells link new_link out new_out n r =
 
 -- all turns of a runner, up to a wait or the end
 abbrev pub AfterTurns : {O : Type 0} → Result Turned NoMemory → ℕ → RunnerKept → (O → List LinkMove → Type 0)
-    → (O → List LinkMove → Type 0) → LinkState → LinkState → SinkState → SinkState → ℕ → Runner → Type 0
+    → (O → List LinkMove → Type 0) → LinkState → LinkState → Outlets → Outlets → ℕ → Runner → Type 0
 AfterTurns (Ok turned.Waits) now new old_tells new_tells link new_link out new_out n r =
     StandsFor new (turns now r).runner × (end_of_stage (turns now r).runner.stage ≡ None)
     × GivesSteps n (turns now r).steps old_tells new_tells out new_out
 AfterTurns (Ok (turned.Over end)) now new old_tells new_tells link new_link out new_out n r =
     (end_of_stage (turns now r).runner.stage ≡ Some (CallEnded (end_meant end)))
     × GivesSteps n (turns now r).steps old_tells new_tells out new_out
+    × (entries_taken new.stage ≡ entries_taken (turns now r).runner.stage)
 AfterTurns (Ok turned.LinkFault) now new old_tells new_tells link new_link out new_out n r =
     Rose link.faults new_link.faults × GivesSomeSteps n (turns now r).steps old_tells new_tells out new_out
+AfterTurns (Ok turned.KeeperFault) now new old_tells new_tells link new_link out new_out n r =
+    Rose out.keeper.faults new_out.keeper.faults × GivesSomeSteps n (turns now r).steps old_tells new_tells out new_out
 AfterTurns (Ok turned.WriteFault) now new old_tells new_tells link new_link out new_out n r =
-    Rose out.faults new_out.faults × GivesSomeSteps n (turns now r).steps old_tells new_tells out new_out
+    Rose out.sink.faults new_out.sink.faults × GivesSomeSteps n (turns now r).steps old_tells new_tells out new_out
 AfterTurns (Err e) now new old_tells new_tells link new_link out new_out n r =
     GivesSomeSteps n (turns now r).steps old_tells new_tells out new_out
 
+-- the call waits for more
+abbrev pub IfWaits : Result Turned NoMemory → Type 0 → Type 0
+IfWaits (Ok turned.Waits) P = P
+IfWaits other P = Unit {0}
+
+-- something was given, or the call waits
+abbrev pub UnlessTurned : Result (Option Turned) NoMemory → Type 0 → Type 0
+UnlessTurned (Ok None) P = P
+UnlessTurned (Ok (Some turned.Waits)) P = P
+UnlessTurned other P = Unit {0}
+
 -- some turns of a runner were taken: what is kept stands for the runner behind them
 pub record TakesTurns {O : Type 0} (now : ℕ) (new : RunnerKept) (old_tells new_tells : O → List LinkMove → Type 0)
-    (out new_out : SinkState) (n : ℕ) (r : Runner) : Type 0 where
+    (out new_out : Outlets) (n : ℕ) (r : Runner) : Type 0 where
   pub steps : List CallStep
   pub behind : Runner
   pub stands : StandsFor new behind

@@ -2,7 +2,7 @@
 
 ghost use Rattle.std.specs.Prelude.{◌≡◌, ◌<◌, length, IfOk, IsSome};
 ghost use Rattle.ads_outside.specs.LinkState.{LinkNeverFalls};
-ghost use Rattle.client_calls.specs.Represents.{IsGoingOn};
+ghost use Rattle.client_loop.specs.Ready.{ReadyStill};
 ghost use Rattle.client_loop.specs.Hearing.{AfterComing};
 
 use ads_base::NoMemory;
@@ -29,9 +29,8 @@ pub(crate) fn take_in<L: Link>(
     buf: &mut [u8],
 ) -> Result<Option<Came>, NoMemory>
     requires room { 0 < length buf.old }
-    requires going { IsGoingOn runner.old }
     ensures comes { AfterComing result runner.old runner.new (L.tells link.old) (L.tells link.new) (L.state link.old) (L.state link.new) }
-    ensures going { IfOk result (λ came. IsSome came → IsGoingOn runner.new) }
+    ensures ready { IfOk result (λ came. IsSome came → ReadyStill runner.old runner.new) }
     ensures link_later { LinkNeverFalls (L.state link.old) (L.state link.new) }
 {
     match link.recv(buf) {

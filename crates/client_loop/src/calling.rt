@@ -11,14 +11,18 @@ ghost use Rattle.ads_outside.specs.SinkState.{NeverFalls};
 ghost use Rattle.client_replies.specs.Sound.{HasShortTexts};
 ghost use Rattle.client_replies.specs.Stages.{call_meant};
 ghost use Rattle.client_loop.specs.Called.{AfterCall, calling};
-ghost use Rattle.client_loop.specs.Hearing.{EndsFrom};
+ghost use Rattle.client_loop.specs.Hearing.{EndsFrom, TalksAlone};
+ghost use Rattle.client_loop.specs.Outlets.{outlets, IsLater};
+ghost use Rattle.client_loop.specs.Ready.{IsReady};
 
-use crate::LoopEnd;
 use crate::hearing::hear_all;
+use crate::no_keeper::NoKeeper;
 use crate::turning::{Turned, take_turns};
+use crate::{LoopEnd, RecordEnd};
 use ads_base::{AmsAddr, NoMemory};
 use ads_outside::{Connected, Link, Sink};
 use client_calls::{Call, Runner};
+use sample_store::Keeper;
 use std::alloc::Global;
 
 /// A call over a link. It connects the link to `to`, and the moment of that answer is the first one. Then it sends each
@@ -57,19 +61,19 @@ fn talk<L: Link, S: Sink>(
     now: u64,
 ) -> Result<LoopEnd, NoMemory>
     requires { HasShortTexts (call_meant call) }
-    ensures talks { EndsFrom result (conversation_begun (address_of me) (address_of peer) (call_meant call) now)
+    ensures talks { TalksAlone result (conversation_begun (address_of me) (address_of peer) (call_meant call) now)
         (L.tells link.old) (L.tells link.new) (L.state link.old) (L.state link.new) (S.state out.old) (S.state out.new) }
     ensures link_later { LinkNeverFalls (L.state link.old) (L.state link.new) }
     ensures out_later { NeverFalls (S.state out.old) (S.state out.new) }
 {
     match Runner::new(alloc, call, me, peer) {
-        Ok(mut runner) => talk_by(alloc, &mut runner, link, out, now),
+        Ok(mut runner) => talk_alone(alloc, &mut runner, link, out, now),
         Err(e) => Err(e),
     }
 }
 
-// The call of a new runner.
-fn talk_by<L: Link, S: Sink>(
+// The call of a new runner that keeps no rows.
+fn talk_alone<L: Link, S: Sink>(
     alloc: Global,
     runner: &mut Runner,
     link: &mut L,
@@ -78,16 +82,43 @@ fn talk_by<L: Link, S: Sink>(
 ) -> Result<LoopEnd, NoMemory>
     requires { IsGoingOn runner.old }
     ensures talks { (me peer : AmsAddress) (call : CallSpec) → StandsFor runner.old (new_runner me peer call)
-        → EndsFrom result (conversation_begun me peer call now)
+        → TalksAlone result (conversation_begun me peer call now)
         (L.tells link.old) (L.tells link.new) (L.state link.old) (L.state link.new) (S.state out.old) (S.state out.new) }
     ensures link_later { LinkNeverFalls (L.state link.old) (L.state link.new) }
     ensures out_later { NeverFalls (S.state out.old) (S.state out.new) }
 {
-    match take_turns(alloc, runner, link, out, now) {
-        Ok(Turned::Waits) => hear_all(alloc, runner, link, out),
-        Ok(Turned::Over(end)) => Ok(LoopEnd::Call(end)),
-        Ok(Turned::LinkFault) => Ok(LoopEnd::LinkFault),
-        Ok(Turned::WriteFault) => Ok(LoopEnd::WriteFault),
+    let mut keeper = NoKeeper;
+    match talk_by(alloc, runner, link, out, &mut keeper, now) {
+        Ok(RecordEnd::Loop(end)) => Ok(end),
+        // The keeper of no rows never fails.
+        Ok(RecordEnd::KeeperFault) => Err(NoMemory),
+        Err(e) => Err(e),
+    }
+}
+
+/// The call of a new runner.
+pub(crate) fn talk_by<L: Link, S: Sink, K: Keeper>(
+    alloc: Global,
+    runner: &mut Runner,
+    link: &mut L,
+    out: &mut S,
+    keeper: &mut K,
+    now: u64,
+) -> Result<RecordEnd, NoMemory>
+    requires { IsReady runner.old (K.state keeper.old).rows }
+    ensures talks { (me peer : AmsAddress) (call : CallSpec) → StandsFor runner.old (new_runner me peer call)
+        → EndsFrom result (conversation_begun me peer call now) runner.new
+        (L.tells link.old) (L.tells link.new) (L.state link.old) (L.state link.new)
+        (outlets (S.state out.old) (K.state keeper.old)) (outlets (S.state out.new) (K.state keeper.new)) }
+    ensures link_later { LinkNeverFalls (L.state link.old) (L.state link.new) }
+    ensures out_later { IsLater (outlets (S.state out.old) (K.state keeper.old)) (outlets (S.state out.new) (K.state keeper.new)) }
+{
+    match take_turns(alloc, runner, link, out, keeper, now) {
+        Ok(Turned::Waits) => hear_all(alloc, runner, link, out, keeper),
+        Ok(Turned::Over(end)) => Ok(RecordEnd::Loop(LoopEnd::Call(end))),
+        Ok(Turned::LinkFault) => Ok(RecordEnd::Loop(LoopEnd::LinkFault)),
+        Ok(Turned::WriteFault) => Ok(RecordEnd::Loop(LoopEnd::WriteFault)),
+        Ok(Turned::KeeperFault) => Ok(RecordEnd::KeeperFault),
         Err(e) => Err(e),
     }
 }

@@ -5,8 +5,14 @@ mod answers;
 mod calling;
 mod hearing;
 mod loop_end;
+mod no_keeper;
+mod record_end;
+mod recording;
+mod total_lines;
 mod turning;
 
 pub use calling::run_call;
-pub use client_calls::{Call, CallEnd, Mode2};
+pub use client_calls::{Call, CallEnd, Mode2, Names, RecordSpec};
 pub use loop_end::LoopEnd;
+pub use record_end::RecordEnd;
+pub use recording::run_record;
