@@ -70,14 +70,14 @@ unwritten_facts C s out between out_new writing is same rose = record {
 }
 
 -- the status of a call is neither
-no_writing : (e : CallEnd) → status_of_call e ≡ status.WriteFault → ⊥
+pub no_writing : (e : CallEnd) → status_of_call e ≡ status.WriteFault → ⊥
 no_writing Done h = cc
 no_writing (Refused code) h = cc
 no_writing (BadPeer peer) h = cc
 no_writing BadValue h = cc
 no_writing (TimedOut sent now) h = cc
 
-no_usage : (e : CallEnd) → status_of_call e ≡ status.Usage → ⊥
+pub no_usage : (e : CallEnd) → status_of_call e ≡ status.Usage → ⊥
 no_usage Done h = cc
 no_usage (Refused code) h = cc
 no_usage (BadPeer peer) h = cc
@@ -148,13 +148,13 @@ pub local_facts : (x : LocalCalling) (s : Status) (out out_new : SinkState) → 
 local_facts x s out out_new h = local_at x h.answer s out h.between out_new h.called h.later.faults h.prints
 
 -- where nothing failed, a call ends as its conversation, or memory was wanting
-told_own : (Q : Type 0) (st s : Status) (out between out_new : SinkState) → (s ≡ st → Q) → out.faults ≤ between.faults → (Rose out.faults out_new.faults → ⊥)
+pub told_own : (Q : Type 0) (st s : Status) (out between out_new : SinkState) → (s ≡ st → Q) → out.faults ≤ between.faults → (Rose out.faults out_new.faults → ⊥)
     → PrintsEnding (line_alone st) s between out_new → Q ⊎ (s ≡ status.Memory)
 told_own Q st s out between out_new own later no_fault (inl h) = inl (own h.0)
 told_own Q st s out between out_new own later no_fault (inr (inl h)) = absurd (no_fault (rose_from out.faults between.faults out_new.faults later h.1.1))
 told_own Q st s out between out_new own later no_fault (inr (inr h)) = inr h.0
 
-not_unwritten : (Q : Type 0) (out between out_new : SinkState) → (Rose out.faults out_new.faults → ⊥) → out_new ≡ between → Rose out.faults between.faults → Q
+pub not_unwritten : (Q : Type 0) (out between out_new : SinkState) → (Rose out.faults out_new.faults → ⊥) → out_new ≡ between → Rose out.faults between.faults → Q
 not_unwritten Q out between out_new no_fault same rose =
     let P : SinkState → Type 0 = λ x. Rose out.faults x.faults in absurd (no_fault (subst P (sym same) rose))
 
@@ -212,19 +212,19 @@ call_ends x y answer s out between out_new told tells old new same called later 
 }
 
 -- a call that was made is not ended by words, files, a description or a script
-not_before : (st s : Status) (old new : SinkState) → (IsBeforeRun st → ⊥) → PrintsEnding (line_alone st) s old new → IsBeforeRun s → ⊥
+pub not_before : (st s : Status) (old new : SinkState) → (IsBeforeRun st → ⊥) → PrintsEnding (line_alone st) s old new → IsBeforeRun s → ⊥
 not_before st s old new never (inl h) is = never (subst IsBeforeRun h.0 is)
 not_before st s old new never (inr (inl h)) is = subst IsBeforeRun h.0 is
 not_before st s old new never (inr (inr h)) is = subst IsBeforeRun h.0 is
 
-no_call_before : (e : CallEnd) → IsBeforeRun (status_of_call e) → ⊥
+pub no_call_before : (e : CallEnd) → IsBeforeRun (status_of_call e) → ⊥
 no_call_before Done h = h
 no_call_before (Refused code) h = h
 no_call_before (BadPeer peer) h = h
 no_call_before BadValue h = h
 no_call_before (TimedOut sent now) h = h
 
-answer_not_before : (answer : Result loop.LoopEnd NoMemory) (s : Status) (old new : SinkState) → PrintsAnswer answer s old new → IsBeforeRun s → ⊥
+pub answer_not_before : (answer : Result loop.LoopEnd NoMemory) (s : Status) (old new : SinkState) → PrintsAnswer answer s old new → IsBeforeRun s → ⊥
 answer_not_before (Ok (end.Call e)) s old new printed is = not_before (status_of_call (end_meant e)) s old new (no_call_before (end_meant e)) printed is
 answer_not_before (Ok end.Budget) s old new printed is = not_before status.Budget s old new (λ h. h) printed is
 answer_not_before (Ok end.LinkFault) s old new printed is = not_before status.LinkFault s old new (λ h. h) printed is

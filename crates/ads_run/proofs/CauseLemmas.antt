@@ -17,10 +17,12 @@ use Rattle.spec_plant.specs.Description.{Description}
 use Rattle.spec_machine.specs.ScriptLine.{ScriptLine}
 use Rattle.spec_rules.specs.TextVerdict.{TextVerdict, Described, Breaks, NoDocument, text_verdict}
 use Rattle.spec_server.specs.Server.{server_script}
+use Rattle.spec_store.specs.Slots.{Standing}
 use Rattle.serve_loop.specs.Leads.{events_in}
 use Rattle.serve_loop.specs.TurnTaken.{raised_by}
 use Rattle.serve_loop.proofs.EndLemmas.{events-after}
 use Rattle.serve_loop.proofs.TurnLemmas.{stops-after, ends-after}
+use Rattle.keep_play.specs.KeptSaves.{saves_of_play}
 use Rattle.ads_run.specs.declared.file_task.FileTask.{FileTask}
 use Rattle.ads_run.specs.declared.file_task.FileTask.TheVariants as file_task
 use Rattle.ads_run.specs.declared.status.Status.{Status}
@@ -34,17 +36,25 @@ use Rattle.client_loop.specs.Called.{calling}
 use Rattle.ads_run.specs.declared.client_task.ClientTask.{ClientTask}
 use Rattle.ads_run.specs.Asking.{local_calling, call_asked, own_address, asked_address}
 use Rattle.ads_run.specs.BuiltIn.{built_in}
-use Rattle.ads_run.specs.Causes.{CauseOfAsking, CauseOfService, IsNoLinkEnd, HasCause, EndsOfWire, TakesAll, FailsOfWire}
+use Rattle.ads_run.specs.declared.record_task.RecordTask.{RecordTask}
+use Rattle.ads_run.specs.Causes.{CauseOfRecord, CauseOfAsking, CauseOfKeeping, CauseOfService, IsNoLinkEnd, HasCause, EndsOfWire, TakesAll, FailsOfWire}
 use Rattle.ads_run.specs.Ending.{Ending, line_alone}
 use Rattle.ads_run.specs.Ends.{RunsSo, RunsBy}
+use Rattle.ads_run.specs.Keeping.{Keeping, EndsKeeping, PrintsKept, kept_ending, keeping}
 use Rattle.ads_run.specs.Prints.{PrintsEnding}
 use Rattle.ads_run.specs.Readings.{OverFiles}
 use Rattle.ads_run.specs.Service.{Service, ServedMachine, OfRelay, server_with, ending_after}
 use Rattle.ads_run.specs.Serving.{MakesMoves, PrintsAt, EndsService}
-use Rattle.ads_run.specs.Uses.{Uses}
-use Rattle.ads_run.specs.Verdict.{Verdict, ended, prints, verdict_of_lines, verdict_of_script, verdict_of_description, verdict_of_file, verdict_of_replay}
+use Rattle.ads_run.specs.RecordAsked.{recording_to, local_recording}
+use Rattle.ads_run.specs.RecordCauses.{CauseOfLocalRecording}
+use Rattle.ads_run.specs.Uses.{KeeperUse, Uses}
+use Rattle.ads_run.specs.Verdict.{verdict_of_recorded, verdict_of_recorded_text, verdict_of_record}
+use Rattle.ads_run.specs.Verdict.{Verdict, Play, ended, prints, over_server, over_relay, over_store, verdict_of_lines, verdict_of_script}
+use Rattle.ads_run.specs.Verdict.{verdict_of_description, verdict_of_file, verdict_of_described, verdict_of_both}
 use Rattle.ads_run.specs.Verdict.{verdict_of_migrated, verdict_of_served, verdict_of_service, verdict_of_file_task, verdict_of_task, verdict_of_called}
-use Rattle.ads_run.specs.Verdict.{verdict_of_local, verdict_of_ask, verdict_of_relay, verdict_of_relay_lines, verdict_of_relay_script}
+use Rattle.ads_run.specs.Verdict.{verdict_of_local, verdict_of_ask}
+use Rattle.ads_run.proofs.RecordLemmas.{recording_facts}
+use Rattle.ads_run.proofs.RecordLocalEnds.{local_recording_facts}
 use Rattle.ads_run.proofs.CallLemmas.{CallFacts, ending_told, told_facts, wanting_facts, unwritten_facts, call_facts, local_facts}
 
 -- what the end of a run of a task says
@@ -57,12 +67,26 @@ at_writing : (what : ClientTask) (client : ClientWords) (p : PeerWords) (lo ln :
 at_writing what client (peer.To to net) lo ln = tt
 at_writing what client (peer.Local description) lo ln = tt
 
+recording_written : (what : RecordTask) (p : PeerWords) (lo ln : LinkState) (keeper : KeeperUse) → CauseOfRecord what p status.WriteFault lo ln keeper
+recording_written what (peer.To to net) lo ln keeper = tt
+recording_written what (peer.Local description) lo ln keeper = tt
+
+recording_wants : (what : RecordTask) (p : PeerWords) (lo ln : LinkState) (keeper : KeeperUse) → CauseOfRecord what p status.Memory lo ln keeper
+recording_wants what (peer.To to net) lo ln keeper = tt
+recording_wants what (peer.Local description) lo ln keeper = tt
+
+recording_read : (what : RecordTask) (p : PeerWords) (lo ln : LinkState) (keeper : KeeperUse) → CauseOfRecord what p status.ReadFault lo ln keeper
+recording_read what (peer.To to net) lo ln keeper = tt
+recording_read what (peer.Local description) lo ln keeper = tt
+
 writing_cause : {O : Type 0} (asked : Option Task) (u : Uses O) → HasCause asked status.WriteFault u
 writing_cause None u = tt
 writing_cause (Some (task.OfFiles t)) u = tt
 writing_cause (Some (task.Serve d l n)) u = tt
 writing_cause (Some (task.RelayServe d l n)) u = tt
+writing_cause (Some (task.Keep d script store)) u = tt
 writing_cause (Some (task.Ask what client)) u = at_writing what client client.peer u.link.old u.link.new
+writing_cause (Some (task.Record what)) u = recording_written what what.client.peer u.link.old u.link.new u.keeper
 
 at_memory : (what : ClientTask) (client : ClientWords) (p : PeerWords) (lo ln : LinkState) → CauseOfAsking what client p status.Memory lo ln
 at_memory what client (peer.To to net) lo ln = tt
@@ -73,7 +97,9 @@ memory_cause None u = tt
 memory_cause (Some (task.OfFiles t)) u = tt
 memory_cause (Some (task.Serve d l n)) u = tt
 memory_cause (Some (task.RelayServe d l n)) u = tt
+memory_cause (Some (task.Keep d script store)) u = tt
 memory_cause (Some (task.Ask what client)) u = at_memory what client client.peer u.link.old u.link.new
+memory_cause (Some (task.Record what)) u = recording_wants what what.client.peer u.link.old u.link.new u.keeper
 
 pub cause_without_memory : {O : Type 0} (asked : Option Task) (s : Status) (u : Uses O) → s ≡ status.Memory → HasCause asked s u
 cause_without_memory asked s u is = subst (λ t. HasCause asked t u) (sym is) (memory_cause asked u)
@@ -87,7 +113,9 @@ reading_cause None u = tt
 reading_cause (Some (task.OfFiles t)) u = tt
 reading_cause (Some (task.Serve d l n)) u = tt
 reading_cause (Some (task.RelayServe d l n)) u = tt
+reading_cause (Some (task.Keep d script store)) u = tt
 reading_cause (Some (task.Ask what client)) u = at_reading what client client.peer u.link.old u.link.new
+reading_cause (Some (task.Record what)) u = recording_read what what.client.peer u.link.old u.link.new u.keeper
 
 -- of a run that was to end so
 ending_facts : {O : Type 0} (asked : Option Task) (e : Ending) (s : Status) (u : Uses O) → HasCause asked e.status u
@@ -192,12 +220,12 @@ service_facts service s out out_new wire wire_new (inr (inr h)) =
     run_facts service h.runs.ended h.runs.moves s out h.between out_new wire wire_new h.told.later.faults h.runs.wire h.runs.prints
 
 -- what holds of each ending of a task that asks its files alone, and of one that was refused
-record Holds (P : Verdict → Type 0) : Type 0 where
-  prints_ : (text : List ℕ) → P (prints text)
-  bad : (number item : ℕ) → P (ended (status.BadDescription number item))
-  script : (n : ℕ) → P (ended (status.BadScript n))
-  unread : P (ended status.ReadFault)
-  long : P (ended status.TooLong)
+pub record Holds (P : Verdict → Type 0) : Type 0 where
+  pub prints_ : (text : List ℕ) → P (prints text)
+  pub bad : (number item : ℕ) → P (ended (status.BadDescription number item))
+  pub script : (n : ℕ) → P (ended (status.BadScript n))
+  pub unread : P (ended status.ReadFault)
+  pub long : P (ended status.TooLong)
 
 of_file : (P : Verdict → Type 0) (v : List ℕ → Verdict) (o : Option (List ℕ)) → P (ended status.ReadFault) → P (ended status.TooLong)
     → ((bytes : List ℕ) → P (v bytes))
@@ -209,32 +237,31 @@ of_file P v (Some bytes) unread long all = go (nat_lt file_limit (length bytes))
     go true = long
     go false = all bytes
 
-of_lines : (P : Verdict → Type 0) → Holds P → (d : Description) (waves : List Wave) (r : Result (List ScriptLine) ℕ) → P (verdict_of_lines d waves r)
-of_lines P h d waves (Ok lines) = h.prints_ _
-of_lines P h d waves (Err n) = h.script n
+of_lines : (P : Verdict → Type 0) → Holds P → (play : List ScriptLine → Verdict) → ((lines : List ScriptLine) → P (play lines))
+    → (r : Result (List ScriptLine) ℕ) → P (verdict_of_lines play r)
+of_lines P h play all (Ok lines) = all lines
+of_lines P h play all (Err n) = h.script n
 
-of_script : (P : Verdict → Type 0) → Holds P → (d : Description) (waves : List Wave) (o : Option (List ℕ)) → P (verdict_of_file (verdict_of_script d waves) o)
-of_script P h d waves o = of_file P (verdict_of_script d waves) o h.unread h.long (λ bytes. of_lines P h d waves (server_script bytes))
-
-of_relay_lines : (P : Verdict → Type 0) → Holds P → (d : Description) (r : Result (List ScriptLine) ℕ) → P (verdict_of_relay_lines d r)
-of_relay_lines P h d (Ok lines) = h.prints_ _
-of_relay_lines P h d (Err n) = h.script n
+of_script : (P : Verdict → Type 0) → Holds P → (play : List ScriptLine → Verdict) → ((lines : List ScriptLine) → P (play lines))
+    → (o : Option (List ℕ)) → P (verdict_of_file (verdict_of_script play) o)
+of_script P h play all o = of_file P (verdict_of_script play) o h.unread h.long (λ bytes. of_lines P h play all (server_script bytes))
 
 of_check : (P : Verdict → Type 0) → Holds P → (v : TextVerdict) → P (verdict_of_description v)
 of_check P h (Described d) = h.prints_ _
 of_check P h (Breaks n item) = h.bad n item
 of_check P h NoDocument = h.bad 0 0
 
-of_replay : (P : Verdict → Type 0) → Holds P → (waves : List Wave) (script : Option (List ℕ)) (v : TextVerdict) → P (verdict_of_replay waves script v)
-of_replay P h waves script (Described d) = of_script P h d waves script
-of_replay P h waves script (Breaks n item) = h.bad n item
-of_replay P h waves script NoDocument = h.bad 0 0
+of_described : (P : Verdict → Type 0) → Holds P → (play : Play) → ((d : Description) (lines : List ScriptLine) → P (play d lines))
+    → (script : Option (List ℕ)) (v : TextVerdict) → P (verdict_of_described play script v)
+of_described P h play all script (Described d) = of_script P h (play d) (all d) script
+of_described P h play all script (Breaks n item) = h.bad n item
+of_described P h play all script NoDocument = h.bad 0 0
 
-of_relay : (P : Verdict → Type 0) → Holds P → (script : Option (List ℕ)) (v : TextVerdict) → P (verdict_of_relay script v)
-of_relay P h script (Described d) =
-    of_file P (verdict_of_relay_script d) script h.unread h.long (λ bytes. of_relay_lines P h d (server_script bytes))
-of_relay P h script (Breaks n item) = h.bad n item
-of_relay P h script NoDocument = h.bad 0 0
+pub of_both : (P : Verdict → Type 0) → Holds P → (play : Play) → ((d : Description) (lines : List ScriptLine) → P (play d lines))
+    → (signals : ℕ) (description script : List ℕ) (first second : List NamedFile) → P (verdict_of_both signals play description script first second)
+of_both P h play all signals description script first second =
+    of_file P (λ bytes. verdict_of_described play (bytes_of second script) (text_verdict signals bytes)) (bytes_of first description) h.unread h.long
+    (λ bytes. of_described P h play all (bytes_of second script) (text_verdict signals bytes))
 
 of_migrated : (P : Verdict → Type 0) → Holds P → (bytes : List ℕ) (v : TextVerdict) → P (verdict_of_migrated bytes v)
 of_migrated P h bytes (Described d) = h.prints_ _
@@ -243,16 +270,15 @@ of_migrated P h bytes NoDocument = h.bad 0 0
 
 of_file_task : (P : Verdict → Type 0) → Holds P → (waves : List Wave) (t : FileTask) (first second : List NamedFile)
     → P (verdict_of_file_task waves t first second)
-of_file_task P h waves (file_task.Selftest script) first second = of_script P h built_in waves (bytes_of first script)
+of_file_task P h waves (file_task.Selftest script) first second =
+    of_script P h (over_server waves built_in) (λ lines. h.prints_ _) (bytes_of first script)
 of_file_task P h waves (file_task.Check d) first second =
     of_file P (λ bytes. verdict_of_description (text_verdict (length waves) bytes)) (bytes_of first d) h.unread h.long
     (λ bytes. of_check P h (text_verdict (length waves) bytes))
 of_file_task P h waves (file_task.Replay d script) first second =
-    of_file P (λ bytes. verdict_of_replay waves (bytes_of second script) (text_verdict (length waves) bytes)) (bytes_of first d) h.unread h.long
-    (λ bytes. of_replay P h waves (bytes_of second script) (text_verdict (length waves) bytes))
+    of_both P h (over_server waves) (λ x lines. h.prints_ _) (length waves) d script first second
 of_file_task P h waves (file_task.Relay d script) first second =
-    of_file P (λ bytes. verdict_of_relay (bytes_of second script) (text_verdict (length waves) bytes)) (bytes_of first d) h.unread h.long
-    (λ bytes. of_relay P h (bytes_of second script) (text_verdict (length waves) bytes))
+    of_both P h over_relay (λ x lines. h.prints_ _) (length waves) d script first second
 of_file_task P h waves (file_task.Load n) first second = h.prints_ _
 of_file_task P h waves (file_task.Migrate d) first second =
     of_file P (λ bytes. verdict_of_migrated bytes (text_verdict (length waves) bytes)) (bytes_of first d) h.unread h.long
@@ -316,6 +342,64 @@ asked_facts waves what client (peer.Local name) first s u h =
     (λ k. ended_facts status.TooLong s u.out u.out_new tt (λ e. (cc)) (λ e. (cc)) k.0)
     (λ bytes k. described_facts waves what client s u (text_verdict (length waves) bytes) k) h
 
+-- of a recording
+local_recording_told : (st s : Status) (out out_new : SinkState) (keeper : KeeperUse) → CauseOfLocalRecording st keeper.old keeper.new
+    → (st ≡ status.WriteFault → ⊥) → (st ≡ status.Usage → ⊥) → PrintsEnding (line_alone st) s out out_new
+    → CallFacts (λ t. CauseOfLocalRecording t keeper.old keeper.new) s out out_new
+local_recording_told st s out out_new keeper cause no_fault no_usage printed =
+    told_facts (λ t. CauseOfLocalRecording t keeper.old keeper.new) st s out out out_new cause tt tt no_fault no_usage (search rules) printed
+
+recorded_described_facts : {O : Type 0} (waves : List Wave) (what : RecordTask) (s : Status) (u : Uses O) (v : TextVerdict)
+    → RunsSo (verdict_of_recorded waves what v) s u → CallFacts (λ t. CauseOfLocalRecording t u.keeper.old u.keeper.new) s u.out u.out_new
+recorded_described_facts waves what s u (Described d) h = local_recording_facts (local_recording d waves what) s u.out u.out_new u.keeper h
+recorded_described_facts waves what s u (Breaks n item) h =
+    local_recording_told (status.BadDescription n item) s u.out u.out_new u.keeper tt (λ e. (cc)) (λ e. (cc)) h.0
+recorded_described_facts waves what s u NoDocument h =
+    local_recording_told (status.BadDescription 0 0) s u.out u.out_new u.keeper tt (λ e. (cc)) (λ e. (cc)) h.0
+
+record_facts : {O : Type 0} (waves : List Wave) (what : RecordTask) (p : PeerWords) (first : List NamedFile) (s : Status) (u : Uses O)
+    → RunsSo (verdict_of_record waves what p first) s u → CallFacts (λ t. CauseOfRecord what p t u.link.old u.link.new u.keeper) s u.out u.out_new
+record_facts waves what (peer.To to net) first s u h = recording_facts (recording_to what net to) s u.out u.out_new u.link u.keeper h
+record_facts waves what (peer.Local name) first s u h =
+    of_file (λ v. RunsSo v s u → CallFacts (λ t. CauseOfLocalRecording t u.keeper.old u.keeper.new) s u.out u.out_new)
+    (verdict_of_recorded_text waves what) (bytes_of first name)
+    (λ k. local_recording_told status.ReadFault s u.out u.out_new u.keeper tt (λ e. (cc)) (λ e. (cc)) k.0)
+    (λ k. local_recording_told status.TooLong s u.out u.out_new u.keeper tt (λ e. (cc)) (λ e. (cc)) k.0)
+    (λ bytes k. recorded_described_facts waves what s u (text_verdict (length waves) bytes) k) h
+
+-- of a play over a store that was to end so
+told_facts_of_keep : {O : Type 0} (d script store : List ℕ) (e : Ending) (s : Status) (u : Uses O) → CauseOfKeeping e.status u.disk.faults u.disk.faults_new
+    → (e.status ≡ status.WriteFault → ⊥) → (e.status ≡ status.Usage → ⊥) → PrintsEnding e s u.out u.out_new → Facts (Some (task.Keep d script store)) s u
+told_facts_of_keep d script store e s u cause no_fault no_usage printed =
+    ending_facts (Some (task.Keep d script store)) e s u cause no_fault (λ is. absurd (no_usage is)) printed
+
+kept_facts : {O : Type 0} (d script store : List ℕ) (x : Keeping) (s : Status) (u : Uses O) (standing : Option Standing) (saves : List (List ℕ))
+    → PrintsKept x s u.out u.out_new u.disk standing saves → Facts (Some (task.Keep d script store)) s u
+kept_facts d script store x s u standing saves (inl h) = told_facts_of_keep d script store (kept_ending x standing) s u tt (λ e. (cc)) (λ e. (cc)) h.1
+kept_facts d script store x s u standing saves (inr (inl h)) =
+    told_facts_of_keep d script store (line_alone status.StoreLimit) s u tt (λ e. (cc)) (λ e. (cc)) h.1
+kept_facts d script store x s u standing saves (inr (inr (inl h))) =
+    told_facts_of_keep d script store (line_alone status.StoreFault) s u h.0 (λ e. (cc)) (λ e. (cc)) h.1
+kept_facts d script store x s u standing saves (inr (inr (inr h))) = record {
+  cause = cause_without_memory (Some (task.Keep d script store)) s u h.0;
+  write_fault = λ is. let other : status.Memory ≡ status.WriteFault = sym h.0 ∙ is in cc;
+  usage = λ is. let other : status.Memory ≡ status.Usage = sym h.0 ∙ is in cc;
+}
+
+kept_says : {O : Type 0} (d script store : List ℕ) (x : Keeping) (s : Status) (u : Uses O) → EndsKeeping x s u.out u.out_new u.disk
+    → Facts (Some (task.Keep d script store)) s u
+kept_says d script store x s u h =
+    kept_facts d script store x s u h.standing (saves_of_play x.description x.waves x.lines h.standing) h.ends
+
+ending_says : {O : Type 0} (d script store : List ℕ) (s : Status) (u : Uses O) → Holds (λ v. RunsSo v s u → Facts (Some (task.Keep d script store)) s u)
+ending_says d script store s u = record {
+  prints_ = λ text h. told_facts_of_keep d script store (record { status = status.Done; text = text }) s u tt (λ e. (cc)) (λ e. (cc)) h.0;
+  bad = λ n item h. told_facts_of_keep d script store (line_alone (status.BadDescription n item)) s u tt (λ e. (cc)) (λ e. (cc)) h.0;
+  script = λ n h. told_facts_of_keep d script store (line_alone (status.BadScript n)) s u tt (λ e. (cc)) (λ e. (cc)) h.0;
+  unread = λ h. told_facts_of_keep d script store (line_alone status.ReadFault) s u tt (λ e. (cc)) (λ e. (cc)) h.0;
+  long = λ h. told_facts_of_keep d script store (line_alone status.TooLong) s u tt (λ e. (cc)) (λ e. (cc)) h.0;
+}
+
 facts_so : {O : Type 0} (waves : List Wave) (asked : Option Task) (first second : List NamedFile) (s : Status) (u : Uses O)
     → RunsSo (verdict_of_task waves asked first second) s u → Facts asked s u
 facts_so waves None first second s u h = ending_facts None (line_alone status.Usage) s u tt (λ e. (cc)) (λ e. refl) h.0
@@ -327,8 +411,14 @@ facts_so waves (Some (task.Serve d l limit)) first second s u h =
 facts_so waves (Some (task.RelayServe d l limit)) first second s u h =
     let f = served_facts (length waves) OfRelay d l limit first s u h in
     record { cause = f.cause; write_fault = f.write_fault; usage = λ is. absurd (f.usage is) }
+facts_so waves (Some (task.Keep d script store)) first second s u h =
+    let Says : Verdict → Type 0 = λ v. RunsSo v s u → Facts (Some (task.Keep d script store)) s u in
+    of_both Says (ending_says d script store s u) (over_store waves) (λ x lines k. kept_says d script store (keeping x waves lines) s u k.0) (length waves) d script first second h
 facts_so waves (Some (task.Ask what client)) first second s u h =
     let f = asked_facts waves what client client.peer first s u h in
+    record { cause = f.cause; write_fault = f.write_fault; usage = λ is. absurd (f.usage is) }
+facts_so waves (Some (task.Record what)) first second s u h =
+    let f = record_facts waves what what.client.peer first s u h in
     record { cause = f.cause; write_fault = f.write_fault; usage = λ is. absurd (f.usage is) }
 
 facts_by : {O : Type 0} (waves : List Wave) (asked : Option Task) (first second : List NamedFile) (failed : Type 0) (s : Status) (u : Uses O)

@@ -14,7 +14,7 @@ use Rattle.ads_run.specs.Outcomes.{IsOutcome, Decides, HasBytes, Finds}
 use Rattle.ads_run.specs.Prints.{PutsMemoryLine, PrintsEnding}
 use Rattle.ads_run.specs.Readings.{OverFile, OverFiles}
 use Rattle.ads_run.specs.Service.{counts_and_line}
-use Rattle.ads_run.specs.Verdict.{Verdict, Ends, Serves, Calls, CallsLocally, ended, verdict_of_file}
+use Rattle.ads_run.specs.Verdict.{Verdict, Ends, Serves, Calls, CallsLocally, Keeps, Records, RecordsLocally, ended, verdict_of_file}
 use Rattle.ads_run.proofs.ReadingLemmas.{map_file, map_files, at_bytes, decided_none}
 
 abbrev pub ending_in : Outcome → Ending
@@ -47,6 +47,9 @@ wants_memory_so (Ends e) s out out_new wire is line = (inr (inr (is, inl line)),
 wants_memory_so (Serves service) s out out_new wire is line = inl (inr (refl, is, line))
 wants_memory_so (Calls x) s out out_new wire is line = ((is, line), refl)
 wants_memory_so (CallsLocally x) s out out_new wire is line = ((is, line), refl)
+wants_memory_so (Keeps x) s out out_new wire is line = ((is, line), refl)
+wants_memory_so (Records x) s out out_new wire is line = ((is, line), refl)
+wants_memory_so (RecordsLocally x) s out out_new wire is line = ((is, line), refl)
 
 pub ends_without_memory : (held : Option (List NamedFile)) (verdict_for : List NamedFile → List NamedFile → Verdict) (failed : Type 0) (s : Status)
     (out out_new : SinkState) (wire : WireHistory) → s ≡ status.Memory → PutsMemoryLine out out_new

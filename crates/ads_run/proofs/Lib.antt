@@ -5,7 +5,6 @@ pub mod PromiseLemmas
 pub mod ReadingLemmas
 pub mod ReadLemmas
 pub mod EndLemmas
-pub mod RunLemmas
 pub mod CallLemmas
 pub mod LocalLemmas
 pub mod MachineLemmas
@@ -13,7 +12,14 @@ pub mod ServiceLemmas
 pub mod TaskLemmas
 pub mod MigrationLemmas
 pub mod LoadLemmas
+pub mod RecordLemmas
+pub mod RecordedRows
+pub mod RecordLocalLemmas
+pub mod RecordLocalEnds
 pub mod CauseLemmas
+pub mod KeepLemmas
+pub mod RunLemmas
 pub mod StoreLemmas
+pub mod RecordRunLemmas
 pub mod OwnLemmas
 pub mod SignalLemmas

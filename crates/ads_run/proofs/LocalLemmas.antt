@@ -27,11 +27,11 @@ use Rattle.ads_run.specs.Calling.{AfterLocal, EndsLocalCall, PrintsAnswer, Local
 abbrev pub call_of_local : LocalCalling → List ℕ → Calling
 call_of_local x to = calling x.me (peer_of_local x) x.call to
 
-abbrev start : LocalCalling → ServedState
+abbrev pub start : LocalCalling → ServedState
 start x = server_start x.description x.waves
 
 -- the answers of the link are the machine's
-is_local : (x : LocalCalling) (to : List ℕ) (moment : ℕ) (answers : List LinkAnswer)
+pub is_local : (x : LocalCalling) (to : List ℕ) (moment : ℕ) (answers : List LinkAnswer)
     → IsLogOf served_step (start x) (call_log_up_to x.me (peer_of_local x) x.call to moment answers)
     → IsLocalCall server (start x) x.me (peer_of_local x) x.call moment answers
 unfolding served connection_of
@@ -62,7 +62,7 @@ breaks_off_locally x to old new out out_new told h =
       text = subst (λ (c : Conversation). AppendsPart out.held out_new.held c.text) (sym is.so_far) h.text;
     }
 
-no_fault : Rose 0 0 → ⊥
+pub no_fault : Rose 0 0 → ⊥
 no_fault rose = omega (arith, rose)
 
 pub local_of_call : (x : LocalCalling) (to : List ℕ) (answer : Result loop.LoopEnd NoMemory) (old new : LocalView) (out out_new : SinkState)

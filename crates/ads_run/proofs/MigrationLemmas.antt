@@ -75,7 +75,9 @@ any_at_memory signals None held old new = tt
 any_at_memory signals (Some (task.OfFiles t)) held old new = at_memory signals t held old new
 any_at_memory signals (Some (task.Serve d l n)) held old new = tt
 any_at_memory signals (Some (task.RelayServe d l n)) held old new = tt
+any_at_memory signals (Some (task.Keep d script store)) held old new = tt
 any_at_memory signals (Some (task.Ask what client)) held old new = tt
+any_at_memory signals (Some (task.Record what)) held old new = tt
 
 pub any_without_memory : (signals : ℕ) (t : Option Task) (s : Status) (held : Option (List NamedFile)) (old new : SinkState) → s ≡ status.Memory
     → HasMigrated signals t s held old new

@@ -1,5 +1,5 @@
 -- How a run ends where nothing failed.
-use Rattle.std.proofs.Common.{◌≡◌, List, [], Option, Some, None, inl, inr}
+use Rattle.std.proofs.Common.{◌≡◌, ℕ, List, [], Option, Some, None, inl, inr}
 use Rattle.std.specs.Prelude.{◌⊎◌}
 use Rattle.ads_outside.specs.declared.end.End.{End}
 use Rattle.ads_outside.specs.declared.end.End.TheVariants as end
@@ -9,19 +9,24 @@ use Rattle.ads_outside.specs.FilesState.{FilesState}
 use Rattle.ads_outside.specs.Rose.{Rose}
 use Rattle.ads_outside.specs.SinkState.{SinkState}
 use Rattle.ads_outside.specs.WireState.{WireHistory, listened}
+use Rattle.spec_store.specs.Slots.{Standing}
+use Rattle.keep_play.specs.KeptSaves.{saves_of_play}
 use Rattle.ads_run.specs.declared.status.Status.{Status}
 use Rattle.ads_run.specs.declared.status.Status.TheVariants as status
 use Rattle.ads_run.specs.Causes.{IsOwnEnd, NothingFailed}
-use Rattle.ads_run.specs.Ending.{Ending}
+use Rattle.ads_run.specs.Ending.{Ending, line_alone}
 use Rattle.ads_run.specs.Ends.{RunsSo, RunsBy}
+use Rattle.ads_run.specs.Keeping.{Keeping, EndsKeeping, PrintsKept, kept_ending}
 use Rattle.ads_run.specs.Prints.{PrintsEnding}
 use Rattle.ads_run.specs.Readings.{OverFiles}
 use Rattle.ads_run.specs.Service.{Service, ending_after}
 use Rattle.ads_run.specs.Serving.{MakesMoves, PrintsAt, EndsService}
-use Rattle.ads_run.specs.Uses.{Uses}
-use Rattle.ads_run.specs.Verdict.{Verdict, Ends, Serves, Calls, CallsLocally}
+use Rattle.ads_run.specs.Uses.{DiskUse, Uses}
+use Rattle.ads_run.specs.Verdict.{Verdict, Ends, Serves, Calls, CallsLocally, Keeps, Records, RecordsLocally}
 use Rattle.ads_run.proofs.CallLemmas.{own_call, own_local}
 use Rattle.ads_run.proofs.CauseLemmas.{fault_cause}
+use Rattle.ads_run.proofs.RecordLemmas.{own_recording}
+use Rattle.ads_run.proofs.RecordLocalEnds.{own_local_recording}
 use Rattle.ads_run.proofs.ReadingLemmas.{map_files, rose_from}
 
 -- where nothing failed, a run that was to end so does
@@ -52,11 +57,32 @@ own_service service s u no_fault no_stop (inr (inr h)) =
     own_run service h.runs.ended h.runs.moves s h.between u.out_new u.wire u.wire_new u
     (λ rose. no_fault (rose_from u.out.faults h.between.faults u.out_new.faults h.told.later.faults rose)) no_stop h.runs.wire h.runs.prints
 
+-- a play over a store is done, or stopped by the limit
+own_kept : (x : Keeping) (s : Status) (out out_new : SinkState) (disk : DiskUse) (standing : Option Standing) (saves : List (List ℕ))
+    → (Rose out.faults out_new.faults → ⊥) → (Rose disk.faults disk.faults_new → ⊥) → PrintsKept x s out out_new disk standing saves
+    → (s ≡ status.Done) ⊎ (s ≡ status.StoreLimit) ⊎ (s ≡ status.Memory)
+own_kept x s out out_new disk standing saves no_fault no_stop (inl h) =
+    elim (own_ending (kept_ending x standing) s out out_new no_fault h.1) [ inl e ↦ inl e | inr e ↦ inr (inr e) ]
+own_kept x s out out_new disk standing saves no_fault no_stop (inr (inl h)) =
+    elim (own_ending (line_alone status.StoreLimit) s out out_new no_fault h.1) [ inl e ↦ inr (inl e) | inr e ↦ inr (inr e) ]
+own_kept x s out out_new disk standing saves no_fault no_stop (inr (inr (inl h))) = absurd (no_stop h.0)
+own_kept x s out out_new disk standing saves no_fault no_stop (inr (inr (inr h))) = inr (inr h.0)
+
+own_keeping : (x : Keeping) (s : Status) (out out_new : SinkState) (disk : DiskUse) → (Rose out.faults out_new.faults → ⊥)
+    → (Rose disk.faults disk.faults_new → ⊥) → EndsKeeping x s out out_new disk
+    → (s ≡ status.Done) ⊎ (s ≡ status.StoreLimit) ⊎ (s ≡ status.Memory)
+own_keeping x s out out_new disk no_fault no_stop h =
+    own_kept x s out out_new disk h.standing (saves_of_play x.description x.waves x.lines h.standing) no_fault no_stop h.ends
+
 own_so : {O : Type 0} (v : Verdict) (s : Status) (files files_new : FilesState) (u : Uses O) → NothingFailed files files_new u → RunsSo v s u → IsOwnEnd v s u
 own_so (Ends e) s files files_new u nothing h = own_ending e s u.out u.out_new nothing.writing h.0
 own_so (Serves service) s files files_new u nothing h = own_service service s u nothing.writing nothing.serving h
 own_so (Calls x) s files files_new u nothing h = own_call x s u.out u.out_new u.link nothing.writing nothing.talking h
 own_so (CallsLocally x) s files files_new u nothing h = own_local x s u.out u.out_new nothing.writing h
+own_so (Keeps x) s files files_new u nothing h = own_keeping x s u.out u.out_new u.disk nothing.writing nothing.storing h.0
+own_so (Records x) s files files_new u nothing h =
+    own_recording x s u.out u.out_new u.link u.keeper nothing.writing nothing.talking nothing.keeping h
+own_so (RecordsLocally x) s files files_new u nothing h = own_local_recording x s u.out u.out_new u.keeper nothing.writing nothing.keeping h
 
 own_by : {O : Type 0} (v : Verdict) (s : Status) (files files_new : FilesState) (u : Uses O) → NothingFailed files files_new u
     → RunsBy v (Rose files.faults files_new.faults) s u → IsOwnEnd v s u
@@ -79,6 +105,9 @@ memory_own (Ends e) s u is = inr is
 memory_own (Serves service) s u is = inr (inr is)
 memory_own (Calls x) s u is = inr is
 memory_own (CallsLocally x) s u is = inr is
+memory_own (Keeps x) s u is = inr (inr is)
+memory_own (Records x) s u is = inr (inr is)
+memory_own (RecordsLocally x) s u is = inr (inr is)
 
 pub own_without_memory : {O : Type 0} (held : Option (List NamedFile)) (verdict_for : List NamedFile → List NamedFile → Verdict) (s : Status) (u : Uses O)
     → s ≡ status.Memory → OverFiles held (λ first second. IsOwnEnd (verdict_for first second) s u)

@@ -12,14 +12,22 @@ use Rattle.ads_outside.specs.Named.{bytes_of}
 use Rattle.ads_outside.specs.Reads.{Reads}
 use Rattle.ads_outside.specs.Rose.{Rose}
 use Rattle.signals.specs.Wave.{Wave}
-use Rattle.spec_rules.specs.TextVerdict.{text_verdict}
+use Rattle.spec_plant.specs.Description.{Description}
+use Rattle.spec_machine.specs.ScriptLine.{ScriptLine}
+use Rattle.spec_rules.specs.TextVerdict.{TextVerdict, Described, text_verdict}
+use Rattle.spec_server.specs.Server.{server_script}
+use Rattle.symbol_file.specs.declared.fault.DescFault.{DescFault}
+use Rattle.symbol_file.specs.declared.fault.DescFault.TheVariants as fault
+use Rattle.symbol_file.specs.Reading.{answer_of}
 use Rattle.ads_base.specs.declared.no_memory.NoMemory.{NoMemory}
 use Rattle.ads_run.specs.declared.file_task.FileTask.{FileTask}
 use Rattle.ads_run.specs.declared.file_task.FileTask.TheVariants as file_task
 use Rattle.ads_run.specs.declared.outcome.Outcome.{Outcome}
+use Rattle.ads_run.specs.declared.scripted.Scripted.{Scripted}
 use Rattle.ads_run.specs.declared.status.Status.TheVariants as status
-use Rattle.ads_run.specs.Verdict.{Verdict, ended, verdict_of_file, verdict_of_replay, verdict_of_relay, verdict_of_load, verdict_of_file_task}
-use Rattle.ads_run.specs.Outcomes.{IsOutcome, Decides, HasBytes, IsLong, Finds}
+use Rattle.ads_run.specs.Verdict.{Verdict, Play, ended, verdict_of_file, verdict_of_lines, verdict_of_script, verdict_of_described, verdict_of_both}
+use Rattle.ads_run.specs.Verdict.{verdict_of_load, verdict_of_file_task}
+use Rattle.ads_run.specs.Outcomes.{IsOutcome, Decides, HasBytes, IsLong, Finds, IsScriptOf, GivesScript, GivesBoth, status_of_fault}
 use Rattle.ads_run.specs.Readings.{OverFile, OverFiles}
 
 bytes_itself : (xs : List ℕ) → bytes_eq xs xs ≡ true
@@ -107,20 +115,24 @@ pub map_files : (held : Option (List NamedFile)) (P Q : List NamedFile → List 
 map_files None P Q all h = (h.0, h.1, all h.0 h.1 h.2)
 map_files (Some files) P Q all h = all files files h
 
--- a description that was read, and what is decided of the script's file over it
-pub decided_both : (held : Option (List NamedFile)) (over : List NamedFile → List ℕ → Verdict) (name bytes : List ℕ)
-    (failed later : Type 0) (o : Outcome) → (later → failed) → OverFile held (HasBytes name bytes)
-    → OverFile held (λ second. Decides (over second bytes) later o)
-    → OverFiles held (λ first second. Decides (verdict_of_file (over second) (bytes_of first name)) failed o)
-decided_both held over name bytes failed later o weaker has decided =
-    over_both held (HasBytes name bytes) (λ second. Decides (over second bytes) later o)
-    (λ first second. Decides (verdict_of_file (over second) (bytes_of first name)) failed o)
-    (λ first second h d. subst (λ verdict. Decides verdict failed o) (sym (at_bytes (over second) name bytes first h)) (weaken (over second bytes) d))
-    has decided
-  where
-    weaken : (verdict : Verdict) → Decides verdict later o → Decides verdict failed o
-    weaken verdict (inl is) = inl is
-    weaken verdict (inr fault) = inr (weaker fault.0, fault.1)
+-- what is given by a verdict is given by the same one where more may have failed
+gives_weaker : (play : Play) (verdict : Verdict) (failed later : Type 0) (found : Result Scripted Outcome) → (later → failed)
+    → GivesBoth play verdict later found → GivesBoth play verdict failed found
+gives_weaker play verdict failed later (Ok both) weaker h = h
+gives_weaker play verdict failed later (Err o) weaker (inl is) = inl is
+gives_weaker play verdict failed later (Err o) weaker (inr fault) = inr (weaker fault.0, fault.1)
+
+-- a description that was read, and what is given by the script's file over it
+gives_found : (held : Option (List NamedFile)) (play : Play) (over : List NamedFile → List ℕ → Verdict) (name bytes : List ℕ)
+    (failed later : Type 0) (found : Result Scripted Outcome) → (later → failed) → OverFile held (HasBytes name bytes)
+    → OverFile held (λ second. GivesBoth play (over second bytes) later found)
+    → OverFiles held (λ first second. GivesBoth play (verdict_of_file (over second) (bytes_of first name)) failed found)
+gives_found held play over name bytes failed later found weaker has gives =
+    over_both held (HasBytes name bytes) (λ second. GivesBoth play (over second bytes) later found)
+    (λ first second. GivesBoth play (verdict_of_file (over second) (bytes_of first name)) failed found)
+    (λ first second h d. subst (λ verdict. GivesBoth play verdict failed found) (sym (at_bytes (over second) name bytes first h))
+    (gives_weaker play (over second bytes) failed later found weaker d))
+    has gives
 
 -- the files of a description that gave no bytes
 pub decided_first : (held : Option (List NamedFile)) (over : List NamedFile → List ℕ → Verdict) (name : List ℕ) (failed : Type 0) (o : Outcome)
@@ -132,29 +144,82 @@ decided_first (Some files) over name failed o h = decided_none (Some files) (ove
 pub rose_from : (old mid new : ℕ) → old ≤ mid → Rose mid new → Rose old new
 rose_from old mid new later rose = search rules
 
--- what is decided of the script over a description that was read is decided of both files
-pub decided_replay : (held mid_held : Option (List NamedFile)) (waves : List Wave) (script name bytes text : List ℕ) (old mid new : ℕ) (o : Outcome)
-    → mid_held ≡ held → text ≡ bytes → old ≤ mid → OverFile held (HasBytes name bytes)
-    → OverFile mid_held (λ second. Decides (verdict_of_replay waves (bytes_of second script) (text_verdict (length waves) text)) (Rose mid new) o)
-    → OverFiles held (λ first second. Decides (verdict_of_file (λ bytes. verdict_of_replay waves (bytes_of second script) (text_verdict (length waves) bytes))
-    (bytes_of first name)) (Rose old new) o)
-decided_replay held mid_held waves script name bytes text old mid new o same is later has decided =
-    let over : List NamedFile → List ℕ → Verdict = λ second bytes. verdict_of_replay waves (bytes_of second script) (text_verdict (length waves) bytes) in
-    decided_both held over name bytes (Rose old new) (Rose mid new) o (rose_from old mid new later) has
-    (subst (λ (b : List ℕ). OverFile held (λ second. Decides (over second b) (Rose mid new) o)) is
-    (subst (λ (h : Option (List NamedFile)). OverFile h (λ second. Decides (over second text) (Rose mid new) o)) same decided))
+-- what a description gives that was read, and the script's file over it, is given of both files
+pub gives_both : (held mid_held : Option (List NamedFile)) (play : Play) (signals : ℕ) (script name bytes text : List ℕ) (old mid new : ℕ)
+    (found : Result Scripted Outcome) → mid_held ≡ held → text ≡ bytes → old ≤ mid → OverFile held (HasBytes name bytes)
+    → OverFile mid_held (λ second. GivesBoth play (verdict_of_described play (bytes_of second script) (text_verdict signals text)) (Rose mid new) found)
+    → OverFiles held (λ first second. GivesBoth play (verdict_of_both signals play name script first second) (Rose old new) found)
+gives_both held mid_held play signals script name bytes text old mid new found same is later has gives =
+    let over : List NamedFile → List ℕ → Verdict = λ second bytes. verdict_of_described play (bytes_of second script) (text_verdict signals bytes) in
+    gives_found held play over name bytes (Rose old new) (Rose mid new) found (rose_from old mid new later) has
+    (subst (λ (b : List ℕ). OverFile held (λ second. GivesBoth play (over second b) (Rose mid new) found)) is
+    (subst (λ (h : Option (List NamedFile)). OverFile h (λ second. GivesBoth play (over second text) (Rose mid new) found)) same gives))
 
--- the same of a relay
-pub decided_relay : (held mid_held : Option (List NamedFile)) (signals : ℕ) (script name bytes text : List ℕ) (old mid new : ℕ) (o : Outcome)
-    → mid_held ≡ held → text ≡ bytes → old ≤ mid → OverFile held (HasBytes name bytes)
-    → OverFile mid_held (λ second. Decides (verdict_of_relay (bytes_of second script) (text_verdict signals text)) (Rose mid new) o)
-    → OverFiles held (λ first second. Decides (verdict_of_file (λ bytes. verdict_of_relay (bytes_of second script) (text_verdict signals bytes))
-    (bytes_of first name)) (Rose old new) o)
-decided_relay held mid_held signals script name bytes text old mid new o same is later has decided =
-    let over : List NamedFile → List ℕ → Verdict = λ second bytes. verdict_of_relay (bytes_of second script) (text_verdict signals bytes) in
-    decided_both held over name bytes (Rose old new) (Rose mid new) o (rose_from old mid new later) has
-    (subst (λ (b : List ℕ). OverFile held (λ second. Decides (over second b) (Rose mid new) o)) is
-    (subst (λ (h : Option (List NamedFile)). OverFile h (λ second. Decides (over second text) (Rose mid new) o)) same decided))
+-- a description that gives no bytes
+pub gives_first : (held : Option (List NamedFile)) (play : Play) (signals : ℕ) (script name : List ℕ) (failed : Type 0) (o : Outcome)
+    → Finds held name failed (Err o)
+    → OverFiles held (λ first second. GivesBoth play (verdict_of_both signals play name script first second) failed (Err o))
+gives_first held play signals script name failed o h =
+    decided_first held (λ second bytes. verdict_of_described play (bytes_of second script) (text_verdict signals bytes)) name failed o h
+
+-- an outcome that is decided whatever the file holds
+decided_one : (held : Option (List NamedFile)) (verdict : Verdict) (failed : Type 0) (o : Outcome) → IsOutcome verdict o
+    → OverFile held (λ second. Decides verdict failed o)
+decided_one None verdict failed o is = ([], inl is)
+decided_one (Some files) verdict failed o is = inl is
+
+-- a description that is refused
+pub gives_refused : (held : Option (List NamedFile)) (play : Play) (script : List ℕ) (v : TextVerdict) (f : DescFault) (failed : Type 0) (o : Outcome)
+    → answer_of (Err f) ≡ v → IsOutcome (ended (status_of_fault f)) o
+    → OverFile held (λ second. GivesBoth play (verdict_of_described play (bytes_of second script) v) failed (Err o))
+gives_refused held play script v fault.Syntax failed o is out =
+    subst (λ w. OverFile held (λ second. GivesBoth play (verdict_of_described play (bytes_of second script) w) failed (Err o))) is
+    (decided_one held (ended (status.BadDescription 0 0)) failed o out)
+gives_refused held play script v (fault.Rule number item) failed o is out =
+    subst (λ w. OverFile held (λ second. GivesBoth play (verdict_of_described play (bytes_of second script) w) failed (Err o))) is
+    (decided_one held (ended (status.BadDescription number item)) failed o out)
+
+-- what the script's file gives over a description that is accepted
+pub gives_described : (held : Option (List NamedFile)) (play : Play) (script : List ℕ) (v : TextVerdict) (d : Description) (failed : Type 0)
+    (found : Result (List ScriptLine) Outcome) → Described d ≡ v
+    → OverFile held (λ second. GivesScript (play d) (verdict_of_file (verdict_of_script (play d)) (bytes_of second script)) failed found)
+    → OverFile held (λ second. GivesScript (play d) (verdict_of_described play (bytes_of second script) v) failed found)
+gives_described held play script v d failed found is h =
+    subst (λ w. OverFile held (λ second. GivesScript (play d) (verdict_of_described play (bytes_of second script) w) failed found)) is h
+
+-- lines that were read are what a verdict is made of, and a line off the grammar ends the run
+pub lines_of_script : (play : List ScriptLine → Verdict) (bytes : List ℕ) (answer : Result (List ScriptLine) ℕ) → server_script bytes ≡ answer
+    → verdict_of_lines play answer ≡ verdict_of_script play bytes
+lines_of_script play bytes answer is = sym (ap (verdict_of_lines play) is)
+
+-- the script of a file that was read
+pub gives_script : (held : Option (List NamedFile)) (play : List ScriptLine → Verdict) (name bytes text : List ℕ) (failed : Type 0)
+    (found : Result (List ScriptLine) Outcome) → text ≡ bytes → OverFile held (HasBytes name bytes) → IsScriptOf play (verdict_of_script play text) found
+    → OverFile held (λ second. GivesScript play (verdict_of_file (verdict_of_script play) (bytes_of second name)) failed found)
+gives_script held play name bytes text failed found is has h =
+    map_file held (HasBytes name bytes) (λ second. GivesScript play (verdict_of_file (verdict_of_script play) (bytes_of second name)) failed found)
+    (λ files k. subst (λ v. GivesScript play v failed found) (sym (at_bytes (verdict_of_script play) name bytes files k))
+    (subst (λ (b : List ℕ). GivesScript play (verdict_of_script play b) failed found) is (given (verdict_of_script play text) found h))) has
+  where
+    given : (verdict : Verdict) (r : Result (List ScriptLine) Outcome) → IsScriptOf play verdict r → GivesScript play verdict failed r
+    given verdict (Ok lines) h = h
+    given verdict (Err o) h = inl h
+
+-- where a script was read, how the run ends is that of its play
+pub decided_played : (held : Option (List NamedFile)) (verdict_for : List NamedFile → List NamedFile → Verdict) (verdict : Verdict) (failed : Type 0)
+    (o : Outcome) → IsOutcome verdict o → OverFiles held (λ first second. verdict ≡ verdict_for first second)
+    → OverFiles held (λ first second. Decides (verdict_for first second) failed o)
+decided_played held verdict_for verdict failed o is same =
+    map_files held (λ first second. verdict ≡ verdict_for first second) (λ first second. Decides (verdict_for first second) failed o)
+    (λ first second k. inl (is ∙ k)) same
+
+-- the same over a description that is known
+pub decided_built : (play : Play) (d known : Description) (lines : List ScriptLine) (bytes : List ℕ) (answer : Result Outcome NoMemory) → d ≡ known
+    → play known lines ≡ verdict_of_script (play known) bytes → IfOk answer (IsOutcome (play d lines))
+    → IfOk answer (IsOutcome (verdict_of_script (play known) bytes))
+decided_built play d known lines bytes answer is same h =
+    let P : Verdict → Type 0 = λ v. IfOk answer (IsOutcome v) in
+    subst P (ap (λ (x : Description). play x lines) is ∙ same) h
 
 -- what is decided whatever the files hold
 pub decided_alone : (held : Option (List NamedFile)) (verdict : Verdict) (failed : Type 0) (o : Outcome) → IsOutcome verdict o

@@ -32,9 +32,12 @@ use Rattle.ads_run.specs.Prints.{PutsMemoryLine, PrintsEnding}
 use Rattle.ads_run.specs.Readings.{OverFile, OverFiles}
 use Rattle.ads_run.specs.Tasks.{asked_task}
 use Rattle.ads_run.specs.Uses.{LinkUse, DiskUse, KeeperUse, Uses, link_used, used, uses}
-use Rattle.ads_run.specs.Verdict.{Verdict, Ends, Serves, Calls, CallsLocally, ended, verdict_of, verdict_of_task, verdict_of_file, verdict_of_called}
+use Rattle.ads_run.specs.Verdict.{Verdict, Ends, Serves, Calls, CallsLocally, Keeps, Records, RecordsLocally}
+use Rattle.ads_run.specs.Verdict.{ended, verdict_of, verdict_of_task, verdict_of_file, verdict_of_called}
 use Rattle.ads_run.specs.Verdict.{verdict_of_local, verdict_of_ask}
 use Rattle.ads_run.proofs.EndLemmas.{ending_in}
+use Rattle.ads_run.proofs.KeepLemmas.{IsUntouched, never_kept}
+use Rattle.ads_run.proofs.RecordLemmas.{leaves_link}
 use Rattle.ads_run.proofs.ReadingLemmas.{map_file, map_files, at_bytes, decided_none}
 
 -- a run that wanted memory before it called anything
@@ -57,32 +60,40 @@ never_asked x s out out_new is line = record {
   prints = (is, line);
 }
 
+-- a disk and a keeper that were not called
+abbrev pub AreUntouched : DiskUse → KeeperUse → Type 0
+AreUntouched disk keeper = IsUntouched disk × (keeper.new ≡ keeper.old)
+
 -- a run that called no link
 so_as_run : {O : Type 0} (v : Verdict) (s : Status) (out out_new : SinkState) (wire wire_new : WireHistory) (told : O → List LinkMove → Type 0)
     (state : LinkState)
-    (disk : DiskUse) (keeper : KeeperUse) → EndsSo v s out out_new wire wire_new
+    (disk : DiskUse) (keeper : KeeperUse) → AreUntouched disk keeper → EndsSo v s out out_new wire wire_new
     → RunsSo v s (uses out out_new wire wire_new (used told told state state) disk keeper)
-so_as_run (Ends e) s out out_new wire wire_new told state disk keeper h = h
-so_as_run (Serves service) s out out_new wire wire_new told state disk keeper h = h
-so_as_run (Calls x) s out out_new wire wire_new told state disk keeper h = never_called x s out out_new told state h.0.0 h.0.1
-so_as_run (CallsLocally x) s out out_new wire wire_new told state disk keeper h = never_asked x s out out_new h.0.0 h.0.1
+so_as_run (Ends e) s out out_new wire wire_new told state disk keeper untouched h = h
+so_as_run (Serves service) s out out_new wire wire_new told state disk keeper untouched h = h
+so_as_run (Calls x) s out out_new wire wire_new told state disk keeper untouched h = never_called x s out out_new told state h.0.0 h.0.1
+so_as_run (CallsLocally x) s out out_new wire wire_new told state disk keeper untouched h = never_asked x s out out_new h.0.0 h.0.1
+so_as_run (Keeps x) s out out_new wire wire_new told state disk keeper untouched h = (never_kept x s out out_new disk untouched.0 h.0.0 h.0.1, h.1)
+so_as_run (Records x) s out out_new wire wire_new told state disk keeper untouched h = inl (leaves_link told state, (h.0.0, h.0.1, untouched.1))
+so_as_run (RecordsLocally x) s out out_new wire wire_new told state disk keeper untouched h = inl (h.0.0, h.0.1, untouched.1)
 
 by_as_run : {O : Type 0} (v : Verdict) (failed : Type 0) (s : Status) (out out_new : SinkState) (wire wire_new : WireHistory)
     (told : O → List LinkMove → Type 0)
-    (state : LinkState) (disk : DiskUse) (keeper : KeeperUse) → EndsBy v failed s out out_new wire wire_new
+    (state : LinkState) (disk : DiskUse) (keeper : KeeperUse) → AreUntouched disk keeper → EndsBy v failed s out out_new wire wire_new
     → RunsBy v failed s (uses out out_new wire wire_new (used told told state state) disk keeper)
-by_as_run v failed s out out_new wire wire_new told state disk keeper (inl h) = inl (so_as_run v s out out_new wire wire_new told state disk keeper h)
-by_as_run v failed s out out_new wire wire_new told state disk keeper (inr h) = inr (h.0, h.1)
+by_as_run v failed s out out_new wire wire_new told state disk keeper untouched (inl h) =
+    inl (so_as_run v s out out_new wire wire_new told state disk keeper untouched h)
+by_as_run v failed s out out_new wire wire_new told state disk keeper untouched (inr h) = inr (h.0, h.1)
 
 pub ends_as_run : {O : Type 0} (held : Option (List NamedFile)) (v : List NamedFile → List NamedFile → Verdict) (failed : Type 0) (s : Status)
     (out out_new : SinkState)
-    (wire wire_new : WireHistory) (told : O → List LinkMove → Type 0) (state : LinkState) (disk : DiskUse) (keeper : KeeperUse)
+    (wire wire_new : WireHistory) (told : O → List LinkMove → Type 0) (state : LinkState) (disk : DiskUse) (keeper : KeeperUse) → AreUntouched disk keeper
     → OverFiles held (λ first second. EndsBy (v first second) failed s out out_new wire wire_new)
     → OverFiles held (λ first second. RunsBy (v first second) failed s (uses out out_new wire wire_new (used told told state state) disk keeper))
-ends_as_run held v failed s out out_new wire wire_new told state disk keeper h =
+ends_as_run held v failed s out out_new wire wire_new told state disk keeper untouched h =
     map_files held (λ first second. EndsBy (v first second) failed s out out_new wire wire_new)
     (λ first second. RunsBy (v first second) failed s (uses out out_new wire wire_new (used told told state state) disk keeper))
-    (λ first second k. by_as_run (v first second) failed s out out_new wire wire_new told state disk keeper k) h
+    (λ first second k. by_as_run (v first second) failed s out out_new wire wire_new told state disk keeper untouched k) h
 
 -- words that are no command are told so
 pub runs_usage : {O : Type 0} (held : Option (List NamedFile)) (waves : List Wave) (failed : Type 0) (s : Status) (out out_new : SinkState)
@@ -99,6 +110,9 @@ asked_so (Ends e) s out out_new wire link disk keeper h = (h, refl)
 asked_so (Serves service) s out out_new wire link disk keeper h = absurd h
 asked_so (Calls x) s out out_new wire link disk keeper h = absurd h
 asked_so (CallsLocally x) s out out_new wire link disk keeper h = h
+asked_so (Keeps x) s out out_new wire link disk keeper h = absurd h
+asked_so (Records x) s out out_new wire link disk keeper h = absurd h
+asked_so (RecordsLocally x) s out out_new wire link disk keeper h = absurd h
 
 asked_by : {O : Type 0} (v : Verdict) (failed : Type 0) (s : Status) (out out_new : SinkState) (wire : WireHistory) (link : LinkUse O) (disk : DiskUse)
     (keeper : KeeperUse) → AsksBy v failed s out out_new → RunsBy v failed s (uses out out_new wire wire link disk keeper)
@@ -211,21 +225,24 @@ runs_of_task held waves t other failed s u is runs =
 
 -- a run that wanted memory runs by any verdict
 memory_so : {O : Type 0} (v : Verdict) (s : Status) (out out_new : SinkState) (wire : WireHistory) (told : O → List LinkMove → Type 0) (state : LinkState)
-    (disk : DiskUse) (keeper : KeeperUse) → s ≡ status.Memory → PutsMemoryLine out out_new
+    (disk : DiskUse) (keeper : KeeperUse) → AreUntouched disk keeper → s ≡ status.Memory → PutsMemoryLine out out_new
     → RunsSo v s (uses out out_new wire wire (used told told state state) disk keeper)
-memory_so (Ends e) s out out_new wire told state disk keeper is line = (inr (inr (is, inl line)), refl)
-memory_so (Serves service) s out out_new wire told state disk keeper is line = inl (inr (refl, is, line))
-memory_so (Calls x) s out out_new wire told state disk keeper is line = never_called x s out out_new told state is line
-memory_so (CallsLocally x) s out out_new wire told state disk keeper is line = never_asked x s out out_new is line
+memory_so (Ends e) s out out_new wire told state disk keeper untouched is line = (inr (inr (is, inl line)), refl)
+memory_so (Serves service) s out out_new wire told state disk keeper untouched is line = inl (inr (refl, is, line))
+memory_so (Calls x) s out out_new wire told state disk keeper untouched is line = never_called x s out out_new told state is line
+memory_so (CallsLocally x) s out out_new wire told state disk keeper untouched is line = never_asked x s out out_new is line
+memory_so (Keeps x) s out out_new wire told state disk keeper untouched is line = (never_kept x s out out_new disk untouched.0 is line, refl)
+memory_so (Records x) s out out_new wire told state disk keeper untouched is line = inl (leaves_link told state, (is, line, untouched.1))
+memory_so (RecordsLocally x) s out out_new wire told state disk keeper untouched is line = inl (is, line, untouched.1)
 
 pub runs_without_memory : {O : Type 0} (held : Option (List NamedFile)) (v : List NamedFile → List NamedFile → Verdict) (failed : Type 0) (s : Status)
     (out out_new : SinkState) (wire : WireHistory) (told : O → List LinkMove → Type 0) (state : LinkState) (disk : DiskUse) (keeper : KeeperUse)
-    → s ≡ status.Memory → PutsMemoryLine out out_new
+    → AreUntouched disk keeper → s ≡ status.Memory → PutsMemoryLine out out_new
     → OverFiles held (λ first second. RunsBy (v first second) failed s (uses out out_new wire wire (used told told state state) disk keeper))
-runs_without_memory None v failed s out out_new wire told state disk keeper is line =
-    ([], [], inl (memory_so (v [] []) s out out_new wire told state disk keeper is line))
-runs_without_memory (Some files) v failed s out out_new wire told state disk keeper is line =
-    inl (memory_so (v files files) s out out_new wire told state disk keeper is line)
+runs_without_memory None v failed s out out_new wire told state disk keeper untouched is line =
+    ([], [], inl (memory_so (v [] []) s out out_new wire told state disk keeper untouched is line))
+runs_without_memory (Some files) v failed s out out_new wire told state disk keeper untouched is line =
+    inl (memory_so (v files files) s out out_new wire told state disk keeper untouched is line)
 
 -- a client that asks this peer
 pub runs_of_peer : {O : Type 0} (held : Option (List NamedFile)) (waves : List Wave) (what : ClientTask) (client : ClientWords) (p : PeerWords)
@@ -239,14 +256,16 @@ runs_of_peer held waves what client p failed s u is runs =
 -- a run that wanted memory, and left what it was handed in as it was
 pub runs_untouched : {O S W L : Type 0} (held : Option (List NamedFile)) (v : List NamedFile → List NamedFile → Verdict) (failed : Type 0) (s : Status)
     (sink : S → SinkState) (out between : S) (out_new : SinkState) (history : W → WireHistory) (wire wire_new : W) (tells : L → O → List LinkMove → Type 0)
-    (state : L → LinkState) (link link_new : L) (disk : DiskUse) (keeper : KeeperUse) → s ≡ status.Memory → PutsMemoryLine (sink between) out_new
+    (state : L → LinkState) (link link_new : L) (disk : DiskUse) (keeper : KeeperUse) → AreUntouched disk keeper → s ≡ status.Memory
+    → PutsMemoryLine (sink between) out_new
     → between ≡ out → wire_new ≡ wire → link_new ≡ link
     → OverFiles held (λ first second. RunsBy (v first second) failed s
     (uses (sink out) out_new (history wire) (history wire_new) (link_used tells state link link_new) disk keeper))
-runs_untouched held v failed s sink out between out_new history wire wire_new tells state link link_new disk keeper is line same_out same_wire same_link =
+runs_untouched held v failed s sink out between out_new history wire wire_new tells state link link_new disk keeper untouched is line same_out same_wire
+    same_link =
     subst (λ w. OverFiles held (λ first second. RunsBy (v first second) failed s
     (uses (sink out) out_new (history wire) (history w) (link_used tells state link link_new) disk keeper))) (sym same_wire)
     (subst (λ l. OverFiles held (λ first second. RunsBy (v first second) failed s
     (uses (sink out) out_new (history wire) (history wire) (link_used tells state link l) disk keeper))) (sym same_link)
-    (runs_without_memory held v failed s (sink out) out_new (history wire) (tells link) (state link) disk keeper is
+    (runs_without_memory held v failed s (sink out) out_new (history wire) (tells link) (state link) disk keeper untouched is
     (subst (λ o. PutsMemoryLine (sink o) out_new) same_out line)))

@@ -1,17 +1,20 @@
 -- The numbers of a task are small enough.
-use Rattle.std.proofs.Common.{◌≡◌, ℕ, Bool, true, false, Option, Some, None, refl, sym, subst}
+use Rattle.std.proofs.Common.{◌≡◌, ℕ, Bool, true, false, List, [], ◌∷◌, Option, Some, None, refl, sym, subst}
 use Rattle.std.specs.Prelude.{nat_le, ◌&&◌, length, if◌then◌else◌}
+use Rattle.std.specs.List.{list_all}
 use Rattle.std.proofs.lemmas.Bool.{leb-true, and_parts}
 use Rattle.cli_words.specs.declared.command.Command.{Command}
 use Rattle.cli_words.specs.declared.command.Command.TheVariants as command
 use Rattle.cli_words.specs.declared.client_words.ClientWords.{ClientWords}
+use Rattle.client_replies.specs.Sound.{AreShort}
 use Rattle.ads_run.specs.declared.client_task.ClientTask.{ClientTask}
 use Rattle.ads_run.specs.declared.client_task.ClientTask.TheVariants as ask
 use Rattle.ads_run.specs.declared.file_task.FileTask.TheVariants as file_task
 use Rattle.ads_run.specs.declared.task.Task.{Task}
 use Rattle.ads_run.specs.declared.task.Task.TheVariants as task
-use Rattle.ads_run.specs.Fits.{FitsClientTask, FitsTask}
-use Rattle.ads_run.specs.Tasks.{fits_what, is_text, task_of_command}
+use Rattle.ads_run.specs.declared.record_task.RecordTask.{RecordTask}
+use Rattle.ads_run.specs.Fits.{FitsClientTask, FitsTask, FitsRecord}
+use Rattle.ads_run.specs.Tasks.{are_names, fits_record, fits_what, is_text, takes_samples, task_of_command}
 
 load_fits : (n : ℕ) (b : Bool) → nat_le n 100000 ≡ b → FitsTask (if b then Some (task.OfFiles (file_task.Load n)) else None)
 load_fits n true is = leb-true n 100000 is
@@ -39,6 +42,34 @@ ask_fits what client true true is_port is = (what_fits what is, leb-true client.
 ask_fits what client true false is_port is = tt
 ask_fits what client false a is_port is = tt
 
+texts_fit : (names : List (List ℕ)) → list_all (λ name. is_text name) names ≡ true → AreShort names
+texts_fit [] h = tt
+texts_fit (name ∷ names) h =
+    let both = and_parts (is_text name) (list_all (λ name. is_text name) names) h in
+    (leb-true (length name) 65536 both.0, texts_fit names both.1)
+
+record_fits_so : (what : RecordTask) → fits_record what ≡ true → FitsRecord what
+record_fits_so what h =
+    let all = and_parts (nat_le what.client.port 65535 && takes_samples what.cycle what.count) (are_names what.names) h in
+    let first = and_parts (nat_le what.client.port 65535) (takes_samples what.cycle what.count) all.0 in
+    let counts = and_parts (nat_le what.cycle 4294967295 && nat_le 1 what.count) (nat_le what.count 1000000) first.1 in
+    let cycles = and_parts (nat_le what.cycle 4294967295) (nat_le 1 what.count) counts.0 in
+    let names = and_parts (nat_le 1 (length what.names) && nat_le (length what.names) 16) (list_all (λ name. is_text name) what.names) all.1 in
+    let lengths = and_parts (nat_le 1 (length what.names)) (nat_le (length what.names) 16) names.0 in
+    record {
+      client = leb-true what.client.port 65535 first.0;
+      cycle = leb-true what.cycle 4294967295 cycles.0;
+      some = leb-true 1 what.count cycles.1;
+      most = leb-true what.count 1000000 counts.1;
+      named = leb-true 1 (length what.names) lengths.0;
+      few = leb-true (length what.names) 16 lengths.1;
+      short = texts_fit what.names names.1;
+    }
+
+record_fits : (what : RecordTask) (b : Bool) → fits_record what ≡ b → FitsTask (if b then Some (task.Record what) else None)
+record_fits what true is = record_fits_so what is
+record_fits what false is = tt
+
 command_fits : (c : Option Command) → FitsTask (task_of_command c)
 unfolding task_of_command
 command_fits None = tt
@@ -59,7 +90,8 @@ command_fits (Some (command.Show n c)) = ask_fits (ask.Show n) c (nat_le c.port 
 command_fits (Some (command.Relay d s)) = tt
 command_fits (Some (command.RelayServe d l n)) = tt
 command_fits (Some (command.Keep d s t)) = tt
-command_fits (Some (command.Record n m y k s c)) = tt
+command_fits (Some (command.Record n m y k s c)) =
+    let what : RecordTask = record { names = n; change = m; cycle = y; count = k; store = s; client = c } in record_fits what (fits_record what) refl
 
 -- the task of a command
 pub fits_of : (c : Option Command) (t : Option Task) → t ≡ task_of_command c → FitsTask t

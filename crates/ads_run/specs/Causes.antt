@@ -13,14 +13,17 @@ use Rattle.cli_words.specs.declared.client_words.PeerWords.TheVariants as peer
 use Rattle.client_loop.specs.Called.{Calling, calling, over}
 use Rattle.client_loop.specs.LinkAfter.{history_over}
 use Rattle.ads_run.specs.declared.client_task.ClientTask.{ClientTask}
+use Rattle.ads_run.specs.declared.record_task.RecordTask.{RecordTask}
 use Rattle.ads_run.specs.declared.status.Status.{Status}
 use Rattle.ads_run.specs.declared.status.Status.TheVariants as status
 use Rattle.ads_run.specs.declared.task.Task.{Task}
 use Rattle.ads_run.specs.declared.task.Task.TheVariants as task
 use Rattle.ads_run.specs.Asking.{LocalCalling, call_asked, own_address, asked_address}
 use Rattle.ads_run.specs.Calling.{status_of_loop, local_conversation}
-use Rattle.ads_run.specs.Uses.{Uses}
-use Rattle.ads_run.specs.Verdict.{Verdict, Ends, Serves, Calls, CallsLocally}
+use Rattle.ads_run.specs.RecordAsked.{recording_to}
+use Rattle.ads_run.specs.RecordCauses.{CauseOfRecording, CauseOfLocalRecording, IsEndOfRecording, IsEndOfLocalRecording, IsFull}
+use Rattle.ads_run.specs.Uses.{KeeperUse, Uses}
+use Rattle.ads_run.specs.Verdict.{Verdict, Ends, Serves, Calls, CallsLocally, Keeps, Records, RecordsLocally}
 
 -- whether a task is served over a wire
 abbrev pub is_service : Option Task → Bool
@@ -28,7 +31,9 @@ is_service None = false
 is_service (Some (task.OfFiles t)) = false
 is_service (Some (task.Serve description listen events)) = true
 is_service (Some (task.RelayServe description listen events)) = true
+is_service (Some (task.Keep description script store)) = false
 is_service (Some (task.Ask what client)) = false
+is_service (Some (task.Record what)) = false
 
 -- the wire gave fewer events than that, and then answered End
 pub record EndsOfWire (limit : ℕ) (old new : WireHistory) : Type 0 where
@@ -107,13 +112,25 @@ CauseOfAsking what client (peer.To to net) s old new =
     CauseOfCall (calling (own_address client) (asked_address net client) (call_asked what) to) s old new
 CauseOfAsking what client (peer.Local description) s old new = IsNoLinkEnd s
 
+-- why a play over a store ended so
+abbrev pub CauseOfKeeping : Status → ℕ → ℕ → Type 0
+CauseOfKeeping status.StoreFault faults faults_new = Rose faults faults_new
+CauseOfKeeping status.StoreLimit faults faults_new = Unit {0}
+CauseOfKeeping s faults faults_new = IsNoServiceEnd s
+
+abbrev pub CauseOfRecord : RecordTask → PeerWords → Status → LinkState → LinkState → KeeperUse → Type 0
+CauseOfRecord what (peer.To to net) s old new keeper = CauseOfRecording (recording_to what net to) s old new keeper.old keeper.new
+CauseOfRecord what (peer.Local description) s old new keeper = CauseOfLocalRecording s keeper.old keeper.new
+
 -- why a run of a task ended so
 abbrev pub HasCause : {O : Type 0} → Option Task → Status → Uses O → Type 0
 HasCause None s u = IsNoServiceEnd s
 HasCause (Some (task.OfFiles t)) s u = IsNoServiceEnd s
 HasCause (Some (task.Serve description listen events)) s u = CauseOfService events s u.wire u.wire_new
 HasCause (Some (task.RelayServe description listen events)) s u = CauseOfService events s u.wire u.wire_new
+HasCause (Some (task.Keep description script store)) s u = CauseOfKeeping s u.disk.faults u.disk.faults_new
 HasCause (Some (task.Ask what client)) s u = CauseOfAsking what client client.peer s u.link.old u.link.new
+HasCause (Some (task.Record what)) s u = CauseOfRecord what what.client.peer s u.link.old u.link.new u.keeper
 
 -- the words, the description or the script decided, or a file could not be read
 abbrev pub IsBeforeRun : Status → Type 0
@@ -140,10 +157,15 @@ pub record IsEndOfLocal (x : LocalCalling) (s : Status) : Type 0 where
   pub end_is : (local_conversation x cutting).end ≡ Some ended
   pub status : s ≡ status_of_loop ended
 
--- how a run ends where nothing failed: as its verdict says, or a service is done or took all its events, or a call is
--- over as its conversation is; or memory was wanting
+-- how a run ends where nothing failed: as its verdict says, or a service is done or took all its events, a call is
+-- over as its conversation is, a play over a store is saved whole or stopped by the limit; or memory was wanting
 abbrev pub IsOwnEnd : {O : Type 0} → Verdict → Status → Uses O → Type 0
 IsOwnEnd (Ends ending) s u = (s ≡ ending.status) ⊎ (s ≡ status.Memory)
 IsOwnEnd (Serves service) s u = (s ≡ status.Done) ⊎ (s ≡ status.Budget) ⊎ (s ≡ status.Memory)
 IsOwnEnd (Calls x) s u = IsEndOfCall x s u.link.new ⊎ (s ≡ status.Memory)
 IsOwnEnd (CallsLocally x) s u = IsEndOfLocal x s ⊎ (s ≡ status.Memory)
+IsOwnEnd (Keeps x) s u = (s ≡ status.Done) ⊎ (s ≡ status.StoreLimit) ⊎ (s ≡ status.Memory)
+IsOwnEnd (Records x) s u =
+    IsEndOfRecording x s u.link.new u.keeper.old.rows ⊎ ((s ≡ status.StoreLimit) × IsFull u.keeper.old.rows) ⊎ (s ≡ status.Memory)
+IsOwnEnd (RecordsLocally x) s u =
+    IsEndOfLocalRecording x s u.keeper.old.rows ⊎ ((s ≡ status.StoreLimit) × IsFull u.keeper.old.rows) ⊎ (s ≡ status.Memory)

@@ -1,19 +1,28 @@
 -- Outcomes of a command against its verdict; no public clause cites this.
 use Rattle.std.specs.Prelude.{◌≡◌, ◌⊎◌, ◌≤◌, ◌<◌, ℕ, List, [], length, Option, Some, Result, Ok, Err, IsSomeAnd}
+use Rattle.ads_base.specs.declared.no_memory.NoMemory.{NoMemory}
 use Rattle.ads_outside.specs.declared.named_file.NamedFile.{NamedFile}
 use Rattle.ads_outside.specs.Limit.{file_limit}
 use Rattle.ads_outside.specs.Named.{bytes_of}
+use Rattle.ads_outside.specs.SinkState.{SinkState}
 use Rattle.signals.specs.Wave.{Wave}
 use Rattle.spec_plant.specs.Description.{Description}
+use Rattle.spec_machine.specs.ScriptLine.{ScriptLine}
+use Rattle.type_layout.specs.Descriptions.{description_of}
 use Rattle.ads_served.specs.Standing.{Standing}
 use Rattle.server_core.specs.CoreState.{started}
 use Rattle.server_core.specs.Served.{World, Client}
+use Rattle.keep_play.specs.declared.kept_play.KeptPlay.{KeptPlay}
+use Rattle.keep_play.specs.declared.kept_play.KeptPlay.TheVariants as kept
 use Rattle.symbol_file.specs.declared.fault.DescFault.{DescFault}
 use Rattle.symbol_file.specs.declared.fault.DescFault.TheVariants as fault
 use Rattle.ads_run.specs.declared.outcome.Outcome.{Outcome}
 use Rattle.ads_run.specs.declared.status.Status.{Status}
 use Rattle.ads_run.specs.declared.status.Status.TheVariants as status
-use Rattle.ads_run.specs.Verdict.{Verdict, Ends, ended}
+use Rattle.ads_run.specs.declared.scripted.Scripted.{Scripted}
+use Rattle.ads_run.specs.Ending.{line_alone}
+use Rattle.ads_run.specs.Prints.{PutsMemoryLine, PrintsEnding}
+use Rattle.ads_run.specs.Verdict.{Verdict, Ends, Play, ended}
 use Rattle.ads_run.specs.Readings.{OverFile}
 
 abbrev pub verdict_in : Outcome → Verdict
@@ -26,6 +35,21 @@ IsOutcome verdict o = verdict_in o ≡ verdict
 -- the outcome is the verdict's, or a reading failed
 abbrev pub Decides : Verdict → Type 0 → Outcome → Type 0
 Decides verdict reading_failed o = IsOutcome verdict o ⊎ (reading_failed × IsOutcome (ended status.ReadFault) o)
+
+-- a verdict is what is made of these lines; or the outcome is the verdict's
+abbrev pub IsScriptOf : (List ScriptLine → Verdict) → Verdict → Result (List ScriptLine) Outcome → Type 0
+IsScriptOf play verdict (Ok lines) = play lines ≡ verdict
+IsScriptOf play verdict (Err o) = IsOutcome verdict o
+
+-- the same, or a reading failed
+abbrev pub GivesScript : (List ScriptLine → Verdict) → Verdict → Type 0 → Result (List ScriptLine) Outcome → Type 0
+GivesScript play verdict failed (Ok lines) = play lines ≡ verdict
+GivesScript play verdict failed (Err o) = Decides verdict failed o
+
+-- the same of a description and a script
+abbrev pub GivesBoth : Play → Verdict → Type 0 → Result Scripted Outcome → Type 0
+GivesBoth play verdict failed (Ok both) = play (description_of both.description) both.script ≡ verdict
+GivesBoth play verdict failed (Err o) = Decides verdict failed o
 
 -- the file has these bytes, no more than the limit
 pub record HasBytes (name bytes : List ℕ) (files : List NamedFile) : Type 0 where
@@ -94,6 +118,22 @@ IsOfService s = ⊥
 abbrev pub IsOfServe : Status → Type 0
 IsOfServe (status.BadDescription n item) = Unit {0}
 IsOfServe s = IsOfService s
+
+-- how a play over a store ends, whose description and script are read
+abbrev pub IsOfKeeping : Status → Type 0
+IsOfKeeping status.Done = Unit {0}
+IsOfKeeping status.WriteFault = Unit {0}
+IsOfKeeping status.Memory = Unit {0}
+IsOfKeeping status.StoreFault = Unit {0}
+IsOfKeeping status.StoreLimit = Unit {0}
+IsOfKeeping s = ⊥
+
+-- what is printed of a play over a store that ended so
+abbrev pub PrintsPlay : Result KeptPlay NoMemory → Status → SinkState → SinkState → Type 0
+PrintsPlay (Ok (kept.Done text)) s old new = PrintsEnding (record { status = status.Done; text = text }) s old new
+PrintsPlay (Ok kept.StoreFault) s old new = PrintsEnding (line_alone status.StoreFault) s old new
+PrintsPlay (Ok kept.StoreLimit) s old new = PrintsEnding (line_alone status.StoreLimit) s old new
+PrintsPlay (Err e) s old new = (s ≡ status.Memory) × PutsMemoryLine old new
 
 -- no reading failed
 abbrev pub IsNoReadFault : Status → Type 0

@@ -70,30 +70,37 @@ is_over_link (peer.Local description) = false
 
 abbrev pub asks_link : Option Task → Bool
 asks_link (Some (task.Ask what client)) = is_over_link client.peer
+asks_link (Some (task.Record what)) = is_over_link what.client.peer
 asks_link t = false
 
--- whether a task keeps values on a disk; no command that is built does
+-- whether a task keeps values on a disk
 abbrev pub asks_disk : Option Task → Bool
 asks_disk None = false
 asks_disk (Some (task.OfFiles t)) = false
 asks_disk (Some (task.Serve description listen events)) = false
 asks_disk (Some (task.RelayServe description listen events)) = false
+asks_disk (Some (task.Keep description script store)) = true
 asks_disk (Some (task.Ask what client)) = false
+asks_disk (Some (task.Record what)) = false
 
--- whether a task records samples in a keeper; no command that is built does
+-- whether a task records samples in a keeper
 abbrev pub asks_keeper : Option Task → Bool
 asks_keeper None = false
 asks_keeper (Some (task.OfFiles t)) = false
 asks_keeper (Some (task.Serve description listen events)) = false
 asks_keeper (Some (task.RelayServe description listen events)) = false
+asks_keeper (Some (task.Keep description script store)) = false
 asks_keeper (Some (task.Ask what client)) = false
+asks_keeper (Some (task.Record what)) = true
 
 abbrev pub reads_no_file : Option Task → Bool
 reads_no_file None = true
 reads_no_file (Some (task.OfFiles t)) = asks_no_file t
 reads_no_file (Some (task.Serve description listen events)) = false
 reads_no_file (Some (task.RelayServe description listen events)) = false
+reads_no_file (Some (task.Keep description script store)) = false
 reads_no_file (Some (task.Ask what client)) = is_over_link client.peer
+reads_no_file (Some (task.Record what)) = is_over_link what.client.peer
 
 -- of a client's command: the description of the server in the same process
 abbrev pub ReadsOfPeer : PeerWords → Status → Names → Names → Type 0
@@ -105,4 +112,6 @@ ReadsFiles None s old new = ReadsAll old new []
 ReadsFiles (Some (task.OfFiles t)) s old new = ReadsFilesOf t s old new
 ReadsFiles (Some (task.Serve description listen events)) s old new = ReadsOne s old new description
 ReadsFiles (Some (task.RelayServe description listen events)) s old new = ReadsOne s old new description
+ReadsFiles (Some (task.Keep description script store)) s old new = ReadsBoth s old new description script
 ReadsFiles (Some (task.Ask what client)) s old new = ReadsOfPeer client.peer s old new
+ReadsFiles (Some (task.Record what)) s old new = ReadsOfPeer what.client.peer s old new

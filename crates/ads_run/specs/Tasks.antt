@@ -1,5 +1,6 @@
 -- What the words ask for: a task with its files.
 use Rattle.std.specs.Prelude.{ℕ, Bool, true, ◌&&◌, List, length, Option, Some, None, nat_le, if◌then◌else◌}
+use Rattle.std.specs.List.{list_all}
 use Rattle.cli_words.specs.declared.command.Command.{Command}
 use Rattle.cli_words.specs.declared.command.Command.TheVariants as command
 use Rattle.cli_words.specs.Commands.{command_of}
@@ -7,6 +8,7 @@ use Rattle.cli_words.specs.declared.client_words.ClientWords.{ClientWords}
 use Rattle.ads_run.specs.declared.client_task.ClientTask.{ClientTask}
 use Rattle.ads_run.specs.declared.client_task.ClientTask.TheVariants as ask
 use Rattle.ads_run.specs.declared.file_task.FileTask.TheVariants as file_task
+use Rattle.ads_run.specs.declared.record_task.RecordTask.{RecordTask}
 use Rattle.ads_run.specs.declared.task.Task.{Task}
 use Rattle.ads_run.specs.declared.task.Task.TheVariants as task
 
@@ -32,7 +34,20 @@ abbrev pub task_of_ask : ClientTask → ClientWords → Option Task
 task_of_ask what client =
     if nat_le client.port 65535 && fits_what what then Some (task.Ask what client) else None
 
--- the task of a command; the other commands are not built
+-- 1 to 16 names, and what a recording takes
+abbrev pub are_names : List (List ℕ) → Bool
+are_names names = nat_le 1 (length names) && nat_le (length names) 16 && list_all (λ name. is_text name) names
+
+abbrev pub takes_samples : ℕ → ℕ → Bool
+takes_samples cycle count = nat_le cycle 4294967295 && nat_le 1 count && nat_le count 1000000
+
+abbrev pub fits_record : RecordTask → Bool
+fits_record what = nat_le what.client.port 65535 && takes_samples what.cycle what.count && are_names what.names
+
+abbrev pub task_of_record : RecordTask → Option Task
+task_of_record what = if fits_record what then Some (task.Record what) else None
+
+-- the task of a command
 unfoldable pub task_of_command : Option Command → Option Task
 task_of_command None = None
 task_of_command (Some (command.Selftest script)) = Some (task.OfFiles (file_task.Selftest script))
@@ -55,8 +70,10 @@ task_of_command (Some (command.Relay description script)) =
     Some (task.OfFiles (file_task.Relay description script))
 task_of_command (Some (command.RelayServe description listen events)) =
     Some (task.RelayServe description listen events)
-task_of_command (Some c) = None
+task_of_command (Some (command.Keep description script store)) = Some (task.Keep description script store)
+task_of_command (Some (command.Record names change cycle count store client)) =
+    task_of_record (record { names = names; change = change; cycle = cycle; count = count; store = store; client = client })
 
--- the task that the words ask for, if they are a command that is built
+-- the task that the words ask for, if they are a command
 abbrev pub asked_task : List (List ℕ) → Option Task
 asked_task words = task_of_command (command_of words)

@@ -1,10 +1,11 @@
 -- What a run is handed in and leaves: the sink, the wire, the link, the disk and the keeper, each before and behind it.
-use Rattle.std.specs.Prelude.{ℕ, List, Option}
+use Rattle.std.specs.Prelude.{List}
 use Rattle.ads_outside.specs.declared.link_move.LinkMove.{LinkMove}
 use Rattle.ads_outside.specs.LinkState.{LinkState}
 use Rattle.ads_outside.specs.SinkState.{SinkState}
 use Rattle.ads_outside.specs.WireState.{WireHistory}
 use Rattle.sample_store.specs.Keeper.{KeeperState}
+pub use Rattle.keep_play.specs.KeptDisk.{DiskUse, disk_used}
 
 -- a link: which logs it may be told, its moment and counts
 pub record LinkUse (O : Type 0) : Type 1 where
@@ -18,28 +19,6 @@ used told tells old new = record { told = told; tells = tells; old = old; new = 
 
 abbrev pub link_used : {L O : Type 0} → (L → O → List LinkMove → Type 0) → (L → LinkState) → L → L → LinkUse O
 link_used tells state old new = used (tells old) (tells new) (state old) (state new)
-
--- a disk: the file that a read gives, where it is told, and how many calls failed
-pub record DiskUse : Type 1 where
-  pub file : Option (List ℕ)
-  pub file_new : Option (List ℕ)
-  -- what a stop before the run might have left
-  pub may_leave : List ℕ → Type 0
-  -- what a stop since then may have left
-  pub left : List ℕ → Type 0
-  pub faults : ℕ
-  pub faults_new : ℕ
-
-abbrev pub disk_used : {D : Type 0} → (D → Option (List ℕ)) → (D → List ℕ → Type 0) → (D → ℕ) → (D → ℕ → List ℕ → Type 0) → (D → ℕ) → D → D
-    → DiskUse
-disk_used contents may_leave moment left_since faults old new = record {
-  file = contents old;
-  file_new = contents new;
-  may_leave = may_leave old;
-  left = left_since new (moment old);
-  faults = faults old;
-  faults_new = faults new;
-}
 
 -- a keeper: its rows, where they are told, and how many calls failed
 pub record KeeperUse : Type 0 where

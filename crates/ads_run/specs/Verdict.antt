@@ -19,6 +19,7 @@ use Rattle.client_loop.specs.Called.{Calling, calling}
 use Rattle.ads_run.specs.declared.client_task.ClientTask.{ClientTask}
 use Rattle.ads_run.specs.declared.file_task.FileTask.{FileTask}
 use Rattle.ads_run.specs.declared.file_task.FileTask.TheVariants as file_task
+use Rattle.ads_run.specs.declared.record_task.RecordTask.{RecordTask}
 use Rattle.ads_run.specs.declared.status.Status.{Status}
 use Rattle.ads_run.specs.declared.status.Status.TheVariants as status
 use Rattle.ads_run.specs.declared.task.Task.{Task}
@@ -26,7 +27,9 @@ use Rattle.ads_run.specs.declared.task.Task.TheVariants as task
 use Rattle.ads_run.specs.Asking.{LocalCalling, local_calling, call_asked, own_address, asked_address}
 use Rattle.ads_run.specs.BuiltIn.{built_in}
 use Rattle.ads_run.specs.Ending.{Ending, line_alone}
+use Rattle.ads_run.specs.Keeping.{Keeping, keeping}
 use Rattle.ads_run.specs.Load.{load_text}
+use Rattle.ads_run.specs.RecordAsked.{recording_to, local_recording}
 use Rattle.ads_run.specs.Report.{report_of}
 use Rattle.ads_run.specs.Service.{Service, ServedMachine, OfRelay, server_with}
 use Rattle.ads_run.specs.Tasks.{asked_task}
@@ -38,6 +41,11 @@ pub data Verdict : Type 0 where
   -- a client calls over the link, or over the server of a description in the same process
   Calls : Calling → Verdict
   CallsLocally : LocalCalling → Verdict
+  -- a script is played over a store, and what that holds decides
+  Keeps : Keeping → Verdict
+  -- a client records so: the call, by how many rows its table has
+  Records : (ℕ → Calling) → Verdict
+  RecordsLocally : (ℕ → LocalCalling) → Verdict
 
 -- a status whose last line is all that is printed
 abbrev pub ended : Status → Verdict
@@ -47,21 +55,29 @@ ended s = Ends (line_alone s)
 abbrev pub prints : List ℕ → Verdict
 prints text = Ends (record { status = status.Done; text = text })
 
--- the play of a script over a description, with signals that begin so; or the script's first line off the grammar
-abbrev pub verdict_of_lines : Description → List Wave → Result (List ScriptLine) ℕ → Verdict
-verdict_of_lines d waves (Ok lines) = prints (server_text d waves lines)
-verdict_of_lines d waves (Err number) = ended (status.BadScript number)
+-- what is made of a description and of the lines of a script
+abbrev pub Play : Type 0
+Play = Description → List ScriptLine → Verdict
 
-abbrev pub verdict_of_script : Description → List Wave → List ℕ → Verdict
-verdict_of_script d waves bytes = verdict_of_lines d waves (server_script bytes)
+-- the text of the lines' play over the server of a description, with signals that begin so
+abbrev pub over_server : List Wave → Play
+over_server waves d lines = prints (server_text d waves lines)
 
--- the play of a script over the relay of a description; or the script's first line off the grammar
-abbrev pub verdict_of_relay_lines : Description → Result (List ScriptLine) ℕ → Verdict
-verdict_of_relay_lines d (Ok lines) = prints (relay_text (relay_start d) lines)
-verdict_of_relay_lines d (Err number) = ended (status.BadScript number)
+-- that of their play over its relay
+abbrev pub over_relay : Play
+over_relay d lines = prints (relay_text (relay_start d) lines)
 
-abbrev pub verdict_of_relay_script : Description → List ℕ → Verdict
-verdict_of_relay_script d bytes = verdict_of_relay_lines d (server_script bytes)
+-- their play over its server and a store
+abbrev pub over_store : List Wave → Play
+over_store waves d lines = Keeps (keeping d waves lines)
+
+-- what is made of a script's lines; or its first line off the grammar
+abbrev pub verdict_of_lines : (List ScriptLine → Verdict) → Result (List ScriptLine) ℕ → Verdict
+verdict_of_lines play (Ok lines) = play lines
+verdict_of_lines play (Err number) = ended (status.BadScript number)
+
+abbrev pub verdict_of_script : (List ScriptLine → Verdict) → List ℕ → Verdict
+verdict_of_script play bytes = verdict_of_lines play (server_script bytes)
 
 -- the description's report, or what is wrong with it; 0 stands for no TOML document
 abbrev pub verdict_of_description : TextVerdict → Verdict
@@ -75,17 +91,17 @@ verdict_of_file verdict None = ended status.ReadFault
 verdict_of_file verdict (Some bytes) =
     if nat_lt file_limit (length bytes) then ended status.TooLong else verdict bytes
 
--- what is wrong with the description; where nothing is, the play of the script's file over it
-abbrev pub verdict_of_replay : List Wave → Option (List ℕ) → TextVerdict → Verdict
-verdict_of_replay waves script (Described d) = verdict_of_file (verdict_of_script d waves) script
-verdict_of_replay waves script (Breaks number item) = ended (status.BadDescription number item)
-verdict_of_replay waves script NoDocument = ended (status.BadDescription 0 0)
+-- what is wrong with the description; where nothing is, what is made of it and of the script's file
+abbrev pub verdict_of_described : Play → Option (List ℕ) → TextVerdict → Verdict
+verdict_of_described play script (Described d) = verdict_of_file (verdict_of_script (play d)) script
+verdict_of_described play script (Breaks number item) = ended (status.BadDescription number item)
+verdict_of_described play script NoDocument = ended (status.BadDescription 0 0)
 
--- the same over its relay
-abbrev pub verdict_of_relay : Option (List ℕ) → TextVerdict → Verdict
-verdict_of_relay script (Described d) = verdict_of_file (verdict_of_relay_script d) script
-verdict_of_relay script (Breaks number item) = ended (status.BadDescription number item)
-verdict_of_relay script NoDocument = ended (status.BadDescription 0 0)
+-- the files of a description and of a script, at the first reading and at the second
+abbrev pub verdict_of_both : ℕ → Play → List ℕ → List ℕ → List NamedFile → List NamedFile → Verdict
+verdict_of_both signals play description script first second =
+    verdict_of_file (λ bytes. verdict_of_described play (bytes_of second script) (text_verdict signals bytes))
+    (bytes_of first description)
 
 abbrev pub verdict_of_check : ℕ → List ℕ → Verdict
 verdict_of_check signals bytes = verdict_of_description (text_verdict signals bytes)
@@ -123,15 +139,13 @@ verdict_of_serve waves name listen limit bytes =
 -- the verdict on a task that asks its files alone. The files are those at the first reading and those at the second.
 abbrev pub verdict_of_file_task : List Wave → FileTask → List NamedFile → List NamedFile → Verdict
 verdict_of_file_task waves (file_task.Selftest script) first second =
-    verdict_of_file (verdict_of_script built_in waves) (bytes_of first script)
+    verdict_of_file (verdict_of_script (over_server waves built_in)) (bytes_of first script)
 verdict_of_file_task waves (file_task.Check description) first second =
     verdict_of_file (verdict_of_check (length waves)) (bytes_of first description)
 verdict_of_file_task waves (file_task.Replay description script) first second =
-    verdict_of_file (λ bytes. verdict_of_replay waves (bytes_of second script) (text_verdict (length waves) bytes))
-    (bytes_of first description)
+    verdict_of_both (length waves) (over_server waves) description script first second
 verdict_of_file_task waves (file_task.Relay description script) first second =
-    verdict_of_file (λ bytes. verdict_of_relay (bytes_of second script) (text_verdict (length waves) bytes))
-    (bytes_of first description)
+    verdict_of_both (length waves) over_relay description script first second
 verdict_of_file_task waves (file_task.Load n) first second = verdict_of_load waves n
 verdict_of_file_task waves (file_task.Migrate description) first second =
     verdict_of_file (verdict_of_migrate (length waves)) (bytes_of first description)
@@ -152,6 +166,21 @@ verdict_of_ask waves what client (peer.To to net) first =
 verdict_of_ask waves what client (peer.Local description) first =
     verdict_of_file (verdict_of_local waves what client) (bytes_of first description)
 
+-- what is wrong with the description; where nothing is, a client records from its server in the same process
+abbrev pub verdict_of_recorded : List Wave → RecordTask → TextVerdict → Verdict
+verdict_of_recorded waves what (Described d) = RecordsLocally (local_recording d waves what)
+verdict_of_recorded waves what (Breaks number item) = ended (status.BadDescription number item)
+verdict_of_recorded waves what NoDocument = ended (status.BadDescription 0 0)
+
+abbrev pub verdict_of_recorded_text : List Wave → RecordTask → List ℕ → Verdict
+verdict_of_recorded_text waves what bytes = verdict_of_recorded waves what (text_verdict (length waves) bytes)
+
+-- a client records from a server over the link, or from that of a description
+abbrev pub verdict_of_record : List Wave → RecordTask → PeerWords → List NamedFile → Verdict
+verdict_of_record waves what (peer.To to net) first = Records (recording_to what net to)
+verdict_of_record waves what (peer.Local description) first =
+    verdict_of_file (verdict_of_recorded_text waves what) (bytes_of first description)
+
 -- words that are no command are told so
 abbrev pub verdict_of_task : List Wave → Option Task → List NamedFile → List NamedFile → Verdict
 verdict_of_task waves None first second = ended status.Usage
@@ -160,7 +189,10 @@ verdict_of_task waves (Some (task.Serve description listen events)) first second
     verdict_of_file (verdict_of_serve waves description listen events) (bytes_of first description)
 verdict_of_task waves (Some (task.RelayServe description listen events)) first second =
     verdict_of_file (verdict_of_service (length waves) OfRelay description listen events) (bytes_of first description)
+verdict_of_task waves (Some (task.Keep description script store)) first second =
+    verdict_of_both (length waves) (over_store waves) description script first second
 verdict_of_task waves (Some (task.Ask what client)) first second = verdict_of_ask waves what client client.peer first
+verdict_of_task waves (Some (task.Record what)) first second = verdict_of_record waves what what.client.peer first
 
 -- the verdict on words, with signals that begin so
 abbrev pub verdict_of : List Wave → List (List ℕ) → List NamedFile → List NamedFile → Verdict

@@ -5,7 +5,6 @@ ghost use Rattle.ads_outside.specs.Named.{bytes_of};
 ghost use Rattle.ads_outside.specs.Rose.{Rose};
 ghost use Rattle.spec_plant.specs.Description as plant;
 ghost use Rattle.spec_server.specs.Server.{server_start};
-ghost use Rattle.ams_header.specs.Header.{address_of};
 ghost use Rattle.client_loop.specs.Called.{calling};
 ghost use Rattle.local_link.specs.Link.{IsTold};
 ghost use Rattle.server_core.specs.CoreState.{started};
@@ -20,6 +19,7 @@ ghost use Rattle.ads_run.specs.Readings.{OverFile, ReadsOne};
 ghost use Rattle.ads_run.specs.Uses.{link_used};
 ghost use Rattle.ads_run.specs.Verdict.{verdict_of_file, verdict_of_local};
 
+use crate::address::{asked_addr, own_addr};
 use crate::call_end::print_answer;
 use crate::client_call::call_of;
 use crate::client_task::ClientTask;
@@ -27,7 +27,7 @@ use crate::ending::{end_without_memory, print_outcome};
 use crate::file::bytes_of_file;
 use crate::serve::refuse;
 use crate::status::Status;
-use ads_base::{AmsAddr, NetId, NoMemory};
+use ads_base::{NetId, NoMemory};
 use ads_outside::{Files, Link, Sink};
 use cli_words::{ClientWords, Text};
 use client_loop::run_call;
@@ -39,9 +39,6 @@ use symbol_file::read;
 
 /// What a link in the same process is connected to.
 const LOCAL_ADDRESS: &str = "";
-
-/// The AMS port of the client itself.
-const CLIENT_PORT: u16 = 32905;
 
 /// A client asks the server with this NetId over the link, which is connected to `to`.
 pub fn ask_over_link<L: Link, S: Sink>(
@@ -66,25 +63,6 @@ pub fn ask_over_link<L: Link, S: Sink>(
             let answer = run_call(alloc, call, me, peer, to.as_str(), link, out);
             print_answer(alloc, answer, out)
         }
-    }
-}
-
-fn own_addr(client: &ClientWords) -> AmsAddr
-    ensures { address_of result ≡ own_address client.now }
-{
-    AmsAddr {
-        net: client.me,
-        port: CLIENT_PORT,
-    }
-}
-
-fn asked_addr(net: NetId, client: &ClientWords) -> AmsAddr
-    requires { FitsClient client.now }
-    ensures { address_of result ≡ asked_address net client.now }
-{
-    AmsAddr {
-        net,
-        port: client.port as u16,
     }
 }
 

@@ -3,11 +3,9 @@
 ghost use Rattle.std.specs.Prelude.{◌≡◌};
 ghost use Rattle.client_replies.specs.Stages.{end_meant};
 ghost use Rattle.ads_run.specs.Calling.{PrintsAnswer, status_of_call};
-ghost use Rattle.ads_run.specs.Ending.{line_alone};
-ghost use Rattle.ads_run.specs.Prints.{PrintsEnding};
 
-use crate::ending::{end_without_memory, print_and_end};
-use crate::last_line::{LINK_FAULT_LINE, last_line};
+use crate::ending::{end_without_memory, print_and_end, print_line};
+use crate::last_line::LINK_FAULT_LINE;
 use crate::status::Status;
 use ads_base::NoMemory;
 use ads_outside::Sink;
@@ -40,15 +38,5 @@ fn status_of_end(end: CallEnd) -> Status
         CallEnd::BadPeer(broke) => Status::BadPeer(broke),
         CallEnd::BadValue => Status::BadValue,
         CallEnd::TimedOut { sent, now } => Status::TimedOut { sent, now },
-    }
-}
-
-// The last line of a status is all that is printed.
-fn print_line<S: Sink>(alloc: Global, status: Status, out: &mut S) -> Status
-    ensures { PrintsEnding (line_alone status) result (S.state out.old) (S.state out.new) }
-{
-    match last_line(alloc, &status) {
-        Ok(line) => print_and_end(out, line.as_slice(), status),
-        Err(NoMemory) => end_without_memory(out),
     }
 }

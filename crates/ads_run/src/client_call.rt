@@ -54,14 +54,16 @@ pub fn call_of(alloc: Global, what: &ClientTask) -> Result<Call, NoMemory>
     }
 }
 
-fn bytes_of(alloc: Global, text: &Text) -> Result<Octets, NoMemory>
+/// A copy of a text.
+pub fn bytes_of(alloc: Global, text: &Text) -> Result<Octets, NoMemory>
     ensures { IfOk result (λ bytes. bytes ≡ text.now) }
 {
     let bytes = Octets::copy_of(alloc, text.as_str().as_bytes())?;
     Ok(bytes)
 }
 
-fn mode_of(change: bool) -> Mode2
+/// When samples are sent.
+pub fn mode_of(change: bool) -> Mode2
     ensures { mode_meant result ≡ (if change then SERVER_ON_CHANGE else SERVER_CYCLE) }
 {
     if change { Mode2::Change } else { Mode2::Cycle }

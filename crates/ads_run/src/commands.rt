@@ -9,7 +9,7 @@ ghost use Rattle.ads_run.specs.BuiltIn.{built_in};
 ghost use Rattle.ads_run.specs.Ends.{EndsBy};
 ghost use Rattle.ads_run.specs.Fits.{FitsFileTask};
 ghost use Rattle.ads_run.specs.Migrated.{HasMigratedFile, IsMigrationOf};
-ghost use Rattle.ads_run.specs.Verdict.{verdict_of_file_task, verdict_of_file, verdict_of_script, verdict_of_check};
+ghost use Rattle.ads_run.specs.Verdict.{over_server, verdict_of_file_task, verdict_of_file, verdict_of_script, verdict_of_check};
 ghost use Rattle.ads_run.specs.Readings.{OverFile, OverFiles, ReadsFilesOf, asks_no_file};
 ghost use Rattle.ads_run.specs.Outcomes.{Decides, IsOfFileTask};
 
@@ -20,8 +20,7 @@ use crate::file_task::FileTask;
 use crate::load::load;
 use crate::migrate::migrate_file;
 use crate::outcome::Outcome;
-use crate::relaying::relay;
-use crate::replay::replay;
+use crate::replay::{relay, replay};
 use crate::selftest::selftest;
 use crate::status::Status;
 use ads_base::NoMemory;
@@ -94,7 +93,14 @@ fn outcome_of_task<T: Threads + Sync, F: Files, G: Sources>(
         FileTask::Relay {
             description,
             script,
-        } => relay(rt, alloc, description, script, signals, files),
+        } => relay(
+            rt,
+            alloc,
+            description,
+            script,
+            signals.count() as u32,
+            files,
+        ),
         FileTask::Load { n } => load(rt, alloc, *n as u32, signals),
         FileTask::Migrate { description } => migrate_file(
             alloc,
@@ -116,7 +122,7 @@ fn selftest_file<T: Threads + Sync, F: Files, G: Sources>(
 ) -> Result<Outcome, NoMemory>
     requires few { length (G.waves signals) < 2 ^ 32 }
     ensures decided { IfOk result (λ o. OverFile (F.state files.old).held (λ held.
-        Decides (verdict_of_file (verdict_of_script built_in (G.waves signals)) (bytes_of held script.now))
+        Decides (verdict_of_file (verdict_of_script (over_server (G.waves signals) built_in)) (bytes_of held script.now))
         (Rose (F.state files.old).faults (F.state files.new).faults) o)) }
     ensures plain { IfOk result (λ o. IsOfFileTask o.status) }
     ensures reads { IfOk result (λ o. ReadsAll (F.state files.old).names (F.state files.new).names (script.now ∷ [])) }

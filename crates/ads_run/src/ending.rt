@@ -1,12 +1,15 @@
 //! What is printed at the end of a run.
 
 ghost use Rattle.std.specs.Prelude.{◌≡◌};
+ghost use Rattle.ads_run.specs.Ending.{line_alone};
 ghost use Rattle.ads_run.specs.Prints.{PrintsEnding, PutsMemoryLine};
 
-use crate::last_line::MEMORY_LINE;
+use crate::last_line::{MEMORY_LINE, last_line};
 use crate::outcome::Outcome;
 use crate::status::Status;
+use ads_base::NoMemory;
 use ads_outside::{Put, Sink};
+use std::alloc::Global;
 
 /// Prints a text and ends with a status, or with what the sink answers. No empty piece is put.
 pub fn print_and_end<S: Sink>(out: &mut S, text: &[u8], status: Status) -> Status
@@ -28,6 +31,16 @@ pub fn print_outcome<S: Sink>(out: &mut S, outcome: Outcome) -> Status
 {
     let Outcome { status, text } = outcome;
     print_and_end(out, text.as_slice(), status)
+}
+
+/// Ends with a status whose last line is all that is printed.
+pub fn print_line<S: Sink>(alloc: Global, status: Status, out: &mut S) -> Status
+    ensures { PrintsEnding (line_alone status) result (S.state out.old) (S.state out.new) }
+{
+    match last_line(alloc, &status) {
+        Ok(line) => print_and_end(out, line.as_slice(), status),
+        Err(NoMemory) => end_without_memory(out),
+    }
 }
 
 /// Ends with want of memory: its line may be cut or missing.

@@ -2,6 +2,7 @@
 //! `run_program` over the words of a process and the signals that the program has.
 #![tactic(auto)]
 
+mod address;
 mod ask;
 mod built_in;
 mod call_end;
@@ -12,6 +13,7 @@ mod commands;
 mod ending;
 mod file;
 mod file_task;
+mod keep;
 mod last_line;
 mod laws;
 mod load;
@@ -20,14 +22,18 @@ mod outcome;
 mod play;
 mod program;
 mod program_signals;
+mod record;
+mod record_locally;
+mod record_task;
+mod recording;
 mod relay_play;
 mod relay_run;
 mod relay_serve;
 mod relay_summary;
-mod relaying;
 mod replay;
 mod report;
 mod script_run;
+mod scripted;
 mod selftest;
 mod serve;
 mod server_run;

@@ -14,6 +14,7 @@ ghost use Rattle.ads_run.specs.Program.{RunsWith, words_behind_name};
 ghost use Rattle.ads_run.specs.ProgramWaves.{program_waves};
 ghost use Rattle.ads_run.specs.Promises.{PlayKeepsPromises};
 ghost use Rattle.ads_run.specs.Readings.{OverFiles, ReadsFiles, asks_disk, asks_keeper, asks_link, reads_no_file};
+ghost use Rattle.ads_run.specs.RecordRows.{AddsRows};
 ghost use Rattle.ads_run.specs.Tasks.{asked_task};
 ghost use Rattle.ads_run.specs.Uses.{disk_used, keeper_used, link_used, uses};
 ghost use Rattle.ads_run.specs.Verdict.{verdict_of};
@@ -33,6 +34,7 @@ use std::thread::Threads;
 
 /// `run` over the words of a process behind the program's name, with the signals that the program has: a ramp, a square and
 /// a table. Words that could not be read are no command; where memory was wanting for them, that is told.
+#[tactic(auto, using(crate::proofs::RecordedRows::adds_none))]
 pub fn run_program<T: Threads + Sync, F: Files, W: Wire, L: Link, S: Sink, D: Disk, K: Keeper>(
     rt: &T,
     alloc: Global,
@@ -71,6 +73,9 @@ pub fn run_program<T: Threads + Sync, F: Files, W: Wire, L: Link, S: Sink, D: Di
     ensures before_run { IsBeforeRun result
         → (wire.new ≡ wire.old) × (link.new ≡ link.old) × (disk.new ≡ disk.old) × (keeper.new ≡ keeper.old) }
 
+    // Rows of a table stay as they are: at most a million are put behind them, numbered on.
+    ensures grows { AddsRows (K.state keeper.old).rows (K.state keeper.new).rows }
+
     // The causes of faults, and of what a service ends by.
     ensures read_fault { result ≡ Status.ReadFault → Rose (F.state files.old).faults (F.state files.new).faults }
     ensures write_fault { result ≡ Status.WriteFault → Rose (S.state out.old).faults (S.state out.new).faults }
@@ -82,7 +87,8 @@ pub fn run_program<T: Threads + Sync, F: Files, W: Wire, L: Link, S: Sink, D: Di
         (disk_used D.contents D.may_leave D.moment D.left_since D.fault_count disk.old disk.new)
         (keeper_used K.state keeper.old keeper.new)) }
 
-    // Where nothing failed, the run ends as its verdict says; a service is done, or took all its events.
+    // Where nothing failed, the run ends as its verdict says; a service is done, or took all its events; a play over a store is
+    // done, or stopped by the limit.
     ensures complete { NothingFailed (F.state files.old) (F.state files.new)
         (uses (S.state out.old) (S.state out.new) (W.state wire.old).history (W.state wire.new).history
         (link_used L.tells L.state link.old link.new)
@@ -110,6 +116,7 @@ pub fn run_program<T: Threads + Sync, F: Files, W: Wire, L: Link, S: Sink, D: Di
 }
 
 // The same. Nothing is called where memory is wanting for the words or the signals.
+#[tactic(auto, using(crate::proofs::RecordedRows::adds_none))]
 fn run_signals<T: Threads + Sync, F: Files, W: Wire, L: Link, S: Sink, D: Disk, K: Keeper>(
     rt: &T,
     alloc: Global,
@@ -140,6 +147,7 @@ fn run_signals<T: Threads + Sync, F: Files, W: Wire, L: Link, S: Sink, D: Disk, 
     ensures no_keeper { asks_keeper (asked_task (words_behind_name words)) ≡ false → keeper.new ≡ keeper.old }
     ensures before_run { IfOk result (λ s. IsBeforeRun s
         → (wire.new ≡ wire.old) × (link.new ≡ link.old) × (disk.new ≡ disk.old) × (keeper.new ≡ keeper.old)) }
+    ensures grows { AddsRows (K.state keeper.old).rows (K.state keeper.new).rows }
     ensures read_fault { IfOk result (λ s. s ≡ Status.ReadFault → Rose (F.state files.old).faults (F.state files.new).faults) }
     ensures write_fault { IfOk result (λ s. s ≡ Status.WriteFault → Rose (S.state out.old).faults (S.state out.new).faults) }
     ensures store_fault { IfOk result (λ s. s ≡ Status.StoreFault → Rose (D.fault_count disk.old) (D.fault_count disk.new)) }

@@ -1,47 +1,48 @@
 //! The play of a script on the relay of a description: what is printed of it.
 
-ghost use Rattle.std.specs.Prelude.{◌≡◌, ◌≤◌, ◌++◌, [], IfOk, length};
+ghost use Rattle.std.specs.Prelude.{◌≡◌, ◌++◌, [], IfOk};
 ghost use Rattle.spec_machine.specs.LogText.{log_text_of};
 ghost use Rattle.spec_relay.specs.RelayState.{relay_start};
 ghost use Rattle.spec_relay.specs.RelaySummary.{relay_text};
 ghost use Rattle.type_layout.specs.Descriptions.{description_of};
 ghost use Rattle.replay_script.specs.Fresh.{OpenNew};
 ghost use Rattle.ams_relay.specs.Relays.{RelayStanding, StandsAt};
-ghost use Rattle.ads_run.specs.Outcomes.{IsOutcome, IsOfScript};
+ghost use Rattle.ads_run.specs.Outcomes.{IsOutcome};
 ghost use Rattle.ads_run.specs.Service.{relay_counts};
-ghost use Rattle.ads_run.specs.Verdict.{verdict_of_relay_script};
+ghost use Rattle.ads_run.specs.Verdict.{over_relay};
 
-use crate::outcome::{Outcome, ended};
+use crate::outcome::Outcome;
 use crate::relay_summary::relay_summary_line;
+use crate::scripted::Scripted;
 use crate::status::Status;
 use ads_base::{NoMemory, Octets};
 use ads_outside::{Log, ReloadNotes};
 use ams_relay::Relay;
-use replay_script::{Script, log_text, read_script};
+use replay_script::{Script, log_text};
 use std::alloc::Global;
 use std::thread::Threads;
 use type_layout::Description;
 
-/// The outcome of a script's bytes, played on the relay of a description.
+/// The outcome of a script that is played on the relay of a description.
 pub fn outcome_of_relay<T: Threads + Sync>(
     rt: &T,
     alloc: Global,
-    description: Description,
-    bytes: &[u8],
+    both: Scripted,
 ) -> Result<Outcome, NoMemory>
-    requires short { length bytes.now ≤ 16777216 }
-    ensures is { IfOk result (IsOutcome (verdict_of_relay_script (description_of description) bytes.now)) }
-    ensures status { IfOk result (λ o. IsOfScript o.status) }
+    requires new { OpenNew [] both.script }
+    ensures is { IfOk result (IsOutcome (over_relay (description_of both.description) both.script)) }
+    ensures status { IfOk result (λ o. o.status ≡ Status.Done) }
 {
-    match read_script(alloc, bytes)? {
-        Ok(script) => {
-            let text = play_relay(rt, alloc, description, script)?;
-            Ok(Outcome {
-                status: Status::Done,
-                text,
-            })
-        }
-        Err(number) => ended(alloc, Status::BadScript(number)),
+    let Scripted {
+        description,
+        script,
+    } = both;
+    match play_relay(rt, alloc, description, script) {
+        Err(e) => Err(e),
+        Ok(text) => Ok(Outcome {
+            status: Status::Done,
+            text,
+        }),
     }
 }
 

@@ -1,21 +1,16 @@
-//! `replay`: a script is played on the description of a file.
+//! `replay` and `relay`: a script is played on the description of a file, or on its relay.
 
-ghost use Rattle.std.specs.Prelude.{◌<◌, ◌^◌, ◌≡◌, ◌≤◌, ◌∷◌, [], IfOk, OnErr, length};
-ghost use Rattle.ads_outside.specs.FilesState.{ReadsAll, ReadsSome};
-ghost use Rattle.ads_outside.specs.Named.{bytes_of};
+ghost use Rattle.std.specs.Prelude.{◌<◌, ◌^◌, ◌≡◌, ◌∷◌, [], IfOk, OnErr, length};
+ghost use Rattle.ads_outside.specs.FilesState.{ReadsSome};
 ghost use Rattle.ads_outside.specs.Rose.{Rose};
-ghost use Rattle.spec_plant.specs.Accepted.{IsAccepted};
-ghost use Rattle.spec_rules.specs.TextVerdict.{text_verdict};
-ghost use Rattle.type_layout.specs.Descriptions.{description_of};
-ghost use Rattle.ads_run.specs.Verdict.{verdict_of_file, verdict_of_script, verdict_of_replay, verdict_of_file_task};
-ghost use Rattle.ads_run.specs.Outcomes.{Decides, IsOfScriptFile, IsOfFileTask};
-ghost use Rattle.ads_run.specs.Readings.{OverFile, OverFiles, ReadsBoth, ReadsScript};
-ghost use Rattle.ads_run.specs.declared.file_task.FileTask.TheVariants as FileTask;
+ghost use Rattle.ads_run.specs.Verdict.{over_relay, over_server, verdict_of_both};
+ghost use Rattle.ads_run.specs.Outcomes.{Decides, IsOfFileTask};
+ghost use Rattle.ads_run.specs.Readings.{OverFiles, ReadsBoth};
 
-use crate::check::bad_description;
-use crate::file::bytes_of_file;
 use crate::outcome::Outcome;
+use crate::relay_play::outcome_of_relay;
 use crate::script_run::outcome_of_script;
+use crate::scripted::read_both;
 use crate::status::Status;
 use ads_base::NoMemory;
 use ads_outside::Files;
@@ -23,10 +18,8 @@ use cli_words::Text;
 use server_core::Sources;
 use std::alloc::Global;
 use std::thread::Threads;
-use symbol_file::read;
-use type_layout::Description;
 
-/// The outcome of `replay` over its two files. The script is read only where the description is accepted.
+/// The outcome of `replay` over its two files.
 pub fn replay<T: Threads + Sync, F: Files, G: Sources>(
     rt: &T,
     alloc: Global,
@@ -37,7 +30,7 @@ pub fn replay<T: Threads + Sync, F: Files, G: Sources>(
 ) -> Result<Outcome, NoMemory>
     requires few { length (G.waves signals) < 2 ^ 32 }
     ensures decided { IfOk result (λ o. OverFiles (F.state files.old).held (λ first second.
-        Decides (verdict_of_file_task (G.waves signals) (FileTask.Replay description.now script.now) first second)
+        Decides (verdict_of_both (length (G.waves signals)) (over_server (G.waves signals)) description.now script.now first second)
         (Rose (F.state files.old).faults (F.state files.new).faults) o)) }
     ensures status { IfOk result (λ o. IsOfFileTask o.status) }
     ensures reads { IfOk result (λ o. ReadsBoth o.status (F.state files.old).names (F.state files.new).names description.now script.now) }
@@ -46,79 +39,39 @@ pub fn replay<T: Threads + Sync, F: Files, G: Sources>(
         → Rose (F.state files.old).faults (F.state files.new).faults) }
     ensures held { (F.state files.new).held ≡ (F.state files.old).held }
 {
-    match bytes_of_file(alloc, files, description)? {
-        Ok(bytes) => {
-            let outcome = replay_text(rt, alloc, bytes.as_slice(), script, signals, files)?;
-            Ok(outcome)
-        }
-        Err(told) => Ok(told),
-    }
-}
-
-// The play over a description of these bytes.
-fn replay_text<T: Threads + Sync, F: Files, G: Sources>(
-    rt: &T,
-    alloc: Global,
-    bytes: &[u8],
-    script: &Text,
-    signals: G,
-    files: &mut F,
-) -> Result<Outcome, NoMemory>
-    requires few { length (G.waves signals) < 2 ^ 32 }
-    ensures decided { IfOk result (λ o. OverFile (F.state files.old).held (λ second.
-        Decides (verdict_of_replay (G.waves signals) (bytes_of second script.now) (text_verdict (length (G.waves signals)) bytes.now))
-        (Rose (F.state files.old).faults (F.state files.new).faults) o)) }
-    ensures status { IfOk result (λ o. IsOfFileTask o.status) }
-    ensures reads { IfOk result (λ o. ReadsScript o.status (F.state files.old).names (F.state files.new).names script.now) }
-    ensures reads_some { OnErr result (ReadsSome (F.state files.old).names (F.state files.new).names (script.now ∷ [])) }
-    ensures later { (F.state files.old).faults ≤ (F.state files.new).faults }
-    ensures fault { IfOk result (λ o. o.status ≡ Status.ReadFault
-        → Rose (F.state files.old).faults (F.state files.new).faults) }
-    ensures held { (F.state files.new).held ≡ (F.state files.old).held }
-{
-    match read(alloc, bytes, signals.count() as u32) {
+    match read_both(alloc, description, script, signals.count() as u32, files) {
         Err(e) => Err(e),
-        Ok(Ok(description)) => replay_file(rt, alloc, description, script, signals, files),
-        Ok(Err(fault)) => match bad_description(alloc, fault) {
+        Ok(Err(told)) => Ok(told),
+        Ok(Ok(both)) => match outcome_of_script(rt, alloc, both, signals) {
             Err(e) => Err(e),
-            Ok(told) => Ok(told),
+            Ok(outcome) => Ok(outcome),
         },
     }
 }
 
-// The play of a script's file over an accepted description.
-#[tactic(auto, using(crate::proofs::ReadLemmas::some_of_one))]
-fn replay_file<T: Threads + Sync, F: Files, G: Sources>(
+/// The outcome of `relay` over its two files, for this number of signals.
+pub fn relay<T: Threads + Sync, F: Files>(
     rt: &T,
     alloc: Global,
-    description: Description,
+    description: &Text,
     script: &Text,
-    signals: G,
+    signals: u32,
     files: &mut F,
 ) -> Result<Outcome, NoMemory>
-    requires few { length (G.waves signals) < 2 ^ 32 }
-    requires accepted { IsAccepted (description_of description) (length (G.waves signals)) }
-    ensures decided { IfOk result (λ o. OverFile (F.state files.old).held (λ second.
-        Decides (verdict_of_file (verdict_of_script (description_of description) (G.waves signals)) (bytes_of second script.now))
+    ensures decided { IfOk result (λ o. OverFiles (F.state files.old).held (λ first second.
+        Decides (verdict_of_both signals over_relay description.now script.now first second)
         (Rose (F.state files.old).faults (F.state files.new).faults) o)) }
-    ensures status { IfOk result (λ o. IsOfScriptFile o.status) }
-    ensures reads { IfOk result (λ o. ReadsAll (F.state files.old).names (F.state files.new).names (script.now ∷ [])) }
-    ensures reads_some { OnErr result (ReadsSome (F.state files.old).names (F.state files.new).names (script.now ∷ [])) }
-    ensures later { (F.state files.old).faults ≤ (F.state files.new).faults }
+    ensures status { IfOk result (λ o. IsOfFileTask o.status) }
+    ensures reads { IfOk result (λ o. ReadsBoth o.status (F.state files.old).names (F.state files.new).names description.now script.now) }
+    ensures reads_some { OnErr result (ReadsSome (F.state files.old).names (F.state files.new).names (description.now ∷ script.now ∷ [])) }
     ensures fault { IfOk result (λ o. o.status ≡ Status.ReadFault
         → Rose (F.state files.old).faults (F.state files.new).faults) }
     ensures held { (F.state files.new).held ≡ (F.state files.old).held }
 {
-    match bytes_of_file(alloc, files, script) {
+    match read_both(alloc, description, script, signals, files) {
         Err(e) => Err(e),
         Ok(Err(told)) => Ok(told),
-        Ok(Ok(bytes)) => match outcome_of_script(
-            rt,
-            alloc,
-            description,
-            signals,
-            bytes.as_slice(),
-        ) {
+        Ok(Ok(both)) => match outcome_of_relay(rt, alloc, both) {
             Err(e) => Err(e),
             Ok(outcome) => Ok(outcome),
         },

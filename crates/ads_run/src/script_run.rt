@@ -1,43 +1,43 @@
 //! A script is played on a description.
 
-ghost use Rattle.std.specs.Prelude.{◌<◌, ◌^◌, ◌≤◌, IfOk, length};
+ghost use Rattle.std.specs.Prelude.{◌<◌, ◌^◌, ◌≡◌, [], IfOk, length};
 ghost use Rattle.spec_plant.specs.Accepted.{IsAccepted};
 ghost use Rattle.type_layout.specs.Descriptions.{description_of};
-ghost use Rattle.ads_run.specs.Verdict.{verdict_of_script};
-ghost use Rattle.ads_run.specs.Outcomes.{IsOutcome, IsOfScript};
+ghost use Rattle.replay_script.specs.Fresh.{OpenNew};
+ghost use Rattle.ads_run.specs.Verdict.{over_server};
+ghost use Rattle.ads_run.specs.Outcomes.{IsOutcome};
 
-use crate::outcome::{Outcome, ended};
+use crate::outcome::Outcome;
 use crate::play::play;
+use crate::scripted::Scripted;
 use crate::status::Status;
 use ads_base::NoMemory;
-use replay_script::read_script;
 use server_core::Sources;
 use std::alloc::Global;
 use std::thread::Threads;
-use type_layout::Description;
 
-/// The outcome of a script's bytes, played on a description with these signals.
+/// The outcome of a script that is played on a description with these signals.
 pub fn outcome_of_script<T: Threads + Sync, G: Sources>(
     rt: &T,
     alloc: Global,
-    description: Description,
+    both: Scripted,
     signals: G,
-    bytes: &[u8],
 ) -> Result<Outcome, NoMemory>
+    requires new { OpenNew [] both.script }
     requires few { length (G.waves signals) < 2 ^ 32 }
-    requires short { length bytes.now ≤ 16777216 }
-    requires accepted { IsAccepted (description_of description) (length (G.waves signals)) }
-    ensures is { IfOk result (IsOutcome (verdict_of_script (description_of description) (G.waves signals) bytes.now)) }
-    ensures status { IfOk result (λ o. IsOfScript o.status) }
+    requires accepted { IsAccepted (description_of both.description) (length (G.waves signals)) }
+    ensures is { IfOk result (IsOutcome (over_server (G.waves signals) (description_of both.description) both.script)) }
+    ensures status { IfOk result (λ o. o.status ≡ Status.Done) }
 {
-    match read_script(alloc, bytes)? {
-        Ok(script) => {
-            let text = play(rt, alloc, description, signals, script)?;
-            Ok(Outcome {
-                status: Status::Done,
-                text,
-            })
-        }
-        Err(number) => ended(alloc, Status::BadScript(number)),
+    let Scripted {
+        description,
+        script,
+    } = both;
+    match play(rt, alloc, description, signals, script) {
+        Err(e) => Err(e),
+        Ok(text) => Ok(Outcome {
+            status: Status::Done,
+            text,
+        }),
     }
 }

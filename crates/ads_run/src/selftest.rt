@@ -2,12 +2,13 @@
 
 ghost use Rattle.std.specs.Prelude.{◌<◌, ◌^◌, ◌≤◌, IfOk, length};
 ghost use Rattle.ads_run.specs.BuiltIn.{built_in};
-ghost use Rattle.ads_run.specs.Verdict.{verdict_of_script};
+ghost use Rattle.ads_run.specs.Verdict.{over_server, verdict_of_script};
 ghost use Rattle.ads_run.specs.Outcomes.{IsOutcome, IsOfScript};
 
 use crate::built_in::built_in_description;
 use crate::outcome::Outcome;
 use crate::script_run::outcome_of_script;
+use crate::scripted::{Scripted, script_of};
 use ads_base::NoMemory;
 use server_core::Sources;
 use std::alloc::Global;
@@ -22,14 +23,21 @@ pub fn selftest<T: Threads + Sync, G: Sources>(
 ) -> Result<Outcome, NoMemory>
     requires few { length (G.waves signals) < 2 ^ 32 }
     requires short { length bytes.now ≤ 16777216 }
-    ensures is { IfOk result (IsOutcome (verdict_of_script built_in (G.waves signals) bytes.now)) }
+    ensures is { IfOk result (IsOutcome (verdict_of_script (over_server (G.waves signals) built_in) bytes.now)) }
     ensures status { IfOk result (λ o. IsOfScript o.status) }
 {
-    match built_in_description(alloc) {
+    match script_of(alloc, bytes) {
         Err(e) => Err(e),
-        Ok(description) => match outcome_of_script(rt, alloc, description, signals, bytes) {
+        Ok(Err(told)) => Ok(told),
+        Ok(Ok(script)) => match built_in_description(alloc) {
             Err(e) => Err(e),
-            Ok(outcome) => Ok(outcome),
+            Ok(description) => {
+                let both = Scripted {
+                    description,
+                    script,
+                };
+                outcome_of_script(rt, alloc, both, signals)
+            }
         },
     }
 }

@@ -1,16 +1,19 @@
 //! What the words ask for.
 
 ghost use Rattle.std.specs.Prelude.{◌≡◌, map, string_bytes, IfOk};
-ghost use Rattle.ads_run.specs.Tasks.{asked_task, fits_what, is_text, task_of_ask, task_of_command, task_of_load};
+ghost use Rattle.std.specs.List.{list_all};
+ghost use Rattle.ads_run.specs.Tasks.{are_names, asked_task, fits_record, fits_what, is_text, takes_samples};
+ghost use Rattle.ads_run.specs.Tasks.{task_of_ask, task_of_command, task_of_load, task_of_record};
 ghost use Rattle.ads_run.specs.Fits.{FitsTask};
 
 use crate::client_task::ClientTask;
 use crate::file_task::FileTask;
+use crate::record_task::RecordTask;
 use ads_base::NoMemory;
 use cli_words::{ClientWords, Command, Text, read_words};
 use std::alloc::Global;
 
-/// A command that is built, with the names of its files.
+/// A command, with the names of its files.
 #[derive(Drop)]
 pub enum Task {
     /// It asks its files alone.
@@ -27,14 +30,22 @@ pub enum Task {
         listen: Text,
         events: u64,
     },
+    /// A script is played on the server of a description, and what its persistent symbols hold is kept in the file of a store.
+    Keep {
+        description: Text,
+        script: Text,
+        store: Text,
+    },
     /// A client asks a server.
     Ask {
         what: ClientTask,
         client: ClientWords,
     },
+    /// A client records what a server sends.
+    Record(RecordTask),
 }
 
-/// The task that the words ask for; none where they are no command that is built.
+/// The task that the words ask for; none where they are no command.
 pub fn task_asked(alloc: Global, words: &[String]) -> Result<Option<Task>, NoMemory>
     ensures asked { IfOk result (λ task. task ≡ asked_task (map string_bytes words.now)) }
     ensures fits { IfOk result (λ task. FitsTask task) }
@@ -132,7 +143,35 @@ fn task_of(command: Option<Command>) -> Option<Task>
             listen,
             events,
         }),
-        _ => None,
+        Some(
+            Command::Keep {
+                description,
+                script,
+                store,
+            },
+        ) => Some(Task::Keep {
+            description,
+            script,
+            store,
+        }),
+        Some(
+            Command::Record {
+                names,
+                change,
+                cycle,
+                count,
+                store,
+                client,
+            },
+        ) => task_of_record(RecordTask {
+            names,
+            change,
+            cycle,
+            count,
+            store,
+            client,
+        }),
+        None => None,
     }
 }
 
@@ -172,6 +211,47 @@ fn fits_what(what: &ClientTask) -> bool
             count,
         } => is_text(name) && *cycle <= 4_294_967_295 && *count <= 1_000_000,
     }
+}
+
+fn task_of_record(what: RecordTask) -> Option<Task>
+    ensures { result ≡ task_of_record what }
+{
+    if fits_record(&what) {
+        Some(Task::Record(what))
+    } else {
+        None
+    }
+}
+
+fn fits_record(what: &RecordTask) -> bool
+    ensures { result ≡ fits_record what.now }
+{
+    what.client.port <= 65_535
+        && takes_samples(what.cycle, what.count)
+        && are_names(what.names.as_slice())
+}
+
+fn takes_samples(cycle: u64, count: u64) -> bool
+    ensures { result ≡ takes_samples cycle count }
+{
+    cycle <= 4_294_967_295 && 1 <= count && count <= 1_000_000
+}
+
+fn are_names(names: &[Text]) -> bool
+    ensures { result ≡ are_names names.now }
+{
+    1 <= names.len() && names.len() <= 16 && are_texts(names)
+}
+
+fn are_texts(names: &[Text]) -> bool
+    ensures { result ≡ list_all (λ name. is_text name) names.now }
+{
+    for name in names {
+        if !is_text(name) {
+            return false;
+        }
+    }
+    true
 }
 
 fn is_text(text: &Text) -> bool

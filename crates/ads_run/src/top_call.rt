@@ -13,6 +13,7 @@ ghost use Rattle.ads_run.specs.Migrated.{HasMigrated};
 ghost use Rattle.ads_run.specs.Prints.{PrintsEnding};
 ghost use Rattle.ads_run.specs.Promises.{PlayKeepsPromises};
 ghost use Rattle.ads_run.specs.Readings.{OverFiles, ReadsFiles, asks_disk, asks_keeper, asks_link, reads_no_file};
+ghost use Rattle.ads_run.specs.RecordRows.{AddsRows};
 ghost use Rattle.ads_run.specs.Tasks.{asked_task};
 ghost use Rattle.ads_run.specs.Uses.{disk_used, keeper_used, link_used, uses};
 ghost use Rattle.ads_run.specs.Verdict.{verdict_of, verdict_of_task};
@@ -20,7 +21,9 @@ ghost use Rattle.ads_run.specs.Verdict.{verdict_of, verdict_of_task};
 use crate::ask::{ask_locally, ask_over_link};
 use crate::commands::print_file_task;
 use crate::ending::{end_without_memory, print_and_end};
+use crate::keep::keep;
 use crate::last_line::USAGE_LINE;
+use crate::recording::record;
 use crate::relay_serve::serve_relay;
 use crate::serve::serve;
 use crate::status::Status;
@@ -40,7 +43,7 @@ use std::thread::Threads;
 /// | status | comes |
 /// |---|---|
 /// | Done | the command ended, and of a service (`serve`, and `relay` with `--listen`) the wire; all that it prints is in the sink |
-/// | Usage | the words are no command that is built |
+/// | Usage | the words are no command |
 /// | BadDescription | the least broken rule of the description, and in it the least item; or it is no TOML document |
 /// | BadScript | the script's first line off the grammar has this number |
 /// | ReadFault | a file could not be read |
@@ -53,8 +56,9 @@ use std::thread::Threads;
 /// | TimedOut | a request that was sent at the first moment had no answer at the second, 5 s later |
 /// | TooLong | a file has more than 16,777,216 bytes |
 /// | BadValue | the text of `set` is no value of the symbol |
-/// | StoreFault, StoreLimit | the disk failed; what is to be kept is above a limit of the store: of no command that is built |
-/// | KeeperFault | the keeper failed: of no command that is built |
+/// | StoreFault | the disk failed |
+/// | StoreLimit | a save is over a limit of the store, or the table that is recorded into has more rows than leave room |
+/// | KeeperFault | the keeper failed |
 ///
 /// Each status but Done, WriteFault and Memory prints its last line. Before it a service prints `listening` once the wire
 /// is started, and its summary at Done and Budget, and a client command what its call prints; all else that ends with
@@ -73,8 +77,8 @@ pub fn run<T: Threads + Sync, F: Files, W: Wire, L: Link, S: Sink, D: Disk, K: K
 ) -> Status
     requires signals { length (G.waves signals) < 2 ^ 32 }
     // The status, all that is printed and what is left of all that is handed in, by the bytes that the files hold, the waves
-    // of the signals, for a service the moves of the wire, which keep what a played script promises, and for a client the
-    // answers of the link; where the files are not told, by some bytes at each reading.
+    // of the signals, for a service the moves of the wire, which keep what a played script promises, for a client the answers
+    // of the link, and for a play over a store what stood there; where the files are not told, by some bytes at each reading.
     ensures ends { OverFiles (F.state files.old).held (λ first second.
         RunsBy (verdict_of (G.waves signals) (map string_bytes words.now) first second) (Rose (F.state files.old).faults (F.state files.new).faults) result
         (uses (S.state out.old) (S.state out.new) (W.state wire.old).history (W.state wire.new).history
@@ -94,14 +98,17 @@ pub fn run<T: Threads + Sync, F: Files, W: Wire, L: Link, S: Sink, D: Disk, K: K
     ensures held { (F.state files.new).held ≡ (F.state files.old).held }
 
     // The wire is called by a service alone, and there only behind an accepted description; the link by a client's command
-    // with `--to` alone; the disk and the keeper by no command that is built. Nothing is called where the words, a file, the
-    // description or the script ends the run.
+    // with `--to` alone; the disk by `keep` alone, the keeper by `record` alone. Nothing is called where the words, a file, the description or the
+    // script ends the run.
     ensures no_wire { is_service (asked_task (map string_bytes words.now)) ≡ false → wire.new ≡ wire.old }
     ensures no_link { asks_link (asked_task (map string_bytes words.now)) ≡ false → link.new ≡ link.old }
     ensures no_disk { asks_disk (asked_task (map string_bytes words.now)) ≡ false → disk.new ≡ disk.old }
     ensures no_keeper { asks_keeper (asked_task (map string_bytes words.now)) ≡ false → keeper.new ≡ keeper.old }
     ensures before_run { IsBeforeRun result
         → (wire.new ≡ wire.old) × (link.new ≡ link.old) × (disk.new ≡ disk.old) × (keeper.new ≡ keeper.old) }
+
+    // Rows of a table stay as they are: at most a million are put behind them, numbered on.
+    ensures grows { AddsRows (K.state keeper.old).rows (K.state keeper.new).rows }
 
     // The causes of faults, and of what a service ends by.
     ensures read_fault { result ≡ Status.ReadFault → Rose (F.state files.old).faults (F.state files.new).faults }
@@ -114,7 +121,8 @@ pub fn run<T: Threads + Sync, F: Files, W: Wire, L: Link, S: Sink, D: Disk, K: K
         (disk_used D.contents D.may_leave D.moment D.left_since D.fault_count disk.old disk.new)
         (keeper_used K.state keeper.old keeper.new)) }
 
-    // Where nothing failed, the run ends as its verdict says; a service is done, or took all its events.
+    // Where nothing failed, the run ends as its verdict says; a service is done, or took all its events; a play over a store is
+    // done, or stopped by the limit.
     ensures complete { NothingFailed (F.state files.old) (F.state files.new)
         (uses (S.state out.old) (S.state out.new) (W.state wire.old).history (W.state wire.new).history
         (link_used L.tells L.state link.old link.new)
@@ -142,6 +150,7 @@ pub fn run<T: Threads + Sync, F: Files, W: Wire, L: Link, S: Sink, D: Disk, K: K
 }
 
 // The run of the task that the words ask for.
+#[tactic(auto, using(crate::proofs::RecordedRows::adds_none))]
 fn run_words<
     T: Threads + Sync,
     F: Files,
@@ -182,6 +191,7 @@ fn run_words<
     ensures no_keeper { asks_keeper (asked_task (map string_bytes words.now)) ≡ false → keeper.new ≡ keeper.old }
     ensures before_run { IsBeforeRun result
         → (wire.new ≡ wire.old) × (link.new ≡ link.old) × (disk.new ≡ disk.old) × (keeper.new ≡ keeper.old) }
+    ensures grows { AddsRows (K.state keeper.old).rows (K.state keeper.new).rows }
     ensures read_fault { result ≡ Status.ReadFault → Rose (F.state files.old).faults (F.state files.new).faults }
     ensures migrated { HasMigrated (length (G.waves signals)) (asked_task (map string_bytes words.now)) result
         (F.state files.old).held (S.state out.old) (S.state out.new) }
@@ -196,6 +206,7 @@ fn run_words<
 }
 
 // The run of a task.
+#[tactic(auto, using(crate::proofs::RecordedRows::adds_none))]
 fn run_task<T: Threads + Sync, F: Files, W: Wire, L: Link, S: Sink, D: Disk, K: Keeper, G: Sources>(
     rt: &T,
     alloc: Global,
@@ -224,6 +235,7 @@ fn run_task<T: Threads + Sync, F: Files, W: Wire, L: Link, S: Sink, D: Disk, K: 
     ensures no_keeper { asks_keeper (Some task.now) ≡ false → keeper.new ≡ keeper.old }
     ensures before_run { IsBeforeRun result
         → (wire.new ≡ wire.old) × (link.new ≡ link.old) × (disk.new ≡ disk.old) × (keeper.new ≡ keeper.old) }
+    ensures grows { AddsRows (K.state keeper.old).rows (K.state keeper.new).rows }
     ensures read_fault { result ≡ Status.ReadFault → Rose (F.state files.old).faults (F.state files.new).faults }
     ensures migrated { HasMigrated (length (G.waves signals)) (Some task.now) result
         (F.state files.old).held (S.state out.old) (S.state out.new) }
@@ -261,6 +273,21 @@ fn run_task<T: Threads + Sync, F: Files, W: Wire, L: Link, S: Sink, D: Disk, K: 
             out,
             signals,
         ),
+        Task::Keep {
+            description,
+            script,
+            store,
+        } => keep(
+            rt,
+            alloc,
+            description,
+            script,
+            store,
+            files,
+            out,
+            disk,
+            signals,
+        ),
         Task::Ask { what, client } => match &client.peer {
             PeerWords::To { to, net } => ask_over_link(alloc, what, client, *net, to, link, out),
             PeerWords::Local(description) => ask_locally(
@@ -274,5 +301,6 @@ fn run_task<T: Threads + Sync, F: Files, W: Wire, L: Link, S: Sink, D: Disk, K: 
                 signals,
             ),
         },
+        Task::Record(what) => record(rt, alloc, what, files, link, out, keeper, signals),
     }
 }

@@ -1,5 +1,5 @@
 -- The run came to what `run` says; or memory was wanting, and nothing but the sink was called.
-use Rattle.std.proofs.Common.{length}
+use Rattle.std.proofs.Common.{ap, length}
 use Rattle.ads_outside.specs.Rose.{Rose}
 use Rattle.spec_relay.proofs.PromiseLemmas.{relay_play_keeps_promises}
 use Rattle.ads_run.specs.Program.{words_behind_name}
@@ -8,6 +8,7 @@ use Rattle.ads_run.specs.Tasks.{asked_task}
 use Rattle.ads_run.specs.Uses.{disk_used, keeper_used, link_used, uses}
 use Rattle.ads_run.specs.Verdict.{verdict_of}
 use Rattle.ads_run.proofs.CauseLemmas.{cause_without_memory}
+use Rattle.ads_run.proofs.KeepLemmas.{untouched_same}
 use Rattle.ads_run.proofs.MigrationLemmas.{any_without_memory}
 use Rattle.ads_run.proofs.OwnLemmas.{own_without_memory}
 use Rattle.ads_run.proofs.PromiseLemmas.{play_keeps_promises}
@@ -34,7 +35,11 @@ returns-in-Err-clause-ends g c =
     (λ w. (g.W.Wire.state w).history) c.args.wire.now c.run_signals.new.wire
     g.L.Link.tells g.L.Link.state c.args.link.now c.run_signals.new.link
     (disk_used g.D.Disk.contents g.D.Disk.may_leave g.D.Disk.moment g.D.Disk.left_since g.D.Disk.fault_count c.args.disk.now c.run_signals.new.disk)
-    (keeper_used g.K.Keeper.state c.args.keeper.now c.run_signals.new.keeper)
+    (keeper_used g.K.Keeper.state c.args.keeper.now c.run_signals.new.keeper) (
+      untouched_same g.D.Disk.may_leave g.D.Disk.moment g.D.Disk.left_since g.met.D.Disk.only_now c.args.disk.now c.run_signals.new.disk
+          c.in-Err.ensures.no_memory.4,
+      ap g.K.Keeper.state c.in-Err.ensures.no_memory.5,
+    )
     c.end_without_memory.ensures.memory c.end_without_memory.ensures.line
     c.in-Err.ensures.no_memory.3 c.in-Err.ensures.no_memory.1 c.in-Err.ensures.no_memory.2
 

@@ -1,24 +1,26 @@
--- A description that gives no bytes ends the run; one that was read is played over.
-use Rattle.ads_run.proofs.EndLemmas.{on_err}
-use Rattle.ads_run.proofs.ReadLemmas.{some_behind}
-use Rattle.ads_run.proofs.ReadingLemmas.{decided_first, decided_replay}
+-- A reading that ends the run is the outcome; what was read is played.
+use Rattle.std.proofs.Common.{length}
+use Rattle.ads_outside.specs.Rose.{Rose}
+use Rattle.type_layout.specs.Descriptions.{description_of}
+use Rattle.ads_run.specs.Verdict.{over_server, verdict_of_both}
+use Rattle.ads_run.proofs.ReadLemmas.{some_of_two}
+use Rattle.ads_run.proofs.ReadingLemmas.{decided_played}
 use Rattle.ads_run.proofs.replay.replay.Goals as goal
 
-pub returns-in-Err-clause-decided : goal.returns-in-Err-clause-decided
-returns-in-Err-clause-decided g c =
-    decided_first (g.F.Files.state c.args.files.now).held _ c.args.description.now _ c.in-Err.told
-    (rw c.in-Err.is at c.in_ok-bytes.ensures.finds)
+pub returns-in-Ok-Err-clause-decided : goal.returns-in-Ok-Err-clause-decided
+returns-in-Ok-Err-clause-decided g c =
+    rw (c.in-Ok-Err.field-0-is, c.count.ensures) at (c.in-Ok-Err.ensures.gives (over_server (g.G.Sources.waves c.args.signals)))
 
-pub returns-in_err-outcome-in-Ok-clause-reads_some : goal.returns-in_err-outcome-in-Ok-clause-reads_some
-returns-in_err-outcome-in-Ok-clause-reads_some g c =
-    on_err c.from_residual-in_err-outcome-in-Ok.result
-    (some_behind (g.F.Files.state c.args.files.now).names (g.F.Files.state c.bytes_of_file.new.files).names (g.F.Files.state c.replay_text.new.files).names
-    c.args.description.now c.args.script.now c.in_ok-bytes.ensures.named c.in_err-outcome-in-Ok.ensures.reads_some)
+pub returns-in-Ok-clause-decided : goal.returns-in-Ok-clause-decided
+returns-in-Ok-clause-decided g c =
+    let waves = g.G.Sources.waves c.args.signals in
+    let both = c.in-Ok-Ok.both in
+    decided_played (g.F.Files.state c.args.files.now).held (verdict_of_both (length waves) (over_server waves) c.args.description.now c.args.script.now)
+    (over_server waves (description_of both.description) both.script)
+    (Rose (g.F.Files.state c.args.files.now).faults (g.F.Files.state c.read_both.new.files).faults) c.in-Ok.outcome c.in-Ok.ensures.is
+    (rw (c.in-Ok-Ok.field-0-is, c.count.ensures) at (c.in-Ok-Ok.ensures.gives (over_server waves)))
 
-pub returns-in_ok-outcome-in-Ok-clause-decided : goal.returns-in_ok-outcome-in-Ok-clause-decided
-returns-in_ok-outcome-in-Ok-clause-decided g c =
-    decided_replay (g.F.Files.state c.args.files.now).held (g.F.Files.state c.bytes_of_file.new.files).held (g.G.Sources.waves c.args.signals)
-    c.args.script.now c.args.description.now c.in-Ok.bytes c.as_slice.result.now
-    (g.F.Files.state c.args.files.now).faults (g.F.Files.state c.bytes_of_file.new.files).faults (g.F.Files.state c.replay_text.new.files).faults
-    c.in_ok-outcome-in-Ok.outcome c.in_ok-bytes.ensures.held c.as_slice.ensures c.in_ok-bytes.ensures.later
-    (rw c.in-Ok.is at c.in_ok-bytes.ensures.finds) c.in_ok-outcome-in-Ok.ensures.decided
+pub returns-in-Err-outcome_of_script-clause-reads_some : goal.returns-in-Err-outcome_of_script-clause-reads_some
+returns-in-Err-outcome_of_script-clause-reads_some g c =
+    some_of_two (g.F.Files.state c.args.files.now).names (g.F.Files.state c.read_both.new.files).names c.args.description.now c.args.script.now
+    (rw c.in-Ok-Ok.field-0-is at c.in-Ok-Ok.ensures.reads_all)

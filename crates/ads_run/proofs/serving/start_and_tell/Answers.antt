@@ -18,4 +18,4 @@ returns-in-Failed-clause-err g c =
 
 pub returns-in-Memory-clause-err : goal.returns-in-Memory-clause-err
 returns-in-Memory-clause-err g c =
-    inl (inr (c.in-Memory.ensures.starts, c.end_without_memory.ensures.memory, c.end_without_memory.ensures.line))
+    inl (inr (c.in-Memory.ensures.starts.same, c.end_without_memory.ensures.memory, c.end_without_memory.ensures.line))

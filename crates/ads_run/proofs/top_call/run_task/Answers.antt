@@ -1,5 +1,5 @@
 -- The task's own run.
-use Rattle.std.proofs.Common.{length}
+use Rattle.std.proofs.Common.{length, refl}
 use Rattle.ads_outside.specs.Named.{bytes_of}
 use Rattle.ads_outside.specs.Rose.{Rose}
 use Rattle.client_loop.specs.Called.{calling}
@@ -9,10 +9,12 @@ use Rattle.ads_run.specs.Asking.{asked_address, call_asked, own_address}
 use Rattle.ads_run.specs.Ends.{EndsBy}
 use Rattle.ads_run.specs.Service.{OfRelay}
 use Rattle.ads_run.specs.Uses.{disk_used, keeper_used, link_used, uses}
-use Rattle.ads_run.specs.Verdict.{verdict_of_file, verdict_of_file_task, verdict_of_serve, verdict_of_service, verdict_of_local}
+use Rattle.ads_run.specs.Verdict.{over_store, verdict_of_both, verdict_of_file, verdict_of_file_task, verdict_of_serve, verdict_of_service, verdict_of_local}
 use Rattle.ads_run.proofs.CallLemmas.{call_not_before}
+use Rattle.ads_run.proofs.KeepLemmas.{keeps_as_run}
 use Rattle.ads_run.proofs.ReadingLemmas.{over_first}
 use Rattle.ads_run.proofs.RunLemmas.{ends_as_run, asks_as_run, call_as_run, runs_of_task, runs_of_peer}
+use Rattle.ads_run.proofs.RecordRunLemmas.{records_as_run}
 use Rattle.ads_run.proofs.top_call.run_task.Goals as goal
 
 pub returns-in-OfFiles-clause-ends : goal.returns-in-OfFiles-clause-ends
@@ -28,7 +30,8 @@ returns-in-OfFiles-clause-ends g c =
     runs_of_task held waves c.args.task.now (task.OfFiles c.in-OfFiles.task) failed c.print_file_task.result
     (uses out out_new wire wire (link_used g.L.Link.tells g.L.Link.state c.args.link.now c.args.link.now) disk keeper) c.in-OfFiles.is
     (ends_as_run held (λ first second. verdict_of_file_task waves c.in-OfFiles.task first second) failed c.print_file_task.result out out_new wire wire
-    (g.L.Link.tells c.args.link.now) (g.L.Link.state c.args.link.now) disk keeper (c.print_file_task.ensures.ends wire))
+    (g.L.Link.tells c.args.link.now) (g.L.Link.state c.args.link.now) disk keeper
+    (g.met.D.Disk.only_now c.args.disk.now, refl) (c.print_file_task.ensures.ends wire))
 
 pub returns-in-Serve-clause-ends : goal.returns-in-Serve-clause-ends
 returns-in-Serve-clause-ends g c =
@@ -45,7 +48,7 @@ returns-in-Serve-clause-ends g c =
     (uses out out_new wire wire_new (link_used g.L.Link.tells g.L.Link.state c.args.link.now c.args.link.now) disk keeper) c.in-Serve.is
     (ends_as_run held (λ first second. verdict_of_file (verdict_of_serve waves c.in-Serve.description c.in-Serve.listen c.in-Serve.events)
     (bytes_of first c.in-Serve.description)) failed c.serve.result out out_new wire wire_new
-    (g.L.Link.tells c.args.link.now) (g.L.Link.state c.args.link.now) disk keeper
+    (g.L.Link.tells c.args.link.now) (g.L.Link.state c.args.link.now) disk keeper (g.met.D.Disk.only_now c.args.disk.now, refl)
     (over_first held
     (λ files. EndsBy (verdict_of_file (verdict_of_serve waves c.in-Serve.description c.in-Serve.listen c.in-Serve.events)
     (bytes_of files c.in-Serve.description)) failed c.serve.result out out_new wire wire_new)
@@ -67,7 +70,7 @@ returns-in-RelayServe-clause-ends g c =
     c.in-RelayServe.is
     (ends_as_run held (λ first second. verdict_of_file (verdict_of_service (length waves) OfRelay c.in-RelayServe.description
     c.in-RelayServe.listen c.in-RelayServe.events) (bytes_of first c.in-RelayServe.description)) failed c.serve_relay.result out out_new wire wire_new
-    (g.L.Link.tells c.args.link.now) (g.L.Link.state c.args.link.now) disk keeper
+    (g.L.Link.tells c.args.link.now) (g.L.Link.state c.args.link.now) disk keeper (g.met.D.Disk.only_now c.args.disk.now, refl)
     (over_first held
     (λ files. EndsBy (verdict_of_file (verdict_of_service (length waves) OfRelay c.in-RelayServe.description
     c.in-RelayServe.listen c.in-RelayServe.events) (bytes_of files c.in-RelayServe.description)) failed c.serve_relay.result out out_new wire wire_new)
@@ -119,3 +122,33 @@ returns-in-To-clause-before_run g c = λ before. absurd
     (g.S.Sink.state c.args.out.now) (g.S.Sink.state c.ask_over_link.new.out)
     (link_used g.L.Link.tells g.L.Link.state c.args.link.now c.ask_over_link.new.link)
     c.ask_over_link.ensures.ends before)
+
+pub returns-in-Keep-clause-ends : goal.returns-in-Keep-clause-ends
+returns-in-Keep-clause-ends g c =
+    let held = (g.F.Files.state c.args.files.now).held in
+    let disk = disk_used g.D.Disk.contents g.D.Disk.may_leave g.D.Disk.moment g.D.Disk.left_since g.D.Disk.fault_count c.args.disk.now c.keep.new.disk in
+    let keeper = keeper_used g.K.Keeper.state c.args.keeper.now c.args.keeper.now in
+    let waves = g.G.Sources.waves c.args.signals in
+    let failed = Rose (g.F.Files.state c.args.files.now).faults (g.F.Files.state c.keep.new.files).faults in
+    let out = g.S.Sink.state c.args.out.now in
+    let out_new = g.S.Sink.state c.keep.new.out in
+    let wire = (g.W.Wire.state c.args.wire.now).history in
+    let link = link_used g.L.Link.tells g.L.Link.state c.args.link.now c.args.link.now in
+    runs_of_task held waves c.args.task.now (task.Keep c.in-Keep.description c.in-Keep.script c.in-Keep.store) failed c.keep.result
+    (uses out out_new wire wire link disk keeper) c.in-Keep.is
+    (keeps_as_run held (verdict_of_both (length waves) (over_store waves) c.in-Keep.description c.in-Keep.script) failed c.keep.result out out_new wire link
+    disk keeper c.keep.ensures.ends)
+
+pub returns-in-Record-clause-ends : goal.returns-in-Record-clause-ends
+returns-in-Record-clause-ends g c =
+    let held = (g.F.Files.state c.args.files.now).held in
+    let disk = disk_used g.D.Disk.contents g.D.Disk.may_leave g.D.Disk.moment g.D.Disk.left_since g.D.Disk.fault_count c.args.disk.now c.args.disk.now in
+    let keeper = keeper_used g.K.Keeper.state c.args.keeper.now c.record.new.keeper in
+    let waves = g.G.Sources.waves c.args.signals in
+    let failed = Rose (g.F.Files.state c.args.files.now).faults (g.F.Files.state c.record.new.files).faults in
+    let wire = (g.W.Wire.state c.args.wire.now).history in
+    let link = link_used g.L.Link.tells g.L.Link.state c.args.link.now c.record.new.link in
+    runs_of_task held waves c.args.task.now (task.Record c.in-Record.what) failed c.record.result
+    (uses (g.S.Sink.state c.args.out.now) (g.S.Sink.state c.record.new.out) wire wire link disk keeper) c.in-Record.is
+    (records_as_run held waves c.in-Record.what c.in-Record.what.client.peer failed c.record.result
+    (g.S.Sink.state c.args.out.now) (g.S.Sink.state c.record.new.out) wire link disk keeper c.record.ensures.ends)

@@ -1,5 +1,5 @@
 -- The task's run is that of the words.
-use Rattle.std.proofs.Common.{map, sym, ◌∙◌, length}
+use Rattle.std.proofs.Common.{map, sym, ◌∙◌, length, refl}
 use Rattle.std.specs.Prelude.{string_bytes, Some, None}
 use Rattle.ads_outside.specs.Rose.{Rose}
 use Rattle.ads_run.specs.Tasks.{asked_task}
@@ -45,7 +45,7 @@ returns-in-Err-clause-ends g c =
     (g.L.Link.tells c.args.link.now) (g.L.Link.state c.args.link.now)
     (disk_used g.D.Disk.contents g.D.Disk.may_leave g.D.Disk.moment g.D.Disk.left_since g.D.Disk.fault_count c.args.disk.now c.args.disk.now)
     (keeper_used g.K.Keeper.state c.args.keeper.now c.args.keeper.now)
-    c.end_without_memory.ensures.memory c.end_without_memory.ensures.line
+    (g.met.D.Disk.only_now c.args.disk.now, refl) c.end_without_memory.ensures.memory c.end_without_memory.ensures.line
 
 pub returns-in-Ok-Some-clause-migrated : goal.returns-in-Ok-Some-clause-migrated
 returns-in-Ok-Some-clause-migrated g c =
