@@ -343,6 +343,42 @@ def watch(name, mode, cycle, count):
     yield from sent(7, handle)
 
 
+class Recording:
+    """What a recording has: the entries of its names, its notifications by their handles in the order of the answers that gave them, those that ended, and its rows."""
+
+    def __init__(self, names, mode, cycle, count, first=1):
+        self.names, self.mode, self.cycle, self.count, self.first = names, mode, cycle, count, first
+        self.entries, self.handles, self.ended, self.rows = [], {}, set(), []
+
+    def has_enough(self):
+        return len(self.rows) >= self.count
+
+    def sample(self, handle, moment, given):
+        """The row of a sample that is kept, else None."""
+        handle = u32(handle)
+        if handle not in self.handles:
+            return None
+        if not given:
+            self.ended.add(handle)
+            return None
+        if self.has_enough():
+            return None
+        self.rows.append((self.first + len(self.rows), self.handles[handle], moment, given))
+        return self.rows[-1]
+
+    def call(self):
+        for name in self.names:
+            it = yield from entry_of(name)
+            self.entries.append(it)
+            handle = yield from sent(6, u32(it["group"]) + u32(it["offset"]) + u32(it["size"]) + u32(self.mode) + u32(0) + u32(self.cycle) + bytes(16))
+            self.handles.setdefault(handle, it["name"])
+        while not self.has_enough() and not self.ended.issuperset(self.handles):
+            yield ("hear",)
+        for handle in self.handles if self.has_enough() else ():
+            if handle not in self.ended:
+                yield from sent(7, handle)
+
+
 def show(name):
     it = yield from entry_of(name)
     sizes = whole((yield from read(0xF00F, 24)), 24)
@@ -371,15 +407,22 @@ def call_of(words):
     return watch(name, {"cycle": 3, "change": 4}[mode], cycle, count)
 
 
+def recording_of(words):
+    """That of `record`, whose own words are the names, the mode, the cycle, the count and the store."""
+    names, mode, cycle, count, _ = words[1:]
+    return Recording([str(name).encode() for name in names], {"cycle": 3, "change": 4}[mode], cycle, count)
+
+
 # A client.
 
 
 class Client:
-    """What a client hears of what came. `parts` are what it does, in order: ("sent", frame), ("put", text)."""
+    """What a client hears of what came. `parts` are what it does, in order: ("sent", frame), ("put", text), ("kept", row)."""
 
     def __init__(self, words, me, peer, port):
         self.me, self.peer = model.net_of(me) + u16(OWN_PORT), model.net_of(peer) + u16(port)
-        self.call, self.parts, self.stream, self.samples = call_of(words), [], b"", []
+        self.recording = recording_of(words) if words[0] == "record" else None
+        self.call, self.parts, self.stream, self.samples = self.recording.call() if self.recording else call_of(words), [], b"", []
         self.moment, self.id, self.waits, self.late, self.over, self.wants = 0, 0, None, None, None, None
 
     def begin(self, moment):
@@ -425,6 +468,9 @@ class Client:
             self.over = Over(11, self.late)
         elif self.samples:
             sample = self.samples.pop(0)
+            row = self.recording.sample(*sample) if self.recording else None
+            if row:
+                self.parts.append(("kept", row))
             if self.wants == "hear":
                 self.go(sample)
         elif len(self.stream) < 6:
@@ -501,9 +547,44 @@ def pieces_of(comes):
         yield "closed", last
 
 
-def run(words, comes, *, me, peer, port=851, to="", fail=0, fail_put=0, leave=0):
+class Keeper:
+    """A table in memory; the call of this number fails, counted from 1."""
+
+    def __init__(self, fail=0):
+        self.rows, self.calls, self.fail = [], 0, fail
+
+    def fails(self):
+        self.calls += 1
+        return self.calls == self.fail
+
+    def put(self, row):
+        if self.fails():
+            return False
+        self.rows.append(row)
+        return True
+
+    def total(self, name):
+        """How many rows have the name, and the last of them."""
+        own = [row for row in self.rows if row[1] == name]
+        return len(own), own[-1] if own else None
+
+
+def total_lines(keeper, entries):
+    """The lines behind a recording; None where the keeper failed."""
+    text = ""
+    for it in entries:
+        if keeper.fails():
+            return None
+        count, last = keeper.total(it["name"])
+        text += f"{escaped(it['name'])} count {count}" + (f" last {last[2]} {value_text(it['kind'], last[3])}" if last else "") + "\n"
+    return text
+
+
+def run(words, comes, *, me, peer, port=851, to="", fail=0, fail_put=0, leave=0, keeper=None):
     """The status, what is printed, and what is done over the link, where this call of the link or this piece of the output fails, counted from 1."""
     client, talk, out, calls, puts, quiet, at = Client(words, me, peer, port), [], "", 1, 0, 0, 0
+    if client.recording and keeper.fails():
+        return ended(16, "ads: keeper fault\n", talk, out, puts, fail_put, leave)
     if fail == 1:
         return ended(6, "ads: link fault\n", [f"refused {to}"], out, puts, fail_put, leave)
     talk.append(f"to {to}")
@@ -512,7 +593,10 @@ def run(words, comes, *, me, peer, port=851, to="", fail=0, fail_put=0, leave=0)
     while True:
         for part in client.parts[at:]:
             at += 1
-            if part[0] == "put":
+            if part[0] == "kept":
+                if not keeper.put(part[1]):
+                    return ended(16, "ads: keeper fault\n", talk, out, puts, fail_put, leave)
+            elif part[0] == "put":
                 puts += 1
                 if puts == fail_put:
                     return 5, out + part[1][:leave], talk
@@ -522,6 +606,9 @@ def run(words, comes, *, me, peer, port=851, to="", fail=0, fail_put=0, leave=0)
                 if calls == fail:
                     return ended(6, "ads: link fault\n", talk, out, puts, fail_put, leave)
                 talk.append(f"sent {part[1].hex()}")
+        if client.over and client.recording and client.over.status == 0:
+            text = total_lines(keeper, client.recording.entries)
+            return ended(0, text, talk, out, puts, fail_put, leave) if text is not None else ended(16, "ads: keeper fault\n", talk, out, puts, fail_put, leave)
         if client.over:
             return ended(client.over.status, client.over.line, talk, out, puts, fail_put, leave)
         if quiet == MOST_QUIET:

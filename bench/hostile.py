@@ -468,6 +468,8 @@ def written(name, runs):
 
 def main():
     import hostile_peers  # noqa: PLC0415 (they use this file)
+    import keep_runs  # noqa: PLC0415
+    import record_runs  # noqa: PLC0415
     import relay_runs  # noqa: PLC0415
 
     written("shown", shown)
@@ -475,7 +477,7 @@ def main():
         written(f"hostile_{name}", runs)
     for name, runs in hostile_peers.SUBJECTS.items():
         written(f"peer_{name}", runs)
-    for name, runs in relay_runs.SUBJECTS.items():
+    for name, runs in {**relay_runs.SUBJECTS, **keep_runs.SUBJECTS, **record_runs.SUBJECTS}.items():
         written(name, runs)
     return 0
 

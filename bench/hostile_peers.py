@@ -26,6 +26,8 @@ FIRST = 5
 def words_of(words):
     """The words of a call as lines of a run."""
     given = list(map(str, words))
+    if words[0] == "record":
+        return ["words " + " ".join(["record", *words[1], "--mode", words[2], "--cycle", str(words[3]), "--count", str(words[4]), "--store", words[5], "--to", TO, "--netid", NET, "--me", ME])]
     if words[0] == "watch":
         given = [*given[:2], "--mode", given[2], "--cycle", given[3], "--count", given[4]]
     given += ["--to", TO, "--netid", NET, "--me", ME]
@@ -48,16 +50,24 @@ def text_lines(text):
         yield f"{'|' if end else '+'} {body}"
 
 
+def rows_lines(rows):
+    """The rows that a keeper must have, in any bytes; no line where there are none."""
+    texts = [str(number).encode() + b" " + name + f" {moment} x{given.hex()}".encode() for number, name, moment, given in rows]
+    return ["rows"] * bool(rows) + [f"| {text.decode()}" if all(0x20 <= c <= 0x7E for c in text) else f"bytes {text.hex()}0a" for text in texts]
+
+
 def linked(said, words, comes, **how):
     """A run of a client over what comes, by the model of a client."""
-    status, out, talk = client.run(words, comes, me=ME, peer=NET, to=TO, **how)
+    keeper = client.Keeper(how.pop("fail_keeper", 0))
+    status, out, talk = client.run(words, comes, me=ME, peer=NET, to=TO, keeper=keeper, **how)
     lines = [f"# {line}" for line in said.splitlines()] + words_of(words)
     for it in comes:
         lines.append({"bytes": "comes", "quiet": "quiet", "closed": "ends"}[it[0]] + f" {it[1]}" + (f" {it[2].hex() if it[0] == 'bytes' else it[2]}" if len(it) > 2 else ""))
     lines += [f"fail-link {how['fail']}"] if "fail" in how else []
     lines += [f"fail-put {how['fail_put']}"] if "fail_put" in how else []
     lines += [f"leave {how['leave']}"] if how.get("leave") else []
-    lines += [f"status {status}", "out", *text_lines(out), "talk", *text_lines("".join(line + "\n" for line in talk))]
+    lines += [f"fail-keeper {keeper.fail}"] if keeper.fail else []
+    lines += [f"status {status}", "out", *text_lines(out), "talk", *text_lines("".join(line + "\n" for line in talk)), *rows_lines(keeper.rows)]
     return "\n".join(lines) + "\n"
 
 

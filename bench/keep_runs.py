@@ -1,4 +1,4 @@
-"""Runs of `keep`, a command that is not built yet, in the form that bench/hostile.py writes: what is saved behind which tick, what a stop of the machine or a failing call of the disk leaves, and files that no store wrote; what
+"""Runs of `keep` in the form that bench/hostile.py writes: what is saved behind which tick, what a stop of the machine or a failing call of the disk leaves, and files that no store wrote; what
 must come is from the model of the store (bench/store.py). keep.runs has the plain cases, hostile_keep_*.runs the others."""
 import copy
 

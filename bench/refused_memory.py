@@ -1,6 +1,7 @@
 #!/usr/bin/env python3
 """Refused memory: each call for memory of a run fails in turn, alone and with all behind it, and the run must end as it does with memory, or with status 10; and
-then what it printed is a beginning of what it prints with memory, and behind it a beginning of `ads: memory`.
+then what it printed is a beginning of what it prints with memory, and behind it a beginning of `ads: memory`. The file of a run that keeps values must stand for what stood, or
+for what the run saves.
 
     python3 bench/refused_memory.py [--program PATH] [--most N] [--run WORD]
 
@@ -19,6 +20,7 @@ HERE = os.path.dirname(os.path.abspath(__file__))
 sys.path.insert(0, HERE)
 import hostile  # noqa: E402
 import model  # noqa: E402
+import store  # noqa: E402
 from hostile import add, ask, head, read, state, sum_of, write  # noqa: E402
 
 PROGRAM = os.path.join(HERE, "..", "crates", "ads", "out", "ads")
@@ -42,6 +44,8 @@ RUNS = {
     "a description under schema 2": ["migrate", "plant.toml"],
     "a load of 20 requests": ["load", "20"],
     "a relay between a panel and a rig": ["relay", "plant.toml", "relay.script"],
+    "values that are kept, where nothing stood": ["keep", "plant.toml", "keep.script", "none.store"],
+    "values that are kept, and come back": ["keep", "plant.toml", "change.script", "some.store"],
     **{f"a client in the same process: {said}": [*words, "--local", "plant.toml", "--me", "192.168.0.9.1.1"] for said, words in {
         "name and version": ["info"], "the states": ["state"], "other states": ["control", "6", "0"],
         "a value": ["get", "Main.title"], "a value that is set": ["set", "Main.count", "7"], "a list": ["list"], "the leaves of an array": ["show", "Main.axis"],
@@ -96,12 +100,14 @@ def built(folder):
 
 def written(folder):
     """The files of the runs, and the words of each."""
-    for name in ("plant.toml", "plant.script", "state.script", "overlap.toml", "relay.script"):
+    for name in ("plant.toml", "plant.script", "state.script", "overlap.toml", "relay.script", "keep.script"):
         with open(os.path.join(HERE, "..", "examples", name), "rb") as one, open(os.path.join(folder, name), "wb") as it:
             it.write(one.read())
     for name in ("plant.toml", "plant2.toml"):
         with open(os.path.join(hostile.DATA, name), "rb") as one, open(os.path.join(folder, "of_data_" + name), "wb") as it:
             it.write(one.read())
+    with open(os.path.join(folder, "change.script"), "w") as it:
+        it.write("".join(line[2:] + "\n" for event in CHANGES for line in hostile.lines_of(event, "")))
     words = {}
     for number, (said, run) in enumerate(RUNS.items()):
         if isinstance(run, tuple):
@@ -117,9 +123,39 @@ def written(folder):
     return words
 
 
+def saved(*values):
+    """Events that write these bytes to the persistent symbol, each before a tick."""
+    return [("open", 1)] + [event for k, value in enumerate(values) for event in (("bytes", 1, write(k, 0x4040, 72, value)), ("tick", k))]
+
+
+STOOD = store.Disk()
+store.kept(hostile.PLANT, hostile.SIGNALS, saved(b"\x41"), STOOD)
+STORES = {"none.store": b"", "some.store": bytes(STOOD.file)}
+CHANGES = saved(b"\x42", b"\x43")
+BODIES = {
+    "none.store": store.kept(hostile.PLANT, hostile.SIGNALS, saved(b"Hi" + bytes(6)), store.Disk())[2],
+    "some.store": store.kept(hostile.PLANT, hostile.SIGNALS, CHANGES, store.Disk(STORES["some.store"]))[2],
+}
+
+
+def stands_well(folder, words):
+    """Whether the file of a run that keeps values stands for what stood, or for what the run saves."""
+    if words[0] != "keep":
+        return True
+    try:
+        with open(os.path.join(folder, words[3]), "rb") as it:
+            standing = store.standing_of(it.read())
+    except FileNotFoundError:
+        standing = None
+    return (standing and standing[2]) in BODIES[words[3]]
+
+
 def ran(program, words, folder, shim, nth, on):
     """The status, what was printed, and how many calls for memory there were."""
     tell = os.path.join(folder, "calls")
+    for name, file in STORES.items():
+        with open(os.path.join(folder, name), "wb") as it:
+            it.write(file)
     with open(tell, "wb") as it:
         it.write(bytes(8))
     given = {"LD_PRELOAD": shim, "FAIL_NTH": str(nth), "FAIL_TELL": tell, **({"FAIL_ON": "1"} if on else {})}
@@ -160,7 +196,7 @@ def main():
                     one, printed, _ = ran(program, words, folder, shim, nth, on)
                     tried += 1
                     counts[one == 10] += 1
-                    if not fits(one, printed, (status, out)):
+                    if not fits(one, printed, (status, out)) or not stands_well(folder, words):
                         bad += 1
                         print(f"  {' '.join(words)}, call {nth}{' and all behind it' if on else ''}: status {one}, {len(printed)} bytes", file=sys.stderr)
             wrong += bad
