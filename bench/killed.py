@@ -34,23 +34,13 @@ def script_of(r, ticks):
     return events
 
 
-def stands(path):
+def read(path):
+    """The bytes of the file; none where it is not there."""
     try:
         with open(path, "rb") as it:
-            return store.standing_of(it.read())
+            return it.read()
     except FileNotFoundError:
-        return None
-
-
-def seen_whole(path):
-    """Whether two readings one behind the other gave the same bytes: else the file was read while it was written, one slot before a save and the other behind it."""
-    try:
-        with open(path, "rb") as it:
-            first = it.read()
-            it.seek(0)
-            return first == it.read()
-    except FileNotFoundError:
-        return True
+        return b""
 
 
 class Differs(Exception):
@@ -62,29 +52,25 @@ def try_once(program, folder, r, ticks, let_through):
     path, events = os.path.join(folder, "store"), script_of(r, ticks)
     with open(os.path.join(folder, "it.script"), "w") as it:
         it.write("".join(line[2:] + "\n" for event in events for line in hostile.lines_of(event, "")))
-    before = b""
-    if os.path.exists(path):
-        with open(path, "rb") as it:
-            before = it.read()
+    before = read(path)
     status, text, bodies = store.kept(hostile.PLANT, hostile.SIGNALS, events, store.Disk(before))
     stood = store.standing_of(before)
     places = {body: k for k, body in enumerate(bodies)}
     process = subprocess.Popen([program, "keep", "plant.toml", "it.script", "store"], cwd=folder, stdout=subprocess.PIPE, stderr=subprocess.DEVNULL)
     ends, seen = time.monotonic() + r.random() * try_once.lasts, 0
     while process.poll() is None and (let_through or time.monotonic() < ends):
-        try:
-            seen = newest(path, stood, places, seen)
-        except Differs:
-            if seen_whole(path) and seen_whole(path):
-                seen = newest(path, stood, places, seen)
+        # What is read while it is written may be one slot before a save and the other behind it.
+        given = read(path)
+        if given == read(path):
+            seen = newest(given, stood, places, seen)
     killed = process.poll() is None
     if killed:
         process.send_signal(signal.SIGKILL)
     out = process.communicate()[0].decode()
-    seen = newest(path, stood, places, seen)
+    seen = newest(read(path), stood, places, seen)
     if not killed and (process.returncode, out) != (status, text):
         raise Differs(f"status {process.returncode}, wanted {status}, and {out[-200:]!r}, wanted {text[-200:]!r}")
-    if not killed and stands(path)[2] != bodies[-1]:
+    if not killed and store.standing_of(read(path))[2] != bodies[-1]:
         raise Differs("the run ended, and its last body does not stand")
     return killed, seen
 
@@ -92,9 +78,9 @@ def try_once(program, folder, r, ticks, let_through):
 try_once.lasts = 0.2
 
 
-def newest(path, stood, places, seen):
+def newest(given, stood, places, seen):
     """Which body of the run stands: none that is older than what was seen."""
-    now = stands(path)
+    now = store.standing_of(given)
     if now is None:
         if stood or seen:
             raise Differs("nothing stands, where something stood")
