@@ -46,7 +46,8 @@ decimal-front-le text n i small e =
     omega (arith, digits_value-take-le 10 text i (omega arith), ap (digits_value 10) e, (decimal_is_IsNumeral n small).1)
 
 pub decimal_of_digits : (text : List ℕ) → AllDigits 10 text → (IsSuperfluous text → ⊥) → digits_value 10 text < 2 ^ 64 → text ≡ decimal (digits_value 10 text)
-decimal_of_digits text all plain small = sym (decimal-digits_value (numerals_by_value _ tells_digits) text all (nonempty text plain) (λ e. single text plain e) small)
+decimal_of_digits text all plain small =
+    sym (decimal-digits_value (numerals_by_value _ tells_digits) text all (nonempty text plain) (λ e. single text plain e) small)
   where
     nonempty : (t : List ℕ) → (IsSuperfluous t → ⊥) → 0 < length t
     nonempty [] plain = absurd (plain (inl refl))
@@ -58,7 +59,8 @@ decimal_of_digits text all plain small = sym (decimal-digits_value (numerals_by_
     single (b ∷ (c ∷ bs)) plain e = absurd (plain (inr (e, omega arith)))
 
 -- what stands before the first stop is told apart from what stands behind it
-pub same_before_stop : (stop : ℕ) (xs ys r s : List ℕ) → ((k : ℕ) → k < length xs → get_or xs k 0 ≡ stop → ⊥) → ((k : ℕ) → k < length ys → get_or ys k 0 ≡ stop → ⊥) → xs ++ stop ∷ r ≡ ys ++ stop ∷ s → (xs ≡ ys) × (r ≡ s)
+pub same_before_stop : (stop : ℕ) (xs ys r s : List ℕ) → ((k : ℕ) → k < length xs → get_or xs k 0 ≡ stop → ⊥)
+    → ((k : ℕ) → k < length ys → get_or ys k 0 ≡ stop → ⊥) → xs ++ stop ∷ r ≡ ys ++ stop ∷ s → (xs ≡ ys) × (r ≡ s)
 same_before_stop stop [] [] r s free_x free_y e = (refl, cc)
 same_before_stop stop [] (y ∷ ys) r s free_x free_y e = absurd (free_y 0 (omega arith) cc)
 same_before_stop stop (x ∷ xs) [] r s free_x free_y e = absurd (free_x 0 (omega arith) cc)
@@ -71,7 +73,8 @@ same_before_stop stop (x ∷ xs) (y ∷ ys) r s free_x free_y e =
 pub decimal-free : (stop n : ℕ) → 10 ≤ digit_value stop → n < 2 ^ 64 → (k : ℕ) → k < length (decimal n) → get_or (decimal n) k 0 ≡ stop → ⊥
 decimal-free stop n no_digit small k below e = omega (arith, decimal-at (decimal n) n k small refl below, ap digit_value e)
 
-pub same_decimal : (stop n : ℕ) (xs r s : List ℕ) → 10 ≤ digit_value stop → n < 2 ^ 64 → ((k : ℕ) → k < length xs → get_or xs k 0 ≡ stop → ⊥) → xs ++ stop ∷ r ≡ decimal n ++ stop ∷ s → (xs ≡ decimal n) × (r ≡ s)
+pub same_decimal : (stop n : ℕ) (xs r s : List ℕ) → 10 ≤ digit_value stop → n < 2 ^ 64
+    → ((k : ℕ) → k < length xs → get_or xs k 0 ≡ stop → ⊥) → xs ++ stop ∷ r ≡ decimal n ++ stop ∷ s → (xs ≡ decimal n) × (r ≡ s)
 same_decimal stop n xs r s no_digit small free e = same_before_stop stop xs (decimal n) r s free (decimal-free stop n no_digit small) e
 
 -- a number is known by its decimal text
@@ -80,7 +83,8 @@ decimal-injective m n small_m small_n e =
     sym (decimal_is_IsNumeral m small_m).1 ∙ (ap (digits_value 10) e ∙ (decimal_is_IsNumeral n small_n).1)
 
 -- two decimal numbers, each with a stop and a rest behind it
-pub same_decimals : (stop m n : ℕ) (r s : List ℕ) → 10 ≤ digit_value stop → m < 2 ^ 64 → n < 2 ^ 64 → decimal m ++ stop ∷ r ≡ decimal n ++ stop ∷ s → (m ≡ n) × (r ≡ s)
+pub same_decimals : (stop m n : ℕ) (r s : List ℕ) → 10 ≤ digit_value stop → m < 2 ^ 64
+    → n < 2 ^ 64 → decimal m ++ stop ∷ r ≡ decimal n ++ stop ∷ s → (m ≡ n) × (r ≡ s)
 same_decimals stop m n r s no_digit small_m small_n e =
     let both = same_decimal stop n (decimal m) r s no_digit small_n (decimal-free stop m no_digit small_m) e in
     (decimal-injective m n small_m small_n both.0, both.1)

@@ -28,9 +28,11 @@ net_text-one (b ∷ []) last = refl
 net_text-one (b ∷ (c ∷ bs)) last = absurd (omega (arith, last.count))
 
 -- a text of a NetId's last numbers from which one number was read leaves the text of the others
-pub net_text-rest : (n : ℕ) (text rest bytes : List ℕ) → IsOnlyRest text rest → AreLast (suc (suc n)) bytes → text ≡ net_text bytes → rest ≡ net_text (drop 1 bytes)
+pub net_text-rest : (n : ℕ) (text rest bytes : List ℕ) → IsOnlyRest text rest
+    → AreLast (suc (suc n)) bytes → text ≡ net_text bytes → rest ≡ net_text (drop 1 bytes)
 net_text-rest n text rest bytes only last e = sym (only (get_or bytes 0 0) (net_text (drop 1 bytes)) (last.are_bytes 0) (e ∙ net_text-more n bytes last))
 
 -- no number with a full stop behind it begins a text, so the text is none of a NetId's last numbers
-pub net_text-none : (n : ℕ) (text bytes : List ℕ) → ((m : ℕ) (rest : List ℕ) → m < 256 → text ≡ decimal m ++ 46 ∷ rest → ⊥) → AreLast (suc (suc n)) bytes → text ≡ net_text bytes → ⊥
+pub net_text-none : (n : ℕ) (text bytes : List ℕ) → ((m : ℕ) (rest : List ℕ) → m < 256 → text ≡ decimal m ++ 46 ∷ rest → ⊥)
+    → AreLast (suc (suc n)) bytes → text ≡ net_text bytes → ⊥
 net_text-none n text bytes none last e = none (get_or bytes 0 0) (net_text (drop 1 bytes)) (last.are_bytes 0) (e ∙ net_text-more n bytes last)

@@ -21,13 +21,15 @@ pub more_sent : (sent : List ℕ) (log : List LinkMove) (bytes : List ℕ) → s
 more_sent sent log bytes e = ap (λ s. s ++ bytes) e ∙ sym (sent_in-more log (move.Sent bytes))
 
 -- what comes into a buffer that it fits into is an answer of that
-pub receives_coming : (e : LinkEvent) (size : ℕ) (old new : LinkState) → Fits e size → new.history ≡ history_after old.history e → Receives (received_as e) size old new
+pub receives_coming : (e : LinkEvent) (size : ℕ) (old new : LinkState) → Fits e size
+    → new.history ≡ history_after old.history e → Receives (received_as e) size old new
 receives_coming (event.Bytes bytes now) size old new fits e = record { some = fits.0; fit = fits.1; history = e }
 receives_coming (event.Quiet now) size old new fits e = e
 receives_coming (event.Closed now) size old new fits e = e
 
 -- and it is logged with the bytes that the buffer holds
-pub logs_coming : (e : LinkEvent) (buf : List ℕ) (log : List LinkMove) → take (size_of e) buf ≡ bytes_in e → log ++ move.Came e ∷ [] ≡ log_after_recv (received_as e) buf log
+pub logs_coming : (e : LinkEvent) (buf : List ℕ) (log : List LinkMove)
+    → take (size_of e) buf ≡ bytes_in e → log ++ move.Came e ∷ [] ≡ log_after_recv (received_as e) buf log
 logs_coming (event.Bytes bytes now) buf log e = ap (λ bs. log ++ move.Came (event.Bytes bs now) ∷ []) (sym e)
 logs_coming (event.Quiet now) buf log e = refl
 logs_coming (event.Closed now) buf log e = refl

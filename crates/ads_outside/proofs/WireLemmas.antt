@@ -16,7 +16,8 @@ opened_in-more log m = flat_map-append opened_by_move log (m ∷ []) ∙ ap (λ 
 pub same_opened : (log : List Move) (m : Move) → opened_by_move m ≡ [] → opened_in (log ++ m ∷ []) ≡ opened_in log
 same_opened log m none = opened_in-more log m ∙ ap (λ o. opened_in log ++ o) none ∙ append-nil (opened_in log)
 
-pub still_new : (es : List Event) (log : List Move) (m : Move) → opened_by_move m ≡ [] → IsTrue (are_new es (opened_in log)) → IsTrue (are_new es (opened_in (log ++ m ∷ [])))
+pub still_new : (es : List Event) (log : List Move) (m : Move) → opened_by_move m ≡ []
+    → IsTrue (are_new es (opened_in log)) → IsTrue (are_new es (opened_in (log ++ m ∷ [])))
 still_new es log m none new = ap (are_new es) (same_opened log m none) ∙ new
 
 -- the event at a place, and those behind it
@@ -42,9 +43,11 @@ others_are_new : (e : Event) (es : List Event) (opened : List ℕ) → IsTrue (a
 unfolding are_new
 others_are_new e es opened new = and_second (is_new e opened) (are_new es (opened ++ opened_by e)) new
 
-pub given_is_new : (es : List Event) (i : ℕ) (e : Event) (opened : List ℕ) → slice_get es i ≡ Some e → IsTrue (are_new (drop i es) opened) → IsTrue (is_new e opened)
+pub given_is_new : (es : List Event) (i : ℕ) (e : Event) (opened : List ℕ)
+    → slice_get es i ≡ Some e → IsTrue (are_new (drop i es) opened) → IsTrue (is_new e opened)
 given_is_new es i e opened found new = first_is_new e (drop (i + 1) es) opened (rw (at_place es i e found) at new)
 
-pub left_are_new : (es : List Event) (i : ℕ) (e : Event) (log : List Move) → slice_get es i ≡ Some e → IsTrue (are_new (drop i es) (opened_in log)) → IsTrue (are_new (drop (i + 1) es) (opened_in (log ++ move.Event e ∷ [])))
+pub left_are_new : (es : List Event) (i : ℕ) (e : Event) (log : List Move) → slice_get es i ≡ Some e
+    → IsTrue (are_new (drop i es) (opened_in log)) → IsTrue (are_new (drop (i + 1) es) (opened_in (log ++ move.Event e ∷ [])))
 left_are_new es i e log found new =
     ap (are_new (drop (i + 1) es)) (opened_in-more log (move.Event e)) ∙ others_are_new e (drop (i + 1) es) (opened_in log) (rw (at_place es i e found) at new)

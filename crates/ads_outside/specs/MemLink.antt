@@ -1,5 +1,6 @@
 -- A link in memory: it gives what comes in order, and writes its log.
-use Rattle.std.specs.Prelude.{◌≡◌, ℕ, ◌≤◌, ◌<◌, ◌+◌, ◌^◌, ◌-◌, ◌==◌, List, [], ◌∷◌, ◌++◌, length, take, drop, flat_map, min, max, nat_lt, if◌then◌else◌, Option, Some, None, slice_get}
+use Rattle.std.specs.Prelude.{◌≡◌, ℕ, ◌≤◌, ◌<◌, ◌+◌, ◌^◌, ◌-◌, ◌==◌, List, [], ◌∷◌, ◌++◌, length, take, drop}
+use Rattle.std.specs.Prelude.{flat_map, min, max, nat_lt, if◌then◌else◌, Option, Some, None, slice_get}
 use Rattle.ads_outside.specs.declared.connected.Connected.{Connected}
 use Rattle.ads_outside.specs.declared.connected.Connected.TheVariants as connected
 use Rattle.ads_outside.specs.declared.sent.Sent.{Sent}

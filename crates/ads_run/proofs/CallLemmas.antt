@@ -148,13 +148,15 @@ pub local_facts : (x : LocalCalling) (s : Status) (out out_new : SinkState) → 
 local_facts x s out out_new h = local_at x h.answer s out h.between out_new h.called h.later.faults h.prints
 
 -- where nothing failed, a call ends as its conversation, or memory was wanting
-pub told_own : (Q : Type 0) (st s : Status) (out between out_new : SinkState) → (s ≡ st → Q) → out.faults ≤ between.faults → (Rose out.faults out_new.faults → ⊥)
+pub told_own : (Q : Type 0) (st s : Status) (out between out_new : SinkState)
+    → (s ≡ st → Q) → out.faults ≤ between.faults → (Rose out.faults out_new.faults → ⊥)
     → PrintsEnding (line_alone st) s between out_new → Q ⊎ (s ≡ status.Memory)
 told_own Q st s out between out_new own later no_fault (inl h) = inl (own h.0)
 told_own Q st s out between out_new own later no_fault (inr (inl h)) = absurd (no_fault (rose_from out.faults between.faults out_new.faults later h.1.1))
 told_own Q st s out between out_new own later no_fault (inr (inr h)) = inr h.0
 
-pub not_unwritten : (Q : Type 0) (out between out_new : SinkState) → (Rose out.faults out_new.faults → ⊥) → out_new ≡ between → Rose out.faults between.faults → Q
+pub not_unwritten : (Q : Type 0) (out between out_new : SinkState)
+    → (Rose out.faults out_new.faults → ⊥) → out_new ≡ between → Rose out.faults between.faults → Q
 not_unwritten Q out between out_new no_fault same rose =
     let P : SinkState → Type 0 = λ x. Rose out.faults x.faults in absurd (no_fault (subst P (sym same) rose))
 

@@ -413,7 +413,8 @@ facts_so waves (Some (task.RelayServe d l limit)) first second s u h =
     record { cause = f.cause; write_fault = f.write_fault; usage = λ is. absurd (f.usage is) }
 facts_so waves (Some (task.Keep d script store)) first second s u h =
     let Says : Verdict → Type 0 = λ v. RunsSo v s u → Facts (Some (task.Keep d script store)) s u in
-    of_both Says (ending_says d script store s u) (over_store waves) (λ x lines k. kept_says d script store (keeping x waves lines) s u k.0) (length waves) d script first second h
+    of_both Says (ending_says d script store s u) (over_store waves)
+    (λ x lines k. kept_says d script store (keeping x waves lines) s u k.0) (length waves) d script first second h
 facts_so waves (Some (task.Ask what client)) first second s u h =
     let f = asked_facts waves what client client.peer first s u h in
     record { cause = f.cause; write_fault = f.write_fault; usage = λ is. absurd (f.usage is) }

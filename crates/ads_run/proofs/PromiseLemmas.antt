@@ -11,7 +11,6 @@ use Rattle.spec_machine.specs.Client.{Client}
 use Rattle.spec_machine.specs.ScriptLine.{ScriptLine}
 use Rattle.spec_machine.specs.Turns.{KeepsTurns}
 use Rattle.spec_machine.specs.Delivery.{AreOffers}
-use Rattle.spec_machine.specs.Answers.{all_answered}
 use Rattle.spec_machine.proofs.Changes.{state_after-append}
 use Rattle.spec_machine.proofs.TurnsKept.{offers_whole, takes_output}
 use Rattle.spec_machine.proofs.ServerDelivers.{server_only_adds, server_takes_output, server_takes_all}
@@ -42,7 +41,7 @@ changes_by_writes d waves before m name not_reload not_written =
     let next : server_after d waves (before ++ m ∷ []) ≡ state_after_move server s m =
     state_after-append server before (m ∷ []) (server_start d waves) ∙ one_move s m in
     ap (λ (t : MachineState World Client). byte_at t.world.memory name) next
-    ∙ changes_only_by_writes all_answered read_description s m name not_reload not_written
+    ∙ changes_only_by_writes read_description s m name not_reload not_written
 
 are_offers : (d : Description) (waves : List Wave) (log : List Move) → KeepsTurns server (server_start d waves) log
     → AreOffers server (server_start d waves) log

@@ -12,7 +12,6 @@ use Rattle.spec_plant.specs.World.{ByteName, byte_at}
 use Rattle.spec_machine.specs.Offers.{taken_of}
 use Rattle.spec_machine.specs.Turns.{KeepsTurns}
 use Rattle.spec_machine.specs.Projection.{projection_of}
-use Rattle.spec_machine.specs.Answers.{all_answered}
 use Rattle.spec_machine.specs.ScriptLine.{ScriptLine}
 use Rattle.spec_machine.specs.Delivery.{IsPrefix, is_short, is_cut_off}
 use Rattle.spec_laws.specs.Isolation.{IsAmong}
@@ -38,7 +37,7 @@ pub record GivesFramesInOrder (d : Description) (waves : List Wave) (log : List 
 abbrev pub ChangesByWrites : Description → List Wave → List Move → Move → Type 0
 ChangesByWrites d waves before m = (name : ByteName)
     → is_accepted_reload read_description (server_after d waves before) m ≡ false
-    → (IsAmong name (writes_of_move all_answered read_description (server_after d waves before) m) → ⊥)
+    → (IsAmong name (writes_of_move read_description (server_after d waves before) m) → ⊥)
     → byte_at (server_after d waves (before ++ m ∷ [])).world.memory name
     ≡ byte_at (server_after d waves before).world.memory name
 

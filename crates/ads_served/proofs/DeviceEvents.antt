@@ -79,6 +79,7 @@ events_open_alone device s (event.Piece c bytes) n other none = exchange-none n 
 events_open_alone device s (event.Closed c) n other none = exchange-none n (connection_of c s.connections) with_gone s none
 events_open_alone {W} {C} device s (event.Tick t) n other none =
     let f : Connection C → Connection C = connection_after_tick device (moment_of_tick t s) (device.world_after_tick s.world) in
-    connection_of-map n f (λ k. (connection_after_tick-grows device (moment_of_tick t s) (device.world_after_tick s.world) k).number) s.connections ∙ ap (option_map f) none
+    connection_of-map n f (λ k. (connection_after_tick-grows device (moment_of_tick t s) (device.world_after_tick s.world) k).number) s.connections
+    ∙ ap (option_map f) none
 events_open_alone device s (event.Reload bytes) n other none = reload-none n device (device.reload bytes s.world) s none
 events_open_alone device s (event.Writable c) n other none = none

@@ -1,5 +1,6 @@
 -- The numbers of the connections that are due, by their places and by their numbers.
-use Rattle.std.proofs.Common.{◌≡◌, ◌≢◌, ◌⊎◌, ℕ, zero, suc, ◌+◌, ◌<◌, List, [], ◌∷◌, ◌++◌, length, get_or, Bool, false, cond, nat_eq, refl, sym, ap, ◌∙◌, subst, inl, inr, arith}
+use Rattle.std.proofs.Common.{◌≡◌, ◌≢◌, ◌⊎◌, ℕ, zero, suc, ◌+◌, ◌<◌, List, [], ◌∷◌, ◌++◌, length, get_or, Bool}
+use Rattle.std.proofs.Common.{false, cond, nat_eq, refl, sym, ap, ◌∙◌, subst, inl, inr, arith}
 use Rattle.std.specs.Prelude.{Option, Some, None, option_map, slice_get, take, filter, is_some, ◌||◌, min, max}
 use Rattle.std.specs.List.{IsDistinct}
 use Rattle.std.specs.Map.{keys_of, values_of}
@@ -30,7 +31,8 @@ stand_at es i e distinct at =
     let first = first_of_key es e.0 i distinct (ap (option_map (λ (x : ℕ × Peer). x.0)) at) in
     record {
       first = first;
-      due = ap (read_in is_due_peer false) (value_there es e.0 i first ∙ slice_get-map (λ (x : ℕ × Peer). x.1) es i ∙ ap (option_map (λ (x : ℕ × Peer). x.1)) at);
+      due = ap (read_in is_due_peer false)
+          (value_there es e.0 i first ∙ slice_get-map (λ (x : ℕ × Peer). x.1) es i ∙ ap (option_map (λ (x : ℕ × Peer). x.1)) at);
     }
 
 -- a number stands at one place
@@ -56,7 +58,8 @@ nowhere es n k e distinct none at same =
     (let no : ◌≡◌ {A = Option Peer} None (Some e.1) = sym none ∙ ap (λ m. peer_in m es) (sym same) ∙ value in cc)
 
 -- no number of an idle connection is there
-idle_number : (es : Peers) (k : ℕ) → IsDistinct nat_eq (keys_of es) → ((e : ℕ × Peer) → slice_get es k ≡ Some e → due_in e.0 es ≡ false) → number_if_due (slice_get es k) ≡ []
+idle_number : (es : Peers) (k : ℕ) → IsDistinct nat_eq (keys_of es)
+    → ((e : ℕ × Peer) → slice_get es k ≡ Some e → due_in e.0 es ≡ false) → number_if_due (slice_get es k) ≡ []
 idle_number es k distinct idle = by (slice_get es k) refl
   where
     by : (o : Option (ℕ × Peer)) → slice_get es k ≡ o → number_if_due (slice_get es k) ≡ []
@@ -66,13 +69,15 @@ idle_number es k distinct idle = by (slice_get es k) refl
 -- all are idle
 pub numbers_none : (es : Peers) (n : ℕ) → ((k : ℕ) → k < n → number_if_due (slice_get es k) ≡ []) → numbers_due es n ≡ []
 numbers_none es zero idle = refl
-numbers_none es (suc n) idle = ap (λ ns. ns ++ number_if_due (slice_get es n)) (numbers_none es n (λ k below. idle k (omega (arith, below)))) ∙ idle n (omega arith)
+numbers_none es (suc n) idle =
+    ap (λ ns. ns ++ number_if_due (slice_get es n)) (numbers_none es n (λ k below. idle k (omega (arith, below)))) ∙ idle n (omega arith)
 
 -- but one
 numbers_one : (es : Peers) (i n : ℕ) → i < n → ((k : ℕ) → k ≢ i → number_if_due (slice_get es k) ≡ []) → numbers_due es n ≡ number_if_due (slice_get es i)
 numbers_one es i zero below idle = absurd (omega (arith, below))
 numbers_one es i (suc n) below idle = elim (cases_eq n i) [
-  | inl e ↦ ap (λ ns. ns ++ number_if_due (slice_get es n)) (numbers_none es n (λ k less. idle k (λ q. absurd (omega (arith, less, q, e))))) ∙ ap (λ m. number_if_due (slice_get es m)) e
+  | inl e ↦ ap (λ ns. ns ++ number_if_due (slice_get es n)) (numbers_none es n (λ k less. idle k (λ q. absurd (omega (arith, less, q, e)))))
+      ∙ ap (λ m. number_if_due (slice_get es m)) e
   | inr ne ↦
       let rest = numbers_one es i n (omega (arith, below, ne)) idle in
       ap (λ ns. numbers_due es n ++ ns) (idle n ne) ∙ append-nil (numbers_due es n) ∙ rest
@@ -95,16 +100,19 @@ numbers_two es i j (suc n) less below idle = elim (cases_eq n j) [
         before : (m i : ℕ) → i < m → ((k : ℕ) → k < m → k ≢ i → number_if_due (slice_get es k) ≡ []) → numbers_due es m ≡ number_if_due (slice_get es i)
         before zero i small idle = absurd (omega (arith, small))
         before (suc m) i small idle = elim (cases_eq m i) [
-          | inl q ↦ ap (λ ns. ns ++ number_if_due (slice_get es m)) (numbers_none es m (λ k l. idle k (omega (arith, l)) (λ r. absurd (omega (arith, l, r, q))))) ∙ ap (λ x. number_if_due (slice_get es x)) q
+          | inl q ↦ ap (λ ns. ns ++ number_if_due (slice_get es m))
+              (numbers_none es m (λ k l. idle k (omega (arith, l)) (λ r. absurd (omega (arith, l, r, q))))) ∙ ap (λ x. number_if_due (slice_get es x)) q
           | inr ne ↦
               let rest = before m i (omega (arith, small, ne)) (λ k l. idle k (omega (arith, l))) in
               ap (λ ns. numbers_due es m ++ ns) (idle m (omega arith) ne) ∙ append-nil (numbers_due es m) ∙ rest
         ]
 
 -- by numbers: one that is there, or none
-pub due_one : (es : Peers) (a i : ℕ) → IsDistinct nat_eq (keys_of es) → IsPlace es a i → AreIdleBut a a es → number_if_due (slice_get es i) ≡ numbers_due es (length es)
+pub due_one : (es : Peers) (a i : ℕ) → IsDistinct nat_eq (keys_of es) → IsPlace es a i
+    → AreIdleBut a a es → number_if_due (slice_get es i) ≡ numbers_due es (length es)
 due_one es a i distinct place idle =
-    sym (numbers_one es i (length es) place.within (λ k ne. idle_number es k distinct (λ e at. let other = elsewhere es a i k e distinct place at ne in idle e.0 other other)))
+    sym (numbers_one es i (length es) place.within
+    (λ k ne. idle_number es k distinct (λ e at. let other = elsewhere es a i k e distinct place at ne in idle e.0 other other)))
 
 pub due_none : (es : Peers) (a : ℕ) → IsDistinct nat_eq (keys_of es) → peer_in a es ≡ None → AreIdleBut a a es → [] ≡ numbers_due es (length es)
 due_none es a distinct none idle =
@@ -113,10 +121,13 @@ due_none es a distinct none idle =
 pub due_nobody : (es : Peers) → IsDistinct nat_eq (keys_of es) → ((n : ℕ) → due_in n es ≡ false) → [] ≡ numbers_due es (length es)
 due_nobody es distinct idle = sym (numbers_none es (length es) (λ k below. idle_number es k distinct (λ e at. idle e.0)))
 
-pub due_two : (es : Peers) (a b i j : ℕ) → IsDistinct nat_eq (keys_of es) → IsPlace es a i → IsPlace es b j → AreIdleBut a b es → (first second : ℕ) → first < second
-    → ((first ≡ i) × (second ≡ j)) ⊎ ((first ≡ j) × (second ≡ i)) → number_if_due (slice_get es first) ++ number_if_due (slice_get es second) ≡ numbers_due es (length es)
+pub due_two : (es : Peers) (a b i j : ℕ) → IsDistinct nat_eq (keys_of es) → IsPlace es a i
+    → IsPlace es b j → AreIdleBut a b es → (first second : ℕ) → first < second
+    → ((first ≡ i) × (second ≡ j)) ⊎ ((first ≡ j) × (second ≡ i))
+    → number_if_due (slice_get es first) ++ number_if_due (slice_get es second) ≡ numbers_due es (length es)
 due_two es a b i j distinct at_a at_b idle first second less which =
-    sym (numbers_two es first second (length es) less within (λ k not_first not_second. idle_number es k distinct (λ e at. other k e at not_first not_second which)))
+    sym (numbers_two es first second (length es) less within
+    (λ k not_first not_second. idle_number es k distinct (λ e at. other k e at not_first not_second which)))
   where
     within : second < length es
     within = elim which [
@@ -124,9 +135,12 @@ due_two es a b i j distinct at_a at_b idle first second less which =
       | inr w ↦ subst (λ m. m < length es) (sym w.1) at_a.within
     ]
 
-    other : (k : ℕ) (e : ℕ × Peer) → slice_get es k ≡ Some e → k ≢ first → k ≢ second → ((first ≡ i) × (second ≡ j)) ⊎ ((first ≡ j) × (second ≡ i)) → due_in e.0 es ≡ false
-    other k e at nf ns (inl w) = idle e.0 (elsewhere es a i k e distinct at_a at (λ q. nf (q ∙ sym w.0))) (elsewhere es b j k e distinct at_b at (λ q. ns (q ∙ sym w.1)))
-    other k e at nf ns (inr w) = idle e.0 (elsewhere es a i k e distinct at_a at (λ q. ns (q ∙ sym w.1))) (elsewhere es b j k e distinct at_b at (λ q. nf (q ∙ sym w.0)))
+    other : (k : ℕ) (e : ℕ × Peer) → slice_get es k ≡ Some e → k ≢ first → k ≢ second
+        → ((first ≡ i) × (second ≡ j)) ⊎ ((first ≡ j) × (second ≡ i)) → due_in e.0 es ≡ false
+    other k e at nf ns (inl w) =
+        idle e.0 (elsewhere es a i k e distinct at_a at (λ q. nf (q ∙ sym w.0))) (elsewhere es b j k e distinct at_b at (λ q. ns (q ∙ sym w.1)))
+    other k e at nf ns (inr w) =
+        idle e.0 (elsewhere es a i k e distinct at_a at (λ q. ns (q ∙ sym w.1))) (elsewhere es b j k e distinct at_b at (λ q. nf (q ∙ sym w.0)))
 
 -- two numbers at one place are one
 pub due_same : (es : Peers) (a b i j : ℕ) → IsPlace es a i → IsPlace es b j → i ≡ j → AreIdleBut a b es → AreIdleBut a a es
@@ -166,7 +180,8 @@ there (e ∷ es) (suc n) below none = there es n (omega (arith, below)) none
 longer : (es : Peers) (n : ℕ) (e : ℕ × Peer) → IsFirst es e.0 n → take (suc n) (keys_of es) ≡ take n (keys_of es) ++ e.0 ∷ []
 longer es n e first =
     let next : suc n ≡ n + 1 = omega arith in
-    ap (λ m. take m (keys_of es)) next ∙ take_more (keys_of es) n 0 (omega (arith, first.within, keys_length es)) ∙ ap (λ (m : ℕ). take n (keys_of es) ++ m ∷ []) (first.number 0)
+    ap (λ m. take m (keys_of es)) next ∙ take_more (keys_of es) n 0 (omega (arith, first.within, keys_length es))
+    ∙ ap (λ (m : ℕ). take n (keys_of es) ++ m ∷ []) (first.number 0)
 
 past : (es : Peers) (n : ℕ) → slice_get es n ≡ None → take n (keys_of es) ≡ take (suc n) (keys_of es)
 past es n at = elim (cases_lt n (length es)) [
@@ -177,7 +192,8 @@ past es n at = elim (cases_lt n (length es)) [
 abbrev is_due_in : Peers → ℕ → Bool
 is_due_in es = λ m. due_in m es
 
-one_more : (es : Peers) (n : ℕ) → IsDistinct nat_eq (keys_of es) → numbers_due es n ≡ filter (is_due_in es) (take n (keys_of es)) → (o : Option (ℕ × Peer)) → slice_get es n ≡ o
+one_more : (es : Peers) (n : ℕ) → IsDistinct nat_eq (keys_of es)
+    → numbers_due es n ≡ filter (is_due_in es) (take n (keys_of es)) → (o : Option (ℕ × Peer)) → slice_get es n ≡ o
     → numbers_due es n ++ number_if_due (slice_get es n) ≡ filter (is_due_in es) (take (suc n) (keys_of es))
 one_more es n distinct before None at =
     ap (λ o. numbers_due es n ++ number_if_due o) at ∙ append-nil (numbers_due es n) ∙ before ∙ ap (filter (is_due_in es)) (past es n at)
@@ -193,7 +209,8 @@ numbers_filtered es zero distinct = refl
 numbers_filtered es (suc n) distinct = one_more es n distinct (numbers_filtered es n distinct) (slice_get es n) refl
 
 pub numbers_by_number : (es : Peers) → IsDistinct nat_eq (keys_of es) → numbers_due es (length es) ≡ filter (λ m. due_in m es) (keys_of es)
-numbers_by_number es distinct = numbers_filtered es (length es) distinct ∙ ap (filter (λ m. due_in m es)) (take_all (length es) (keys_of es) (omega (arith, keys_length es)))
+numbers_by_number es distinct =
+    numbers_filtered es (length es) distinct ∙ ap (filter (λ m. due_in m es)) (take_all (length es) (keys_of es) (omega (arith, keys_length es)))
 
 pub values_length : (es : Peers) → length (values_of es) ≡ length es
 values_length [] = refl
@@ -226,9 +243,12 @@ due_is n r x h = by (peer_in n r.peers.entries) refl
 filter-same : (P Q : ℕ → Bool) (ns : List ℕ) → ((n : ℕ) → P n ≡ Q n) → filter P ns ≡ filter Q ns
 filter-same P Q ns same = λ i. filter (λ n. same n i) ns
 
-pub leaves_out : (r : Router) (x : Running RelayWorld Owned) (numbers : List ℕ) → Holds r x.blocked x.state → (AreDistinct r.peers.entries → OthersIdle r.touched r.peers.entries → numbers ≡ numbers_due r.peers.entries (length r.peers.entries))
+pub leaves_out : (r : Router) (x : Running RelayWorld Owned) (numbers : List ℕ) → Holds r x.blocked x.state
+    → (AreDistinct r.peers.entries → OthersIdle r.touched r.peers.entries → numbers ≡ numbers_due r.peers.entries (length r.peers.entries))
     → LeavesOutIdle x numbers
 leaves_out r x numbers h due =
     let distinct : AreDistinct r.peers.entries = subst (IsDistinct nat_eq) (sym h.peers.numbers) (numbers-distinct x.state.connections h.peers.apart) in
-    subst (LeavesOutIdle x) (sym (due distinct h.idle ∙ numbers_by_number r.peers.entries distinct ∙ filter-same (λ m. due_in m r.peers.entries) (is_due x) (keys_of r.peers.entries) (λ m. due_is m r x h)
+    subst (LeavesOutIdle x)
+    (sym (due distinct h.idle ∙ numbers_by_number r.peers.entries distinct
+    ∙ filter-same (λ m. due_in m r.peers.entries) (is_due x) (keys_of r.peers.entries) (λ m. due_is m r x h)
     ∙ ap (filter (is_due x)) h.peers.numbers)) (leaves_out_idle x)

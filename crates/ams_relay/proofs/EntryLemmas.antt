@@ -91,7 +91,8 @@ place_absent (Some i) es n e = tt
 -- the streams of all are as long as before, where that of the one that changed is
 pub streams_set : (n : ℕ) (p q : Peer) (old new : Peers) → peer_in n old ≡ Some p → Sets n q old new → rest_of_peer q ≡ rest_of_peer p → KeepsStreams old new
 streams_set n p q old new was sets same m = elim (cases_eq m n) [
-  | inl e ↦ ap (λ j. rest_in j new) e ∙ ap (λ o. read_in rest_of_peer 0 o) sets.own ∙ same ∙ sym (ap (λ o. read_in rest_of_peer 0 o) was) ∙ sym (ap (λ j. rest_in j old) e)
+  | inl e ↦ ap (λ j. rest_in j new) e ∙ ap (λ o. read_in rest_of_peer 0 o) sets.own
+      ∙ same ∙ sym (ap (λ o. read_in rest_of_peer 0 o) was) ∙ sym (ap (λ j. rest_in j old) e)
   | inr ne ↦ ap (λ o. read_in rest_of_peer 0 o) (sets.others m ne)
 ]
 
@@ -99,7 +100,8 @@ pub streams_then : (a b c : Peers) → KeepsStreams a b → KeepsStreams b c →
 streams_then a b c first second m = second m ∙ first m
 
 -- among keys of which none is equal to one before it, the place of a number is the first
-none_before : (es : Peers) (x n i : ℕ) → AllByRecursion (λ y. nat_eq x y ≡ false) (keys_of es) → option_map (λ (e : ℕ × Peer). e.0) (slice_get es i) ≡ Some n → x ≢ n
+none_before : (es : Peers) (x n i : ℕ) → AllByRecursion (λ y. nat_eq x y ≡ false) (keys_of es)
+    → option_map (λ (e : ℕ × Peer). e.0) (slice_get es i) ≡ Some n → x ≢ n
 none_before [] x n i none there same = absurd (let e : ◌≡◌ {A = Option ℕ} None (Some n) = there in cc)
 none_before (e ∷ es) x n zero none there same =
     let some : ◌≡◌ {A = Option ℕ} (Some e.0) (Some n) = there in

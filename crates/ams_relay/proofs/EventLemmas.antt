@@ -15,7 +15,8 @@ use Rattle.ams_relay.specs.Relays.{RelayRunning}
 use Rattle.ams_relay.specs.Touched.{OthersIdle}
 
 -- of the touched, those that are idle are forgotten
-pub settled : (old new : Router) (b : List ℕ) (s : RelayState) → new ≡ record old { touched = new.touched } → (OthersIdle old.touched old.peers.entries → OthersIdle new.touched old.peers.entries)
+pub settled : (old new : Router) (b : List ℕ) (s : RelayState) → new ≡ record old { touched = new.touched }
+    → (OthersIdle old.touched old.peers.entries → OthersIdle new.touched old.peers.entries)
     → Holds old b s → Holds new b s
 settled old new b s same idle h = subst (λ (r : Router). Holds r b s) (sym same) (record {
   routes = h.routes;
@@ -35,15 +36,18 @@ pub opened_taken : (new : Router) (x : RelayRunning) (n : ℕ) → Holds new x.b
 unfolding state_after_move
 opened_taken new x n h = h
 
-pub piece_done : (new : Router) (x : RelayRunning) (n : ℕ) (bytes : List ℕ) → Holds new x.blocked (relay_after_event x.state (event.Piece n bytes)) → Taken new x (event.Piece n bytes)
+pub piece_done : (new : Router) (x : RelayRunning) (n : ℕ) (bytes : List ℕ)
+    → Holds new x.blocked (relay_after_event x.state (event.Piece n bytes)) → Taken new x (event.Piece n bytes)
 unfolding state_after_move
 piece_done new x n bytes h = h
 
-pub closed_taken : (new : Router) (x : RelayRunning) (n : ℕ) → Holds new x.blocked (after_exchange (connection_of n x.state.connections) with_gone x.state) → Taken new x (event.Closed n)
+pub closed_taken : (new : Router) (x : RelayRunning) (n : ℕ)
+    → Holds new x.blocked (after_exchange (connection_of n x.state.connections) with_gone x.state) → Taken new x (event.Closed n)
 unfolding state_after_move relay_after_event
 closed_taken new x n h = h
 
-pub writable_taken : (new : Router) (x : RelayRunning) (n : ℕ) → Holds new (blocked_after_move x.blocked (move.Event (event.Writable n))) (relay_after_event x.state (event.Writable n))
+pub writable_taken : (new : Router) (x : RelayRunning) (n : ℕ)
+    → Holds new (blocked_after_move x.blocked (move.Event (event.Writable n))) (relay_after_event x.state (event.Writable n))
     → Taken new x (event.Writable n)
 unfolding state_after_move
 writable_taken new x n h = h

@@ -41,7 +41,8 @@ found_in : (p : Peer) (o : Option RelayConnection) → IsPeerOf (Some p) o → F
 found_in p None h = absurd h
 found_in p (Some k) h = record { connection = k; found = refl; there = h.0; stands = h.1 }
 
-pub peer_found : (es : Peers) (b : List ℕ) (s : RelayState) (n : ℕ) (p : Peer) → HoldsPeers es b s → peer_in n es ≡ Some p → Found p (connection_of n s.connections)
+pub peer_found : (es : Peers) (b : List ℕ) (s : RelayState) (n : ℕ) (p : Peer)
+    → HoldsPeers es b s → peer_in n es ≡ Some p → Found p (connection_of n s.connections)
 peer_found es b s n p h e = found_in p (connection_of n s.connections) (subst (λ o. IsPeerOf o (connection_of n s.connections)) e (h.each n))
 
 -- no peer is kept: no connection is there
@@ -49,7 +50,8 @@ absent_in : (o : Option RelayConnection) → IsPeerOf None o → (k : RelayConne
 absent_in None h k e = absurd (let no : ◌≡◌ {A = Option RelayConnection} None (Some k) = e in cc)
 absent_in (Some j) h k e = sym (ap (λ (x : RelayConnection). x.gone) (some_same j k e)) ∙ h
 
-pub peer_absent : (es : Peers) (b : List ℕ) (s : RelayState) (n : ℕ) → HoldsPeers es b s → peer_in n es ≡ None → (k : RelayConnection) → connection_of n s.connections ≡ Some k → k.gone ≡ true
+pub peer_absent : (es : Peers) (b : List ℕ) (s : RelayState) (n : ℕ) → HoldsPeers es b s
+    → peer_in n es ≡ None → (k : RelayConnection) → connection_of n s.connections ≡ Some k → k.gone ≡ true
 peer_absent es b s n h e = absent_in (connection_of n s.connections) (subst (λ o. IsPeerOf o (connection_of n s.connections)) e (h.each n))
 
 -- one that is there is kept
@@ -58,7 +60,8 @@ pub record Kept (n : ℕ) (es : Peers) (k : RelayConnection) : Type 0 where
   pub found : peer_in n es ≡ Some peer
   pub stands : Stands peer k
 
-pub peer_kept : (es : Peers) (b : List ℕ) (s : RelayState) (n : ℕ) (k : RelayConnection) → HoldsPeers es b s → connection_of n s.connections ≡ Some k → k.gone ≡ false → Kept n es k
+pub peer_kept : (es : Peers) (b : List ℕ) (s : RelayState) (n : ℕ) (k : RelayConnection)
+    → HoldsPeers es b s → connection_of n s.connections ≡ Some k → k.gone ≡ false → Kept n es k
 peer_kept es b s n k h e there = by (peer_in n es) refl
   where
     by : (o : Option Peer) → peer_in n es ≡ o → Kept n es k
@@ -68,7 +71,8 @@ peer_kept es b s n k h e there = by (peer_in n es) refl
         record { peer = p; found = some; stands = subst (Stands p) (some_same at.connection k (sym at.found ∙ e)) at.stands }
 
 -- the connection of a peer, or none, after a change
-own_changed : (f : RelayConnection → RelayConnection) → Stays f → (p q : Peer) → ((k : RelayConnection) → Stands p k → Stands q (f k)) → (o : Option RelayConnection) → IsPeerOf (Some p) o
+own_changed : (f : RelayConnection → RelayConnection) → Stays f → (p q : Peer)
+    → ((k : RelayConnection) → Stands p k → Stands q (f k)) → (o : Option RelayConnection) → IsPeerOf (Some p) o
     → IsPeerOf (Some q) (option_map f o)
 own_changed f stays p q follows None h = absurd h
 own_changed f stays p q follows (Some k) h = (stays.gone k ∙ h.0, follows k h.1)
@@ -78,7 +82,8 @@ none_changed f stays None h = h
 none_changed f stays (Some k) h = stays.gone k ∙ h
 
 -- the peers after a change of one
-pub peers_changed : (n : ℕ) (f : RelayConnection → RelayConnection) (b c : List ℕ) (p q : Peer) (old new : Peers) (s : RelayState) → Stays f → HoldsPeers old b s → peer_in n old ≡ Some p → Sets n q old new
+pub peers_changed : (n : ℕ) (f : RelayConnection → RelayConnection) (b c : List ℕ) (p q : Peer) (old new : Peers) (s : RelayState)
+    → Stays f → HoldsPeers old b s → peer_in n old ≡ Some p → Sets n q old new
     → Follows n f b c p q → ((m : ℕ) → m ≢ n → is_among m c ≡ is_among m b) → HoldsPeers new c (at_connection n f s)
 peers_changed n f b c p q old new s stays h was sets follows marks = record {
   numbers = sets.keys ∙ h.numbers ∙ sym (changed-numbers n f stays s);
@@ -124,11 +129,13 @@ peers_changed n f b c p q old new s stays h was sets follows marks = record {
       | inl e ↦
           let at = peer_found old b s n p h was in
           absurd (let both : ◌≡◌ {A = Option RelayConnection} (Some (f at.connection)) None
-          = sym (changed-own n f stays.number s ∙ ap (option_map f) at.found) ∙ ap (λ j. connection_of j (at_connection n f s).connections) (sym e) ∙ none in cc)
+          = sym (changed-own n f stays.number s ∙ ap (option_map f) at.found)
+          ∙ ap (λ j. connection_of j (at_connection n f s).connections) (sym e) ∙ none in cc)
     ]
 
 -- no peer is kept of the connection that changes
-pub peers_absent : (n : ℕ) (f : RelayConnection → RelayConnection) (b : List ℕ) (es : Peers) (s : RelayState) → Stays f → HoldsPeers es b s → peer_in n es ≡ None → HoldsPeers es b (at_connection n f s)
+pub peers_absent : (n : ℕ) (f : RelayConnection → RelayConnection) (b : List ℕ) (es : Peers) (s : RelayState)
+    → Stays f → HoldsPeers es b s → peer_in n es ≡ None → HoldsPeers es b (at_connection n f s)
 peers_absent n f b es s stays h none = record {
   numbers = h.numbers ∙ sym (changed-numbers n f stays s);
   each = each;
@@ -157,18 +164,21 @@ peers_absent n f b es s stays h none = record {
     known m gone = elim (cases_eq m n) [
       | inr ne ↦ h.known m (sym (changed-other n m f stays.number (λ e. ne (sym e)) s) ∙ gone)
       | inl e ↦
-          let own_none : connection_of n (at_connection n f s).connections ≡ None = ap (λ j. connection_of j (at_connection n f s).connections) (sym e) ∙ gone in
+          let own_none : connection_of n (at_connection n f s).connections ≡ None =
+          ap (λ j. connection_of j (at_connection n f s).connections) (sym e) ∙ gone in
           h.known m (ap (λ j. connection_of j s.connections) e ∙ was_none (connection_of n s.connections) (sym (changed-own n f stays.number s) ∙ own_none))
     ]
 
 -- what names connections that were opened, where none is lost
-pub own_changed_list : (k l : RelayConnection) (ks ls : List RelayConnection) → l.client ≡ k.client → ((c : ℕ) → connection_of c ls ≡ None → connection_of c ks ≡ None) → (asked : List Asked)
+pub own_changed_list : (k l : RelayConnection) (ks ls : List RelayConnection) → l.client ≡ k.client
+    → ((c : ℕ) → connection_of c ls ≡ None → connection_of c ks ≡ None) → (asked : List Asked)
     → AreOwn k ks asked → AreOwn l ls asked
 own_changed_list k l ks ls client opened [] own = tt
 own_changed_list k l ks ls client opened (a ∷ more) own =
     (record { source = client ∙ own.0.source; opened = λ e. own.0.opened (opened a.asked e) }, own_changed_list k l ks ls client opened more own.1)
 
-pub named_changed : (ks ls : List RelayConnection) → ((c : ℕ) → connection_of c ls ≡ None → connection_of c ks ≡ None) → (rs : List Request) → AreNamed ks rs → AreNamed ls rs
+pub named_changed : (ks ls : List RelayConnection) → ((c : ℕ) → connection_of c ls ≡ None → connection_of c ks ≡ None)
+    → (rs : List Request) → AreNamed ks rs → AreNamed ls rs
 named_changed ks ls opened [] named = tt
 named_changed ks ls opened (r ∷ rs) named =
     (record { asker = λ e. named.0.asker (opened r.asker e); asked = λ e. named.0.asked (opened r.asked e) }, named_changed ks ls opened rs named.1)
@@ -181,30 +191,37 @@ named_filter ks P (r ∷ rs) named = elim (cases_Bool (P r)) [
 ]
 
 -- what was asked, after a quiet change
-pub asked_kept : (asked : List Asked) (m : ℕ) (k l : RelayConnection) (s t : RelayState) → t.world.requests ≡ s.world.requests → ((c : ℕ) → is_heard_among c t.connections ≡ is_heard_among c s.connections)
-    → l.client ≡ k.client → ((c : ℕ) → connection_of c t.connections ≡ None → connection_of c s.connections ≡ None) → HoldsAsked asked m k s → HoldsAsked asked m l t
+pub asked_kept : (asked : List Asked) (m : ℕ) (k l : RelayConnection) (s t : RelayState)
+    → t.world.requests ≡ s.world.requests → ((c : ℕ) → is_heard_among c t.connections ≡ is_heard_among c s.connections)
+    → l.client ≡ k.client → ((c : ℕ) → connection_of c t.connections ≡ None → connection_of c s.connections ≡ None)
+    → HoldsAsked asked m k s → HoldsAsked asked m l t
 asked_kept asked m k l s t same heard client opened h = record {
-  same = subst (λ rs. AreSameIn rs) (sym same) (same_heard (hearing s.connections) (hearing t.connections) m (requests_of m asked) s.world.requests heard h.same);
+  same = subst (λ rs. AreSameIn rs) (sym same)
+      (same_heard (hearing s.connections) (hearing t.connections) m (requests_of m asked) s.world.requests heard h.same);
   own = own_changed_list k l s.connections t.connections client opened asked h.own;
   few = h.few;
 }
   where
     AreSameIn : List Request → Type 0
-    AreSameIn rs = filter (λ (r : Request). is_heard_among r.asked t.connections) (requests_of m asked) ≡ filter (is_asked_by m) (requests_heard t.connections rs)
+    AreSameIn rs = filter (λ (r : Request). is_heard_among r.asked t.connections)
+        (requests_of m asked) ≡ filter (is_asked_by m) (requests_heard t.connections rs)
 
-pub requests_changed : (n : ℕ) (f : RelayConnection → RelayConnection) (p q : Peer) (old new : Peers) (s : RelayState) → Quiet f → HoldsRequests old s → peer_in n old ≡ Some p → Sets n q old new
+pub requests_changed : (n : ℕ) (f : RelayConnection → RelayConnection) (p q : Peer) (old new : Peers) (s : RelayState)
+    → Quiet f → HoldsRequests old s → peer_in n old ≡ Some p → Sets n q old new
     → q.asked.items ≡ p.asked.items → HoldsRequests new (at_connection n f s)
 requests_changed n f p q old new s quiet h was sets same m r k at found heard = elim (cases_eq m n) [
   | inr ne ↦
       let before = sym (changed-other n m f quiet.stays.number (λ e. ne (sym e)) s) ∙ found in
-      asked_kept r.asked.items m k k s (at_connection n f s) requests (λ c. heard_changed n c f quiet.stays quiet.closing s) refl (λ c e. changed-none n c f s e) (h m r k (sym (sets.others m ne) ∙ at) before heard)
+      asked_kept r.asked.items m k k s (at_connection n f s) requests (λ c. heard_changed n c f quiet.stays quiet.closing s) refl
+      (λ c e. changed-none n c f s e) (h m r k (sym (sets.others m ne) ∙ at) before heard)
   | inl e ↦
       let found_n : connection_of n (at_connection n f s).connections ≡ Some k = ap (λ j. connection_of j (at_connection n f s).connections) (sym e) ∙ found in
       let b = before_change n f quiet.stays s k found_n in
       let r_is : r ≡ q = some_same r q (sym (ap (λ j. peer_in j new) (sym e) ∙ at) ∙ sets.own) in
       let heard_b : is_heard b.connection ≡ true = sym (heard_quiet f quiet b.connection) ∙ ap is_heard b.is ∙ heard in
       let own = asked_kept p.asked.items n b.connection k s (at_connection n f s) requests (λ c. heard_changed n c f quiet.stays quiet.closing s)
-      (sym (ap (λ (x : RelayConnection). x.client) b.is) ∙ quiet.client b.connection) (λ c e. changed-none n c f s e) (h n p b.connection was b.found heard_b) in
+      (sym (ap (λ (x : RelayConnection). x.client) b.is) ∙ quiet.client b.connection)
+      (λ c e. changed-none n c f s e) (h n p b.connection was b.found heard_b) in
       subst (λ j. HoldsAsked r.asked.items j k (at_connection n f s)) (sym e)
       (subst (λ xs. HoldsAsked xs n k (at_connection n f s)) (sym (ap (λ (x : Peer). x.asked.items) r_is ∙ same)) own)
 ]
@@ -212,11 +229,13 @@ requests_changed n f p q old new s quiet h was sets same m r k at found heard = 
     requests : (at_connection n f s).world.requests ≡ s.world.requests
     requests = ap (λ (w : RelayWorld). w.requests) (world-change n f s)
 
-pub requests_absent : (n : ℕ) (f : RelayConnection → RelayConnection) (es : Peers) (s : RelayState) → Quiet f → HoldsRequests es s → peer_in n es ≡ None → HoldsRequests es (at_connection n f s)
+pub requests_absent : (n : ℕ) (f : RelayConnection → RelayConnection) (es : Peers) (s : RelayState)
+    → Quiet f → HoldsRequests es s → peer_in n es ≡ None → HoldsRequests es (at_connection n f s)
 requests_absent n f es s quiet h none m r k at found heard = elim (cases_eq m n) [
   | inr ne ↦
       let before = sym (changed-other n m f quiet.stays.number (λ e. ne (sym e)) s) ∙ found in
-      asked_kept r.asked.items m k k s (at_connection n f s) (ap (λ (w : RelayWorld). w.requests) (world-change n f s)) (λ c. heard_changed n c f quiet.stays quiet.closing s) refl (λ c e. changed-none n c f s e) (h m r k at before heard)
+      asked_kept r.asked.items m k k s (at_connection n f s) (ap (λ (w : RelayWorld). w.requests) (world-change n f s))
+      (λ c. heard_changed n c f quiet.stays quiet.closing s) refl (λ c e. changed-none n c f s e) (h m r k at before heard)
   | inl e ↦ absurd (let no : ◌≡◌ {A = Option Peer} None (Some r) = sym none ∙ ap (λ j. peer_in j es) (sym e) ∙ at in cc)
 ]
 
@@ -227,7 +246,8 @@ named_at n f s named =
     (named_changed s.connections (at_connection n f s).connections (λ c e. changed-none n c f s e) s.world.requests named)
 
 -- the counts, after a change that takes no frame
-pub counts_changed : (n : ℕ) (f : RelayConnection → RelayConnection) → ((k : RelayConnection) → (f k).number ≡ k.number) → ((k : RelayConnection) → (f k).frames_taken ≡ k.frames_taken) → (s : RelayState)
+pub counts_changed : (n : ℕ) (f : RelayConnection → RelayConnection) → ((k : RelayConnection) → (f k).number ≡ k.number)
+    → ((k : RelayConnection) → (f k).frames_taken ≡ k.frames_taken) → (s : RelayState)
     → relay_summary_of (at_connection n f s) ≡ relay_summary_of s
 counts_changed n f number taken s = λ i. record {
   connections = count_of (changed-length n f s i);
@@ -237,9 +257,12 @@ counts_changed n f number taken s = λ i. record {
 }
 
 -- all of it, after a quiet change; whatever it takes is counted
-pub holds_counted : (n : ℕ) (f : RelayConnection → RelayConnection) (b c : List ℕ) (p q : Peer) (old new : Router) (s : RelayState) → Quiet f → Holds old b s → peer_in n old.peers.entries ≡ Some p
-    → Sets n q old.peers.entries new.peers.entries → new.routes ≡ old.routes → new.owners.entries ≡ old.owners.entries → counts_in new.counts ≡ relay_summary_of (at_connection n f s)
-    → Follows n f b c p q → q.asked.items ≡ p.asked.items → ((m : ℕ) → m ≢ n → is_among m c ≡ is_among m b) → OthersIdle new.touched new.peers.entries → Holds new c (at_connection n f s)
+pub holds_counted : (n : ℕ) (f : RelayConnection → RelayConnection) (b c : List ℕ) (p q : Peer) (old new : Router) (s : RelayState)
+    → Quiet f → Holds old b s → peer_in n old.peers.entries ≡ Some p
+    → Sets n q old.peers.entries new.peers.entries → new.routes ≡ old.routes
+    → new.owners.entries ≡ old.owners.entries → counts_in new.counts ≡ relay_summary_of (at_connection n f s)
+    → Follows n f b c p q → q.asked.items ≡ p.asked.items → ((m : ℕ) → m ≢ n → is_among m c ≡ is_among m b)
+    → OthersIdle new.touched new.peers.entries → Holds new c (at_connection n f s)
 holds_counted n f b c p q old new s quiet h was sets routes owners counted follows asked marks idle = record {
   routes = λ net. ap (rights_of net) routes ∙ h.routes net ∙ ap (λ (w : RelayWorld). rights_of net w.routes) (sym (world-change n f s));
   peers = peers_changed n f b c p q old.peers.entries new.peers.entries s quiet.stays h.peers was sets follows marks;
@@ -251,13 +274,18 @@ holds_counted n f b c p q old new s quiet h was sets routes owners counted follo
 }
 
 -- where it takes no frame
-pub holds_changed : (n : ℕ) (f : RelayConnection → RelayConnection) (b c : List ℕ) (p q : Peer) (old new : Router) (s : RelayState) → Quiet f → ((k : RelayConnection) → (f k).frames_taken ≡ k.frames_taken)
-    → Holds old b s → peer_in n old.peers.entries ≡ Some p → Sets n q old.peers.entries new.peers.entries → new.routes ≡ old.routes → new.owners.entries ≡ old.owners.entries → new.counts ≡ old.counts
-    → Follows n f b c p q → q.asked.items ≡ p.asked.items → ((m : ℕ) → m ≢ n → is_among m c ≡ is_among m b) → OthersIdle new.touched new.peers.entries → Holds new c (at_connection n f s)
+pub holds_changed : (n : ℕ) (f : RelayConnection → RelayConnection) (b c : List ℕ) (p q : Peer) (old new : Router) (s : RelayState)
+    → Quiet f → ((k : RelayConnection) → (f k).frames_taken ≡ k.frames_taken)
+    → Holds old b s → peer_in n old.peers.entries ≡ Some p → Sets n q old.peers.entries new.peers.entries
+    → new.routes ≡ old.routes → new.owners.entries ≡ old.owners.entries → new.counts ≡ old.counts
+    → Follows n f b c p q → q.asked.items ≡ p.asked.items → ((m : ℕ) → m ≢ n → is_among m c ≡ is_among m b)
+    → OthersIdle new.touched new.peers.entries → Holds new c (at_connection n f s)
 holds_changed n f b c p q old new s quiet taken h was sets routes owners counts follows asked marks idle =
-    holds_counted n f b c p q old new s quiet h was sets routes owners (ap counts_in counts ∙ h.counts ∙ sym (counts_changed n f quiet.stays.number taken s)) follows asked marks idle
+    holds_counted n f b c p q old new s quiet h was sets routes owners
+    (ap counts_in counts ∙ h.counts ∙ sym (counts_changed n f quiet.stays.number taken s)) follows asked marks idle
 
-pub holds_absent : (n : ℕ) (f : RelayConnection → RelayConnection) (b : List ℕ) (r : Router) (s : RelayState) → Quiet f → ((k : RelayConnection) → (f k).frames_taken ≡ k.frames_taken)
+pub holds_absent : (n : ℕ) (f : RelayConnection → RelayConnection) (b : List ℕ) (r : Router) (s : RelayState)
+    → Quiet f → ((k : RelayConnection) → (f k).frames_taken ≡ k.frames_taken)
     → Holds r b s → peer_in n r.peers.entries ≡ None → Holds r b (at_connection n f s)
 holds_absent n f b r s quiet taken h none = record {
   routes = λ net. h.routes net ∙ ap (λ (w : RelayWorld). rights_of net w.routes) (sym (world-change n f s));
@@ -296,19 +324,22 @@ holds_swept r b s h = record {
 }
 
 -- one peer is another that stands for the same connection
-pub peers_set : (n : ℕ) (b : List ℕ) (p q : Peer) (old new : Peers) (s : RelayState) → HoldsPeers old b s → peer_in n old ≡ Some p → Sets n q old new → ((k : RelayConnection) → Stands p k → Stands q k)
+pub peers_set : (n : ℕ) (b : List ℕ) (p q : Peer) (old new : Peers) (s : RelayState) → HoldsPeers old b s
+    → peer_in n old ≡ Some p → Sets n q old new → ((k : RelayConnection) → Stands p k → Stands q k)
     → q.blocked ≡ p.blocked → HoldsPeers new b s
 peers_set n b p q old new s h was sets stands blocked = record {
   numbers = sets.keys ∙ h.numbers;
   each = λ m. elim (cases_eq m n) [
     | inl e ↦ subst (λ j. IsPeerOf (peer_in j new) (connection_of j s.connections)) (sym e)
-        (subst (λ o. IsPeerOf o (connection_of n s.connections)) (sym sets.own) (own (connection_of n s.connections) (subst (λ o. IsPeerOf o (connection_of n s.connections)) was (h.each n))))
+        (subst (λ o. IsPeerOf o (connection_of n s.connections)) (sym sets.own)
+        (own (connection_of n s.connections) (subst (λ o. IsPeerOf o (connection_of n s.connections)) was (h.each n))))
     | inr ne ↦ subst (λ o. IsPeerOf o (connection_of m s.connections)) (sym (sets.others m ne)) (h.each m)
   ];
   apart = h.apart;
   marked = λ m. elim (cases_eq m n) [
     | inl e ↦ subst (λ j. IfSome (peer_in j new) (λ r. r.blocked ≡ is_among j b)) (sym e)
-        (subst (λ o. IfSome o (λ r. r.blocked ≡ is_among n b)) (sym sets.own) (blocked ∙ subst (λ o. IfSome o (λ r. r.blocked ≡ is_among n b)) was (h.marked n)))
+        (subst (λ o. IfSome o (λ r. r.blocked ≡ is_among n b)) (sym sets.own)
+        (blocked ∙ subst (λ o. IfSome o (λ r. r.blocked ≡ is_among n b)) was (h.marked n)))
     | inr ne ↦ subst (λ o. IfSome o (λ r. r.blocked ≡ is_among m b)) (sym (sets.others m ne)) (h.marked m)
   ];
   known = h.known;

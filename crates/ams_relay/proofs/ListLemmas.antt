@@ -1,5 +1,6 @@
 -- Lists that are filtered, searched, and without their first.
-use Rattle.std.proofs.Common.{◌≡◌, ℕ, zero, suc, ◌<◌, ◌≤◌, ◌⊎◌, List, [], ◌∷◌, ◌++◌, length, map, get_or, Bool, true, false, cond, refl, sym, ap, ◌∙◌, subst, inl, inr, arith}
+use Rattle.std.proofs.Common.{◌≡◌, ℕ, zero, suc, ◌<◌, ◌≤◌, ◌⊎◌, List, [], ◌∷◌, ◌++◌, length, map, get_or, Bool}
+use Rattle.std.proofs.Common.{true, false, cond, refl, sym, ap, ◌∙◌, subst, inl, inr, arith}
 use Rattle.std.specs.Prelude.{filter, find, drop, remove, position, nat_lt, ◌&&◌, Option, Some, None, option_map}
 use Rattle.std.specs.List.{position_or_len}
 use Rattle.std.proofs.lemmas.Bool.{cases_Bool, cond-true, cond-false, true≢false, ltb-false}
@@ -100,7 +101,8 @@ module _ {A : Type 0} where
   pub find-found : (T : A → Bool) (xs : List A) (x : A) → find T xs ≡ Some x → (T x ≡ true) × Among x xs
   find-found T [] x e = absurd (let no : ◌≡◌ {A = Option A} None (Some x) = e in cc)
   find-found T (y ∷ ys) x e = elim (cases_Bool (T y)) [
-    | inl t ↦ let some : ◌≡◌ {A = Option A} (Some y) (Some x) = sym (cond-true (T y) (Some y) (find T ys) t) ∙ e in let same : y ≡ x = cc in (sym (ap T same) ∙ t, inl same)
+    | inl t ↦ let some : ◌≡◌ {A = Option A} (Some y) (Some x) = sym (cond-true (T y) (Some y) (find T ys) t) ∙ e in
+        let same : y ≡ x = cc in (sym (ap T same) ∙ t, inl same)
     | inr t ↦ let rest = find-found T ys x (sym (cond-false (T y) (Some y) (find T ys) t) ∙ e) in (rest.0, inr rest.1)
   ]
 
@@ -144,7 +146,8 @@ without-among T x (y ∷ ys) among = elim (cases_Bool (T y)) [
 ]
 
 -- a filter that those pass which pass the test
-pub filter-without : (P T : Request → Bool) (xs : List Request) → ((x : Request) → Among x xs → T x ≡ true → P x ≡ true) → filter P (without_first T xs) ≡ without_first T (filter P xs)
+pub filter-without : (P T : Request → Bool) (xs : List Request) → ((x : Request) → Among x xs → T x ≡ true → P x ≡ true)
+    → filter P (without_first T xs) ≡ without_first T (filter P xs)
 filter-without P T [] pass = ap (filter P) (without-nil T) ∙ sym (without-nil T)
 filter-without P T (x ∷ xs) pass =
     let rest = filter-without P T xs (λ y among. pass y (inr among)) in
@@ -161,7 +164,8 @@ filter-without P T (x ∷ xs) pass =
     ]
 
 -- a filter that none of those pass which pass the test
-pub filter-without-other : (P T : Request → Bool) (xs : List Request) → ((x : Request) → Among x xs → T x ≡ true → P x ≡ false) → filter P (without_first T xs) ≡ filter P xs
+pub filter-without-other : (P T : Request → Bool) (xs : List Request)
+    → ((x : Request) → Among x xs → T x ≡ true → P x ≡ false) → filter P (without_first T xs) ≡ filter P xs
 filter-without-other P T [] pass = ap (filter P) (without-nil T)
 filter-without-other P T (x ∷ xs) pass =
     let rest = filter-without-other P T xs (λ y among. pass y (inr among)) in
@@ -196,7 +200,8 @@ module _ {A B : Type 0} (f : A → B) where
 
 module _ {A : Type 0} (f : A → Request) where
   -- what stands at the first place that passes
-  find-at : (T : Request → Bool) (xs : List A) (i : ℕ) → i < length xs → ((d : A) → T (f (get_or xs i d)) ≡ true) → ((k : ℕ) (d : A) → k < i → T (f (get_or xs k d)) ≡ false)
+  find-at : (T : Request → Bool) (xs : List A) (i : ℕ) → i < length xs
+      → ((d : A) → T (f (get_or xs i d)) ≡ true) → ((k : ℕ) (d : A) → k < i → T (f (get_or xs k d)) ≡ false)
       → (x : A) × (find T (map f xs) ≡ Some (f x)) × (map f (remove xs i) ≡ without_first T (map f xs))
   find-at T [] i below here before = absurd (omega (arith, below))
   find-at T (x ∷ xs) zero below here before =
@@ -224,11 +229,13 @@ module _ {A : Type 0} (f : A → Request) where
       mapped T [] = refl
       mapped T (x ∷ xs) = elim (cases_Bool (T (f x))) [
         | inl t ↦ cond-true (T (f x)) (Some (f x)) (find T (map f xs)) t ∙ ap (option_map f) (sym (cond-true (T (f x)) (Some x) (find (λ y. T (f y)) xs) t))
-        | inr t ↦ cond-false (T (f x)) (Some (f x)) (find T (map f xs)) t ∙ mapped T xs ∙ ap (option_map f) (sym (cond-false (T (f x)) (Some x) (find (λ y. T (f y)) xs) t))
+        | inr t ↦ cond-false (T (f x)) (Some (f x)) (find T (map f xs)) t ∙ mapped T xs
+            ∙ ap (option_map f) (sym (cond-false (T (f x)) (Some x) (find (λ y. T (f y)) xs) t))
       ]
 
       past : (ys : List A) → position (λ x. T (f x)) ys ≡ None → length ys ≤ position_or_len (λ x. T (f x)) ys
       past ys none = elim (cases_Bool (nat_lt (position_or_len (λ x. T (f x)) ys) (length ys))) [
-        | inl t ↦ absurd (let some = sym (cond-true (nat_lt (position_or_len (λ x. T (f x)) ys) (length ys)) (Some (position_or_len (λ x. T (f x)) ys)) None t) ∙ none in cc)
+        | inl t ↦ absurd (let some = sym
+            (cond-true (nat_lt (position_or_len (λ x. T (f x)) ys) (length ys)) (Some (position_or_len (λ x. T (f x)) ys)) None t) ∙ none in cc)
         | inr t ↦ ltb-false (position_or_len (λ x. T (f x)) ys) (length ys) t
       ]

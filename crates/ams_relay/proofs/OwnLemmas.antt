@@ -31,19 +31,22 @@ client_stays net = record { number = λ k. refl; gone = λ k. refl }
 pub heard_peer : (c : ℕ) (b : List ℕ) (k : RelayConnection) (r : Router) (s : RelayState) → Holds r b s → IsHeardAt c k s → Kept c r.peers.entries k
 heard_peer c b k r s h heard = peer_kept r.peers.entries b s c k h.peers heard.found (heard_parts k heard.heard).1
 
-pub heard_absent : (c : ℕ) (b : List ℕ) (k : RelayConnection) (r : Router) (s : RelayState) → Holds r b s → IsHeardAt c k s → peer_in c r.peers.entries ≡ None → ⊥
+pub heard_absent : (c : ℕ) (b : List ℕ) (k : RelayConnection) (r : Router) (s : RelayState)
+    → Holds r b s → IsHeardAt c k s → peer_in c r.peers.entries ≡ None → ⊥
 heard_absent c b k r s h heard none =
     let kept = heard_peer c b k r s h heard in
     (let no : ◌≡◌ {A = Option Peer} None (Some kept.peer) = sym none ∙ kept.found in cc)
 
 -- what it owns
-pub owned_is : (c : ℕ) (b : List ℕ) (k : RelayConnection) (p : Peer) (r : Router) (s : RelayState) → Holds r b s → IsHeardAt c k s → peer_in c r.peers.entries ≡ Some p → net_of p.owned ≡ k.client
+pub owned_is : (c : ℕ) (b : List ℕ) (k : RelayConnection) (p : Peer) (r : Router) (s : RelayState)
+    → Holds r b s → IsHeardAt c k s → peer_in c r.peers.entries ≡ Some p → net_of p.owned ≡ k.client
 owned_is c b k p r s h heard was =
     let kept = heard_peer c b k r s h heard in
     ap (λ (x : Peer). net_of x.owned) (some_same p kept.peer (sym was ∙ kept.found)) ∙ kept.stands.owned
 
 -- the source is another's
-pub taken_from_owned : (net : List ℕ) (owned : NetId) (k : RelayConnection) (ks : List RelayConnection) → Some owned.bytes ≡ k.client → not (bytes_eq owned.bytes net) ≡ is_taken_net net k ks
+pub taken_from_owned : (net : List ℕ) (owned : NetId) (k : RelayConnection) (ks : List RelayConnection)
+    → Some owned.bytes ≡ k.client → not (bytes_eq owned.bytes net) ≡ is_taken_net net k ks
 taken_from_owned net owned k ks e = by k.client e
   where
     by : (o : Owned) → Some owned.bytes ≡ o → not (bytes_eq owned.bytes net) ≡ is_taken_net net (record k { client = o }) ks
@@ -70,21 +73,25 @@ none_of None e = refl
 none_of (Some x) e = cc
 
 -- it owned it before
-pub owned_already : (c : ℕ) (b : List ℕ) (net : List ℕ) (owned : NetId) (k : RelayConnection) (p : Peer) (r : Router) (s : RelayState) → Holds r b s → IsHeardAt c k s → peer_in c r.peers.entries ≡ Some p
+pub owned_already : (c : ℕ) (b : List ℕ) (net : List ℕ) (owned : NetId) (k : RelayConnection) (p : Peer) (r : Router) (s : RelayState)
+    → Holds r b s → IsHeardAt c k s → peer_in c r.peers.entries ≡ Some p
     → p.owned ≡ Some owned → is_taken_net net k s.connections ≡ false → Holds r b (with_owner c net s)
 owned_already c b net owned k p r s h heard was own free =
     let client : Some owned.bytes ≡ k.client = sym (ap net_of own) ∙ owned_is c b k p r s h heard was in
     let differs : not (bytes_eq owned.bytes net) ≡ false = taken_from_owned net owned k s.connections client ∙ free in
     let same : owned.bytes ≡ net = bytes_same owned.bytes net (not_false (bytes_eq owned.bytes net) differs) in
     let is : k.client ≡ Some net = sym client ∙ ap (λ (x : List ℕ). Some x) same in
-    subst (Holds r b) (sym (changed-nothing c (with_client (Some net)) s (λ l e. ap (λ (o : Owned). record l { client = o }) (sym (ap (λ (x : RelayConnection). x.client) (some_same l k (sym e ∙ heard.found)) ∙ is))))) h
+    subst (Holds r b) (sym
+    (changed-nothing c (with_client (Some net)) s
+    (λ l e. ap (λ (o : Owned). record l { client = o }) (sym (ap (λ (x : RelayConnection). x.client) (some_same l k (sym e ∙ heard.found)) ∙ is))))) h
   where
     not_false : (x : Bool) → not x ≡ false → x ≡ true
     not_false true e = refl
     not_false false e = absurd (true≢false e)
 
 -- it owns it from here on: it asked nothing before
-requests_owned : (c : ℕ) (net : List ℕ) (k : RelayConnection) (p q : Peer) (old new : Peers) (s : RelayState) → connection_of c s.connections ≡ Some k → is_heard k ≡ true → k.client ≡ None → HoldsRequests old s
+requests_owned : (c : ℕ) (net : List ℕ) (k : RelayConnection) (p q : Peer) (old new : Peers) (s : RelayState)
+    → connection_of c s.connections ≡ Some k → is_heard k ≡ true → k.client ≡ None → HoldsRequests old s
     → peer_in c old ≡ Some p → Sets c q old new → q.asked.items ≡ p.asked.items → HoldsRequests new (with_owner c net s)
 requests_owned c net k p q old new s found heard nothing h was sets asked m x l at found_l heard_l = elim (cases_eq m c) [
   | inr ne ↦
@@ -98,7 +105,8 @@ requests_owned c net k p q old new s found heard nothing h was sets asked m x l 
       let machine = subst (λ xs. AreSame (hearing s.connections) c (requests_of c xs) s.world.requests) none before.same in
       let after = same_heard (hearing s.connections) (hearing t.connections) c [] s.world.requests same machine in
       subst (λ j. HoldsAsked x.asked.items j l t) (sym e)
-      (subst (λ xs. HoldsAsked xs c l t) (sym empty) (record { same = subst (λ rs. AreSame (hearing t.connections) c [] rs) (sym requests) after; own = tt; few = omega arith }))
+      (subst (λ xs. HoldsAsked xs c l t) (sym empty)
+      (record { same = subst (λ rs. AreSame (hearing t.connections) c [] rs) (sym requests) after; own = tt; few = omega arith }))
 ]
   where
     f : RelayConnection → RelayConnection
@@ -117,21 +125,31 @@ requests_owned c net k p q old new s found heard nothing h was sets asked m x l 
     nothing_asked [] own = refl
     nothing_asked (a ∷ more) own = absurd (let no : ◌≡◌ {A = Option (List ℕ)} None (Some a.source.net.bytes) = sym nothing ∙ own.0.source in cc)
 
-pub owns_now : (c : ℕ) (b : List ℕ) (net : NetId) (k : RelayConnection) (p : Peer) (old new : Router) (s : RelayState) → Holds old b s → IsHeardAt c k s → peer_in c old.peers.entries ≡ Some p → p.owned ≡ None
-    → is_taken_net net.bytes k s.connections ≡ false → Sets c (record p { owned = Some net }) old.peers.entries new.peers.entries → new.routes ≡ old.routes → new.counts ≡ old.counts
-    → owner_in net.bytes new.owners.entries ≡ Some c → ((other : List ℕ) → other ≢ net.bytes → owner_in other new.owners.entries ≡ owner_in other old.owners.entries) → OthersIdle new.touched new.peers.entries → Holds new b (with_owner c net.bytes s)
+pub owns_now : (c : ℕ) (b : List ℕ) (net : NetId) (k : RelayConnection) (p : Peer) (old new : Router) (s : RelayState)
+    → Holds old b s → IsHeardAt c k s → peer_in c old.peers.entries ≡ Some p → p.owned ≡ None
+    → is_taken_net net.bytes k s.connections ≡ false → Sets c (record p { owned = Some net }) old.peers.entries new.peers.entries
+    → new.routes ≡ old.routes → new.counts ≡ old.counts
+    → owner_in net.bytes new.owners.entries ≡ Some c
+    → ((other : List ℕ) → other ≢ net.bytes → owner_in other new.owners.entries ≡ owner_in other old.owners.entries)
+    → OthersIdle new.touched new.peers.entries → Holds new b (with_owner c net.bytes s)
 owns_now c b net k p old new s h heard was own free sets routes counts now others idle =
     let f = with_client (Some net.bytes) in
     let nothing : k.client ≡ None = sym (sym (ap net_of own) ∙ owned_is c b k p old s h heard was) in
-    let nobody : owner_of net.bytes s.connections ≡ None = none_of (owner_of net.bytes s.connections) (taken_from_none net.bytes k s.connections (sym nothing) ∙ free) in
+    let nobody : owner_of net.bytes s.connections ≡ None =
+    none_of (owner_of net.bytes s.connections) (taken_from_none net.bytes k s.connections (sym nothing) ∙ free) in
     record {
       routes = λ n. ap (rights_of n) routes ∙ h.routes n ∙ ap (λ (w : RelayWorld). rights_of n w.routes) (sym (world-change c f s));
       peers = peers_changed c f b b p (record p { owned = Some net }) old.peers.entries new.peers.entries s (client_stays net.bytes) h.peers was sets
-          (record { stands = λ l st. record { stream = st.stream; owned = refl; waiting = st.waiting; bytes_taken = st.bytes_taken; closing = st.closing }; marked = λ e. e }) (λ m ne. refl);
+          (record {
+            stands = λ l st. record { stream = st.stream; owned = refl; waiting = st.waiting; bytes_taken = st.bytes_taken; closing = st.closing };
+            marked = λ e. e;
+          }) (λ m ne. refl);
       owners = owners_own old.owners.entries new.owners.entries net.bytes c k (f k) s.connections (with_owner c net.bytes s).connections
-          (owner_is net.bytes old.owners.entries s.connections h.peers.apart h.owners ∙ ap (option_map number_of) nobody) now others (λ m ne. changed-other c m f (λ l. refl) ne s) heard.found
+          (owner_is net.bytes old.owners.entries s.connections h.peers.apart h.owners ∙ ap (option_map number_of) nobody) now others
+          (λ m ne. changed-other c m f (λ l. refl) ne s) heard.found
           (changed-own c f (λ l. refl) s ∙ ap (option_map f) heard.found) heard.heard refl nothing h.owners;
-      requests = requests_owned c net.bytes k p (record p { owned = Some net }) old.peers.entries new.peers.entries s heard.found heard.heard nothing h.requests was sets refl;
+      requests = requests_owned c net.bytes k p (record p { owned = Some net }) old.peers.entries
+          new.peers.entries s heard.found heard.heard nothing h.requests was sets refl;
       named = named_at c f s h.named;
       counts = ap counts_in counts ∙ h.counts ∙ sym (counts_changed c f (λ l. refl) (λ l. refl) s);
       idle = idle;

@@ -36,7 +36,8 @@ pub record Before (n : ℕ) (f : RelayConnection → RelayConnection) (k : Relay
   pub found : connection_of n ks ≡ Some connection
   pub is : f connection ≡ k
 
-pub before_change : (n : ℕ) (f : RelayConnection → RelayConnection) → Stays f → (s : RelayState) (k : RelayConnection) → connection_of n (at_connection n f s).connections ≡ Some k
+pub before_change : (n : ℕ) (f : RelayConnection → RelayConnection) → Stays f
+    → (s : RelayState) (k : RelayConnection) → connection_of n (at_connection n f s).connections ≡ Some k
     → Before n f k s.connections
 before_change n f stays s k e = go (connection_of n s.connections) refl
   where
@@ -45,11 +46,13 @@ before_change n f stays s k e = go (connection_of n s.connections) refl
     go (Some j) some = record {
       connection = j;
       found = some;
-      is = (let both : ◌≡◌ {A = Option RelayConnection} (Some (f j)) (Some k) = sym (changed-own n f stays.number s ∙ ap (option_map f) some) ∙ e in some_same (f j) k both);
+      is = (let both : ◌≡◌ {A = Option RelayConnection} (Some (f j)) (Some k) = sym (changed-own n f stays.number s ∙ ap (option_map f) some) ∙ e in
+          some_same (f j) k both);
     }
 
 -- an owner with another number stays one
-pub owner_forth : (n m : ℕ) (f : RelayConnection → RelayConnection) → Stays f → n ≢ m → (s : RelayState) (net : List ℕ) → IsOwner net m s.connections → IsOwner net m (at_connection n f s).connections
+pub owner_forth : (n m : ℕ) (f : RelayConnection → RelayConnection) → Stays f → n ≢ m
+    → (s : RelayState) (net : List ℕ) → IsOwner net m s.connections → IsOwner net m (at_connection n f s).connections
 owner_forth n m f stays ne s net o = record {
   connection = o.connection;
   found = changed-other n m f stays.number ne s ∙ o.found;
@@ -57,7 +60,8 @@ owner_forth n m f stays ne s net o = record {
   client = o.client;
 }
 
-pub owner_back : (n m : ℕ) (f : RelayConnection → RelayConnection) → Stays f → n ≢ m → (s : RelayState) (net : List ℕ) → IsOwner net m (at_connection n f s).connections → IsOwner net m s.connections
+pub owner_back : (n m : ℕ) (f : RelayConnection → RelayConnection) → Stays f → n ≢ m
+    → (s : RelayState) (net : List ℕ) → IsOwner net m (at_connection n f s).connections → IsOwner net m s.connections
 owner_back n m f stays ne s net o = record {
   connection = o.connection;
   found = sym (changed-other n m f stays.number ne s) ∙ o.found;
@@ -65,14 +69,16 @@ owner_back n m f stays ne s net o = record {
   client = o.client;
 }
 
-pub heard_same : (f : RelayConnection → RelayConnection) → Stays f → ((k : RelayConnection) → (f k).closing ≡ k.closing) → (k : RelayConnection) → is_heard (f k) ≡ is_heard k
+pub heard_same : (f : RelayConnection → RelayConnection) → Stays f
+    → ((k : RelayConnection) → (f k).closing ≡ k.closing) → (k : RelayConnection) → is_heard (f k) ≡ is_heard k
 heard_same f stays closing k = ap (λ b. not (b || (f k).gone)) (closing k) ∙ ap (λ b. not (k.closing || b)) (stays.gone k)
 
 pub heard_quiet : (f : RelayConnection → RelayConnection) → Quiet f → (k : RelayConnection) → is_heard (f k) ≡ is_heard k
 heard_quiet f quiet k = heard_same f quiet.stays quiet.closing k
 
 -- a change that leaves clients, and whether they are heard
-pub owners_quiet : (os : Owners) (n : ℕ) (f : RelayConnection → RelayConnection) → Quiet f → (s : RelayState) → HoldsOwners os s.connections → HoldsOwners os (at_connection n f s).connections
+pub owners_quiet : (os : Owners) (n : ℕ) (f : RelayConnection → RelayConnection) → Quiet f
+    → (s : RelayState) → HoldsOwners os s.connections → HoldsOwners os (at_connection n f s).connections
 owners_quiet os n f quiet s h = record {
   owned = λ net m e. forth net m (h.owned net m e);
   owners = λ net m o. h.owners net m (back net m o);
@@ -116,7 +122,8 @@ unheard_owner : (net : List ℕ) (n : ℕ) (ks : List RelayConnection) → IsUnh
 unheard_owner net n ks unheard o = true≢false (sym o.heard ∙ unheard o.connection o.found)
 
 -- a change of one that was not heard, and is not
-pub owners_unheard : (os : Owners) (n : ℕ) (ks ls : List RelayConnection) → ((m : ℕ) → n ≢ m → connection_of m ls ≡ connection_of m ks) → IsUnheard n ks → IsUnheard n ls → HoldsOwners os ks → HoldsOwners os ls
+pub owners_unheard : (os : Owners) (n : ℕ) (ks ls : List RelayConnection)
+    → ((m : ℕ) → n ≢ m → connection_of m ls ≡ connection_of m ks) → IsUnheard n ks → IsUnheard n ls → HoldsOwners os ks → HoldsOwners os ls
 owners_unheard os n ks ls others was is h = record {
   owned = λ net m e. forth net m (h.owned net m e);
   owners = λ net m o. h.owners net m (back net m o);
@@ -135,7 +142,8 @@ owners_unheard os n ks ls others was is h = record {
     ]
 
 -- one that owned nothing is no longer heard
-pub owners_ended : (os : Owners) (n : ℕ) (k : RelayConnection) (ks ls : List RelayConnection) → ((m : ℕ) → n ≢ m → connection_of m ls ≡ connection_of m ks) → connection_of n ks ≡ Some k → k.client ≡ None
+pub owners_ended : (os : Owners) (n : ℕ) (k : RelayConnection) (ks ls : List RelayConnection)
+    → ((m : ℕ) → n ≢ m → connection_of m ls ≡ connection_of m ks) → connection_of n ks ≡ Some k → k.client ≡ None
     → IsUnheard n ls → HoldsOwners os ks → HoldsOwners os ls
 owners_ended os n k ks ls others found nothing is h = record {
   owned = λ net m e. forth net m (h.owned net m e);
@@ -190,14 +198,18 @@ owners_disowned os ps own n k ks ls free same others found heard client is h = r
       | inl q ↦ absurd (unheard_owner net n ls is (subst (λ j. IsOwner net j ls) (sym q) o))
       | inr ne ↦
           let there = h.owners net m (record { connection = o.connection; found = sym (others m ne) ∙ o.found; heard = o.heard; client = o.client }) in
-          let other : net ≢ own = λ e. (let both : ◌≡◌ {A = Option ℕ} (Some n) (Some m) = sym (h.owners own n its_own) ∙ ap (λ x. owner_in x os) (sym e) ∙ there in ne (some_same n m both)) in
+          let other : net ≢ own =
+          λ e. (let both : ◌≡◌ {A = Option ℕ} (Some n) (Some m) = sym (h.owners own n its_own) ∙ ap (λ x. owner_in x os) (sym e) ∙ there in
+          ne (some_same n m both)) in
           same net other ∙ there
     ]
 
 -- a connection owns the source of its frame, which nobody owned
-pub owners_own : (os ps : Owners) (own : List ℕ) (n : ℕ) (k l : RelayConnection) (ks ls : List RelayConnection) → owner_in own os ≡ None → owner_in own ps ≡ Some n
+pub owners_own : (os ps : Owners) (own : List ℕ) (n : ℕ) (k l : RelayConnection) (ks ls : List RelayConnection)
+    → owner_in own os ≡ None → owner_in own ps ≡ Some n
     → ((net : List ℕ) → net ≢ own → owner_in net ps ≡ owner_in net os) → ((m : ℕ) → n ≢ m → connection_of m ls ≡ connection_of m ks)
-    → connection_of n ks ≡ Some k → connection_of n ls ≡ Some l → is_heard l ≡ true → l.client ≡ Some own → k.client ≡ None → HoldsOwners os ks → HoldsOwners ps ls
+    → connection_of n ks ≡ Some k → connection_of n ls ≡ Some l → is_heard l ≡ true
+    → l.client ≡ Some own → k.client ≡ None → HoldsOwners os ks → HoldsOwners ps ls
 owners_own os ps own n k l ks ls free now same others found then_ heard client nothing h = record {
   owned = λ net m e. owned net m e;
   owners = λ net m o. owners net m o;
@@ -220,7 +232,12 @@ owners_own os ps own n k l ks ls free now same others found then_ heard client n
       | inl q ↦
           let both : ◌≡◌ {A = Option ℕ} (Some n) (Some m) = sym now ∙ ap (λ x. owner_in x ps) (sym q) ∙ e in
           let number : n ≡ m = some_same n m both in
-          record { connection = l; found = ap (λ j. connection_of j ls) (sym number) ∙ then_; heard = heard; client = client ∙ ap (λ (x : List ℕ). Some x) (sym q) }
+          record {
+            connection = l;
+            found = ap (λ j. connection_of j ls) (sym number) ∙ then_;
+            heard = heard;
+            client = client ∙ ap (λ (x : List ℕ). Some x) (sym q);
+          }
       | inr ne ↦
           let o = h.owned net m (sym (same net ne) ∙ e) in
           record { connection = o.connection; found = others m (not_n net m o) ∙ o.found; heard = o.heard; client = o.client }
@@ -240,7 +257,8 @@ owners_own os ps own n k l ks ls free now same others found then_ heard client n
     ]
 
 -- a connection is opened
-pub owners_opened : (os : Owners) (n : ℕ) (ks : List RelayConnection) → connection_of n ks ≡ None → HoldsOwners os ks → HoldsOwners os (ks ++ fresh_connection None n ∷ [])
+pub owners_opened : (os : Owners) (n : ℕ) (ks : List RelayConnection) → connection_of n ks ≡ None
+    → HoldsOwners os ks → HoldsOwners os (ks ++ fresh_connection None n ∷ [])
 unfolding connection_of
 owners_opened os n ks new h = record {
   owned = λ net m e. (let o = h.owned net m e in record {
@@ -254,17 +272,22 @@ owners_opened os n ks new h = record {
   where
     one : (m : ℕ) (k : RelayConnection) → connection_of m (fresh_connection None n ∷ []) ≡ Some k → k.client ≡ None
     one m k e = elim (cases_eq n m) [
-      | inl q ↦ let both : ◌≡◌ {A = Option RelayConnection} (Some (fresh_connection None n)) (Some k) = sym (cond-true (n == m) (Some (fresh_connection None n)) None (test_same n m q)) ∙ e in
+      | inl q ↦ let both : ◌≡◌ {A = Option RelayConnection} (Some (fresh_connection None n)) (Some k) =
+          sym (cond-true (n == m) (Some (fresh_connection None n)) None (test_same n m q)) ∙ e in
           sym (ap (λ (x : RelayConnection). x.client) (some_same (fresh_connection None n) k both))
-      | inr q ↦ absurd (let no : ◌≡◌ {A = Option RelayConnection} None (Some k) = sym (cond-false (n == m) (Some (fresh_connection None n)) None (test_other n m q)) ∙ e in cc)
+      | inr q ↦ absurd (let no : ◌≡◌ {A = Option RelayConnection} None (Some k) = sym
+          (cond-false (n == m) (Some (fresh_connection None n)) None (test_other n m q)) ∙ e in cc)
     ]
 
-    back : (net : List ℕ) (m : ℕ) → IsOwner net m (ks ++ fresh_connection None n ∷ []) → (x : Option RelayConnection) → connection_of m ks ≡ x → owner_in net os ≡ Some m
+    back : (net : List ℕ) (m : ℕ) → IsOwner net m (ks ++ fresh_connection None n ∷ [])
+        → (x : Option RelayConnection) → connection_of m ks ≡ x → owner_in net os ≡ Some m
     back net m o (Some k) e =
-        let both : ◌≡◌ {A = Option RelayConnection} (Some k) (Some o.connection) = sym (connection_of-append m ks (fresh_connection None n ∷ []) ∙ ap (λ x. or_else x (connection_of m (fresh_connection None n ∷ []))) e) ∙ o.found in
+        let both : ◌≡◌ {A = Option RelayConnection} (Some k) (Some o.connection) =
+        sym (connection_of-append m ks (fresh_connection None n ∷ []) ∙ ap (λ x. or_else x (connection_of m (fresh_connection None n ∷ []))) e) ∙ o.found in
         h.owners net m (record { connection = o.connection; found = e ∙ both; heard = o.heard; client = o.client })
     back net m o None e =
-        let at = sym (connection_of-append m ks (fresh_connection None n ∷ []) ∙ ap (λ x. or_else x (connection_of m (fresh_connection None n ∷ []))) e) ∙ o.found in
+        let at = sym (connection_of-append m ks (fresh_connection None n ∷ []) ∙ ap (λ x. or_else x (connection_of m (fresh_connection None n ∷ []))) e)
+        ∙ o.found in
         absurd (let no : ◌≡◌ {A = Option (List ℕ)} None (Some net) = sym (one m o.connection at) ∙ o.client in cc)
 
 -- the owner that the machine finds
@@ -316,14 +339,17 @@ owner_absent net (j ∷ ks) e n o = elim (cases_Bool (is_heard j && owns net j.c
         | inl q ↦
             let both : ◌≡◌ {A = Option RelayConnection} (Some j) (Some o.connection) = sym (connection_of-same n j ks q) ∙ o.found in
             let same : j ≡ o.connection = some_same j o.connection both in
-            let passes = and_both (is_heard j) (owns net j.client) (ap is_heard same ∙ o.heard) (net_owned net j.client (ap (λ (x : RelayConnection). x.client) same ∙ o.client)) in
+            let passes = and_both (is_heard j) (owns net j.client) (ap is_heard same ∙ o.heard)
+            (net_owned net j.client (ap (λ (x : RelayConnection). x.client) same ∙ o.client)) in
             true≢false (sym passes ∙ t)
-        | inr q ↦ owner_absent net ks rest n (record { connection = o.connection; found = sym (connection_of-other n j ks q) ∙ o.found; heard = o.heard; client = o.client })
+        | inr q ↦ owner_absent net ks rest n
+            (record { connection = o.connection; found = sym (connection_of-other n j ks q) ∙ o.found; heard = o.heard; client = o.client })
       ]
 ]
 
 -- what the code finds is what the machine finds
-pub owner_is : (net : List ℕ) (os : Owners) (ks : List RelayConnection) → AreApart ks → HoldsOwners os ks → owner_in net os ≡ option_map number_of (owner_of net ks)
+pub owner_is : (net : List ℕ) (os : Owners) (ks : List RelayConnection) → AreApart ks
+    → HoldsOwners os ks → owner_in net os ≡ option_map number_of (owner_of net ks)
 owner_is net os ks apart h = by (owner_of net ks) refl
   where
     none : owner_of net ks ≡ None → (o : Option ℕ) → owner_in net os ≡ o → owner_in net os ≡ None

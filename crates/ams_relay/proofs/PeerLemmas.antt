@@ -54,7 +54,8 @@ taken_stands p held packet k s answer stream = record {
 }
 
 -- or none
-pub open_stands : (p : Peer) (held : Held) (k : RelayConnection) → Stands p k → cut.NotYet ≡ answer_of (history_of p k) → Represents held (after_next (history_of p k))
+pub open_stands : (p : Peer) (held : Held) (k : RelayConnection) → Stands p k
+    → cut.NotYet ≡ answer_of (history_of p k) → Represents held (after_next (history_of p k))
     → Stands (record p { stream = held }) k
 open_stands p held k s answer stream = record {
   stream = after_not_yet held (history_of p k) answer stream;
@@ -64,7 +65,8 @@ open_stands p held k s answer stream = record {
   closing = s.closing;
 }
 
-pub broken_stands : (p : Peer) (held : Held) (k : RelayConnection) → Stands p k → cut.Broken ≡ answer_of (history_of p k) → Represents held (after_next (history_of p k))
+pub broken_stands : (p : Peer) (held : Held) (k : RelayConnection) → Stands p k
+    → cut.Broken ≡ answer_of (history_of p k) → Represents held (after_next (history_of p k))
     → Stands (record p { stream = held }) k
 broken_stands p held k s answer stream = record {
   stream = after_broken held (history_of p k) answer stream;
@@ -109,10 +111,12 @@ pub fits_over : (p : Peer) (frame : List ℕ) (k : RelayConnection) → Stands p
 fits_over p frame k s over = let bytes = queued_bytes p k s in lt-leb (queued_of k + length frame) 4194304 (omega (arith, bytes, over))
 
 -- a frame waits behind the others
-pub frame_stands : (p q : Peer) (frame : List ℕ) (k : RelayConnection) → Stands p k → q ≡ record p { out = p.out ++ frame ∷ [] } → 0 < length frame → Stands q (with_frame (Reply frame) k)
+pub frame_stands : (p q : Peer) (frame : List ℕ) (k : RelayConnection) → Stands p k
+    → q ≡ record p { out = p.out ++ frame ∷ [] } → 0 < length frame → Stands q (with_frame (Reply frame) k)
 frame_stands p q frame k s is some =
     let given : length (joined (map bytes_of k.produced)) ≡ length (bytes_of_all k.produced) = ap (λ (bs : List ℕ). length bs) (joined_bytes k.produced) in
-    let all = ap (λ (bs : List ℕ). length bs) (flat_map-append bytes_of k.produced (Reply frame ∷ [])) ∙ length-append (bytes_of_all k.produced) (bytes_of_all (Reply frame ∷ [])) in
+    let all = ap (λ (bs : List ℕ). length bs) (flat_map-append bytes_of k.produced (Reply frame ∷ []))
+    ∙ length-append (bytes_of_all k.produced) (bytes_of_all (Reply frame ∷ [])) in
     subst (λ (r : Peer). Stands r (with_frame (Reply frame) k)) (sym is) (record {
       stream = s.stream;
       owned = s.owned;

@@ -1,5 +1,6 @@
 -- A request that was passed on waits for its response: of its asker the last ones do.
-use Rattle.std.proofs.Common.{◌≡◌, ◌≢◌, ℕ, ◌+◌, ◌<◌, ◌≤◌, ◌⊎◌, List, [], ◌∷◌, ◌++◌, length, map, get_or, Bool, true, false, cond, refl, sym, ap, ◌∙◌, subst, inl, inr, arith}
+use Rattle.std.proofs.Common.{◌≡◌, ◌≢◌, ℕ, ◌+◌, ◌<◌, ◌≤◌, ◌⊎◌, List, [], ◌∷◌, ◌++◌, length, map, get_or, Bool}
+use Rattle.std.proofs.Common.{true, false, cond, refl, sym, ap, ◌∙◌, subst, inl, inr, arith}
 use Rattle.std.specs.Prelude.{Option, Some, None, filter, drop, take, ◌&&◌, not, ◌||◌, ◌==◌, nat_lt, nat_le, if◌then◌else◌}
 use Rattle.std.proofs.lemmas.Bool.{cases_Bool, cases_eq, cases_lt, true≢false, eqb-true, lt-ltb, le-ltb, le-leb, lt-leb, cond-true, cond-false}
 use Rattle.std.proofs.lemmas.List.{length-map, map-append, length-append, length-drop, take_more}
@@ -21,7 +22,9 @@ use Rattle.ams_relay.specs.Peers.{Peers, peer_in, read_in, Sets}
 use Rattle.ams_relay.specs.Touched.{OthersIdle}
 use Rattle.ams_relay.specs.Taking.{IsHeardAt, IsOpenedAt, IsSwept, is_open, is_asked_heard}
 use Rattle.ams_relay.proofs.HoldLemmas.{peer_found, peer_absent, peers_same, peers_set}
-use Rattle.ams_relay.proofs.ListLemmas.{Among, all-pass, filter-yes, filter-no, filter-all, filter-append, filter-map, map-drop, filtered-among, length-filter, filter-without, filter-without-other, without-all, without-among}
+use Rattle.ams_relay.proofs.ListLemmas.{Among, all-pass, filter-yes, filter-no, filter-all, filter-append}
+use Rattle.ams_relay.proofs.ListLemmas.{filter-map, map-drop, filtered-among, length-filter, filter-without}
+use Rattle.ams_relay.proofs.ListLemmas.{filter-without-other, without-all, without-among}
 use Rattle.ams_relay.proofs.OwnerLemmas.{some_same}
 use Rattle.ams_relay.proofs.RequestLemmas.{hearing, is_heard_in, is_asked_in, heard_found, heard_none, deaf_gone}
 
@@ -66,11 +69,13 @@ module _ (s : RelayState) (swept : IsSwept s) (c d : ℕ) (k : RelayConnection) 
 
   -- a filter that the new one passes as far as its asked is heard
   last_heard : (rs : List Request) → filter (is_heard_in H) rs ≡ rs → filter (is_heard_in H) (rs ++ new ∷ []) ≡ rs ++ filter (is_asked_in H) (new ∷ [])
-  last_heard rs all = filter-append (is_heard_in H) rs (new ∷ []) ∙ ap (λ xs. xs ++ filter (is_heard_in H) (new ∷ [])) all ∙ ap (λ (t : Bool). rs ++ cond t (new ∷ []) []) new_heard
+  last_heard rs all = filter-append (is_heard_in H) rs (new ∷ [])
+      ∙ ap (λ xs. xs ++ filter (is_heard_in H) (new ∷ [])) all ∙ ap (λ (t : Bool). rs ++ cond t (new ∷ []) []) new_heard
 
   last_mine : filter (is_asked_by c) (filter (is_asked_in H) (new ∷ [])) ≡ filter (is_asked_in H) (new ∷ [])
   last_mine = elim (cases_Bool (is_asked_in H new)) [
-    | inl t ↦ ap (filter (is_asked_by c)) (filter-yes (is_asked_in H) new [] t) ∙ filter-yes (is_asked_by c) new [] new_mine ∙ sym (filter-yes (is_asked_in H) new [] t)
+    | inl t ↦ ap (filter (is_asked_by c)) (filter-yes (is_asked_in H) new [] t)
+        ∙ filter-yes (is_asked_by c) new [] new_mine ∙ sym (filter-yes (is_asked_in H) new [] t)
     | inr t ↦ ap (filter (is_asked_by c)) (filter-no (is_asked_in H) new [] t) ∙ sym (filter-no (is_asked_in H) new [] t)
   ]
 
@@ -107,7 +112,8 @@ module _ (s : RelayState) (swept : IsSwept s) (c d : ℕ) (k : RelayConnection) 
   before_other : (m : ℕ) → m ≢ c → filter (is_asked_by m) before ≡ filter (is_asked_by m) s.world.requests
   before_other m ne = elim (cases_Bool (nat_lt (length own) MAX_REQUESTS)) [
     | inl t ↦ rw t refl
-    | inr t ↦ rw t (filter-without-other (is_asked_by m) (is_asked_by c) s.world.requests (λ q among e. test_other q.asker m (λ f. ne (sym f ∙ eqb-true q.asker c e))))
+    | inr t ↦ rw t (filter-without-other (is_asked_by m) (is_asked_by c) s.world.requests
+        (λ q among e. test_other q.asker m (λ f. ne (sym f ∙ eqb-true q.asker c e))))
   ]
 
   mine_after : filter (is_asked_by c) (requests_heard s.connections after) ≡ kept ++ filter (is_asked_in H) (new ∷ [])
@@ -122,7 +128,8 @@ module _ (s : RelayState) (swept : IsSwept s) (c d : ℕ) (k : RelayConnection) 
   append_nil [] = refl
   append_nil (r ∷ rs) = ap (λ xs. r ∷ xs) (append_nil rs)
 
-  pub other_after : (m : ℕ) → m ≢ c → filter (is_asked_by m) (requests_heard s.connections after) ≡ filter (is_asked_by m) (requests_heard s.connections s.world.requests)
+  pub other_after : (m : ℕ) → m ≢ c
+      → filter (is_asked_by m) (requests_heard s.connections after) ≡ filter (is_asked_by m) (requests_heard s.connections s.world.requests)
   other_after m ne =
       ap (λ rs. filter (is_asked_by m) (requests_heard s.connections rs)) after_is
       ∙ ap (filter (is_asked_by m)) (last_heard before before_heard)
@@ -152,10 +159,12 @@ module _ (s : RelayState) (swept : IsSwept s) (c d : ℕ) (k : RelayConnection) 
       same ∙ sym (cond-true (nat_lt (length own) MAX_REQUESTS) own (drop 1 own) (lt-ltb (length own) MAX_REQUESTS less))
 
   -- where there was none: those that are heard, without the oldest where they are too many
-  pub kept_without_room : (asked left : List Asked) → HoldsAsked asked c k s → requests_of c left ≡ own → filter (is_asked_in H) (requests_of c (with_room left)) ≡ kept
+  pub kept_without_room : (asked left : List Asked) → HoldsAsked asked c k s
+      → requests_of c left ≡ own → filter (is_asked_in H) (requests_of c (with_room left)) ≡ kept
   kept_without_room asked left held is =
       let size : length left ≡ length own = sym (length-map left (request_of c)) ∙ ap length is in
-      let own_heard : (xs : List Request) → ((q : Request) → Among q xs → Among q own) → filter (is_asked_in H) xs ≡ xs = λ xs sub. filter-all (is_asked_in H) xs (λ q among. asked_heard q (sub q among)) in
+      let own_heard : (xs : List Request) → ((q : Request) → Among q xs → Among q own) → filter (is_asked_in H) xs ≡ xs =
+      λ xs sub. filter-all (is_asked_in H) xs (λ q among. asked_heard q (sub q among)) in
       elim (cases_Bool (nat_lt (length own) MAX_REQUESTS)) [
         | inl t ↦
             let less = ltb_less t in
@@ -209,12 +218,15 @@ module _ (s : RelayState) (swept : IsSwept s) (c d : ℕ) (k : RelayConnection) 
   }))
     where
       named_before : AreNamed s.connections before
-      named_before = elim (cases_Bool (nat_lt (length own) MAX_REQUESTS)) [ inl t ↦ rw t named | inr t ↦ rw t (named_without (is_asked_by c) s.world.requests named) ]
+      named_before = elim (cases_Bool (nat_lt (length own) MAX_REQUESTS))
+          [ inl t ↦ rw t named | inr t ↦ rw t (named_without (is_asked_by c) s.world.requests named) ]
 
 -- those that are heard, as the code keeps them
 pub heard_kept : (es : Peers) (b : List ℕ) (s : RelayState) (n : ℕ) (asked : List Asked) → HoldsPeers es b s → requests_of n (filter (is_asked_heard es) asked)
     ≡ filter (is_asked_in (hearing s.connections)) (requests_of n asked)
-heard_kept es b s n asked h = sym (filter-map (request_of n) (is_asked_in (hearing s.connections)) asked ∙ (λ i. map (request_of n) (filter (λ a. sym (heard_is es b s a.asked h) i) asked)))
+heard_kept es b s n asked h =
+    sym (filter-map (request_of n) (is_asked_in (hearing s.connections)) asked
+    ∙ (λ i. map (request_of n) (filter (λ a. sym (heard_is es b s a.asked h) i) asked)))
 
 own_filtered : (k : RelayConnection) (ks : List RelayConnection) (P : Asked → Bool) (asked : List Asked) → AreOwn k ks asked → AreOwn k ks (filter P asked)
 own_filtered k ks P [] own = tt
@@ -233,7 +245,8 @@ own_with_room k ks asked own = elim (cases_Bool (nat_le MAX_REQUESTS (length ask
     dropped [] own = tt
     dropped (x ∷ xs) own = own.1
 
-own_pushed : (k : RelayConnection) (ks : List RelayConnection) (asked : List Asked) (a : Asked) → AreOwn k ks asked → IsOwn k ks a → AreOwn k ks (asked ++ a ∷ [])
+own_pushed : (k : RelayConnection) (ks : List RelayConnection) (asked : List Asked) (a : Asked)
+    → AreOwn k ks asked → IsOwn k ks a → AreOwn k ks (asked ++ a ∷ [])
 own_pushed k ks [] a own one = (one, tt)
 own_pushed k ks (x ∷ xs) a own one = (own.0, own_pushed k ks xs a own.1 one)
 
@@ -247,12 +260,14 @@ room_left xs most = elim (cases_lt (length xs) MAX_REQUESTS) [
 ]
 
 -- one more of those that pass
-pub kept_more : (P : Asked → Bool) (xs : List Asked) (i : ℕ) (a : Asked) (ys zs : List Asked) → i < length xs → a ≡ get_or xs i a → ys ≡ filter P (take i xs) → zs ≡ (if P a then ys ++ a ∷ [] else ys)
+pub kept_more : (P : Asked → Bool) (xs : List Asked) (i : ℕ) (a : Asked) (ys zs : List Asked)
+    → i < length xs → a ≡ get_or xs i a → ys ≡ filter P (take i xs) → zs ≡ (if P a then ys ++ a ∷ [] else ys)
     → zs ≡ filter P (take (i + 1) xs)
 kept_more P xs i a ys zs within at before more =
     let longer : take (i + 1) xs ≡ take i xs ++ a ∷ [] =
     take_more xs i a within ∙ ap (λ (x : Asked). take i xs ++ x ∷ []) (sym at) in
-    let last : (if P a then ys ++ a ∷ [] else ys) ≡ ys ++ filter P (a ∷ []) = elim (cases_Bool (P a)) [ inl t ↦ rw t refl | inr t ↦ rw t (sym (append_nothing ys)) ] in
+    let last : (if P a then ys ++ a ∷ [] else ys) ≡ ys ++ filter P (a ∷ []) =
+    elim (cases_Bool (P a)) [ inl t ↦ rw t refl | inr t ↦ rw t (sym (append_nothing ys)) ] in
     more ∙ last ∙ ap (λ zs. zs ++ filter P (a ∷ [])) before ∙ sym (filter-append P (take i xs) (a ∷ [])) ∙ ap (filter P) (sym longer)
   where
     append_nothing : (ys : List Asked) → ys ++ [] ≡ ys
@@ -268,13 +283,18 @@ abbrev pub IsLeft : Peers → List Asked → List Asked → Type 0
 IsLeft es asked left = ((length asked < MAX_REQUESTS) × (left ≡ asked)) ⊎ (left ≡ with_room (filter (is_asked_heard es) asked))
 
 -- whichever it was: the asker's queue before, what is kept of it, and one more
-pub remembers : (old mid : Router) (b : List ℕ) (s : RelayState) (c d : ℕ) (k : RelayConnection) (head : AmsHeader) (p q : Peer) (left : List Asked) (a : Asked) → Holds old b s → IsSwept s → IsHeardAt c k s
-    → IsOpenedAt d s → k.client ≡ Some head.source.net → (head.command == DEVICE_NOTIFICATION) ≡ false → peer_in c old.peers.entries ≡ Some p → Sets c q old.peers.entries mid.peers.entries
-    → mid.routes ≡ old.routes → mid.owners.entries ≡ old.owners.entries → mid.counts ≡ old.counts → q.asked.items ≡ left ++ a ∷ [] → ((l : RelayConnection) → Stands p l → Stands q l) → q.blocked ≡ p.blocked
+pub remembers : (old mid : Router) (b : List ℕ) (s : RelayState) (c d : ℕ) (k : RelayConnection)
+    (head : AmsHeader) (p q : Peer) (left : List Asked) (a : Asked) → Holds old b s → IsSwept s → IsHeardAt c k s
+    → IsOpenedAt d s → k.client ≡ Some head.source.net → (head.command == DEVICE_NOTIFICATION) ≡ false
+    → peer_in c old.peers.entries ≡ Some p → Sets c q old.peers.entries mid.peers.entries
+    → mid.routes ≡ old.routes → mid.owners.entries ≡ old.owners.entries → mid.counts ≡ old.counts
+    → q.asked.items ≡ left ++ a ∷ [] → ((l : RelayConnection) → Stands p l → Stands q l) → q.blocked ≡ p.blocked
     → request_of c a ≡ request_from c d head → a.asked ≡ d → a.source.net.bytes ≡ head.source.net
     → IsLeft old.peers.entries p.asked.items left → OthersIdle mid.touched mid.peers.entries → Holds mid b (with_request_of c d head s)
-remembers old mid b s c d k head p q left a h swept heard opened client asks was sets routes owners counts asked stands blocked is asked_is source_is rest idle =
-    subst (Holds mid b) (sym (cond-false (head.command == DEVICE_NOTIFICATION) s (with_requests (with_request (request_from c d head) s.world.requests) s) asks)) (record {
+remembers old mid b s c d k head p q left a h swept heard opened client asks was
+    sets routes owners counts asked stands blocked is asked_is source_is rest idle =
+    subst (Holds mid b) (sym
+    (cond-false (head.command == DEVICE_NOTIFICATION) s (with_requests (with_request (request_from c d head) s.world.requests) s) asks)) (record {
       routes = λ net. ap (rights_of net) routes ∙ h.routes net;
       peers = peers_same mid.peers.entries b s after refl (peers_set c b p q old.peers.entries mid.peers.entries s h.peers was sets stands blocked);
       owners = subst (λ os. HoldsOwners os s.connections) (sym owners) h.owners;
@@ -302,7 +322,10 @@ remembers old mid b s c d k head p q left a h swept heard opened client asks was
     held = h.requests c p k was heard.found heard.heard
 
     one : IsOwn k s.connections a
-    one = record { source = client ∙ ap (λ (x : List ℕ). Some x) (sym source_is); opened = λ none. opened (ap (λ j. connection_of j s.connections) (sym asked_is) ∙ none) }
+    one = record {
+      source = client ∙ ap (λ (x : List ℕ). Some x) (sym source_is);
+      opened = λ none. opened (ap (λ j. connection_of j s.connections) (sym asked_is) ∙ none);
+    }
 
     pushed : (xs : List Asked) → length (xs ++ a ∷ []) ≡ length xs + 1
     pushed xs = length-append xs (a ∷ [])
@@ -312,7 +335,9 @@ remembers old mid b s c d k head p q left a h swept heard opened client asks was
       where
         by : IsLeft old.peers.entries p.asked.items left → HoldsAsked (left ++ a ∷ []) c k after
         by (inl room) = (let size = pushed left in let left_is = room.1 in record {
-          same = queued_after s swept c d k heard head left a is (ap (λ xs. filter (is_asked_in (hearing s.connections)) (requests_of c xs)) room.1 ∙ kept_with_room s swept c d k heard head p.asked.items held room.0);
+          same = queued_after s swept c d k heard head left a is
+              (ap (λ xs. filter (is_asked_in (hearing s.connections)) (requests_of c xs)) room.1
+              ∙ kept_with_room s swept c d k heard head p.asked.items held room.0);
           own = own_pushed k s.connections left a (subst (AreOwn k s.connections) (sym room.1) held.own) one;
           few = (let sizes = ap length room.1 in let less = room.0 in omega (arith, size, sizes, less));
         })
@@ -325,7 +350,11 @@ remembers old mid b s c d k head p q left a h swept heard opened client asks was
             let sizes = ap length none in
             let size = pushed left in
             record {
-              same = queued_after s swept c d k heard head left a is (ap (λ xs. filter (is_asked_in (hearing s.connections)) (requests_of c xs)) none ∙ kept_without_room s swept c d k heard head p.asked.items heard_only held mine);
-              own = own_pushed k s.connections left a (subst (AreOwn k s.connections) (sym none) (own_with_room k s.connections heard_only (own_filtered k s.connections (is_asked_heard old.peers.entries) p.asked.items held.own))) one;
+              same = queued_after s swept c d k heard head left a is
+                  (ap (λ xs. filter (is_asked_in (hearing s.connections)) (requests_of c xs)) none
+                  ∙ kept_without_room s swept c d k heard head p.asked.items heard_only held mine);
+              own = own_pushed k s.connections left a
+                  (subst (AreOwn k s.connections) (sym none)
+                  (own_with_room k s.connections heard_only (own_filtered k s.connections (is_asked_heard old.peers.entries) p.asked.items held.own))) one;
               few = omega (arith, few, most, less, sizes, size);
             })

@@ -32,7 +32,8 @@ asker_is : (n : ℕ) (r : Request) → is_asked_by n r ≡ true → r.asker ≡ 
 asker_is n r e = eqb-true r.asker n e
 
 -- fewer are heard, and the asker still is
-pub same_narrower : (H I : Hearing) (n : ℕ) (own all : List Request) → ((c : ℕ) → I c ≡ true → H c ≡ true) → I n ≡ true → AreSame H n own all → AreSame I n own all
+pub same_narrower : (H I : Hearing) (n : ℕ) (own all : List Request)
+    → ((c : ℕ) → I c ≡ true → H c ≡ true) → I n ≡ true → AreSame H n own all → AreSame I n own all
 same_narrower H I n own all narrower still same =
     sym (filter-finer (is_asked_in I) (is_asked_in H) own (λ r among yes. narrower r.asked yes))
     ∙ ap (filter (is_asked_in I)) same
@@ -52,7 +53,8 @@ same_narrower H I n own all narrower still same =
     ]
 
     -- of those of the asker that were heard, the ones whose asked still are
-    machine : (rs : List Request) → filter (is_asked_in I) (filter (is_asked_by n) (filter (is_heard_in H) rs)) ≡ filter (is_asked_by n) (filter (is_heard_in I) rs)
+    machine : (rs : List Request)
+        → filter (is_asked_in I) (filter (is_asked_by n) (filter (is_heard_in H) rs)) ≡ filter (is_asked_by n) (filter (is_heard_in I) rs)
     machine rs =
         filter-both (is_asked_in I) (is_asked_by n) (filter (is_heard_in H) rs)
         ∙ filter-both (λ r. is_asked_in I r && is_asked_by n r) (is_heard_in H) rs
@@ -68,7 +70,8 @@ pub same_dropped : (H : Hearing) (n : ℕ) (own all : List Request) → AreSame 
 same_dropped H n own all same = same ∙ ap (filter (is_asked_by n)) (sym (filter-finer (is_heard_in H) (is_heard_in H) all (λ r among yes. yes)))
 
 -- who is heard after a change of one connection
-pub heard_other : (n c : ℕ) (f : RelayConnection → RelayConnection) → Stays f → n ≢ c → (s : RelayState) → is_heard_among c (at_connection n f s).connections ≡ is_heard_among c s.connections
+pub heard_other : (n c : ℕ) (f : RelayConnection → RelayConnection) → Stays f → n ≢ c → (s : RelayState)
+    → is_heard_among c (at_connection n f s).connections ≡ is_heard_among c s.connections
 heard_other n c f stays ne s = ap found_heard (changed-other n c f stays.number ne s)
   where
     found_heard : Option RelayConnection → Bool
@@ -102,7 +105,8 @@ heard_there c ks e = by (connection_of c ks) refl
     by None none = absurd (true≢false (sym e ∙ heard_none c ks none))
     by (Some k) some = record { connection = k; found = some; heard = sym (heard_found c k ks some) ∙ e }
 
-pub heard_changed : (n c : ℕ) (f : RelayConnection → RelayConnection) → Stays f → ((k : RelayConnection) → (f k).closing ≡ k.closing) → (s : RelayState) → is_heard_among c (at_connection n f s).connections ≡ is_heard_among c s.connections
+pub heard_changed : (n c : ℕ) (f : RelayConnection → RelayConnection) → Stays f → ((k : RelayConnection) → (f k).closing ≡ k.closing)
+    → (s : RelayState) → is_heard_among c (at_connection n f s).connections ≡ is_heard_among c s.connections
 heard_changed n c f stays closing s = elim (cases_eq n c) [
   | inr ne ↦ heard_other n c f stays ne s
   | inl e ↦ subst (λ j. is_heard_among j (at_connection n f s).connections ≡ is_heard_among j s.connections) e (own (connection_of n s.connections) refl)

@@ -20,7 +20,9 @@ use Rattle.ams_relay.specs.Peers.{peer_in, Sets}
 use Rattle.ams_relay.specs.Touched.{OthersIdle}
 use Rattle.ams_relay.specs.Taking.{IsHeardAt, IsSwept, SpendsOne}
 use Rattle.ams_relay.proofs.HoldLemmas.{Kept, peer_kept, peers_same, peers_set}
-use Rattle.ams_relay.proofs.ListLemmas.{Among, all-pass, among-filtered, filtered-among, filter-all, filter-without, filter-without-other, find-found, find-filter, find-none, find-position, find-nowhere, without-among}
+use Rattle.ams_relay.proofs.ListLemmas.{Among, all-pass, among-filtered, filtered-among, filter-all}
+use Rattle.ams_relay.proofs.ListLemmas.{filter-without, filter-without-other, find-found, find-filter}
+use Rattle.ams_relay.proofs.ListLemmas.{find-none, find-position, find-nowhere, without-among}
 use Rattle.ams_relay.proofs.OwnerLemmas.{and_parts, bytes_same, some_same}
 use Rattle.ams_relay.proofs.RequestLemmas.{hearing, is_heard_in, is_asked_in, heard_found, heard_there, heard_parts}
 
@@ -47,7 +49,8 @@ place_within T [] i e = absurd (let no : ◌≡◌ {A = Option ℕ} None (Some i
 place_within T (a ∷ more) i e = (position-Some T (a ∷ more) i a e).0
 
 -- a request whose source its asker owns
-source_of : (k : RelayConnection) (ks : List RelayConnection) (n : ℕ) (asked : List Asked) → AreOwn k ks asked → (r : Request) → Among r (requests_of n asked) → k.client ≡ Some r.source.net
+source_of : (k : RelayConnection) (ks : List RelayConnection) (n : ℕ) (asked : List Asked)
+    → AreOwn k ks asked → (r : Request) → Among r (requests_of n asked) → k.client ≡ Some r.source.net
 source_of k ks n [] own r among = absurd among
 source_of k ks n (a ∷ more) own r (inl e) = own.0.source ∙ ap (λ (x : Request). Some x.source.net) e
 source_of k ks n (a ∷ more) own r (inr among) = source_of k ks n more own.1 r among
@@ -56,7 +59,8 @@ module _ (r : Router) (b : List ℕ) (s : RelayState) (h : Holds r b s) (swept :
   -- whoever asked a request that waits owns its source
   owner_of_request : (q : Request) → Among q s.world.requests → IsOwner q.source.net q.asker s.connections
   owner_of_request q among =
-      let both = and_parts (is_heard_among q.asker s.connections) (is_heard_among q.asked s.connections) (all-pass (is_heard_in (hearing s.connections)) s.world.requests swept q among) in
+      let both = and_parts (is_heard_among q.asker s.connections) (is_heard_among q.asked s.connections)
+      (all-pass (is_heard_in (hearing s.connections)) s.world.requests swept q among) in
       let there = heard_there q.asker s.connections both.0 in
       let parts = heard_parts there.connection there.heard in
       let kept = peer_kept r.peers.entries b s q.asker there.connection h.peers there.found parts.1 in
@@ -72,7 +76,8 @@ module _ (r : Router) (b : List ℕ) (s : RelayState) (h : Holds r b s) (swept :
       }
 
   -- the asker of a response's request is the owner of its target
-  asker_is_owner : (c : ℕ) (head : AmsHeader) (q : Request) → Among q s.world.requests → is_answered_by c head q ≡ true → owner_in head.target.net r.owners.entries ≡ Some q.asker
+  asker_is_owner : (c : ℕ) (head : AmsHeader) (q : Request) → Among q s.world.requests
+      → is_answered_by c head q ≡ true → owner_in head.target.net r.owners.entries ≡ Some q.asker
   asker_is_owner c head q among e =
       let facts = answers_is c head q e in
       ap (λ net. owner_in net r.owners.entries) (sym facts.net) ∙ h.owners.owners q.source.net q.asker (owner_of_request q among)
@@ -97,7 +102,8 @@ module _ (r : Router) (b : List ℕ) (s : RelayState) (h : Holds r b s) (swept :
     asked_heard q e = ap (λ j. is_heard_among j s.connections) (answers_is c head q e).asked ∙ heard_found c k s.connections heard.found ∙ heard.heard
 
     -- the machine finds it in the queue of its asker
-    found_in_queue : (asked : List Asked) (l : RelayConnection) → HoldsAsked asked a l s → request_answered c head s.world.requests ≡ find test (requests_of a asked)
+    found_in_queue : (asked : List Asked) (l : RelayConnection) → HoldsAsked asked a l s
+        → request_answered c head s.world.requests ≡ find test (requests_of a asked)
     found_in_queue asked l held =
         sym (find-filter (is_asked_by a) test s.world.requests mine)
         ∙ ap (λ rs. find test (filter (is_asked_by a) rs)) (sym swept)
@@ -109,10 +115,12 @@ module _ (r : Router) (b : List ℕ) (s : RelayState) (h : Holds r b s) (swept :
 
     -- what is left is heard
     rest_swept : requests_heard s.connections rest ≡ rest
-    rest_swept = filter-all (is_heard_in (hearing s.connections)) rest (λ q among. all-pass (is_heard_in (hearing s.connections)) s.world.requests swept q (without-among test q s.world.requests among))
+    rest_swept = filter-all (is_heard_in (hearing s.connections)) rest
+        (λ q among. all-pass (is_heard_in (hearing s.connections)) s.world.requests swept q (without-among test q s.world.requests among))
 
     -- the queue of its asker without it
-    spent_own : (asked left : List Asked) (l : RelayConnection) → HoldsAsked asked a l s → requests_of a left ≡ without_first test (requests_of a asked) → AreOwn l s.connections left → length left ≤ length asked
+    spent_own : (asked left : List Asked) (l : RelayConnection) → HoldsAsked asked a l s
+        → requests_of a left ≡ without_first test (requests_of a asked) → AreOwn l s.connections left → length left ≤ length asked
         → HoldsAsked left a l (with_requests rest s)
     spent_own asked left l held is own fewer = record {
       same = ap (filter (is_asked_in (hearing s.connections))) is
@@ -152,7 +160,12 @@ module _ (r : Router) (b : List ℕ) (s : RelayState) (h : Holds r b s) (swept :
     asker : Asker
     asker =
         let o = h.owners.owned head.target.net a owned in
-        record { connection = o.connection; found = o.found; hears = o.heard; kept = peer_kept r.peers.entries b s a o.connection h.peers o.found (heard_parts o.connection o.heard).1 }
+        record {
+          connection = o.connection;
+          found = o.found;
+          hears = o.heard;
+          kept = peer_kept r.peers.entries b s a o.connection h.peers o.found (heard_parts o.connection o.heard).1;
+        }
 
     -- so it has a place
     pub asker_absent : peer_in a r.peers.entries ≡ None → ⊥
@@ -162,7 +175,8 @@ module _ (r : Router) (b : List ℕ) (s : RelayState) (h : Holds r b s) (swept :
     queue : (p : Peer) → peer_in a r.peers.entries ≡ Some p → HoldsAsked p.asked.items a asker.connection s
     queue p at = h.requests a p asker.connection at asker.found asker.hears
 
-    pub none_waits : (p : Peer) → peer_in a r.peers.entries ≡ Some p → position (λ x. test (request_of a x)) p.asked.items ≡ None → request_answered c head s.world.requests ≡ None
+    pub none_waits : (p : Peer) → peer_in a r.peers.entries ≡ Some p
+        → position (λ x. test (request_of a x)) p.asked.items ≡ None → request_answered c head s.world.requests ≡ None
     none_waits p at none = found_in_queue p.asked.items asker.connection (queue p at) ∙ find-nowhere (request_of a) test p.asked.items none
 
     own_removed : (l : RelayConnection) (ks : List RelayConnection) (asked : List Asked) (i : ℕ) → AreOwn l ks asked → AreOwn l ks (remove asked i)
@@ -177,7 +191,8 @@ module _ (r : Router) (b : List ℕ) (s : RelayState) (h : Holds r b s) (swept :
     length_removed (x ∷ xs) zero = omega arith
     length_removed (x ∷ xs) (suc i) = let rest = length_removed xs i in omega (arith, rest)
 
-    pub spends : (new : Router) (p q : Peer) (i : ℕ) → peer_in a r.peers.entries ≡ Some p → Sets a q r.peers.entries new.peers.entries → new.routes ≡ r.routes → new.owners.entries ≡ r.owners.entries
+    pub spends : (new : Router) (p q : Peer) (i : ℕ) → peer_in a r.peers.entries ≡ Some p
+        → Sets a q r.peers.entries new.peers.entries → new.routes ≡ r.routes → new.owners.entries ≡ r.owners.entries
         → new.counts ≡ r.counts → q.asked.items ≡ remove p.asked.items i → ((l : RelayConnection) → Stands p l → Stands q l) → q.blocked ≡ p.blocked
         → position (λ x. test (request_of a x)) p.asked.items ≡ Some i → OthersIdle new.touched new.peers.entries → SpendsOne a c head new b s
     spends new p q i at sets routes owners counts asked stands blocked e idle =
@@ -192,7 +207,8 @@ module _ (r : Router) (b : List ℕ) (s : RelayState) (h : Holds r b s) (swept :
           asked = refl;
           holds = record {
             routes = λ net. ap (rights_of net) routes ∙ h.routes net;
-            peers = peers_same new.peers.entries b s (with_requests rest s) refl (peers_set a b p q r.peers.entries new.peers.entries s h.peers at sets stands blocked);
+            peers = peers_same new.peers.entries b s (with_requests rest s) refl
+                (peers_set a b p q r.peers.entries new.peers.entries s h.peers at sets stands blocked);
             owners = subst (λ os. HoldsOwners os s.connections) (sym owners) h.owners;
             requests = λ m x l is conn heard_l. elim (cases_eq m a) [
               | inl same ↦
@@ -201,7 +217,8 @@ module _ (r : Router) (b : List ℕ) (s : RelayState) (h : Holds r b s) (swept :
                   subst (λ j. HoldsAsked x.asked.items j l (with_requests rest s)) (sym same)
                   (subst (λ (y : Peer). HoldsAsked y.asked.items a l (with_requests rest s)) (sym x_is)
                   (subst (λ y. HoldsAsked left a y (with_requests rest s)) (sym l_is)
-                  (spent_own p.asked.items left asker.connection held left_is (subst (AreOwn asker.connection s.connections) (sym asked) (own_removed asker.connection s.connections p.asked.items i held.own)) fewer)))
+                  (spent_own p.asked.items left asker.connection held left_is
+                  (subst (AreOwn asker.connection s.connections) (sym asked) (own_removed asker.connection s.connections p.asked.items i held.own)) fewer)))
               | inr ne ↦ spent_other x.asked.items m l ne (h.requests m x l (sym (sets.others m ne) ∙ is) conn heard_l)
             ];
             named = named_without s.world.requests h.named;

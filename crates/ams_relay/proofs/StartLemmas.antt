@@ -15,7 +15,8 @@ pub starts : (r : Router) (d : Description) → ((net : List ℕ) → rights_of 
 unfolding connection_of
 starts r d routes peers owners counts = record {
   routes = routes;
-  peers = subst (λ es. HoldsPeers es [] (relay_start d)) (sym peers) (record { numbers = refl; each = λ n. tt; apart = tt; marked = λ n. tt; known = λ n e. refl });
+  peers = subst (λ es. HoldsPeers es [] (relay_start d)) (sym peers)
+      (record { numbers = refl; each = λ n. tt; apart = tt; marked = λ n. tt; known = λ n e. refl });
   owners = subst (λ os. HoldsOwners os []) (sym owners) (record {
     owned = λ net n e. absurd (let no : ◌≡◌ {A = Option ℕ} None (Some n) = e in cc);
     owners = λ net n o. absurd (let no : None ≡ Some o.connection = o.found in cc);

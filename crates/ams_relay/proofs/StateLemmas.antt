@@ -134,7 +134,8 @@ pub record Quiet (f : RelayConnection → RelayConnection) : Type 0 where
   pub closing : (k : RelayConnection) → (f k).closing ≡ k.closing
 
 -- a change of one connection, by the list
-pub changed-list : (n : ℕ) (f : RelayConnection → RelayConnection) (s : RelayState) (P : List RelayConnection → Type 0) → (connection_of n s.connections ≡ None → P s.connections)
+pub changed-list : (n : ℕ) (f : RelayConnection → RelayConnection) (s : RelayState) (P : List RelayConnection → Type 0)
+    → (connection_of n s.connections ≡ None → P s.connections)
     → ((k : RelayConnection) → connection_of n s.connections ≡ Some k → P (put_back (f k) s.connections)) → P (at_connection n f s).connections
 changed-list n f s P none some = go (connection_of n s.connections) refl
   where
@@ -154,7 +155,8 @@ numbers-behind j ks ls same = elim (cases_Bool j.gone) [
   | inr e ↦ ap (map number_of) (present-there j ks e) ∙ ap (λ ms. j.number ∷ ms) same ∙ sym (ap (map number_of) (present-there j ls e))
 ]
 
-numbers-put_back : (n : ℕ) (l k : RelayConnection) (ks : List RelayConnection) → connection_of n ks ≡ Some k → l.number ≡ n → l.gone ≡ k.gone → numbers_in (put_back l ks) ≡ numbers_in ks
+numbers-put_back : (n : ℕ) (l k : RelayConnection) (ks : List RelayConnection)
+    → connection_of n ks ≡ Some k → l.number ≡ n → l.gone ≡ k.gone → numbers_in (put_back l ks) ≡ numbers_in ks
 unfolding put_back
 numbers-put_back n l k [] found number gone = refl
 numbers-put_back n l k (j ∷ ks) found number gone = elim (cases_eq j.number n) [
@@ -176,7 +178,8 @@ pub changed-apart : (n : ℕ) (f : RelayConnection → RelayConnection) (s : Rel
 changed-apart n f s apart = changed-list n f s AreApart (λ e. apart) (λ k e. AreApart-put_back (f k) s.connections apart)
 
 -- a change that changes nothing
-pub changed-nothing : (n : ℕ) (f : RelayConnection → RelayConnection) (s : RelayState) → ((k : RelayConnection) → connection_of n s.connections ≡ Some k → f k ≡ k) → at_connection n f s ≡ s
+pub changed-nothing : (n : ℕ) (f : RelayConnection → RelayConnection) (s : RelayState)
+    → ((k : RelayConnection) → connection_of n s.connections ≡ Some k → f k ≡ k) → at_connection n f s ≡ s
 changed-nothing n f s same = go (connection_of n s.connections) refl
   where
     go : (o : Option RelayConnection) → connection_of n s.connections ≡ o → after_exchange o (λ x. record x { connection = f x.connection }) s ≡ s
@@ -203,12 +206,15 @@ ended-head n l j ks number gone there rest (f ∷ fs) e =
           ∙ sym (ap numbers_in (put_back-other l j ks (λ r. q (r ∙ number))) ∙ ap (map number_of) (present-there j (put_back l ks) there))
     ]
 
-pub numbers-ended : (n : ℕ) (l k : RelayConnection) (es : Peers) (ks : List RelayConnection) → connection_of n ks ≡ Some k → k.gone ≡ false → l.number ≡ n → l.gone ≡ true
+pub numbers-ended : (n : ℕ) (l k : RelayConnection) (es : Peers) (ks : List RelayConnection)
+    → connection_of n ks ≡ Some k → k.gone ≡ false → l.number ≡ n → l.gone ≡ true
     → keys_of es ≡ numbers_in ks → keys_of (remove_entry (λ j. n == j) es) ≡ numbers_in (put_back l ks)
 numbers-ended n l k es [] found there number gone keys = absurd (let no : ◌≡◌ {A = Option RelayConnection} None (Some k) = sym (none_of_nil n) ∙ found in cc)
 numbers-ended n l k es (j ∷ ks) found there number gone keys = elim (cases_Bool j.gone) [
   | inl g ↦
-      let q : j.number ≢ n = λ q. (let both = sym (connection_of-same n j ks q) ∙ found in let same : j ≡ k = cc in let no : true ≡ false = sym g ∙ ap (λ (x : RelayConnection). x.gone) same ∙ there in cc) in
+      let q : j.number ≢ n =
+      λ q. (let both = sym (connection_of-same n j ks q) ∙ found in let same : j ≡ k = cc in
+      let no : true ≡ false = sym g ∙ ap (λ (x : RelayConnection). x.gone) same ∙ there in cc) in
       let rest = numbers-ended n l k es ks (sym (connection_of-other n j ks q) ∙ found) there number gone (keys ∙ ap (map number_of) (present-gone j ks g)) in
       rest ∙ sym (ap numbers_in (put_back-other l j ks (λ r. q (r ∙ number))) ∙ ap (map number_of) (present-gone j (put_back l ks) g))
   | inr g ↦
@@ -225,7 +231,8 @@ frames-cons k ks =
     sum-map (λ (x : RelayConnection). x.frames_taken) (k ∷ ks) ∙ sum_by-cons (λ (x : RelayConnection). x.frames_taken) k ks
     ∙ ap (λ m. k.frames_taken + m) (sym (sum-map (λ (x : RelayConnection). x.frames_taken) ks))
 
-pub frames-put_back : (n more : ℕ) (l k : RelayConnection) (ks : List RelayConnection) → connection_of n ks ≡ Some k → l.number ≡ n → l.frames_taken ≡ k.frames_taken + more
+pub frames-put_back : (n more : ℕ) (l k : RelayConnection) (ks : List RelayConnection)
+    → connection_of n ks ≡ Some k → l.number ≡ n → l.frames_taken ≡ k.frames_taken + more
     → frames_in (put_back l ks) ≡ frames_in ks + more
 unfolding put_back
 frames-put_back n more l k [] found number taken = absurd (let no : ◌≡◌ {A = Option RelayConnection} None (Some k) = sym (none_of_nil n) ∙ found in cc)
@@ -252,7 +259,8 @@ length-put_back l (k ∷ ks) = elim (cases_eq k.number l.number) [
 ]
 
 -- counts of connections and of frames after a change
-pub changed-frames : (n : ℕ) (f : RelayConnection → RelayConnection) → ((k : RelayConnection) → (f k).number ≡ k.number) → ((k : RelayConnection) → (f k).frames_taken ≡ k.frames_taken) → (s : RelayState)
+pub changed-frames : (n : ℕ) (f : RelayConnection → RelayConnection) → ((k : RelayConnection) → (f k).number ≡ k.number)
+    → ((k : RelayConnection) → (f k).frames_taken ≡ k.frames_taken) → (s : RelayState)
     → frames_in (at_connection n f s).connections ≡ frames_in s.connections
 changed-frames n f number same s =
     changed-list n f s (λ ks. frames_in ks ≡ frames_in s.connections) (λ e. refl)
@@ -261,16 +269,19 @@ changed-frames n f number same s =
 pub changed-length : (n : ℕ) (f : RelayConnection → RelayConnection) (s : RelayState) → length (at_connection n f s).connections ≡ length s.connections
 changed-length n f s = changed-list n f s (λ ks. length ks ≡ length s.connections) (λ e. refl) (λ k e. length-put_back (f k) s.connections)
 
-pub changed-more-frames : (n : ℕ) (f : RelayConnection → RelayConnection) → ((k : RelayConnection) → (f k).number ≡ k.number) → ((k : RelayConnection) → (f k).frames_taken ≡ k.frames_taken + 1) → (s : RelayState)
+pub changed-more-frames : (n : ℕ) (f : RelayConnection → RelayConnection) → ((k : RelayConnection) → (f k).number ≡ k.number)
+    → ((k : RelayConnection) → (f k).frames_taken ≡ k.frames_taken + 1) → (s : RelayState)
     → (k : RelayConnection) → connection_of n s.connections ≡ Some k → frames_in (at_connection n f s).connections ≡ frames_in s.connections + 1
 changed-more-frames n f number more s k found =
-    changed-list n f s (λ ks. frames_in ks ≡ frames_in s.connections + 1) (λ e. absurd (let no : ◌≡◌ {A = Option RelayConnection} None (Some k) = sym e ∙ found in cc))
+    changed-list n f s (λ ks. frames_in ks ≡ frames_in s.connections + 1)
+    (λ e. absurd (let no : ◌≡◌ {A = Option RelayConnection} None (Some k) = sym e ∙ found in cc))
     (λ j e. frames-put_back n 1 (f j) j s.connections e (number j ∙ number_of_found n j s.connections e) (more j))
 
 -- whoever was opened is found after a change
 pub changed-none : (n m : ℕ) (f : RelayConnection → RelayConnection) → (s : RelayState) → connection_of m (at_connection n f s).connections ≡ None
     → connection_of m s.connections ≡ None
-changed-none n m f s e = changed-list n f s (λ ks. connection_of m ks ≡ None → connection_of m s.connections ≡ None) (λ none q. q) (λ k some q. was_none m (f k) s.connections q) e
+changed-none n m f s e = changed-list n f s (λ ks. connection_of m ks ≡ None → connection_of m s.connections ≡ None)
+    (λ none q. q) (λ k some q. was_none m (f k) s.connections q) e
 
 -- the numbers of those that are there differ
 none_among : (n : ℕ) (ks : List RelayConnection) → connection_of n ks ≡ None → AllByRecursion (λ m. nat_eq n m ≡ false) (numbers_in ks)
@@ -279,7 +290,8 @@ none_among n (k ∷ ks) none =
     let rest = none_among n ks (none_behind n k ks none) in
     elim (cases_Bool k.gone) [
       | inl g ↦ subst (AllByRecursion (λ m. nat_eq n m ≡ false)) (sym (ap (map number_of) (present-gone k ks g))) rest
-      | inr g ↦ subst (AllByRecursion (λ m. nat_eq n m ≡ false)) (sym (ap (map number_of) (present-there k ks g))) (test_other n k.number (λ e. number_differs n k ks none (sym e)), rest)
+      | inr g ↦ subst (AllByRecursion (λ m. nat_eq n m ≡ false)) (sym (ap (map number_of) (present-there k ks g)))
+          (test_other n k.number (λ e. number_differs n k ks none (sym e)), rest)
     ]
 
 pub numbers-distinct : (ks : List RelayConnection) → AreApart ks → IsDistinct nat_eq (numbers_in ks)

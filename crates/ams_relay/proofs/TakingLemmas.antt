@@ -36,11 +36,13 @@ use Rattle.ams_relay.proofs.StateLemmas.{Quiet, changed-nothing, changed-length,
 use Rattle.ams_relay.proofs.StreamLemmas.{packet_is_next, rest_is_open, rest_is_broken}
 
 -- nothing more is taken of a connection that is closing
-frames-closing : (c : ℕ) (k : RelayConnection) (packets : List (List ℕ)) (s : RelayState) → connection_of c s.connections ≡ Some k → k.closing ≡ true → after_frames c packets s ≡ s
+frames-closing : (c : ℕ) (k : RelayConnection) (packets : List (List ℕ)) (s : RelayState)
+    → connection_of c s.connections ≡ Some k → k.closing ≡ true → after_frames c packets s ≡ s
 unfolding after_frames after_frame
 frames-closing c k [] s found closing = refl
 frames-closing c k (packet ∷ packets) s found closing =
-    let same : after_frame c packet s ≡ s = ap (after_frame_of c packet s) found ∙ cond-true k.closing s (after_header c packet k (with_frame_taken c s) (header_of packet)) closing in
+    let same : after_frame c packet s ≡ s =
+    ap (after_frame_of c packet s) found ∙ cond-true k.closing s (after_header c packet k (with_frame_taken c s) (header_of packet)) closing in
     ap (after_frames c packets) same ∙ frames-closing c k packets s found closing
 
 rest-closing : (k : RelayConnection) → k.closing ≡ true → after_rest k ≡ k
@@ -56,21 +58,27 @@ end-closing c k s found closing =
     ∙ changed-nothing c after_rest s (λ j e. rest-closing j (ap (λ (x : RelayConnection). x.closing) (some_same j k (sym e ∙ found)) ∙ closing))
 
 -- no packet is left
-end-none : (c : ℕ) (k : RelayConnection) (s : RelayState) → connection_of c s.connections ≡ Some k → packets_left k ≡ [] → end_of_piece c s ≡ at_connection c after_rest s
+end-none : (c : ℕ) (k : RelayConnection) (s : RelayState) → connection_of c s.connections ≡ Some k
+    → packets_left k ≡ [] → end_of_piece c s ≡ at_connection c after_rest s
 unfolding after_frames
 end-none c k s found none = ap (λ ps. at_connection c after_rest (after_frames c ps s)) (ap packets_of found ∙ none)
 
-pub end-open : (c : ℕ) (k : RelayConnection) (s : RelayState) → connection_of c s.connections ≡ Some k → packets_left k ≡ [] → is_broken (front_of (rest_of k.received)) ≡ false → end_of_piece c s ≡ s
+pub end-open : (c : ℕ) (k : RelayConnection) (s : RelayState) → connection_of c s.connections ≡ Some k
+    → packets_left k ≡ [] → is_broken (front_of (rest_of k.received)) ≡ false → end_of_piece c s ≡ s
 end-open c k s found none rest =
     end-none c k s found none
-    ∙ changed-nothing c after_rest s (λ j e. subst (λ x. after_rest x ≡ x) (sym (some_same j k (sym e ∙ found))) (cond-false (is_broken (front_of (rest_of k.received))) (with_closing k) k rest))
+    ∙ changed-nothing c after_rest s
+    (λ j e. subst (λ x. after_rest x ≡ x) (sym (some_same j k (sym e ∙ found)))
+    (cond-false (is_broken (front_of (rest_of k.received))) (with_closing k) k rest))
 
-pub end-broken : (c : ℕ) (k : RelayConnection) (s : RelayState) → connection_of c s.connections ≡ Some k → packets_left k ≡ [] → is_broken (front_of (rest_of k.received)) ≡ true
+pub end-broken : (c : ℕ) (k : RelayConnection) (s : RelayState) → connection_of c s.connections ≡ Some k
+    → packets_left k ≡ [] → is_broken (front_of (rest_of k.received)) ≡ true
     → end_of_piece c s ≡ at_connection c with_closing s
 end-broken c k s found none rest =
     end-none c k s found none
     ∙ ap (λ o. after_exchange o (λ x. record x { connection = after_rest x.connection }) s) found
-    ∙ ap (λ (l : RelayConnection). record s { connections = put_back l s.connections }) (cond-true (is_broken (front_of (rest_of k.received))) (with_closing k) k rest)
+    ∙ ap (λ (l : RelayConnection). record s { connections = put_back l s.connections })
+    (cond-true (is_broken (front_of (rest_of k.received))) (with_closing k) k rest)
     ∙ sym (ap (λ o. after_exchange o (λ x. record x { connection = with_closing x.connection }) s) found)
 
 -- a connection behind a frame of its own
@@ -96,10 +104,17 @@ behind c packet k s found is_open = by (connection_of c (after_frame c packet s)
         let pair : ◌≡◌ {A = Option (List ℕ × ℕ)} (Some (l.received, l.frames_taken)) (Some (k.received, k.frames_taken + 1)) = sym (ap progress e) ∙ moved in
         let both = some_same (l.received, l.frames_taken) (k.received, k.frames_taken + 1) pair in
         let gone : ◌≡◌ {A = Option Bool} (Some l.gone) (Some k.gone) = sym (ap gone_of e) ∙ stayed in
-        record { connection = l; found = e; received = ap (λ (x : List ℕ × ℕ). x.0) both; taken = ap (λ (x : List ℕ × ℕ). x.1) both; gone = some_same l.gone k.gone gone }
+        record {
+          connection = l;
+          found = e;
+          received = ap (λ (x : List ℕ × ℕ). x.0) both;
+          taken = ap (λ (x : List ℕ × ℕ). x.1) both;
+          gone = some_same l.gone k.gone gone;
+        }
 
 -- one frame is taken, and the end is the same
-pub takes_frame : (c : ℕ) (packet : List ℕ) (k : RelayConnection) (new : Router) (b : List ℕ) (s : RelayState) → connection_of c s.connections ≡ Some k → k.closing ≡ false → k.gone ≡ false
+pub takes_frame : (c : ℕ) (packet : List ℕ) (k : RelayConnection) (new : Router) (b : List ℕ) (s : RelayState)
+    → connection_of c s.connections ≡ Some k → k.closing ≡ false → k.gone ≡ false
     → packets_left k ≡ packet ∷ drop (k.frames_taken + 1) (frames_of k.received) → Holds new b (after_frame c packet s) → TakesOne c new b s
 unfolding after_frames
 takes_frame c packet k new b s found is_open there left h =
@@ -123,8 +138,10 @@ one_taken_quiet : Quiet with_one_taken
 one_taken_quiet = record { stays = record { number = λ k. refl; gone = λ k. refl }; client = λ k. refl; closing = λ k. refl }
 
 -- a frame is taken and counted
-pub frame_taken : (c : ℕ) (packet : List ℕ) (b : List ℕ) (p : Peer) (held : Held) (old new : Router) (s : RelayState) → Holds old b s → peer_in c old.peers.entries ≡ Some p
-    → ((l : RelayConnection) → Stands p l → cut.Frame packet ≡ answer_of (history_of p l)) → ((l : RelayConnection) → Stands p l → Represents held (after_next (history_of p l)))
+pub frame_taken : (c : ℕ) (packet : List ℕ) (b : List ℕ) (p : Peer) (held : Held) (old new : Router) (s : RelayState)
+    → Holds old b s → peer_in c old.peers.entries ≡ Some p
+    → ((l : RelayConnection) → Stands p l → cut.Frame packet ≡ answer_of (history_of p l))
+    → ((l : RelayConnection) → Stands p l → Represents held (after_next (history_of p l)))
     → Sets c (record p { stream = held }) old.peers.entries new.peers.entries → new.routes ≡ old.routes → new.owners.entries ≡ old.owners.entries
     → new.counts ≡ (let t = old.counts in record t { frames = count_of (t.frames + 1) }) → new.touched ≡ old.touched
     → Holds new b (with_frame_taken c s)
@@ -159,16 +176,19 @@ frame_taken c packet b p held old new s h was answer stream sets routes owners c
     counted = λ i. record { connections = connections i; frames = frames i; passed = passed i; unknown = unknown i }
 
 -- and goes its way
-pub passed_on : (c : ℕ) (packet : List ℕ) (b : List ℕ) (p : Peer) (old mid new : Router) (s : RelayState) → Holds old b s → peer_in c old.peers.entries ≡ Some p → p.closing ≡ false
+pub passed_on : (c : ℕ) (packet : List ℕ) (b : List ℕ) (p : Peer) (old mid new : Router) (s : RelayState)
+    → Holds old b s → peer_in c old.peers.entries ≡ Some p → p.closing ≡ false
     → ((l : RelayConnection) → Stands p l → cut.Frame packet ≡ answer_of (history_of p l)) → Holds mid b (with_frame_taken c s)
-    → ((d : List ℕ) (t : RelayState) (l : RelayConnection) → Holds mid d t → IsHeardAt c l t → IsSwept t → Holds new d (after_header c packet l t (header_of packet)))
+    → ((d : List ℕ) (t : RelayState) (l : RelayConnection) → Holds mid d t → IsHeardAt c l t
+    → IsSwept t → Holds new d (after_header c packet l t (header_of packet)))
     → TakesOne c new b s
 unfolding after_frame
 passed_on c packet b p old mid new s h was is_open answer taken pass =
     let at = peer_found old.peers.entries b s c p h.peers was in
     let k = at.connection in
     let open_k : k.closing ≡ false = sym at.stands.closing ∙ is_open in
-    let found : connection_of c (with_frame_taken c s).connections ≡ Some (with_one_taken k) = changed-own c with_one_taken (λ l. refl) s ∙ ap (option_map with_one_taken) at.found in
+    let found : connection_of c (with_frame_taken c s).connections ≡ Some (with_one_taken k) =
+    changed-own c with_one_taken (λ l. refl) s ∙ ap (option_map with_one_taken) at.found in
     let heard : IsHeardAt c (with_one_taken k) (with_frame_taken c s) = record { found = found; heard = heard_of_parts (with_one_taken k) open_k at.there } in
     let after = pass b (with_frame_taken c s) (with_one_taken k) taken heard (swept_is (at_connection c with_one_taken s)) in
     let same : after_frame c packet s ≡ after_header c packet k (with_frame_taken c s) (header_of packet) =
@@ -180,16 +200,20 @@ still_quiet = record { stays = record { number = λ k. refl; gone = λ k. refl }
 
 -- a change of the stream alone, where the peer stands for the same connection
 pub stream_kept : (c : ℕ) (b : List ℕ) (p : Peer) (held : Held) (old new : Router) (s : RelayState) → Holds old b s → peer_in c old.peers.entries ≡ Some p
-    → Sets c (record p { stream = held }) old.peers.entries new.peers.entries → new.routes ≡ old.routes → new.owners.entries ≡ old.owners.entries → new.counts ≡ old.counts → new.touched ≡ old.touched
+    → Sets c (record p { stream = held }) old.peers.entries new.peers.entries → new.routes ≡ old.routes
+    → new.owners.entries ≡ old.owners.entries → new.counts ≡ old.counts → new.touched ≡ old.touched
     → ((l : RelayConnection) → Stands p l → Stands (record p { stream = held }) l) → Holds new b s
 stream_kept c b p held old new s h was sets routes owners counts touched stands =
     subst (Holds new b) (changed-nothing c (λ k. k) s (λ k e. refl))
-    (holds_changed c (λ k. k) b b p (record p { stream = held }) old new s still_quiet (λ k. refl) h was sets routes owners counts (record { stands = stands; marked = λ e. e }) refl (λ m ne. refl) (idle_stream c p held old new was sets touched h.idle))
+    (holds_changed c (λ k. k) b b p (record p { stream = held }) old new s still_quiet (λ k. refl) h was sets routes owners counts
+    (record { stands = stands; marked = λ e. e }) refl (λ m ne. refl) (idle_stream c p held old new was sets touched h.idle))
 
 -- the rest is open
 pub ends_open : (c : ℕ) (b : List ℕ) (p : Peer) (held : Held) (old new : Router) (s : RelayState) → Holds old b s → peer_in c old.peers.entries ≡ Some p
-    → ((l : RelayConnection) → Stands p l → cut.NotYet ≡ answer_of (history_of p l)) → ((l : RelayConnection) → Stands p l → Represents held (after_next (history_of p l)))
-    → Sets c (record p { stream = held }) old.peers.entries new.peers.entries → new.routes ≡ old.routes → new.owners.entries ≡ old.owners.entries → new.counts ≡ old.counts → new.touched ≡ old.touched
+    → ((l : RelayConnection) → Stands p l → cut.NotYet ≡ answer_of (history_of p l))
+    → ((l : RelayConnection) → Stands p l → Represents held (after_next (history_of p l)))
+    → Sets c (record p { stream = held }) old.peers.entries new.peers.entries → new.routes ≡ old.routes
+    → new.owners.entries ≡ old.owners.entries → new.counts ≡ old.counts → new.touched ≡ old.touched
     → Holds new b (end_of_piece c s)
 ends_open c b p held old new s h was answer stream sets routes owners counts touched =
     let at = peer_found old.peers.entries b s c p h.peers was in
@@ -199,8 +223,10 @@ ends_open c b p held old new s h was answer stream sets routes owners counts tou
 
 -- the rest is broken
 pub ends_broken : (c : ℕ) (b : List ℕ) (p : Peer) (held : Held) (old mid new : Router) (s : RelayState) → Holds old b s → peer_in c old.peers.entries ≡ Some p
-    → ((l : RelayConnection) → Stands p l → cut.Broken ≡ answer_of (history_of p l)) → ((l : RelayConnection) → Stands p l → Represents held (after_next (history_of p l)))
-    → Sets c (record p { stream = held }) old.peers.entries mid.peers.entries → mid.routes ≡ old.routes → mid.owners.entries ≡ old.owners.entries → mid.counts ≡ old.counts → mid.touched ≡ old.touched
+    → ((l : RelayConnection) → Stands p l → cut.Broken ≡ answer_of (history_of p l))
+    → ((l : RelayConnection) → Stands p l → Represents held (after_next (history_of p l)))
+    → Sets c (record p { stream = held }) old.peers.entries mid.peers.entries → mid.routes ≡ old.routes
+    → mid.owners.entries ≡ old.owners.entries → mid.counts ≡ old.counts → mid.touched ≡ old.touched
     → ((d : List ℕ) (t : RelayState) → Holds mid d t → Holds new d (at_connection c with_closing t)) → Holds new b (end_of_piece c s)
 ends_broken c b p held old mid new s h was answer stream sets routes owners counts touched close =
     let at = peer_found old.peers.entries b s c p h.peers was in
@@ -209,7 +235,8 @@ ends_broken c b p held old mid new s h was answer stream sets routes owners coun
     (close b s (stream_kept c b p held old mid s h was sets routes owners counts touched (λ l st. broken_stands p held l st (answer l st) (stream l st))))
 
 -- the connection is closing
-pub ends_closing : (c : ℕ) (b : List ℕ) (p : Peer) (r : Router) (s : RelayState) → Holds r b s → peer_in c r.peers.entries ≡ Some p → p.closing ≡ true → Holds r b (end_of_piece c s)
+pub ends_closing : (c : ℕ) (b : List ℕ) (p : Peer) (r : Router) (s : RelayState) → Holds r b s
+    → peer_in c r.peers.entries ≡ Some p → p.closing ≡ true → Holds r b (end_of_piece c s)
 ends_closing c b p r s h was closing =
     let at = peer_found r.peers.entries b s c p h.peers was in
     subst (Holds r b) (sym (end-closing c at.connection s at.found (sym at.stands.closing ∙ closing))) h
@@ -223,21 +250,30 @@ ends_absent c b r s h none there =
 received_quiet : (piece : List ℕ) → Quiet (with_received piece)
 received_quiet piece = record { stays = record { number = λ k. refl; gone = λ k. refl }; client = λ k. refl; closing = λ k. refl }
 
-pub fed : (c : ℕ) (piece : List ℕ) (b : List ℕ) (p : Peer) (held : Held) (old new : Router) (s : RelayState) → Holds old b s → peer_in c old.peers.entries ≡ Some p
+pub fed : (c : ℕ) (piece : List ℕ) (b : List ℕ) (p : Peer) (held : Held) (old new : Router) (s : RelayState)
+    → Holds old b s → peer_in c old.peers.entries ≡ Some p
     → ((l : RelayConnection) → Stands p l → Represents held (after_feed (history_of p l) piece))
-    → Sets c (record p { stream = held }) old.peers.entries new.peers.entries → new.routes ≡ old.routes → new.owners.entries ≡ old.owners.entries → new.counts ≡ old.counts → new.touched ≡ old.touched
+    → Sets c (record p { stream = held }) old.peers.entries new.peers.entries → new.routes ≡ old.routes
+    → new.owners.entries ≡ old.owners.entries → new.counts ≡ old.counts → new.touched ≡ old.touched
     → Holds new b (at_connection c (with_received piece) s)
 fed c piece b p held old new s h was stream sets routes owners counts touched =
     holds_changed c (with_received piece) b b p (record p { stream = held }) old new s (received_quiet piece) (λ k. refl) h was sets routes owners counts
-    (record { stands = λ l st. received_stands p held piece l st (stream l st); marked = λ e. e }) refl (λ m ne. refl) (idle_stream c p held old new was sets touched h.idle)
+    (record { stands = λ l st. received_stands p held piece l st (stream l st); marked = λ e. e }) refl
+    (λ m ne. refl) (idle_stream c p held old new was sets touched h.idle)
 
 -- the connection of a peer that is open is there after a piece
-pub there_fed : (c : ℕ) (piece : List ℕ) (b : List ℕ) (p : Peer) (r : Router) (s : RelayState) → Holds r b s → peer_in c r.peers.entries ≡ Some p → IsThere c (at_connection c (with_received piece) s)
+pub there_fed : (c : ℕ) (piece : List ℕ) (b : List ℕ) (p : Peer) (r : Router) (s : RelayState)
+    → Holds r b s → peer_in c r.peers.entries ≡ Some p → IsThere c (at_connection c (with_received piece) s)
 there_fed c piece b p r s h was =
     let at = peer_found r.peers.entries b s c p h.peers was in
-    record { connection = with_received piece at.connection; found = changed-own c (with_received piece) (λ k. refl) s ∙ ap (option_map (with_received piece)) at.found; there = at.there }
+    record {
+      connection = with_received piece at.connection;
+      found = changed-own c (with_received piece) (λ k. refl) s ∙ ap (option_map (with_received piece)) at.found;
+      there = at.there;
+    }
 
-pub piece_taken : (c : ℕ) (piece : List ℕ) (b : List ℕ) (p : Peer) (r new : Router) (s : RelayState) → Holds r b s → peer_in c r.peers.entries ≡ Some p → p.closing ≡ false
+pub piece_taken : (c : ℕ) (piece : List ℕ) (b : List ℕ) (p : Peer) (r new : Router) (s : RelayState)
+    → Holds r b s → peer_in c r.peers.entries ≡ Some p → p.closing ≡ false
     → Holds new b (end_of_piece c (at_connection c (with_received piece) s)) → Holds new b (relay_after_event s (event.Piece c piece))
 unfolding relay_after_event
 piece_taken c piece b p r new s h was is_open after =
@@ -245,14 +281,17 @@ piece_taken c piece b p r new s h was is_open after =
     let k = at.connection in
     let u = at_connection c (with_received piece) s in
     let hearing_k : is_deaf k ≡ false = ap (λ x. x || k.gone) (sym at.stands.closing ∙ is_open) ∙ at.there in
-    let packets : packets_of (connection_of c u.connections) ≡ packets_left (with_received piece k) = ap packets_of (changed-own c (with_received piece) (λ l. refl) s ∙ ap (option_map (with_received piece)) at.found) in
+    let packets : packets_of (connection_of c u.connections) ≡ packets_left (with_received piece k) =
+    ap packets_of (changed-own c (with_received piece) (λ l. refl) s ∙ ap (option_map (with_received piece)) at.found) in
     let same : after_piece_of c piece s (connection_of c s.connections) ≡ end_of_piece c u =
-    ap (after_piece_of c piece s) at.found ∙ cond-false (is_deaf k) s (at_connection c after_rest (after_frames c (packets_left (with_received piece k)) u)) hearing_k
+    ap (after_piece_of c piece s) at.found
+    ∙ cond-false (is_deaf k) s (at_connection c after_rest (after_frames c (packets_left (with_received piece k)) u)) hearing_k
     ∙ ap (λ ps. at_connection c after_rest (after_frames c ps u)) (sym packets) in
     subst (Holds new b) (sym same) after
 
 -- nothing is taken of one that is closing, or is not there
-pub piece_closing : (c : ℕ) (piece : List ℕ) (b : List ℕ) (p : Peer) (r : Router) (s : RelayState) → Holds r b s → peer_in c r.peers.entries ≡ Some p → p.closing ≡ true
+pub piece_closing : (c : ℕ) (piece : List ℕ) (b : List ℕ) (p : Peer) (r : Router) (s : RelayState)
+    → Holds r b s → peer_in c r.peers.entries ≡ Some p → p.closing ≡ true
     → Holds r b (relay_after_event s (event.Piece c piece))
 unfolding relay_after_event
 piece_closing c piece b p r s h was closing =
@@ -261,10 +300,12 @@ piece_closing c piece b p r s h was closing =
     let deaf : is_deaf k ≡ true = ap (λ x. x || k.gone) (sym at.stands.closing ∙ closing) in
     let same : after_piece_of c piece s (connection_of c s.connections) ≡ s =
     ap (after_piece_of c piece s) at.found
-    ∙ cond-true (is_deaf k) s (at_connection c after_rest (after_frames c (packets_left (with_received piece k)) (at_connection c (with_received piece) s))) deaf in
+    ∙ cond-true (is_deaf k) s
+    (at_connection c after_rest (after_frames c (packets_left (with_received piece k)) (at_connection c (with_received piece) s))) deaf in
     subst (Holds r b) (sym same) h
 
-pub piece_absent : (c : ℕ) (piece : List ℕ) (b : List ℕ) (r : Router) (s : RelayState) → Holds r b s → peer_in c r.peers.entries ≡ None → Holds r b (relay_after_event s (event.Piece c piece))
+pub piece_absent : (c : ℕ) (piece : List ℕ) (b : List ℕ) (r : Router) (s : RelayState) → Holds r b s
+    → peer_in c r.peers.entries ≡ None → Holds r b (relay_after_event s (event.Piece c piece))
 unfolding relay_after_event
 piece_absent c piece b r s h none = subst (Holds r b) (sym (by (connection_of c s.connections) refl)) h
   where
@@ -276,7 +317,8 @@ piece_absent c piece b r s h none = subst (Holds r b) (sym (by (connection_of c 
     by None e = refl
     by (Some k) e =
         let deaf : is_deaf k ≡ true = gone_deaf k.closing k.gone (peer_absent r.peers.entries b s c h.peers none k e) in
-        cond-true (is_deaf k) s (at_connection c after_rest (after_frames c (packets_left (with_received piece k)) (at_connection c (with_received piece) s))) deaf
+        cond-true (is_deaf k) s
+        (at_connection c after_rest (after_frames c (packets_left (with_received piece k)) (at_connection c (with_received piece) s))) deaf
 
 -- one frame more was taken
 pub then_takes : (c : ℕ) (mid new : Router) (b : List ℕ) (s : RelayState) (first : TakesOne c mid b s) → TakesOne c new b first.next → TakesOne c new b s

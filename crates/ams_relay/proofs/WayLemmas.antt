@@ -13,7 +13,9 @@ use Rattle.spec_relay.specs.RelayState.{Request, RelayWorld, RelayConnection, Re
 use Rattle.spec_relay.specs.RelaySummary.{RelaySummary as CountsOfState, relay_summary_of}
 use Rattle.spec_relay.specs.Requests.{requests_heard, is_answered_by, request_answered, without_first}
 use Rattle.spec_relay.specs.Ways.{Closes, Asks, is_closed_by, is_taken_net, way_of_response, way_of_request, way_of_owned}
-use Rattle.spec_relay.specs.Routing.{at_connection, framed, has_room, delivered, given_to, with_passed, with_unknown, with_requests, after_unknown, not_found_packet, with_request_of, after_way, with_owner, after_header}
+use Rattle.spec_relay.specs.Routing.{at_connection, framed, has_room, delivered, given_to, with_passed}
+use Rattle.spec_relay.specs.Routing.{with_unknown, with_requests, after_unknown, not_found_packet}
+use Rattle.spec_relay.specs.Routing.{with_request_of, after_way, with_owner, after_header}
 use Rattle.spec_relay.proofs.ChangeLemmas.{changed-own, changed-other, world-change}
 use Rattle.ams_relay.specs.declared.router.Router.{Router}
 use Rattle.ams_relay.specs.Counts.{counts_in}
@@ -26,7 +28,8 @@ use Rattle.ams_relay.proofs.RequestLemmas.{heard_changed, heard_parts}
 use Rattle.ams_relay.proofs.StateLemmas.{Quiet}
 
 -- one more frame was given to a connection, or has an unknown target
-pub passed_counted : (old new : Router) (b : List ℕ) (s : RelayState) → new ≡ record old { counts = new.counts } → new.counts ≡ (let t = old.counts in record t { passed = count_of (t.passed + 1) })
+pub passed_counted : (old new : Router) (b : List ℕ) (s : RelayState) → new ≡ record old { counts = new.counts }
+    → new.counts ≡ (let t = old.counts in record t { passed = count_of (t.passed + 1) })
     → Holds old b s → Holds new b (with_passed s)
 passed_counted old new b s same counts h = subst (λ (r : Router). Holds r b (with_passed s)) (sym same) (record {
   routes = h.routes;
@@ -44,7 +47,8 @@ passed_counted old new b s same counts h = subst (λ (r : Router). Holds r b (wi
     counted : counts_in (let t = old.counts in record t { passed = count_of (t.passed + 1) }) ≡ relay_summary_of (with_passed s)
     counted = λ i. record { connections = (h.counts i).connections; frames = (h.counts i).frames; passed = more i; unknown = (h.counts i).unknown }
 
-pub unknown_counted : (old new : Router) (b : List ℕ) (s : RelayState) → new ≡ record old { counts = new.counts } → new.counts ≡ (let t = old.counts in record t { unknown = count_of (t.unknown + 1) })
+pub unknown_counted : (old new : Router) (b : List ℕ) (s : RelayState) → new ≡ record old { counts = new.counts }
+    → new.counts ≡ (let t = old.counts in record t { unknown = count_of (t.unknown + 1) })
     → Holds old b s → Holds new b (with_unknown s)
 unknown_counted old new b s same counts h = subst (λ (r : Router). Holds r b (with_unknown s)) (sym same) (record {
   routes = h.routes;
@@ -63,12 +67,15 @@ unknown_counted old new b s same counts h = subst (λ (r : Router). Holds r b (w
     counted = λ i. record { connections = (h.counts i).connections; frames = (h.counts i).frames; passed = (h.counts i).passed; unknown = more i }
 
 -- a frame of a notification is not answered, any other is
-pub unknown_silent : (c : ℕ) (head : AmsHeader) (new : Router) (b : List ℕ) (s : RelayState) → (head.command == DEVICE_NOTIFICATION) ≡ true → Holds new b (with_unknown s) → Holds new b (after_unknown c head s)
-unknown_silent c head new b s t h = subst (Holds new b) (sym (cond-true (head.command == DEVICE_NOTIFICATION) (with_unknown s) (given_to c (not_found_packet head) (with_unknown s)) t)) h
+pub unknown_silent : (c : ℕ) (head : AmsHeader) (new : Router) (b : List ℕ) (s : RelayState)
+    → (head.command == DEVICE_NOTIFICATION) ≡ true → Holds new b (with_unknown s) → Holds new b (after_unknown c head s)
+unknown_silent c head new b s t h =
+    subst (Holds new b) (sym (cond-true (head.command == DEVICE_NOTIFICATION) (with_unknown s) (given_to c (not_found_packet head) (with_unknown s)) t)) h
 
 pub unknown_told : (c : ℕ) (head : AmsHeader) (new : Router) (b : List ℕ) (s : RelayState) → (head.command == DEVICE_NOTIFICATION) ≡ false
     → Holds new b (given_to c (not_found_packet head) (with_unknown s)) → Holds new b (after_unknown c head s)
-unknown_told c head new b s t h = subst (Holds new b) (sym (cond-false (head.command == DEVICE_NOTIFICATION) (with_unknown s) (given_to c (not_found_packet head) (with_unknown s)) t)) h
+unknown_told c head new b s t h =
+    subst (Holds new b) (sym (cond-false (head.command == DEVICE_NOTIFICATION) (with_unknown s) (given_to c (not_found_packet head) (with_unknown s)) t)) h
 
 -- a response that answers no request
 pub way_stray : (c : ℕ) (head : AmsHeader) (packet : List ℕ) (new : Router) (b : List ℕ) (s : RelayState) → SpendsNone c head new b s
@@ -77,8 +84,10 @@ unfolding after_way
 way_stray c head packet new b s none = subst (λ o. Holds new b (after_way c head packet (way_of_response o) s)) (sym none.none) none.holds
 
 -- a response to the asker of its request
-pub way_answered : (c asker : ℕ) (head : AmsHeader) (packet : List ℕ) (mid new : Router) (b : List ℕ) (s : RelayState) (fitted : Bool) → SpendsOne asker c head mid b s
-    → ((t : RelayState) → Holds mid b t → (fitted ≡ has_room (framed packet) (connection_of asker t.connections)) × Holds new b (cond fitted (with_passed (given_to asker packet t)) (given_to asker packet t)))
+pub way_answered : (c asker : ℕ) (head : AmsHeader) (packet : List ℕ) (mid new : Router) (b : List ℕ) (s : RelayState) (fitted : Bool)
+    → SpendsOne asker c head mid b s
+    → ((t : RelayState) → Holds mid b t → (fitted ≡ has_room (framed packet) (connection_of asker t.connections))
+    × Holds new b (cond fitted (with_passed (given_to asker packet t)) (given_to asker packet t)))
     → Holds new b (after_way c head packet (way_of_response (request_answered c head s.world.requests)) s)
 unfolding after_way
 way_answered c asker head packet mid new b s fitted one give =
@@ -86,10 +95,13 @@ way_answered c asker head packet mid new b s fitted one give =
     let given = give spent one.holds in
     let after = subst (λ t. Holds new b (cond t (with_passed (given_to asker packet spent)) (given_to asker packet spent))) given.0 given.1 in
     subst (λ o. Holds new b (after_way c head packet (way_of_response o) s)) (sym one.answered)
-    (subst (λ a. Holds new b (cond (has_room (framed packet) (connection_of a s.connections)) (with_passed (given_to a packet spent)) (given_to a packet spent))) (sym one.asked) after)
+    (subst (λ a. Holds new b
+    (cond (has_room (framed packet) (connection_of a s.connections)) (with_passed (given_to a packet spent)) (given_to a packet spent)))
+    (sym one.asked) after)
 
 -- nobody owns the target
-pub way_unknown : (c : ℕ) (head : AmsHeader) (packet : List ℕ) (new : Router) (b : List ℕ) (s : RelayState) → None ≡ option_map number_of (owner_of head.target.net s.connections) → Holds new b (after_unknown c head s)
+pub way_unknown : (c : ℕ) (head : AmsHeader) (packet : List ℕ) (new : Router) (b : List ℕ) (s : RelayState)
+    → None ≡ option_map number_of (owner_of head.target.net s.connections) → Holds new b (after_unknown c head s)
     → Holds new b (after_way c head packet (way_of_request (owner_of head.target.net s.connections)) s)
 unfolding after_way
 way_unknown c head packet new b s none h = by (owner_of head.target.net s.connections) none
@@ -99,7 +111,8 @@ way_unknown c head packet new b s none h = by (owner_of head.target.net s.connec
     by (Some k) e = absurd (let no : ◌≡◌ {A = Option ℕ} None (Some k.number) = e in cc)
 
 -- the owner of the target has room, or not
-pub way_asked : (c d : ℕ) (head : AmsHeader) (packet : List ℕ) (new : Router) (b : List ℕ) (s : RelayState) → Some d ≡ option_map number_of (owner_of head.target.net s.connections)
+pub way_asked : (c d : ℕ) (head : AmsHeader) (packet : List ℕ) (new : Router) (b : List ℕ) (s : RelayState)
+    → Some d ≡ option_map number_of (owner_of head.target.net s.connections)
     → has_room (framed packet) (connection_of d s.connections) ≡ true → Holds new b (with_passed (with_request_of c d head (given_to d packet s)))
     → Holds new b (after_way c head packet (way_of_request (owner_of head.target.net s.connections)) s)
 unfolding after_way
@@ -109,9 +122,12 @@ way_asked c d head packet new b s some room h = by (owner_of head.target.net s.c
     by None e = absurd (let no : ◌≡◌ {A = Option ℕ} (Some d) None = e in cc)
     by (Some k) e =
         subst (λ n. Holds new b (after_way c head packet (Asks n) s)) (some_same d k.number e)
-        (subst (Holds new b) (sym (cond-true (has_room (framed packet) (connection_of d s.connections)) (with_passed (with_request_of c d head (given_to d packet s))) (after_unknown c head (given_to d packet s)) room)) h)
+        (subst (Holds new b) (sym
+        (cond-true (has_room (framed packet) (connection_of d s.connections))
+        (with_passed (with_request_of c d head (given_to d packet s))) (after_unknown c head (given_to d packet s)) room)) h)
 
-pub way_refused : (c d : ℕ) (head : AmsHeader) (packet : List ℕ) (new : Router) (b : List ℕ) (s : RelayState) → Some d ≡ option_map number_of (owner_of head.target.net s.connections)
+pub way_refused : (c d : ℕ) (head : AmsHeader) (packet : List ℕ) (new : Router) (b : List ℕ) (s : RelayState)
+    → Some d ≡ option_map number_of (owner_of head.target.net s.connections)
     → has_room (framed packet) (connection_of d s.connections) ≡ false → Holds new b (after_unknown c head (given_to d packet s))
     → Holds new b (after_way c head packet (way_of_request (owner_of head.target.net s.connections)) s)
 unfolding after_way
@@ -121,7 +137,9 @@ way_refused c d head packet new b s some room h = by (owner_of head.target.net s
     by None e = absurd (let no : ◌≡◌ {A = Option ℕ} (Some d) None = e in cc)
     by (Some k) e =
         subst (λ n. Holds new b (after_way c head packet (Asks n) s)) (some_same d k.number e)
-        (subst (Holds new b) (sym (cond-false (has_room (framed packet) (connection_of d s.connections)) (with_passed (with_request_of c d head (given_to d packet s))) (after_unknown c head (given_to d packet s)) room)) h)
+        (subst (Holds new b) (sym
+        (cond-false (has_room (framed packet) (connection_of d s.connections))
+        (with_passed (with_request_of c d head (given_to d packet s))) (after_unknown c head (given_to d packet s)) room)) h)
 
 -- a frame that fits leaves who is heard
 frame_quiet : (packet : List ℕ) → Quiet (with_frame (framed packet))
@@ -135,11 +153,13 @@ and_first : (a b : Bool) → (a && b) ≡ true → a ≡ true
 and_first true b e = refl
 and_first false b e = e
 
-given_as_frame : (d : ℕ) (packet : List ℕ) (s : RelayState) → has_room (framed packet) (connection_of d s.connections) ≡ true → given_to d packet s ≡ at_connection d (with_frame (framed packet)) s
+given_as_frame : (d : ℕ) (packet : List ℕ) (s : RelayState) → has_room (framed packet) (connection_of d s.connections) ≡ true
+    → given_to d packet s ≡ at_connection d (with_frame (framed packet)) s
 given_as_frame d packet s room = go (connection_of d s.connections) room
   where
     go : (o : Option RelayConnection) → has_room (framed packet) o ≡ true
-        → after_exchange o (λ x. record x { connection = delivered (framed packet) x.connection }) s ≡ after_exchange o (λ x. record x { connection = with_frame (framed packet) x.connection }) s
+        → after_exchange o (λ x. record x { connection = delivered (framed packet) x.connection }) s
+        ≡ after_exchange o (λ x. record x { connection = with_frame (framed packet) x.connection }) s
     go None e = refl
     go (Some k) e =
         let parts = heard_parts k (and_first (is_heard k) (fits (framed packet) k) e) in
@@ -154,12 +174,17 @@ pub record AfterGiven (c d : ℕ) (k : RelayConnection) (t : RelayState) : Type 
   pub swept : IsSwept t
   pub opened : IsOpenedAt d t
 
-pub after_given : (c d : ℕ) (packet : List ℕ) (k : RelayConnection) (s : RelayState) → IsHeardAt c k s → IsSwept s → has_room (framed packet) (connection_of d s.connections) ≡ true
+pub after_given : (c d : ℕ) (packet : List ℕ) (k : RelayConnection) (s : RelayState)
+    → IsHeardAt c k s → IsSwept s → has_room (framed packet) (connection_of d s.connections) ≡ true
     → AfterGiven c d k (given_to d packet s)
 after_given c d packet k s heard swept room = subst (AfterGiven c d k) (sym (given_as_frame d packet s room)) (elim (cases_eq d c) [
   | inl e ↦ record {
     connection = with_frame (framed packet) k;
-    heard = record { found = ap (λ j. connection_of j t.connections) (sym e) ∙ changed-own d (with_frame (framed packet)) (λ l. refl) s ∙ ap (option_map (with_frame (framed packet))) (ap (λ j. connection_of j s.connections) e ∙ heard.found); heard = heard.heard };
+    heard = record {
+      found = ap (λ j. connection_of j t.connections) (sym e) ∙ changed-own d (with_frame (framed packet)) (λ l. refl) s
+          ∙ ap (option_map (with_frame (framed packet))) (ap (λ j. connection_of j s.connections) e ∙ heard.found);
+      heard = heard.heard;
+    };
     client = refl;
     swept = still;
     opened = there;
@@ -180,7 +205,8 @@ after_given c d packet k s heard swept room = subst (AfterGiven c d k) (sym (giv
     still =
         let reqs = world-change d (with_frame (framed packet)) s in
         ap (λ (w : RelayWorld). requests_heard t.connections w.requests) reqs
-        ∙ (λ i. filter (λ (r : Request). heard_changed d r.asker (with_frame (framed packet)) (frame_quiet packet).stays (λ k. refl) s i && heard_changed d r.asked (with_frame (framed packet)) (frame_quiet packet).stays (λ k. refl) s i) s.world.requests)
+        ∙ (λ i. filter (λ (r : Request). heard_changed d r.asker (with_frame (framed packet)) (frame_quiet packet).stays (λ k. refl) s i
+        && heard_changed d r.asked (with_frame (framed packet)) (frame_quiet packet).stays (λ k. refl) s i) s.world.requests)
         ∙ swept ∙ sym (ap (λ (w : RelayWorld). w.requests) reqs)
 
     there : IsOpenedAt d t
@@ -193,8 +219,10 @@ after_given c d packet k s heard swept room = subst (AfterGiven c d k) (sym (giv
             = sym (changed-own d (with_frame (framed packet)) (λ x. refl) s ∙ ap (option_map (with_frame (framed packet))) e) ∙ none in cc)
 
 -- the sender is closed
-pub header_closes : (c : ℕ) (packet : List ℕ) (k : RelayConnection) (head : AmsHeader) (new : Router) (b : List ℕ) (s : RelayState) → header_of packet ≡ Some head
-    → is_closed_by (payload_of packet) head k s ≡ true → Holds new b (at_connection c with_closing s) → Holds new b (after_header c packet k s (header_of packet))
+pub header_closes : (c : ℕ) (packet : List ℕ) (k : RelayConnection) (head : AmsHeader) (new : Router) (b : List ℕ) (s : RelayState)
+    → header_of packet ≡ Some head
+    → is_closed_by (payload_of packet) head k s ≡ true → Holds new b (at_connection c with_closing s)
+    → Holds new b (after_header c packet k s (header_of packet))
 unfolding after_way
 header_closes c packet k head new b s e closes h =
     subst (λ o. Holds new b (after_header c packet k s o)) (sym e)
@@ -204,21 +232,26 @@ header_closes c packet k head new b s e closes h =
 -- it owns its source, and the packet goes its way
 pub header_goes : (c : ℕ) (packet : List ℕ) (k : RelayConnection) (head : AmsHeader) (new : Router) (b : List ℕ) (s : RelayState) → header_of packet ≡ Some head
     → is_closed_by (payload_of packet) head k s ≡ false
-    → (let owned = with_owner c head.source.net s in Holds new b (after_way c head packet (way_of_owned c head owned) owned)) → Holds new b (after_header c packet k s (header_of packet))
+    → (let owned = with_owner c head.source.net s in Holds new b (after_way c head packet (way_of_owned c head owned) owned))
+    → Holds new b (after_header c packet k s (header_of packet))
 header_goes c packet k head new b s e opens h =
     subst (λ o. Holds new b (after_header c packet k s o)) (sym e)
     (subst (Holds new b) (sym (cond-false (is_closed_by (payload_of packet) head k s) (after_way c head packet Closes s)
     (let owned = with_owner c head.source.net s in after_way c head packet (way_of_owned c head owned) owned) opens)) h)
 
 pub way_by_mark : (c : ℕ) (head : AmsHeader) (packet : List ℕ) (new : Router) (b : List ℕ) (s : RelayState) (response : Bool) → response ≡ (head.flags % 2 == 1)
-    → Holds new b (after_way c head packet (cond response (way_of_response (request_answered c head s.world.requests)) (way_of_request (owner_of head.target.net s.connections))) s)
+    → Holds new b (after_way c head packet
+    (cond response (way_of_response (request_answered c head s.world.requests)) (way_of_request (owner_of head.target.net s.connections))) s)
     → Holds new b (after_way c head packet (way_of_owned c head s) s)
 unfolding way_of_owned
 way_by_mark c head packet new b s response e h =
-    subst (λ t. Holds new b (after_way c head packet (cond t (way_of_response (request_answered c head s.world.requests)) (way_of_request (owner_of head.target.net s.connections))) s)) e h
+    subst (λ t. Holds new b
+    (after_way c head packet
+    (cond t (way_of_response (request_answered c head s.world.requests)) (way_of_request (owner_of head.target.net s.connections))) s)) e h
 
 -- the checks, one after another
-pub closed_refused : (payload : List ℕ) (head : AmsHeader) (k : RelayConnection) (s : RelayState) → is_refused payload head s ≡ true → true ≡ is_closed_by payload head k s
+pub closed_refused : (payload : List ℕ) (head : AmsHeader) (k : RelayConnection) (s : RelayState)
+    → is_refused payload head s ≡ true → true ≡ is_closed_by payload head k s
 closed_refused payload head k s e = by (not (head.len == length payload)) (not (is_some (rights_of head.source.net s.world.routes))) e
   where
     by : (x y : Bool) → (x || y) ≡ true → true ≡ cond x true (cond y true (is_taken_net head.source.net k s.connections))
@@ -226,16 +259,19 @@ closed_refused payload head k s e = by (not (head.len == length payload)) (not (
     by false true e = refl
     by false false e = absurd (true≢false (sym e))
 
-pub closed_else : (payload : List ℕ) (head : AmsHeader) (k : RelayConnection) (s : RelayState) → is_refused payload head s ≡ false → is_taken_net head.source.net k s.connections ≡ is_closed_by payload head k s
+pub closed_else : (payload : List ℕ) (head : AmsHeader) (k : RelayConnection) (s : RelayState)
+    → is_refused payload head s ≡ false → is_taken_net head.source.net k s.connections ≡ is_closed_by payload head k s
 closed_else payload head k s e = by (not (head.len == length payload)) (not (is_some (rights_of head.source.net s.world.routes))) e
   where
-    by : (x y : Bool) → (x || y) ≡ false → is_taken_net head.source.net k s.connections ≡ cond x true (cond y true (is_taken_net head.source.net k s.connections))
+    by : (x y : Bool) → (x || y) ≡ false
+        → is_taken_net head.source.net k s.connections ≡ cond x true (cond y true (is_taken_net head.source.net k s.connections))
     by true y e = absurd (true≢false e)
     by false true e = absurd (true≢false e)
     by false false e = refl
 
 -- a packet that is closed by none of the checks has a source that is no other's
-pub not_taken : (payload : List ℕ) (head : AmsHeader) (k : RelayConnection) (s : RelayState) → is_closed_by payload head k s ≡ false → is_taken_net head.source.net k s.connections ≡ false
+pub not_taken : (payload : List ℕ) (head : AmsHeader) (k : RelayConnection) (s : RelayState)
+    → is_closed_by payload head k s ≡ false → is_taken_net head.source.net k s.connections ≡ false
 not_taken payload head k s e = by (not (head.len == length payload)) (not (is_some (rights_of head.source.net s.world.routes))) e
   where
     by : (x y : Bool) → cond x true (cond y true (is_taken_net head.source.net k s.connections)) ≡ false → is_taken_net head.source.net k s.connections ≡ false

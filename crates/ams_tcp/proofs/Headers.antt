@@ -4,10 +4,12 @@ use Rattle.std.proofs.lemmas.Bool.{and_from, and_left, and_right, eq-eqb, ne_eqb
 use Rattle.spec_frames.specs.Division.{Broken, front_of, is_header, ams_length_of}
 use Rattle.spec_frames.proofs.FrontLemmas.{front_of-broken}
 
-pub is_header-true : (text : List ℕ) → get_or text 0 0 ≡ 0 → get_or text 1 0 ≡ 0 → 32 ≤ ams_length_of text → ams_length_of text ≤ 2097152 → is_header text ≡ true
+pub is_header-true : (text : List ℕ) → get_or text 0 0 ≡ 0 → get_or text 1 0 ≡ 0
+    → 32 ≤ ams_length_of text → ams_length_of text ≤ 2097152 → is_header text ≡ true
 unfolding is_header
 is_header-true text first second least most =
-    and_from _ _ (and_from _ _ (and_from _ _ (eq-eqb _ 0 first) (eq-eqb _ 0 second)) (le-leb 32 (ams_length_of text) least)) (le-leb (ams_length_of text) 2097152 most)
+    and_from _ _ (and_from _ _ (and_from _ _ (eq-eqb _ 0 first) (eq-eqb _ 0 second)) (le-leb 32 (ams_length_of text) least))
+    (le-leb (ams_length_of text) 2097152 most)
 
 pub is_header-first : (text : List ℕ) → get_or text 0 0 ≢ 0 → is_header text ≡ false
 unfolding is_header

@@ -15,11 +15,13 @@ both : (a b : Bool) → IsTrue a → IsTrue b → IsTrue (a && b)
 both true b x y = y
 both false b x y = x
 
-first_then_rest : (e : Event) (es : List Event) (opened : List ℕ) → IsTrue (is_new e opened) → IsTrue (are_new es (opened ++ opened_by e)) → IsTrue (are_new (e ∷ es) opened)
+first_then_rest : (e : Event) (es : List Event) (opened : List ℕ) → IsTrue (is_new e opened)
+    → IsTrue (are_new es (opened ++ opened_by e)) → IsTrue (are_new (e ∷ es) opened)
 unfolding are_new
 first_then_rest e es opened here rest = both (is_new e opened) (are_new es (opened ++ opened_by e)) here rest
 
-pub new_from : (es : List Event) (i : ℕ) (e : Event) (opened more : List ℕ) → i < length es → e ≡ slice_index_or es i e → IsTrue (is_new e opened) → more ≡ opened ++ opened_by e
+pub new_from : (es : List Event) (i : ℕ) (e : Event) (opened more : List ℕ) → i < length es
+    → e ≡ slice_index_or es i e → IsTrue (is_new e opened) → more ≡ opened ++ opened_by e
     → IsTrue (are_new (drop (i + 1) es) more) → IsTrue (are_new (drop i es) opened)
 new_from es i e opened more within here new is rest =
     rw (at_place es i e within here) (first_then_rest e (drop (i + 1) es) opened new (ap (λ (o : List ℕ). are_new (drop (i + 1) es) o) (sym is) ∙ rest))

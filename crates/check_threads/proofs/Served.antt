@@ -25,4 +25,5 @@ pub both_ready : (d : Description) (ports : PortsMemory) (t u : Turned) → ((si
 both_ready d ports t u held first second =
     let w = world_of d [] in
     all_cons (IsReady ports) t (u ∷ []) (λ open_. record { world = w; client = new_client; held = held []; stands = first w.plant })
-    (all_cons (IsReady ports) u [] (λ open_. record { world = w; client = new_client; held = held []; stands = second w.plant }) (λ k d below. absurd (omega (arith, below))))
+    (all_cons (IsReady ports) u [] (λ open_. record { world = w; client = new_client; held = held []; stands = second w.plant })
+    (λ k d below. absurd (omega (arith, below))))

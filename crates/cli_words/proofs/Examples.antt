@@ -7,7 +7,8 @@ use Rattle.cli_words.specs.Words.{parted, kind_of, divided, value_of}
 use Rattle.cli_words.specs.Values.{number_of, stopped_bytes, net_id_of, address_port, address_of, file_of, text_of}
 use Rattle.cli_words.specs.Forms.{form_of, options_of, are_among}
 use Rattle.cli_words.specs.Commands.{file_in, number_in, two_texts, texts_in, three_files, three_files_in, number_at, net_at, address_at}
-use Rattle.cli_words.specs.Commands.{set_in, info_in, keep_in, load_in, selftest_in, serve_in, server_of, port_of, peer_of, client_of, client_alone, command_in, command_of}
+use Rattle.cli_words.specs.Commands.{set_in, info_in, keep_in, load_in, selftest_in, serve_in, server_of}
+use Rattle.cli_words.specs.Commands.{port_of, peer_of, client_of, client_alone, command_in, command_of}
 
 -- selftest -- -s
 behind_two_dashes : command_of (codes "selftest" ∷ codes "--" ∷ codes "-s" ∷ []) ≡ Some (command.Selftest (codes "-s"))
@@ -20,7 +21,8 @@ unfolding command_of form_of divided kind_of parted
 no_such_option = refl
 
 -- serve p --listen=127.0.0.1:48898 --events 1000
-served : command_of (codes "serve" ∷ codes "p" ∷ codes "--listen=127.0.0.1:48898" ∷ codes "--events" ∷ codes "1000" ∷ []) ≡ Some (command.Serve (codes "p") (codes "127.0.0.1:48898") 1000)
+served : command_of (codes "serve" ∷ codes "p" ∷ codes "--listen=127.0.0.1:48898" ∷ codes "--events" ∷ codes "1000" ∷ [])
+    ≡ Some (command.Serve (codes "p") (codes "127.0.0.1:48898") 1000)
 unfolding command_of form_of divided kind_of parted are_among options_of value_of command_in serve_in file_in file_of server_of number_at address_at address_of address_port stopped_bytes number_of digits
 served = refl
 

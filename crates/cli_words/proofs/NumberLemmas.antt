@@ -8,7 +8,8 @@ use Rattle.std.proofs.lemmas.Bool.{and_parts, leb-true}
 use Rattle.std.proofs.lemmas.Option.{cond_some}
 use Rattle.cli_words.specs.Values.{number_of}
 
-pub number_of-decimal : (least most n : ℕ) (text : List ℕ) → n < 2 ^ 64 → text ≡ decimal n → number_of least most text ≡ cond (leb least n && leb n most) (Some n) None
+pub number_of-decimal : (least most n : ℕ) (text : List ℕ) → n < 2 ^ 64 → text ≡ decimal n
+    → number_of least most text ≡ cond (leb least n && leb n most) (Some n) None
 unfolding number_of
 number_of-decimal least most n text small e =
     let value = (decimal_is_IsNumeral n small).1 in

@@ -1,5 +1,6 @@
 -- A text parted at the first of a byte.
-use Rattle.std.proofs.Common.{◌≡◌, ◌≢◌, ℕ, suc, ◌<◌, List, [], ◌∷◌, ◌++◌, length, get_or, Option, Some, None, option_map, MatchOption, false, eqb, refl, sym, ap, ◌∙◌, arith, Bor, inl, inr}
+use Rattle.std.proofs.Common.{◌≡◌, ◌≢◌, ℕ, suc, ◌<◌, List, [], ◌∷◌, ◌++◌, length, get_or, Option, Some, None}
+use Rattle.std.proofs.Common.{option_map, MatchOption, false, eqb, refl, sym, ap, ◌∙◌, arith, Bor, inl, inr}
 use Rattle.std.proofs.lemmas.Bool.{eq-eqb, ne_eqb, eqb-true, cases_Bool}
 use Rattle.cli_words.specs.Words.{parted, with_first}
 
@@ -21,7 +22,8 @@ parted-free stop (b ∷ bs) free =
     let other : eqb b stop ≡ false = ne_eqb b stop (free 0 (omega arith)) in
     rw (other, parted-free stop bs (λ k below. free (suc k) (omega arith))) refl
 
-more_first : (b stop : ℕ) (bs : List ℕ) (o : Option (List ℕ × List ℕ)) → MatchOption o (Unit {0}) (λ p. bs ≡ p.0 ++ stop ∷ p.1) → MatchOption (option_map (with_first b) o) (Unit {0}) (λ p. b ∷ bs ≡ p.0 ++ stop ∷ p.1)
+more_first : (b stop : ℕ) (bs : List ℕ) (o : Option (List ℕ × List ℕ)) → MatchOption o (Unit {0}) (λ p. bs ≡ p.0 ++ stop ∷ p.1)
+    → MatchOption (option_map (with_first b) o) (Unit {0}) (λ p. b ∷ bs ≡ p.0 ++ stop ∷ p.1)
 more_first b stop bs None h = tt
 more_first b stop bs (Some p) h = ap (λ text. b ∷ text) h
 
@@ -37,6 +39,8 @@ pub parted-parts : (stop : ℕ) (text : List ℕ) (parts : List ℕ × List ℕ)
 parted-parts stop text parts e = rw e at (parted-whole stop text)
 
 -- `split_once` gives the parts
-pub parted-from_split : (stop : ℕ) (text : List ℕ) (r : Option (Bor (List ℕ) × Bor (List ℕ))) → MatchOption r (IsFreeOf stop text) (λ x. (text ≡ x.0.now ++ (stop ∷ x.1.now)) × IsFreeOf stop x.0.now) → option_map (λ p. (p.0.now, p.1.now)) r ≡ parted stop text
+pub parted-from_split : (stop : ℕ) (text : List ℕ) (r : Option (Bor (List ℕ) × Bor (List ℕ)))
+    → MatchOption r (IsFreeOf stop text) (λ x. (text ≡ x.0.now ++ (stop ∷ x.1.now)) × IsFreeOf stop x.0.now)
+    → option_map (λ p. (p.0.now, p.1.now)) r ≡ parted stop text
 parted-from_split stop text None free = sym (parted-free stop text free)
 parted-from_split stop text (Some x) h = sym (ap (parted stop) h.0 ∙ parted-join stop x.0.now x.1.now h.1)

@@ -48,7 +48,8 @@ one_stopped byte bytes text number e =
     let same : byte ∷ [] ≡ bytes = cc in
     subst P same (record { counted = refl; small = small_more byte [] (omega (arith, number.high)) (λ k. omega arith); text_is = number.text_is })
 
-more_stopped : (count byte : ℕ) (others bytes front rest text : List ℕ) → IsNumber 0 255 byte front → AreStopped (suc count) others rest → text ≡ front ++ 46 ∷ rest → Some (byte ∷ others) ≡ Some bytes → AreStopped (suc (suc count)) bytes text
+more_stopped : (count byte : ℕ) (others bytes front rest text : List ℕ) → IsNumber 0 255 byte front → AreStopped (suc count) others rest
+    → text ≡ front ++ 46 ∷ rest → Some (byte ∷ others) ≡ Some bytes → AreStopped (suc (suc count)) bytes text
 more_stopped count byte [] bytes front rest text number stopped parts e = absurd (omega (arith, stopped.counted))
 more_stopped count byte (next ∷ others) bytes front rest text number stopped parts e =
     let P : List ℕ → Type 0 = λ bs. AreStopped (suc (suc count)) bs text in
@@ -66,7 +67,8 @@ stopped_bytes-some (suc zero) bytes text e =
     let byte = bind_some (number_of 0 255 text) (λ byte. Some (byte ∷ [])) bytes e in
     one_stopped byte.0 bytes text (number_of-some 0 255 byte.0 text byte.1) byte.2
 stopped_bytes-some (suc (suc count)) bytes text e =
-    let parts = bind_some (parted 46 text) (λ parts. number_of 0 255 parts.0 >>= (λ byte. stopped_bytes (suc count) parts.1 >>= (λ others. Some (byte ∷ others)))) bytes e in
+    let parts = bind_some (parted 46 text)
+    (λ parts. number_of 0 255 parts.0 >>= (λ byte. stopped_bytes (suc count) parts.1 >>= (λ others. Some (byte ∷ others)))) bytes e in
     let byte = bind_some (number_of 0 255 parts.0.0) (λ byte. stopped_bytes (suc count) parts.0.1 >>= (λ others. Some (byte ∷ others))) bytes parts.2 in
     let others = bind_some (stopped_bytes (suc count) parts.0.1) (λ others. Some (byte.0 ∷ others)) bytes byte.2 in
     more_stopped count byte.0 others.0 bytes parts.0.0 parts.0.1 text (number_of-some 0 255 byte.0 parts.0.0 byte.1)

@@ -1,5 +1,7 @@
 -- What the texts of words mean: numbers, addresses, NetIds, file names, names. This project's own choice.
-use Rattle.std.specs.Prelude.{ℕ, zero, suc, Bool, true, false, ◌&&◌, ◌||◌, not, List, [], ◌∷◌, length, Option, Some, None, codes, decimal, bytes_eq, nat_lt, nat_le, is_some, ◌==◌, if◌then◌else◌, map}
+use Rattle.std.specs.Prelude.{ℕ, zero, suc, Bool, true, false, ◌&&◌, ◌||◌, not, List, [], ◌∷◌, length, Option}
+use Rattle.std.specs.Prelude.{Some, None, codes, decimal, bytes_eq, nat_lt, nat_le, is_some, ◌==◌}
+use Rattle.std.specs.Prelude.{if◌then◌else◌, map}
 use Rattle.std.specs.Str.Parse.{digits_value}
 use Rattle.std.specs.Char.{to_ascii_lowercase}
 use Rattle.std.specs.List.{list_all, list_any}

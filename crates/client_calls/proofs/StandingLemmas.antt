@@ -1,5 +1,6 @@
 -- What a runner keeps stands for what the definitions make of it.
-use Rattle.std.proofs.Common.{◌≡◌, ℕ, suc, ◌+◌, ◌≤◌, ◌<◌, ◌^◌, List, [], ◌∷◌, ◌++◌, length, take, drop, Bool, true, false, refl, sym, ap, ◌∙◌, subst, arith, add-one, add-zero, drop-cons}
+use Rattle.std.proofs.Common.{◌≡◌, ℕ, suc, ◌+◌, ◌≤◌, ◌<◌, ◌^◌, List, [], ◌∷◌, ◌++◌, length, take, drop, Bool}
+use Rattle.std.proofs.Common.{true, false, refl, sym, ap, ◌∙◌, subst, arith, add-one, add-zero, drop-cons}
 use Rattle.std.specs.Prelude.{Option, Some, None, Result, Ok, Err, OnErr, sum_by, filter, slice_get}
 use Rattle.std.proofs.lemmas.List.{append-nil, take-append-drop}
 use Rattle.std.proofs.lemmas.List.Elements.{filter-append}
@@ -30,7 +31,8 @@ use Rattle.sample_store.specs.Views.{row_kept}
 use Rattle.sample_store.specs.declared.row.Row.{Row}
 use Rattle.spec_client.specs.Steps.{begun, after_heard}
 use Rattle.spec_client.specs.Runner as runner
-use Rattle.spec_client.specs.Runner.{Runner, Turned, turned, given, turn, is_over, is_not_yet, new_runner, runner_after_feed, runner_after_tick, runner_after_hearing}
+use Rattle.spec_client.specs.Runner.{Runner, Turned, turned, given, turn, is_over, is_not_yet, new_runner}
+use Rattle.spec_client.specs.Runner.{runner_after_feed, runner_after_tick, runner_after_hearing}
 use Rattle.spec_client.specs.Laws.{goes_on}
 use Rattle.spec_client.proofs.Hearings.{hearings_fall}
 use Rattle.client_core.specs.Kept.{Kept, waiting_count}
@@ -40,7 +42,9 @@ use Rattle.client_replies.specs.Sound.{HasShortTexts, HasShortData, HasShortName
 use Rattle.client_replies.specs.Stages.{end_meant}
 use Rattle.client_replies.specs.declared.stage.CallEnd.{CallEnd}
 use Rattle.client_replies.specs.declared.stage.CallEnd.TheVariants as end
-use Rattle.client_replies.proofs.SoundRunners.{sound_new, sound_feed, sound_tick, few_outstanding, sendable_first, not_full, sound_issued, sound_printed, sound_kept, sound_heard}
+use Rattle.client_replies.proofs.SoundRunners.{sound_new, sound_feed, sound_tick, few_outstanding}
+use Rattle.client_replies.proofs.SoundRunners.{sendable_first, not_full, sound_issued, sound_printed}
+use Rattle.client_replies.proofs.SoundRunners.{sound_kept, sound_heard}
 use Rattle.client_calls.specs.Kept.{RunnerKept, waiting_packets, packets_kept, hearings_kept, with_first}
 use Rattle.client_calls.specs.Represents.{StandsFor, IsGoingOn, StandsStill}
 use Rattle.client_calls.specs.Steps.{step_meant, UnlessOver, IsKeepable, end_in}
@@ -136,7 +140,8 @@ stands_new k me peer call short client is = record {
   sound = sound_new me peer call short;
 }
 
-pub stands_fed : (old new : RunnerKept) (r : Runner) (piece : List ℕ) → Moves old.client new.client (Fed piece) → new.stage ≡ old.stage → new.pending ≡ old.pending
+pub stands_fed : (old new : RunnerKept) (r : Runner) (piece : List ℕ)
+    → Moves old.client new.client (Fed piece) → new.stage ≡ old.stage → new.pending ≡ old.pending
     → StandsFor old r → StandsFor new (runner_after_feed r piece)
 unfolding client_after_move
 stands_fed old new r piece moves stage pending s =
@@ -148,7 +153,8 @@ unfolding client_after_move
 stands_ticked old new r now moves stage pending s =
     stands_moved old new r (runner_after_tick r now) (Tick now) moves refl (stage ∙ s.stage_is) (pending ∙ s.pending_is) (sound_tick r now s.sound) s
 
-pub stands_still : (old new : RunnerKept) → ((me peer : AmsAddress) (h : ClientHistory) → CoreRepresents me peer old.client h → CoreRepresents me peer new.client h)
+pub stands_still : (old new : RunnerKept)
+    → ((me peer : AmsAddress) (h : ClientHistory) → CoreRepresents me peer old.client h → CoreRepresents me peer new.client h)
     → new.stage ≡ old.stage → new.pending ≡ old.pending → StandsStill old new
 stands_still old new still stage pending r s = record {
   me = s.me;
@@ -268,7 +274,8 @@ heard_is : (old : RunnerKept) (heard : spec.Heard) (r : Runner) → HearsAs old.
 heard_is old heard r hears s = hears s.me s.peer s.history s.client ∙ ap (λ c. (next_hearing c).heard) s.client_is
 
 stands_heard : (old new : RunnerKept) (heard : spec.Heard) (r : Runner) → old.pending ≡ [] → HearsAs old.client heard → Moves old.client new.client Next
-    → stages.progress new.stage new.pending ≡ after_heard old.stage heard → StandsFor old r → StandsFor new (runner_after_hearing r.stage (next_hearing r.client))
+    → stages.progress new.stage new.pending ≡ after_heard old.stage heard → StandsFor old r
+    → StandsFor new (runner_after_hearing r.stage (next_hearing r.client))
 unfolding client_after_move runner_after_hearing
 stands_heard old new heard r quiet hears moves is s =
     let behind = runner_after_hearing r.stage (next_hearing r.client) in
@@ -351,7 +358,8 @@ rests_over old new e quiet at same = record {
 abbrev pub kept : Kept → stages.Stage → List stages.Output → RunnerKept
 kept client stage pending = record { client = client; stage = stage; pending = pending }
 
-pub fed_inside : (client new : Kept) (stage : stages.Stage) (pending : List stages.Output) (value : RunnerKept) (piece : List ℕ) → kept client stage pending ≡ value
+pub fed_inside : (client new : Kept) (stage : stages.Stage) (pending : List stages.Output) (value : RunnerKept) (piece : List ℕ)
+    → kept client stage pending ≡ value
     → Moves client new (Fed piece) → (r : Runner) → StandsFor value r → StandsFor (kept new stage pending) (runner_after_feed r piece)
 fed_inside client new stage pending value piece is moves r s =
     stands_fed (kept client stage pending) (kept new stage pending) r piece moves refl refl (subst (λ k. StandsFor k r) (sym is) s)
@@ -387,7 +395,8 @@ sent_writable old code request meant going =
     writable_of code (subst HasShortData (sym meant) first.0)
 
 -- its client refuses no request
-pub never_full : (client : Kept) (stage : stages.Stage) (pending : List stages.Output) (value : RunnerKept) (request : Request) → kept client stage pending ≡ value
+pub never_full : (client : Kept) (stage : stages.Stage) (pending : List stages.Output) (value : RunnerKept) (request : Request)
+    → kept client stage pending ≡ value
     → IsGoingOn (with_first (ToSend request) value) → 64 ≤ outstanding_count client.unanswered → ⊥
 never_full client stage pending value request is going full =
     let r = going.0 in
@@ -401,14 +410,16 @@ never_full client stage pending value request is going full =
 abbrev pub seen : issued.Issued → Issued
 seen i = record { id = i.id; frame = i.frame }
 
-issues_as : (client : Kept) (code : asked.Request) (request : Request) (answer : Result issued.Issued Outstanding) (i : issued.Issued) → request_meant code ≡ request
+issues_as : (client : Kept) (code : asked.Request) (request : Request) (answer : Result issued.Issued Outstanding) (i : issued.Issued)
+    → request_meant code ≡ request
     → answer ≡ Ok i
     → ((me peer : AmsAddress) (h : ClientHistory) → CoreRepresents me peer client h → issued_meant answer ≡ issued_after me peer h (request_meant code))
     → IssuesAs client request (seen i)
 issues_as client code request answer i meant answered issues me peer h stands =
     ap issued_meant (sym answered) ∙ (issues me peer h stands ∙ ap (issued_after me peer h) meant)
 
-pub sent_inside : (now : ℕ) (client new : Kept) (stage : stages.Stage) (pending : List stages.Output) (value : RunnerKept) (code : asked.Request) (request : Request)
+pub sent_inside : (now : ℕ) (client new : Kept) (stage : stages.Stage)
+    (pending : List stages.Output) (value : RunnerKept) (code : asked.Request) (request : Request)
     (answer : Result issued.Issued Outstanding) (i : issued.Issued) → kept client stage pending ≡ value → request_meant code ≡ request → answer ≡ Ok i
     → ((me peer : AmsAddress) (h : ClientHistory) → CoreRepresents me peer client h → issued_meant answer ≡ issued_after me peer h (request_meant code))
     → Moves client new (Issue (request_meant code) now) → Turns now (with_first (ToSend request) value) (kept new stage pending) (out.Send i.frame)
@@ -418,7 +429,8 @@ sent_inside now client new stage pending value code request answer i is meant an
     (subst (λ q. Moves client new (Issue q now)) meant moves) refl refl
     (subst (λ k. StandsFor (with_first (ToSend request) k) r) (sym is) s)
 
-pub sent_gives : (now : ℕ) (client new : Kept) (stage : stages.Stage) (pending : List stages.Output) (value : RunnerKept) (code : asked.Request) (request : Request)
+pub sent_gives : (now : ℕ) (client new : Kept) (stage : stages.Stage)
+    (pending : List stages.Output) (value : RunnerKept) (code : asked.Request) (request : Request)
     → kept client stage pending ≡ value → request_meant code ≡ request → IsGoingOn (with_first (ToSend request) value)
     → Moves client new (Issue (request_meant code) now) → Gives value (kept new stage pending)
 sent_gives now client new stage pending value code request is meant going moves = record {
@@ -429,8 +441,10 @@ sent_gives now client new stage pending value code request is meant going moves 
   pending = ap (λ (k : RunnerKept). k.pending) is;
 }
 
-pub waiting_inside : (client new : Kept) (stage : stages.Stage) (pending : List stages.Output) (value : RunnerKept) (heard : spec.Heard) → kept client stage pending ≡ value
-    → value.pending ≡ [] → is_over value.stage ≡ false → heard ≡ spec.NotYet → HearsAs client heard → Moves client new Next → Rests value (kept new stage pending) out.Wait
+pub waiting_inside : (client new : Kept) (stage : stages.Stage) (pending : List stages.Output) (value : RunnerKept) (heard : spec.Heard)
+    → kept client stage pending ≡ value
+    → value.pending ≡ [] → is_over value.stage ≡ false → heard ≡ spec.NotYet
+    → HearsAs client heard → Moves client new Next → Rests value (kept new stage pending) out.Wait
 waiting_inside client new stage pending value heard is quiet at waits hears moves =
     let old = kept client stage pending in
     subst (λ k. Rests k (kept new stage pending) out.Wait) is
@@ -444,10 +458,12 @@ broken_inside client next stage pending value heard peer is quiet at breaks hear
     let old = kept client stage pending in
     let new = kept next stage pending in
     subst (λ k. Rests k new (out.Over (end.BadPeer peer))) is
-    (rests_broken old new peer (ap (λ (k : RunnerKept). k.pending) is ∙ quiet) (ap (λ (k : RunnerKept). is_over k.stage) is ∙ at) (subst (HearsAs client) breaks hears) refl)
+    (rests_broken old new peer (ap (λ (k : RunnerKept). k.pending) is ∙ quiet)
+    (ap (λ (k : RunnerKept). is_over k.stage) is ∙ at) (subst (HearsAs client) breaks hears) refl)
 
 pub going_inside : (client next : Kept) (stage : stages.Stage) (pending : List stages.Output) (value new : RunnerKept) (heard : spec.Heard)
-    → kept client stage pending ≡ value → value.pending ≡ [] → is_over value.stage ≡ false → goes_on heard ≡ true → HearsAs client heard → Moves client next Next
+    → kept client stage pending ≡ value → value.pending ≡ [] → is_over value.stage ≡ false
+    → goes_on heard ≡ true → HearsAs client heard → Moves client next Next
     → TakesIn (kept next stage pending) heard new → IsGoingOn value → GoesOn value new
 going_inside client next stage pending value new heard is quiet at goes hears moves t going =
     let old = kept client stage pending in
@@ -475,7 +491,8 @@ numbers_of (stages.Records wait r) short = short.1
 numbers_of stage short = tt
 
 -- a call that goes on has numbers for its rows
-pub numbers_inside : (client : Kept) (stage : stages.Stage) (pending : List stages.Output) (value : RunnerKept) → kept client stage pending ≡ value → IsGoingOn value
+pub numbers_inside : (client : Kept) (stage : stages.Stage) (pending : List stages.Output) (value : RunnerKept)
+    → kept client stage pending ≡ value → IsGoingOn value
     → HasNumbers stage
 numbers_inside client stage pending value is going =
     let s = going.1 in

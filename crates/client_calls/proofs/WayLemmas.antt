@@ -32,10 +32,15 @@ way_goes_on now old new behind way g = record {
       let r = way.going.0 in
       let p = g.passes now r way.going.1 in
       (p.behind, p.stands);
-  left = omega (arith, way.left, fewer_left (hearings_kept behind.client) (hearings_kept new.client) (length behind.pending) (length new.pending) g.fewer g.short);
+  left = omega (
+    arith,
+    way.left,
+    fewer_left (hearings_kept behind.client) (hearings_kept new.client) (length behind.pending) (length new.pending) g.fewer g.short,
+  );
 }
 
-turned_behind : (now : ℕ) (end : RunnerKept) (step : CallStep) (new : RunnerKept) (r : Runner) → Passes now new r → Turns now new end step → IsTurned now end step r
+turned_behind : (now : ℕ) (end : RunnerKept) (step : CallStep) (new : RunnerKept) (r : Runner)
+    → Passes now new r → Turns now new end step → IsTurned now end step r
 turned_behind now end step new r p turned =
     let t = turned p.behind p.stands in
     record {
@@ -90,7 +95,8 @@ pub way_falls : (now : ℕ) (old new end : RunnerKept) (step : CallStep) → OnI
     → IfGives step (turns_left end < turns_left old)
 way_falls now old new end step way s = falls_less step (turns_left end) (turns_left new) (turns_left old) way.left s.falls
 
-pub step_told : (now : ℕ) (old new : RunnerKept) (step : CallStep) → Turns now old new step → (r : Runner) → StandsFor old r → step_meant step ≡ (turn now r).step
+pub step_told : (now : ℕ) (old new : RunnerKept) (step : CallStep) → Turns now old new step
+    → (r : Runner) → StandsFor old r → step_meant step ≡ (turn now r).step
 step_told now old new step turned r s = (turned r s).step_is
 
 pub stands_told : (now : ℕ) (old new : RunnerKept) (step : CallStep) → Turns now old new step

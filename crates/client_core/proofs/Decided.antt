@@ -28,7 +28,8 @@ with_header packet h c e = ap (λ o. header_hearing c o packet) e
 verdict_as : (v : Verdict) (packet : List ℕ) (c : Client) (x y : Option Hearing) → x ≡ y → IsVerdictOf v packet c y → IsVerdictOf v packet c x
 verdict_as v packet c x y e is = subst (λ (z : Option Hearing). IsVerdictOf v packet c z) (sym e) is
 
-breaks_so : (v : Verdict) (packet : List ℕ) (c : Client) (x : Option Hearing) → x ≡ packet_hearing c packet → Breaks v packet → ((copy : List ℕ) → copy ≡ packet → IsVerdictOf (verdict.Breaks copy) packet c x)
+breaks_so : (v : Verdict) (packet : List ℕ) (c : Client) (x : Option Hearing) → x ≡ packet_hearing c packet
+    → Breaks v packet → ((copy : List ℕ) → copy ≡ packet → IsVerdictOf (verdict.Breaks copy) packet c x)
     → IsVerdictOf v packet c x
 breaks_so verdict.Passes packet c x e b f = absurd b
 breaks_so (verdict.Answers id heard) packet c x e b f = absurd b
@@ -36,7 +37,8 @@ breaks_so (verdict.Says heard) packet c x e b f = absurd b
 breaks_so (verdict.Holds samples) packet c x e b f = absurd b
 breaks_so (verdict.Breaks copy) packet c x e b f = f copy b
 
-pub wrong_length : (packet : List ℕ) (h : AmsHeader) (v : Verdict) → header_of packet ≡ Some h → h.len + 32 ≢ length packet → Breaks v packet → (c : Client) → IsVerdict v packet c
+pub wrong_length : (packet : List ℕ) (h : AmsHeader) (v : Verdict) → header_of packet ≡ Some h
+    → h.len + 32 ≢ length packet → Breaks v packet → (c : Client) → IsVerdict v packet c
 wrong_length packet h v e other b c =
     let other_way : 32 + h.len ≢ length packet = λ same. other (omega arith) in
     let wrong : (32 + h.len == length packet) ≡ false = ne_eqb (32 + h.len) (length packet) other_way in
@@ -49,9 +51,11 @@ pub by_response : (packet : List ℕ) (h : AmsHeader) (v : Verdict) (c : Client)
     → IsVerdictOf v packet c (Some (response_hearing c h packet)) → IsVerdict v packet c
 by_response packet h v c e same flag is =
     let response : is_response h ≡ true = eq-eqb (h.flags % 2) 1 flag in
-    verdict_as v packet c (packet_hearing c packet) (Some (response_hearing c h packet)) (with_header packet h c e ∙ rw (right_length packet h same, response) refl) is
+    verdict_as v packet c (packet_hearing c packet) (Some (response_hearing c h packet))
+    (with_header packet h c e ∙ rw (right_length packet h same, response) refl) is
 
-pub by_notification : (packet : List ℕ) (h : AmsHeader) (v : Verdict) (c : Client) → header_of packet ≡ Some h → h.len + 32 ≡ length packet → h.flags % 2 ≢ 1 → h.command ≡ 8
+pub by_notification : (packet : List ℕ) (h : AmsHeader) (v : Verdict) (c : Client)
+    → header_of packet ≡ Some h → h.len + 32 ≡ length packet → h.flags % 2 ≢ 1 → h.command ≡ 8
     → IsVerdictOf v packet c (notification_hearing c packet (notification_of (payload_of packet))) → IsVerdict v packet c
 by_notification packet h v c e same flag command is =
     let response : is_response h ≡ false = ne_eqb (h.flags % 2) 1 flag in
@@ -66,12 +70,14 @@ by_nothing packet h c e same flag command =
     with_header packet h c e ∙ rw (right_length packet h same, response, other) refl
 
 -- the same of what a call answers
-pub if_breaks : (packet : List ℕ) (h : AmsHeader) (me peer : AmsAddress) (us : List Unanswered) → header_of packet ≡ Some h → h.len + 32 ≢ length packet → (r : Result Verdict NoMemory)
+pub if_breaks : (packet : List ℕ) (h : AmsHeader) (me peer : AmsAddress) (us : List Unanswered)
+    → header_of packet ≡ Some h → h.len + 32 ≢ length packet → (r : Result Verdict NoMemory)
     → IfOk r (λ v. Breaks v packet) → IfOk r (λ v. (c : Client) → HasRequests c me peer us → IsVerdict v packet c)
 if_breaks packet h me peer us e other (Ok v) b = λ c requests. wrong_length packet h v e other b c
 if_breaks packet h me peer us e other (Err wants) b = tt
 
-pub if_response : (packet : List ℕ) (h : AmsHeader) (me peer : AmsAddress) (us : List Unanswered) → header_of packet ≡ Some h → h.len + 32 ≡ length packet → h.flags % 2 ≡ 1 → (r : Result Verdict NoMemory)
+pub if_response : (packet : List ℕ) (h : AmsHeader) (me peer : AmsAddress) (us : List Unanswered)
+    → header_of packet ≡ Some h → h.len + 32 ≡ length packet → h.flags % 2 ≡ 1 → (r : Result Verdict NoMemory)
     → IfOk r (λ v. (c : Client) → HasRequests c me peer us → IsVerdictOf v packet c (Some (response_hearing c h packet)))
     → IfOk r (λ v. (c : Client) → HasRequests c me peer us → IsVerdict v packet c)
 if_response packet h me peer us e same flag (Ok v) b = λ c requests. by_response packet h v c e same flag (b c requests)
@@ -82,5 +88,6 @@ pub if_notification : (packet : List ℕ) (h : AmsHeader) (payload : List ℕ) (
     → IfOk r (λ v. (c : Client) → IsVerdictOf v packet c (notification_hearing c packet (notification_of payload)))
     → IfOk r (λ v. (c : Client) → HasRequests c me peer us → IsVerdict v packet c)
 if_notification packet h payload me peer us behind e same flag command (Ok v) b =
-    λ c requests. by_notification packet h v c e same flag command (subst (λ (p : List ℕ). IsVerdictOf v packet c (notification_hearing c packet (notification_of p))) behind (b c))
+    λ c requests. by_notification packet h v c e same flag command
+    (subst (λ (p : List ℕ). IsVerdictOf v packet c (notification_hearing c packet (notification_of p))) behind (b c))
 if_notification packet h payload me peer us behind e same flag command (Err wants) b = tt

@@ -89,7 +89,8 @@ ticked k now us e c s = record {
 -- the same, where the old value is seen through its model
 pub moved : (old k new : Kept) (move : ClientMove) → k ≡ old → ((c : Client) → StandsFor k c → StandsFor new (client_after_move c move))
     → (me peer : AmsAddress) (h : ClientHistory) → Represents me peer old h → Represents me peer new (h ++ move ∷ [])
-moved old k new move e steps = subst (λ (o : Kept). (me peer : AmsAddress) (h : ClientHistory) → Represents me peer o h → Represents me peer new (h ++ move ∷ [])) e
+moved old k new move e steps =
+    subst (λ (o : Kept). (me peer : AmsAddress) (h : ClientHistory) → Represents me peer o h → Represents me peer new (h ++ move ∷ [])) e
     (one_move k new move steps)
 
 pub on_ok : {A E : Type 0} (P Q : Type 0) → (P → Q) → (r : Result A E) → OnOk r P → OnOk r Q
@@ -105,8 +106,10 @@ pub ticked_all : (old k : Kept) → k ≡ old → (now : ℕ) (us : List Unanswe
 ticked_all old k e now us is = moved old k (record k { unanswered = us }) (Tick now) e (ticked k now us is)
 
 -- nothing happened yet
-pub new_stands : (me peer : AmsAddress) (held : Held) (us : List Unanswered) (ss : List StampedSample) → stream.Represents held stream.nothing_fed → us ≡ [] → ss ≡ []
-    → StandsFor (record { me = me; peer = peer; last_id = 0; unanswered = us; stream = held; waiting = None; samples = ss; broken = None }) (client_after (new_client me peer) [])
+pub new_stands : (me peer : AmsAddress) (held : Held) (us : List Unanswered) (ss : List StampedSample)
+    → stream.Represents held stream.nothing_fed → us ≡ [] → ss ≡ []
+    → StandsFor (record { me = me; peer = peer; last_id = 0; unanswered = us; stream = held; waiting = None; samples = ss; broken = None })
+    (client_after (new_client me peer) [])
 unfolding client_after
 new_stands me peer held us ss s no_requests no_samples = record {
   me = refl;

@@ -23,7 +23,8 @@ heard_of new heard x y e is = subst (λ (z : Hearing). IsHearing new heard z) (s
 stands_inside : (old k : Kept) → k ≡ old → (c : Client) → StandsFor old c → StandsFor k c
 stands_inside old k e c s = subst (λ (o : Kept). StandsFor o c) (sym e) s
 
-pub hears_timeout : (old k : Kept) → k ≡ old → (us : List Unanswered) (u : Unanswered) (id sent now : ℕ) → id ≡ u.id → sent ≡ u.sent → now ≡ unwrap_or u.timed_out 0
+pub hears_timeout : (old k : Kept) → k ≡ old → (us : List Unanswered) (u : Unanswered) (id sent now : ℕ)
+    → id ≡ u.id → sent ≡ u.sent → now ≡ unwrap_or u.timed_out 0
     → TakesTimeout k.unanswered us (Some u) → Hears old (record k { unanswered = us }) (value.TimedOut id sent now)
 unfolding next_hearing
 hears_timeout old k e us u id sent now is_id is_sent is_now took c s =
@@ -36,7 +37,8 @@ hears_timeout old k e us u id sent now is_id is_sent is_now took c s =
     })
 
 -- no timeout is to be told
-no_timeout : (k : Kept) (us : List Unanswered) → TakesTimeout k.unanswered us None → (c : Client) → StandsFor k c → next_hearing c ≡ hearing_unless_broken c c.broken
+no_timeout : (k : Kept) (us : List Unanswered) → TakesTimeout k.unanswered us None
+    → (c : Client) → StandsFor k c → next_hearing c ≡ hearing_unless_broken c c.broken
 unfolding next_hearing
 no_timeout k us took c s = ap (λ o. hearing_of_timeout c o) (ap (λ vs. next_timeout vs) (sym s.unanswered) ∙ took.0)
 
@@ -48,7 +50,8 @@ pub hears_broken : (old k : Kept) → k ≡ old → (us : List Unanswered) → T
 hears_broken old k e us took p copy is same c s =
     let stands = stands_inside old k e c s in
     let broken : c.broken ≡ Some p = sym stands.broken ∙ is in
-    heard_of (record k { unanswered = us }) (value.Broken copy) (next_hearing c) _ (no_timeout k us took c stands ∙ ap (λ o. hearing_unless_broken c o) broken) (record {
+    heard_of (record k { unanswered = us }) (value.Broken copy) (next_hearing c) _
+    (no_timeout k us took c stands ∙ ap (λ o. hearing_unless_broken c o) broken) (record {
       heard_is = ap (λ q. spec.Broken q) same;
       stands = stands_on k us took c stands;
     })
@@ -58,22 +61,26 @@ no_break : (k : Kept) (us : List Unanswered) → TakesTimeout k.unanswered us No
     → next_hearing c ≡ hearing_of_samples c c.samples
 no_break k us took whole c s = no_timeout k us took c s ∙ ap (λ o. hearing_unless_broken c o) (sym s.broken ∙ whole)
 
-pub hears_sample : (old k : Kept) → k ≡ old → (us : List Unanswered) → TakesTimeout k.unanswered us None → k.broken ≡ None → (first : StampedSample) (rest : List StampedSample)
+pub hears_sample : (old k : Kept) → k ≡ old → (us : List Unanswered) → TakesTimeout k.unanswered us None
+    → k.broken ≡ None → (first : StampedSample) (rest : List StampedSample)
     → k.samples ≡ first ∷ rest → (heard : Heard) → heard_meant heard ≡ heard_of_sample first → Hears old (record k { unanswered = us; samples = rest }) heard
 hears_sample old k e us took whole first rest is heard same c s =
     let stands = stands_inside old k e c s in
     let samples : c.samples ≡ first ∷ rest = sym stands.samples ∙ is in
-    heard_of (record k { unanswered = us; samples = rest }) heard (next_hearing c) _ (no_break k us took whole c stands ∙ ap (λ ss. hearing_of_samples c ss) samples) (record {
+    heard_of (record k { unanswered = us; samples = rest }) heard (next_hearing c) _
+    (no_break k us took whole c stands ∙ ap (λ ss. hearing_of_samples c ss) samples) (record {
       heard_is = same;
       stands = samples_changed (record k { unanswered = us }) rest c rest (stands_on k us took c stands) refl;
     })
 
 -- behind all samples
-behind_samples : (k : Kept) (us : List Unanswered) (ss : List StampedSample) → TakesTimeout k.unanswered us None → k.samples ≡ [] → ss ≡ [] → (c : Client) → StandsFor k c
+behind_samples : (k : Kept) (us : List Unanswered) (ss : List StampedSample)
+    → TakesTimeout k.unanswered us None → k.samples ≡ [] → ss ≡ [] → (c : Client) → StandsFor k c
     → StandsFor (record k { unanswered = us; samples = ss }) c
 behind_samples k us ss took none e c s = samples_changed (record k { unanswered = us }) ss c c.samples (stands_on k us took c s) (e ∙ sym none ∙ s.samples)
 
-pub hears_frames : (old k : Kept) → k ≡ old → (us : List Unanswered) (ss : List StampedSample) → TakesTimeout k.unanswered us None → k.broken ≡ None → k.samples ≡ [] → ss ≡ []
+pub hears_frames : (old k : Kept) → k ≡ old → (us : List Unanswered) (ss : List StampedSample)
+    → TakesTimeout k.unanswered us None → k.broken ≡ None → k.samples ≡ [] → ss ≡ []
     → (new : Kept) (heard : Heard) → HearsFrames (record k { unanswered = us; samples = ss }) new heard → Hears old new heard
 hears_frames old k e us ss took whole none empty new heard hears c s =
     let stands = stands_inside old k e c s in
@@ -89,8 +96,10 @@ pub still_frames : (old k : Kept) → k ≡ old → (us : List Unanswered) (ss :
 still_frames old k e us ss took none empty new still c s = still c (behind_samples k us ss took none empty c (stands_inside old k e c s))
 
 -- what the frames give is passed on; the samples were none, and are none
-pub hears_result : (old k : Kept) → k ≡ old → (us : List Unanswered) (ss : List StampedSample) → TakesTimeout k.unanswered us None → k.broken ≡ None → k.samples ≡ [] ++ ss
-    → (new : Kept) (r : Result Heard NoMemory) → MatchResult r (HearsFrames (record k { unanswered = us; samples = ss }) new) (λ wants. StandsStill (record k { unanswered = us; samples = ss }) new)
+pub hears_result : (old k : Kept) → k ≡ old → (us : List Unanswered) (ss : List StampedSample)
+    → TakesTimeout k.unanswered us None → k.broken ≡ None → k.samples ≡ [] ++ ss
+    → (new : Kept) (r : Result Heard NoMemory)
+    → MatchResult r (HearsFrames (record k { unanswered = us; samples = ss }) new) (λ wants. StandsStill (record k { unanswered = us; samples = ss }) new)
     → k.samples ≡ [] → MatchResult r (Hears old new) (λ wants. StandsStill old new)
 hears_result old k e us ss took whole same new (Ok heard) hears none = hears_frames old k e us ss took whole none (sym same ∙ none) new heard hears
 hears_result old k e us ss took whole same new (Err wants) still none = still_frames old k e us ss took none (sym same ∙ none) new still

@@ -1,5 +1,6 @@
 -- The packets that are left to be heard, as the stream gives them.
-use Rattle.std.proofs.Common.{◌≡◌, ℕ, zero, suc, ◌+◌, ◌<◌, ◌≤◌, List, [], ◌∷◌, ◌++◌, length, take, drop, get_or, Bool, true, false, refl, sym, ap, ◌∙◌, subst, arith, add-one, add-zero}
+use Rattle.std.proofs.Common.{◌≡◌, ℕ, zero, suc, ◌+◌, ◌<◌, ◌≤◌, List, [], ◌∷◌, ◌++◌, length, take, drop}
+use Rattle.std.proofs.Common.{get_or, Bool, true, false, refl, sym, ap, ◌∙◌, subst, arith, add-one, add-zero}
 use Rattle.std.specs.Prelude.{Option, Some, None, Result, Ok, Err, IfOk, OnOk, slice_get, filter, is_some, if◌then◌else◌}
 use Rattle.std.proofs.Math.Seq.{drop-cons}
 use Rattle.std.proofs.lemmas.List.{length-append, take_more}
@@ -89,20 +90,23 @@ one_more : (k : Kept) → k.waiting ≡ None → (c d : Client) (packet : List �
     → length (filter says_something (take (s.given + 1) (frames_of c.received))) ≡ d.taken → Streams k d
 one_more k idle c d packet same s taken = record {
   given = s.given + 1;
-  stream = rw same (again k.stream c.received (s.given + 1) (s.given + 1 + waiting_count k.waiting) k.stream.told_broken (none_counts k.waiting (s.given + 1) idle) s.stream);
+  stream = rw same (again k.stream c.received (s.given + 1) (s.given + 1 + waiting_count k.waiting)
+      k.stream.told_broken (none_counts k.waiting (s.given + 1) idle) s.stream);
   waiting = none_next k.waiting (s.given + 1) d.received idle;
   taken = rw same taken;
 }
 
 -- a packet that says nothing is passed over
-pub passed_over : (k : Kept) → k.waiting ≡ None → (c : Client) (packet : List ℕ) → says_something packet ≡ false → Streams (with_waiting k packet) c → Streams k c
+pub passed_over : (k : Kept) → k.waiting ≡ None → (c : Client) (packet : List ℕ)
+    → says_something packet ≡ false → Streams (with_waiting k packet) c → Streams k c
 passed_over k idle c packet silent s =
     let at = is_at_place (frames_of c.received) s.given packet s.waiting in
     let more = filter_more says_something (frames_of c.received) s.given packet at in
     one_more k idle c c packet refl s (rw (more, silent, length-append) (rw add-zero s.taken))
 
 -- one that says something is taken
-pub taken_over : (k : Kept) → k.waiting ≡ None → (c : Client) (packet : List ℕ) → says_something packet ≡ true → Streams (with_waiting k packet) c → Streams k (with_one_taken c)
+pub taken_over : (k : Kept) → k.waiting ≡ None → (c : Client) (packet : List ℕ)
+    → says_something packet ≡ true → Streams (with_waiting k packet) c → Streams k (with_one_taken c)
 taken_over k idle c packet says s =
     let at = is_at_place (frames_of c.received) s.given packet s.waiting in
     let more = filter_more says_something (frames_of c.received) s.given packet at in
@@ -115,7 +119,8 @@ next_left k c packet says s =
     let frames = frames_of c.received in
     let at = is_at_place frames s.given packet s.waiting in
     let within = at.within in
-    let rest : drop s.given frames ≡ packet ∷ drop (suc s.given) frames = drop-cons frames s.given packet within ∙ ap (λ p. p ∷ drop (suc s.given) frames) at.is in
+    let rest : drop s.given frames ≡ packet ∷ drop (suc s.given) frames =
+    drop-cons frames s.given packet within ∙ ap (λ p. p ∷ drop (suc s.given) frames) at.is in
     let here : packets_left c ≡ packet ∷ filter says_something (drop (suc s.given) frames) = left_is (with_waiting k packet) c s ∙ rw (rest, says) refl in
     let behind = drop_next c.taken (filter says_something frames) (filter says_something (drop (suc s.given) frames)) packet here in
     here ∙ ap (λ ps. packet ∷ ps) (sym (rw add-one behind))
@@ -163,7 +168,8 @@ abbrev Steps : Kept → Held → Type 0
 Steps k held = (h : stream.History) → stream.Represents k.stream h → stream.Represents held (stream.after_next h)
 
 idle_stream : (k : Kept) → k.waiting ≡ None → (c : Client) (s : Streams k c) → stream.Represents k.stream (bytes_of k c s.given)
-idle_stream k idle c s = again k.stream c.received (s.given + waiting_count k.waiting) s.given k.stream.told_broken (sym (none_counts k.waiting s.given idle)) s.stream
+idle_stream k idle c s = again k.stream c.received (s.given + waiting_count k.waiting)
+    s.given k.stream.told_broken (sym (none_counts k.waiting s.given idle)) s.stream
 
 -- all but the stream stays
 restreamed : (k : Kept) (held : Held) (w : Option (List ℕ)) (c : Client) → StandsFor k c → Streams (record k { stream = held; waiting = w }) c
@@ -202,7 +208,8 @@ cut_frame k held w packet idle answers steps c s =
     let h = bytes_of k c s.streams.given in
     let stands = idle_stream k idle c s.streams in
     let e : cut.Frame packet ≡ stream.answer_of h = answers h stands in
-    let next : stream.Represents held (stream.after_answer (cut.Frame packet) h) = subst (λ (x : Cut). stream.Represents held (stream.after_answer x h)) (sym e) (steps h stands) in
+    let next : stream.Represents held (stream.after_answer (cut.Frame packet) h) =
+    subst (λ (x : Cut). stream.Represents held (stream.after_answer x h)) (sym e) (steps h stands) in
     restreamed k held (Some packet) c s (record {
       given = s.streams.given;
       stream = again held c.received (s.streams.given + 1) (s.streams.given + 1) k.stream.told_broken refl next;
@@ -218,7 +225,8 @@ cut_quiet k held w none idle answers steps c s =
     let stands = idle_stream k idle c s.streams in
     let e : cut.NotYet ≡ stream.answer_of h = answers h stands in
     let rest = not_yet_rest (slice_get (frames_of c.received) s.streams.given) (rest_of c.received) e in
-    let next : stream.Represents held (stream.after_answer cut.NotYet h) = subst (λ (x : Cut). stream.Represents held (stream.after_answer x h)) (sym e) (steps h stands) in
+    let next : stream.Represents held (stream.after_answer cut.NotYet h) =
+    subst (λ (x : Cut). stream.Represents held (stream.after_answer x h)) (sym e) (steps h stands) in
     record {
       quiet = no_packets k c s.streams rest.none ∙ quiet_rest c (front_of (rest_of c.received)) rest.is;
       stands = restreamed k held w c s (same_place k held w none c s.streams k.stream.told_broken next);
@@ -232,7 +240,8 @@ cut_broken k held w none idle answers steps c s =
     let stands = idle_stream k idle c s.streams in
     let e : cut.Broken ≡ stream.answer_of h = answers h stands in
     let rest = at_broken_rest (slice_get (frames_of c.received) s.streams.given) (rest_of c.received) e in
-    let next : stream.Represents held (stream.after_answer cut.Broken h) = subst (λ (x : Cut). stream.Represents held (stream.after_answer x h)) (sym e) (steps h stands) in
+    let next : stream.Represents held (stream.after_answer cut.Broken h) =
+    subst (λ (x : Cut). stream.Represents held (stream.after_answer x h)) (sym e) (steps h stands) in
     record {
       broken = no_packets k c s.streams rest.none ∙ ap (λ f. rest_hearing c f) (broken_rest (front_of (rest_of c.received)) rest.is);
       told = next.told_broken;
@@ -253,6 +262,7 @@ cut_next old k w held e idle none (Ok answer) answers steps =
 cut_next old k w held e idle none (Err wants) answers steps = tt
 
 -- the packet that waits
-pub cut_waiting : (old k : Kept) (w : Option (List ℕ)) (packet : List ℕ) → k ≡ old → k.waiting ≡ Some packet → Cuts old (record k { waiting = w }) (cut.Frame packet)
+pub cut_waiting : (old k : Kept) (w : Option (List ℕ)) (packet : List ℕ) → k ≡ old
+    → k.waiting ≡ Some packet → Cuts old (record k { waiting = w }) (cut.Frame packet)
 cut_waiting old k w packet e waits c s =
     subst (λ (o : Kept). StandsFor o c) (sym e ∙ ap (λ x. record k { waiting = x }) waits) s

@@ -29,7 +29,8 @@ pub copied_step : (samples pushed : List StampedSample) (notes rest : List (ℕ 
 copied_step samples pushed notes rest all x v so_far e is more =
     rw (more, is, append_assoc) (ap (λ xs. samples ++ map stamped xs) (sym e) ∙ so_far)
 
-pub samples_found : (o : Option (List Stamp)) (notes : List (ℕ × Sample)) (items : List StampedSample) → Some notes ≡ option_map samples_in o → items ≡ map stamped notes
+pub samples_found : (o : Option (List Stamp)) (notes : List (ℕ × Sample)) (items : List StampedSample)
+    → Some notes ≡ option_map samples_in o → items ≡ map stamped notes
     → Some items ≡ option_map samples_of_stamps o
 samples_found o notes items found e = ap (λ xs. Some xs) e ∙ ap (λ q. option_map (λ xs. map stamped xs) q) found ∙ stamped_found o
 

@@ -1,5 +1,6 @@
 -- How loops go through the requests without an answer.
-use Rattle.std.proofs.Common.{◌≡◌, ℕ, zero, suc, ◌+◌, ◌-◌, ◌<◌, ◌≤◌, List, [], ◌∷◌, ◌++◌, length, take, drop, get_or, set, Bool, true, false, refl, sym, ap, ◌∙◌, arith, add-one, append_assoc}
+use Rattle.std.proofs.Common.{◌≡◌, ℕ, zero, suc, ◌+◌, ◌-◌, ◌<◌, ◌≤◌, List, [], ◌∷◌, ◌++◌, length, take, drop}
+use Rattle.std.proofs.Common.{get_or, set, Bool, true, false, refl, sym, ap, ◌∙◌, arith, add-one, append_assoc}
 use Rattle.std.specs.Prelude.{map, find, ◌==◌, Option, Some, None, if◌then◌else◌}
 use Rattle.std.proofs.Math.Seq.{drop-cons, drop-length}
 use Rattle.std.proofs.lemmas.Bool.{and_parts, eqb-true}
@@ -7,7 +8,8 @@ use Rattle.std.proofs.lemmas.List.{take_more, take_all, drop_all, get_or_default
 use Rattle.spec_client.specs.Unanswered.{Unanswered, is_timed_out, is_timed_out_at, least_id, free_id, has_outstanding, id_after, next_timeout, without_first}
 use Rattle.client_core.specs.Unanswered.{least_with, FirstAt, IsNowhere, TakesTimeout}
 
-pub least_id_drop : (us : List Unanswered) (i : ℕ) (u : Unanswered) → i < length us → least_id (drop i us) ≡ least_with (get_or us i u) (least_id (drop (i + 1) us))
+pub least_id_drop : (us : List Unanswered) (i : ℕ) (u : Unanswered) → i < length us
+    → least_id (drop i us) ≡ least_with (get_or us i u) (least_id (drop (i + 1) us))
 unfolding least_id
 least_id_drop us i u within = rw (add-one, drop-cons us i u) refl
 

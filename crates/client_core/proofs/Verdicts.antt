@@ -1,6 +1,8 @@
 -- What one packet leads to, and what becomes of it.
-use Rattle.std.proofs.Common.{take, ◌≡◌, ◌≢◌, ℕ, zero, suc, ◌+◌, ◌%◌, ◌<◌, ◌≤◌, List, [], ◌∷◌, length, Bool, true, false, refl, sym, ap, ◌∙◌, subst, arith, inl, inr}
-use Rattle.std.specs.Prelude.{Option, Some, None, Result, Ok, Err, IfOk, OnErr, MatchResult, is_some, is_none, not, ◌&&◌, ◌==◌, option_map, unwrap_or, if◌then◌else◌}
+use Rattle.std.proofs.Common.{take, ◌≡◌, ◌≢◌, ℕ, zero, suc, ◌+◌, ◌%◌, ◌<◌, ◌≤◌, List, [], ◌∷◌, length, Bool}
+use Rattle.std.proofs.Common.{true, false, refl, sym, ap, ◌∙◌, subst, arith, inl, inr}
+use Rattle.std.specs.Prelude.{Option, Some, None, Result, Ok, Err, IfOk, OnErr, MatchResult, is_some, is_none}
+use Rattle.std.specs.Prelude.{not, ◌&&◌, ◌==◌, option_map, unwrap_or, if◌then◌else◌}
 use Rattle.std.specs.List.{list_any}
 use Rattle.std.proofs.lemmas.Bool.{cases_Bool, eq-eqb, ne_eqb, lt-ltb}
 use Rattle.ads_base.specs.declared.no_memory.NoMemory.{NoMemory}
@@ -18,7 +20,9 @@ use Rattle.spec_client.specs.Heard.{StampedSample, samples_of_stamps, heard_of_s
 use Rattle.spec_client.specs.PassedOver.{is_any, notification_says, header_says, says_something, is_response}
 use Rattle.spec_client.specs.Unanswered.{Unanswered, is_outstanding_at, without_first}
 use Rattle.spec_client.specs.Client.{Client, packets_left}
-use Rattle.spec_client.specs.Hearing.{Hearing, hearing, broken_hearing, response_hearing, samples_hearing, notification_hearing, header_hearing, packet_hearing, packets_hearing, with_one_taken}
+use Rattle.spec_client.specs.Hearing.{Hearing, hearing, broken_hearing, response_hearing, samples_hearing}
+use Rattle.spec_client.specs.Hearing.{notification_hearing, header_hearing, packet_hearing, packets_hearing}
+use Rattle.spec_client.specs.Hearing.{with_one_taken}
 use Rattle.client_core.specs.Kept.{Kept, waiting_count}
 use Rattle.client_core.specs.Represents.{Streams, StandsFor}
 use Rattle.client_core.specs.Heard.{heard_meant}
@@ -26,7 +30,9 @@ use Rattle.client_core.specs.declared.heard.Heard.{Heard}
 use Rattle.client_core.specs.declared.heard.Heard.TheVariants as value
 use Rattle.client_core.specs.declared.verdict.Verdict.{Verdict}
 use Rattle.client_core.specs.declared.verdict.Verdict.TheVariants as verdict
-use Rattle.client_core.specs.Hears.{StandsStill, IsHearing, Hears, hearing_in_frames, HearsFrames, HeardAt, Turns, with_waiting, IsQuiet, IsAtBroken, CutFor, Cuts, Holds, HoldsFirst, IsVerdictOf, IsVerdict, Applies}
+use Rattle.client_core.specs.Hears.{StandsStill, IsHearing, Hears, hearing_in_frames, HearsFrames, HeardAt}
+use Rattle.client_core.specs.Hears.{Turns, with_waiting, IsQuiet, IsAtBroken, CutFor, Cuts, Holds, HoldsFirst}
+use Rattle.client_core.specs.Hears.{IsVerdictOf, IsVerdict, Applies}
 use Rattle.client_core.proofs.PacketsLeft.{passed_over, taken_over, next_left}
 
 either_is : {X : Type 0} (b s t : Bool) (x y : Option X) → s ≡ is_some x → t ≡ is_some y → (if b then s else t) ≡ is_some (if b then x else y)
@@ -148,7 +154,8 @@ applied_says old k e idle packet heard c s x =
 pub applied_answers : (old k : Kept) → k ≡ old → old.waiting ≡ None → (packet : List ℕ) (id : ℕ) (heard : Heard) (us : List Unanswered)
     → us ≡ without_first (is_outstanding_at id) k.unanswered → Applies old (record k { unanswered = us }) packet (verdict.Answers id heard) (Some heard)
 applied_answers old k e idle packet id heard us is c s x =
-    let t = takes old idle packet c (hearing (heard_meant heard) (record (with_one_taken c) { unanswered = without_first (is_outstanding_at id) c.unanswered })) s x in
+    let t = takes old idle packet c
+    (hearing (heard_meant heard) (record (with_one_taken c) { unanswered = without_first (is_outstanding_at id) c.unanswered })) s x in
     let stands : StandsFor k (with_one_taken c) = subst (λ (o : Kept). StandsFor o (with_one_taken c)) (sym e) t.stands in
     heard_as (record k { unanswered = us }) heard c _ t.heard (record {
       heard_is = refl;
@@ -189,7 +196,8 @@ applied_holds old new idle packet ss None h c s x =
 applied_holds old new idle packet ss (Some heard) h c s x = held_first old new idle packet ss heard h c s x
 
 -- a turn with a packet
-pub turned : (old mid new : Kept) (packet : List ℕ) → ((c : Client) → StandsFor old c → StandsFor (with_waiting mid packet) c) → (r : Result (Option Heard) NoMemory)
+pub turned : (old mid new : Kept) (packet : List ℕ)
+    → ((c : Client) → StandsFor old c → StandsFor (with_waiting mid packet) c) → (r : Result (Option Heard) NoMemory)
     → IfOk r (λ heard. (c : Client) → StandsFor (with_waiting mid packet) c → HeardAt new heard c) → OnErr r (new ≡ with_waiting mid packet)
     → MatchResult r (Turns old new) (λ wants. StandsStill old new)
 turned old mid new packet cuts (Ok heard) hears stays = λ c s. hears c (cuts c s)
@@ -238,8 +246,10 @@ verdict_in v arm packet c e x = subst (λ (w : Verdict). IsVerdict w packet (wit
 pub cut_is : (old new : Kept) (answer arm : Cut) → answer ≡ arm → Cuts old new answer → Cuts old new arm
 cut_is old new answer arm e cuts c s = subst (λ (w : Cut). CutFor new w c) e (cuts c s)
 
-pub hears_passed : (old mid new : Kept) (o : Option Heard) (heard : Heard) → o ≡ Some heard → StandsStill old mid → ((c : Client) → StandsFor mid c → HeardAt new o c) → HearsFrames old new heard
+pub hears_passed : (old mid new : Kept) (o : Option Heard) (heard : Heard) → o ≡ Some heard
+    → StandsStill old mid → ((c : Client) → StandsFor mid c → HeardAt new o c) → HearsFrames old new heard
 hears_passed old mid new o heard e still hears c s = subst (λ (w : Option Heard). HeardAt new w c) e (hears c (still c s))
 
-pub still_passed : (old mid new : Kept) (o : Option Heard) → o ≡ None → StandsStill old mid → ((c : Client) → StandsFor mid c → HeardAt new o c) → StandsStill old new
+pub still_passed : (old mid new : Kept) (o : Option Heard) → o ≡ None → StandsStill old mid
+    → ((c : Client) → StandsFor mid c → HeardAt new o c) → StandsStill old new
 still_passed old mid new o e still hears c s = subst (λ (w : Option Heard). HeardAt new w c) e (hears c (still c s))

@@ -1,5 +1,6 @@
 -- How the client finds and changes its requests without an answer. No public clause cites this file.
-use Rattle.std.specs.Prelude.{◌≡◌, ℕ, ◌+◌, ◌<◌, List, ◌++◌, length, take, drop, find, Bool, true, false, ◌==◌, ◌&&◌, slice_index_or, Option, Some, None, if◌then◌else◌}
+use Rattle.std.specs.Prelude.{◌≡◌, ℕ, ◌+◌, ◌<◌, List, ◌++◌, length, take, drop, find, Bool, true, false, ◌==◌}
+use Rattle.std.specs.Prelude.{◌&&◌, slice_index_or, Option, Some, None, if◌then◌else◌}
 use Rattle.spec_client.specs.Unanswered.{Unanswered, is_outstanding, is_outstanding_at, is_timed_out, is_timed_out_at, lesser, next_timeout, without_first}
 
 -- the request of this id that timed out, or that is outstanding

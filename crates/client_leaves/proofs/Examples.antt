@@ -23,7 +23,8 @@ abbrev typed : List ℕ → ℕ → ℕ → List TypeFields → TypeEntry
 typed name size type_id subs = record { fields = field name [] 0 size type_id; subs = subs }
 
 abbrev axis : TypeEntry
-axis = typed (codes "Axis") 16 65 (field (codes "active") (codes "BOOL") 0 1 33 ∷ field (codes "pos") (codes "DINT") 4 4 3 ∷ field (codes "mode") (codes "MODE") 8 2 18 ∷ [])
+axis = typed (codes "Axis") 16 65
+    (field (codes "active") (codes "BOOL") 0 1 33 ∷ field (codes "pos") (codes "DINT") 4 4 3 ∷ field (codes "mode") (codes "MODE") 8 2 18 ∷ [])
 
 abbrev mode : TypeEntry
 mode = typed (codes "Mode") 2 18 []

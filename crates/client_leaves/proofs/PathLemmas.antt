@@ -1,5 +1,6 @@
 -- The paths of an array's elements.
-use Rattle.std.proofs.Common.{◌≡◌, ℕ, suc, ◌+◌, ◌-◌, ◌*◌, ◌<◌, ◌≤◌, List, [], ◌∷◌, ◌++◌, map, length, take, drop, get_or, refl, sym, ap, ◌∙◌, append_assoc, arith}
+use Rattle.std.proofs.Common.{◌≡◌, ℕ, suc, ◌+◌, ◌-◌, ◌*◌, ◌<◌, ◌≤◌, List, [], ◌∷◌, ◌++◌, map, length, take}
+use Rattle.std.proofs.Common.{drop, get_or, refl, sym, ap, ◌∙◌, append_assoc, arith}
 use Rattle.std.specs.Prelude.{flat_map, pos, ◌+ℤ◌}
 use Rattle.std.specs.List.{range_with_len}
 use Rattle.std.proofs.Math.Nat.{suc-mul, one-le-mul}
@@ -27,7 +28,8 @@ path_with before indexes = before ++ (joined_behind 44 indexes ++ 93 ∷ [])
 same_row : (F : List (List ℕ) → List ℕ) (before : List ℕ) (t : List ℕ) → ((indexes : List (List ℕ)) → F (t ∷ indexes) ≡ path_with before indexes)
     → (all : List (List (List ℕ))) → map (path_with before) all ≡ map F (map (λ others. t ∷ others) all)
 same_row F before t same [] = refl
-same_row F before t same (indexes ∷ all) = ap (λ p. p ∷ map (path_with before) all) (sym (same indexes)) ∙ ap (λ ps. F (t ∷ indexes) ∷ ps) (same_row F before t same all)
+same_row F before t same (indexes ∷ all) =
+    ap (λ p. p ∷ map (path_with before) all) (sym (same indexes)) ∙ ap (λ ps. F (t ∷ indexes) ∷ ps) (same_row F before t same all)
 
 rows : (F : List (List ℕ) → List ℕ) (separator : ℕ) (before : List ℕ) (es : List Ends)
     → ((b : List ℕ) → paths_from 44 b es ≡ map (path_with b) (indexes_of es))
@@ -94,7 +96,8 @@ paths_more separator before e es k n old now new path less so_far is put =
     ≡ old ++ paths_from separator before (e ∷ es) = rw m at so_far.same in
     record {
       count = so_far.count;
-      same = rw (put, is) (append_assoc now (paths_from 44 (before ++ separator ∷ integer_text (e.low +ℤ pos k)) es) (paths_left separator before e es (k + 1) n) ∙ left);
+      same = rw (put, is) (append_assoc now (paths_from 44 (before ++ separator ∷ integer_text (e.low +ℤ pos k)) es)
+          (paths_left separator before e es (k + 1) n) ∙ left);
     }
 
 pub paths_end : (separator : ℕ) (before : List ℕ) (e : Ends) (es : List Ends) (k n : ℕ) (old new : List (List ℕ)) → n ≤ k

@@ -30,7 +30,8 @@ table_goes_on entries i old new d t less so_far same found pushed =
       found = rw pushed (All-push (HasFound entries) old t so_far.found found);
     }
 
-pub table_same : (entries : List TypeEntry) (i : ℕ) (types : List ReadType) → length entries ≤ i → TypesRead entries i types → types_kept types ≡ map entry_meant entries
+pub table_same : (entries : List TypeEntry) (i : ℕ) (types : List ReadType)
+    → length entries ≤ i → TypesRead entries i types → types_kept types ≡ map entry_meant entries
 table_same entries i types all so_far = so_far.same ∙ ap (map entry_meant) (take_all i entries all)
 
 pub table_found : (entries : List TypeEntry) (types : List ReadType) → types_kept types ≡ map entry_meant entries → All (HasFound entries) types → IsTable types

@@ -1,5 +1,6 @@
 -- What the parts of a walk find is what the whole finds.
-use Rattle.std.proofs.Common.{◌≡◌, ℕ, zero, suc, ◌+◌, ◌*◌, ◌^◌, ◌<◌, ◌≤◌, List, [], ◌∷◌, ◌++◌, map, length, drop, Bool, true, false, refl, sym, ap, ◌∙◌, append_assoc, arith}
+use Rattle.std.proofs.Common.{◌≡◌, ℕ, zero, suc, ◌+◌, ◌*◌, ◌^◌, ◌<◌, ◌≤◌, List, [], ◌∷◌, ◌++◌, map, length}
+use Rattle.std.proofs.Common.{drop, Bool, true, false, refl, sym, ap, ◌∙◌, append_assoc, arith}
 use Rattle.std.specs.Prelude.{Option, Some, None, not, ◌&&◌, ◌==◌, nat_le, flat_map, if◌then◌else◌}
 use Rattle.std.specs.List.{list_all}
 use Rattle.std.proofs.Math.Nat.{suc-mul, mul-le-mul_right}
@@ -45,7 +46,8 @@ pub walk_stops : (is_sound here others : Bool) (leaves left first old now new : 
     → Walked false here first now new → Walked false is_sound leaves old new
 walk_stops is_sound here others leaves left first old now new so_far w = walked_no is_sound leaves old new (so_far.sound ∙ rw (sym w.same) refl)
 
-pub walk_goes_on : (is_sound here others : Bool) (leaves first left old now new : List Leaf) → WalkedSoFar is_sound (here && others) leaves (first ++ left) old now
+pub walk_goes_on : (is_sound here others : Bool) (leaves first left old now new : List Leaf)
+    → WalkedSoFar is_sound (here && others) leaves (first ++ left) old now
     → Walked true here first now new → WalkedSoFar is_sound others leaves left old new
 walk_goes_on is_sound here others leaves first left old now new so_far w =
     record { sound = so_far.sound ∙ rw (sym w.same) refl; same = rw (w.leaves_are refl) (append_assoc now first left ∙ so_far.same) }
@@ -155,7 +157,8 @@ all_sound true paths some = all_true paths
 all_sound false [] some = absurd (omega arith)
 all_sound false (path ∷ paths) some = refl
 
-pub record ElementsSoFar (leaves_at : List ℕ → ℕ → List Leaf) (is_sound : Bool) (size place i at : ℕ) (paths : List (List ℕ)) (old new : List Leaf) : Type 0 where
+pub record ElementsSoFar (leaves_at : List ℕ → ℕ → List Leaf) (is_sound : Bool)
+    (size place i at : ℕ) (paths : List (List ℕ)) (old new : List Leaf) : Type 0 where
   pub at_is : at ≡ place + i * size
   pub walked : WalkedSoFar (are_sound is_sound paths) (are_sound is_sound (drop i paths))
       (leaves_of_elements leaves_at place size paths) (leaves_of_elements leaves_at at size (drop i paths)) old new
@@ -170,14 +173,16 @@ elements_room i n size place at less is room =
     let one = suc-mul i size in
     omega arith
 
-pub elements_stop : (leaves_at : List ℕ → ℕ → List Leaf) (is_sound : Bool) (size place i at : ℕ) (paths : List (List ℕ)) (path : List ℕ) (old now new : List Leaf)
+pub elements_stop : (leaves_at : List ℕ → ℕ → List Leaf) (is_sound : Bool)
+    (size place i at : ℕ) (paths : List (List ℕ)) (path : List ℕ) (old now new : List Leaf)
     → drop i paths ≡ path ∷ drop (i + 1) paths → ElementsSoFar leaves_at is_sound size place i at paths old now
     → Walked false is_sound (leaves_at path at) now new
     → Walked false (are_sound is_sound paths) (leaves_of_elements leaves_at place size paths) old new
 elements_stop leaves_at is_sound size place i at paths path old now new first so_far w =
     walk_stops _ _ _ _ _ _ old now new (rw first at so_far.walked) w
 
-pub elements_more : (leaves_at : List ℕ → ℕ → List Leaf) (is_sound : Bool) (size place i at : ℕ) (paths : List (List ℕ)) (path : List ℕ) (old now new : List Leaf)
+pub elements_more : (leaves_at : List ℕ → ℕ → List Leaf) (is_sound : Bool)
+    (size place i at : ℕ) (paths : List (List ℕ)) (path : List ℕ) (old now new : List Leaf)
     → drop i paths ≡ path ∷ drop (i + 1) paths → ElementsSoFar leaves_at is_sound size place i at paths old now
     → Walked true is_sound (leaves_at path at) now new → ElementsSoFar leaves_at is_sound size place (i + 1) (at + size) paths old new
 elements_more leaves_at is_sound size place i at paths path old now new first so_far w =
@@ -247,9 +252,11 @@ structure_leaves_are depth less types path place t is some =
 -- ---- members
 
 -- the members so far and the others, when those so far end here
-abbrev pub MembersWalked : (ElemText → Bool) → (TypeFields → List Leaf) → List TypeEntry → ℕ → ℕ → List TypeFields → List TypeFields → List Leaf → List Leaf → Type 0
+abbrev pub MembersWalked : (ElemText → Bool) → (TypeFields → List Leaf) → List TypeEntry
+    → ℕ → ℕ → List TypeFields → List TypeFields → List Leaf → List Leaf → Type 0
 MembersWalked is_sound leaves_at types size end all others old new =
-    WalkedSoFar (are_members is_sound types 0 size all) (are_members is_sound types end size others) (flat_map leaves_at all) (flat_map leaves_at others) old new
+    WalkedSoFar (are_members is_sound types 0 size all) (are_members is_sound types end size others)
+    (flat_map leaves_at all) (flat_map leaves_at others) old new
 
 -- a member that does not stand in its structure
 pub member_off : (is_sound : ElemText → Bool) (types : List TypeEntry) (end size : ℕ) (f : TypeFields) (t : TypeText) → stands_in types end size f t ≡ false

@@ -30,7 +30,8 @@ fed k r stands = subst (λ x. StandsFor k x) (sym (fed_nothing r)) stands
 abbrev Ticked : RunnerKept → RunnerKept → ℕ → Type 0
 Ticked k new now = (r : Runner) → StandsFor k r → StandsFor new (runner_after_tick r now)
 
-pub takes_bytes : {O : Type 0} (n now size : ℕ) (buf piece : List ℕ) (k mid new : RunnerKept) (first second : O → List LinkMove → Type 0) (old new_link : LinkState)
+pub takes_bytes : {O : Type 0} (n now size : ℕ) (buf piece : List ℕ) (k mid new : RunnerKept)
+    (first second : O → List LinkMove → Type 0) (old new_link : LinkState)
     → piece ≡ take n buf → BringsBytes n now size old new_link → Tells first second (log_after_recv (received.Bytes n now) buf)
     → Ticked k mid now → ((r : Runner) → StandsFor mid r → StandsFor new (runner_after_feed r piece))
     → TakesIn (came.Bytes now) k new first second old.history new_link.history

@@ -9,16 +9,19 @@ use Rattle.spec_client.specs.CallLog.{event_of, sent_moves, sent_behind, sent_la
 use Rattle.client_loop.specs.Called.{AreAwaited}
 use Rattle.client_loop.specs.LinkAfter.{history_after_answer, history_after_answers}
 
-pub over_append : (c : Conversation) (front more : List LinkAnswer) → conversation_after_all c (front ++ more) ≡ conversation_after_all (conversation_after_all c front) more
+pub over_append : (c : Conversation) (front more : List LinkAnswer)
+    → conversation_after_all c (front ++ more) ≡ conversation_after_all (conversation_after_all c front) more
 unfolding conversation_after_all
 over_append c [] more = refl
 over_append c (a ∷ front) more = over_append (conversation_after c a) front more
 
-pub history_append : (h : LinkHistory) (front more : List LinkAnswer) → history_after_answers h (front ++ more) ≡ history_after_answers (history_after_answers h front) more
+pub history_append : (h : LinkHistory) (front more : List LinkAnswer)
+    → history_after_answers h (front ++ more) ≡ history_after_answers (history_after_answers h front) more
 history_append h [] more = refl
 history_append h (a ∷ front) more = history_append (history_after_answer h a) front more
 
-pub awaited_append : (c : Conversation) (front more : List LinkAnswer) → AreAwaited c front → AreAwaited (conversation_after_all c front) more → AreAwaited c (front ++ more)
+pub awaited_append : (c : Conversation) (front more : List LinkAnswer) → AreAwaited c front
+    → AreAwaited (conversation_after_all c front) more → AreAwaited c (front ++ more)
 unfolding conversation_after_all
 awaited_append c [] more first second = second
 awaited_append c (a ∷ front) more first second = (first.0, awaited_append (conversation_after c a) front more first.1 second)

@@ -49,7 +49,8 @@ before_last : (n : ℕ) → n < MAX_ANSWERS → end_at (n + 1) ≡ None
 before_last n few = ap (λ b. if b then Some conversation.Budget else None) (ne_eqb (n + 1) (MAX_ANSWERS + 1) (λ e. omega arith))
 
 -- fewer answers than are waited for came
-pub is_at : {O : Type 0} (c : Conversation) (k : RunnerKept) (quiet count : ℕ) (first second : O → List LinkMove → Type 0) (link mid_link : LinkState) (out mid : Outlets)
+pub is_at : {O : Type 0} (c : Conversation) (k : RunnerKept) (quiet count : ℕ)
+    (first second : O → List LinkMove → Type 0) (link mid_link : LinkState) (out mid : Outlets)
     → count < MAX_ANSWERS → (h : HearsAll c k quiet count first second link mid_link out mid) → IsAt k quiet (conversation_after_all c h.answers)
 is_at c k quiet count first second link mid_link out mid few h = record {
   on = h.end_is ∙ ap end_at h.count_is ∙ before_last count few;
@@ -58,7 +59,8 @@ is_at c k quiet count first second link mid_link out mid few h = record {
 }
 
 -- one answer more
-pub hears_more : {O : Type 0} (c : Conversation) (k new : RunnerKept) (quiet more count : ℕ) (first second third : O → List LinkMove → Type 0) (link mid_link new_link : LinkState) (out mid new_out : Outlets)
+pub hears_more : {O : Type 0} (c : Conversation) (k new : RunnerKept) (quiet more count : ℕ)
+    (first second third : O → List LinkMove → Type 0) (link mid_link new_link : LinkState) (out mid new_out : Outlets)
     → count < MAX_ANSWERS → HearsAll c k quiet count first second link mid_link out mid
     → ((x : Conversation) → IsAt k quiet x → Hears x new more second third mid_link new_link mid new_out)
     → HearsAll c new more (count + 1) first third link new_link out new_out
@@ -86,8 +88,10 @@ hears_more c k new quiet more count first second third link mid_link new_link ou
     }
 
 -- and then it ends so
-over_behind : {O : Type 0} (ended : Option conversation.LoopEnd) (c : Conversation) (k new : RunnerKept) (quiet count : ℕ) (first second third : O → List LinkMove → Type 0) (link mid_link new_link : LinkState) (out mid new_out : Outlets)
-    → (h : HearsAll c k quiet count first second link mid_link out mid) → GoesOver (conversation_after_all c h.answers) new ended second third mid_link new_link mid new_out
+over_behind : {O : Type 0} (ended : Option conversation.LoopEnd) (c : Conversation) (k new : RunnerKept) (quiet count : ℕ)
+    (first second third : O → List LinkMove → Type 0) (link mid_link new_link : LinkState) (out mid new_out : Outlets)
+    → (h : HearsAll c k quiet count first second link mid_link out mid)
+    → GoesOver (conversation_after_all c h.answers) new ended second third mid_link new_link mid new_out
     → GoesOver c new ended first third link new_link out new_out
 over_behind ended c k new quiet count first second third link mid_link new_link out mid new_out h g =
     let x = conversation_after_all c h.answers in
@@ -95,7 +99,8 @@ over_behind ended c k new quiet count first second third link mid_link new_link 
     record {
       answers = h.answers ++ g.answers;
       history =
-          g.history ∙ ap (λ y. history_left ended (history_after_answers y g.answers)) h.history ∙ ap (history_left ended) (sym (history_append link.history h.answers g.answers));
+          g.history ∙ ap (λ y. history_left ended (history_after_answers y g.answers)) h.history
+          ∙ ap (history_left ended) (sym (history_append link.history h.answers g.answers));
       awaited = awaited_append c h.answers g.answers h.awaited g.awaited;
       end_is = ap (λ (y : Conversation). y.end) over ∙ g.end_is;
       entries = g.entries ∙ ap (λ (y : Conversation). entries_taken y.runner.stage) (sym over);
@@ -114,12 +119,14 @@ told_without tells o log (m ∷ ms) told some = absurd some
 pub told_whole : {O : Type 0} (tells : O → List LinkMove → Type 0) (o : O) (log : List LinkMove) (s : SentSome [] tells o log) → tells o log
 told_whole tells o log s = told_without tells o log s.moves s.told s.some
 
-stops_with : {O : Type 0} (more : List LinkAnswer) (c : Conversation) (front : List LinkAnswer) (tells : O → List LinkMove → Type 0) (o : O) (log : List LinkMove)
+stops_with : {O : Type 0} (more : List LinkAnswer) (c : Conversation)
+    (front : List LinkAnswer) (tells : O → List LinkMove → Type 0) (o : O) (log : List LinkMove)
     → SentSome (sent_last [] (conversation_after_all c front) more) tells o (log ++ log_behind [] c front ++ log_up_to [] (conversation_after_all c front) more)
     → SentSome (sent_last [] c (front ++ more)) tells o (log ++ log_up_to [] c (front ++ more))
 unfolding log_up_to sent_last
 stops_with [] c front tells o log s =
-    let whole : tells o (log ++ log_behind [] c front) = subst (tells o) (append-nil (log ++ log_behind [] c front)) (told_whole tells o (log ++ log_behind [] c front ++ []) s) in
+    let whole : tells o (log ++ log_behind [] c front) =
+    subst (tells o) (append-nil (log ++ log_behind [] c front)) (told_whole tells o (log ++ log_behind [] c front ++ []) s) in
     let two : tells o (log ++ (log_up_to [] c front ++ sent_moves (sent_last [] c front))) = subst (λ ms. tells o (log ++ ms)) (log_in_two [] c front) whole in
     let here : SentSome (sent_last [] c front) tells o (log ++ log_up_to [] c front) = record {
       moves = sent_moves (sent_last [] c front);
@@ -133,8 +140,10 @@ stops_with (b ∷ more) c front tells o log s =
     (subst (λ ms. SentSome (sent_last [] x (b ∷ more)) tells o (log ++ ms)) (sym (log_up_to_append [] c front b more))
     (subst (λ ms. SentSome (sent_last [] x (b ∷ more)) tells o ms) (append_assoc log (log_behind [] c front) (log_up_to [] x (b ∷ more))) s))
 
-stops_behind : {O : Type 0} (c : Conversation) (k : RunnerKept) (quiet count : ℕ) (first second third : O → List LinkMove → Type 0) (link mid_link new_link : LinkState) (out mid new_out : Outlets)
-    → (h : HearsAll c k quiet count first second link mid_link out mid) → StopsOver (conversation_after_all c h.answers) second third mid_link new_link mid new_out
+stops_behind : {O : Type 0} (c : Conversation) (k : RunnerKept) (quiet count : ℕ)
+    (first second third : O → List LinkMove → Type 0) (link mid_link new_link : LinkState) (out mid new_out : Outlets)
+    → (h : HearsAll c k quiet count first second link mid_link out mid)
+    → StopsOver (conversation_after_all c h.answers) second third mid_link new_link mid new_out
     → StopsOver c first third link new_link out new_out
 stops_behind c k quiet count first second third link mid_link new_link out mid new_out h g =
     let over = over_append c h.answers g.answers in
@@ -147,14 +156,17 @@ stops_behind c k quiet count first second third link mid_link new_link out mid n
       told = λ o log told. stops_with g.answers c h.answers third o log (g.told o (log ++ log_behind [] c h.answers) (h.told o log told));
     }
 
-pub ends_behind : {O : Type 0} (result : Result RecordEnd NoMemory) (c : Conversation) (k new : RunnerKept) (quiet count : ℕ) (first second third : O → List LinkMove → Type 0) (link mid_link new_link : LinkState) (out mid new_out : Outlets)
+pub ends_behind : {O : Type 0} (result : Result RecordEnd NoMemory) (c : Conversation) (k new : RunnerKept) (quiet count : ℕ)
+    (first second third : O → List LinkMove → Type 0) (link mid_link new_link : LinkState) (out mid new_out : Outlets)
     → link.faults ≤ mid_link.faults → IsLater out mid → count < MAX_ANSWERS → HearsAll c k quiet count first second link mid_link out mid
     → ((x : Conversation) → IsAt k quiet x → EndsOver result x new second third mid_link new_link mid new_out)
     → EndsOver result c new first third link new_link out new_out
 ends_behind (Ok (record_end.Loop (end.Call e))) c k new quiet count first second third link mid_link new_link out mid new_out linked outed few h ends =
-    over_behind _ c k new quiet count first second third link mid_link new_link out mid new_out h (ends _ (is_at c k quiet count first second link mid_link out mid few h))
+    over_behind _ c k new quiet count first second third link mid_link new_link out mid new_out h
+    (ends _ (is_at c k quiet count first second link mid_link out mid few h))
 ends_behind (Ok (record_end.Loop end.Budget)) c k new quiet count first second third link mid_link new_link out mid new_out linked outed few h ends =
-    over_behind _ c k new quiet count first second third link mid_link new_link out mid new_out h (ends _ (is_at c k quiet count first second link mid_link out mid few h))
+    over_behind _ c k new quiet count first second third link mid_link new_link out mid new_out h
+    (ends _ (is_at c k quiet count first second link mid_link out mid few h))
 ends_behind (Ok (record_end.Loop end.LinkFault)) c k new quiet count first second third link mid_link new_link out mid new_out linked outed few h ends =
     let e = ends _ (is_at c k quiet count first second link mid_link out mid few h) in (
       rose_later link.faults mid_link.faults new_link.faults linked e.0,
@@ -174,11 +186,14 @@ ends_behind (Ok record_end.KeeperFault) c k new quiet count first second third l
       stops_behind c k quiet count first second third link mid_link new_link out mid new_out h e.1,
     )
 ends_behind (Err e) c k new quiet count first second third link mid_link new_link out mid new_out linked outed few h ends =
-    stops_behind c k quiet count first second third link mid_link new_link out mid new_out h (ends _ (is_at c k quiet count first second link mid_link out mid few h))
+    stops_behind c k quiet count first second third link mid_link new_link out mid new_out h
+    (ends _ (is_at c k quiet count first second link mid_link out mid few h))
 
 -- all answers that are waited for came
-pub hears_last : {O : Type 0} (c : Conversation) (k : RunnerKept) (quiet count : ℕ) (first second : O → List LinkMove → Type 0) (link new_link : LinkState) (out new_out : Outlets)
-    → count ≡ MAX_ANSWERS → HearsAll c k quiet count first second link new_link out new_out → GoesOver c k (Some conversation.Budget) first second link new_link out new_out
+pub hears_last : {O : Type 0} (c : Conversation) (k : RunnerKept) (quiet count : ℕ)
+    (first second : O → List LinkMove → Type 0) (link new_link : LinkState) (out new_out : Outlets)
+    → count ≡ MAX_ANSWERS → HearsAll c k quiet count first second link new_link out new_out
+    → GoesOver c k (Some conversation.Budget) first second link new_link out new_out
 hears_last c k quiet count first second link new_link out new_out all h = record {
   answers = h.answers;
   history = h.history;

@@ -42,7 +42,8 @@ pub fits_plain : (now : ℕ) (rows : Option (List Row)) (r : Runner) (step : Cal
 fits_plain now None r step is plain f = tt
 fits_plain now (Some there) r step is plain f =
     let all = turn_counted f.first f.limit f.kept now r f.counts in
-    let behind : StepCounts f.first f.limit f.kept step (turn now r).runner = subst (λ s. StepCounts f.first f.limit f.kept s (turn now r).runner) (sym is) all in
+    let behind : StepCounts f.first f.limit f.kept step (turn now r).runner =
+    subst (λ s. StepCounts f.first f.limit f.kept s (turn now r).runner) (sym is) all in
     record {
       first = f.first;
       limit = f.limit;
@@ -93,7 +94,8 @@ fits_row now (Some there) new r row is adds f =
     subst (λ x. Fits x (turn now r).runner) (sym all) fits
 
 -- behind a step, what is kept stands for the runner
-pub ready_plain : (now : ℕ) (k new : RunnerKept) (rows : Option (List Row)) (step : CallStep) (h : IsReady k rows) → step ≡ (turn now h.runner).step → IsNoRow step
+pub ready_plain : (now : ℕ) (k new : RunnerKept) (rows : Option (List Row)) (step : CallStep) (h : IsReady k rows)
+    → step ≡ (turn now h.runner).step → IsNoRow step
     → StandsFor new (turn now h.runner).runner → IsReady new rows
 ready_plain now k new rows step h is plain stands =
     record { runner = (turn now h.runner).runner; stands = stands; fits = fits_plain now rows h.runner step is plain h.fits }

@@ -7,7 +7,9 @@ use Rattle.spec_client.specs.Heard.{Heard, NotYet}
 use Rattle.spec_client.specs.Hearing.{next_hearing}
 use Rattle.spec_client.specs.Stages.{CallEnd, Output, ToSend, ToPrint, ToKeep, Stage, Finished, FinishedRecording}
 use Rattle.spec_client.specs.Steps.{after_heard}
-use Rattle.spec_client.specs.Runner.{Runner, CallStep, Send, Print, Keep, Wait, Over, Turned, turned, given, resting, is_over, is_not_yet, runner_after_hearing, turn_within, turn, Turns, turns, after_step, joined}
+use Rattle.spec_client.specs.Runner.{Runner, CallStep, Send, Print, Keep, Wait, Over, Turned, turned, given}
+use Rattle.spec_client.specs.Runner.{resting, is_over, is_not_yet, runner_after_hearing, turn_within, turn}
+use Rattle.spec_client.specs.Runner.{Turns, turns, after_step, joined}
 use Rattle.spec_client.specs.Laws.{turns_behind}
 use Rattle.spec_client.specs.Conversation.{Sent, CallEnded, end_of_stage, sent_by, printed_by, kept_by}
 use Rattle.spec_client.proofs.TurnsUnfolded.{at, turns_unfold}
@@ -63,10 +65,12 @@ unfolds_by : (now : ℕ) (r : Runner) (step : CallStep) → (turn now r).step �
 unfolds_by now r step is = turns_unfold now r ∙ ap (λ s. turns_behind now s (turn now r).runner) is
 
 -- a step is given, and then all turns behind it
-pub unfolds_sent : (now : ℕ) (r : Runner) (bytes : List ℕ) → Send bytes ≡ (turn now r).step → turns now r ≡ after_step (turn now r) (turns now (turn now r).runner)
+pub unfolds_sent : (now : ℕ) (r : Runner) (bytes : List ℕ) → Send bytes ≡ (turn now r).step
+    → turns now r ≡ after_step (turn now r) (turns now (turn now r).runner)
 unfolds_sent now r bytes is = unfolds_by now r (Send bytes) (sym is) ∙ ap (λ s. after_step (turned s (turn now r).runner) (turns now (turn now r).runner)) is
 
-pub unfolds_printed : (now : ℕ) (r : Runner) (text : List ℕ) → Print text ≡ (turn now r).step → turns now r ≡ after_step (turn now r) (turns now (turn now r).runner)
+pub unfolds_printed : (now : ℕ) (r : Runner) (text : List ℕ) → Print text ≡ (turn now r).step
+    → turns now r ≡ after_step (turn now r) (turns now (turn now r).runner)
 unfolds_printed now r text is = unfolds_by now r (Print text) (sym is) ∙ ap (λ s. after_step (turned s (turn now r).runner) (turns now (turn now r).runner)) is
 
 pub unfolds_kept : (now : ℕ) (r : Runner) (row : Row) → Keep row ≡ (turn now r).step → turns now r ≡ after_step (turn now r) (turns now (turn now r).runner)
@@ -104,6 +108,8 @@ kept-append (Wait ∷ steps) more = kept-append steps more
 kept-append (Over end ∷ steps) more = kept-append steps more
 
 -- one step more was taken
-pub joined_step : (steps : List CallStep) (a b : Turns) (t : Turned) (all : Turns) → all ≡ joined steps a → a ≡ after_step t b → all ≡ joined (steps ++ t.step ∷ []) b
+pub joined_step : (steps : List CallStep) (a b : Turns) (t : Turned) (all : Turns)
+    → all ≡ joined steps a → a ≡ after_step t b → all ≡ joined (steps ++ t.step ∷ []) b
 joined_step steps a b t all first second =
-    first ∙ ap (joined steps) second ∙ ap (λ (s : List CallStep). let x : Turns = record { steps = s; runner = b.runner } in x) (sym (append_assoc steps (t.step ∷ []) b.steps))
+    first ∙ ap (joined steps) second
+    ∙ ap (λ (s : List CallStep). let x : Turns = record { steps = s; runner = b.runner } in x) (sym (append_assoc steps (t.step ∷ []) b.steps))

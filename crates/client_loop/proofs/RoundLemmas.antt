@@ -13,7 +13,9 @@ use Rattle.ads_outside.specs.LinkState.{LinkState, LinkHistory, broke_off}
 use Rattle.ads_outside.specs.Puts.{Appends, AppendsPart}
 use Rattle.spec_client.specs.CallOver.{conversation_after_all}
 use Rattle.spec_client.specs.Conversation as conversation
-use Rattle.spec_client.specs.Conversation.{LinkAnswer, Conversation, CallEnded, MAX_QUIET, MAX_ANSWERS, moment_of, sent_by, printed_by, kept_by, quiet_after, end_by_answer, runner_after_answer, conversation_after}
+use Rattle.spec_client.specs.Conversation.{LinkAnswer, Conversation, CallEnded, MAX_QUIET, MAX_ANSWERS}
+use Rattle.spec_client.specs.Conversation.{moment_of, sent_by, printed_by, kept_by, quiet_after, end_by_answer}
+use Rattle.spec_client.specs.Conversation.{runner_after_answer, conversation_after}
 use Rattle.spec_client.specs.Runner.{Runner, turns}
 use Rattle.spec_client.specs.CallLog.{event_of, sent_moves, sent_last, log_behind, log_up_to}
 use Rattle.client_replies.specs.Stages.{end_meant}
@@ -30,7 +32,9 @@ use Rattle.client_loop.specs.declared.turning.Turned.TheVariants as turned
 use Rattle.client_loop.specs.Outlets.{Outlets, Adds, AddsPart}
 use Rattle.client_loop.specs.Said.{SentSome}
 use Rattle.client_loop.specs.Turning.{GivesSteps, GivesSomeSteps, AfterTurns}
-use Rattle.client_loop.specs.Hearing.{IsCame, Comes, ComesNot, TakesIn, AfterComing, GoesOver, StopsOver, end_at_last, IsAt, Hears, AfterRound, waits_behind, moment_in, heard_by, AllTurns, EndsTurns, TurnsBehind, IfGoes}
+use Rattle.client_loop.specs.Hearing.{IsCame, Comes, ComesNot, TakesIn, AfterComing, GoesOver, StopsOver}
+use Rattle.client_loop.specs.Hearing.{end_at_last, IsAt, Hears, AfterRound, waits_behind, moment_in, heard_by}
+use Rattle.client_loop.specs.Hearing.{AllTurns, EndsTurns, TurnsBehind, IfGoes}
 use Rattle.client_loop.proofs.SaidLemmas.{puts_then, puts_part, puts_all, puts_more, adds_then, adds_part, adds_all, adds_more, tells_more, tells_same}
 use Rattle.client_loop.proofs.TurnLemmas.{rose_later}
 use Rattle.client_loop.proofs.GoingLemmas.{turns_after, text_after, kept_after, runner_after, behind_is, over_after, Waited, waits_after}
@@ -46,26 +50,30 @@ text_stands : {O : Type 0} (c : Conversation) (a : LinkAnswer) (first second : O
     → c.end ≡ None → GivesSteps n (turns_after c a).steps first second out new_out → (base : Option (List ℕ)) → Appends base out.sink.held c.text
     → Appends base new_out.sink.held (conversation_after c a).text
 text_stands c a first second out new_out n on gives base before =
-    subst (λ t. Appends base new_out.sink.held t) (sym (text_after c a on)) (puts_then base out.sink.held new_out.sink.held c.text (printed_by (turns_after c a).steps) before gives.put)
+    subst (λ t. Appends base new_out.sink.held t) (sym (text_after c a on))
+    (puts_then base out.sink.held new_out.sink.held c.text (printed_by (turns_after c a).steps) before gives.put)
 
 part_stands : {O : Type 0} (c : Conversation) (a : LinkAnswer) (first second : O → List LinkMove → Type 0) (out new_out : Outlets) (n : ℕ)
     → c.end ≡ None → GivesSomeSteps n (turns_after c a).steps first second out new_out → (base : Option (List ℕ)) → Appends base out.sink.held c.text
     → AppendsPart base new_out.sink.held (conversation_after c a).text
 part_stands c a first second out new_out n on gives base before =
-    subst (λ t. AppendsPart base new_out.sink.held t) (sym (text_after c a on)) (puts_part base out.sink.held new_out.sink.held c.text (printed_by (turns_after c a).steps) before gives.put)
+    subst (λ t. AppendsPart base new_out.sink.held t) (sym (text_after c a on))
+    (puts_part base out.sink.held new_out.sink.held c.text (printed_by (turns_after c a).steps) before gives.put)
 
 -- and their rows behind those before it
 rows_stand : {O : Type 0} (c : Conversation) (a : LinkAnswer) (first second : O → List LinkMove → Type 0) (out new_out : Outlets) (n : ℕ)
     → c.end ≡ None → GivesSteps n (turns_after c a).steps first second out new_out → (base : Option (List Row)) → Adds base out.keeper.rows c.kept
     → Adds base new_out.keeper.rows (conversation_after c a).kept
 rows_stand c a first second out new_out n on gives base before =
-    subst (λ t. Adds base new_out.keeper.rows t) (sym (kept_after c a on)) (adds_then base out.keeper.rows new_out.keeper.rows c.kept (kept_by (turns_after c a).steps) before gives.kept)
+    subst (λ t. Adds base new_out.keeper.rows t) (sym (kept_after c a on))
+    (adds_then base out.keeper.rows new_out.keeper.rows c.kept (kept_by (turns_after c a).steps) before gives.kept)
 
 some_rows_stand : {O : Type 0} (c : Conversation) (a : LinkAnswer) (first second : O → List LinkMove → Type 0) (out new_out : Outlets) (n : ℕ)
     → c.end ≡ None → GivesSomeSteps n (turns_after c a).steps first second out new_out → (base : Option (List Row)) → Adds base out.keeper.rows c.kept
     → AddsPart base new_out.keeper.rows (conversation_after c a).kept
 some_rows_stand c a first second out new_out n on gives base before =
-    subst (λ t. AddsPart base new_out.keeper.rows t) (sym (kept_after c a on)) (adds_part base out.keeper.rows new_out.keeper.rows c.kept (kept_by (turns_after c a).steps) before gives.kept)
+    subst (λ t. AddsPart base new_out.keeper.rows t) (sym (kept_after c a on))
+    (adds_part base out.keeper.rows new_out.keeper.rows c.kept (kept_by (turns_after c a).steps) before gives.kept)
 
 -- the answer, and what is sent behind it, stand in the log
 log_stands : {O : Type 0} (c : Conversation) (a : LinkAnswer) (first second third : O → List LinkMove → Type 0) (old mid : LinkHistory) (out new_out : Outlets)
@@ -86,7 +94,8 @@ some_stands c a first second third old mid out new_out on comes gives o log told
     (gives.told o (log ++ move.Came (event_of a) ∷ []) (comes.told o log told))
 
 -- the call is over by it
-ends_whole : {O : Type 0} (c : Conversation) (a : LinkAnswer) (new : RunnerKept) (ended : conversation.LoopEnd) (first second third : O → List LinkMove → Type 0) (link mid_link new_link : LinkState) (out new_out : Outlets)
+ends_whole : {O : Type 0} (c : Conversation) (a : LinkAnswer) (new : RunnerKept) (ended : conversation.LoopEnd)
+    (first second third : O → List LinkMove → Type 0) (link mid_link new_link : LinkState) (out new_out : Outlets)
     → c.end ≡ None → Comes a first second link.history mid_link.history → new_link.history ≡ mid_link.history
     → GivesSteps (c.answers + 1) (turns_after c a).steps second third out new_out → (conversation_after c a).end ≡ Some ended
     → entries_taken new.stage ≡ entries_taken (turns_after c a).runner.stage → GoesOver c new (Some ended) first third link new_link out new_out
@@ -103,7 +112,8 @@ ends_whole c a new ended first second third link mid_link new_link out new_out o
 }
 
 -- the turns behind it are cut short
-ends_cut : {O : Type 0} (c : Conversation) (a : LinkAnswer) (first second third : O → List LinkMove → Type 0) (link mid_link new_link : LinkState) (out new_out : Outlets)
+ends_cut : {O : Type 0} (c : Conversation) (a : LinkAnswer) (first second third : O → List LinkMove → Type 0)
+    (link mid_link new_link : LinkState) (out new_out : Outlets)
     → c.end ≡ None → Comes a first second link.history mid_link.history → new_link.history ≡ mid_link.history
     → GivesSomeSteps (c.answers + 1) (turns_after c a).steps second third out new_out
     → StopsOver c first third link new_link out new_out
@@ -119,7 +129,8 @@ ends_cut c a first second third link mid_link new_link out new_out on comes same
 
 -- to receive failed
 pub over_nothing : {O : Type 0} (c : Conversation) (new : RunnerKept) (first second : O → List LinkMove → Type 0) (link new_link : LinkState) (out : Outlets)
-    → c.end ≡ None → StandsFor new c.runner → ComesNot first second (broke_off link.history) new_link.history → GoesOver c new None first second link new_link out out
+    → c.end ≡ None → StandsFor new c.runner → ComesNot first second (broke_off link.history) new_link.history
+    → GoesOver c new None first second link new_link out out
 unfolding conversation_after_all log_behind
 over_nothing c new first second link new_link out on stands comes = record {
   answers = [];
@@ -146,7 +157,8 @@ stops_nothing c first second link new_link out comes = record {
 }
 
 -- memory was wanting for the answer
-pub no_answer : {O : Type 0} (e : NoMemory) (c : Conversation) (k new : RunnerKept) (first second : O → List LinkMove → Type 0) (link new_link : LinkState) (out : Outlets)
+pub no_answer : {O : Type 0} (e : NoMemory) (c : Conversation) (k new : RunnerKept)
+    (first second : O → List LinkMove → Type 0) (link new_link : LinkState) (out : Outlets)
     → c.end ≡ None → AfterComing (Err e) k new first second link new_link → StopsOver c first second link new_link out out
 unfolding conversation_after_all log_up_to sent_last
 no_answer e c k new first second link new_link out on (inl comes) = stops_nothing c first second link new_link out comes
@@ -157,9 +169,11 @@ no_answer e c k new first second link new_link out on (inr comes) =
       history = comes.1.history;
       awaited = (on, tt);
       text = λ base before.
-          subst (λ t. AppendsPart base out.sink.held t) (sym (text_after c a on)) (puts_more base out.sink.held c.text (printed_by (turns_after c a).steps) (puts_all base out.sink.held c.text before));
+          subst (λ t. AppendsPart base out.sink.held t) (sym (text_after c a on))
+          (puts_more base out.sink.held c.text (printed_by (turns_after c a).steps) (puts_all base out.sink.held c.text before));
       rows = λ base before.
-          subst (λ t. AddsPart base out.keeper.rows t) (sym (kept_after c a on)) (adds_more base out.keeper.rows c.kept (kept_by (turns_after c a).steps) (adds_all base out.keeper.rows c.kept before));
+          subst (λ t. AddsPart base out.keeper.rows t) (sym (kept_after c a on))
+          (adds_more base out.keeper.rows c.kept (kept_by (turns_after c a).steps) (adds_all base out.keeper.rows c.kept before));
       told = λ o log told. record { moves = []; told = tells_same second o (log ++ move.Came (event_of a) ∷ []) (comes.1.told o log told); some = tt };
     }
 
@@ -169,7 +183,8 @@ Behind result kind k new second third mid_link new_link out new_out =
     (r : Runner) (n : ℕ) → StandsFor k r → AfterTurns result (moment_in kind) new second third mid_link new_link out new_out n r
 
 -- the turns behind the answer that came
-turns_behind : {O : Type 0} (result : Result Turned NoMemory) (kind : Came) (k heard_k new : RunnerKept) (first second third : O → List LinkMove → Type 0) (link mid_link new_link : LinkState) (out new_out : Outlets)
+turns_behind : {O : Type 0} (result : Result Turned NoMemory) (kind : Came) (k heard_k new : RunnerKept)
+    (first second third : O → List LinkMove → Type 0) (link mid_link new_link : LinkState) (out new_out : Outlets)
     (quiet : ℕ) (c : Conversation) → IsAt k quiet c → (t : TakesIn kind k heard_k first second link.history mid_link.history)
     → Behind result kind heard_k new second third mid_link new_link out new_out
     → AfterTurns result (moment_of t.answer) new second third mid_link new_link out new_out (c.answers + 1) (runner_after_answer c.runner t.answer)
@@ -178,7 +193,8 @@ turns_behind result kind k heard_k new first second third link mid_link new_link
     (moment_came kind t.answer t.kind_is) (behind (runner_after_answer c.runner t.answer) (c.answers + 1) (t.stands c.runner at.stands))
 
 -- the call is over
-pub round_over : {O : Type 0} (e : CallEnd) (kind : Came) (k heard_k new : RunnerKept) (first second third : O → List LinkMove → Type 0) (link mid_link new_link : LinkState) (out new_out : Outlets)
+pub round_over : {O : Type 0} (e : CallEnd) (kind : Came) (k heard_k new : RunnerKept)
+    (first second third : O → List LinkMove → Type 0) (link mid_link new_link : LinkState) (out new_out : Outlets)
     (quiet : ℕ) (c : Conversation) → IsAt k quiet c → TakesIn kind k heard_k first second link.history mid_link.history
     → Behind (Ok (turned.Over e)) kind heard_k new second third mid_link new_link out new_out → new_link.history ≡ mid_link.history
     → AfterRound (Ok (heard.Ends (record_end.Loop (end.Call e)))) c new first third link new_link out new_out
@@ -187,9 +203,11 @@ round_over e kind k heard_k new first second third link mid_link new_link out ne
     ends_whole c t.answer new (CallEnded (end_meant e)) first second third link mid_link new_link out new_out at.on t.comes same after.1
     (over_after c t.answer (CallEnded (end_meant e)) at.on after.0) after.2
 
-pub round_link : {O : Type 0} (kind : Came) (k heard_k new : RunnerKept) (first second third : O → List LinkMove → Type 0) (link mid_link new_link : LinkState) (out new_out : Outlets)
+pub round_link : {O : Type 0} (kind : Came) (k heard_k new : RunnerKept)
+    (first second third : O → List LinkMove → Type 0) (link mid_link new_link : LinkState) (out new_out : Outlets)
     (quiet : ℕ) (c : Conversation) → IsAt k quiet c → TakesIn kind k heard_k first second link.history mid_link.history
-    → Behind (Ok turned.LinkFault) kind heard_k new second third mid_link new_link out new_out → new_link.history ≡ mid_link.history → link.faults ≤ mid_link.faults
+    → Behind (Ok turned.LinkFault) kind heard_k new second third mid_link new_link out new_out
+    → new_link.history ≡ mid_link.history → link.faults ≤ mid_link.faults
     → AfterRound (Ok (heard.Ends (record_end.Loop end.LinkFault))) c new first third link new_link out new_out
 round_link kind k heard_k new first second third link mid_link new_link out new_out quiet c at t behind same later =
     let after = turns_behind (Ok turned.LinkFault) kind k heard_k new first second third link mid_link new_link out new_out quiet c at t behind in (
@@ -197,7 +215,8 @@ round_link kind k heard_k new first second third link mid_link new_link out new_
       inr (ends_cut c t.answer first second third link mid_link new_link out new_out at.on t.comes same after.1),
     )
 
-pub round_write : {O : Type 0} (kind : Came) (k heard_k new : RunnerKept) (first second third : O → List LinkMove → Type 0) (link mid_link new_link : LinkState) (out new_out : Outlets)
+pub round_write : {O : Type 0} (kind : Came) (k heard_k new : RunnerKept)
+    (first second third : O → List LinkMove → Type 0) (link mid_link new_link : LinkState) (out new_out : Outlets)
     (quiet : ℕ) (c : Conversation) → IsAt k quiet c → TakesIn kind k heard_k first second link.history mid_link.history
     → Behind (Ok turned.WriteFault) kind heard_k new second third mid_link new_link out new_out → new_link.history ≡ mid_link.history
     → AfterRound (Ok (heard.Ends (record_end.Loop end.WriteFault))) c new first third link new_link out new_out
@@ -205,7 +224,8 @@ round_write kind k heard_k new first second third link mid_link new_link out new
     let after = turns_behind (Ok turned.WriteFault) kind k heard_k new first second third link mid_link new_link out new_out quiet c at t behind in
     (after.0, ends_cut c t.answer first second third link mid_link new_link out new_out at.on t.comes same after.1)
 
-pub round_keeper : {O : Type 0} (kind : Came) (k heard_k new : RunnerKept) (first second third : O → List LinkMove → Type 0) (link mid_link new_link : LinkState) (out new_out : Outlets)
+pub round_keeper : {O : Type 0} (kind : Came) (k heard_k new : RunnerKept)
+    (first second third : O → List LinkMove → Type 0) (link mid_link new_link : LinkState) (out new_out : Outlets)
     (quiet : ℕ) (c : Conversation) → IsAt k quiet c → TakesIn kind k heard_k first second link.history mid_link.history
     → Behind (Ok turned.KeeperFault) kind heard_k new second third mid_link new_link out new_out → new_link.history ≡ mid_link.history
     → AfterRound (Ok (heard.Ends record_end.KeeperFault)) c new first third link new_link out new_out
@@ -213,7 +233,8 @@ round_keeper kind k heard_k new first second third link mid_link new_link out ne
     let after = turns_behind (Ok turned.KeeperFault) kind k heard_k new first second third link mid_link new_link out new_out quiet c at t behind in
     (after.0, ends_cut c t.answer first second third link mid_link new_link out new_out at.on t.comes same after.1)
 
-pub round_not : {O : Type 0} (e : NoMemory) (kind : Came) (k heard_k new : RunnerKept) (first second third : O → List LinkMove → Type 0) (link mid_link new_link : LinkState) (out new_out : Outlets)
+pub round_not : {O : Type 0} (e : NoMemory) (kind : Came) (k heard_k new : RunnerKept)
+    (first second third : O → List LinkMove → Type 0) (link mid_link new_link : LinkState) (out new_out : Outlets)
     (quiet : ℕ) (c : Conversation) → IsAt k quiet c → TakesIn kind k heard_k first second link.history mid_link.history
     → Behind (Err e) kind heard_k new second third mid_link new_link out new_out → new_link.history ≡ mid_link.history
     → AfterRound (Err e) c new first third link new_link out new_out
@@ -222,7 +243,8 @@ round_not e kind k heard_k new first second third link mid_link new_link out new
     (turns_behind (Err e) kind k heard_k new first second third link mid_link new_link out new_out quiet c at t behind)
 
 -- it waits, and goes on
-goes_on : {O : Type 0} (c : Conversation) (a : LinkAnswer) (new : RunnerKept) (quiet : ℕ) (first second third : O → List LinkMove → Type 0) (link mid_link new_link : LinkState) (out new_out : Outlets)
+goes_on : {O : Type 0} (c : Conversation) (a : LinkAnswer) (new : RunnerKept) (quiet : ℕ)
+    (first second third : O → List LinkMove → Type 0) (link mid_link new_link : LinkState) (out new_out : Outlets)
     → c.end ≡ None → Comes a first second link.history mid_link.history → new_link.history ≡ mid_link.history
     → GivesSteps (c.answers + 1) (turns_after c a).steps second third out new_out → Waited c a → StandsFor new (turns_after c a).runner
     → quiet_after c.quiet a ≡ quiet → (conversation_after c a).end ≡ end_at_last (conversation_after c a)
@@ -249,7 +271,8 @@ abbrev heard_unless : Bool → ℕ → Heard
 heard_unless last quiet = if last then heard.Ends (record_end.Loop end.Budget) else heard.Goes quiet
 
 -- the last Quiet that is waited for, or another one
-quiet_round : {O : Type 0} (last : Bool) (c : Conversation) (a : LinkAnswer) (new : RunnerKept) (quiet : ℕ) (first second third : O → List LinkMove → Type 0) (link mid_link new_link : LinkState) (out new_out : Outlets)
+quiet_round : {O : Type 0} (last : Bool) (c : Conversation) (a : LinkAnswer) (new : RunnerKept) (quiet : ℕ)
+    (first second third : O → List LinkMove → Type 0) (link mid_link new_link : LinkState) (out new_out : Outlets)
     → c.end ≡ None → Comes a first second link.history mid_link.history → new_link.history ≡ mid_link.history
     → GivesSteps (c.answers + 1) (turns_after c a).steps second third out new_out → Waited c a → StandsFor new (turns_after c a).runner
     → quiet_after c.quiet a ≡ quiet → (conversation_after c a).end ≡ end_unless last (conversation_after c a)
@@ -259,7 +282,8 @@ quiet_round true c a new quiet first second third link mid_link new_link out new
 quiet_round false c a new quiet first second third link mid_link new_link out new_out on comes same gives w stands quiet_is end_is =
     goes_on c a new quiet first second third link mid_link new_link out new_out on comes same gives w stands quiet_is end_is
 
-pub round_waits : {O : Type 0} (kind : Came) (k heard_k new : RunnerKept) (first second third : O → List LinkMove → Type 0) (link mid_link new_link : LinkState) (out new_out : Outlets)
+pub round_waits : {O : Type 0} (kind : Came) (k heard_k new : RunnerKept)
+    (first second third : O → List LinkMove → Type 0) (link mid_link new_link : LinkState) (out new_out : Outlets)
     (quiet : ℕ) (c : Conversation) → IsAt k quiet c → TakesIn kind k heard_k first second link.history mid_link.history
     → Behind (Ok turned.Waits) kind heard_k new second third mid_link new_link out new_out → new_link.history ≡ mid_link.history
     → AfterRound (Ok (waits_behind kind quiet)) c new first third link new_link out new_out
@@ -277,7 +301,8 @@ round_waits (came.Quiet now) k heard_k new first second third link mid_link new_
     let d = conversation_after c t.answer in
     let more : quiet_after c.quiet t.answer ≡ quiet + 1 = ap (quiet_after c.quiet) t.kind_is ∙ ap (λ q. q + 1) at.quiet_is in
     let ended : d.end ≡ end_by d.quiet d = w.end ∙ ap (end_by_answer d) t.kind_is in
-    quiet_round (quiet + 1 == MAX_QUIET) c t.answer new (quiet + 1) first second third link mid_link new_link out new_out at.on t.comes same after.2 w after.0 more
+    quiet_round (quiet + 1 == MAX_QUIET) c t.answer new (quiet + 1) first second
+    third link mid_link new_link out new_out at.on t.comes same after.2 w after.0 more
     (ended ∙ ap (λ q. end_by q d) (w.quiet ∙ more))
 round_waits (came.Closed now) k heard_k new first second third link mid_link new_link out new_out quiet c at t behind same =
     let after = turns_behind (Ok turned.Waits) (came.Closed now) k heard_k new first second third link mid_link new_link out new_out quiet c at t behind in
@@ -286,7 +311,8 @@ round_waits (came.Closed now) k heard_k new first second third link mid_link new
     (w.end ∙ ap (end_by_answer (conversation_after c t.answer)) t.kind_is) (ap entries_taken after.0.stage_is)
 
 -- by how the turns behind the answer ended
-round_by : {O : Type 0} (ended : Turned) (kind : Came) (k heard_k new : RunnerKept) (first second third : O → List LinkMove → Type 0) (link mid_link new_link : LinkState) (out new_out : Outlets)
+round_by : {O : Type 0} (ended : Turned) (kind : Came) (k heard_k new : RunnerKept)
+    (first second third : O → List LinkMove → Type 0) (link mid_link new_link : LinkState) (out new_out : Outlets)
     (quiet : ℕ) (c : Conversation) → IsAt k quiet c → TakesIn kind k heard_k first second link.history mid_link.history
     → Behind (Ok ended) kind heard_k new second third mid_link new_link out new_out → new_link.history ≡ mid_link.history → link.faults ≤ mid_link.faults
     → AfterRound (Ok (heard_by ended kind quiet)) c new first third link new_link out new_out
@@ -301,7 +327,8 @@ round_by turned.WriteFault kind k heard_k new first second third link mid_link n
 round_by turned.KeeperFault kind k heard_k new first second third link mid_link new_link out new_out quiet c at t behind same later =
     round_keeper kind k heard_k new first second third link mid_link new_link out new_out quiet c at t behind same
 
-pub round_of : {O : Type 0} (result : Result Heard NoMemory) (kind : Came) (k heard_k new : RunnerKept) (first second third : O → List LinkMove → Type 0) (link mid_link new_link : LinkState) (out new_out : Outlets)
+pub round_of : {O : Type 0} (result : Result Heard NoMemory) (kind : Came) (k heard_k new : RunnerKept)
+    (first second third : O → List LinkMove → Type 0) (link mid_link new_link : LinkState) (out new_out : Outlets)
     (quiet : ℕ) (c : Conversation) → IsAt k quiet c → TakesIn kind k heard_k first second link.history mid_link.history
     → TurnsBehind result kind quiet heard_k new second third mid_link new_link out new_out → new_link.history ≡ mid_link.history → link.faults ≤ mid_link.faults
     → AfterRound result c new first third link new_link out new_out
@@ -311,7 +338,8 @@ round_of (Ok told) kind k heard_k new first second third link mid_link new_link 
 round_of (Err e) kind k heard_k new first second third link mid_link new_link out new_out quiet c at t behind same later =
     round_not e kind k heard_k new first second third link mid_link new_link out new_out quiet c at t behind same
 
-pub ends_turns : {O : Type 0} (ended : Turned) (told : Heard) (kind : Came) (quiet now : ℕ) (k new : RunnerKept) (second third : O → List LinkMove → Type 0) (mid_link new_link : LinkState) (out new_out : Outlets)
+pub ends_turns : {O : Type 0} (ended : Turned) (told : Heard) (kind : Came) (quiet now : ℕ) (k new : RunnerKept)
+    (second third : O → List LinkMove → Type 0) (mid_link new_link : LinkState) (out new_out : Outlets)
     → told ≡ heard_by ended kind quiet → now ≡ moment_in kind → AllTurns (Ok ended) now k new second third mid_link new_link out new_out
     → EndsTurns told kind quiet k new second third mid_link new_link out new_out
 ends_turns ended told kind quiet now k new second third mid_link new_link out new_out is at turns = record {
@@ -336,5 +364,6 @@ waits_few (came.Bytes now) quiet few = omega arith
 waits_few (came.Quiet now) quiet few = few_unless (quiet + 1 == MAX_QUIET) (quiet + 1) (below_next quiet few)
 waits_few (came.Closed now) quiet few = tt
 
-pub told_few : (told : Heard) (kind : Came) (quiet : ℕ) → told ≡ waits_behind kind quiet → quiet < MAX_QUIET → IfGoes (Ok told) (λ in_a_row. in_a_row < MAX_QUIET)
+pub told_few : (told : Heard) (kind : Came) (quiet : ℕ) → told ≡ waits_behind kind quiet
+    → quiet < MAX_QUIET → IfGoes (Ok told) (λ in_a_row. in_a_row < MAX_QUIET)
 told_few told kind quiet is few = subst (λ h. IfGoes (Ok h) (λ in_a_row. in_a_row < MAX_QUIET)) (sym is) (waits_few kind quiet few)

@@ -1,5 +1,6 @@
 -- What is sent and put, one after another.
-use Rattle.std.proofs.Common.{◌≡◌, ℕ, zero, suc, ◌+◌, List, [], ◌∷◌, ◌++◌, length, take, drop, Option, Some, None, refl, sym, ap, ◌∙◌, subst, append_assoc, inl, inr, arith}
+use Rattle.std.proofs.Common.{◌≡◌, ℕ, zero, suc, ◌+◌, List, [], ◌∷◌, ◌++◌, length, take, drop, Option, Some}
+use Rattle.std.proofs.Common.{None, refl, sym, ap, ◌∙◌, subst, append_assoc, inl, inr, arith}
 use Rattle.std.specs.Prelude.{option_map}
 use Rattle.std.proofs.lemmas.List.{append-nil, map-append, take-append-drop}
 use Rattle.std.proofs.Math.Seq.{take-append_seam, take-append-add, take-length}
@@ -161,7 +162,8 @@ gives_some_more s u t v p q first second out new a = record {
 }
 
 -- some first part of one piece
-pub part_sent : {O : Type 0} (tells : O → List LinkMove → Type 0) (o : O) (log : List LinkMove) (s : Sent) (n : ℕ) → tells o (with_part n s.bytes log) → SentSome (s ∷ []) tells o log
+pub part_sent : {O : Type 0} (tells : O → List LinkMove → Type 0) (o : O) (log : List LinkMove) (s : Sent) (n : ℕ)
+    → tells o (with_part n s.bytes log) → SentSome (s ∷ []) tells o log
 part_sent tells o log s zero told = record { moves = []; told = tells_same tells o log told; some = tt }
 part_sent tells o log s (suc n) told = record {
   moves = move.Sent (take (suc n) s.bytes) ∷ [];

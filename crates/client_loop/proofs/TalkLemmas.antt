@@ -11,7 +11,8 @@ use Rattle.ads_outside.specs.SinkState.{SinkState}
 use Rattle.spec_client.specs.Calls.{Call}
 use Rattle.spec_client.specs.CallOver.{conversation_after_all}
 use Rattle.spec_client.specs.Conversation as conversation
-use Rattle.spec_client.specs.Conversation.{LinkAnswer, Bytes, Quiet, Closed, Conversation, printed_by, kept_by, sent_by, conversation_begun, conversation_after_turns}
+use Rattle.spec_client.specs.Conversation.{LinkAnswer, Bytes, Quiet, Closed, Conversation, printed_by, kept_by}
+use Rattle.spec_client.specs.Conversation.{sent_by, conversation_begun, conversation_after_turns}
 use Rattle.spec_client.specs.Runner.{new_runner, turns}
 use Rattle.spec_client.specs.CallLog.{sent_moves, sent_last, log_behind, log_up_to}
 use Rattle.client_replies.specs.declared.stage.CallEnd.{CallEnd}
@@ -33,20 +34,24 @@ use Rattle.client_loop.proofs.SaidLemmas.{puts_nothing, puts_then, puts_part, pu
 use Rattle.client_loop.proofs.TurnLemmas.{rose_later}
 
 -- the call waits behind its first turns
-pub begins : {O : Type 0} (me peer : AmsAddress) (call : Call) (now : ℕ) (k : RunnerKept) (first second : O → List LinkMove → Type 0) (link mid_link : LinkState) (out mid : Outlets)
+pub begins : {O : Type 0} (me peer : AmsAddress) (call : Call) (now : ℕ) (k : RunnerKept)
+    (first second : O → List LinkMove → Type 0) (link mid_link : LinkState) (out mid : Outlets)
     → AfterTurns (Ok turned.Waits) now k first second link mid_link out mid 1 (new_runner me peer call) → IsBegun k (conversation_begun me peer call now)
 unfolding conversation_after_turns
 begins me peer call now k first second link mid_link out mid t = record { on = t.1; stands = t.0; quiet_is = refl; count_is = refl }
 
 -- what the first turns gave
-pub gives_begun : {O : Type 0} (me peer : AmsAddress) (call : Call) (now : ℕ) (k : RunnerKept) (first second : O → List LinkMove → Type 0) (link mid_link : LinkState) (out mid : Outlets)
+pub gives_begun : {O : Type 0} (me peer : AmsAddress) (call : Call) (now : ℕ) (k : RunnerKept)
+    (first second : O → List LinkMove → Type 0) (link mid_link : LinkState) (out mid : Outlets)
     → AfterTurns (Ok turned.Waits) now k first second link mid_link out mid 1 (new_runner me peer call)
     → let c = conversation_begun me peer call now in Gives c.sent c.text c.kept first second out mid
 unfolding conversation_after_turns
 gives_begun me peer call now k first second link mid_link out mid t = t.2
 
-whole_from : {O : Type 0} (c : Conversation) (new : RunnerKept) (ended : Option conversation.LoopEnd) (first second third : O → List LinkMove → Type 0) (link mid_link new_link : LinkState) (out mid new_out : Outlets)
-    → mid_link.history ≡ link.history → Gives c.sent c.text c.kept first second out mid → IsWhole (all_of c) c new ended second third mid_link new_link mid new_out
+whole_from : {O : Type 0} (c : Conversation) (new : RunnerKept) (ended : Option conversation.LoopEnd)
+    (first second third : O → List LinkMove → Type 0) (link mid_link new_link : LinkState) (out mid new_out : Outlets)
+    → mid_link.history ≡ link.history → Gives c.sent c.text c.kept first second out mid
+    → IsWhole (all_of c) c new ended second third mid_link new_link mid new_out
     → IsWhole (none_of c) c new ended first third link new_link out new_out
 whole_from c new ended first second third link mid_link new_link out mid new_out same gives g = record {
   answers = g.answers;
@@ -66,13 +71,15 @@ part_with : {O : Type 0} (answers : List LinkAnswer) (c : Conversation) (tells :
     → SentSome (sent_last c.sent c answers) tells o (log ++ log_up_to c.sent c answers)
 unfolding log_up_to sent_last
 part_with [] c tells o log s =
-    let whole : tells o (log ++ sent_moves c.sent) = subst (tells o) (append-nil (log ++ sent_moves c.sent)) (told_whole tells o (log ++ sent_moves c.sent ++ []) s) in
+    let whole : tells o (log ++ sent_moves c.sent) =
+    subst (tells o) (append-nil (log ++ sent_moves c.sent)) (told_whole tells o (log ++ sent_moves c.sent ++ []) s) in
     record {
       moves = sent_moves c.sent;
       told = subst (λ ms. tells o (ms ++ sent_moves c.sent)) (sym (append-nil log)) whole;
       some = all_some c.sent;
     }
-part_with (b ∷ more) c tells o log s = subst (λ ms. SentSome (sent_last [] c (b ∷ more)) tells o ms) (append_assoc log (sent_moves c.sent) (log_up_to [] c (b ∷ more))) s
+part_with (b ∷ more) c tells o log s =
+    subst (λ ms. SentSome (sent_last [] c (b ∷ more)) tells o ms) (append_assoc log (sent_moves c.sent) (log_up_to [] c (b ∷ more))) s
 
 part_from : {O : Type 0} (c : Conversation) (first second third : O → List LinkMove → Type 0) (link mid_link new_link : LinkState) (out mid new_out : Outlets)
     → mid_link.history ≡ link.history → Gives c.sent c.text c.kept first second out mid → IsPart (all_of c) c second third mid_link new_link mid new_out
@@ -87,7 +94,8 @@ part_from c first second third link mid_link new_link out mid new_out same gives
 }
 
 -- the answers behind the first turns
-pub ends_from : {O : Type 0} (result : Result RecordEnd NoMemory) (c : Conversation) (new : RunnerKept) (first second third : O → List LinkMove → Type 0) (link mid_link new_link : LinkState) (out mid new_out : Outlets)
+pub ends_from : {O : Type 0} (result : Result RecordEnd NoMemory) (c : Conversation) (new : RunnerKept)
+    (first second third : O → List LinkMove → Type 0) (link mid_link new_link : LinkState) (out mid new_out : Outlets)
     → mid_link.history ≡ link.history → link.faults ≤ mid_link.faults → IsLater out mid → Gives c.sent c.text c.kept first second out mid
     → EndsOver result c new second third mid_link new_link mid new_out → EndsFrom result c new first third link new_link out new_out
 ends_from (Ok (record_end.Loop (end.Call e))) c new first second third link mid_link new_link out mid new_out same linked outed gives g =
@@ -113,7 +121,8 @@ ends_from (Err e) c new first second third link mid_link new_link out mid new_ou
     part_from c first second third link mid_link new_link out mid new_out same gives g
 
 -- the call is over by its first turns
-pub over_first : {O : Type 0} (e : CallEnd) (me peer : AmsAddress) (call : Call) (now : ℕ) (k : RunnerKept) (first second : O → List LinkMove → Type 0) (link new_link : LinkState) (out new_out : Outlets)
+pub over_first : {O : Type 0} (e : CallEnd) (me peer : AmsAddress) (call : Call) (now : ℕ) (k : RunnerKept)
+    (first second : O → List LinkMove → Type 0) (link new_link : LinkState) (out new_out : Outlets)
     → new_link.history ≡ link.history → AfterTurns (Ok (turned.Over e)) now k first second link new_link out new_out 1 (new_runner me peer call)
     → EndsFrom (Ok (record_end.Loop (end.Call e))) (conversation_begun me peer call now) k first second link new_link out new_out
 unfolding conversation_after_turns conversation_after_all log_behind
@@ -128,7 +137,8 @@ over_first e me peer call now k first second link new_link out new_out same t = 
   told = t.1.told;
 }
 
-part_first : {O : Type 0} (me peer : AmsAddress) (call : Call) (now : ℕ) (first second : O → List LinkMove → Type 0) (link new_link : LinkState) (out new_out : Outlets)
+part_first : {O : Type 0} (me peer : AmsAddress) (call : Call) (now : ℕ)
+    (first second : O → List LinkMove → Type 0) (link new_link : LinkState) (out new_out : Outlets)
     → new_link.history ≡ link.history
     → let steps = (turns now (new_runner me peer call)).steps in GivesSome (sent_by 1 steps) (printed_by steps) (kept_by steps) first second out new_out
     → let c = conversation_begun me peer call now in IsPart (none_of c) c first second link new_link out new_out
@@ -139,31 +149,40 @@ part_first me peer call now first second link new_link out new_out same gives = 
   awaited = tt;
   text = λ base before. puts_part base out.sink.held new_out.sink.held [] (printed_by (turns now (new_runner me peer call)).steps) before gives.put;
   rows = λ base before. adds_part base out.keeper.rows new_out.keeper.rows [] (kept_by (turns now (new_runner me peer call)).steps) before gives.kept;
-  told = λ o log told. subst (λ ms. SentSome (sent_by 1 (turns now (new_runner me peer call)).steps) second o ms) (sym (append-nil log)) (gives.told o log told);
+  told = λ o log told. subst (λ ms. SentSome (sent_by 1 (turns now (new_runner me peer call)).steps) second o ms)
+      (sym (append-nil log)) (gives.told o log told);
 }
 
-pub link_first : {O : Type 0} (me peer : AmsAddress) (call : Call) (now : ℕ) (k : RunnerKept) (first second : O → List LinkMove → Type 0) (link new_link : LinkState) (out new_out : Outlets)
+pub link_first : {O : Type 0} (me peer : AmsAddress) (call : Call) (now : ℕ) (k : RunnerKept)
+    (first second : O → List LinkMove → Type 0) (link new_link : LinkState) (out new_out : Outlets)
     → new_link.history ≡ link.history → AfterTurns (Ok turned.LinkFault) now k first second link new_link out new_out 1 (new_runner me peer call)
     → EndsFrom (Ok (record_end.Loop end.LinkFault)) (conversation_begun me peer call now) k first second link new_link out new_out
-link_first me peer call now k first second link new_link out new_out same t = (t.0, inr (part_first me peer call now first second link new_link out new_out same t.1))
+link_first me peer call now k first second link new_link out new_out same t =
+    (t.0, inr (part_first me peer call now first second link new_link out new_out same t.1))
 
-pub write_first : {O : Type 0} (me peer : AmsAddress) (call : Call) (now : ℕ) (k : RunnerKept) (first second : O → List LinkMove → Type 0) (link new_link : LinkState) (out new_out : Outlets)
+pub write_first : {O : Type 0} (me peer : AmsAddress) (call : Call) (now : ℕ) (k : RunnerKept)
+    (first second : O → List LinkMove → Type 0) (link new_link : LinkState) (out new_out : Outlets)
     → new_link.history ≡ link.history → AfterTurns (Ok turned.WriteFault) now k first second link new_link out new_out 1 (new_runner me peer call)
     → EndsFrom (Ok (record_end.Loop end.WriteFault)) (conversation_begun me peer call now) k first second link new_link out new_out
-write_first me peer call now k first second link new_link out new_out same t = (t.0, part_first me peer call now first second link new_link out new_out same t.1)
+write_first me peer call now k first second link new_link out new_out same t =
+    (t.0, part_first me peer call now first second link new_link out new_out same t.1)
 
-pub keeper_first : {O : Type 0} (me peer : AmsAddress) (call : Call) (now : ℕ) (k : RunnerKept) (first second : O → List LinkMove → Type 0) (link new_link : LinkState) (out new_out : Outlets)
+pub keeper_first : {O : Type 0} (me peer : AmsAddress) (call : Call) (now : ℕ) (k : RunnerKept)
+    (first second : O → List LinkMove → Type 0) (link new_link : LinkState) (out new_out : Outlets)
     → new_link.history ≡ link.history → AfterTurns (Ok turned.KeeperFault) now k first second link new_link out new_out 1 (new_runner me peer call)
     → EndsFrom (Ok record_end.KeeperFault) (conversation_begun me peer call now) k first second link new_link out new_out
-keeper_first me peer call now k first second link new_link out new_out same t = (t.0, part_first me peer call now first second link new_link out new_out same t.1)
+keeper_first me peer call now k first second link new_link out new_out same t =
+    (t.0, part_first me peer call now first second link new_link out new_out same t.1)
 
-pub memory_first : {O : Type 0} (e : NoMemory) (me peer : AmsAddress) (call : Call) (now : ℕ) (k : RunnerKept) (first second : O → List LinkMove → Type 0) (link new_link : LinkState) (out new_out : Outlets)
+pub memory_first : {O : Type 0} (e : NoMemory) (me peer : AmsAddress) (call : Call) (now : ℕ) (k : RunnerKept)
+    (first second : O → List LinkMove → Type 0) (link new_link : LinkState) (out new_out : Outlets)
     → new_link.history ≡ link.history → AfterTurns (Err e) now k first second link new_link out new_out 1 (new_runner me peer call)
     → EndsFrom (Err e) (conversation_begun me peer call now) k first second link new_link out new_out
 memory_first e me peer call now k first second link new_link out new_out same t = part_first me peer call now first second link new_link out new_out same t
 
 -- memory was wanting before them
-pub never_first : {O : Type 0} (c : Conversation) (tells : O → List LinkMove → Type 0) (link : LinkState) (out : Outlets) → IsPart (none_of c) c tells tells link link out out
+pub never_first : {O : Type 0} (c : Conversation) (tells : O → List LinkMove → Type 0) (link : LinkState) (out : Outlets)
+    → IsPart (none_of c) c tells tells link link out out
 unfolding conversation_after_all log_up_to sent_last
 never_first c tells link out = record {
   answers = [];
@@ -180,8 +199,10 @@ begun_by x now = conversation_begun x.me x.peer x.call now
 abbrev pub Joins : {O : Type 0} → Calling → ℕ → (O → List LinkMove → Type 0) → (O → List LinkMove → Type 0) → Type 0
 Joins {O} x now first second = (o : O) (log : List LinkMove) → first o log → second o (log ++ move.Connected x.to now ∷ [])
 
-abbrev pub talks_from : {O : Type 0} (x : Calling) (now : ℕ) (k : RunnerKept) (ended : Option conversation.LoopEnd) (first second third : O → List LinkMove → Type 0) (mid_link new_link : LinkState) (out new_out : Outlets)
-    → mid_link.history ≡ connected_at now → Joins x now first second → IsWhole (none_of (begun_by x now)) (begun_by x now) k ended second third mid_link new_link out new_out
+abbrev pub talks_from : {O : Type 0} (x : Calling) (now : ℕ) (k : RunnerKept) (ended : Option conversation.LoopEnd)
+    (first second third : O → List LinkMove → Type 0) (mid_link new_link : LinkState) (out new_out : Outlets)
+    → mid_link.history ≡ connected_at now → Joins x now first second
+    → IsWhole (none_of (begun_by x now)) (begun_by x now) k ended second third mid_link new_link out new_out
     → Talks x ended first third new_link out.sink new_out.sink
 talks_from x now k ended first second third mid_link new_link out new_out at joins g = record {
   moment = now;
@@ -190,11 +211,14 @@ talks_from x now k ended first second third mid_link new_link out new_out at joi
   awaited = g.awaited;
   end_is = g.end_is;
   text = g.text out.sink.held (puts_nothing out.sink.held);
-  told = λ o log told. tells_more third o log (move.Connected x.to now ∷ []) (log_behind (begun_by x now).sent (begun_by x now) g.answers) (g.told o (log ++ move.Connected x.to now ∷ []) (joins o log told));
+  told = λ o log told. tells_more third o log (move.Connected x.to now ∷ [])
+      (log_behind (begun_by x now).sent (begun_by x now) g.answers) (g.told o (log ++ move.Connected x.to now ∷ []) (joins o log told));
 }
 
-abbrev pub breaks_from : {O : Type 0} (x : Calling) (now : ℕ) (first second third : O → List LinkMove → Type 0) (mid_link new_link : LinkState) (out new_out : Outlets)
-    → mid_link.history ≡ connected_at now → Joins x now first second → IsPart (none_of (begun_by x now)) (begun_by x now) second third mid_link new_link out new_out
+abbrev pub breaks_from : {O : Type 0} (x : Calling) (now : ℕ)
+    (first second third : O → List LinkMove → Type 0) (mid_link new_link : LinkState) (out new_out : Outlets)
+    → mid_link.history ≡ connected_at now → Joins x now first second
+    → IsPart (none_of (begun_by x now)) (begun_by x now) second third mid_link new_link out new_out
     → BreaksOff x first third new_link out.sink new_out.sink
 breaks_from x now first second third mid_link new_link out new_out at joins g =
     let c = begun_by x now in
@@ -234,7 +258,8 @@ send_fails x first third new_link out new_out t =
     fails_so false x first third new_link out new_out (ap (λ (h : LinkHistory). h.broken) t.history ∙ all_broken (connected_at t.moment) t.answers) t
 
 -- the whole call, behind its connection
-pub calls : {O : Type 0} (result : Result LoopEnd NoMemory) (x : Calling) (now : ℕ) (first second third : O → List LinkMove → Type 0) (link mid_link new_link : LinkState) (out new_out : SinkState)
+pub calls : {O : Type 0} (result : Result LoopEnd NoMemory) (x : Calling) (now : ℕ)
+    (first second third : O → List LinkMove → Type 0) (link mid_link new_link : LinkState) (out new_out : SinkState)
     → mid_link.history ≡ connected_at now → link.faults ≤ mid_link.faults → Joins x now first second
     → TalksAlone result (begun_by x now) second third mid_link new_link out new_out → AfterCall result x first third link new_link out new_out
 calls (Ok (end.Call e)) x now first second third link mid_link new_link out new_out at later joins g =

@@ -21,8 +21,12 @@ use Rattle.client_loop.specs.declared.turning.Turned.TheVariants as turned
 use Rattle.client_loop.specs.Outlets.{Outlets, outlets, IsLater, Adds, AddsPart}
 use Rattle.client_loop.specs.Said.{Gives, GivesSome}
 use Rattle.client_loop.specs.Turning.{GivesSteps, GivesSomeSteps, AfterSend, AfterPut, AfterKeep, AfterTurn, IfWaits, UnlessTurned, AfterTurns, TakesTurns}
-use Rattle.client_loop.proofs.SaidLemmas.{puts_nothing, puts_none, puts_more, adds_nothing, adds_none, tells_same, gives_nothing, gives_then, gives_some_then, gives_some_more, part_sent}
-use Rattle.client_loop.proofs.RestLemmas.{turn_rests, unfolds_sent, unfolds_printed, unfolds_kept, unfolds_waiting, unfolds_over, sent-append, printed-append, kept-append, joined_step}
+use Rattle.client_loop.proofs.SaidLemmas.{puts_nothing, puts_none, puts_more, adds_nothing, adds_none}
+use Rattle.client_loop.proofs.SaidLemmas.{tells_same, gives_nothing, gives_then, gives_some_then}
+use Rattle.client_loop.proofs.SaidLemmas.{gives_some_more, part_sent}
+use Rattle.client_loop.proofs.RestLemmas.{turn_rests, unfolds_sent, unfolds_printed, unfolds_kept}
+use Rattle.client_loop.proofs.RestLemmas.{unfolds_waiting, unfolds_over, sent-append, printed-append}
+use Rattle.client_loop.proofs.RestLemmas.{kept-append, joined_step}
 
 pub rose_later : (a b c : ℕ) → a ≤ b → Rose b c → Rose a c
 rose_later a b c more rose = omega arith
@@ -72,7 +76,8 @@ pub turn_sent : {O : Type 0} (result : Result (Option Turned) NoMemory) (now : �
 turn_sent (Ok None) now new old_tells new_tells link new_link out bytes n r sent is stands = (
   stands,
   unfolds_sent now r bytes is,
-  subst (λ step. GivesSteps n (step ∷ []) old_tells new_tells out out) is (record { put = puts_nothing out.sink.held; kept = adds_nothing out.keeper.rows; told = sent }),
+  subst (λ step. GivesSteps n (step ∷ []) old_tells new_tells out out) is
+      (record { put = puts_nothing out.sink.held; kept = adds_nothing out.keeper.rows; told = sent }),
 )
 turn_sent (Ok (Some turned.LinkFault)) now new old_tells new_tells link new_link out bytes n r sent is stands = (
   sent.0,
@@ -196,7 +201,8 @@ takes_none now k tells out n r stands = record { steps = []; behind = r; stands 
 -- one more
 pub takes_more : {O : Type 0} (now : ℕ) (k new : RunnerKept) (first second third : O → List LinkMove → Type 0) (mid_link new_link : LinkState)
     (out mid new_out : Outlets) (n : ℕ) (r : Runner) → TakesTurns now k first second out mid n r
-    → ((b : Runner) (m : ℕ) → StandsFor k b → AfterTurn (Ok None) now new second third mid_link new_link mid new_out m b) → TakesTurns now new first third out new_out n r
+    → ((b : Runner) (m : ℕ) → StandsFor k b → AfterTurn (Ok None) now new second third mid_link new_link mid new_out m b)
+    → TakesTurns now new first third out new_out n r
 takes_more now k new first second third mid_link new_link out mid new_out n r t after =
     let b = t.behind in
     let more = after b n t.stands in
@@ -219,7 +225,8 @@ cut_later now k first second third out mid new_out n r t cut =
     (some_steps_then n t.steps (turns now t.behind).steps first second third out mid new_out t.gives cut)
 
 -- and then the runner rests, or breaks off
-pub turned_so : {O : Type 0} (result : Turned) (now : ℕ) (k new : RunnerKept) (first second third : O → List LinkMove → Type 0) (link mid_link new_link : LinkState)
+pub turned_so : {O : Type 0} (result : Turned) (now : ℕ) (k new : RunnerKept)
+    (first second third : O → List LinkMove → Type 0) (link mid_link new_link : LinkState)
     (out mid new_out : Outlets) (n : ℕ) (r : Runner) → link.faults ≤ mid_link.faults → IsLater out mid → TakesTurns now k first second out mid n r
     → ((b : Runner) (m : ℕ) → StandsFor k b → AfterTurn (Ok (Some result)) now new second third mid_link new_link mid new_out m b)
     → AfterTurns (Ok result) now new first third link new_link out new_out n r
@@ -232,15 +239,18 @@ turned_so turned.Waits now k new first second third link mid_link new_link out m
 turned_so (turned.Over end) now k new first second third link mid_link new_link out mid new_out n r linked outed t after =
     let b = t.behind in
     let rest = after b n t.stands in
-    let is : turns now r ≡ joined t.steps (record { steps = []; runner = (turn now b).runner }) = t.same ∙ ap (joined t.steps) (unfolds_over now b (end_meant end) rest.0) in
+    let is : turns now r ≡ joined t.steps (record { steps = []; runner = (turn now b).runner }) =
+    t.same ∙ ap (joined t.steps) (unfolds_over now b (end_meant end) rest.0) in
     subst
     (λ (ts : Turns). (end_of_stage ts.runner.stage ≡ Some (CallEnded (end_meant end))) × GivesSteps n ts.steps first third out new_out
     × (entries_taken new.stage ≡ entries_taken ts.runner.stage)) (sym is)
     (turn_rests now b (Over (end_meant end)) rest.0, steps_then n t.steps [] first second third out mid new_out t.gives rest.1, rest.2)
 turned_so turned.LinkFault now k new first second third link mid_link new_link out mid new_out n r linked outed t after =
     let b = t.behind in
-    let rest = after b n t.stands in
-    (rose_later link.faults mid_link.faults new_link.faults linked rest.0, cut_later now k first second third out mid new_out n r t (cut_behind now n b second third mid new_out rest.1 rest.2))
+    let rest = after b n t.stands in (
+      rose_later link.faults mid_link.faults new_link.faults linked rest.0,
+      cut_later now k first second third out mid new_out n r t (cut_behind now n b second third mid new_out rest.1 rest.2),
+    )
 turned_so turned.WriteFault now k new first second third link mid_link new_link out mid new_out n r linked outed t after =
     let b = t.behind in
     let rest = after b n t.stands in (
@@ -255,7 +265,8 @@ turned_so turned.KeeperFault now k new first second third link mid_link new_link
     )
 
 -- memory was wanting
-pub turned_not : {O : Type 0} (e : NoMemory) (now : ℕ) (k new : RunnerKept) (first second third : O → List LinkMove → Type 0) (link mid_link new_link : LinkState)
+pub turned_not : {O : Type 0} (e : NoMemory) (now : ℕ) (k new : RunnerKept)
+    (first second third : O → List LinkMove → Type 0) (link mid_link new_link : LinkState)
     (out mid new_out : Outlets) (n : ℕ) (r : Runner) → TakesTurns now k first second out mid n r
     → ((b : Runner) (m : ℕ) → StandsFor k b → AfterTurn (Err e) now new second third mid_link new_link mid new_out m b)
     → AfterTurns (Err e) now new first third link new_link out new_out n r

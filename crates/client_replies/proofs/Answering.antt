@@ -11,10 +11,15 @@ use Rattle.spec_formats.specs.Notification.{Stamp}
 use Rattle.spec_formats.specs.NotificationReading.{notification_of}
 use Rattle.spec_formats.specs.Commands.{DEVICE_NOTIFICATION}
 use Rattle.spec_client.specs.Heard.{Heard, Answered, Sampled, Ended, Stray, StampedSample, samples_of_stamps, heard_of_sample}
-use Rattle.spec_client.specs.Unanswered.{Unanswered, is_outstanding, is_outstanding_at, is_timed_out_at, is_overdue, outstanding_count, after_tick_of, next_timeout, without_first}
+use Rattle.spec_client.specs.Unanswered.{Unanswered, is_outstanding, is_outstanding_at, is_timed_out_at}
+use Rattle.spec_client.specs.Unanswered.{is_overdue, outstanding_count, after_tick_of, next_timeout}
+use Rattle.spec_client.specs.Unanswered.{without_first}
 use Rattle.spec_client.specs.PassedOver.{is_response}
 use Rattle.spec_client.specs.Client.{Client, packets_left}
-use Rattle.spec_client.specs.Hearing.{Hearing, hearing, is_answer, is_off_its_text, answer_hearing, samples_hearing, notification_hearing, header_hearing, packet_hearing, rest_hearing, with_one_taken, packets_hearing, hearing_of_samples, hearing_unless_broken, hearing_of_timeout, next_hearing}
+use Rattle.spec_client.specs.Hearing.{Hearing, hearing, is_answer, is_off_its_text, answer_hearing}
+use Rattle.spec_client.specs.Hearing.{samples_hearing, notification_hearing, header_hearing, packet_hearing}
+use Rattle.spec_client.specs.Hearing.{rest_hearing, with_one_taken, packets_hearing, hearing_of_samples}
+use Rattle.spec_client.specs.Hearing.{hearing_unless_broken, hearing_of_timeout, next_hearing}
 
 either : {X : Type 0} (P : X → Type 0) (b : Bool) (x y : X) → P x → P y → P (if b then x else y)
 either P true x y first second = first
@@ -59,7 +64,8 @@ one_outstanding id u e =
     ap (λ b. cond b 1 0) yes
 
 -- an answered request is one less
-count-answered : (id command : ℕ) (us : List Unanswered) → Answers id command us → outstanding_count (without_first (is_outstanding_at id) us) + 1 ≤ outstanding_count us
+count-answered : (id command : ℕ) (us : List Unanswered) → Answers id command us
+    → outstanding_count (without_first (is_outstanding_at id) us) + 1 ≤ outstanding_count us
 unfolding without_first
 count-answered id command [] e = absurd (let no_request : false ≡ true = e in cc)
 count-answered id command (u ∷ us) e = elim (cases_Bool (is_outstanding_at id u)) [

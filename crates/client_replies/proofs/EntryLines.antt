@@ -15,7 +15,8 @@ use Rattle.client_replies.specs.Parts.{taken_entry_in, only_entry_in, lines_of, 
 -- what is taken first, and the entries behind it
 entries-first : (n : ℕ) (o : Option (SymbolEntry × List ℕ)) →
     option_and_then (λ first. if is_taken first.0 then option_map (λ es. first.0 ∷ es) (entries_in n first.1) else None) o
-    ≡ option_and_then (λ first. option_map (λ es. first.0 ∷ es) (entries_in n first.1)) (option_and_then (λ first. if is_taken first.0 then Some first else None) o)
+    ≡ option_and_then (λ first. option_map (λ es. first.0 ∷ es) (entries_in n first.1))
+    (option_and_then (λ first. if is_taken first.0 then Some first else None) o)
 entries-first n None = refl
 entries-first n (Some first) = elim (is_taken first.0) as (λ b.
     (if b then option_map (λ es. first.0 ∷ es) (entries_in n first.1) else None)
@@ -63,7 +64,8 @@ lines_begin count outputs bytes is =
     rw (is, n) refl
 
 pub lines_more : (count i : ℕ) (old new : List Output) (bytes rest behind : List ℕ) (e : SymbolEntry) (text : List ℕ) → i < count
-    → taken_entry_in rest ≡ Some (e, behind) → text ≡ entry_line e → new ≡ old ++ output.ToPrint text ∷ [] → Along count i old rest bytes → Along count (i + 1) new behind bytes
+    → taken_entry_in rest ≡ Some (e, behind) → text ≡ entry_line e → new ≡ old ++ output.ToPrint text ∷ []
+    → Along count i old rest bytes → Along count (i + 1) new behind bytes
 lines_more count i old new bytes rest behind e text less taken line is so_far =
     let kept : map output_kept new ≡ map output_kept old ++ stages.ToPrint (entry_line e) ∷ [] =
     ap (map output_kept) is ∙ map-append output_kept old (output.ToPrint text ∷ []) ∙ ap (λ t. map output_kept old ++ stages.ToPrint t ∷ []) line in

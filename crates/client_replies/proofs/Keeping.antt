@@ -13,10 +13,16 @@ use Rattle.spec_client.specs.Calls.{MAX_SIZE, value_request, write_request, uplo
 use Rattle.spec_client.specs.Entries.{one_entry_in, entries_in, first_of, is_taken, types_in}
 use Rattle.spec_client.specs.Leaves.{leaves_of, leaf_line}
 use Rattle.spec_client.specs.Printed.{line, entry_line, sample_line, ended_line}
-use Rattle.spec_client.specs.Stages.{ToSend, ToPrint, Purpose, ToGet, ToSet, ToWatch, ToShow, Stage, AwaitsFacts, AwaitsState, AwaitsLast, AwaitsEntry, AwaitsValue, AwaitsHandle, AwaitsWrite, AwaitsUploadInfo, AwaitsUpload, AwaitsNotification, Watches, AwaitsTypeInfo, AwaitsTypes, AwaitsLeaves, ForSamples, Records, Finished, FinishedRecording, CallEnd, BadPeer, Refused, Progress, progress, stay, ended, ended_at, done_with, bad_text}
+use Rattle.spec_client.specs.Stages.{ToSend, ToPrint, Purpose, ToGet, ToSet, ToWatch, ToShow, Stage}
+use Rattle.spec_client.specs.Stages.{AwaitsFacts, AwaitsState, AwaitsLast, AwaitsEntry, AwaitsValue}
+use Rattle.spec_client.specs.Stages.{AwaitsHandle, AwaitsWrite, AwaitsUploadInfo, AwaitsUpload}
+use Rattle.spec_client.specs.Stages.{AwaitsNotification, Watches, AwaitsTypeInfo, AwaitsTypes, AwaitsLeaves}
+use Rattle.spec_client.specs.Stages.{ForSamples, Records, Finished, FinishedRecording, CallEnd, BadPeer}
+use Rattle.spec_client.specs.Stages.{Refused, Progress, progress, stay, ended, ended_at, done_with, bad_text}
 use Rattle.spec_client.specs.Stages as stages
 use Rattle.spec_client.specs.Recordings.{recorded_at}
-use Rattle.spec_client.specs.Replies.{bytes_given, after_entry, after_entry_read, after_value_read, after_upload, after_types, after_reply, after_reply_read, after_answer}
+use Rattle.spec_client.specs.Replies.{bytes_given, after_entry, after_entry_read, after_value_read}
+use Rattle.spec_client.specs.Replies.{after_upload, after_types, after_reply, after_reply_read, after_answer}
 use Rattle.spec_client.specs.Steps.{with_samples_left, after_watched_sample, after_sample, after_end, after_heard}
 use Rattle.spec_client.specs.ValueReading.{value_of_text}
 use Rattle.value_text.proofs.ValuesFound.{values_found}
@@ -72,7 +78,8 @@ unfolding entries_in
 entry_small bytes e is = by_first (entry_of bytes) e is
   where
     by_first : (o : Option (SymbolEntry × List ℕ)) (e : SymbolEntry)
-        → option_and_then first_of (option_and_then (λ first. if is_taken first.0 then option_map (λ es. first.0 ∷ es) (entries_in 0 first.1) else None) o) ≡ Some e
+        → option_and_then first_of
+        (option_and_then (λ first. if is_taken first.0 then option_map (λ es. first.0 ∷ es) (entries_in 0 first.1) else None) o) ≡ Some e
         → e.size ≤ MAX_SIZE
     by_first None e is = absurd cc
     by_first (Some first) e is = taken_small (entries_in 0 first.1) first e (is_taken first.0) refl is
@@ -102,7 +109,8 @@ keeps_upload (Some entries) payload = prints_all entry_line entries
 keeps_types : (name : List ℕ) (e : SymbolEntry) (o : Option (List TypeEntry)) (payload : List ℕ) → length name ≤ 65536 → Ends (after_types name e o payload)
 keeps_types name e None payload short = record { names = tt; sendable = tt; one_by_one = lit≤ tt }
 keeps_types name e (Some types) payload short =
-    either Ends _ _ _ (sends (AwaitsLeaves e.size (leaves_of types e.name e.type_name)) (value_request name e.size) tt (omega arith) (lit≤ tt)) (ends_bad payload)
+    either Ends _ _ _ (sends (AwaitsLeaves e.size (leaves_of types e.name e.type_name)) (value_request name e.size) tt (omega arith) (lit≤ tt))
+    (ends_bad payload)
 
 keeps_reply : (stage : Stage) (reply : Reply) (payload : List ℕ) → HasShortNames stage → Ends (after_reply stage reply payload)
 unfolding after_reply
@@ -155,7 +163,8 @@ keeps_watched e handle (suc left) n time bytes one = by_left left (sample_line t
     by_left zero text = record { names = tt; sendable = (tt, (tt, tt)); one_by_one = omega arith }
     by_left (suc more) text = record { names = tt; sendable = (tt, tt); one_by_one = omega arith }
 
-keeps_sample : (stage : Stage) (n handle time : ℕ) (bytes : List ℕ) → HasShortNames stage → n ≤ most_asked stage → Keeps n (after_sample stage handle time bytes)
+keeps_sample : (stage : Stage) (n handle time : ℕ) (bytes : List ℕ) → HasShortNames stage
+    → n ≤ most_asked stage → Keeps n (after_sample stage handle time bytes)
 unfolding after_sample
 keeps_sample (Watches e watched left) n handle time bytes short one =
     either (Keeps n) (handle == watched) _ _ (keeps_watched e watched left n time bytes one) (keeps_stay (Watches e watched left) n tt one)

@@ -1,7 +1,8 @@
 -- Which entry and request a kept value is.
 use Rattle.std.specs.Prelude.{[]}
 use Rattle.spec_formats.specs.SymbolEntry.{SymbolEntry}
-use Rattle.spec_formats.specs.Request.{Request, ReadDeviceInfo, Read, Write, ReadState, WriteControl, AddDeviceNotification, DeleteDeviceNotification, ReadWrite}
+use Rattle.spec_formats.specs.Request.{Request, ReadDeviceInfo, Read, Write, ReadState, WriteControl}
+use Rattle.spec_formats.specs.Request.{AddDeviceNotification, DeleteDeviceNotification, ReadWrite}
 use Rattle.client_replies.specs.declared.own_entry.OwnEntry.{OwnEntry}
 use Rattle.client_replies.specs.declared.stage.Asked.{Asked}
 use Rattle.client_replies.specs.declared.stage.Asked.TheVariants as asked

@@ -3,7 +3,8 @@ use Rattle.std.specs.Prelude.{ℕ, ◌+◌, ◌≤◌, ◌<◌, ◌^◌, List, [
 use Rattle.spec_formats.specs.Request as request
 use Rattle.spec_client.specs.Unanswered.{outstanding_count}
 use Rattle.spec_client.specs.Calls.{Call, Info, State, Control, Get, Set, Symbols, Watch, Show, Record, MAX_SIZE}
-use Rattle.spec_client.specs.Stages.{Output, ToSend, ToPrint, ToKeep, ForSamples, Stage, AwaitsEntry, AwaitsHandle, AwaitsTypeInfo, AwaitsTypes, Watches, Records}
+use Rattle.spec_client.specs.Stages.{Output, ToSend, ToPrint, ToKeep, ForSamples, Stage, AwaitsEntry}
+use Rattle.spec_client.specs.Stages.{AwaitsHandle, AwaitsTypeInfo, AwaitsTypes, Watches, Records}
 use Rattle.spec_client.specs.Runner.{Runner}
 use Rattle.client_replies.specs.Rows.{HasRowNumbers}
 

@@ -15,7 +15,8 @@ use Rattle.table_text.specs.SetMember.{set_member}
 
 -- what is found at one of three places
 found_at : (o : Ordering) (k l : List ℕ) (d e : Data) (ms : Members) → slice_cmp nat_cmp k l ≡ o
-    → get_member k (set_member k d ms) ≡ Some d → get_member k (match_ordering o (member k d (member l e ms)) (member l d ms) (member l e (set_member k d ms))) ≡ Some d
+    → get_member k (set_member k d ms) ≡ Some d
+    → get_member k (match_ordering o (member k d (member l e ms)) (member l d ms) (member l e (set_member k d ms))) ≡ Some d
 found_at Less k l d e ms is ih = rw (tied_itself nat_list_cmp_total k) refl
 found_at Equal k l d e ms is ih = rw is refl
 found_at Greater k l d e ms is ih = rw is ih
@@ -52,7 +53,8 @@ pub get_member-other : (k l : List ℕ) (d : Data) (ms : Members) → is_eq (sli
 get_member-other k l d no_members other = passed (slice_cmp nat_cmp k l) None (Some d) other
 get_member-other k l d (member m e ms) other = set_at (slice_cmp nat_cmp l m) k l m d e ms refl other (get_member-other k l d ms other)
 
-known_at : (o : Ordering) (keys : List (List ℕ)) (k l : List ℕ) (d e : Data) (ms : Members) → list_any (bytes_eq k) keys ≡ true → list_any (bytes_eq l) keys ≡ true
+known_at : (o : Ordering) (keys : List (List ℕ)) (k l : List ℕ) (d e : Data) (ms : Members)
+    → list_any (bytes_eq k) keys ≡ true → list_any (bytes_eq l) keys ≡ true
     → only_keys keys ms ≡ true → only_keys keys (set_member k d ms) ≡ true
     → only_keys keys (match_ordering o (member k d (member l e ms)) (member l d ms) (member l e (set_member k d ms))) ≡ true
 known_at Less keys k l d e ms new here more ih = rw (new, here, more) refl
@@ -60,14 +62,16 @@ known_at Equal keys k l d e ms new here more ih = rw (here, more) refl
 known_at Greater keys k l d e ms new here more ih = rw (here, ih) refl
 
 -- the keys stay known
-pub only_keys-set : (keys : List (List ℕ)) (k : List ℕ) (d : Data) (ms : Members) → list_any (bytes_eq k) keys ≡ true → only_keys keys ms ≡ true → only_keys keys (set_member k d ms) ≡ true
+pub only_keys-set : (keys : List (List ℕ)) (k : List ℕ) (d : Data) (ms : Members)
+    → list_any (bytes_eq k) keys ≡ true → only_keys keys ms ≡ true → only_keys keys (set_member k d ms) ≡ true
 only_keys-set keys k d no_members new h = rw new refl
 only_keys-set keys k d (member l e ms) new h =
     let (here, more) = and_parts (list_any (bytes_eq l) keys) (only_keys keys ms) h in
     known_at (slice_cmp nat_cmp k l) keys k l d e ms new here more (only_keys-set keys k d ms new more)
 
 -- a key that is not known is not there
-pub get_member-unknown : (keys : List (List ℕ)) (k : List ℕ) (ms : Members) → list_any (bytes_eq k) keys ≡ false → only_keys keys ms ≡ true → get_member k ms ≡ None
+pub get_member-unknown : (keys : List (List ℕ)) (k : List ℕ) (ms : Members)
+    → list_any (bytes_eq k) keys ≡ false → only_keys keys ms ≡ true → get_member k ms ≡ None
 get_member-unknown keys k no_members unknown h = refl
 get_member-unknown keys k (member l e ms) unknown h =
     let (here, more) = and_parts (list_any (bytes_eq l) keys) (only_keys keys ms) h in

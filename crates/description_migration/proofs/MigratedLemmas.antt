@@ -31,7 +31,8 @@ rules_ok : (r : Result Description BrokenRule) (d : Description) → verdict_of_
 rules_ok (Ok x) d h = ap Ok (let same : x ≡ d = cc in same)
 rules_ok (Err fault) d h = cc
 
-document_ok : (signals : ℕ) (bytes : List ℕ) (o : Option Members) (d : Description) → document_of bytes ≡ o → verdict_of_document signals o ≡ Described d → IsTable signals bytes d
+document_ok : (signals : ℕ) (bytes : List ℕ) (o : Option Members) (d : Description)
+    → document_of bytes ≡ o → verdict_of_document signals o ≡ Described d → IsTable signals bytes d
 document_ok signals bytes None d is h = cc
 document_ok signals bytes (Some t) d is h = record { members = t; is = is; judged = rules_ok (table_verdict signals t) d h }
 
@@ -58,13 +59,15 @@ made_of bytes new h made =
     same
 
 -- it can be printed
-pub second_fits : (bytes : List ℕ) (new : Members) (h : IsDocument bytes) → Some new ≡ option_map second_schema (document_of bytes) → members_are_sorted new ≡ true → TableFits 5 new
+pub second_fits : (bytes : List ℕ) (new : Members) (h : IsDocument bytes)
+    → Some new ≡ option_map second_schema (document_of bytes) → members_are_sorted new ≡ true → TableFits 5 new
 second_fits bytes new h made sorted =
     let written : document_in new ≡ Some (under_second h.document) = ap document_in (made_of bytes new h made) ∙ document_up h.members h.document h.written in
     document_fits new (under_second h.document) sorted written
 
 -- and its text is the migrated one
-pub text_made : (bytes text : List ℕ) (new : Members) (h : IsDocument bytes) → Some new ≡ option_map second_schema (document_of bytes) → text ≡ document_text new → text ≡ migrated_text bytes
+pub text_made : (bytes text : List ℕ) (new : Members) (h : IsDocument bytes)
+    → Some new ≡ option_map second_schema (document_of bytes) → text ≡ document_text new → text ≡ migrated_text bytes
 unfolding migrated_text
 text_made bytes text new h made is =
     is ∙ (ap document_text (made_of bytes new h made) ∙ sym (ap (λ o. option_map_or (λ m. document_text (second_schema m)) o []) h.is))
@@ -93,6 +96,7 @@ is_migrated signals bytes text d h text_is document =
     }
 
 -- what was read is a description, or a fault
-pub fault_seen : (signals : ℕ) (bytes : List ℕ) (answer : Result layout.Description DescFault) (fault : Option DescFault) → IsVerdict signals bytes answer → fault ≡ result_err answer → IsFault signals bytes fault
+pub fault_seen : (signals : ℕ) (bytes : List ℕ) (answer : Result layout.Description DescFault) (fault : Option DescFault)
+    → IsVerdict signals bytes answer → fault ≡ result_err answer → IsFault signals bytes fault
 fault_seen signals bytes (Ok d) fault h is = let P : Option DescFault → Type 0 = λ f. IsFault signals bytes f in subst P (sym is) (description_of d, sym h)
 fault_seen signals bytes (Err f) fault h is = let P : Option DescFault → Type 0 = λ g. IsFault signals bytes g in subst P (sym is) h

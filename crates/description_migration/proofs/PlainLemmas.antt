@@ -1,17 +1,23 @@
 -- The table of a description's document is plain and shallow.
-use Rattle.std.proofs.Common.{◌≡◌, ℕ, suc, ◌≤◌, Bool, true, false, ◌&&◌, List, [], ◌∷◌, Option, Some, None, option_map, refl, sym, ap, ◌∙◌, subst, arith, inl, inr}
+use Rattle.std.proofs.Common.{◌≡◌, ℕ, suc, ◌≤◌, Bool, true, false, ◌&&◌, List, [], ◌∷◌, Option, Some, None}
+use Rattle.std.proofs.Common.{option_map, refl, sym, ap, ◌∙◌, subst, arith, inl, inr}
 use Rattle.std.specs.Prelude.{codes, ℤ, pos, option_and_then, is_some, bytes_eq, if◌then◌else◌}
 use Rattle.std.specs.List.{list_any, AllByRecursion}
 use Rattle.std.specs.Cmp.{tied_itself}
 use Rattle.std.proofs.lemmas.Bool.{cases_Bool, and_parts}
 use Rattle.std.proofs.lemmas.Cmp.{nat_list_cmp_total}
 use Rattle.std.proofs.lemmas.Slice.Eq.{bytes_eq-Decides}
-use Rattle.toml.specs.Data.{Data, string, integer, float, boolean, datetime, array, table, Items, no_items, item, Members, no_members, member, get_member, as_str, as_integer, as_bool, is_before, is_sorted, items_are_sorted, members_are_sorted, depth, items_depth, members_depth}
+use Rattle.toml.specs.Data.{Data, string, integer, float, boolean, datetime, array, table, Items, no_items}
+use Rattle.toml.specs.Data.{item, Members, no_members, member, get_member, as_str, as_integer, as_bool}
+use Rattle.toml.specs.Data.{is_before, is_sorted, items_are_sorted, members_are_sorted, depth, items_depth}
+use Rattle.toml.specs.Data.{members_depth}
 use Rattle.toml.proofs.Blanks.{below, below_from, greater_from}
 use Rattle.toml.proofs.Filled.{AllAbove}
 use Rattle.spec_rules.specs.Fields.{only_keys, required, or_absent, optional, maybe, items_in, array_of, table_of, tables_of}
 use Rattle.spec_rules.specs.Written.{WrittenRoute, WrittenMember, WrittenValue, WrittenType, WrittenSymbol, WrittenPort, Document}
-use Rattle.spec_rules.specs.Tables.{route_in, member_in, value_in, structure_in, enumeration_in, type_in, symbol_keys, symbol_in, port_keys, port_in, is_two, document_keys, document_in}
+use Rattle.spec_rules.specs.Tables.{route_in, member_in, value_in, structure_in, enumeration_in, type_in}
+use Rattle.spec_rules.specs.Tables.{symbol_keys, symbol_in, port_keys, port_in, is_two, document_keys}
+use Rattle.spec_rules.specs.Tables.{document_in}
 use Rattle.table_text.specs.PlainTable.{is_plain, are_plain, is_plain_table}
 use Rattle.description_migration.proofs.ReadLemmas.{bind_some, so_some, map_some, document_read, port_read}
 
@@ -63,7 +69,8 @@ flag_fits n (datetime t) x o h = cc
 flag_fits n (array ds) x o h = cc
 flag_fits n (table ms) x o h = cc
 
-items_fit : {X : Type 0} (n : ℕ) (kind : Data → Option X) → KindFits n kind → (ds : Items) (xs : List X) → items_are_sorted ds ≡ true → items_in kind ds ≡ Some xs → ItemsFit n ds
+items_fit : {X : Type 0} (n : ℕ) (kind : Data → Option X) → KindFits n kind
+    → (ds : Items) (xs : List X) → items_are_sorted ds ≡ true → items_in kind ds ≡ Some xs → ItemsFit n ds
 items_fit n kind f no_items xs o h = record { plain = refl; shallow = omega arith }
 items_fit n kind f (item d ds) xs o h =
     let (sorted, later) = and_parts (is_sorted d) (items_are_sorted ds) o in
@@ -73,7 +80,8 @@ items_fit n kind f (item d ds) xs o h =
     let others = items_fit n kind f ds ys later rest in
     record { plain = rw (first.plain, others.plain) refl; shallow = omega (arith, first.shallow, others.shallow) }
 
-array_fits : {X : Type 0} (n : ℕ) (kind : Data → Option X) → KindFits n kind → (d : Data) (xs : List X) → is_sorted d ≡ true → array_of kind d ≡ Some xs → Fits (suc n) d
+array_fits : {X : Type 0} (n : ℕ) (kind : Data → Option X) → KindFits n kind
+    → (d : Data) (xs : List X) → is_sorted d ≡ true → array_of kind d ≡ Some xs → Fits (suc n) d
 array_fits n kind f (string s) xs o h = cc
 array_fits n kind f (integer z) xs o h = cc
 array_fits n kind f (float x) xs o h = cc
@@ -83,7 +91,8 @@ array_fits n kind f (array ds) xs o h =
     let i = items_fit n kind f ds xs o h in record { plain = i.plain; shallow = omega (arith, i.shallow) }
 array_fits n kind f (table ms) xs o h = cc
 
-table_kind_fits : {X : Type 0} (n : ℕ) (read : Members → Option X) → ReadFits n read → (d : Data) (x : X) → is_sorted d ≡ true → table_of read d ≡ Some x → Fits (suc n) d
+table_kind_fits : {X : Type 0} (n : ℕ) (read : Members → Option X) → ReadFits n read
+    → (d : Data) (x : X) → is_sorted d ≡ true → table_of read d ≡ Some x → Fits (suc n) d
 table_kind_fits n read f (string s) x o h = cc
 table_kind_fits n read f (integer z) x o h = cc
 table_kind_fits n read f (float y) x o h = cc
@@ -93,7 +102,8 @@ table_kind_fits n read f (array ds) x o h = cc
 table_kind_fits n read f (table ms) x o h =
     let i = f ms x o h in record { plain = i.plain; shallow = omega (arith, i.shallow) }
 
-tables_fit : {X : Type 0} (n : ℕ) (read : Members → Option X) → ReadFits n read → (d : Data) (xs : List X) → is_sorted d ≡ true → tables_of read d ≡ Some xs → Fits (suc (suc n)) d
+tables_fit : {X : Type 0} (n : ℕ) (read : Members → Option X) → ReadFits n read
+    → (d : Data) (xs : List X) → is_sorted d ≡ true → tables_of read d ≡ Some xs → Fits (suc (suc n)) d
 tables_fit n read f = array_fits (suc n) (table_of read) (table_kind_fits n read f)
 
 -- ---- the members of a table
@@ -139,7 +149,8 @@ known P (l ∷ ls) h k is =
 abbrev MemberFits : Members → ℕ → List ℕ → Type 0
 MemberFits all n k = (d : Data) → get_member k all ≡ Some d → is_sorted d ≡ true → Fits n d
 
-some_fit : (n : ℕ) (keys : List (List ℕ)) (all : Members) → AllByRecursion (MemberFits all n) keys → (ms : Members) → only_keys keys ms ≡ true → members_are_sorted ms ≡ true → IsWithin all ms → TableFits n ms
+some_fit : (n : ℕ) (keys : List (List ℕ)) (all : Members) → AllByRecursion (MemberFits all n) keys
+    → (ms : Members) → only_keys keys ms ≡ true → members_are_sorted ms ≡ true → IsWithin all ms → TableFits n ms
 some_fit n keys all h no_members k s w = record { plain = refl; shallow = omega arith }
 some_fit n keys all h (member l e ms) k s w =
     let (here, more) = and_parts (list_any (bytes_eq l) keys) (only_keys keys ms) k in
@@ -149,16 +160,20 @@ some_fit n keys all h (member l e ms) k s w =
     let others = some_fit n keys all h ms more later w.1 in
     record { plain = rw (first.plain, others.plain) refl; shallow = omega (arith, first.shallow, others.shallow) }
 
-table_fits : (n : ℕ) (keys : List (List ℕ)) (ms : Members) → members_are_sorted ms ≡ true → only_keys keys ms ≡ true → AllByRecursion (MemberFits ms n) keys → TableFits n ms
+table_fits : (n : ℕ) (keys : List (List ℕ)) (ms : Members) → members_are_sorted ms ≡ true
+    → only_keys keys ms ≡ true → AllByRecursion (MemberFits ms n) keys → TableFits n ms
 table_fits n keys ms s k h = some_fit n keys ms h ms k s (all_within ms s)
 
-required_fits : {X : Type 0} (n : ℕ) (kind : Data → Option X) (k : List ℕ) (t : Members) (v : X) → KindFits n kind → required kind k t ≡ Some v → MemberFits t n k
+required_fits : {X : Type 0} (n : ℕ) (kind : Data → Option X) (k : List ℕ) (t : Members) (v : X)
+    → KindFits n kind → required kind k t ≡ Some v → MemberFits t n k
 required_fits n kind k t v f h d at_ sorted = f d v sorted (sym (ap (option_and_then kind) at_) ∙ h)
 
-optional_fits : {X : Type 0} (n : ℕ) (kind : Data → Option X) (absent : X) (k : List ℕ) (t : Members) (v : X) → KindFits n kind → optional kind absent k t ≡ Some v → MemberFits t n k
+optional_fits : {X : Type 0} (n : ℕ) (kind : Data → Option X) (absent : X) (k : List ℕ) (t : Members) (v : X)
+    → KindFits n kind → optional kind absent k t ≡ Some v → MemberFits t n k
 optional_fits n kind absent k t v f h d at_ sorted = f d v sorted (sym (ap (or_absent kind absent) at_) ∙ h)
 
-maybe_fits : {X : Type 0} (n : ℕ) (kind : Data → Option X) (k : List ℕ) (t : Members) (v : Option X) → KindFits n kind → maybe kind k t ≡ Some v → MemberFits t n k
+maybe_fits : {X : Type 0} (n : ℕ) (kind : Data → Option X) (k : List ℕ) (t : Members) (v : Option X)
+    → KindFits n kind → maybe kind k t ≡ Some v → MemberFits t n k
 maybe_fits {X} n kind k t v f h =
     optional_fits n (λ value. option_map (λ (x : X). Some x) (kind value)) None k t v
     (λ d x s e. let (y, is, whole) = map_some (λ (z : X). Some z) (kind d) x e in f d y s is) h
@@ -285,7 +300,8 @@ symbol_fits second n t x s h =
     ) in
     table_fits m (symbol_keys second) t s all (both second first writers_fit)
   where
-    both : (second : Bool) → AllByRecursion (MemberFits t (suc n)) (symbol_keys false) → MemberFits t (suc n) (codes "writers") → AllByRecursion (MemberFits t (suc n)) (symbol_keys second)
+    both : (second : Bool) → AllByRecursion (MemberFits t (suc n)) (symbol_keys false)
+        → MemberFits t (suc n) (codes "writers") → AllByRecursion (MemberFits t (suc n)) (symbol_keys second)
     both true first writers = (writers, first)
     both false first writers = first
 
@@ -311,7 +327,11 @@ port_fits second n t x s h =
                     optional_fits m as_integer (pos 0) (codes "memory") t x.memory (number_fits m) r.memory,
                     (
                       optional_fits m as_integer (pos 0) (codes "data") t x.process (number_fits m) r.process,
-                      (optional_fits m (tables_of (symbol_in second)) [] (codes "symbol") t x.symbols (tables_fit (suc n) (symbol_in second) (symbol_fits second n)) r.symbols, tt),
+                      (
+                        optional_fits m (tables_of (symbol_in second)) [] (codes "symbol") t x.symbols
+                            (tables_fit (suc n) (symbol_in second) (symbol_fits second n)) r.symbols,
+                        tt,
+                      ),
                     ),
                   ),
                 ),

@@ -74,7 +74,19 @@ port_read second t p h =
     let (memory, memory_is, b8) = bind_some _ (optional as_integer (pos 0) (codes "memory") t) p b7 in
     let (process, process_is, b9) = bind_some _ (optional as_integer (pos 0) (codes "data") t) p b8 in
     let (symbols, symbols_is, b10) = bind_some _ (optional (tables_of (symbol_in second)) [] (codes "symbol") t) p b9 in
-    let made : WrittenPort = record { number = number; name = name; major = major; minor = minor; build = build; inputs = inputs; outputs = outputs; memory = memory; process = process; symbols = symbols } in
+    let made : WrittenPort =
+    record {
+      number = number;
+      name = name;
+      major = major;
+      minor = minor;
+      build = build;
+      inputs = inputs;
+      outputs = outputs;
+      memory = memory;
+      process = process;
+      symbols = symbols;
+    } in
     let whole : made ≡ p = same_Some made p b10 in
     let P : WrittenPort → Type 0 = λ x. IsPortRead second t x in
     subst P whole (record {

@@ -14,7 +14,8 @@ use Rattle.description_migration.proofs.ReadLemmas.{bind_some, so_some, map_some
 abbrev Follows : {X : Type 0} → (Data → Option X) → (Data → Option X) → Type 0
 Follows {X} first second = (d : Data) (x : X) → first d ≡ Some x → second d ≡ Some x
 
-items_follow : {X : Type 0} (first second : Data → Option X) → Follows first second → (ds : Items) (xs : List X) → items_in first ds ≡ Some xs → items_in second ds ≡ Some xs
+items_follow : {X : Type 0} (first second : Data → Option X) → Follows first second
+    → (ds : Items) (xs : List X) → items_in first ds ≡ Some xs → items_in second ds ≡ Some xs
 items_follow first second f no_items xs h = h
 items_follow {X} first second f (item d ds) xs h =
     let (x, here, more) = bind_some (λ x. option_map (λ ys. x ∷ ys) (items_in first ds)) (first d) xs h in
@@ -26,15 +27,18 @@ array_follows {X} first second f d xs h =
     let (ds, is, items) = bind_some (items_in first) (as_array d) xs h in
     ap (option_and_then (items_in second)) is ∙ items_follow first second f ds xs items
 
-table_follows : {X : Type 0} (first second : Members → Option X) → ((t : Members) (x : X) → first t ≡ Some x → second t ≡ Some x) → Follows (table_of first) (table_of second)
+table_follows : {X : Type 0} (first second : Members → Option X)
+    → ((t : Members) (x : X) → first t ≡ Some x → second t ≡ Some x) → Follows (table_of first) (table_of second)
 table_follows first second f d x h =
     let (t, is, read) = bind_some first (as_table d) x h in
     ap (option_and_then second) is ∙ f t x read
 
-tables_follow : {X : Type 0} (first second : Members → Option X) → ((t : Members) (x : X) → first t ≡ Some x → second t ≡ Some x) → Follows (tables_of first) (tables_of second)
+tables_follow : {X : Type 0} (first second : Members → Option X)
+    → ((t : Members) (x : X) → first t ≡ Some x → second t ≡ Some x) → Follows (tables_of first) (tables_of second)
 tables_follow first second f = array_follows (table_of first) (table_of second) (table_follows first second f)
 
-absent_follows : {X : Type 0} (first second : Data → Option X) (absent : X) → Follows first second → (o : Option Data) (x : X) → or_absent first absent o ≡ Some x → or_absent second absent o ≡ Some x
+absent_follows : {X : Type 0} (first second : Data → Option X) (absent : X) → Follows first second
+    → (o : Option Data) (x : X) → or_absent first absent o ≡ Some x → or_absent second absent o ≡ Some x
 absent_follows first second absent f None x h = h
 absent_follows first second absent f (Some d) x h = f d x h
 
@@ -71,7 +75,8 @@ port_up second t w h =
       outputs = r.outputs;
       memory = r.memory;
       process = r.process;
-      symbols = absent_follows (tables_of (symbol_in second)) (tables_of (symbol_in true)) [] (tables_follow (symbol_in second) (symbol_in true) (symbol_up second)) (get_member (codes "symbol") t) w.symbols r.symbols;
+      symbols = absent_follows (tables_of (symbol_in second)) (tables_of (symbol_in true)) []
+          (tables_follow (symbol_in second) (symbol_in true) (symbol_up second)) (get_member (codes "symbol") t) w.symbols r.symbols;
     })
 
 -- the document under schema 2
@@ -88,7 +93,8 @@ document_up t d h =
     let ports_at : get_member (codes "port") (set t) ≡ get_member (codes "port") t = get_member-other (codes "port") SCHEMA (integer (pos 2)) t refl in
     let net_at : get_member (codes "net") (set t) ≡ get_member (codes "net") t = get_member-other (codes "net") SCHEMA (integer (pos 2)) t refl in
     let second = is_two d.schema in
-    let types_up = absent_follows (tables_of (type_in second)) (tables_of (type_in true)) [] (tables_follow (type_in second) (type_in true) (type_up second)) (get_member (codes "type") t) d.types r.types in
+    let types_up = absent_follows (tables_of (type_in second)) (tables_of (type_in true)) []
+    (tables_follow (type_in second) (type_in true) (type_up second)) (get_member (codes "type") t) d.types r.types in
     let kinds = tables_follow (port_in second) (port_in true) (port_up second) in
     let (value, found, read) = bind_some (tables_of (port_in second)) (get_member (codes "port") t) d.ports r.ports in
     document_from (set t) (under_second d) (record {

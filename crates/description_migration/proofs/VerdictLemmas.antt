@@ -51,7 +51,8 @@ sizes_up limit p most h =
     let small = leb-true size limit fits in
     both_true natural (nat_le size IMAGE_LIMIT) all (le-leb size IMAGE_LIMIT (omega (arith, small, most)))
 
-port_up : (limit : ℕ) (before : List WrittenPort) (p : WrittenPort) → limit ≤ IMAGE_LIMIT → is_right_port limit before p ≡ true → is_right_port IMAGE_LIMIT before p ≡ true
+port_up : (limit : ℕ) (before : List WrittenPort) (p : WrittenPort) → limit ≤ IMAGE_LIMIT
+    → is_right_port limit before p ≡ true → is_right_port IMAGE_LIMIT before p ≡ true
 port_up limit before p most h =
     let facts = is_between 1 65535 p.number && list_all (λ (e : WrittenPort). not (is_same_number e.number p.number)) before
     && is_port_name p.name && (is_between 0 255 p.major && is_between 0 255 p.minor && is_between 0 65535 p.build) in
@@ -60,7 +61,8 @@ port_up limit before p most h =
     let (good, sizes) = and_parts facts (has_right_sizes limit p) front in
     both_true (facts && has_right_sizes IMAGE_LIMIT p) few (both_true facts (has_right_sizes IMAGE_LIMIT p) good (sizes_up limit p most sizes)) count
 
-ports_up : (limit : ℕ) (before ps : List WrittenPort) → limit ≤ IMAGE_LIMIT → first_wrong (is_right_port limit) before ps ≡ None → first_wrong (is_right_port IMAGE_LIMIT) before ps ≡ None
+ports_up : (limit : ℕ) (before ps : List WrittenPort) → limit ≤ IMAGE_LIMIT
+    → first_wrong (is_right_port limit) before ps ≡ None → first_wrong (is_right_port IMAGE_LIMIT) before ps ≡ None
 ports_up limit before [] most h = refl
 ports_up limit before (p ∷ ps) most h =
     let first = first_right (is_right_port limit) before p ps h in
@@ -78,7 +80,8 @@ unfolding wrong_schema
 schema_up = refl
 
 -- the rules that look at the schema, and the others
-rules_up : (signals : ℕ) (d : Document) → AllHold (rules_of signals d (types_described d.types)) → AllHold (rules_of signals (under_second d) (types_described d.types))
+rules_up : (signals : ℕ) (d : Document) → AllHold (rules_of signals d (types_described d.types))
+    → AllHold (rules_of signals (under_second d) (types_described d.types))
 rules_up signals d h =
     let from_4 = h.1 in
     let from_6 = from_4.1.1 in
@@ -88,7 +91,8 @@ rules_up signals d h =
 document_verdict_up : (signals : ℕ) (d : Document) (x : Description) → document_verdict signals d ≡ Ok x → document_verdict signals (under_second d) ≡ Ok x
 document_verdict_up signals d x h =
     let both = judged-ok (first_broken (rules_of signals d (types_described d.types))) (description_of d) x h in
-    let holds = none_broken (rules_of signals (under_second d) (types_described d.types)) (rules_up signals d (all_hold (rules_of signals d (types_described d.types)) (both.0))) in
+    let holds = none_broken (rules_of signals (under_second d) (types_described d.types))
+    (rules_up signals d (all_hold (rules_of signals d (types_described d.types)) (both.0))) in
     rw holds (ap (λ (y : Description). Ok y) (both.1))
 
 -- the verdict under schema 2

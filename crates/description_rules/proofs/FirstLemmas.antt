@@ -1,5 +1,7 @@
 -- One turn of a loop that looks for the first wrong element.
-use Rattle.std.proofs.Common.{◌≡◌, ℕ, suc, ◌+◌, ◌≤◌, ◌<◌, Bool, true, false, cond, List, [], ◌∷◌, ◌++◌, length, get_or, take, drop, map, refl, ap, sym, ◌∙◌, arith, add-one, drop-cons, Option, Some, None, option_map}
+use Rattle.std.proofs.Common.{◌≡◌, ℕ, suc, ◌+◌, ◌≤◌, ◌<◌, Bool, true, false, cond, List, [], ◌∷◌, ◌++◌, length}
+use Rattle.std.proofs.Common.{get_or, take, drop, map, refl, ap, sym, ◌∙◌, arith, add-one, drop-cons, Option}
+use Rattle.std.proofs.Common.{Some, None, option_map}
 use Rattle.std.proofs.Math.Seq.{take-suc}
 use Rattle.std.proofs.lemmas.List.{map-append, drop_all}
 use Rattle.spec_rules.specs.Places.{first_wrong}
@@ -28,7 +30,8 @@ module _ {A X : Type 0} (is_right : List X → X → Bool) (view : A → X) wher
 
   turn : (xs : List A) (i : ℕ) (a : A) → i < length xs → a ≡ get_or xs i a
       → first_wrong is_right (map view (take i xs)) (map view (drop i xs))
-      ≡ cond (is_right (map view (take i xs)) (view a)) (option_map suc (first_wrong is_right (map view (take (i + 1) xs)) (map view (drop (i + 1) xs)))) (Some 0)
+      ≡ cond (is_right (map view (take i xs)) (view a))
+      (option_map suc (first_wrong is_right (map view (take (i + 1) xs)) (map view (drop (i + 1) xs)))) (Some 0)
   turn xs i a below is =
       let left : drop i xs ≡ a ∷ drop (i + 1) xs =
       rw add-one (drop-cons xs i a below ∙ ap (λ y. y ∷ drop (suc i) xs) (sym is)) in
@@ -40,7 +43,8 @@ module _ {A X : Type 0} (is_right : List X → X → Bool) (view : A → X) wher
   pub first_from-right : (xs : List A) (i : ℕ) (a : A) (place : Option ℕ) → i < length xs → a ≡ get_or xs i a → is_right (map view (take i xs)) (view a) ≡ true
       → place ≡ first_from xs i → place ≡ first_from xs (i + 1)
   first_from-right xs i a place below is right so_far =
-      so_far ∙ ap (place_from i) (rw right at (turn xs i a below is)) ∙ place_from-suc i (first_wrong is_right (map view (take (i + 1) xs)) (map view (drop (i + 1) xs)))
+      so_far ∙ ap (place_from i) (rw right at (turn xs i a below is))
+      ∙ place_from-suc i (first_wrong is_right (map view (take (i + 1) xs)) (map view (drop (i + 1) xs)))
 
   -- the i-th element is wrong
   pub first_from-wrong : (xs : List A) (i : ℕ) (a : A) (place : Option ℕ) → i < length xs → a ≡ get_or xs i a → is_right (map view (take i xs)) (view a) ≡ false

@@ -1,5 +1,7 @@
 -- One more type goes behind those that are known.
-use Rattle.std.proofs.Common.{◌≡◌, ℕ, suc, ◌+◌, ◌≤◌, ◌<◌, true, false, cond, ◌&&◌, nat_le, List, [], ◌∷◌, ◌++◌, map, refl, ap, sym, ◌∙◌, arith, append_assoc, append-nil, Option, Some, None, option_map}
+use Rattle.std.proofs.Common.{◌≡◌, ℕ, suc, ◌+◌, ◌≤◌, ◌<◌, true, false, cond, ◌&&◌, nat_le, List, [], ◌∷◌, ◌++◌}
+use Rattle.std.proofs.Common.{map, refl, ap, sym, ◌∙◌, arith, append_assoc, append-nil, Option, Some, None}
+use Rattle.std.proofs.Common.{option_map}
 use Rattle.std.specs.List.{list_all}
 use Rattle.std.proofs.lemmas.Bool.{and_from, le-leb}
 use Rattle.std.proofs.lemmas.List.{map-append}
@@ -18,7 +20,8 @@ use Rattle.description_rules.specs.Known.{AreKnown, is_fair}
 use Rattle.description_rules.specs.declared.extents.Extent.{Extent}
 use Rattle.description_rules.proofs.FirstLemmas.{place_from, place_from-suc, from_zero}
 
-trees_behind-push : (known : List TypeTree) (ts : List NamedType) (t : NamedType) → trees_behind known (ts ++ t ∷ []) ≡ trees_behind known ts ++ named_tree (trees_behind known ts) t ∷ []
+trees_behind-push : (known : List TypeTree) (ts : List NamedType) (t : NamedType)
+    → trees_behind known (ts ++ t ∷ []) ≡ trees_behind known ts ++ named_tree (trees_behind known ts) t ∷ []
 unfolding trees_behind
 trees_behind-push known [] t = refl
 trees_behind-push known (s ∷ ss) t = trees_behind-push (known ++ named_tree known s ∷ []) ss t
@@ -54,7 +57,8 @@ is_right_size-from before t e small is size depth =
     let e_size : e.size ≡ type_size tree = ap (λ (x : TypeExtent). x.size) is in
     let e_depth : e.depth ≡ type_depth tree = ap (λ (x : TypeExtent). x.depth) is in
     sym (and_from (are_small_members (members_of t)) (nat_le (type_size tree) 1048576 && nat_le (type_depth tree) 16) small
-    (and_from (nat_le (type_size tree) 1048576) (nat_le (type_depth tree) 16) (le-leb (type_size tree) 1048576 (omega arith)) (le-leb (type_depth tree) 16 (omega arith))))
+    (and_from (nat_le (type_size tree) 1048576) (nat_le (type_depth tree) 16)
+    (le-leb (type_size tree) 1048576 (omega arith)) (le-leb (type_depth tree) 16 (omega arith))))
 
 types_left-cons : (known : List NamedType) (w : WrittenType) (ws : List WrittenType)
     → types_left known (w ∷ ws) ≡ type_described known w ∷ types_left (known ++ type_described known w ∷ []) ws
@@ -62,13 +66,17 @@ unfolding types_left
 types_left-cons known w ws = refl
 
 -- the next type is right
-pub first_wrong-right : (known more : List NamedType) (left : List WrittenType) (w : WrittenType) (ws : List WrittenType) (i : ℕ) (place : Option ℕ) → left ≡ w ∷ ws
+pub first_wrong-right : (known more : List NamedType) (left : List WrittenType) (w : WrittenType) (ws : List WrittenType) (i : ℕ) (place : Option ℕ)
+    → left ≡ w ∷ ws
     → more ≡ known ++ type_described known w ∷ [] → is_right_size known (type_described known w) ≡ true
-    → place ≡ place_from i (first_wrong is_right_size known (types_left known left)) → place ≡ place_from (i + 1) (first_wrong is_right_size more (types_left more ws))
+    → place ≡ place_from i (first_wrong is_right_size known (types_left known left))
+    → place ≡ place_from (i + 1) (first_wrong is_right_size more (types_left more ws))
 first_wrong-right known more left w ws i place l m right so_far =
     so_far ∙ ap (λ ts. place_from i (first_wrong is_right_size known (types_left known ts))) l
     ∙ ap (λ ts. place_from i (first_wrong is_right_size known ts)) (types_left-cons known w ws)
-    ∙ ap (λ b. place_from i (cond b (option_map suc (first_wrong is_right_size (known ++ type_described known w ∷ []) (types_left (known ++ type_described known w ∷ []) ws))) (Some 0))) right
+    ∙ ap (λ b. place_from i
+    (cond b (option_map suc (first_wrong is_right_size (known ++ type_described known w ∷ []) (types_left (known ++ type_described known w ∷ []) ws)))
+    (Some 0))) right
     ∙ place_from-suc i (first_wrong is_right_size (known ++ type_described known w ∷ []) (types_left (known ++ type_described known w ∷ []) ws))
     ∙ ap (λ ts. place_from (i + 1) (first_wrong is_right_size ts (types_left ts ws))) (sym m)
 
@@ -78,7 +86,9 @@ pub first_wrong-wrong : (known : List NamedType) (left : List WrittenType) (w : 
 first_wrong-wrong known left w ws i place l wrong so_far =
     so_far ∙ ap (λ ts. place_from i (first_wrong is_right_size known (types_left known ts))) l
     ∙ ap (λ ts. place_from i (first_wrong is_right_size known ts)) (types_left-cons known w ws)
-    ∙ ap (λ b. place_from i (cond b (option_map suc (first_wrong is_right_size (known ++ type_described known w ∷ []) (types_left (known ++ type_described known w ∷ []) ws))) (Some 0))) wrong
+    ∙ ap (λ b. place_from i
+    (cond b (option_map suc (first_wrong is_right_size (known ++ type_described known w ∷ []) (types_left (known ++ type_described known w ∷ []) ws)))
+    (Some 0))) wrong
     ∙ ap Some (omega arith)
 
 -- the types so far and those that are left, after one more

@@ -25,7 +25,8 @@ length-bound_text b = length-three_parts (signed_decimal b.low) (codes "..") (si
 
 pub length-string_text : (n : ℕ) → length (codes "STRING(" ++ decimal n ++ codes ")") ≡ 8 + length (decimal n)
 length-string_text n =
-    let whole : length (codes "STRING(" ++ decimal n ++ codes ")") ≡ 7 + length (decimal n) + 1 = length-three_parts (codes "STRING(") (decimal n) (codes ")") in
+    let whole : length (codes "STRING(" ++ decimal n ++ codes ")") ≡ 7 + length (decimal n) + 1 =
+    length-three_parts (codes "STRING(") (decimal n) (codes ")") in
     omega (arith, whole)
 
 pub length-array_text : (bounds elem : List ℕ) → length (codes "ARRAY [" ++ bounds ++ codes "] OF " ++ elem) ≡ 12 + length bounds + length elem

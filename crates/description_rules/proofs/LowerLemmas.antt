@@ -24,7 +24,8 @@ module _ {A X : Type 0} (view : A → X) (name : X → List ℕ) where
       ap (λ names. is_none_of names (lower_name x)) (noted ∙ names-viewed xs)
       ∙ list_all-map (λ e. not (bytes_eq e (lower_name x))) (λ e. lower (name e)) (map view xs)
 
-  pub right-lower : (alone : Bool) (xs : List A) (x : A) (seen new : List (List ℕ)) (found : Bool) → seen ≡ map lower_name xs → IsNext alone seen new (lower_name x) found
+  pub right-lower : (alone : Bool) (xs : List A) (x : A) (seen new : List (List ℕ)) (found : Bool)
+      → seen ≡ map lower_name xs → IsNext alone seen new (lower_name x) found
       → (alone && list_all (λ e. differ (name e) (name (view x))) (map view xs)) ≡ found
   right-lower alone xs x seen new found noted next = sym (next.answer ∙ ap (λ b. alone && b) (none_of-lower xs x seen noted))
 

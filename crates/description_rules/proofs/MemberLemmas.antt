@@ -1,5 +1,6 @@
 -- Members beside the names of the types before, and beside those types.
-use Rattle.std.proofs.Common.{◌≡◌, ℕ, suc, Bool, true, false, cond, not, ◌&&◌, ◌||◌, List, [], ◌∷◌, ◌++◌, refl, ap, sym, ◌∙◌, is_some, Option, Some, None, option_map}
+use Rattle.std.proofs.Common.{◌≡◌, ℕ, suc, Bool, true, false, cond, not, ◌&&◌, ◌||◌, List, [], ◌∷◌, ◌++◌, refl}
+use Rattle.std.proofs.Common.{ap, sym, ◌∙◌, is_some, Option, Some, None, option_map}
 use Rattle.std.specs.Prelude.{bytes_eq}
 use Rattle.std.specs.Option.{option_map_or}
 use Rattle.std.specs.List.{list_all, list_any}
@@ -34,7 +35,8 @@ module _ (types : List WrittenType) (names : List (List ℕ)) (named : AreTypeNa
   same_elem (StringText n) = refl
   same_elem (NamedText name) = ap not (named (lower name)) ∙ not_all (λ t. is_same_word (written_name t) name) types
 
-  same_text : (o : Option TypeText) → option_map_or (λ (t : TypeText). names_only_in names t.elem) o false ≡ option_map_or (λ (t : TypeText). names_only types t.elem) o false
+  same_text : (o : Option TypeText)
+      → option_map_or (λ (t : TypeText). names_only_in names t.elem) o false ≡ option_map_or (λ (t : TypeText). names_only types t.elem) o false
   same_text None = refl
   same_text (Some t) = same_elem t.elem
 

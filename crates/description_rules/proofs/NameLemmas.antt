@@ -1,5 +1,7 @@
 -- The names of a document's types, before and after they are built.
-use Rattle.std.proofs.Common.{◌≡◌, ℕ, Bool, true, false, cond, List, [], ◌∷◌, ◌++◌, length, map, refl, ap, sym, ◌∙◌, arith, ◌+◌, ⊎_elim, append_assoc, append-nil, nat_lt, Option, Some, None, is_some, option_map}
+use Rattle.std.proofs.Common.{◌≡◌, ℕ, Bool, true, false, cond, List, [], ◌∷◌, ◌++◌, length, map, refl, ap, sym}
+use Rattle.std.proofs.Common.{◌∙◌, arith, ◌+◌, ⊎_elim, append_assoc, append-nil, nat_lt, Option, Some, None}
+use Rattle.std.proofs.Common.{is_some, option_map}
 use Rattle.std.specs.Prelude.{option_and_then}
 use Rattle.std.specs.Option.{option_map_or}
 use Rattle.std.specs.Prelude.{position}

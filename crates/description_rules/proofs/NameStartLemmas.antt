@@ -52,7 +52,8 @@ other_stop c d b e f = ne_eqb d c (λ same. both b (sym e ∙ ap is_full_stop (s
 split_stop : (c : ℕ) (cs : List ℕ) → is_full_stop c ≡ true → slice_split is_full_stop (c ∷ cs) ≡ [] ∷ slice_split is_full_stop cs
 split_stop c cs e = rw e refl
 
-split_other : (c : ℕ) (cs : List ℕ) (h : HasFirst (slice_split is_full_stop cs)) → is_full_stop c ≡ false → slice_split is_full_stop (c ∷ cs) ≡ (c ∷ h.first) ∷ h.rest
+split_other : (c : ℕ) (cs : List ℕ) (h : HasFirst (slice_split is_full_stop cs))
+    → is_full_stop c ≡ false → slice_split is_full_stop (c ∷ cs) ≡ (c ∷ h.first) ∷ h.rest
 split_other c cs h e = rw e (ap (onto_first c) h.is)
 
 same_begins : (a b x y : List (List ℕ)) (found : Bool) → a ≡ x → b ≡ y → begins x y ≡ found → begins a b ≡ found
@@ -67,14 +68,20 @@ step c d cs ds ih =
     let go = goes_on cs ds in
     let split = λ (text : List ℕ). slice_split is_full_stop text in
     let same_parts : ((d == c) && (bytes_eq g.first h.first && begins h.rest g.rest)) ≡ ((d == c) && go) =
-    ap (λ b. (d == c) && b) (sym (same_begins (split cs) (split ds) (h.first ∷ h.rest) (g.first ∷ g.rest) (bytes_eq g.first h.first && begins h.rest g.rest) h.is g.is refl) ∙ ih) in
+    ap (λ b. (d == c) && b)
+    (sym (same_begins (split cs) (split ds) (h.first ∷ h.rest) (g.first ∷ g.rest)
+    (bytes_eq g.first h.first && begins h.rest g.rest) h.is g.is refl) ∙ ih) in
     ⊎_elim (λ e. ⊎_elim
-    (λ f. same_begins (split (c ∷ cs)) (split (d ∷ ds)) ([] ∷ split cs) ([] ∷ split ds) ((d == c) && go) (split_stop c cs e) (split_stop d ds f) (ih ∙ ap (λ b. b && go) (sym (same_stop c d e f))))
-    (λ f. same_begins (split (c ∷ cs)) (split (d ∷ ds)) ([] ∷ split cs) ((d ∷ g.first) ∷ g.rest) ((d == c) && go) (split_stop c cs e) (split_other d ds g f) (ap (λ b. b && go) (sym (other_stop c d true e f))))
+    (λ f. same_begins (split (c ∷ cs)) (split (d ∷ ds)) ([] ∷ split cs) ([] ∷ split ds) ((d == c) && go)
+    (split_stop c cs e) (split_stop d ds f) (ih ∙ ap (λ b. b && go) (sym (same_stop c d e f))))
+    (λ f. same_begins (split (c ∷ cs)) (split (d ∷ ds)) ([] ∷ split cs) ((d ∷ g.first) ∷ g.rest) ((d == c) && go)
+    (split_stop c cs e) (split_other d ds g f) (ap (λ b. b && go) (sym (other_stop c d true e f))))
     (cases_Bool (is_full_stop d)))
     (λ e. ⊎_elim
-    (λ f. same_begins (split (c ∷ cs)) (split (d ∷ ds)) ((c ∷ h.first) ∷ h.rest) ([] ∷ split ds) ((d == c) && go) (split_other c cs h e) (split_stop d ds f) (ap (λ b. b && go) (sym (other_stop c d false e f))))
-    (λ f. same_begins (split (c ∷ cs)) (split (d ∷ ds)) ((c ∷ h.first) ∷ h.rest) ((d ∷ g.first) ∷ g.rest) ((d == c) && go) (split_other c cs h e) (split_other d ds g f)
+    (λ f. same_begins (split (c ∷ cs)) (split (d ∷ ds)) ((c ∷ h.first) ∷ h.rest) ([] ∷ split ds) ((d == c) && go)
+    (split_other c cs h e) (split_stop d ds f) (ap (λ b. b && go) (sym (other_stop c d false e f))))
+    (λ f. same_begins (split (c ∷ cs)) (split (d ∷ ds)) ((c ∷ h.first) ∷ h.rest)
+    ((d ∷ g.first) ∷ g.rest) ((d == c) && go) (split_other c cs h e) (split_other d ds g f)
     (and_assoc (d == c) (bytes_eq g.first h.first) (begins h.rest g.rest) ∙ same_parts))
     (cases_Bool (is_full_stop d))) (cases_Bool (is_full_stop c))
 
@@ -82,13 +89,16 @@ split_begins : (a b : List ℕ) → begins (slice_split is_full_stop a) (slice_s
 split_begins [] [] = refl
 split_begins (c ∷ cs) [] =
     let h = has_first cs in
-    ⊎_elim (λ e. same_begins (slice_split is_full_stop (c ∷ cs)) ([] ∷ []) ([] ∷ slice_split is_full_stop cs) ([] ∷ []) (is_full_stop c) (split_stop c cs e) refl (sym e))
-    (λ e. same_begins (slice_split is_full_stop (c ∷ cs)) ([] ∷ []) ((c ∷ h.first) ∷ h.rest) ([] ∷ []) (is_full_stop c) (split_other c cs h e) refl (sym e)) (cases_Bool (is_full_stop c))
+    ⊎_elim (λ e. same_begins (slice_split is_full_stop (c ∷ cs)) ([] ∷ [])
+    ([] ∷ slice_split is_full_stop cs) ([] ∷ []) (is_full_stop c) (split_stop c cs e) refl (sym e))
+    (λ e. same_begins (slice_split is_full_stop (c ∷ cs)) ([] ∷ []) ((c ∷ h.first) ∷ h.rest) ([] ∷ []) (is_full_stop c) (split_other c cs h e) refl (sym e))
+    (cases_Bool (is_full_stop c))
 split_begins [] (d ∷ ds) =
     let g = has_first ds in
     ⊎_elim (λ e. same_begins ([] ∷ []) (slice_split is_full_stop (d ∷ ds)) ([] ∷ []) ([] ∷ slice_split is_full_stop ds) false refl (split_stop d ds e)
     (same_begins ([] ∷ []) ([] ∷ slice_split is_full_stop ds) ([] ∷ []) ([] ∷ g.first ∷ g.rest) false refl (ap (λ parts. [] ∷ parts) g.is) refl))
-    (λ e. same_begins ([] ∷ []) (slice_split is_full_stop (d ∷ ds)) ([] ∷ []) ((d ∷ g.first) ∷ g.rest) false refl (split_other d ds g e) refl) (cases_Bool (is_full_stop d))
+    (λ e. same_begins ([] ∷ []) (slice_split is_full_stop (d ∷ ds)) ([] ∷ []) ((d ∷ g.first) ∷ g.rest) false refl (split_other d ds g e) refl)
+    (cases_Bool (is_full_stop d))
 split_begins (c ∷ cs) (d ∷ ds) = step c d cs ds (split_begins cs ds)
 
 lower_stop : (c : ℕ) → is_full_stop (to_ascii_lowercase c) ≡ is_full_stop c
@@ -137,14 +147,16 @@ starts_go_on : (a b : List ℕ) → is_none_of (starts_of a) b ≡ not (goes_on 
 starts_go_on [] [] = refl
 starts_go_on [] (d ∷ ds) = refl
 starts_go_on (c ∷ cs) [] =
-    ⊎_elim (λ e. rw e refl) (λ e. rw e (list_all-map (λ t. not (bytes_eq t [])) (λ (t : List ℕ). c ∷ t) (starts_of cs) ∙ all_pass (starts_of cs))) (cases_Bool (is_full_stop c))
+    ⊎_elim (λ e. rw e refl) (λ e. rw e (list_all-map (λ t. not (bytes_eq t [])) (λ (t : List ℕ). c ∷ t) (starts_of cs) ∙ all_pass (starts_of cs)))
+    (cases_Bool (is_full_stop c))
 starts_go_on (c ∷ cs) (d ∷ ds) =
     let ih = not_none (is_none_of (starts_of cs) ds) (goes_on cs ds) (starts_go_on cs ds) in
     let behind = none_behind c d (starts_of cs) ds ∙ ap (λ b. not ((d == c) && b)) ih in
     ⊎_elim (λ e. rw e behind) (λ e. rw e behind) (cases_Bool (is_full_stop c))
 
 -- a name does not begin with the identifiers of another exactly where none of its starts is that other, ASCII case aside
-pub begins-starts : (name front : List ℕ) → not (starts_with bytes_eq (lower_identifiers name) (lower_identifiers front)) ≡ is_none_of (starts_of (lower name)) (lower front)
+pub begins-starts : (name front : List ℕ)
+    → not (starts_with bytes_eq (lower_identifiers name) (lower_identifiers front)) ≡ is_none_of (starts_of (lower name)) (lower front)
 begins-starts name front =
     ap (λ parts. not (begins parts (lower_identifiers front))) (lower_split name)
     ∙ ap (λ parts. not (begins (slice_split is_full_stop (lower name)) parts)) (lower_split front)
@@ -160,7 +172,8 @@ list_all_both f g (x ∷ xs) = ap (λ b. (f x && g x) && b) (list_all_both f g x
     crossed true false false d = refl
     crossed false b c d = refl
 
-list_all_swap : {X Y : Type 0} (r : X → Y → Bool) (xs : List X) (ys : List Y) → list_all (λ x. list_all (r x) ys) xs ≡ list_all (λ y. list_all (λ x. r x y) xs) ys
+list_all_swap : {X Y : Type 0} (r : X → Y → Bool) (xs : List X) (ys : List Y)
+    → list_all (λ x. list_all (r x) ys) xs ≡ list_all (λ y. list_all (λ x. r x y) xs) ys
 list_all_swap r [] ys = sym (all_pass ys)
 list_all_swap r (x ∷ xs) ys =
     ap (λ b. list_all (r x) ys && b) (list_all_swap r xs ys) ∙ sym (list_all_both (r x) (λ y. list_all (λ x. r x y) xs) ys)
@@ -176,12 +189,14 @@ noted-apart names whole starts name noted =
     let forth = λ (e : List ℕ). is_none_of (starts_of (lower e)) (lower name) in
     let back = λ (e : List ℕ). is_none_of (starts_of (lower name)) (lower e) in
     sym (list_all_same (λ e. neither_begins e name) (λ e. forth e && back e) names
-    (λ e. ap (λ b. b && not (starts_with bytes_eq (lower_identifiers name) (lower_identifiers e))) (begins-starts e name) ∙ ap (λ b. forth e && b) (begins-starts name e))
+    (λ e. ap (λ b. b && not (starts_with bytes_eq (lower_identifiers name) (lower_identifiers e))) (begins-starts e name)
+    ∙ ap (λ b. forth e && b) (begins-starts name e))
     ∙ list_all_both forth back names
     ∙ ap (λ b. b && list_all back names) (sym (noted.begun (lower name)))
     ∙ ap (λ b. is_none_of starts (lower name) && b) (list_all_swap (λ (e c : List ℕ). not (bytes_eq c (lower e))) names (starts_of (lower name))
     ∙ list_all_same (λ c. list_all (λ e. not (bytes_eq c (lower e))) names) (is_none_of whole) (starts_of (lower name))
-    (λ c. list_all_same (λ e. not (bytes_eq c (lower e))) (λ e. not (bytes_eq (lower e) c)) names (λ e. ap not (bytes_eq-comm c (lower e))) ∙ sym (noted.in_full c))))
+    (λ c. list_all_same (λ e. not (bytes_eq c (lower e))) (λ e. not (bytes_eq (lower e) c)) names (λ e. ap not (bytes_eq-comm c (lower e)))
+    ∙ sym (noted.in_full c))))
 
 pub noted-none : AreNoted [] [] []
 noted-none = record { in_full = λ text. refl; begun = λ text. refl }
@@ -200,13 +215,16 @@ noted-more names whole starts more_whole more_starts name noted one two = record
 }
 
 -- a text that is noted once more, or is there already
-pub added-one : (text : List ℕ) (old new : List (List ℕ)) (fresh : Bool) → fresh ≡ is_none_of old text → new ≡ cond fresh (old ++ text ∷ []) old → IsAdded (text ∷ []) old new
+pub added-one : (text : List ℕ) (old new : List (List ℕ)) (fresh : Bool)
+    → fresh ≡ is_none_of old text → new ≡ cond fresh (old ++ text ∷ []) old → IsAdded (text ∷ []) old new
 added-one text old new fresh answer noted = λ other. ⊎_elim (λ e. yes other e) (λ e. no other e) (cases_Bool fresh)
   where
     yes : (other : List ℕ) → fresh ≡ true → is_none_of new other ≡ (is_none_of old other && is_none_of (text ∷ []) other)
-    yes other e = ap (λ texts. is_none_of texts other) (noted ∙ ap (λ b. cond b (old ++ text ∷ []) old) e) ∙ list_all-append (λ t. not (bytes_eq t other)) old (text ∷ [])
+    yes other e = ap (λ texts. is_none_of texts other) (noted ∙ ap (λ b. cond b (old ++ text ∷ []) old) e)
+        ∙ list_all-append (λ t. not (bytes_eq t other)) old (text ∷ [])
 
-    there : (other : List ℕ) → is_none_of old text ≡ false → (b : Bool) → bytes_eq text other ≡ b → is_none_of old other ≡ (is_none_of old other && (not b && true))
+    there : (other : List ℕ) → is_none_of old text ≡ false → (b : Bool)
+        → bytes_eq text other ≡ b → is_none_of old other ≡ (is_none_of old other && (not b && true))
     there other absent true same = rw (sym ((bytes_eq-Decides text other).0 same)) (rw absent refl)
     there other absent false same = keep (is_none_of old other)
       where
@@ -231,7 +249,8 @@ names-viewed (x ∷ xs) = ap (λ names. name_view x ∷ names) (names-viewed xs)
 
 -- a symbol is right behind those whose names are noted
 pub is_right-noted : (xs : List code.WrittenSymbol) (x : code.WrittenSymbol) (whole starts more_whole more_starts : List (List ℕ)) (right : Bool)
-    → AreNoted (map name_view xs) whole starts → IsNextName (name_view x) whole starts more_whole more_starts right → is_right_name (map symbol_view xs) (symbol_view x) ≡ right
+    → AreNoted (map name_view xs) whole starts → IsNextName (name_view x) whole starts more_whole more_starts right
+    → is_right_name (map symbol_view xs) (symbol_view x) ≡ right
 is_right-noted xs x whole starts more_whole more_starts right noted next =
     is_right-same right (map symbol_view xs) (symbol_view x) (map name_view xs) (names-viewed xs)
     (next.answer ∙ ap (λ b. is_symbol_name (name_view x) && b) (noted-apart (map name_view xs) whole starts (name_view x) noted))

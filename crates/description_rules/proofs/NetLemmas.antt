@@ -1,5 +1,6 @@
 -- NetIds: the definition that reads beside the one that writes.
-use Rattle.std.proofs.Common.{◌≡◌, ℕ, zero, suc, cond, ◌==◌, subst, ◌^◌, ◌<◌, Bool, true, false, ◌&&◌, List, [], ◌∷◌, length, get_or, refl, ap, sym, ◌∙◌, arith, nat_le, Some, None}
+use Rattle.std.proofs.Common.{◌≡◌, ℕ, zero, suc, cond, ◌==◌, subst, ◌^◌, ◌<◌, Bool, true, false, ◌&&◌, List}
+use Rattle.std.proofs.Common.{[], ◌∷◌, length, get_or, refl, ap, sym, ◌∙◌, arith, nat_le, Some, None}
 use Rattle.std.specs.Prelude.{decimal, bytes_eq}
 use Rattle.std.specs.Str.Parse.{AllDigits}
 use Rattle.std.specs.List.{list_all, All}

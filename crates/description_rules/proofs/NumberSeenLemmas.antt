@@ -43,36 +43,42 @@ insert_entry-new_number n v (e ∷ es) h =
     rw other (ap (λ others. e.0 ∷ others) (insert_entry-new_number n v es parts.1))
 
 -- a symbol that names a signal
-pub next_use : (u : SignalPlace) (old new : List ℤ) (n : ℤ) (right : Bool) → u.signal ≡ Some n → IsNextNumber u.right old new n right → IsNextUse u old new right
+pub next_use : (u : SignalPlace) (old new : List ℤ) (n : ℤ) (right : Bool)
+    → u.signal ≡ Some n → IsNextNumber u.right old new n right → IsNextUse u old new right
 next_use u old new n right e next = record {
   answer = next.answer ∙ sym (ap (λ (o : Option ℤ). option_map_or (λ m. u.right && is_no_number_of old m) o true) e);
   noted = λ is m.
       ap (λ numbers. is_no_number_of numbers m) (next.noted is) ∙ list_all-append (λ k. not (is_same_number k m)) old (n ∷ [])
-      ∙ ap (λ b. is_no_number_of old m && b) (and-true (not (is_same_number n m)) ∙ sym (ap (λ (o : Option ℤ). option_map_or (λ k. not (is_same_number k m)) o true) e));
+      ∙ ap (λ b. is_no_number_of old m && b)
+      (and-true (not (is_same_number n m)) ∙ sym (ap (λ (o : Option ℤ). option_map_or (λ k. not (is_same_number k m)) o true) e));
 }
 
 -- a symbol that names none
 pub no_use : (u : SignalPlace) (old : List ℤ) → u.signal ≡ None → IsNextUse u old old true
 no_use u old e = record {
   answer = sym (ap (λ (o : Option ℤ). option_map_or (λ m. u.right && is_no_number_of old m) o true) e);
-  noted = λ is m. keep (is_no_number_of old m) ∙ ap (λ b. is_no_number_of old m && b) (sym (ap (λ (o : Option ℤ). option_map_or (λ k. not (is_same_number k m)) o true) e));
+  noted = λ is m. keep (is_no_number_of old m)
+      ∙ ap (λ b. is_no_number_of old m && b) (sym (ap (λ (o : Option ℤ). option_map_or (λ k. not (is_same_number k m)) o true) e));
 }
   where
     keep : (b : Bool) → b ≡ (b && true)
     keep true = refl
     keep false = refl
 
-pub is_right_use-named : (before : List SignalPlace) (u : SignalPlace) (old new : List ℤ) (right : Bool) → AreNamed before old → IsNextUse u old new right → is_right_use before u ≡ right
+pub is_right_use-named : (before : List SignalPlace) (u : SignalPlace) (old new : List ℤ) (right : Bool)
+    → AreNamed before old → IsNextUse u old new right → is_right_use before u ≡ right
 is_right_use-named before u old new right named next = sym (next.answer ∙ by_signal u.signal)
   where
-    by_signal : (o : Option ℤ) → option_map_or (λ n. u.right && is_no_number_of old n) o true ≡ option_map_or (λ n. u.right && list_all (names_other n) before) o true
+    by_signal : (o : Option ℤ)
+        → option_map_or (λ n. u.right && is_no_number_of old n) o true ≡ option_map_or (λ n. u.right && list_all (names_other n) before) o true
     by_signal None = refl
     by_signal (Some n) = ap (λ b. u.right && b) (named n)
 
 pub named-none : AreNamed [] []
 named-none = λ n. refl
 
-pub named-more : (before more : List SignalPlace) (u : SignalPlace) (old new : List ℤ) (right : Bool) → AreNamed before old → IsNextUse u old new right → right ≡ true
+pub named-more : (before more : List SignalPlace) (u : SignalPlace) (old new : List ℤ) (right : Bool)
+    → AreNamed before old → IsNextUse u old new right → right ≡ true
     → more ≡ before ++ u ∷ [] → AreNamed more new
 named-more before more u old new right named next is e = λ n.
     next.noted is n ∙ ap (λ b. b && names_other n u) (named n) ∙ ap (λ b. list_all (names_other n) before && b) (keep (names_other n u))

@@ -14,7 +14,8 @@ use Rattle.spec_rules.specs.Described.{sizes_described, shape_described}
 use Rattle.description_rules.specs.Placed.{place_of, are_apart_places, is_placed, is_right_behind, use_of, is_right_use, is_right_number, names_other}
 
 -- a test of mapped elements beside a test of the elements
-pub first_wrong-map : {A X : Type 0} (view : A → X) (f : List X → X → Bool) (h : List A → A → Bool) → ((before : List A) (a : A) → f (map view before) (view a) ≡ h before a)
+pub first_wrong-map : {A X : Type 0} (view : A → X) (f : List X → X → Bool) (h : List A → A → Bool)
+    → ((before : List A) (a : A) → f (map view before) (view a) ≡ h before a)
     → (before xs : List A) → first_wrong f (map view before) (map view xs) ≡ first_wrong h before xs
 first_wrong-map view f h same before [] = refl
 first_wrong-map view f h same before (a ∷ xs) =
@@ -48,7 +49,8 @@ pub first_wrong-uses : (types : List NamedType) (signals : ℕ) (symbols : List 
 first_wrong-uses types signals symbols =
     first_wrong-map (use_of types signals) is_right_use (is_right_signal types signals) same [] symbols
   where
-    same : (before : List WrittenSymbol) (s : WrittenSymbol) → is_right_use (map (use_of types signals) before) (use_of types signals s) ≡ is_right_signal types signals before s
+    same : (before : List WrittenSymbol) (s : WrittenSymbol)
+        → is_right_use (map (use_of types signals) before) (use_of types signals s) ≡ is_right_signal types signals before s
     same before s =
         ap (λ (other : ℤ → Bool). option_map_or (λ n. option_map_or (is_right_number types signals s.type) s.signal true && other n) s.signal true)
         (fun_ext (λ n. list_all-map (names_other n) (use_of types signals) before))

@@ -42,6 +42,7 @@ is_right_port-noted limit xs x old new right noted next =
     ∙ ap (λ numbers. is_no_number_of numbers p.number) (sym (noted ∙ numbers-viewed xs)))
     ∙ sym next.answer
 
-pub port-noted : (xs more_xs : List ℤ) (n : ℤ) (allowed : Bool) (old new : List ℤ) (right : Bool) → old ≡ xs → IsNextNumber allowed old new n right → right ≡ true
+pub port-noted : (xs more_xs : List ℤ) (n : ℤ) (allowed : Bool) (old new : List ℤ) (right : Bool)
+    → old ≡ xs → IsNextNumber allowed old new n right → right ≡ true
     → more_xs ≡ xs ++ n ∷ [] → new ≡ more_xs
 port-noted xs more_xs n allowed old new right noted next is more = next.noted is ∙ ap (λ numbers. numbers ++ n ∷ []) noted ∙ sym more

@@ -13,7 +13,8 @@ abbrev net_in : WrittenRoute → List ℕ
 net_in r = r.net
 
 -- the answer about a route behind those that are noted
-pub is_right_route-noted : (before : List WrittenRoute) (r : WrittenRoute) (seen : List (List ℕ)) (found : Bool) → seen ≡ map (λ (r : WrittenRoute). r.net) before
+pub is_right_route-noted : (before : List WrittenRoute) (r : WrittenRoute) (seen : List (List ℕ)) (found : Bool)
+    → seen ≡ map (λ (r : WrittenRoute). r.net) before
     → found ≡ (is_some (net_of r.net) && list_all (λ e. not (bytes_eq e r.net)) seen) → is_right_route before r ≡ found
 is_right_route-noted before r seen found noted answer =
     sym (answer ∙ ap (λ (s : List (List ℕ)). is_some (net_of r.net) && list_all (λ e. not (bytes_eq e r.net)) s) noted
@@ -27,4 +28,5 @@ noted-more view xs i x seen more below is noted m =
     let longer : take (i + 1) xs ≡ take i xs ++ x ∷ [] =
     rw add-one (take-suc xs i x below ∙ ap (λ y. take i xs ++ y ∷ []) (sym is)) in
     m ∙ ap (λ (s : List (List ℕ)). s ++ (view x).net ∷ []) noted
-    ∙ sym (ap (λ ys. map net_in (map view ys)) longer ∙ ap (map net_in) (map-append view (take i xs) (x ∷ [])) ∙ map-append net_in (map view (take i xs)) (view x ∷ []))
+    ∙ sym (ap (λ ys. map net_in (map view ys)) longer ∙ ap (map net_in) (map-append view (take i xs) (x ∷ []))
+    ∙ map-append net_in (map view (take i xs)) (view x ∷ []))

@@ -1,5 +1,7 @@
 -- One turn of a loop over the starts of a text.
-use Rattle.std.proofs.Common.{◌≡◌, ℕ, ◌+◌, ◌≤◌, ◌<◌, Bool, true, false, ◌&&◌, not, List, [], ◌∷◌, ◌++◌, length, get_or, take, drop, map, refl, ap, sym, ◌∙◌, ⊎_elim, add-one, append-nil, append_assoc}
+use Rattle.std.proofs.Common.{◌≡◌, ℕ, ◌+◌, ◌≤◌, ◌<◌, Bool, true, false, ◌&&◌, not, List, [], ◌∷◌, ◌++◌, length}
+use Rattle.std.proofs.Common.{get_or, take, drop, map, refl, ap, sym, ◌∙◌, ⊎_elim, add-one, append-nil}
+use Rattle.std.proofs.Common.{append_assoc}
 use Rattle.std.proofs.Math.Bool.{and_assoc, and-true}
 use Rattle.std.proofs.Math.Seq.{take-suc}
 use Rattle.std.proofs.lemmas.List.{drop_all, take_all}
@@ -20,7 +22,8 @@ starts_from text i = all_behind (take i text) (starts_of (drop i text))
 behind_behind : (front : List ℕ) (c : ℕ) (texts : List (List ℕ)) → all_behind front (each_behind c texts) ≡ all_behind (front ++ c ∷ []) texts
 behind_behind front c [] = refl
 behind_behind front c (t ∷ ts) =
-    ap (λ u. u ∷ all_behind front (each_behind c ts)) (sym (append_assoc front (c ∷ []) t)) ∙ ap (λ us. ((front ++ c ∷ []) ++ t) ∷ us) (behind_behind front c ts)
+    ap (λ u. u ∷ all_behind front (each_behind c ts)) (sym (append_assoc front (c ∷ []) t))
+    ∙ ap (λ us. ((front ++ c ∷ []) ++ t) ∷ us) (behind_behind front c ts)
 
 behind_nothing : (texts : List (List ℕ)) → all_behind [] texts ≡ texts
 behind_nothing [] = refl
@@ -39,7 +42,8 @@ starts_from-turn text i c below is =
     let behind : all_behind front (each_behind c rest) ≡ starts_from text (i + 1) =
     behind_behind front c rest ∙ ap (λ f. all_behind f rest) (longer text i c below is) in
     ap (λ ys. all_behind front (starts_of ys)) (dropped text i c below is)
-    ∙ ⊎_elim (λ e. rw e (ap (λ u. u ∷ all_behind front (each_behind c rest)) (append-nil front) ∙ ap (λ us. front ∷ us) behind)) (λ e. rw e behind) (cases_Bool (is_full_stop c))
+    ∙ ⊎_elim (λ e. rw e (ap (λ u. u ∷ all_behind front (each_behind c rest)) (append-nil front) ∙ ap (λ us. front ∷ us) behind))
+    (λ e. rw e behind) (cases_Bool (is_full_stop c))
 
 -- no byte is left
 pub starts_from-end : (text : List ℕ) (i : ℕ) → length text ≤ i → starts_from text i ≡ text ∷ []
@@ -48,20 +52,23 @@ starts_from-end text i end =
     ∙ ap (λ u. u ∷ []) (append-nil (take i text) ∙ take_all i text end)
 
 -- a start that is new
-pub share_from-new : (texts : List (List ℕ)) (text : List ℕ) (i c : ℕ) (none : Bool) → i < length text → c ≡ get_or text i c → share_none texts (start_at text i c) ≡ true
+pub share_from-new : (texts : List (List ℕ)) (text : List ℕ) (i c : ℕ) (none : Bool)
+    → i < length text → c ≡ get_or text i c → share_none texts (start_at text i c) ≡ true
     → none ≡ share_none texts (starts_from text i) → none ≡ share_none texts (starts_from text (i + 1))
 share_from-new texts text i c none below is new so_far =
     so_far ∙ ap (share_none texts) (starts_from-turn text i c below is) ∙ list_all-append (is_none_of texts) (start_at text i c) (starts_from text (i + 1))
     ∙ ap (λ b. b && share_none texts (starts_from text (i + 1))) new
 
 -- a start that is there
-pub share_from-old : (texts : List (List ℕ)) (text : List ℕ) (i c : ℕ) (none : Bool) → i < length text → c ≡ get_or text i c → share_none texts (start_at text i c) ≡ false
+pub share_from-old : (texts : List (List ℕ)) (text : List ℕ) (i c : ℕ) (none : Bool)
+    → i < length text → c ≡ get_or text i c → share_none texts (start_at text i c) ≡ false
     → none ≡ share_none texts (starts_from text i) → none ≡ false
 share_from-old texts text i c none below is old so_far =
     so_far ∙ ap (share_none texts) (starts_from-turn text i c below is) ∙ list_all-append (is_none_of texts) (start_at text i c) (starts_from text (i + 1))
     ∙ ap (λ b. b && share_none texts (starts_from text (i + 1))) old
 
-pub share_from-end : (texts : List (List ℕ)) (text : List ℕ) (i : ℕ) (none : Bool) → length text ≤ i → none ≡ share_none texts (starts_from text i) → none ≡ is_none_of texts text
+pub share_from-end : (texts : List (List ℕ)) (text : List ℕ) (i : ℕ) (none : Bool)
+    → length text ≤ i → none ≡ share_none texts (starts_from text i) → none ≡ is_none_of texts text
 share_from-end texts text i none end so_far = so_far ∙ ap (share_none texts) (starts_from-end text i end) ∙ and-true (is_none_of texts text)
 
 -- the starts from the i-th byte on are still to be added
@@ -72,7 +79,8 @@ IsLeft old now text i = (other : List ℕ)
 pub left-none : (old : List (List ℕ)) (text : List ℕ) → IsLeft old old text 0
 left-none old text = λ other. ap (λ texts. is_none_of old other && is_none_of texts other) (starts_from-none text)
 
-pub left-more : (old now new : List (List ℕ)) (text : List ℕ) (i c : ℕ) → i < length text → c ≡ get_or text i c → IsAdded (start_at text i c) now new → IsLeft old now text i
+pub left-more : (old now new : List (List ℕ)) (text : List ℕ) (i c : ℕ) → i < length text
+    → c ≡ get_or text i c → IsAdded (start_at text i c) now new → IsLeft old now text i
     → IsLeft old new text (i + 1)
 left-more old now new text i c below is added left = λ other.
     let later = is_none_of (starts_from text (i + 1)) other in
@@ -80,7 +88,8 @@ left-more old now new text i c below is added left = λ other.
     ∙ ap (λ b. is_none_of now other && b) (list_all-append (λ e. not (bytes_eq e other)) (start_at text i c) (starts_from text (i + 1)))
     ∙ sym (and_assoc (is_none_of now other) (is_none_of (start_at text i c) other) later) ∙ ap (λ b. b && later) (sym (added other))
 
-pub left-end : (old now new : List (List ℕ)) (text : List ℕ) (i : ℕ) → length text ≤ i → IsAdded (text ∷ []) now new → IsLeft old now text i → IsAdded (starts_of text) old new
+pub left-end : (old now new : List (List ℕ)) (text : List ℕ) (i : ℕ) → length text ≤ i
+    → IsAdded (text ∷ []) now new → IsLeft old now text i → IsAdded (starts_of text) old new
 left-end old now new text i end added left = λ other.
     added other ∙ ap (λ texts. is_none_of now other && is_none_of texts other) (sym (starts_from-end text i end)) ∙ sym (left other)
 

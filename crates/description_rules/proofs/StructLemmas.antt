@@ -27,7 +27,8 @@ extent_behind-more so_far e new known m ms is size align depth =
     let deepest : max new.depth (greatest_depth rest) ≡ max so_far.depth (max (type_depth t) (greatest_depth rest)) = omega arith in
     same_extent _ _ _ _ _ _ (ap (λ n. members_end n rest) end) greatest deepest
   where
-    same_extent : (a b c d e f : ℕ) → a ≡ d → b ≡ e → c ≡ f → ◌≡◌ {A = TypeExtent} (record { size = a; align = b; depth = c }) (record { size = d; align = e; depth = f })
+    same_extent : (a b c d e f : ℕ) → a ≡ d → b ≡ e → c ≡ f
+        → ◌≡◌ {A = TypeExtent} (record { size = a; align = b; depth = c }) (record { size = d; align = e; depth = f })
     same_extent a b c d e f p q r = cc
 
 some_align : (ms : MemberTrees) → 0 < greatest_align ms
@@ -36,7 +37,8 @@ some_align NoMember = omega arith
 some_align (MemberTree name type comment ms) = let rest = some_align ms in omega arith
 
 -- all members
-pub IsStructExtent-end : (so_far : Extent) (ms : MemberTrees) (size : ℕ) → 0 < so_far.align → extent_behind so_far NoMember ≡ extent_behind (record { size = 0; align = 1; depth = 0 }) ms
+pub IsStructExtent-end : (so_far : Extent) (ms : MemberTrees) (size : ℕ) → 0 < so_far.align
+    → extent_behind so_far NoMember ≡ extent_behind (record { size = 0; align = 1; depth = 0 }) ms
     → size ≡ aligned so_far.size so_far.align → IsStructExtent ms (record { size = size; align = so_far.align; depth = so_far.depth + 1 })
 unfolding members_end greatest_align greatest_depth
 IsStructExtent-end so_far ms size some whole is =

@@ -1,5 +1,7 @@
 -- One more range among those that are in order.
-use Rattle.std.proofs.Common.{◌≡◌, ℕ, ◌+◌, ◌-◌, ◌≤◌, ◌<◌, Bool, true, false, ◌&&◌, ◌||◌, nat_le, List, ◌∷◌, length, get_or, take, drop, take-append-drop, refl, ap, sym, ◌∙◌, arith, ◌⊎◌, inl, inr, ⊎_elim}
+use Rattle.std.proofs.Common.{◌≡◌, ℕ, ◌+◌, ◌-◌, ◌≤◌, ◌<◌, Bool, true, false, ◌&&◌, ◌||◌, nat_le, List, ◌∷◌}
+use Rattle.std.proofs.Common.{length, get_or, take, drop, take-append-drop, refl, ap, sym, ◌∙◌, arith, ◌⊎◌}
+use Rattle.std.proofs.Common.{inl, inr, ⊎_elim}
 use Rattle.std.specs.List.{list_all, insert}
 use Rattle.std.proofs.lemmas.Bool.{cases_lt, le-leb, lt-leb, leb-true, eq-eqb, ne_eqb}
 use Rattle.std.proofs.lemmas.List.{get_or_default}
@@ -44,7 +46,8 @@ module _ (rs : List ByteRange) (place : ℕ) (p : ByteRange) (order : AreInOrder
       (λ h. apart_behind (get_or rs k d) p (free_behind rs place k p.end d order (rw (get_or_default rs place p d below) at free) h within)) (cases_lt k place))
 
   apart_all : length rs ≤ place → list_all (λ r. are_apart_ranges r p) rs ≡ true
-  apart_all end = list_all-from_AllPass (λ r. are_apart_ranges r p) rs (λ k d within. apart_before (get_or rs k d) p (point.before k d (let b = point.bound in omega arith)))
+  apart_all end = list_all-from_AllPass (λ r. are_apart_ranges r p) rs
+      (λ k d within. apart_before (get_or rs k d) p (point.before k d (let b = point.bound in omega arith)))
 
   is_free-there : place < length rs → is_free_at rs place p ≡ nat_le p.end (get_or rs place p).start
   is_free-there below = rw (ne_eqb place (length rs) (λ e. omega arith)) refl
@@ -56,7 +59,8 @@ module _ (rs : List ByteRange) (place : ℕ) (p : ByteRange) (order : AreInOrder
   pub is_free-answer : is_free_at rs place p ≡ list_all (λ r. are_apart_ranges r p) rs
   is_free-answer =
       ⊎_elim (λ below. is_free-there below ∙ ⊎_elim
-      (λ large. lt-leb p.end (get_or rs place p).start large ∙ sym (list_all_at (λ r. are_apart_ranges r p) rs place p below (meets (get_or rs place p) p (point.behind place p (omega arith) below) large)))
+      (λ large. lt-leb p.end (get_or rs place p).start large
+      ∙ sym (list_all_at (λ r. are_apart_ranges r p) rs place p below (meets (get_or rs place p) p (point.behind place p (omega arith) below) large)))
       (λ free. le-leb p.end (get_or rs place p).start free ∙ sym (apart_with below free)) (cases_lt (get_or rs place p).start p.end))
       (λ end. is_free-end end ∙ sym (apart_all end)) (cases_lt place (length rs))
 
@@ -83,11 +87,13 @@ module _ (rs : List ByteRange) (place : ℕ) (p : ByteRange) (order : AreInOrder
     apart-insert : (i j : ℕ) (d : ByteRange) → i < j → j < length rs + 1 → (get_or (insert rs place p) i d).end ≤ (get_or (insert rs place p) j d).start
     apart-insert i j d less within =
         ⊎_elim (λ a. ⊎_elim (λ b. rw (a.1, b.1) (order.apart i j d less (omega arith)))
-        (λ b. ⊎_elim (λ c. rw (a.1, c.1) (point.before i d a.0)) (λ c. rw (a.1, c.1) (order.apart i (j - 1) d (omega arith) (omega arith))) b) (stands j d within))
+        (λ b. ⊎_elim (λ c. rw (a.1, c.1) (point.before i d a.0)) (λ c. rw (a.1, c.1) (order.apart i (j - 1) d (omega arith) (omega arith))) b)
+        (stands j d within))
         (λ a. ⊎_elim (λ e. ⊎_elim (λ b. absurd (omega arith))
         (λ b. ⊎_elim (λ c. absurd (omega arith)) (λ c. rw (e.1, c.1) (starts_behind (j - 1) d (omega arith) (omega arith))) b) (stands j d within))
         (λ e. ⊎_elim (λ b. absurd (omega arith))
-        (λ b. ⊎_elim (λ c. absurd (omega arith)) (λ c. rw (e.1, c.1) (order.apart (i - 1) (j - 1) d (omega arith) (omega arith))) b) (stands j d within)) a) (stands i d (omega arith))
+        (λ b. ⊎_elim (λ c. absurd (omega arith)) (λ c. rw (e.1, c.1) (order.apart (i - 1) (j - 1) d (omega arith) (omega arith))) b) (stands j d within)) a)
+        (stands i d (omega arith))
 
     pub in_order-insert : AreInOrder (insert rs place p)
     in_order-insert =

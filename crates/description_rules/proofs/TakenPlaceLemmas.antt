@@ -1,5 +1,6 @@
 -- Symbols whose bytes are taken.
-use Rattle.std.proofs.Common.{◌≡◌, ℕ, ◌+◌, ◌*◌, ◌^◌, ◌≤◌, ◌<◌, Bool, true, false, not, ◌&&◌, ◌||◌, ◌==◌, nat_le, List, [], ◌∷◌, ◌++◌, map, refl, ap, sym, ◌∙◌, arith, ⊎_elim}
+use Rattle.std.proofs.Common.{◌≡◌, ℕ, ◌+◌, ◌*◌, ◌^◌, ◌≤◌, ◌<◌, Bool, true, false, not, ◌&&◌, ◌||◌, ◌==◌}
+use Rattle.std.proofs.Common.{nat_le, List, [], ◌∷◌, ◌++◌, map, refl, ap, sym, ◌∙◌, arith, ⊎_elim}
 use Rattle.std.proofs.Math.Bool.{and-true}
 use Rattle.std.specs.List.{list_all}
 use Rattle.std.proofs.lemmas.Bool.{and_parts, cases_lt, cases_order, le-leb, lt-leb, eq-eqb, ne_eqb}
@@ -82,15 +83,18 @@ right-behind places place taken right stand within answer =
 pub right-behind-view : (places : List SymbolPlace) (place s : SymbolPlace) (taken : List ByteRange) (right : Bool) → place ≡ s → StandFor places taken
     → (place.right ≡ true → place.offset + place.size < 2 ^ 64) → right ≡ (place.right && list_all (λ r. are_apart_ranges r (range_of place)) taken)
     → is_right_behind places s ≡ right
-right-behind-view places place s taken right e stand within answer = ap (is_right_behind places) (sym e) ∙ right-behind places place taken right stand within answer
+right-behind-view places place s taken right e stand within answer =
+    ap (is_right_behind places) (sym e) ∙ right-behind places place taken right stand within answer
 
 pub stand-view : (places more_places : List SymbolPlace) (place s : SymbolPlace) (old new : List ByteRange) (right : Bool) → place ≡ s → StandFor places old
-    → (place.right ≡ true → place.offset + place.size < 2 ^ 64) → TakesPlace place old new right → right ≡ true → more_places ≡ places ++ s ∷ [] → StandFor more_places new
+    → (place.right ≡ true → place.offset + place.size < 2 ^ 64) → TakesPlace place old new right
+    → right ≡ true → more_places ≡ places ++ s ∷ [] → StandFor more_places new
 stand-view places more_places place s old new right e stand within takes is more =
     let placed : place.right ≡ true = (and_parts place.right (list_all (λ r. are_apart_ranges r (range_of place)) old) (sym takes.answer ∙ is)).0 in
     let longer : places ++ place ∷ [] ≡ more_places = ap (λ t. places ++ t ∷ []) e ∙ sym more in
     rw longer at (stand-more places place old new stand (within placed) (takes.order is) (takes.taken is))
 
-pub symbol_places-written : (types : List NamedType) (sizes : Sizes) (xs : List WrittenSymbol) → map (symbol_place types sizes) xs ≡ map (place_of types sizes) (map symbol_view xs)
+pub symbol_places-written : (types : List NamedType) (sizes : Sizes) (xs : List WrittenSymbol)
+    → map (symbol_place types sizes) xs ≡ map (place_of types sizes) (map symbol_view xs)
 symbol_places-written types sizes [] = refl
 symbol_places-written types sizes (x ∷ xs) = ap (λ places. symbol_place types sizes x ∷ places) (symbol_places-written types sizes xs)

@@ -1,5 +1,6 @@
 -- Texts that are compared.
-use Rattle.std.proofs.Common.{◌≡◌, ℕ, Bool, true, false, cond, not, ◌&&◌, List, [], ◌∷◌, refl, ap, sym, ◌∙◌, map, Option, Some, None, is_none, is_some, option_copied, Bor, ◌++◌, Vec, Global}
+use Rattle.std.proofs.Common.{◌≡◌, ℕ, Bool, true, false, cond, not, ◌&&◌, List, [], ◌∷◌, refl, ap, sym, ◌∙◌}
+use Rattle.std.proofs.Common.{map, Option, Some, None, is_none, is_some, option_copied, Bor, ◌++◌, Vec, Global}
 use Rattle.std.proofs.lemmas.Bool.{and_parts, not-true}
 use Rattle.indexmap.specs.IndexMap.{insert_entry}
 use Rattle.std.specs.Prelude.{bytes_eq}

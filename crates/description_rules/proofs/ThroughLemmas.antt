@@ -1,5 +1,6 @@
 -- One turn of a loop that looks for the first wrong element through all groups.
-use Rattle.std.proofs.Common.{◌≡◌, ℕ, suc, ◌+◌, ◌≤◌, ◌<◌, List, [], ◌∷◌, ◌++◌, length, get_or, take, drop, map, refl, ap, sym, ◌∙◌, arith, add-one, drop-cons, Option, Some, None}
+use Rattle.std.proofs.Common.{◌≡◌, ℕ, suc, ◌+◌, ◌≤◌, ◌<◌, List, [], ◌∷◌, ◌++◌, length, get_or, take, drop, map}
+use Rattle.std.proofs.Common.{refl, ap, sym, ◌∙◌, arith, add-one, drop-cons, Option, Some, None}
 use Rattle.std.proofs.Math.Seq.{take-suc}
 use Rattle.std.proofs.lemmas.List.{map-append, drop_all}
 use Rattle.spec_rules.specs.Places.{first_through, or_else}
@@ -16,14 +17,16 @@ module _ {A X : Type 0} (count : X → ℕ) (wrong : List X → X → Option ℕ
 
   turn : (xs : List A) (i : ℕ) (a : A) → i < length xs → a ≡ get_or xs i a
       → first_through count wrong (map view (take i xs)) (map view (drop i xs))
-      ≡ or_else (wrong (map view (take i xs)) (view a)) (place_from (count (view a)) (first_through count wrong (map view (take (i + 1) xs)) (map view (drop (i + 1) xs))))
+      ≡ or_else (wrong (map view (take i xs)) (view a))
+      (place_from (count (view a)) (first_through count wrong (map view (take (i + 1) xs)) (map view (drop (i + 1) xs))))
   turn xs i a below is =
       let left : drop i xs ≡ a ∷ drop (i + 1) xs =
       rw add-one (drop-cons xs i a below ∙ ap (λ y. y ∷ drop (suc i) xs) (sym is)) in
       let before : map view (take (i + 1) xs) ≡ map view (take i xs) ++ view a ∷ [] =
       rw add-one (ap (map view) (take-suc xs i a below ∙ ap (λ y. take i xs ++ y ∷ []) (sym is)) ∙ map-append view (take i xs) (a ∷ [])) in
       ap (λ ys. first_through count wrong (map view (take i xs)) (map view ys)) left
-      ∙ ap (λ ys. or_else (wrong (map view (take i xs)) (view a)) (place_from (count (view a)) (first_through count wrong ys (map view (drop (i + 1) xs))))) (sym before)
+      ∙ ap (λ ys. or_else (wrong (map view (take i xs)) (view a)) (place_from (count (view a)) (first_through count wrong ys (map view (drop (i + 1) xs)))))
+      (sym before)
 
   -- nothing is wrong in the i-th group
   pub through_from-right : (xs : List A) (i n : ℕ) (a : A) (place : Option ℕ) → i < length xs → a ≡ get_or xs i a → wrong (map view (take i xs)) (view a) ≡ None
@@ -33,7 +36,8 @@ module _ {A X : Type 0} (count : X → ℕ) (wrong : List X → X → Option ℕ
       ∙ place_from-place_from n (count (view a)) (first_through count wrong (map view (take (i + 1) xs)) (map view (drop (i + 1) xs)))
 
   -- an element of the i-th group is wrong
-  pub through_from-wrong : (xs : List A) (i n j : ℕ) (a : A) (place : Option ℕ) → i < length xs → a ≡ get_or xs i a → wrong (map view (take i xs)) (view a) ≡ Some j
+  pub through_from-wrong : (xs : List A) (i n j : ℕ) (a : A) (place : Option ℕ)
+      → i < length xs → a ≡ get_or xs i a → wrong (map view (take i xs)) (view a) ≡ Some j
       → place ≡ through_from xs i n → place ≡ Some (n + j)
   through_from-wrong xs i n j a place below is found so_far =
       so_far ∙ ap (place_from n) (rw found at (turn xs i a below is))

@@ -29,8 +29,10 @@ numbers-viewed [] = refl
 numbers-viewed (x ∷ xs) = ap (λ numbers. value_number x ∷ numbers) (numbers-viewed xs)
 
 -- first its name, and then its number
-pub next_value : (base : Kind) (v : rules.WrittenValue) (names more_names : List (List ℕ)) (numbers more_numbers : List ℤ) (alone new right : Bool) → alone ≡ is_value_alone base v
-    → IsNext alone names more_names (lower v.name) new → IsNextNumber new numbers more_numbers v.number right → IsNextValue base v names numbers more_names more_numbers right
+pub next_value : (base : Kind) (v : rules.WrittenValue) (names more_names : List (List ℕ)) (numbers more_numbers : List ℤ) (alone new right : Bool)
+    → alone ≡ is_value_alone base v
+    → IsNext alone names more_names (lower v.name) new → IsNextNumber new numbers more_numbers v.number right
+    → IsNextValue base v names numbers more_names more_numbers right
 next_value base v names more_names numbers more_numbers alone new right e name number = record {
   answer = number.answer ∙ ap (λ b. b && is_no_number_of numbers v.number) (name.answer ∙ ap (λ b. b && is_none_of names (lower v.name)) e);
   named = λ is. name.noted (and_parts new (is_no_number_of numbers v.number) (sym number.answer ∙ is)).0;
@@ -38,7 +40,8 @@ next_value base v names more_names numbers more_numbers alone new right e name n
 }
 
 -- a value is right behind those that are noted
-pub is_right_value-noted : (base : Kind) (xs : List WrittenValue) (x : WrittenValue) (names more_names : List (List ℕ)) (numbers more_numbers : List ℤ) (right : Bool)
+pub is_right_value-noted : (base : Kind) (xs : List WrittenValue) (x : WrittenValue)
+    (names more_names : List (List ℕ)) (numbers more_numbers : List ℤ) (right : Bool)
     → names ≡ map (lower_name value_view value_name) xs → numbers ≡ map value_number xs
     → IsNextValue base (value_view x) names numbers more_names more_numbers right → is_right_value base (map value_view xs) (value_view x) ≡ right
 is_right_value-noted base xs x names more_names numbers more_numbers right named numbered next =
@@ -49,5 +52,6 @@ is_right_value-noted base xs x names more_names numbers more_numbers right named
     sym (next.answer ∙ and_assoc alone (is_none_of names (lower v.name)) (is_no_number_of numbers v.number)
     ∙ ap (λ b. alone && (b && is_no_number_of numbers v.number)) (none_of-lower value_view value_name xs x names named)
     ∙ ap (λ b. alone && (list_all other_name (map value_view xs) && b))
-    (ap (λ ns. is_no_number_of ns v.number) (numbered ∙ numbers-viewed xs) ∙ list_all-map (λ e. not (is_same_number e v.number)) (λ (e : rules.WrittenValue). e.number) (map value_view xs))
+    (ap (λ ns. is_no_number_of ns v.number) (numbered ∙ numbers-viewed xs)
+    ∙ list_all-map (λ e. not (is_same_number e v.number)) (λ (e : rules.WrittenValue). e.number) (map value_view xs))
     ∙ ap (λ b. alone && b) (sym (list_all_both other_name other_number (map value_view xs))))

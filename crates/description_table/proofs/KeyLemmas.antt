@@ -17,5 +17,6 @@ pub only_keys-members_view : (known : List (Bor (List ℕ))) (es : List (String 
 only_keys-members_view known [] = refl
 only_keys-members_view known (e ∷ es) =
     let test = bytes_eq (string_bytes e.0) in
-    ap (λ found. found && list_all (λ key. list_any (λ k. bytes_eq (string_bytes key) (text_view k)) known) (keys_of es)) (sym (list_any-map test text_view known))
+    ap (λ found. found && list_all (λ key. list_any (λ k. bytes_eq (string_bytes key) (text_view k)) known) (keys_of es))
+    (sym (list_any-map test text_view known))
     ∙ ap (λ others. list_any test (map text_view known) && others) (only_keys-members_view known es)

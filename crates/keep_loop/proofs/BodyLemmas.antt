@@ -22,10 +22,12 @@ bodies-append body_of step [] ns s = refl
 bodies-append body_of step (m ∷ ms) ns s =
     let later = state_after_move step s m in
     let here = bodies_at_move m (body_of later.world) in
-    ap (λ l. here ++ l) (bodies-append body_of step ms ns later) ∙ sym (append_assoc here (bodies_at_ticks body_of step later ms) (bodies_at_ticks body_of step (state_after step later ms) ns))
+    ap (λ l. here ++ l) (bodies-append body_of step ms ns later)
+    ∙ sym (append_assoc here (bodies_at_ticks body_of step later ms) (bodies_at_ticks body_of step (state_after step later ms) ns))
 
 -- a first part of a log has the first of its bodies
-pub state-append : {W C : Type 0} (step : EventStep W C) (ms ns : List Move) (s : MachineState W C) → state_after step s (ms ++ ns) ≡ state_after step (state_after step s ms) ns
+pub state-append : {W C : Type 0} (step : EventStep W C) (ms ns : List Move) (s : MachineState W C)
+    → state_after step s (ms ++ ns) ≡ state_after step (state_after step s ms) ns
 unfolding state_after
 state-append step [] ns s = refl
 state-append step (m ∷ ms) ns s = state-append step ms ns (state_after_move step s m)
@@ -33,7 +35,8 @@ state-append step (m ∷ ms) ns s = state-append step ms ns (state_after_move st
 not_next : {X : Type 0} (n : ℕ) → n + 1 ≡ 0 → X
 not_next n e = absurd (omega (arith, e))
 
-pub no_bodies : {W C : Type 0} (body_of : BodyOf W) (step : EventStep W C) (ms : List Move) (s : MachineState W C) → events_in ms ≡ 0 → bodies_at_ticks body_of step s ms ≡ []
+pub no_bodies : {W C : Type 0} (body_of : BodyOf W) (step : EventStep W C) (ms : List Move) (s : MachineState W C)
+    → events_in ms ≡ 0 → bodies_at_ticks body_of step s ms ≡ []
 unfolding bodies_at_ticks
 no_bodies body_of step [] s none = refl
 no_bodies body_of step (move.Event e ∷ ms) s none = not_next (events_in ms) none
@@ -47,7 +50,8 @@ took_world n s k = elim (cases_Bool k.gone) [
   | inr there ↦ rw there refl
 ]
 
-exchange_world : {W C : Type 0} (change : Exchange W C → Exchange W C) (s : MachineState W C) → ((k : Connection C) → (change (exchange_of s k)).world ≡ s.world)
+exchange_world : {W C : Type 0} (change : Exchange W C → Exchange W C) (s : MachineState W C)
+    → ((k : Connection C) → (change (exchange_of s k)).world ≡ s.world)
     → (o : Option (Connection C)) → (after_exchange o change s).world ≡ s.world
 exchange_world change s same None = refl
 exchange_world change s same (Some k) = same k
@@ -72,7 +76,8 @@ one_event body_of step e ms s none =
     ∙ (append-nil (bodies_at_event e (body_of (step s e).world)) ∙ ap (λ w. bodies_at_event e (body_of w)) (sym (same_world step ms (step s e) none)))
 
 -- the bodies of a turn: what its event is looked at for, at the end of the turn
-pub turn_bodies : {W C : Type 0} (body_of : BodyOf W) (step : EventStep W C) (e : Event) (x : Running W C) (ms : List Move) → IsTurnOf step e x ms → events_in ms ≡ 1
+pub turn_bodies : {W C : Type 0} (body_of : BodyOf W) (step : EventStep W C) (e : Event) (x : Running W C) (ms : List Move)
+    → IsTurnOf step e x ms → events_in ms ≡ 1
     → bodies_at_ticks body_of step x.state ms ≡ bodies_at_event e (body_of (state_after step x.state ms).world)
 turn_bodies {W} {C} body_of step e x ms turn one =
     let rest : List Move = flat_map (λ moves. moves) turn.served in
@@ -83,7 +88,8 @@ turn_bodies {W} {C} body_of step e x ms turn one =
 
 -- the bodies of a run begin with those at the ticks of a first part of it
 pub bodies_begin : {W C : Type 0} (body_of : BodyOf W) (step : EventStep W C) (ms ns : List Move) (s : MachineState W C)
-    → bodies_of_run body_of step s (ms ++ ns) ≡ bodies_at_ticks body_of step s ms ++ (bodies_at_ticks body_of step (state_after step s ms) ns ++ body_of (state_after step s (ms ++ ns)).world ∷ [])
+    → bodies_of_run body_of step s (ms ++ ns) ≡ bodies_at_ticks body_of step s ms
+    ++ (bodies_at_ticks body_of step (state_after step s ms) ns ++ body_of (state_after step s (ms ++ ns)).world ∷ [])
 bodies_begin body_of step ms ns s =
     let last = body_of (state_after step s (ms ++ ns)).world in
     ap (λ l. l ++ last ∷ []) (bodies-append body_of step ms ns s)

@@ -18,7 +18,8 @@ last_of stood (body ∷ bodies) = last_of (Some body) bodies
 abbrev pub body_in : Option Standing → Option (List ℕ)
 body_in standing = option_map (λ (t : Standing). t.slot.body) standing
 
-pub saves-append : (bodies more : List (List ℕ)) (stood : Option (List ℕ)) → saves_in stood (bodies ++ more) ≡ saves_in stood bodies ++ saves_in (last_of stood (saves_in stood bodies)) more
+pub saves-append : (bodies more : List (List ℕ)) (stood : Option (List ℕ))
+    → saves_in stood (bodies ++ more) ≡ saves_in stood bodies ++ saves_in (last_of stood (saves_in stood bodies)) more
 unfolding saves_in last_of
 saves-append [] more stood = refl
 saves-append (body ∷ bodies) more stood = elim (cases_Bool (is_standing stood body)) [
@@ -45,7 +46,8 @@ unfolding standing_after_all last_of
 body_after [] standing = refl
 body_after (body ∷ saves) standing = body_after saves (Some (standing_after standing body))
 
-pub standing-append : (saves more : List (List ℕ)) (standing : Option Standing) → standing_after_all standing (saves ++ more) ≡ standing_after_all (standing_after_all standing saves) more
+pub standing-append : (saves more : List (List ℕ)) (standing : Option Standing)
+    → standing_after_all standing (saves ++ more) ≡ standing_after_all (standing_after_all standing saves) more
 unfolding standing_after_all
 standing-append [] more standing = refl
 standing-append (body ∷ saves) more standing = standing-append saves more (Some (standing_after standing body))
@@ -62,7 +64,8 @@ or_false : (a : Bool) → (a || false) ≡ a
 or_false true = refl
 or_false false = refl
 
-pub over-append : (saves more : List (List ℕ)) (standing : Option Standing) → is_any_over standing (saves ++ more) ≡ (is_any_over standing saves || is_any_over (standing_after_all standing saves) more)
+pub over-append : (saves more : List (List ℕ)) (standing : Option Standing)
+    → is_any_over standing (saves ++ more) ≡ (is_any_over standing saves || is_any_over (standing_after_all standing saves) more)
 unfolding is_any_over standing_after_all
 over-append [] more standing = refl
 over-append (body ∷ saves) more standing =
@@ -75,13 +78,15 @@ unfolding is_any_over
 over-one standing body = or_false (is_over_limit standing body)
 
 -- whether a save more is over the limit, where none before it was
-pub over_then : (saves : List (List ℕ)) (body : List ℕ) (standing now : Option Standing) (over : Bool) → is_any_over standing saves ≡ false → now ≡ standing_after_all standing saves → is_over_limit now body ≡ over
+pub over_then : (saves : List (List ℕ)) (body : List ℕ) (standing now : Option Standing) (over : Bool)
+    → is_any_over standing saves ≡ false → now ≡ standing_after_all standing saves → is_over_limit now body ≡ over
     → is_any_over standing (saves ++ body ∷ []) ≡ over
 over_then saves body standing now over none is so =
     over-append saves (body ∷ []) standing ∙ (ap (λ b. b || is_any_over (standing_after_all standing saves) (body ∷ [])) none
     ∙ (over-one (standing_after_all standing saves) body ∙ (ap (λ t. is_over_limit t body) (sym is) ∙ so)))
 
-pub standing_then : (saves : List (List ℕ)) (body : List ℕ) (standing now : Option Standing) → now ≡ standing_after_all standing saves → Some (standing_after now body) ≡ standing_after_all standing (saves ++ body ∷ [])
+pub standing_then : (saves : List (List ℕ)) (body : List ℕ) (standing now : Option Standing)
+    → now ≡ standing_after_all standing saves → Some (standing_after now body) ≡ standing_after_all standing (saves ++ body ∷ [])
 standing_then saves body standing now is =
     ap (λ t. Some (standing_after t body)) is ∙ (sym (standing-one (standing_after_all standing saves) body) ∙ sym (standing-append saves (body ∷ []) standing))
 
@@ -97,32 +102,38 @@ one_of_first [] more standing one is = first_standing more standing one is
 one_of_first (body ∷ saves) more standing one (inl is) = inl is
 one_of_first (body ∷ saves) more standing one (inr later) = inr (one_of_first saves more (Some (standing_after standing body)) one later)
 
-pub one_of_last : (saves more : List (List ℕ)) (standing one : Option Standing) → IsOneOf (standing_after_all standing saves) more one → IsOneOf standing (saves ++ more) one
+pub one_of_last : (saves more : List (List ℕ)) (standing one : Option Standing)
+    → IsOneOf (standing_after_all standing saves) more one → IsOneOf standing (saves ++ more) one
 unfolding IsOneOf standing_after_all
 one_of_last [] more standing one is = is
 one_of_last (body ∷ saves) more standing one later = inr (one_of_last saves more (Some (standing_after standing body)) one later)
 
 module _ {D : Type 0} (contents : D → Option (List ℕ)) (moment : D → ℕ) (left_since : D → ℕ → List ℕ → Type 0) where
   -- a save more, from where the saves before it ended
-  pub left_then : (old mid new : D) (standing now : Option Standing) (saves more : List (List ℕ)) → LeavesEach contents moment left_since old mid standing saves → StaysTold contents old mid
-      → now ≡ standing_after_all standing saves → LeavesEach contents moment left_since mid new now more → LeavesEach contents moment left_since old new standing (saves ++ more)
+  pub left_then : (old mid new : D) (standing now : Option Standing) (saves more : List (List ℕ))
+      → LeavesEach contents moment left_since old mid standing saves → StaysTold contents old mid
+      → now ≡ standing_after_all standing saves → LeavesEach contents moment left_since mid new now more
+      → LeavesEach contents moment left_since old new standing (saves ++ more)
   left_then old mid new standing now saves more first told is second = λ file told_old.
       let here = told file told_old in
       let P : Option Standing → Type 0 = λ t. LeavesOnly moment left_since mid new (λ c. IsOneOf t more (standing_of c)) in
       joins moment left_since old mid new (λ c. IsOneOf standing (saves ++ more) (standing_of c))
       (weaker moment left_since old mid (λ c. IsOneOf standing saves (standing_of c)) (λ c. IsOneOf standing (saves ++ more) (standing_of c))
       (λ c one. one_of_first saves more standing (standing_of c) one) (first file told_old))
-      (weaker moment left_since mid new (λ c. IsOneOf (standing_after_all standing saves) more (standing_of c)) (λ c. IsOneOf standing (saves ++ more) (standing_of c))
+      (weaker moment left_since mid new (λ c. IsOneOf (standing_after_all standing saves) more (standing_of c))
+      (λ c. IsOneOf standing (saves ++ more) (standing_of c))
       (λ c one. one_of_last saves more standing (standing_of c) one) (subst P is (second here.0 here.1)))
 
   -- a save that was refused, where nothing was done
-  pub left_more : (old mid new : D) (standing : Option Standing) (saves more : List (List ℕ)) → LeavesEach contents moment left_since old mid standing saves → new ≡ mid → LeavesEach contents moment left_since old new standing (saves ++ more)
+  pub left_more : (old mid new : D) (standing : Option Standing) (saves more : List (List ℕ))
+      → LeavesEach contents moment left_since old mid standing saves → new ≡ mid → LeavesEach contents moment left_since old new standing (saves ++ more)
   left_more old mid new standing saves more first same = λ file told_old.
       let P : D → Type 0 = λ d. LeavesOnly moment left_since old d (λ c. IsOneOf standing (saves ++ more) (standing_of c)) in
       subst P (sym same) (weaker moment left_since old mid (λ c. IsOneOf standing saves (standing_of c)) (λ c. IsOneOf standing (saves ++ more) (standing_of c))
       (λ c one. one_of_first saves more standing (standing_of c) one) (first file told_old))
 
-  pub left_same : (old mid new : D) (standing : Option Standing) (saves : List (List ℕ)) → LeavesEach contents moment left_since old mid standing saves → new ≡ mid → LeavesEach contents moment left_since old new standing saves
+  pub left_same : (old mid new : D) (standing : Option Standing) (saves : List (List ℕ))
+      → LeavesEach contents moment left_since old mid standing saves → new ≡ mid → LeavesEach contents moment left_since old new standing saves
   left_same old mid new standing saves first same =
       let P : D → Type 0 = λ d. LeavesEach contents moment left_since old d standing saves in
       subst P (sym same) first

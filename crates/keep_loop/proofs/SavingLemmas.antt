@@ -15,7 +15,8 @@ use Rattle.keep_loop.specs.declared.save_end.SaveEnd.{SaveEnd}
 use Rattle.keep_loop.specs.declared.save_end.SaveEnd.TheVariants as save
 use Rattle.keep_loop.specs.Saving.{LeavesEach, StaysTold, AfterSave}
 
-before_or_after : (standing of_file : Option Standing) (body : List ℕ) (one : Option Standing) → of_file ≡ standing → (one ≡ of_file) ⊎ (one ≡ Some (standing_after of_file body)) → IsOneOf standing (body ∷ []) one
+before_or_after : (standing of_file : Option Standing) (body : List ℕ) (one : Option Standing) → of_file ≡ standing
+    → (one ≡ of_file) ⊎ (one ≡ Some (standing_after of_file body)) → IsOneOf standing (body ∷ []) one
 unfolding IsOneOf
 before_or_after standing of_file body one same (inl before) = inl (before ∙ same)
 before_or_after standing of_file body one same (inr after) = inr (after ∙ ap (λ t. Some (standing_after t body)) same)
@@ -32,7 +33,8 @@ module _ {D : Type 0} (contents : D → Option (List ℕ)) (may_leave : D → Li
 
   -- the disk still tells after a save that is done
   pub told_by_save : (old new : D) (body : List ℕ) (answer : Saved) → answer ≡ saved.Done
-      → (answer ≡ saved.Done → (file : List ℕ) → contents old ≡ Some file → StandsFor contents may_leave new (standing_after (standing_of file) body)) → StaysTold contents old new
+      → (answer ≡ saved.Done → (file : List ℕ) → contents old ≡ Some file → StandsFor contents may_leave new (standing_after (standing_of file) body))
+      → StaysTold contents old new
   told_by_save old new body answer is done = λ file told. let stands = done is file told in (stands.now, stands.here.told)
 
 not_over : (over : Bool) → (over ≡ true → ⊥) → over ≡ false
@@ -44,18 +46,25 @@ pub done_within : (store : StoreState) (body : List ℕ) → store.shut ≡ fals
 done_within store body open_ refused = not_over (is_over_limit store.standing body) (λ over. (let e : saved.Done ≡ saved.Limit = refused.1.1 open_ over in cc))
 
 pub failed_within : (store : StoreState) (body : List ℕ) → store.shut ≡ false → IsRefused store body saved.Failed → is_over_limit store.standing body ≡ false
-failed_within store body open_ refused = not_over (is_over_limit store.standing body) (λ over. (let e : saved.Failed ≡ saved.Limit = refused.1.1 open_ over in cc))
+failed_within store body open_ refused =
+    not_over (is_over_limit store.standing body) (λ over. (let e : saved.Failed ≡ saved.Limit = refused.1.1 open_ over in cc))
 
 pub never_shut : (store : StoreState) (body : List ℕ) → store.shut ≡ false → IsRefused store body saved.Shut → ⊥
 never_shut store body open_ refused = (let both = sym open_ ∙ refused.0.0 refl in cc)
 
 -- a body may be seen otherwise
-pub saved_to : {D : Type 0} (by : SaveEnd) (First Then : List ℕ → Type 0) (contents : D → Option (List ℕ)) (moment : D → ℕ) (left_since : D → ℕ → List ℕ → Type 0) (old_disk new_disk : D) (old new : StoreState)
-    → ((body : List ℕ) → First body → Then body) → AfterSave by First contents moment left_since old_disk new_disk old new → AfterSave by Then contents moment left_since old_disk new_disk old new
-saved_to save.Same First Then contents moment left_since old_disk new_disk old new to s = record { body = s.body; is = to s.body s.is; stands = s.stands; disk = s.disk; store = s.store }
+pub saved_to : {D : Type 0} (by : SaveEnd) (First Then : List ℕ → Type 0) (contents : D → Option (List ℕ))
+    (moment : D → ℕ) (left_since : D → ℕ → List ℕ → Type 0) (old_disk new_disk : D) (old new : StoreState)
+    → ((body : List ℕ) → First body → Then body) → AfterSave by First contents moment left_since old_disk new_disk old new
+    → AfterSave by Then contents moment left_since old_disk new_disk old new
+saved_to save.Same First Then contents moment left_since old_disk new_disk old new to s =
+    record { body = s.body; is = to s.body s.is; stands = s.stands; disk = s.disk; store = s.store }
 saved_to save.Saved First Then contents moment left_since old_disk new_disk old new to s =
     record { body = s.body; is = to s.body s.is; differs = s.differs; within = s.within; store = s.store; told = s.told; left = s.left }
-saved_to save.Failed First Then contents moment left_since old_disk new_disk old new to s = (record { body = s.0.body; is = to s.0.body s.0.is; differs = s.0.differs; left = s.0.left }, s.1)
-saved_to save.Limit First Then contents moment left_since old_disk new_disk old new to s = (record { body = s.0.body; is = to s.0.body s.0.is; differs = s.0.differs }, s.1, s.2)
+saved_to save.Failed First Then contents moment left_since old_disk new_disk old new to s =
+    (record { body = s.0.body; is = to s.0.body s.0.is; differs = s.0.differs; left = s.0.left }, s.1)
+saved_to save.Limit First Then contents moment left_since old_disk new_disk old new to s =
+    (record { body = s.0.body; is = to s.0.body s.0.is; differs = s.0.differs }, s.1, s.2)
 saved_to save.Memory First Then contents moment left_since old_disk new_disk old new to (inl same) = inl same
-saved_to save.Memory First Then contents moment left_since old_disk new_disk old new to (inr s) = inr (record { body = s.body; is = to s.body s.is; differs = s.differs; left = s.left })
+saved_to save.Memory First Then contents moment left_since old_disk new_disk old new to (inr s) =
+    inr (record { body = s.body; is = to s.body s.is; differs = s.differs; left = s.left })

@@ -44,7 +44,8 @@ turns_kept step x ms are none =
     record { turns = are.turns; whole = are.are; served = subst P none are.served }
 
 -- the saves of the ticks begin those of a run that goes on
-saves_begin : {W C : Type 0} (body_of : BodyOf W) (step : EventStep W C) (s : MachineState W C) (stood : Option (List ℕ)) (ms more : List Move) (saves : List (List ℕ)) → saves ≡ saves_in stood (bodies_at_ticks body_of step s ms)
+saves_begin : {W C : Type 0} (body_of : BodyOf W) (step : EventStep W C) (s : MachineState W C) (stood : Option (List ℕ))
+    (ms more : List Move) (saves : List (List ℕ)) → saves ≡ saves_in stood (bodies_at_ticks body_of step s ms)
     → (rest : List (List ℕ)) × (saves_in stood (bodies_of_run body_of step s (ms ++ more)) ≡ saves ++ rest)
 saves_begin body_of step s stood ms more saves are =
     let first = bodies_at_ticks body_of step s ms in
@@ -52,9 +53,11 @@ saves_begin body_of step s stood ms more saves are =
     let rest = saves_in (last_of stood (saves_in stood first)) behind in
     (rest, ap (saves_in stood) (bodies_begin body_of step ms more s) ∙ (saves-append first behind stood ∙ ap (λ l. l ++ rest) (sym are)))
 
-module _ {W C : Type 0} (body_of : BodyOf W) (step : EventStep W C) (noted : Noting W C) (old_serves new_serves : Standing W C → Type 0) (stood : Option (List ℕ)) (old new : WireHistory) (limit : ℕ) (saves : List (List ℕ)) where
+module _ {W C : Type 0} (body_of : BodyOf W) (step : EventStep W C) (noted : Noting W C) (old_serves new_serves : Standing W C → Type 0)
+    (stood : Option (List ℕ)) (old new : WireHistory) (limit : ℕ) (saves : List (List ℕ)) where
   pub told_whole : (log : List Move) → old.log ≡ Some log → (x : Standing W C) → StandsOver old_serves old.opened x
-      → KeepsBefore step noted old_serves new_serves (bodies_of_run body_of step) stood old limit (λ last. new ≡ end_answered last) saves → ToldWhole body_of step x stood log old new saves
+      → KeepsBefore step noted old_serves new_serves (bodies_of_run body_of step) stood old limit (λ last. new ≡ end_answered last) saves
+      → ToldWhole body_of step x stood log old new saves
   told_whole log told x over before =
       let turns = before.keeps.turns in
       record {
@@ -66,8 +69,10 @@ module _ {W C : Type 0} (body_of : BodyOf W) (step : EventStep W C) (noted : Not
       }
 
   -- the log behind these turns
-  told_behind : (log : List Move) → old.log ≡ Some log → (x : Standing W C) → StandsOver old_serves old.opened x → (last : WireHistory) (count : ℕ) (later : List Move)
-      → Keeps step noted old_serves new_serves (bodies_at_ticks body_of step) stood old last count saves → new.log ≡ (history_after last later).log → ToldPart body_of step x stood log new saves
+  told_behind : (log : List Move) → old.log ≡ Some log → (x : Standing W C)
+      → StandsOver old_serves old.opened x → (last : WireHistory) (count : ℕ) (later : List Move)
+      → Keeps step noted old_serves new_serves (bodies_at_ticks body_of step) stood old last count saves
+      → new.log ≡ (history_after last later).log → ToldPart body_of step x stood log new saves
   told_behind log told x over last count later keeps behind =
       let turns = keeps.turns in
       let so_far : last.log ≡ Some (log ++ turns.moves) = ap (λ (h : WireHistory). h.log) turns.logged ∙ log-after turns.moves old log told in
@@ -81,7 +86,8 @@ module _ {W C : Type 0} (body_of : BodyOf W) (step : EventStep W C) (noted : Not
 
   -- a run that a save or want of memory ended before End was answered
   pub told_part : (log : List Move) → old.log ≡ Some log → (x : Standing W C) → StandsOver old_serves old.opened x
-      → KeepsBefore step noted old_serves new_serves (bodies_at_ticks body_of step) stood old limit (λ last. GoesOn last new) saves → ToldPart body_of step x stood log new saves
+      → KeepsBefore step noted old_serves new_serves (bodies_at_ticks body_of step) stood old limit (λ last. GoesOn last new) saves
+      → ToldPart body_of step x stood log new saves
   told_part log told x over before =
       told_behind log told x over before.last before.count before.then_.later before.keeps (ap (λ (h : WireHistory). h.log) before.then_.same)
 
@@ -92,9 +98,12 @@ module _ {W C : Type 0} (body_of : BodyOf W) (step : EventStep W C) (noted : Not
   told_all log told x over keeps = told_behind log told x over new limit [] keeps refl
 
 -- a run that a fault of the wire ended
-pub told_fault : {W C : Type 0} (body_of : BodyOf W) (step : EventStep W C) (noted : Noting W C) (old_serves new_serves : Standing W C → Type 0) (stood : Option (List ℕ)) (old new : WireState) (limit : ℕ) (saves : List (List ℕ)) (log : List Move)
+pub told_fault : {W C : Type 0} (body_of : BodyOf W) (step : EventStep W C) (noted : Noting W C) (old_serves new_serves : Standing W C → Type 0)
+    (stood : Option (List ℕ)) (old new : WireState) (limit : ℕ) (saves : List (List ℕ)) (log : List Move)
     → old.history.log ≡ Some log → (x : Standing W C) → StandsOver old_serves old.history.opened x
-    → KeepsBefore step noted old_serves new_serves (bodies_at_ticks body_of step) stood old.history limit (λ last. Stops old new last) saves → ToldPart body_of step x stood log new.history saves
+    → KeepsBefore step noted old_serves new_serves (bodies_at_ticks body_of step) stood old.history limit (λ last. Stops old new last) saves
+    → ToldPart body_of step x stood log new.history saves
 unfolding history_after
 told_fault body_of step noted old_serves new_serves stood old new limit saves log told x over before =
-    told_behind body_of step noted old_serves new_serves stood old.history new.history limit saves log told x over before.last before.count [] before.keeps (ap (λ (h : WireHistory). h.log) before.then_.same)
+    told_behind body_of step noted old_serves new_serves stood old.history new.history limit saves log told
+    x over before.last before.count [] before.keeps (ap (λ (h : WireHistory). h.log) before.then_.same)

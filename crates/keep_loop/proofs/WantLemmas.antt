@@ -9,8 +9,10 @@ use Rattle.serve_loop.proofs.TurnLemmas.{one_more, ends_before}
 use Rattle.keep_loop.specs.Wanting.{WantsInSave}
 
 -- a turn more
-pub wants_at_tick : {W C : Type 0} (step : EventStep W C) (noted : Noting W C) (old_serves mid_serves new_serves : Standing W C → Type 0) (old mid new : WireHistory) (count limit : ℕ) (tells : TurnEnd) → count < limit
-    → TakesTurns step noted old_serves mid_serves old mid count → TakesEvent step noted mid_serves new_serves mid new tells → WantsInSave step noted old_serves new_serves old new limit
+pub wants_at_tick : {W C : Type 0} (step : EventStep W C) (noted : Noting W C) (old_serves mid_serves new_serves : Standing W C → Type 0)
+    (old mid new : WireHistory) (count limit : ℕ) (tells : TurnEnd) → count < limit
+    → TakesTurns step noted old_serves mid_serves old mid count → TakesEvent step noted mid_serves new_serves mid new tells
+    → WantsInSave step noted old_serves new_serves old new limit
 wants_at_tick step noted old_serves mid_serves new_serves old mid new count limit tells fewer turns takes = record {
   last = new;
   count = count + 1;
@@ -20,7 +22,9 @@ wants_at_tick step noted old_serves mid_serves new_serves old mid new count limi
 }
 
 -- the end
-pub wants_at_end : {W C : Type 0} (step : EventStep W C) (noted : Noting W C) (old_serves mid_serves new_serves : Standing W C → Type 0) (old mid new : WireHistory) (count limit : ℕ) → count < limit
-    → TakesTurns step noted old_serves mid_serves old mid count → new ≡ end_answered mid → Stays mid_serves new_serves → WantsInSave step noted old_serves new_serves old new limit
+pub wants_at_end : {W C : Type 0} (step : EventStep W C) (noted : Noting W C)
+    (old_serves mid_serves new_serves : Standing W C → Type 0) (old mid new : WireHistory) (count limit : ℕ) → count < limit
+    → TakesTurns step noted old_serves mid_serves old mid count → new ≡ end_answered mid
+    → Stays mid_serves new_serves → WantsInSave step noted old_serves new_serves old new limit
 wants_at_end step noted old_serves mid_serves new_serves old mid new count limit fewer turns ended stays =
     ends_before step noted old_serves mid_serves new_serves old mid count (limit + 1) _ turns (omega (arith, fewer)) stays (inr ended)

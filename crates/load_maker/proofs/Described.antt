@@ -39,7 +39,8 @@ unfolding load_table symbol_tables route_tables digits document_text needs_escap
 load_short = refl
 
 -- whatever document has the table and this text
-pub load_read : (signals : ℕ) (text : List ℕ) → text ≡ document_text load_table → document_of text ≡ Some load_table → text_verdict signals text ≡ Described load_description
+pub load_read : (signals : ℕ) (text : List ℕ) → text ≡ document_text load_table
+    → document_of text ≡ Some load_table → text_verdict signals text ≡ Described load_description
 unfolding text_verdict
 load_read signals text is document =
     let short : nat_lt 16777216 (length text) ≡ false = ap (λ t. nat_lt 16777216 (length t)) is ∙ load_short in

@@ -1,5 +1,7 @@
 -- The lines of a load: they may follow one another, they are short, and a loop writes them one by one.
-use Rattle.std.proofs.Common.{◌≡◌, ℕ, zero, suc, ◌+◌, ◌-◌, ◌*◌, ◌/◌, ◌%◌, ◌^◌, ◌<◌, ◌≤◌, Bool, true, false, List, [], ◌∷◌, ◌++◌, length, map, flat_map, refl, sym, ap, ◌∙◌, arith, append_assoc, append-nil, length-append}
+use Rattle.std.proofs.Common.{◌≡◌, ℕ, zero, suc, ◌+◌, ◌-◌, ◌*◌, ◌/◌, ◌%◌, ◌^◌, ◌<◌, ◌≤◌, Bool, true, false}
+use Rattle.std.proofs.Common.{List, [], ◌∷◌, ◌++◌, length, map, flat_map, refl, sym, ap, ◌∙◌, arith}
+use Rattle.std.proofs.Common.{append_assoc, append-nil, length-append}
 use Rattle.std.specs.Prelude.{nat_lt, nat_le, ◌==◌, Ok, if◌then◌else◌}
 use Rattle.std.specs.List.{list_all, range_with_len}
 use Rattle.std.specs.Int.{w32, to_le_bytes}
@@ -18,7 +20,9 @@ use Rattle.spec_formats.specs.Request.{Request, Read, Write, AddDeviceNotificati
 use Rattle.spec_machine.specs.Reading.{is_among}
 use Rattle.spec_server.specs.Server.{server_script}
 use Rattle.load_maker.specs.MadeLines.{MadeLine, Opens, Sends, Ticks, line_text, script_text, script_said}
-use Rattle.load_maker.specs.LoadScript.{client_address, plant_address, request_packet, DATA, watch_line, watch_lines, load_number, turn_request, tick_lines, turn_of, turn_lines, clients, first_turns, load_lines}
+use Rattle.load_maker.specs.LoadScript.{client_address, plant_address, request_packet, DATA, watch_line}
+use Rattle.load_maker.specs.LoadScript.{watch_lines, load_number, turn_request, tick_lines, turn_of}
+use Rattle.load_maker.specs.LoadScript.{turn_lines, clients, first_turns, load_lines}
 use Rattle.load_maker.proofs.LineTexts.{is_byte}
 use Rattle.load_maker.proofs.MadeRead.{Follows, AllFollow, made_read}
 
@@ -33,7 +37,9 @@ low m = lt-ltb (m % 256) 256 (omega arith)
 four : (n : ℕ) → list_all is_byte (to_le_bytes w32 n) ≡ true
 four n = rw (low n, low (n / 256), low (n / 65536), low (n / 16777216)) refl
 
-head : (c id len command : ℕ) → c < 256 → list_all is_byte (header_bytes (record { target = plant_address; source = client_address c; command = command; flags = request_flags; len = len; error = 0; id = id })) ≡ true
+head : (c id len command : ℕ) → c < 256
+    → list_all is_byte (header_bytes
+    (record { target = plant_address; source = client_address c; command = command; flags = request_flags; len = len; error = 0; id = id })) ≡ true
 head c id len command h = let net = lt-ltb c 256 h in simp (low, net)
 
 frame_small : (c id : ℕ) (r : Request) → c < 256 → list_all is_byte (request_bytes r) ≡ true → list_all is_byte (frame_bytes (request_packet c id r)) ≡ true
@@ -41,7 +47,15 @@ unfolding request_packet
 frame_small c id r h payload =
     let packet = request_packet c id r in
     both (frame.header_bytes packet) packet (four (length packet))
-    (both (header_bytes (record { target = plant_address; source = client_address c; command = command_of r; flags = request_flags; len = length (request_bytes r); error = 0; id = id }))
+    (both (header_bytes (record {
+      target = plant_address;
+      source = client_address c;
+      command = command_of r;
+      flags = request_flags;
+      len = length (request_bytes r);
+      error = 0;
+      id = id;
+    }))
     (request_bytes r) (head c id (length (request_bytes r)) (command_of r) h) payload)
 
 -- a read or a write
@@ -96,7 +110,8 @@ turn-follows x i h =
 turns-follow : (n a count : ℕ) → a + count ≤ 100001 → AllFollow (flat_map (turn_lines n) (range_with_len a count))
 turns-follow n a zero h = tt
 turns-follow n a (suc count) h =
-    append-follow (turn_lines n a) (flat_map (turn_lines n) (range_with_len (a + 1) count)) (turn-follows (load_number n a) a (omega arith)) (turns-follow n (a + 1) count (omega arith))
+    append-follow (turn_lines n a) (flat_map (turn_lines n) (range_with_len (a + 1) count))
+    (turn-follows (load_number n a) a (omega arith)) (turns-follow n (a + 1) count (omega arith))
 
 watch-follows : (k j : ℕ) → k < 4 → Follows (watch_line (k + 1) j)
 watch-follows k j h = record {
@@ -144,13 +159,16 @@ script_read n h =
     ∙ (made_read (behind_openings n) (behind-follow n h) ∙ ap (λ ls. Ok (script_said ls)) (sym (load_lines-is n)))
 
 -- the text in its four parts
-pub load_text : (n : ℕ) → script_text (map Opens clients) ++ script_text (flat_map watch_lines clients) ++ script_text (first_turns n n) ++ line_text (Ticks (100000 * (n + 1))) ≡ script_text (load_lines n)
+pub load_text : (n : ℕ) → script_text (map Opens clients) ++ script_text (flat_map watch_lines clients)
+    ++ script_text (first_turns n n) ++ line_text (Ticks (100000 * (n + 1))) ≡ script_text (load_lines n)
 load_text n =
     let last = Ticks (100000 * (n + 1)) in
     let watches = flat_map watch_lines clients in
     let turns = first_turns n n in
     sym (flat_map-append line_text (map Opens clients ++ watches ++ turns) (last ∷ [])
-    ∙ (ap (λ t. t ++ (line_text last ++ [])) (flat_map-append line_text (map Opens clients ++ watches) turns ∙ ap (λ t. t ++ script_text turns) (flat_map-append line_text (map Opens clients) watches))
+    ∙ (ap (λ t. t ++ (line_text last ++ []))
+    (flat_map-append line_text (map Opens clients ++ watches) turns
+    ∙ ap (λ t. t ++ script_text turns) (flat_map-append line_text (map Opens clients) watches))
     ∙ ap (λ t. script_text (map Opens clients) ++ script_text watches ++ script_text turns ++ t) (append-nil (line_text last))))
 
 -- ---- its length
@@ -210,7 +228,8 @@ load_length n h =
     let b = script_text (flat_map watch_lines clients) in
     let c = script_text (first_turns n n) in
     let d = line_text (Ticks (100000 * (n + 1))) in
-    let all = ap length (sym (load_text n)) ∙ (length-append (a ++ b ++ c) d ∙ ap (λ m. m + length d) (length-append (a ++ b) c ∙ ap (λ m. m + length c) (length-append a b))) in
+    let all = ap length (sym (load_text n))
+    ∙ (length-append (a ++ b ++ c) d ∙ ap (λ m. m + length d) (length-append (a ++ b) c ∙ ap (λ m. m + length c) (length-append a b))) in
     let openings = openings-length in
     let watches = leb-true _ _ watches-length in
     let turns = turns-length n 1 n (omega arith) in
@@ -220,7 +239,8 @@ load_length n h =
 -- ---- the loops
 
 range-more : (a count : ℕ) → range_with_len a (count + 1) ≡ range_with_len a count ++ (a + count) ∷ []
-range-more a count = sym (map-same (range_with_len a (count + 1))) ∙ (map-range_with_len_more (λ i. i) a count (a + count) refl ∙ ap (λ r. r ++ (a + count) ∷ []) (map-same (range_with_len a count)))
+range-more a count = sym (map-same (range_with_len a (count + 1)))
+    ∙ (map-range_with_len_more (λ i. i) a count (a + count) refl ∙ ap (λ r. r ++ (a + count) ∷ []) (map-same (range_with_len a count)))
   where
     map-same : (xs : List ℕ) → map (λ i. i) xs ≡ xs
     map-same [] = refl
@@ -268,27 +288,32 @@ unfolding request_packet
 is_packet c id r h = record { least = omega arith; most = omega arith }
 
 -- the notifications of all clients
-pub all_watches : (old a b c d : List ℕ) → a ≡ old ++ script_text (watch_lines 1) → b ≡ a ++ script_text (watch_lines 2) → c ≡ b ++ script_text (watch_lines 3) → d ≡ c ++ script_text (watch_lines 4)
+pub all_watches : (old a b c d : List ℕ) → a ≡ old ++ script_text (watch_lines 1)
+    → b ≡ a ++ script_text (watch_lines 2) → c ≡ b ++ script_text (watch_lines 3) → d ≡ c ++ script_text (watch_lines 4)
     → d ≡ old ++ script_text (flat_map watch_lines clients)
 all_watches old a b c d e1 e2 e3 e4 =
     let w1 = script_text (watch_lines 1) in
     let w2 = script_text (watch_lines 2) in
     let w3 = script_text (watch_lines 3) in
     let w4 = script_text (watch_lines 4) in
-    let whole : script_text (flat_map watch_lines clients) ≡ w1 ++ (w2 ++ (w3 ++ (w4 ++ []))) = parts (watch_lines 1) (watch_lines 2) (watch_lines 3) (watch_lines 4) in
+    let whole : script_text (flat_map watch_lines clients) ≡ w1 ++ (w2 ++ (w3 ++ (w4 ++ []))) =
+    parts (watch_lines 1) (watch_lines 2) (watch_lines 3) (watch_lines 4) in
     let chain : d ≡ (((old ++ w1) ++ w2) ++ w3) ++ w4 = e4 ∙ ap (λ t. t ++ w4) (e3 ∙ ap (λ t. t ++ w3) (e2 ∙ ap (λ t. t ++ w2) e1)) in
     chain ∙ (append_assoc ((old ++ w1) ++ w2) w3 w4 ∙ (append_assoc (old ++ w1) w2 (w3 ++ w4) ∙ (append_assoc old w1 (w2 ++ (w3 ++ w4))
     ∙ ap (λ t. old ++ t) (ap (λ t. w1 ++ (w2 ++ (w3 ++ t))) (sym (append-nil w4)) ∙ sym whole))))
   where
-    parts : (p q r s : List MadeLine) → script_text (p ++ (q ++ (r ++ (s ++ [])))) ≡ script_text p ++ (script_text q ++ (script_text r ++ (script_text s ++ [])))
+    parts : (p q r s : List MadeLine)
+        → script_text (p ++ (q ++ (r ++ (s ++ [])))) ≡ script_text p ++ (script_text q ++ (script_text r ++ (script_text s ++ [])))
     parts p q r s =
         flat_map-append line_text p (q ++ (r ++ (s ++ []))) ∙ ap (λ t. script_text p ++ t) (flat_map-append line_text q (r ++ (s ++ []))
         ∙ ap (λ t. script_text q ++ t) (flat_map-append line_text r (s ++ []) ∙ ap (λ t. script_text r ++ t) (flat_map-append line_text s [])))
 
 -- the four parts of a script, one behind another
-pub all_parts : (n m : ℕ) (none a b c d : List ℕ) → none ≡ [] → a ≡ none ++ script_text (map Opens clients) → b ≡ a ++ script_text (flat_map watch_lines clients)
+pub all_parts : (n m : ℕ) (none a b c d : List ℕ) → none ≡ []
+    → a ≡ none ++ script_text (map Opens clients) → b ≡ a ++ script_text (flat_map watch_lines clients)
     → c ≡ b ++ script_text (first_turns n n) → d ≡ c ++ line_text (Ticks m) → m ≡ 100000 * (n + 1) → d ≡ script_text (load_lines n)
 all_parts n m none a b c d e0 e1 e2 e3 e4 em =
     e4 ∙ (ap (λ t. c ++ line_text (Ticks t)) em ∙ (ap (λ t. t ++ line_text (Ticks (100000 * (n + 1))))
-    (e3 ∙ ap (λ t. t ++ script_text (first_turns n n)) (e2 ∙ ap (λ t. t ++ script_text (flat_map watch_lines clients)) (e1 ∙ ap (λ t. t ++ script_text (map Opens clients)) e0)))
+    (e3 ∙ ap (λ t. t ++ script_text (first_turns n n))
+    (e2 ∙ ap (λ t. t ++ script_text (flat_map watch_lines clients)) (e1 ∙ ap (λ t. t ++ script_text (map Opens clients)) e0)))
     ∙ load_text n))

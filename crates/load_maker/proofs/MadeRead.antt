@@ -16,7 +16,9 @@ use Rattle.spec_machine.specs.Script.{open_connection, kind_of, after_line_of_wo
 use Rattle.load_maker.specs.MadeLines.{MadeLine, Opens, Sends, Ticks, line_text, script_text, script_said}
 use Rattle.load_maker.specs.MadeLines as made
 use Rattle.load_maker.specs.LoadScript.{clients}
-use Rattle.load_maker.proofs.LineTexts.{is_inked, is_byte, inked_of, lines_of-line, text_of-line, words_of-word, words_of-last, solid_decimal, number_read, connection_read, hex_read, solid_hex}
+use Rattle.load_maker.proofs.LineTexts.{is_inked, is_byte, inked_of, lines_of-line, text_of-line}
+use Rattle.load_maker.proofs.LineTexts.{words_of-word, words_of-last, solid_decimal, number_read}
+use Rattle.load_maker.proofs.LineTexts.{connection_read, hex_read, solid_hex}
 
 -- so many lines were read behind the openings, and all lines said this
 abbrev so_far : ℕ → List ScriptLine → Reading
@@ -74,10 +76,12 @@ sends_words c bytes h =
     ∙ ap (λ (ws : List (List ℕ)). decimal c ∷ ws) (words_of-last (encode_lower bytes) (solid_hex bytes h.are_bytes)))
 
 after_sends : (k : ℕ) (said : List ScriptLine) (c : ℕ) (bytes : List ℕ) → IsSending c bytes
-    → after_line_of_words all_lines (so_far k said) (codes "bytes" ∷ decimal c ∷ encode_lower bytes ∷ []) ≡ Some (so_far (k + 1) (said ++ Happens (event.Piece c bytes) ∷ []))
+    → after_line_of_words all_lines (so_far k said) (codes "bytes" ∷ decimal c ∷ encode_lower bytes ∷ [])
+    ≡ Some (so_far (k + 1) (said ++ Happens (event.Piece c bytes) ∷ []))
 unfolding kind_of
 after_sends k said c bytes h =
-    ap (option_and_then (λ n. option_map (λ b. line_said (Happens (event.Piece n b)) (so_far k said)) (bytes_of_words (encode_lower bytes ∷ [])))) (open_read k said c bytes h)
+    ap (option_and_then (λ n. option_map (λ b. line_said (Happens (event.Piece n b)) (so_far k said)) (bytes_of_words (encode_lower bytes ∷ []))))
+    (open_read k said c bytes h)
     ∙ ap (option_map (λ b. line_said (Happens (event.Piece c b)) (so_far k said))) (hex_read bytes h.are_bytes h.some)
 
 ticks_words : (t : ℕ) → t < 2 ^ 64 → words_of (inside (Ticks t)) ≡ codes "tick" ∷ decimal t ∷ []
@@ -88,19 +92,22 @@ after_ticks : (k : ℕ) (said : List ScriptLine) (t : ℕ) → t < 2 ^ 64
 unfolding kind_of
 after_ticks k said t h = ap (option_map (λ n. line_said (Happens (event.Tick n)) (so_far k said))) (number_read t h)
 
-after_inside : (line : MadeLine) (k : ℕ) (said : List ScriptLine) → Follows line → after_plain_line all_lines (so_far k said) (inside line) ≡ Some (so_far (k + 1) (said ++ made.line_said line ∷ []))
+after_inside : (line : MadeLine) (k : ℕ) (said : List ScriptLine) → Follows line
+    → after_plain_line all_lines (so_far k said) (inside line) ≡ Some (so_far (k + 1) (said ++ made.line_said line ∷ []))
 after_inside (Opens c) k said h = absurd h
 after_inside (Sends c bytes) k said h = ap (after_line_of_words all_lines (so_far k said)) (sends_words c bytes h) ∙ after_sends k said c bytes h
 after_inside (Ticks t) k said h = ap (after_line_of_words all_lines (so_far k said)) (ticks_words t h) ∙ after_ticks k said t h
 
-after_made : (line : MadeLine) (k : ℕ) (said : List ScriptLine) → Follows line → after_line all_lines (so_far k said) (line_text line) ≡ Some (so_far (k + 1) (said ++ made.line_said line ∷ []))
+after_made : (line : MadeLine) (k : ℕ) (said : List ScriptLine) → Follows line
+    → after_line all_lines (so_far k said) (line_text line) ≡ Some (so_far (k + 1) (said ++ made.line_said line ∷ []))
 after_made line k said h =
     ap (after_line all_lines (so_far k said)) (inside_is line)
     ∙ (ap (after_plain_line all_lines (so_far k said)) (text_of-line (inside line) (inside_inked line h)) ∙ after_inside line k said h)
 
 lines_of-made : (line : MadeLine) (rest : List ℕ) → Follows line → lines_of (line_text line ++ rest) ≡ line_text line ∷ lines_of rest
 lines_of-made line rest h =
-    ap (λ t. lines_of (t ++ rest)) (inside_is line) ∙ (lines_of-line (inside line) rest (inside_inked line h) ∙ ap (λ t. t ∷ lines_of rest) (sym (inside_is line)))
+    ap (λ t. lines_of (t ++ rest)) (inside_is line)
+    ∙ (lines_of-line (inside line) rest (inside_inked line h) ∙ ap (λ t. t ∷ lines_of rest) (sym (inside_is line)))
 
 script_after-line : (r : Reading) (line : List ℕ) (lines : List (List ℕ))
     → script_after all_lines r (line ∷ lines) ≡ option_map_or (λ s. script_after all_lines s lines) (after_line all_lines r line) (Err (r.lines + 1))
@@ -123,10 +130,13 @@ read_on (line ∷ lines) k said h =
     ∙ (read_on lines (k + 1) said' h.1 ∙ ap (λ (s : List ScriptLine). Ok s) (append_assoc said (made.line_said line ∷ []) (script_said lines)))))
 
 -- the four openings
-opened : (rest : List ℕ) → script_after all_lines nothing_read (lines_of (script_text (map Opens clients) ++ rest)) ≡ script_after all_lines (so_far 4 (script_said (map Opens clients))) (lines_of rest)
+opened : (rest : List ℕ)
+    → script_after all_lines nothing_read (lines_of (script_text (map Opens clients) ++ rest))
+    ≡ script_after all_lines (so_far 4 (script_said (map Opens clients))) (lines_of rest)
 unfolding script_after lines_of kind_of digits
 opened rest = refl
 
 -- a script of the four openings and what may follow
-pub made_read : (lines : List MadeLine) → AllFollow lines → script_of all_lines (script_text (map Opens clients) ++ script_text lines) ≡ Ok (script_said (map Opens clients) ++ script_said lines)
+pub made_read : (lines : List MadeLine) → AllFollow lines
+    → script_of all_lines (script_text (map Opens clients) ++ script_text lines) ≡ Ok (script_said (map Opens clients) ++ script_said lines)
 made_read lines h = opened (script_text lines) ∙ read_on lines 4 (script_said (map Opens clients)) h

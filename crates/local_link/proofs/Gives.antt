@@ -41,7 +41,8 @@ closed_at_once_of old new n now size buf takes none shut moment history wanting 
   follows = record {
     wanting = wanting;
     follows = λ s stands.
-        gives_closed new s now (taken_nothing n buf new.core s none (takes s stands.core)) shut (moment ∙ stands.moment) (ap (λ (h : LinkHistory). h.moment) history);
+        gives_closed new s now (taken_nothing n buf new.core s none (takes s stands.core)) shut
+        (moment ∙ stands.moment) (ap (λ (h : LinkHistory). h.moment) history);
   };
 }
 
@@ -62,11 +63,13 @@ next_moment s old now stands moment = moment ∙ ap next_tick stands.moment
 last_of : (s : ServedState) (old : LocalView) → StandsFor old s → old.history.moment ≤ LAST_MOMENT → s.moment ≤ LAST_MOMENT
 last_of s old stands last = subst (λ m. m ≤ LAST_MOMENT) stands.moment last
 
-bytes_later_of : (old new : LocalView) (mid later : CoreView) (n now size : ℕ) (buf : List ℕ) → Ticks old mid later now → TakesTo n buf later new.core → 0 < n → n ≤ size
+bytes_later_of : (old new : LocalView) (mid later : CoreView) (n now size : ℕ) (buf : List ℕ)
+    → Ticks old mid later now → TakesTo n buf later new.core → 0 < n → n ≤ size
     → new.history ≡ bytes_came now old.history → new.wanting ≡ old.wanting → Gives (received.Bytes n now) size buf old new
 bytes_later_of old new mid later n now size buf t takes some fit history wanting = record {
   receives = record { some = some; fit = fit; history = history };
-  later = (let last : new.history.moment ≡ now = ap (λ (h : LinkHistory). h.moment) history in let le = t.last in let is = t.moment in omega (arith, is, le, last));
+  later = (let last : new.history.moment ≡ now = ap (λ (h : LinkHistory). h.moment) history in
+      let le = t.last in let is = t.moment in omega (arith, is, le, last));
   follows = record {
     wanting = wanting;
     follows = λ s stands.
@@ -74,7 +77,8 @@ bytes_later_of old new mid later n now size buf t takes some fit history wanting
         let at_s = next_moment s old now stands t.moment in
         let bytes = taken_bytes n buf new.core (ticked served_step s) some (takes (ticked served_step s) (ticks mid later s now nothing at_s t.tick)) in
         let long : 0 < length (take n buf) = (let len = bytes.0 in omega (arith, len, some)) in
-        gives_later new mid s (take n buf) now (last_of s old stands t.last) nothing (stays_open mid s nothing t.stays) long bytes.1 at_s (ap (λ (h : LinkHistory). h.moment) history);
+        gives_later new mid s (take n buf) now (last_of s old stands t.last) nothing
+        (stays_open mid s nothing t.stays) long bytes.1 at_s (ap (λ (h : LinkHistory). h.moment) history);
   };
 }
 
@@ -82,19 +86,22 @@ nothing_later_of : (old new : LocalView) (mid later : CoreView) (n now size : �
     → new.history ≡ quiet_came now old.history → new.wanting ≡ old.wanting → Gives (received.Quiet now) size buf old new
 nothing_later_of old new mid later n now size buf t takes none history wanting = record {
   receives = history;
-  later = (let last : new.history.moment ≡ now = ap (λ (h : LinkHistory). h.moment) history in let le = t.last in let is = t.moment in omega (arith, is, le, last));
+  later = (let last : new.history.moment ≡ now = ap (λ (h : LinkHistory). h.moment) history in
+      let le = t.last in let is = t.moment in omega (arith, is, le, last));
   follows = record {
     wanting = wanting;
     follows = λ s stands.
         let nothing = taken_nothing t.n t.buf mid s t.none (t.takes s stands.core) in
         let at_s = next_moment s old now stands t.moment in
         let still = taken_nothing n buf new.core (ticked served_step s) none (takes (ticked served_step s) (ticks mid later s now nothing at_s t.tick)) in
-        gives_quiet new mid s now (last_of s old stands t.last) nothing (stays_open mid s nothing t.stays) still at_s (ap (λ (h : LinkHistory). h.moment) history);
+        gives_quiet new mid s now (last_of s old stands t.last) nothing
+        (stays_open mid s nothing t.stays) still at_s (ap (λ (h : LinkHistory). h.moment) history);
   };
 }
 
 -- the same of the link as its caller sees it
-pub bytes_at_once : (old self new : LocalView) (n now size : ℕ) (buf : List ℕ) → old ≡ self → TakesTo n buf old.core new.core → 0 < n → n ≤ size → now ≡ old.history.moment
+pub bytes_at_once : (old self new : LocalView) (n now size : ℕ) (buf : List ℕ) → old ≡ self
+    → TakesTo n buf old.core new.core → 0 < n → n ≤ size → now ≡ old.history.moment
     → new.history ≡ bytes_came now old.history → new.wanting ≡ old.wanting → Gives (received.Bytes n now) size buf self new
 bytes_at_once old self new n now size buf is takes some fit moment history wanting =
     subst (λ l. Gives (received.Bytes n now) size buf l new) is (bytes_at_once_of old new n now size buf takes some fit moment history wanting)
@@ -105,12 +112,14 @@ pub closed_at_once : (old self new : LocalView) (n now size : ℕ) (buf : List �
 closed_at_once old self new n now size buf is takes none shut moment history wanting =
     subst (λ l. Gives (received.Closed now) size buf l new) is (closed_at_once_of old new n now size buf takes none shut moment history wanting)
 
-pub bytes_later : (old self new : LocalView) (mid later : CoreView) (n now size : ℕ) (buf : List ℕ) → old ≡ self → Ticks old mid later now → TakesTo n buf later new.core → 0 < n → n ≤ size
+pub bytes_later : (old self new : LocalView) (mid later : CoreView) (n now size : ℕ) (buf : List ℕ)
+    → old ≡ self → Ticks old mid later now → TakesTo n buf later new.core → 0 < n → n ≤ size
     → new.history ≡ bytes_came now old.history → new.wanting ≡ old.wanting → Gives (received.Bytes n now) size buf self new
 bytes_later old self new mid later n now size buf is t takes some fit history wanting =
     subst (λ l. Gives (received.Bytes n now) size buf l new) is (bytes_later_of old new mid later n now size buf t takes some fit history wanting)
 
-pub nothing_later : (old self new : LocalView) (mid later : CoreView) (n now size : ℕ) (buf : List ℕ) → old ≡ self → Ticks old mid later now → TakesTo n buf later new.core → n ≤ 0
+pub nothing_later : (old self new : LocalView) (mid later : CoreView) (n now size : ℕ) (buf : List ℕ)
+    → old ≡ self → Ticks old mid later now → TakesTo n buf later new.core → n ≤ 0
     → new.history ≡ quiet_came now old.history → new.wanting ≡ old.wanting → Gives (received.Quiet now) size buf self new
 nothing_later old self new mid later n now size buf is t takes none history wanting =
     subst (λ l. Gives (received.Quiet now) size buf l new) is (nothing_later_of old new mid later n now size buf t takes none history wanting)

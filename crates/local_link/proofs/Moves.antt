@@ -57,7 +57,8 @@ comes s e r new is answer stands = (
 )
 
 -- bytes were taken of a machine in this state, at its moment
-stands_taken : (new : LocalView) (s : ServedState) (bytes : List ℕ) → TakesBytes bytes new.core s → new.history.moment ≡ s.moment → StandsFor new (bytes_taken served_step s bytes).machine
+stands_taken : (new : LocalView) (s : ServedState) (bytes : List ℕ) → TakesBytes bytes new.core s
+    → new.history.moment ≡ s.moment → StandsFor new (bytes_taken served_step s bytes).machine
 unfolding bytes_taken
 stands_taken new s bytes takes moment = record { core = takes.serves; moment = moment ∙ sym (took_moment s bytes) }
 
@@ -69,19 +70,22 @@ taken_answer s bytes now e = ap (Bytes bytes) (sym e)
 abbrev pub Comes : ServedState → LinkEvent → LocalView → Type 0
 Comes s e new = IsMoveOf served_step s (link.Came e) × StandsFor new (machine_after_link_move served_step s (link.Came e))
 
-pub gives_waiting : (new : LocalView) (s : ServedState) (bytes : List ℕ) (now : ℕ) → 0 < length bytes → TakesBytes bytes new.core s → now ≡ s.moment → new.history.moment ≡ now
+pub gives_waiting : (new : LocalView) (s : ServedState) (bytes : List ℕ) (now : ℕ)
+    → 0 < length bytes → TakesBytes bytes new.core s → now ≡ s.moment → new.history.moment ≡ now
     → Comes s (come.Bytes bytes now) new
 gives_waiting new s bytes now some takes moment last =
     comes s (come.Bytes bytes now) (bytes_taken served_step s bytes) new (came_waiting served_step s bytes now some takes.first)
     (taken_answer s bytes now moment) (stands_taken new s bytes takes (last ∙ moment))
 
-pub gives_closed : (new : LocalView) (s : ServedState) (now : ℕ) → TakesNothing new.core s → ((x : CoreState) → Serves new.core x → true ≡ is_to_be_shut_at 1 x) → now ≡ s.moment → new.history.moment ≡ now
+pub gives_closed : (new : LocalView) (s : ServedState) (now : ℕ) → TakesNothing new.core s
+    → ((x : CoreState) → Serves new.core x → true ≡ is_to_be_shut_at 1 x) → now ≡ s.moment → new.history.moment ≡ now
     → Comes s (come.Closed now) new
 gives_closed new s now takes shut moment last =
     comes s (come.Closed now) (answered (Closed s.moment) s) new (came_closed served_step s now takes.none (sym (shut (unblocked s) takes.serves)))
     (ap Closed (sym moment)) (record { core = takes.serves; moment = last ∙ moment })
 
-pub stays_open : (core : CoreView) (s : ServedState) → TakesNothing core s → ((x : CoreState) → Serves core x → false ≡ is_to_be_shut_at 1 x) → is_to_be_shut (connection_of 1 s.connections) ≡ false
+pub stays_open : (core : CoreView) (s : ServedState) → TakesNothing core s
+    → ((x : CoreState) → Serves core x → false ≡ is_to_be_shut_at 1 x) → is_to_be_shut (connection_of 1 s.connections) ≡ false
 stays_open core s takes open_ = sym (open_ (unblocked s) takes.serves)
 
 -- the core behind a tick
@@ -90,7 +94,8 @@ pub ticks : (old new : CoreView) (s : ServedState) (now : ℕ) → TakesNothing 
 unfolding state_after_move
 ticks old new s now takes moment steps = subst (λ t. Serves new (unblocked (served_step s (event.Tick t)))) moment (steps (unblocked s) takes.serves tt)
 
-pub gives_later : (new : LocalView) (mid : CoreView) (s : ServedState) (bytes : List ℕ) (now : ℕ) → s.moment ≤ LAST_MOMENT → TakesNothing mid s → is_to_be_shut (connection_of 1 s.connections) ≡ false
+pub gives_later : (new : LocalView) (mid : CoreView) (s : ServedState) (bytes : List ℕ) (now : ℕ)
+    → s.moment ≤ LAST_MOMENT → TakesNothing mid s → is_to_be_shut (connection_of 1 s.connections) ≡ false
     → 0 < length bytes → TakesBytes bytes new.core (ticked served_step s) → now ≡ next_tick s.moment → new.history.moment ≡ now
     → Comes s (come.Bytes bytes now) new
 gives_later new mid s bytes now le nothing open_ some takes moment last =
@@ -99,7 +104,8 @@ gives_later new mid s bytes now le nothing open_ some takes moment last =
     comes s (come.Bytes bytes now) (bytes_taken served_step t bytes) new (came_later served_step s bytes now nothing.none open_ some takes.first)
     (taken_answer t bytes now at) (stands_taken new t bytes takes (last ∙ at))
 
-pub gives_quiet : (new : LocalView) (mid : CoreView) (s : ServedState) (now : ℕ) → s.moment ≤ LAST_MOMENT → TakesNothing mid s → is_to_be_shut (connection_of 1 s.connections) ≡ false
+pub gives_quiet : (new : LocalView) (mid : CoreView) (s : ServedState) (now : ℕ)
+    → s.moment ≤ LAST_MOMENT → TakesNothing mid s → is_to_be_shut (connection_of 1 s.connections) ≡ false
     → TakesNothing new.core (ticked served_step s) → now ≡ next_tick s.moment → new.history.moment ≡ now
     → Comes s (come.Quiet now) new
 gives_quiet new mid s now le nothing open_ still moment last =

@@ -26,7 +26,8 @@ forgotten n l k (j ∷ ks) apart found number gone =
     let P : List ServedConnection → Type 0 = λ js. connection_of n (present js) ≡ None in
     elim (cases_eq j.number n) [
       | inl q ↦ subst P (sym (put_back-same l j ks (q ∙ sym number)))
-          (ap (λ (ps : List ServedConnection). connection_of n ps) (present-gone l ks gone) ∙ none_present n ks (ap (λ m. connection_of m ks) (sym q) ∙ apart.0))
+          (ap (λ (ps : List ServedConnection). connection_of n ps) (present-gone l ks gone)
+          ∙ none_present n ks (ap (λ m. connection_of m ks) (sym q) ∙ apart.0))
       | inr q ↦
           let rest = forgotten n l k ks apart.1 (sym (connection_of-other n j ks q) ∙ found) number gone in
           subst P (sym (put_back-other l j ks (λ r. q (r ∙ number)))) (elim (cases_Bool j.gone) [

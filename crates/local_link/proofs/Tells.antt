@@ -11,7 +11,8 @@ use Rattle.server_core.specs.Served.{ServedState, served_step}
 use Rattle.local_link.specs.Link.{LocalView, StandsFor, IsTold}
 use Rattle.local_link.specs.Giving.{Follows, FollowsAnswer}
 
-pub told_more : (old new : LocalView) (o : ServedState) (log : List LinkMove) (m : LinkMove) → old.wanting ≡ false → Follows old new m → IsTold old o log → IsTold new o (log ++ m ∷ [])
+pub told_more : (old new : LocalView) (o : ServedState) (log : List LinkMove) (m : LinkMove)
+    → old.wanting ≡ false → Follows old new m → IsTold old o log → IsTold new o (log ++ m ∷ [])
 told_more old new o log m works follows told =
     let s = machine_after_log served_step o log in
     let next = follows.follows s (told.stands works) in
@@ -24,7 +25,8 @@ told_more old new o log m works follows told =
 pub told_still : (old new : LocalView) (o : ServedState) (log : List LinkMove) → new.wanting ≡ true → IsTold old o log → IsTold new o log
 told_still old new o log wants told = record { is_log = told.is_log; stands = λ works. absurd (false≢true (sym works ∙ wants)) }
 
-pub told_answer : (old new : LocalView) (o : ServedState) (log : List LinkMove) (answer : Received) (buf : List ℕ) → old.wanting ≡ false → FollowsAnswer answer buf old new
+pub told_answer : (old new : LocalView) (o : ServedState) (log : List LinkMove) (answer : Received) (buf : List ℕ)
+    → old.wanting ≡ false → FollowsAnswer answer buf old new
     → IsTold old o log → IsTold new o (log_after_recv answer buf log)
 told_answer old new o log (received.Bytes n now) buf works follows told = told_more old new o log _ works follows told
 told_answer old new o log (received.Quiet now) buf works follows told = told_more old new o log _ works follows told

@@ -1,5 +1,7 @@
 -- What waits for connection 1, and what is taken of it.
-use Rattle.std.proofs.Common.{◌≡◌, ℕ, zero, suc, ◌<◌, ◌≤◌, ◌-◌, List, [], ◌∷◌, length, take, drop, flat_map, refl, sym, ap, ◌∙◌, subst, inl, inr, arith, length-drop, length-take, true, false, Bool}
+use Rattle.std.proofs.Common.{◌≡◌, ℕ, zero, suc, ◌<◌, ◌≤◌, ◌-◌, List, [], ◌∷◌, length, take, drop, flat_map}
+use Rattle.std.proofs.Common.{refl, sym, ap, ◌∙◌, subst, inl, inr, arith, length-drop, length-take, true}
+use Rattle.std.proofs.Common.{false, Bool}
 use Rattle.std.specs.Prelude.{Option, Some, None, nat_le, nat_lt, if◌then◌else◌, filter, not, ◌==◌}
 use Rattle.std.proofs.lemmas.Bool.{cases_Bool, cond-true, cond-false}
 use Rattle.std.proofs.lemmas.Bool.Decides.{nat_tests}
@@ -62,7 +64,8 @@ takes_some (suc n) buf new s some len takes = (len, takes)
 
 took_of : (old mid new : CoreView) (s : ServedState) (n : ℕ) (buf : List ℕ) (o : Option (List ℕ)) → offer_in old 1 ≡ o → 0 < n → CopiesOffer n o buf
     → ((x : CoreState) → Serves old x → offer_in old 1 ≡ offer_at 1 x)
-    → ((x : CoreState) (left bytes : List ℕ) → Serves old x → offer_in old 1 ≡ Some left → length bytes ≡ n → Follows old mid x (after_move x (move.Took 1 (length left) bytes)))
+    → ((x : CoreState) (left bytes : List ℕ) → Serves old x → offer_in old 1 ≡ Some left
+    → length bytes ≡ n → Follows old mid x (after_move x (move.Took 1 (length left) bytes)))
     → ((x : CoreState) → Serves mid x → OpensNew x (event.Writable 1) → Serves new (after_event x (event.Writable 1)))
     → Serves old (unblocked s) → Takes n buf new s
 unfolding state_after_move state_after_event
@@ -93,10 +96,12 @@ none_of old s buf (Some left) e copies machine serves =
 -- bytes of the offer were taken, and connection 1 was writable again
 pub took_some : (old mid new : CoreView) (s : ServedState) (n : ℕ) (buf : List ℕ) → 0 < n → CopiesOffer n (offer_in old 1) buf
     → ((x : CoreState) → Serves old x → offer_in old 1 ≡ offer_at 1 x)
-    → ((x : CoreState) (left bytes : List ℕ) → Serves old x → offer_in old 1 ≡ Some left → length bytes ≡ n → Follows old mid x (after_move x (move.Took 1 (length left) bytes)))
+    → ((x : CoreState) (left bytes : List ℕ) → Serves old x → offer_in old 1 ≡ Some left
+    → length bytes ≡ n → Follows old mid x (after_move x (move.Took 1 (length left) bytes)))
     → ((x : CoreState) → Serves mid x → OpensNew x (event.Writable 1) → Serves new (after_event x (event.Writable 1)))
     → Serves old (unblocked s) → Takes n buf new s
-took_some old mid new s n buf some copies machine took freed_by serves = took_of old mid new s n buf (offer_in old 1) refl some copies machine took freed_by serves
+took_some old mid new s n buf some copies machine took freed_by serves =
+    took_of old mid new s n buf (offer_in old 1) refl some copies machine took freed_by serves
 
 -- nothing was offered
 pub took_none : (old : CoreView) (s : ServedState) (buf : List ℕ) → CopiesOffer 0 (offer_in old 1) buf
@@ -104,7 +109,8 @@ pub took_none : (old : CoreView) (s : ServedState) (buf : List ℕ) → CopiesOf
     → Serves old (unblocked s) → TakesNothing old s
 took_none old s buf copies machine serves = none_of old s buf (offer_in old 1) refl copies machine serves
 
-pub taken_bytes : (n : ℕ) (buf : List ℕ) (new : CoreView) (s : ServedState) → 0 < n → Takes n buf new s → (length (take n buf) ≡ n) × TakesBytes (take n buf) new s
+pub taken_bytes : (n : ℕ) (buf : List ℕ) (new : CoreView) (s : ServedState) → 0 < n
+    → Takes n buf new s → (length (take n buf) ≡ n) × TakesBytes (take n buf) new s
 taken_bytes zero buf new s some takes = absurd (omega (arith, some))
 taken_bytes (suc n) buf new s some takes = takes
 

@@ -18,10 +18,12 @@ position-map p f xs = rw (position_or_len-map p f xs, length-map xs f) refl
 pub position-within : {X : Type 0} (p : X → Bool) (xs : List X) (i : ℕ) → position p xs ≡ Some i → i < length xs
 position-within p xs i found =
     elim (cases_Bool (nat_lt (position_or_len p xs) (length xs))) [
-      | inl t ↦ let is : Some (position_or_len p xs) ≡ Some i = rw t at found in subst (λ (k : ℕ). k < length xs) (cc is) (ltb-true (position_or_len p xs) (length xs) t)
+      | inl t ↦ let is : Some (position_or_len p xs) ≡ Some i = rw t at found in
+          subst (λ (k : ℕ). k < length xs) (cc is) (ltb-true (position_or_len p xs) (length xs) t)
       | inr t ↦ let none : None ≡ Some i = rw t at found in cc none
     ]
 
 -- the first of these whose name is this one, ASCII case aside
-pub first_called-map : {X : Type 0} (f : X → List ℕ) (xs : List X) (name : List ℕ) → first_called (map f xs) name ≡ position (λ x. bytes_eq (lower (f x)) (lower name)) xs
+pub first_called-map : {X : Type 0} (f : X → List ℕ) (xs : List X) (name : List ℕ)
+    → first_called (map f xs) name ≡ position (λ x. bytes_eq (lower (f x)) (lower name)) xs
 first_called-map f xs name = position-map (λ n. bytes_eq (lower n) (lower name)) f xs

@@ -101,7 +101,8 @@ AreNumbered-push names name old new low are is_low added more = record {
   counted = more ∙ ap (λ n. n + 1) are.counted ∙ sym (length_push names name);
 }
   where
-    first_more : (names : List (List ℕ)) (name : List ℕ) (old new : List (List ℕ × ℕ)) (low : List ℕ) (number : ℕ) → ((l : List ℕ) → number_of l old ≡ position (λ n. bytes_eq (lower n) l) names) → low ≡ lower name
+    first_more : (names : List (List ℕ)) (name : List ℕ) (old new : List (List ℕ × ℕ)) (low : List ℕ) (number : ℕ)
+        → ((l : List ℕ) → number_of l old ≡ position (λ n. bytes_eq (lower n) l) names) → low ≡ lower name
         → number ≡ length names → AddsEntry (low, number) old new → (l : List ℕ) → number_of l new ≡ position (λ n. bytes_eq (lower n) l) (names ++ name ∷ [])
     first_more names name old new low number are is_low is_last added l =
         added l ∙ number_of-push l old (low, number)

@@ -17,7 +17,8 @@ pieces_of_none (c ∷ cs) h =
     (λ e. let k = rw e at h in rw e (ap (onto_first c) (pieces_of_none cs (omega arith)))) (cases_Bool (begins_step c))
 
 first_step-begins : (c : ℕ) (cs : List ℕ) → begins_step c ≡ true
-    → (pieces_of (c ∷ cs) ≡ take (first_step (c ∷ cs)) (c ∷ cs) ∷ drop 1 (pieces_of (drop (first_step (c ∷ cs)) (c ∷ cs)))) × IsRest (drop (first_step (c ∷ cs)) (c ∷ cs))
+    → (pieces_of (c ∷ cs) ≡ take (first_step (c ∷ cs)) (c ∷ cs) ∷ drop 1 (pieces_of (drop (first_step (c ∷ cs)) (c ∷ cs))))
+    × IsRest (drop (first_step (c ∷ cs)) (c ∷ cs))
 first_step-begins c cs e = simp e (refl, refl)
 
 -- the first step begins at the first such byte

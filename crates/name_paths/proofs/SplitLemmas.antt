@@ -17,12 +17,14 @@ slice_split_no p (c ∷ cs) h =
 pub slice_split-position : (p : ℕ → Bool) (cs : List ℕ) → MatchOption (position p cs) (slice_split p cs ≡ cs ∷ [])
     (λ at. slice_split p cs ≡ take at cs ∷ slice_split p (drop (at + 1) cs))
 slice_split-position p cs =
-    ⊎_elim (λ h. rw (lt-ltb (position_or_len p cs) (length cs) h) (slice_split_first p cs 0 h)) (λ h. rw (le-ltb (position_or_len p cs) (length cs) h) (slice_split_no p cs h))
+    ⊎_elim (λ h. rw (lt-ltb (position_or_len p cs) (length cs) h) (slice_split_first p cs 0 h))
+    (λ h. rw (le-ltb (position_or_len p cs) (length cs) h) (slice_split_no p cs h))
     (cases_lt (position_or_len p cs) (length cs))
 
 -- four numbers are no indexes
 pub indexes_of_four : (text a b c : List ℕ) (behind_a behind_b behind_c : List ℕ) → slice_split is_comma text ≡ a ∷ slice_split is_comma behind_a
-    → slice_split is_comma behind_a ≡ b ∷ slice_split is_comma behind_b → slice_split is_comma behind_b ≡ c ∷ slice_split is_comma behind_c → indexes_of text ≡ None
+    → slice_split is_comma behind_a ≡ b ∷ slice_split is_comma behind_b
+    → slice_split is_comma behind_b ≡ c ∷ slice_split is_comma behind_c → indexes_of text ≡ None
 indexes_of_four text a b c behind_a behind_b behind_c e f g =
     let n = length-slice_split is_comma behind_c in
     rw (e, f, g, lt-leb (length (a ∷ b ∷ c ∷ slice_split is_comma behind_c)) 3 (omega arith)) refl

@@ -1,5 +1,6 @@
 -- Paths: an identifier, and then parts by name (`.pos`) and by index (`[3]`, `[1,-2]`, `[0,0,7]`).
-use Rattle.std.specs.Prelude.{ℕ, ◌-◌, Bool, ◌||◌, ◌==◌, nat_le, List, [], ◌∷◌, length, slice_index, take, Option, Some, None, option_map, option_and_then, if◌then◌else◌, ℤ}
+use Rattle.std.specs.Prelude.{ℕ, ◌-◌, Bool, ◌||◌, ◌==◌, nat_le, List, [], ◌∷◌, length, slice_index, take}
+use Rattle.std.specs.Prelude.{Option, Some, None, option_map, option_and_then, if◌then◌else◌, ℤ}
 use Rattle.std.specs.List.{slice_split, onto_first}
 use Rattle.name_paths.specs.Identifier.{is_identifier}
 use Rattle.name_paths.specs.Name.{is_full_stop}

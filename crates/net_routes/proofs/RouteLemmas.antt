@@ -49,7 +49,8 @@ bytes_eq-trans : (xs ys zs : List ℕ) → bytes_eq xs ys ≡ true → bytes_eq 
 bytes_eq-trans xs ys zs t = let same : xs ≡ ys = (bytes_eq-Decides xs ys).0 t in ap (λ v. bytes_eq v zs) same
 
 -- where the NetId has a route, a further one changes nothing
-pub rights_of-there : (routes : List plain.Route) (r : plain.Route) → is_some (rights_of r.net routes) ≡ true → (n : List ℕ) → rights_of n routes ≡ rights_of n (routes ++ r ∷ [])
+pub rights_of-there : (routes : List plain.Route) (r : plain.Route) → is_some (rights_of r.net routes) ≡ true
+    → (n : List ℕ) → rights_of n routes ≡ rights_of n (routes ++ r ∷ [])
 rights_of-there [] r there n = cc
 rights_of-there (x ∷ xs) r there n =
     elim (cases_Bool (bytes_eq x.net n)) [
@@ -67,7 +68,8 @@ rights_of-there (x ∷ xs) r there n =
     ]
 
 -- a further route, after routes with the same rights
-pub rights_of-more : (some others : List plain.Route) (r : plain.Route) → ((n : List ℕ) → rights_of n some ≡ rights_of n others) → (n : List ℕ) → rights_of n (some ++ r ∷ []) ≡ rights_of n (others ++ r ∷ [])
+pub rights_of-more : (some others : List plain.Route) (r : plain.Route) → ((n : List ℕ) → rights_of n some ≡ rights_of n others)
+    → (n : List ℕ) → rights_of n (some ++ r ∷ []) ≡ rights_of n (others ++ r ∷ [])
 rights_of-more some others r same n = last some ∙ ap (behind r) (same n) ∙ sym (last others)
   where
     behind : plain.Route → Option plain.Rights → Option plain.Rights
@@ -101,7 +103,8 @@ option_map-none f None e = refl
 option_map-none f (Some x) e = cc
 
 -- a route of another machine is passed over in a walk
-pub walked-past : (net : List ℕ) (routes : List plain.Route) (i : ℕ) → rights_in net (slice_get routes i) ≡ None → rights_of net (drop (suc i) routes) ≡ rights_of net (drop i routes)
+pub walked-past : (net : List ℕ) (routes : List plain.Route) (i : ℕ) → rights_in net (slice_get routes i) ≡ None
+    → rights_of net (drop (suc i) routes) ≡ rights_of net (drop i routes)
 walked-past net [] zero none = refl
 walked-past net [] (suc i) none = refl
 walked-past net (r ∷ rs) zero none = elim (cases_Bool (bytes_eq r.net net)) [
@@ -111,7 +114,8 @@ walked-past net (r ∷ rs) zero none = elim (cases_Bool (bytes_eq r.net net)) [
 walked-past net (r ∷ rs) (suc i) none = walked-past net rs i none
 
 -- the route where a walk ends
-pub walked-to : (net : List ℕ) (routes : List plain.Route) (i : ℕ) (x : plain.Rights) → rights_in net (slice_get routes i) ≡ Some x → rights_of net (drop i routes) ≡ Some x
+pub walked-to : (net : List ℕ) (routes : List plain.Route) (i : ℕ) (x : plain.Rights)
+    → rights_in net (slice_get routes i) ≡ Some x → rights_of net (drop i routes) ≡ Some x
 walked-to net [] i x there = absurd (let none : ◌≡◌ {A = Option plain.Rights} None (Some x) = there in cc)
 walked-to net (r ∷ rs) zero x there = elim (cases_Bool (bytes_eq r.net net)) [
   | inl t ↦ rw t (rw t at there)

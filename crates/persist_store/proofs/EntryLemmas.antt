@@ -54,7 +54,8 @@ pub record HasFirst (n : ℕ) (text after : List ℕ) (e : StoredEntry) : Type 0
 
 pub has_first : (n : ℕ) (text : List ℕ) (r : EntryRead) → n ≢ 0 → IsSome (entries_in n text) → Some r ≡ entry_of text → HasFirst n text r.behind r.entry
 has_first n text r ne some is =
-    let step : entries_in n text ≡ option_map (λ entries. r.entry ∷ entries) (entries_in (n - 1) r.behind) = entries-step n text ne ∙ ap (option_and_then (with_entry (n - 1))) (sym is) in
+    let step : entries_in n text ≡ option_map (λ entries. r.entry ∷ entries) (entries_in (n - 1) r.behind) =
+    entries-step n text ne ∙ ap (option_and_then (with_entry (n - 1))) (sym is) in
     let both = left_behind r.entry (entries_in (n - 1) r.behind) (entries_in n text) step some in
     record { left = both.0; next = both.1 }
 
@@ -65,7 +66,8 @@ has_some n text ne some is =
     true≢false (sym (subst P (no_entries n text ne is) some))
 
 -- what is read in front of so many entries
-pub step_none : {T : Type 0} (r : Option T) (f : T → EntryRead) (n : ℕ) (text : List ℕ) (Q : Type 0) → n ≢ 0 → IsSome (entries_in n text) → option_map f r ≡ entry_of text → IfNone r Q
+pub step_none : {T : Type 0} (r : Option T) (f : T → EntryRead) (n : ℕ) (text : List ℕ) (Q : Type 0)
+    → n ≢ 0 → IsSome (entries_in n text) → option_map f r ≡ entry_of text → IfNone r Q
 step_none (Some x) f n text Q ne some is = tt
 step_none None f n text Q ne some is = absurd (has_some n text ne some is)
 

@@ -29,11 +29,14 @@ slot_read told place n room file reads is len =
     ap slot_of (here.1 ∙ rw len refl) ∙ slot_of-take 1048589 (drop place file) (omega arith)
 
 -- what a file stands for, by its two slots
-pub standing_by_slots : (file : List ℕ) (s : Option Standing) → s ≡ standing_of_slots (slot_of (drop (place_of false) file)) (slot_of (drop (place_of true) file)) → s ≡ standing_of file
+pub standing_by_slots : (file : List ℕ) (s : Option Standing)
+    → s ≡ standing_of_slots (slot_of (drop (place_of false) file)) (slot_of (drop (place_of true) file)) → s ≡ standing_of file
 unfolding standing_of
 standing_by_slots file s is = is
 
 -- calls that leave the file as it is
-pub at_passed : {D : Type 0} (contents : D → Option (List ℕ)) (may_leave : D → List ℕ → Type 0) (moment : D → ℕ) (left_since : D → ℕ → List ℕ → Type 0) (old new : D) (file : List ℕ)
+pub at_passed : {D : Type 0} (contents : D → Option (List ℕ)) (may_leave : D → List ℕ → Type 0)
+    (moment : D → ℕ) (left_since : D → ℕ → List ℕ → Type 0) (old new : D) (file : List ℕ)
     → Passes contents may_leave moment left_since old new → IsAt contents may_leave old file → IsAt contents may_leave new file
-at_passed contents may_leave moment left_since old new file passes here = record { told = passes.same ∙ here.told; only = λ c left. here.only c (passes.stop c left) }
+at_passed contents may_leave moment left_since old new file passes here =
+    record { told = passes.same ∙ here.told; only = λ c left. here.only c (passes.stop c left) }

@@ -1,5 +1,7 @@
 -- What a disk in memory may leave: before and after a write, and before and after a sync.
-use Rattle.std.proofs.Common.{◌≡◌, ◌⊎◌, inl, inr, ⊎_elim, ℕ, ◌+◌, ◌-◌, ◌<◌, ◌≤◌, min, List, [], ◌∷◌, ◌++◌, length, take, drop, true, false, true≢false, refl, sym, subst, ◌∙◌, ap, arith, append-nil}
+use Rattle.std.proofs.Common.{◌≡◌, ◌⊎◌, inl, inr, ⊎_elim, ℕ, ◌+◌, ◌-◌, ◌<◌, ◌≤◌, min, List, [], ◌∷◌, ◌++◌}
+use Rattle.std.proofs.Common.{length, take, drop, true, false, true≢false, refl, sym, subst, ◌∙◌, ap, arith}
+use Rattle.std.proofs.Common.{append-nil}
 use Rattle.std.specs.Prelude.{Bool, Option, Some, None, IfSome, IsSome, filter, nat_le, ◌==◌, option_map}
 use Rattle.std.specs.List.{list_all}
 use Rattle.std.proofs.lemmas.Bool.{cases_lt, and_parts, and_from, cases_Bool, leb-true, le-leb, eq-eqb, ne_eqb}
@@ -36,11 +38,13 @@ torn_piece at piece bytes f file short is =
     subst P (sym is) (torn-longer at (length piece) (length bytes) f (written at piece f) short (torn-written at piece f))
 
 -- one write more
-left_by-more : (before : List ℕ → Type 0) (ws : List PastWrite) (w : PastWrite) (c : List ℕ) → LeftBy before (ws ++ w ∷ []) c → LeftByWrite (LeftBy before ws) w c
+left_by-more : (before : List ℕ → Type 0) (ws : List PastWrite) (w : PastWrite) (c : List ℕ)
+    → LeftBy before (ws ++ w ∷ []) c → LeftByWrite (LeftBy before ws) w c
 left_by-more before [] w c left = left
 left_by-more before (v ∷ vs) w c left = left_by-more (LeftByWrite before v) vs w c left
 
-left_by-one : (before : List ℕ → Type 0) (ws : List PastWrite) (w : PastWrite) (c : List ℕ) → LeftByWrite (LeftBy before ws) w c → LeftBy before (ws ++ w ∷ []) c
+left_by-one : (before : List ℕ → Type 0) (ws : List PastWrite) (w : PastWrite) (c : List ℕ)
+    → LeftByWrite (LeftBy before ws) w c → LeftBy before (ws ++ w ∷ []) c
 left_by-one before [] w c left = left
 left_by-one before (v ∷ vs) w c left = left_by-one (LeftByWrite before v) vs w c left
 
@@ -83,12 +87,14 @@ writes_nothing m fails place size = record {
 abbrev pub write_of : HeldFile → ℕ → ℕ → PastWrite
 write_of m place size = record { before = m.file; place = place; size = size; period = m.period }
 
-left_more : (m : HeldFile) (place size : ℕ) (file c : List ℕ) → LeftIn (of_period m.period (m.writes ++ write_of m place size ∷ [])) c → LeftByWrite (LeftIn (of_period m.period m.writes)) (write_of m place size) c
+left_more : (m : HeldFile) (place size : ℕ) (file c : List ℕ) → LeftIn (of_period m.period (m.writes ++ write_of m place size ∷ [])) c
+    → LeftByWrite (LeftIn (of_period m.period m.writes)) (write_of m place size) c
 left_more m place size file c left =
     let P : List PastWrite → Type 0 = λ ws. LeftIn ws c in
     left_by-more (λ c. ⊥) (of_period m.period m.writes) (write_of m place size) c (subst P (period-same m.writes (write_of m place size)) left)
 
-left_one : (m : HeldFile) (place size : ℕ) (c : List ℕ) → LeftByWrite (LeftIn (of_period m.period m.writes)) (write_of m place size) c → LeftIn (of_period m.period (m.writes ++ write_of m place size ∷ [])) c
+left_one : (m : HeldFile) (place size : ℕ) (c : List ℕ) → LeftByWrite (LeftIn (of_period m.period m.writes)) (write_of m place size) c
+    → LeftIn (of_period m.period (m.writes ++ write_of m place size ∷ [])) c
 left_one m place size c left =
     let P : List PastWrite → Type 0 = λ ws. LeftIn ws c in
     subst P (sym (period-same m.writes (write_of m place size))) (left_by-one (λ c. ⊥) (of_period m.period m.writes) (write_of m place size) c left)
@@ -96,17 +102,29 @@ left_one m place size c left =
 past_same : (m : HeldFile) (place size t : ℕ) (c : List ℕ) → LeftInPast (m.writes ++ write_of m place size ∷ []) t m.period c → LeftInPast m.writes t m.period c
 past_same m place size t c past =
     let P : List PastWrite → Type 0 = λ ws. LeftIn ws c in
-    record { period = past.period; from = past.from; before = past.before; left = subst P (period-other past.period m.writes (write_of m place size) past.before) past.left }
+    record {
+      period = past.period;
+      from = past.from;
+      before = past.before;
+      left = subst P (period-other past.period m.writes (write_of m place size) past.before) past.left;
+    }
 
 past_too : (m : HeldFile) (place size t : ℕ) (c : List ℕ) → LeftInPast m.writes t m.period c → LeftInPast (m.writes ++ write_of m place size ∷ []) t m.period c
 past_too m place size t c past =
     let P : List PastWrite → Type 0 = λ ws. LeftIn ws c in
-    record { period = past.period; from = past.from; before = past.before; left = subst P (sym (period-other past.period m.writes (write_of m place size) past.before)) past.left }
+    record {
+      period = past.period;
+      from = past.from;
+      before = past.before;
+      left = subst P (sym (period-other past.period m.writes (write_of m place size) past.before)) past.left;
+    }
 
-pub puts : (m : HeldFile) (fails : Bool) (place size : ℕ) (file : List ℕ) → Torn place size m.file file → WritesOnce m (after_call fails m) (after_put (after_call fails m) place size file) place size
+pub puts : (m : HeldFile) (fails : Bool) (place size : ℕ) (file : List ℕ) → Torn place size m.file file
+    → WritesOnce m (after_call fails m) (after_put (after_call fails m) place size file) place size
 puts m fails place size file torn = record { counted = refl; touched = torn; stop = follows; time = time }
   where
-    from_before : (c : List ℕ) → LeftByWrite (LeftIn (of_period m.period m.writes)) (write_of m place size) c → (d : List ℕ) × leaves_now m d × Torn place size d c
+    from_before : (c : List ℕ) → LeftByWrite (LeftIn (of_period m.period m.writes)) (write_of m place size) c
+        → (d : List ℕ) × leaves_now m d × Torn place size d c
     from_before c (d, inl left, t) = (d, inr left, t)
     from_before c (d, inr is, t) = (d, inl is, t)
 
@@ -118,7 +136,8 @@ puts m fails place size file torn = record { counted = refl; touched = torn; sto
     grows c (inl is) = inr (left_one m place size c (c, inr is, torn-same place size c))
     grows c (inr left) = inr (left_one m place size c (c, inl left, torn-same place size c))
 
-    nothing_else : (t : ℕ) (c : List ℕ) → t ≤ m.period → leaves_since (after_put (after_call fails m) place size file) t c → leaves_since m t c ⊎ leaves_now (after_put (after_call fails m) place size file) c
+    nothing_else : (t : ℕ) (c : List ℕ) → t ≤ m.period → leaves_since (after_put (after_call fails m) place size file) t c
+        → leaves_since m t c ⊎ leaves_now (after_put (after_call fails m) place size file) c
     nothing_else t c le (inl now) = inr now
     nothing_else t c le (inr past) = inl (inr (past_same m place size t c past))
 
@@ -126,12 +145,15 @@ puts m fails place size file torn = record { counted = refl; touched = torn; sto
     keeps t c le (inl now) = inl (grows c now)
     keeps t c le (inr past) = inr (past_too m place size t c past)
 
-    time : Elapses m.period m.period (leaves_since m) (leaves_since (after_put (after_call fails m) place size file)) (leaves_now (after_put (after_call fails m) place size file))
+    time : Elapses m.period m.period (leaves_since m) (leaves_since (after_put (after_call fails m) place size file))
+        (leaves_now (after_put (after_call fails m) place size file))
     time = record { later = omega arith; nothing_else = nothing_else; keeps = keeps }
 
 -- a write that takes its file or does not
-pub writes_once : (m mid new : HeldFile) (fails : Bool) (place size : ℕ) (file : Option (List ℕ)) (done : Bool) → mid ≡ after_call fails m → IfSome file (λ f. Torn place size m.file f)
-    → (done ≡ false → new ≡ mid) → (done ≡ true → IsSome file) → IfSome file (λ f. done ≡ true → new ≡ after_put mid place size f) → WritesOnce m mid new place size
+pub writes_once : (m mid new : HeldFile) (fails : Bool) (place size : ℕ) (file : Option (List ℕ)) (done : Bool)
+    → mid ≡ after_call fails m → IfSome file (λ f. Torn place size m.file f)
+    → (done ≡ false → new ≡ mid) → (done ≡ true → IsSome file)
+    → IfSome file (λ f. done ≡ true → new ≡ after_put mid place size f) → WritesOnce m mid new place size
 writes_once m mid new fails place size file false is torn kept some put =
     let P : HeldFile → Type 0 = λ x. WritesOnce m mid x place size in
     let Q : HeldFile → Type 0 = λ x. WritesOnce m x x place size in
@@ -142,8 +164,10 @@ writes_once m mid new fails place size (Some f) true is torn kept some put =
     let Q : HeldFile → Type 0 = λ x. WritesOnce m x (after_put x place size f) place size in
     subst P (sym (put refl)) (subst Q (sym is) (puts m fails place size f torn))
 
-pub writes_all : (m mid new : HeldFile) (place size : ℕ) (bytes : List ℕ) (file : Option (List ℕ)) (done : Bool) → IfSome file (λ f. is_to_fail m ≡ false → f ≡ written place bytes m.file)
-    → (done ≡ true → IsSome file) → IfSome file (λ f. done ≡ true → new ≡ after_put mid place size f) → is_to_fail m ≡ false → done ≡ true → new.file ≡ written place bytes m.file
+pub writes_all : (m mid new : HeldFile) (place size : ℕ) (bytes : List ℕ) (file : Option (List ℕ)) (done : Bool)
+    → IfSome file (λ f. is_to_fail m ≡ false → f ≡ written place bytes m.file)
+    → (done ≡ true → IsSome file) → IfSome file (λ f. done ≡ true → new ≡ after_put mid place size f)
+    → is_to_fail m ≡ false → done ≡ true → new.file ≡ written place bytes m.file
 writes_all m mid new place size bytes None done all some put works is = absurd (true≢false (sym (some is)))
 writes_all m mid new place size bytes (Some f) done all some put works is = ap (λ (x : HeldFile). x.file) (put is) ∙ all works
 
@@ -193,7 +217,8 @@ syncs m fails made = record {
           inl (inr (subst P e past.left))
     ]
 
-    nothing_else : (t : ℕ) (c : List ℕ) → t ≤ m.period → leaves_since (after_sync (after_call fails m)) t c → leaves_since m t c ⊎ leaves_now (after_sync (after_call fails m)) c
+    nothing_else : (t : ℕ) (c : List ℕ) → t ≤ m.period → leaves_since (after_sync (after_call fails m)) t c
+        → leaves_since m t c ⊎ leaves_now (after_sync (after_call fails m)) c
     nothing_else t c le (inl now) = inr now
     nothing_else t c le (inr past) = inl (past_or_now t c past)
 
@@ -202,7 +227,8 @@ syncs m fails made = record {
     keeps t c le (inl (inr left)) = inr (record { period = m.period; from = le; before = omega arith; left = left })
     keeps t c le (inr past) = inr (record { period = past.period; from = past.from; before = omega (arith, past.before); left = past.left })
 
-pub syncs_once : (m mid new : HeldFile) (fails : Bool) → mid ≡ after_call fails m → are_made_by mid.period mid.writes ≡ true → new ≡ after_sync mid → Syncs m new
+pub syncs_once : (m mid new : HeldFile) (fails : Bool) → mid ≡ after_call fails m
+    → are_made_by mid.period mid.writes ≡ true → new ≡ after_sync mid → Syncs m new
 syncs_once m mid new fails is made put =
     let P : HeldFile → Type 0 = λ x. Syncs m x in
     let Q : HeldFile → Type 0 = λ x. are_made_by x.period x.writes ≡ true in

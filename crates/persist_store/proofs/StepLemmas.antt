@@ -16,13 +16,15 @@ closes_at place file e h =
     let P : ℕ → Type 0 = λ p. ClosesGate file p in
     subst P (sym e) (closes_gate (goes_second (standing_of file)) file refl (subst Q e h))
 
-pub fills_at : (place : ℕ) (file : List ℕ) (slot : Slot) → place ≡ next_place (standing_of file) → has_closed_gate place file ≡ true → length slot.body ≤ MAX_BODY → FillsSlot file place slot
+pub fills_at : (place : ℕ) (file : List ℕ) (slot : Slot) → place ≡ next_place (standing_of file)
+    → has_closed_gate place file ≡ true → length slot.body ≤ MAX_BODY → FillsSlot file place slot
 fills_at place file slot e h short =
     let Q : ℕ → Type 0 = λ p. has_closed_gate p file ≡ true in
     let P : ℕ → Type 0 = λ p. FillsSlot file p slot in
     subst P (sym e) (fills_slot (goes_second (standing_of file)) file slot refl (subst Q e h) short)
 
-pub opens_at : (place : ℕ) (file body : List ℕ) → place ≡ next_place (standing_of file) → MaySave file body → IsFilled place (next_slot (standing_of file) body) file → OpensGate file body place
+pub opens_at : (place : ℕ) (file body : List ℕ) → place ≡ next_place (standing_of file)
+    → MaySave file body → IsFilled place (next_slot (standing_of file) body) file → OpensGate file body place
 opens_at place file body e m filled =
     let Q : ℕ → Type 0 = λ p. IsFilled p (next_slot (standing_of file) body) file in
     let P : ℕ → Type 0 = λ p. OpensGate file body p in
@@ -55,12 +57,15 @@ module _ {D : Type 0} (contents : D → Option (List ℕ)) (may_leave : D → Li
   only_file disk file P here p c left = subst P (sym (here.only c left)) p
 
   -- before the first call, and after one that changes nothing
-  pub starts : (disk : D) (file : List ℕ) (P : List ℕ → Type 0) → ((d : D) (c : List ℕ) → left_since d (moment d) c → may_leave d c) → IsAt contents may_leave disk file → P file
+  pub starts : (disk : D) (file : List ℕ) (P : List ℕ → Type 0)
+      → ((d : D) (c : List ℕ) → left_since d (moment d) c → may_leave d c) → IsAt contents may_leave disk file → P file
       → LeavesOnly moment left_since disk disk P
   starts disk file P now here p = started moment left_since disk P (λ c left. only_file disk file P here p c (now disk c left))
 
-  pub looks : (old new : D) (file : List ℕ) (P : List ℕ → Type 0) → ((d : D) (c : List ℕ) → left_since d (moment d) c → may_leave d c) → Stays contents may_leave old new
-      → Elapses (moment old) (moment new) (left_since old) (left_since new) (may_leave new) → IsAt contents may_leave old file → P file → LeavesOnly moment left_since old new P
+  pub looks : (old new : D) (file : List ℕ) (P : List ℕ → Type 0)
+      → ((d : D) (c : List ℕ) → left_since d (moment d) c → may_leave d c) → Stays contents may_leave old new
+      → Elapses (moment old) (moment new) (left_since old) (left_since new) (may_leave new)
+      → IsAt contents may_leave old file → P file → LeavesOnly moment left_since old new P
   looks old new file P now stays time here p =
       goes_on moment left_since old old new P (may_leave new) (starts old file P now here p) time (only_file new file P (at_after old new file stays here) p)
 
@@ -71,73 +76,97 @@ module _ {D : Type 0} (contents : D → Option (List ℕ)) (may_leave : D → Li
       let closes = closes_at place file e h in
       record { now = written place (0 ∷ []) file; here = here; standing = closes.standing; closed = closes.closed }
 
-  pub shut_before : (new : D) (place : ℕ) (file : List ℕ) → has_closed_gate place file ≡ true → IsAt contents may_leave new file → IsShut contents may_leave new file place
+  pub shut_before : (new : D) (place : ℕ) (file : List ℕ) → has_closed_gate place file ≡ true
+      → IsAt contents may_leave new file → IsShut contents may_leave new file place
   shut_before new place file h here = record { now = file; here = here; standing = refl; closed = h }
 
-  pub close_leaves : (old mid new : D) (place : ℕ) (file : List ℕ) → ((d : D) (c : List ℕ) → left_since d (moment d) c → may_leave d c) → Stays contents may_leave old mid
-      → Elapses (moment old) (moment mid) (left_since old) (left_since mid) (may_leave mid) → IsAt contents may_leave old file → place ≡ next_place (standing_of file) → has_closed_gate place file ≡ false
+  pub close_leaves : (old mid new : D) (place : ℕ) (file : List ℕ)
+      → ((d : D) (c : List ℕ) → left_since d (moment d) c → may_leave d c) → Stays contents may_leave old mid
+      → Elapses (moment old) (moment mid) (left_since old) (left_since mid) (may_leave mid)
+      → IsAt contents may_leave old file → place ≡ next_place (standing_of file) → has_closed_gate place file ≡ false
       → LeavesOnly moment left_since mid new (Torn place 1 file) → LeavesOnly moment left_since old new (λ c. standing_of c ≡ standing_of file)
   close_leaves old mid new place file now stays time here e h torn =
       let P : List ℕ → Type 0 = λ c. standing_of c ≡ standing_of file in
-      joins moment left_since old mid new P (looks old mid file P now stays time here refl) (weaker moment left_since mid new (Torn place 1 file) P (closes_at place file e h).stop torn)
+      joins moment left_since old mid new P (looks old mid file P now stays time here refl)
+      (weaker moment left_since mid new (Torn place 1 file) P (closes_at place file e h).stop torn)
 
   -- the slot is filled
-  pub full_by_write : (new : D) (place : ℕ) (file bytes : List ℕ) (slot : Slot) → place ≡ next_place (standing_of file) → has_closed_gate place file ≡ true → bytes ≡ behind_gate slot → length slot.body ≤ MAX_BODY
+  pub full_by_write : (new : D) (place : ℕ) (file bytes : List ℕ) (slot : Slot) → place ≡ next_place (standing_of file)
+      → has_closed_gate place file ≡ true → bytes ≡ behind_gate slot → length slot.body ≤ MAX_BODY
       → IsAt contents may_leave new (written (place + 1) bytes file) → IsFull contents may_leave new file place slot
   full_by_write new place file bytes slot e h is short here =
       let fills = fills_at place file slot e h short in
       let P : List ℕ → Type 0 = λ b. IsAt contents may_leave new (written (place + 1) b file) in
       record { now = written (place + 1) (behind_gate slot) file; here = subst P is here; standing = fills.standing; filled = fills.filled }
 
-  pub fill_leaves : (old new : D) (place : ℕ) (file bytes : List ℕ) (slot : Slot) → place ≡ next_place (standing_of file) → has_closed_gate place file ≡ true → bytes ≡ behind_gate slot → length slot.body ≤ MAX_BODY
-      → LeavesOnly moment left_since old new (Torn (place + 1) (length bytes) file) → LeavesOnly moment left_since old new (λ c. standing_of c ≡ standing_of file)
+  pub fill_leaves : (old new : D) (place : ℕ) (file bytes : List ℕ) (slot : Slot) → place ≡ next_place (standing_of file)
+      → has_closed_gate place file ≡ true → bytes ≡ behind_gate slot → length slot.body ≤ MAX_BODY
+      → LeavesOnly moment left_since old new (Torn (place + 1) (length bytes) file)
+      → LeavesOnly moment left_since old new (λ c. standing_of c ≡ standing_of file)
   fill_leaves old new place file bytes slot e h is short torn =
       let Q : List ℕ → Type 0 = λ b. LeavesOnly moment left_since old new (Torn (place + 1) (length b) file) in
-      weaker moment left_since old new (Torn (place + 1) (length (behind_gate slot)) file) (λ c. standing_of c ≡ standing_of file) (fills_at place file slot e h short).stop (subst Q is torn)
+      weaker moment left_since old new (Torn (place + 1) (length (behind_gate slot)) file)
+      (λ c. standing_of c ≡ standing_of file) (fills_at place file slot e h short).stop (subst Q is torn)
 
   -- the gate is opened
-  pub stands_by_write : (new : D) (place : ℕ) (file body : List ℕ) → place ≡ next_place (standing_of file) → MaySave file body → IsFilled place (next_slot (standing_of file) body) file
+  pub stands_by_write : (new : D) (place : ℕ) (file body : List ℕ) → place ≡ next_place (standing_of file)
+      → MaySave file body → IsFilled place (next_slot (standing_of file) body) file
       → IsAt contents may_leave new (written place (1 ∷ []) file) → StandsFor contents may_leave new (standing_after (standing_of file) body)
-  stands_by_write new place file body e m filled here = record { now = written place (1 ∷ []) file; here = here; standing_is = (opens_at place file body e m filled).standing }
+  stands_by_write new place file body e m filled here =
+      record { now = written place (1 ∷ []) file; here = here; standing_is = (opens_at place file body e m filled).standing }
 
-  pub open_leaves : (old new : D) (place : ℕ) (file body : List ℕ) → place ≡ next_place (standing_of file) → MaySave file body → IsFilled place (next_slot (standing_of file) body) file
+  pub open_leaves : (old new : D) (place : ℕ) (file body : List ℕ) → place ≡ next_place (standing_of file)
+      → MaySave file body → IsFilled place (next_slot (standing_of file) body) file
       → LeavesOnly moment left_since old new (Torn place 1 file) → LeavesOnly moment left_since old new (IsBeforeOrAfter file body)
-  open_leaves old new place file body e m filled torn = weaker moment left_since old new (Torn place 1 file) (IsBeforeOrAfter file body) (opens_at place file body e m filled).stop torn
+  open_leaves old new place file body e m filled torn =
+      weaker moment left_since old new (Torn place 1 file) (IsBeforeOrAfter file body) (opens_at place file body e m filled).stop torn
 
   -- the second step behind the first
   pub full_after : (mid new : D) (place : ℕ) (file body behind : List ℕ) → IsSaving file body place behind → IsShut contents may_leave mid file place
-      → ((f : List ℕ) (slot : Slot) → IsAt contents may_leave mid f → place ≡ next_place (standing_of f) → has_closed_gate place f ≡ true → behind ≡ behind_gate slot → length slot.body ≤ MAX_BODY → IsFull contents may_leave new f place slot)
+      → ((f : List ℕ) (slot : Slot) → IsAt contents may_leave mid f → place ≡ next_place (standing_of f) → has_closed_gate place f ≡ true
+      → behind ≡ behind_gate slot → length slot.body ≤ MAX_BODY → IsFull contents may_leave new f place slot)
       → IsFull contents may_leave new file place (next_slot (standing_of file) body)
   full_after mid new place file body behind saving shut fill =
-      let full = fill shut.now (next_slot (standing_of file) body) shut.here (saving.place_is ∙ ap next_place (sym shut.standing)) shut.closed saving.behind_is saving.may.short in
+      let full = fill shut.now (next_slot (standing_of file) body) shut.here
+      (saving.place_is ∙ ap next_place (sym shut.standing)) shut.closed saving.behind_is saving.may.short in
       record { now = full.now; here = full.here; standing = full.standing ∙ shut.standing; filled = full.filled }
 
-  pub two_leave : (old mid new : D) (place : ℕ) (file body behind : List ℕ) → IsSaving file body place behind → LeavesOnly moment left_since old mid (λ c. standing_of c ≡ standing_of file) → IsShut contents may_leave mid file place
-      → ((f : List ℕ) (slot : Slot) → IsAt contents may_leave mid f → place ≡ next_place (standing_of f) → has_closed_gate place f ≡ true → behind ≡ behind_gate slot → length slot.body ≤ MAX_BODY
+  pub two_leave : (old mid new : D) (place : ℕ) (file body behind : List ℕ) → IsSaving file body place behind
+      → LeavesOnly moment left_since old mid (λ c. standing_of c ≡ standing_of file) → IsShut contents may_leave mid file place
+      → ((f : List ℕ) (slot : Slot) → IsAt contents may_leave mid f → place ≡ next_place (standing_of f)
+      → has_closed_gate place f ≡ true → behind ≡ behind_gate slot → length slot.body ≤ MAX_BODY
       → LeavesOnly moment left_since mid new (λ c. standing_of c ≡ standing_of f))
       → LeavesOnly moment left_since old new (λ c. standing_of c ≡ standing_of file)
   two_leave old mid new place file body behind saving first shut fill =
       let P : List ℕ → Type 0 = λ c. standing_of c ≡ standing_of file in
-      let second = fill shut.now (next_slot (standing_of file) body) shut.here (saving.place_is ∙ ap next_place (sym shut.standing)) shut.closed saving.behind_is saving.may.short in
-      joins moment left_since old mid new P first (weaker moment left_since mid new (λ c. standing_of c ≡ standing_of shut.now) P (λ c e. e ∙ shut.standing) second)
+      let second = fill shut.now (next_slot (standing_of file) body) shut.here
+      (saving.place_is ∙ ap next_place (sym shut.standing)) shut.closed saving.behind_is saving.may.short in
+      joins moment left_since old mid new P first
+      (weaker moment left_since mid new (λ c. standing_of c ≡ standing_of shut.now) P (λ c e. e ∙ shut.standing) second)
 
   -- a stop leaves what stood before, or the new body
-  pub before_at_least : (old new : D) (file body : List ℕ) → LeavesOnly moment left_since old new (λ c. standing_of c ≡ standing_of file) → LeavesOnly moment left_since old new (IsBeforeOrAfter file body)
+  pub before_at_least : (old new : D) (file body : List ℕ) → LeavesOnly moment left_since old new (λ c. standing_of c ≡ standing_of file)
+      → LeavesOnly moment left_since old new (IsBeforeOrAfter file body)
   before_at_least old new file body l = weaker moment left_since old new (λ c. standing_of c ≡ standing_of file) (IsBeforeOrAfter file body) (λ c e. inl e) l
 
   -- the third step behind the others
-  pub three_leave : (old mid new : D) (place : ℕ) (file body behind : List ℕ) → IsSaving file body place behind → LeavesOnly moment left_since old mid (λ c. standing_of c ≡ standing_of file)
+  pub three_leave : (old mid new : D) (place : ℕ) (file body behind : List ℕ) → IsSaving file body place behind
+      → LeavesOnly moment left_since old mid (λ c. standing_of c ≡ standing_of file)
       → IsFull contents may_leave mid file place (next_slot (standing_of file) body)
-      → ((f b : List ℕ) → IsAt contents may_leave mid f → MaySave f b → place ≡ next_place (standing_of f) → IsFilled place (next_slot (standing_of f) b) f → LeavesOnly moment left_since mid new (IsBeforeOrAfter f b))
+      → ((f b : List ℕ) → IsAt contents may_leave mid f → MaySave f b → place ≡ next_place (standing_of f)
+      → IsFilled place (next_slot (standing_of f) b) f → LeavesOnly moment left_since mid new (IsBeforeOrAfter f b))
       → LeavesOnly moment left_since old new (IsBeforeOrAfter file body)
   three_leave old mid new place file body behind saving so_far full open_ =
       let e = full.standing in
       let P : Option Standing → Type 0 = λ s. IsFilled place (next_slot s body) full.now in
-      let third = open_ full.now body full.here (may_save_too file full.now body e saving.may) (saving.place_is ∙ ap next_place (sym e)) (subst P (sym e) full.filled) in
+      let third = open_ full.now body full.here (may_save_too file full.now body e saving.may)
+      (saving.place_is ∙ ap next_place (sym e)) (subst P (sym e) full.filled) in
       joins moment left_since old mid new (IsBeforeOrAfter file body) (before_at_least old mid file body so_far)
-      (weaker moment left_since mid new (IsBeforeOrAfter full.now body) (IsBeforeOrAfter file body) (λ c either. same_either file full.now body c e either) third)
+      (weaker moment left_since mid new (IsBeforeOrAfter full.now body)
+      (IsBeforeOrAfter file body) (λ c either. same_either file full.now body c e either) third)
 
-  pub stands_after : (mid new : D) (place : ℕ) (file body behind : List ℕ) → IsSaving file body place behind → IsFull contents may_leave mid file place (next_slot (standing_of file) body)
+  pub stands_after : (mid new : D) (place : ℕ) (file body behind : List ℕ) → IsSaving file body place behind
+      → IsFull contents may_leave mid file place (next_slot (standing_of file) body)
       → ((f b : List ℕ) → IsAt contents may_leave mid f → MaySave f b → place ≡ next_place (standing_of f) → IsFilled place (next_slot (standing_of f) b) f
       → StandsFor contents may_leave new (standing_after (standing_of f) b))
       → StandsFor contents may_leave new (standing_after (standing_of file) body)
@@ -145,11 +174,14 @@ module _ {D : Type 0} (contents : D → Option (List ℕ)) (may_leave : D → Li
       let e = full.standing in
       let P : Option Standing → Type 0 = λ s. IsFilled place (next_slot s body) full.now in
       let Q : Option Standing → Type 0 = λ s. StandsFor contents may_leave new (standing_after s body) in
-      subst Q e (open_ full.now body full.here (may_save_too file full.now body e saving.may) (saving.place_is ∙ ap next_place (sym e)) (subst P (sym e) full.filled))
+      subst Q e (open_ full.now body full.here (may_save_too file full.now body e saving.may)
+      (saving.place_is ∙ ap next_place (sym e)) (subst P (sym e) full.filled))
 
   -- a save that is done leaves the store ready for the next one
-  pub ready_after : (old new : D) (standing : Option Standing) (body : List ℕ) → ((file : List ℕ) → contents old ≡ Some file → Only file (may_leave old) × (standing_of file ≡ standing))
-      → (contents old ≡ None → contents new ≡ None) → ((file : List ℕ) → contents old ≡ Some file → StandsFor contents may_leave new (standing_after (standing_of file) body))
+  pub ready_after : (old new : D) (standing : Option Standing) (body : List ℕ)
+      → ((file : List ℕ) → contents old ≡ Some file → Only file (may_leave old) × (standing_of file ≡ standing))
+      → (contents old ≡ None → contents new ≡ None)
+      → ((file : List ℕ) → contents old ≡ Some file → StandsFor contents may_leave new (standing_after (standing_of file) body))
       → (file : List ℕ) → contents new ≡ Some file → Only file (may_leave new) × (standing_of file ≡ Some (standing_after standing body))
   ready_after old new standing body ready untold done file told = go (contents old) refl
     where

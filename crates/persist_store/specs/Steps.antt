@@ -19,7 +19,8 @@ pub record Stays {D : Type 0} (contents : D → Option (List ℕ)) (may_leave : 
   pub stop : (c : List ℕ) → may_leave new c → may_leave old c
 
 -- the same, at every moment from old to new
-pub record Passes {D : Type 0} (contents : D → Option (List ℕ)) (may_leave : D → List ℕ → Type 0) (moment : D → ℕ) (left_since : D → ℕ → List ℕ → Type 0) (old new : D) : Type 0 where
+pub record Passes {D : Type 0} (contents : D → Option (List ℕ)) (may_leave : D → List ℕ → Type 0)
+    (moment : D → ℕ) (left_since : D → ℕ → List ℕ → Type 0) (old new : D) : Type 0 where
   pub same : contents new ≡ contents old
   pub stop : (c : List ℕ) → may_leave new c → may_leave old c
   pub since : LeavesOnly moment left_since old new (may_leave old)
@@ -37,7 +38,8 @@ pub record IsShut {D : Type 0} (contents : D → Option (List ℕ)) (may_leave :
   pub closed : has_closed_gate place now ≡ true
 
 -- the file stands for what it stood for, and the slot at a place is whole but for its gate
-pub record IsFull {D : Type 0} (contents : D → Option (List ℕ)) (may_leave : D → List ℕ → Type 0) (disk : D) (file : List ℕ) (place : ℕ) (slot : Slot) : Type 0 where
+pub record IsFull {D : Type 0} (contents : D → Option (List ℕ)) (may_leave : D → List ℕ → Type 0)
+    (disk : D) (file : List ℕ) (place : ℕ) (slot : Slot) : Type 0 where
   pub now : List ℕ
   pub here : IsAt contents may_leave disk now
   pub standing : standing_of now ≡ standing_of file

@@ -20,7 +20,8 @@ both s t h k = rw (h, k) refl
 short_texts : (types : List NamedType) (sizes : Sizes) (signals : ℕ) (s : Symbol) → is_symbol types sizes signals s ≡ true
     → has_short_texts (table_symbol types s) ≡ true
 short_texts types sizes signals s e =
-    let d = two (is_symbol_name s.name) (is_shape types s.shape && is_small_shape s.shape && nat_le (size_of_symbol types s) LIMIT) _ _ (is_comment s.comment) _ _ e in
+    let d = two (is_symbol_name s.name)
+    (is_shape types s.shape && is_small_shape s.shape && nat_le (size_of_symbol types s) LIMIT) _ _ (is_comment s.comment) _ _ e in
     let n = and_parts (nat_le (length s.name) 255) (list_all is_identifier (identifiers_of s.name)) (d.0) in
     both (nat_le (length s.name) 255) (nat_le (length s.comment) 255) n.0 (le-leb (length s.comment) 255 (short_comment s.comment (d.1)))
   where
@@ -54,7 +55,8 @@ parts a b c d x y z w q =
 port_parts : (types : List NamedType) (signals : ℕ) (p : Port) → is_port types signals p ≡ true
     → (list_all (is_symbol types p.sizes signals) p.symbols ≡ true) × (nat_le (upload_size types p.symbols) 2000000 ≡ true)
 port_parts types signals p e =
-    parts _ (are_facts p.facts) _ _ (list_all (is_symbol types p.sizes signals) p.symbols) (all_pairs are_two_names p.symbols) (all_pairs (are_apart types) p.symbols)
+    parts _ (are_facts p.facts) _ _ (list_all (is_symbol types p.sizes signals) p.symbols)
+    (all_pairs are_two_names p.symbols) (all_pairs (are_apart types) p.symbols)
     (nat_le (upload_size types p.symbols) 2000000) e
 
 -- names and comments are short

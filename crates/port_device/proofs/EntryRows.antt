@@ -46,7 +46,8 @@ pub entry_rows : (types : List NamedType) (table : SymbolTable) (rows : List Sym
 entry_rows types table rows same with_ texts sized k d below =
     let row = get_or rows k d in
     let there : slice_get table.symbols k ≡ Some (symbol_of_row row)
-    = ap (λ (ss : List TableSymbol). slice_get ss k) (sym same) ∙ slice_get-map symbol_of_row rows k ∙ ap (option_map symbol_of_row) (slice_get-get_or rows k d below) in
+    = ap (λ (ss : List TableSymbol). slice_get ss k) (sym same) ∙ slice_get-map symbol_of_row rows k
+    ∙ ap (option_map symbol_of_row) (slice_get-get_or rows k d below) in
     let short = short_texts_at table k (symbol_of_row row) texts there in
     let own = sized k d below in
     record {

@@ -45,7 +45,8 @@ pub record IsWritten (types : List NamedType) (table : SymbolTable) (path : List
       → entry_meant e ≡ entry_at types s found.place (shape_of_ref found.kind) name kind found.comment.now
 
 -- the calls that wrote them, each with its own view of the types and of what stood before
-pub is_written : (types named said told : List NamedType) (table : SymbolTable) (path : List Step) (found : Found) (start name before kind shown spelled : List ℕ) (e : Entry)
+pub is_written : (types named said told : List NamedType) (table : SymbolTable)
+    (path : List Step) (found : Found) (start name before kind shown spelled : List ℕ) (e : Entry)
     → named ≡ types → said ≡ types → told ≡ types → start ≡ [] → before ≡ [] → shown ≡ name → spelled ≡ kind
     → PutsName named table path found.place.symbol start name → kind ≡ before ++ type_text (tree_of said (shape_of_ref found.kind))
     → ((s : TableSymbol) → slice_get table.symbols found.place.symbol ≡ Some s
@@ -71,7 +72,8 @@ part_told types table port path found name kind e led is_of written leads is_fou
     let own = mapped_at (plant_symbol types) port.symbols n led.symbol is_found.symbol in
     let s = table_symbol types own.0 in
     let there : slice_get table.symbols n ≡ Some s
-    = ap (λ (t : SymbolTable). slice_get t.symbols n) is_of.same ∙ slice_get-map (table_symbol types) port.symbols n ∙ ap (option_map (table_symbol types)) own.1 in
+    = ap (λ (t : SymbolTable). slice_get t.symbols n) is_of.same
+    ∙ slice_get-map (table_symbol types) port.symbols n ∙ ap (option_map (table_symbol types)) own.1 in
     written.entry_is s there
     ∙ same_entry _ _ _ _ _ _ _ _ (entry_of_part led) (same_group (area_of found.place.area) ∙ ap group_of_area is_found.area) is_found.offset is_found.len
     (ap type_id is_found.type) (ap symbol_flags own.2) (written.name_is port led is_of leads is_found.symbol)

@@ -103,7 +103,8 @@ port-found k (x ∷ ms) new m test e h =
     ]
 
 -- a kept symbol of a port that is in both
-symbol_kept : (w v : World) (old new : PortsMemory) (port n : ℕ) (p q : PlantPort) (m now : PortMemory) (x y : PlantSymbol) → HoldsPort w p m → HoldsPort v q now
+symbol_kept : (w v : World) (old new : PortsMemory) (port n : ℕ) (p q : PlantPort) (m now : PortMemory) (x y : PlantSymbol)
+    → HoldsPort w p m → HoldsPort v q now
     → memory_numbered port old.ports ≡ Some m → memory_numbered port new.ports ≡ Some now → slice_get p.symbols n ≡ Some x
     → symbol_named (lower_name x) q.symbols ≡ Some y → is_same_type x.type y.type ≡ true
     → IsSome (entry_of_symbol (entries_between old.ports new.ports) port n)

@@ -92,7 +92,8 @@ position-found {X} test xs x e =
     elim (cases_Bool (nat_lt (position_or_len test xs) (length xs))) [
       | inl t ↦ (rw t refl, there)
       | inr t ↦
-          let past : slice_get xs (position_or_len test xs) ≡ None = slice_get_past xs (position_or_len test xs) (ltb-false (position_or_len test xs) (length xs) t) in
+          let past : slice_get xs (position_or_len test xs) ≡ None =
+          slice_get_past xs (position_or_len test xs) (ltb-false (position_or_len test xs) (length xs) t) in
           let never : None ≡ Some x = sym past ∙ there in
           cc
     ]
@@ -109,7 +110,8 @@ named-number w p m name x h e =
     by_symbol (Some y) f g =
         let same : plant_symbol m.types y ≡ x = cc in
         let in_table : symbol_called name m.table.symbols ≡ Some (table_symbol m.types y)
-        = ap (λ (t : SymbolTable). symbol_called name t.symbols) h.table.same ∙ called-map m.types name h.port.symbols ∙ ap (option_map (table_symbol m.types)) f in
+        = ap (λ (t : SymbolTable). symbol_called name t.symbols) h.table.same
+        ∙ called-map m.types name h.port.symbols ∙ ap (option_map (table_symbol m.types)) f in
         let at_ = position-found (is_called name) m.table.symbols (table_symbol m.types y) in_table in
         record {
           number = position_or_len (is_called name) m.table.symbols;
@@ -139,11 +141,13 @@ entry-of_plants w v p q m now e h k old new from_ =
     let own = plant-symbol w p m from_.place from_.symbol h from_.symbol_there in
     let twin = plant-symbol v q now i.number i.twin k i.there in
     let name = same_bytes (lower i.twin.name) (lower from_.symbol.name)
-    (find-passes (is_called from_.symbol.name) now.table.symbols i.twin (found-number (is_called from_.symbol.name) now.table.symbols i.number i.called ∙ i.there)) in
+    (find-passes (is_called from_.symbol.name) now.table.symbols i.twin
+    (found-number (is_called from_.symbol.name) now.table.symbols i.number i.called ∙ i.there)) in
     let type = ap (λ t. is_same_type t twin.symbol.type) own.is.type ∙ ap (is_same_type (tree_of m.types from_.symbol.shape)) twin.is.type ∙ i.one_type in
     let whole : e ≡ record { port = m.number; before = whole_symbol from_.place from_.symbol; after = whole_symbol i.number i.twin }
     = i.is ∙ ap (λ n. record { port = m.number; before = whole_symbol n from_.symbol; after = whole_symbol i.number i.twin }) number in
-    let told : IsEntryOf w.plant v.plant (record { port = m.number; before = whole_symbol from_.place from_.symbol; after = whole_symbol i.number i.twin }) = record {
+    let told : IsEntryOf w.plant v.plant
+    (record { port = m.number; before = whole_symbol from_.place from_.symbol; after = whole_symbol i.number i.twin }) = record {
       was_port = p;
       was_port_found = old;
       is_port = q;

@@ -140,7 +140,8 @@ pub before-is : (before : List NamedType) (now : PortMemory) (port n : ℕ) (s :
     → e.before ≡ whole_symbol n s
 before-is before now port n s e i = ap (λ (x : KeptSymbol). x.before) i.is
 
-two_entries : (before : List NamedType) (now : PortMemory) (port n : ℕ) (s : TableSymbol) (ss : List TableSymbol) (e f : KeptSymbol) → list_all (lie_apart s) ss ≡ true
+two_entries : (before : List NamedType) (now : PortMemory) (port n : ℕ) (s : TableSymbol) (ss : List TableSymbol) (e f : KeptSymbol)
+    → list_all (lie_apart s) ss ≡ true
     → IsEntry before now port n s e → IsEntryFrom before now port (n + 1) ss f → ShareNothing e f
 two_entries before now port n s ss e f apart i j =
     let mine = before-is before now port n s e i in
@@ -205,7 +206,8 @@ others k (m ∷ ms) new e =
 pub between-apart : (ms new : List PortMemory) → HaveTwoNumbers ms → Each LieApart ms → ShareNothingInPairs (entries_between ms new)
 between-apart [] new numbers apart = tt
 between-apart (m ∷ ms) new numbers apart =
-    pairs-append (entries_of m (memory_numbered m.number new)) (entries_between ms new) (own (memory_numbered m.number new)) (between-apart ms new (numbers.1) (apart.1))
+    pairs-append (entries_of m (memory_numbered m.number new)) (entries_between ms new)
+    (own (memory_numbered m.number new)) (between-apart ms new (numbers.1) (apart.1))
     (each-map (λ (x : KeptSymbol). x.port ≡ m.number) (λ x. Each (ShareNothing x) (entries_between ms new)) (λ x mine.
     each-map (λ (y : KeptSymbol). y.port ≢ m.number) (ShareNothing x) (λ y other. elsewhere x y mine other) (entries_between ms new)
     (others m.number ms new (numbers.0)))

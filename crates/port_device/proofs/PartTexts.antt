@@ -111,7 +111,8 @@ part-short types s p a shape name comment en ec et steps part e =
     let P : TypeTree → Type 0 = λ t. IsTame t × (path_len t ≤ 5032) in
     let whole = subst P (sym et) (tame, omega (arith, own, deep)) in
     let path = whole.1 in
-    let t = tame-steps (whole_of p) steps p.name p.comment part 5287 whole.0 (omega (arith, ap length en, name, path)) (omega (arith, ap length ec, comment)) e in
+    let t = tame-steps (whole_of p) steps p.name p.comment part 5287 whole.0
+    (omega (arith, ap length en, name, path)) (omega (arith, ap length ec, comment)) e in
     record { name = t.short_name; type = text-short part.type t.tame; comment = t.short_comment }
 
 pub found_short : (types : List NamedType) (table : SymbolTable) (port : Port) → IsTableOf types port table → list_all has_short_texts table.symbols ≡ true
@@ -130,7 +131,8 @@ found_short types table port is_of texts steps led e = go (find (is_named_by ste
         let own = mapped_at (plant_symbol types) port.symbols n p there in
         let s = table_symbol types own.0 in
         let in_table : slice_get table.symbols n ≡ Some s
-        = ap (λ (t : SymbolTable). slice_get t.symbols n) is_of.same ∙ slice_get-map (table_symbol types) port.symbols n ∙ ap (option_map (table_symbol types)) own.1 in
+        = ap (λ (t : SymbolTable). slice_get t.symbols n) is_of.same
+        ∙ slice_get-map (table_symbol types) port.symbols n ∙ ap (option_map (table_symbol types)) own.1 in
         let short = short_texts_at table n s texts in_table in
         let with_ : IsTableWith types table = record { port = port; is_of = is_of } in
         subst IsShortFound same (part-short types s p is_of.placed.types (shape_accepted types table n s with_ in_table) short.0 short.1

@@ -1,5 +1,6 @@
 -- Rows of tables, what their symbols begin with after a reload, and that this makes the reloaded image.
-use Rattle.std.proofs.Common.{◌≡◌, ◌≢◌, ℕ, ◌+◌, ◌≤◌, List, [], ◌∷◌, map, length, drop, get_or, true, false, refl, sym, ◌∙◌, ap, subst, inl, inr, arith, length-drop}
+use Rattle.std.proofs.Common.{◌≡◌, ◌≢◌, ℕ, ◌+◌, ◌≤◌, List, [], ◌∷◌, map, length, drop, get_or, true, false}
+use Rattle.std.proofs.Common.{refl, sym, ◌∙◌, ap, subst, inl, inr, arith, length-drop}
 use Rattle.std.specs.Prelude.{Bool, Some, None, slice_get, option_map, find, if◌then◌else◌, ◌&&◌, nat_le, nat_lt}
 use Rattle.std.specs.List.{All, position, position_or_len}
 use Rattle.std.proofs.lemmas.Bool.{cases_Bool, and_parts, ltb-false}
@@ -83,7 +84,8 @@ length-image_bytes sizes image area offset len long within =
 pub found-number : {X : Type 0} (test : X → Bool) (xs : List X) (n : ℕ) → position test xs ≡ Some n → find test xs ≡ slice_get xs n
 found-number {X} test xs n e =
     elim (cases_Bool (nat_lt (position_or_len test xs) (length xs))) [
-      | inl t ↦ let f : Some (position_or_len test xs) ≡ Some n = rw t at e in let same : position_or_len test xs ≡ n = cc in find_at test xs ∙ ap (slice_get xs) same
+      | inl t ↦ let f : Some (position_or_len test xs) ≡ Some n = rw t at e in
+          let same : position_or_len test xs ≡ n = cc in find_at test xs ∙ ap (slice_get xs) same
       | inr t ↦ let f : None ≡ Some n = rw t at e in cc
     ]
 
@@ -94,7 +96,8 @@ found-no_number {X} test xs e =
       | inr t ↦ find_at test xs ∙ slice_get_past xs (position_or_len test xs) (ltb-false (position_or_len test xs) (length xs) t)
     ]
 
-pub called-number : (name : List ℕ) (symbols : List TableSymbol) (n : ℕ) → number_called name symbols ≡ Some n → symbol_called name symbols ≡ slice_get symbols n
+pub called-number : (name : List ℕ) (symbols : List TableSymbol) (n : ℕ)
+    → number_called name symbols ≡ Some n → symbol_called name symbols ≡ slice_get symbols n
 called-number name symbols n e = found-number (is_called name) symbols n e
 
 pub called-none : (name : List ℕ) (symbols : List TableSymbol) → number_called name symbols ≡ None → symbol_called name symbols ≡ None
@@ -110,7 +113,8 @@ row_called rows symbols name n r same e is =
     slice_get-get_or rows n r (omega (arith, below, many)) ∙ ap (λ x. Some x) (sym is)
 
 -- what a symbol begins with, told by the row of its name
-pub reloaded-none : (types : List NamedType) (m : PortMemory) (t : TableSymbol) → symbol_called t.name m.table.symbols ≡ None → reloaded_bytes types m t ≡ t.initial
+pub reloaded-none : (types : List NamedType) (m : PortMemory) (t : TableSymbol)
+    → symbol_called t.name m.table.symbols ≡ None → reloaded_bytes types m t ≡ t.initial
 reloaded-none types m t e = ap (bytes_behind types m t) e
 
 pub reloaded-some : (types : List NamedType) (m : PortMemory) (s t : TableSymbol) (same : Bool) → symbol_called t.name m.table.symbols ≡ Some s

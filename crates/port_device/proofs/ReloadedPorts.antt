@@ -144,7 +144,8 @@ reloaded-holds w old d types version port m h sound e v p new =
           (reloaded-bytes w old d types version port new.first h sound p f);
     }
 
-reloaded-each : (w : World) (old : PortsMemory) (d : Description) (types : List NamedType) (version : ℕ) (ps : List Port) (ms : List PortMemory) → HoldsPorts w old
+reloaded-each : (w : World) (old : PortsMemory) (d : Description) (types : List NamedType) (version : ℕ) (ps : List Port) (ms : List PortMemory)
+    → HoldsPorts w old
     → IsSoundPlant (plant_of d) → d.types ≡ types → (w.version + 1) % 256 ≡ version → Each (IsSoundPort (plant_of d).ports) (map (plant_port types) ps)
     → AreReloadedPorts old.ports types version ps ms → HoldEach (world_after_reload w d) (map (plant_port types) ps) ms
 reloaded-each w old d types version [] [] h sound e v ports new = tt

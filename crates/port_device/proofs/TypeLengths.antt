@@ -6,7 +6,8 @@ use Rattle.std.proofs.lemmas.Bool.{and_parts}
 use Rattle.std.proofs.lemmas.List.{length-append, length-map}
 use Rattle.spec_plant.specs.Listed.{NamedType, Structure, Enumeration}
 use Rattle.spec_plant.specs.Plain.{kind_name}
-use Rattle.spec_plant.specs.Trees.{TypeTree, PlainTree, TextTree, EnumTree, ArrayTree, StructTree, MemberTrees, NoMember, MemberTree, named_tree, trees_behind, trees_of}
+use Rattle.spec_plant.specs.Trees.{TypeTree, PlainTree, TextTree, EnumTree, ArrayTree, StructTree, MemberTrees}
+use Rattle.spec_plant.specs.Trees.{NoMember, MemberTree, named_tree, trees_behind, trees_of}
 use Rattle.spec_plant.specs.Sizes.{type_size, member_start}
 use Rattle.spec_plant.specs.Sound.{Each}
 use Rattle.spec_plant.specs.AcceptedTypes.{AreTypes, are_types_behind, is_next_type, has_parts}

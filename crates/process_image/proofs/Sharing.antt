@@ -39,8 +39,10 @@ module _ {M : Type 1} {𝓤 : Ura M} (𝓛 : Logic 𝓤) (l : Lft) (inc : Incl l
 
   pub Lends-block : (p : Ptr) (bytes : List ℕ) (room : ℕ) → Lends 𝓛 (block_owned p bytes room) (block_lent p bytes room) l
   Lends-block (block_ptr b o) bytes room =
-      Lends-both 𝓛 (fit bytes room) (fsep (cells (mem u8) bytes b o) (froom (bytes_type room) b (length bytes + o))) (said (fit bytes room)) (elements_shared u8 bytes b o) l
-      (Lends-said 𝓛 (fit bytes room) tt l) (Lends-first 𝓛 (cells (mem u8) bytes b o) (froom (bytes_type room) b (length bytes + o)) (elements_shared u8 bytes b o) l (Lends-bytes b o bytes))
+      Lends-both 𝓛 (fit bytes room) (fsep (cells (mem u8) bytes b o) (froom (bytes_type room) b (length bytes + o)))
+      (said (fit bytes room)) (elements_shared u8 bytes b o) l
+      (Lends-said 𝓛 (fit bytes room) tt l)
+      (Lends-first 𝓛 (cells (mem u8) bytes b o) (froom (bytes_type room) b (length bytes + o)) (elements_shared u8 bytes b o) l (Lends-bytes b o bytes))
   Lends-block null_ptr bytes room = Lends-false 𝓛 (said ffalse) l
 
 byte-send : IsSend u8

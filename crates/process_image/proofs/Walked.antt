@@ -9,7 +9,8 @@ use Rattle.process_image.specs.Spans.{IsWalk}
 use Rattle.process_image.specs.Walked.{walked, FitSpans, StandIn, IsOutside}
 use Rattle.process_image.proofs.Walks.{IsWalk-le}
 
-length-with_part : (bytes : List ℕ) (at len : ℕ) (part : List ℕ) → length part ≡ len → at + len ≤ length bytes → length (with_part bytes at len part) ≡ length bytes
+length-with_part : (bytes : List ℕ) (at len : ℕ) (part : List ℕ) → length part ≡ len
+    → at + len ≤ length bytes → length (with_part bytes at len part) ≡ length bytes
 length-with_part bytes at len part long within =
     let rest = drop (at + len) bytes in
     omega (arith, long, within, length-append (take at bytes) (part ++ rest), length-append part rest, length-take at bytes, length-drop (at + len) bytes)
@@ -62,7 +63,8 @@ outside-with_part bytes at len part k long within (inr behind) =
     ∙ (get_or-append_right part rest len (k - at) 0 long (omega (arith, behind))
     ∙ (get_or-drop (at + len) bytes (k - at - len) 0 ∙ ap (λ j. get_or bytes j 0) back))
 
-pub outside-walked : (bytes : List ℕ) (spans : List Span) (parts : List (List ℕ)) (from k : ℕ) → IsWalk spans from (length bytes) → FitSpans parts spans → IsOutside k spans
+pub outside-walked : (bytes : List ℕ) (spans : List Span) (parts : List (List ℕ)) (from k : ℕ)
+    → IsWalk spans from (length bytes) → FitSpans parts spans → IsOutside k spans
     → get_or (walked bytes spans parts) k 0 ≡ get_or bytes k 0
 outside-walked bytes [] parts from k walk fit out = refl
 outside-walked bytes (s ∷ spans) [] from k walk fit out = refl

@@ -1,5 +1,6 @@
 -- A log that goes on being answered by a script.
-use Rattle.std.proofs.Common.{◌≡◌, ℕ, ◌+◌, ◌<◌, ◌≤◌, List, [], ◌∷◌, ◌++◌, length, drop, suc, true, false, refl, sym, ap, ◌∙◌, subst, append_assoc, append-nil, add-one, inl, inr, arith}
+use Rattle.std.proofs.Common.{◌≡◌, ℕ, ◌+◌, ◌<◌, ◌≤◌, List, [], ◌∷◌, ◌++◌, length, drop, suc, true, false, refl}
+use Rattle.std.proofs.Common.{sym, ap, ◌∙◌, subst, append_assoc, append-nil, add-one, inl, inr, arith}
 use Rattle.std.specs.Prelude.{Bool, not, ◌||◌, ◌==◌, Some, None, slice_get, IsTrue}
 use Rattle.std.proofs.Math.Seq.{drop-cons}
 use Rattle.std.proofs.lemmas.List.{drop_all}
@@ -39,13 +40,17 @@ none_left (line ∷ lines) i e = elim (cases_lt i (length (line ∷ lines))) [
   | inr past ↦ drop_all i (line ∷ lines) past
 ]
 
-few_same : (lines left : List ScriptLine) (log : List Move) (m : Move) → events_in (m ∷ []) ≡ 0 → events_in log + length left ≤ length lines → events_in (log ++ m ∷ []) + length left ≤ length lines
+few_same : (lines left : List ScriptLine) (log : List Move) (m : Move) → events_in (m ∷ []) ≡ 0
+    → events_in log + length left ≤ length lines → events_in (log ++ m ∷ []) + length left ≤ length lines
 few_same lines left log m none few = omega (arith, events-append log (m ∷ []), none, few)
 
-few_next : (lines left rest : List ScriptLine) (line : ScriptLine) (log : List Move) (m : Move) → events_in (m ∷ []) ≡ 1 → left ≡ line ∷ rest → events_in log + length left ≤ length lines → events_in (log ++ m ∷ []) + length rest ≤ length lines
-few_next lines left rest line log m one is few = let shorter : length left ≡ length rest + 1 = ap length is ∙ (omega arith) in omega (arith, events-append log (m ∷ []), one, few, shorter)
+few_next : (lines left rest : List ScriptLine) (line : ScriptLine) (log : List Move) (m : Move) → events_in (m ∷ []) ≡ 1
+    → left ≡ line ∷ rest → events_in log + length left ≤ length lines → events_in (log ++ m ∷ []) + length rest ≤ length lines
+few_next lines left rest line log m one is few = let shorter : length left ≡ length rest + 1 =
+    ap length is ∙ (omega arith) in omega (arith, events-append log (m ∷ []), one, few, shorter)
 
-few_passed : (lines left rest : List ScriptLine) (line : ScriptLine) (log : List Move) → left ≡ line ∷ rest → events_in log + length left ≤ length lines → events_in log + length rest ≤ length lines
+few_passed : (lines left rest : List ScriptLine) (line : ScriptLine) (log : List Move) → left ≡ line ∷ rest
+    → events_in log + length left ≤ length lines → events_in log + length rest ≤ length lines
 few_passed lines left rest line log is few = let shorter : length left ≡ length rest + 1 = ap length is ∙ (omega arith) in omega (arith, few, shorter)
 
 -- the play begins
@@ -61,14 +66,16 @@ plays_first lines rooms holds new = record {
 }
 
 -- End was answered
-pub played_over : (lines left : List ScriptLine) (log : List Move) (rooms : Rooms) (failing : List ℕ) (looking : Bool) (ends : ℕ) → PlaysOn lines left log rooms failing looking ends → 0 < ends → AnsweredBy first_peers lines log
+pub played_over : (lines left : List ScriptLine) (log : List Move) (rooms : Rooms) (failing : List ℕ) (looking : Bool) (ends : ℕ)
+    → PlaysOn lines left log rooms failing looking ends → 0 < ends → AnsweredBy first_peers lines log
 unfolding AnsweredBy
 played_over lines left log rooms failing looking ends plays over =
     let P : List ScriptLine → Type 0 = λ ls. AnsweredBy plays.peers ls [] in
     subst (AnsweredBy first_peers lines) (append-nil log) (plays.so_far [] (λ e. tt) (subst P (sym (plays.over over)) refl))
 
 -- End is answered
-pub plays_to_end : (lines left : List ScriptLine) (log : List Move) (rooms : Rooms) (failing : List ℕ) (looking : Bool) (ends more : ℕ) → PlaysOn lines left log rooms failing looking ends → left ≡ [] → PlaysOn lines left log rooms failing looking more
+pub plays_to_end : (lines left : List ScriptLine) (log : List Move) (rooms : Rooms) (failing : List ℕ) (looking : Bool) (ends more : ℕ)
+    → PlaysOn lines left log rooms failing looking ends → left ≡ [] → PlaysOn lines left log rooms failing looking more
 plays_to_end lines left log rooms failing looking ends more plays none = record {
   peers = plays.peers;
   so_far = plays.so_far;
@@ -79,15 +86,18 @@ plays_to_end lines left log rooms failing looking ends more plays none = record 
   few = plays.few;
 }
 
-behind_log : (lines : List ScriptLine) (log : List Move) (m : Move) (ms : List Move) → AnsweredBy first_peers lines (log ++ m ∷ ms) → AnsweredBy first_peers lines ((log ++ m ∷ []) ++ ms)
+behind_log : (lines : List ScriptLine) (log : List Move) (m : Move) (ms : List Move)
+    → AnsweredBy first_peers lines (log ++ m ∷ ms) → AnsweredBy first_peers lines ((log ++ m ∷ []) ++ ms)
 behind_log lines log m ms answered = subst (AnsweredBy first_peers lines) (sym (append_assoc log (m ∷ []) ms)) answered
 
 not_looking : (ms : List Move) (looking : Bool) → looking ≡ false → looking ≡ true → BeginsTurn ms
 not_looking ms looking e f = let both = sym e ∙ f in cc
 
 -- an offer was taken
-pub plays_took : (lines left : List ScriptLine) (log : List Move) (rooms after : Rooms) (failing : List ℕ) (looking : Bool) (ends c offered : ℕ) (bytes : List ℕ) → PlaysOn lines left log rooms failing looking ends → looking ≡ false → is_listed c failing ≡ false
-    → ((rs : List Room) → HoldsRooms rooms rs → length bytes ≡ taken_by rs c offered) → ((rs : List Room) → HoldsRooms rooms rs → HoldsRooms after (rooms_after rs c (length bytes)))
+pub plays_took : (lines left : List ScriptLine) (log : List Move) (rooms after : Rooms) (failing : List ℕ) (looking : Bool)
+    (ends c offered : ℕ) (bytes : List ℕ) → PlaysOn lines left log rooms failing looking ends → looking ≡ false → is_listed c failing ≡ false
+    → ((rs : List Room) → HoldsRooms rooms rs → length bytes ≡ taken_by rs c offered)
+    → ((rs : List Room) → HoldsRooms rooms rs → HoldsRooms after (rooms_after rs c (length bytes)))
     → PlaysOn lines left (log ++ move.Took c offered bytes ∷ []) after failing looking ends
 unfolding AnsweredBy
 plays_took lines left log rooms after failing looking ends c offered bytes plays none free took taken =
@@ -105,7 +115,8 @@ plays_took lines left log rooms after failing looking ends c offered bytes plays
     }
 
 -- an offer failed
-pub plays_lost : (lines left : List ScriptLine) (log : List Move) (rooms : Rooms) (failing : List ℕ) (looking : Bool) (ends c : ℕ) → PlaysOn lines left log rooms failing looking ends → looking ≡ false → is_listed c failing ≡ true
+pub plays_lost : (lines left : List ScriptLine) (log : List Move) (rooms : Rooms) (failing : List ℕ) (looking : Bool) (ends c : ℕ)
+    → PlaysOn lines left log rooms failing looking ends → looking ≡ false → is_listed c failing ≡ true
     → PlaysOn lines left (log ++ move.Lost c ∷ []) rooms failing looking ends
 unfolding AnsweredBy
 plays_lost lines left log rooms failing looking ends c plays none fails =
@@ -113,7 +124,8 @@ plays_lost lines left log rooms failing looking ends c plays none fails =
     let O : List ℕ → Type 0 = λ opened. OpenNew opened left in
     record {
       peers = peers_after_move plays.peers m;
-      so_far = λ ms begins answered. behind_log lines log m ms (plays.so_far (m ∷ ms) (not_looking (m ∷ ms) looking none) (sym (plays.failing_are c) ∙ fails, answered));
+      so_far = λ ms begins answered. behind_log lines log m ms
+          (plays.so_far (m ∷ ms) (not_looking (m ∷ ms) looking none) (sym (plays.failing_are c) ∙ fails, answered));
       rooms_are = plays.rooms_are;
       failing_are = plays.failing_are;
       new = subst O (sym (same_opened log m refl)) plays.new;
@@ -122,7 +134,8 @@ plays_lost lines left log rooms failing looking ends c plays none fails =
     }
 
 -- a connection was shut
-pub plays_shut : (lines left : List ScriptLine) (log : List Move) (rooms : Rooms) (failing : List ℕ) (looking : Bool) (ends c : ℕ) → PlaysOn lines left log rooms failing looking ends → looking ≡ false → PlaysOn lines left (log ++ move.Shut c ∷ []) rooms failing looking ends
+pub plays_shut : (lines left : List ScriptLine) (log : List Move) (rooms : Rooms) (failing : List ℕ) (looking : Bool) (ends c : ℕ)
+    → PlaysOn lines left log rooms failing looking ends → looking ≡ false → PlaysOn lines left (log ++ move.Shut c ∷ []) rooms failing looking ends
 unfolding AnsweredBy
 plays_shut lines left log rooms failing looking ends c plays none =
     let m = move.Shut c in
@@ -155,16 +168,19 @@ line_is_new (event.Tick t) rest opened new = refl
 line_is_new (event.Reload bytes) rest opened new = refl
 line_is_new (event.Writable c) rest opened new = refl
 
-not_over : {X : Type 0} (left : List ScriptLine) (line : ScriptLine) (rest : List ScriptLine) (ends : ℕ) → left ≡ line ∷ rest → (0 < ends → left ≡ []) → 0 < ends → X
+not_over : {X : Type 0} (left : List ScriptLine) (line : ScriptLine) (rest : List ScriptLine) (ends : ℕ)
+    → left ≡ line ∷ rest → (0 < ends → left ≡ []) → 0 < ends → X
 not_over left line rest ends is over e = let both : line ∷ rest ≡ [] = sym is ∙ over e in cc
 
 -- an event was given
-pub plays_event : (lines left rest : List ScriptLine) (log : List Move) (rooms : Rooms) (failing : List ℕ) (looking : Bool) (ends : ℕ) (e : Event) → left ≡ Happens e ∷ rest → PlaysOn lines left log rooms failing looking ends
+pub plays_event : (lines left rest : List ScriptLine) (log : List Move) (rooms : Rooms) (failing : List ℕ) (looking : Bool) (ends : ℕ) (e : Event)
+    → left ≡ Happens e ∷ rest → PlaysOn lines left log rooms failing looking ends
     → PlaysOn lines rest (log ++ move.Event e ∷ []) rooms failing false ends
 unfolding AnsweredBy OpenNew
 plays_event lines left rest log rooms failing looking ends e is plays =
     let m = move.Event e in
-    let P : List ScriptLine → Type 0 = λ ls. (ms : List Move) → (looking ≡ true → BeginsTurn ms) → AnsweredBy plays.peers ls ms → AnsweredBy first_peers lines (log ++ ms) in
+    let P : List ScriptLine → Type 0 = λ ls. (ms : List Move) → (looking ≡ true → BeginsTurn ms)
+    → AnsweredBy plays.peers ls ms → AnsweredBy first_peers lines (log ++ ms) in
     let so_far : P (Happens e ∷ rest) = subst P is plays.so_far in
     let N : List ScriptLine → Type 0 = λ ls. OpenNew (opened_in log) ls in
     let new : N (Happens e ∷ rest) = subst N is plays.new in
@@ -180,12 +196,15 @@ plays_event lines left rest log rooms failing looking ends e is plays =
     }
 
 -- a connection has a room, and is writable
-pub plays_room : (lines left rest : List ScriptLine) (log : List Move) (rooms after : Rooms) (failing : List ℕ) (looking : Bool) (ends c n : ℕ) → left ≡ TakesAtMost c n ∷ rest → PlaysOn lines left log rooms failing looking ends
-    → ((rs : List Room) → HoldsRooms rooms rs → HoldsRooms after (record { number = c; left = n } ∷ rs)) → PlaysOn lines rest (log ++ move.Event (event.Writable c) ∷ []) after failing false ends
+pub plays_room : (lines left rest : List ScriptLine) (log : List Move) (rooms after : Rooms) (failing : List ℕ) (looking : Bool) (ends c n : ℕ)
+    → left ≡ TakesAtMost c n ∷ rest → PlaysOn lines left log rooms failing looking ends
+    → ((rs : List Room) → HoldsRooms rooms rs → HoldsRooms after (record { number = c; left = n } ∷ rs))
+    → PlaysOn lines rest (log ++ move.Event (event.Writable c) ∷ []) after failing false ends
 unfolding AnsweredBy OpenNew
 plays_room lines left rest log rooms after failing looking ends c n is plays set =
     let m = move.Event (event.Writable c) in
-    let P : List ScriptLine → Type 0 = λ ls. (ms : List Move) → (looking ≡ true → BeginsTurn ms) → AnsweredBy plays.peers ls ms → AnsweredBy first_peers lines (log ++ ms) in
+    let P : List ScriptLine → Type 0 = λ ls. (ms : List Move) → (looking ≡ true → BeginsTurn ms)
+    → AnsweredBy plays.peers ls ms → AnsweredBy first_peers lines (log ++ ms) in
     let so_far : P (TakesAtMost c n ∷ rest) = subst P is plays.so_far in
     let N : List ScriptLine → Type 0 = λ ls. OpenNew (opened_in log) ls in
     let new : N (TakesAtMost c n ∷ rest) = subst N is plays.new in
@@ -201,7 +220,8 @@ plays_room lines left rest log rooms after failing looking ends c n is plays set
     }
 
 -- the next offer to a connection fails
-pub fails_answered : (peers : Peers) (c : ℕ) (rest : List ScriptLine) (ms : List Move) → BeginsTurn ms → AnsweredBy (with_failing c peers) rest ms → AnsweredBy peers (FailsNext c ∷ rest) ms
+pub fails_answered : (peers : Peers) (c : ℕ) (rest : List ScriptLine) (ms : List Move)
+    → BeginsTurn ms → AnsweredBy (with_failing c peers) rest ms → AnsweredBy peers (FailsNext c ∷ rest) ms
 unfolding AnsweredBy
 fails_answered peers c rest [] begins answered = answered
 fails_answered peers c rest (move.Event e ∷ ms) begins answered = answered
@@ -209,12 +229,14 @@ fails_answered peers c rest (move.Took d offered bytes ∷ ms) begins answered =
 fails_answered peers c rest (move.Lost d ∷ ms) begins answered = absurd begins
 fails_answered peers c rest (move.Shut d ∷ ms) begins answered = absurd begins
 
-pub plays_fail : (lines left rest : List ScriptLine) (log : List Move) (rooms : Rooms) (failing after : List ℕ) (looking : Bool) (ends c : ℕ) → left ≡ FailsNext c ∷ rest → PlaysOn lines left log rooms failing looking ends
+pub plays_fail : (lines left rest : List ScriptLine) (log : List Move) (rooms : Rooms) (failing after : List ℕ) (looking : Bool) (ends c : ℕ)
+    → left ≡ FailsNext c ∷ rest → PlaysOn lines left log rooms failing looking ends
     → ((peers : Peers) → ((d : ℕ) → is_listed d failing ≡ is_among d peers.failing) → (d : ℕ) → is_listed d after ≡ is_among d (c ∷ peers.failing))
     → PlaysOn lines rest log rooms after true ends
 unfolding OpenNew
 plays_fail lines left rest log rooms failing after looking ends c is plays listed =
-    let P : List ScriptLine → Type 0 = λ ls. (ms : List Move) → (looking ≡ true → BeginsTurn ms) → AnsweredBy plays.peers ls ms → AnsweredBy first_peers lines (log ++ ms) in
+    let P : List ScriptLine → Type 0 = λ ls. (ms : List Move) → (looking ≡ true → BeginsTurn ms)
+    → AnsweredBy plays.peers ls ms → AnsweredBy first_peers lines (log ++ ms) in
     let so_far : P (FailsNext c ∷ rest) = subst P is plays.so_far in
     let N : List ScriptLine → Type 0 = λ ls. OpenNew (opened_in log) ls in
     let new : N (FailsNext c ∷ rest) = subst N is plays.new in
@@ -236,19 +258,23 @@ or_last false true = refl
 or_last false false = refl
 
 -- a number more
-pub listed_more : (c : ℕ) (failing : List ℕ) (peers : Peers) → ((d : ℕ) → is_listed d failing ≡ is_among d peers.failing) → (d : ℕ) → is_listed d (failing ++ c ∷ []) ≡ is_among d (c ∷ peers.failing)
+pub listed_more : (c : ℕ) (failing : List ℕ) (peers : Peers) → ((d : ℕ) → is_listed d failing ≡ is_among d peers.failing)
+    → (d : ℕ) → is_listed d (failing ++ c ∷ []) ≡ is_among d (c ∷ peers.failing)
 listed_more c failing peers same d =
     list_any-append (λ n. n == d) failing (c ∷ []) ∙ (or_last (is_listed d failing) (c == d) ∙ ap (λ b. (c == d) || b) (same d))
 
 -- one that is there already
-pub listed_again : (c : ℕ) (failing : List ℕ) → is_listed c failing ≡ true → (peers : Peers) → ((d : ℕ) → is_listed d failing ≡ is_among d peers.failing) → (d : ℕ) → is_listed d failing ≡ is_among d (c ∷ peers.failing)
+pub listed_again : (c : ℕ) (failing : List ℕ) → is_listed c failing ≡ true → (peers : Peers)
+    → ((d : ℕ) → is_listed d failing ≡ is_among d peers.failing) → (d : ℕ) → is_listed d failing ≡ is_among d (c ∷ peers.failing)
 listed_again c failing there peers same d = elim (cases_eq c d) [
   | inl e ↦ (let t = test_same c d e in rw t (sym (ap (λ n. is_listed n failing) e) ∙ there))
   | inr e ↦ (let t = test_other c d e in rw t (same d))
 ]
 
 -- rooms that are kept otherwise
-pub plays_rooms : (lines left : List ScriptLine) (log : List Move) (rooms after : Rooms) (failing : List ℕ) (looking : Bool) (ends : ℕ) → PlaysOn lines left log rooms failing looking ends → ((rs : List Room) → HoldsRooms rooms rs → HoldsRooms after rs) → PlaysOn lines left log after failing looking ends
+pub plays_rooms : (lines left : List ScriptLine) (log : List Move) (rooms after : Rooms) (failing : List ℕ) (looking : Bool) (ends : ℕ)
+    → PlaysOn lines left log rooms failing looking ends → ((rs : List Room) → HoldsRooms rooms rs → HoldsRooms after rs)
+    → PlaysOn lines left log after failing looking ends
 plays_rooms lines left log rooms after failing looking ends plays same = record {
   peers = plays.peers;
   so_far = plays.so_far;

@@ -33,7 +33,8 @@ read_more peers after line lines log more rest so = record {
   answered = so rest.read rest.answered;
 }
 
-event_first : (e : Event) (log later : List Move) → Cuts log later → (lines : List ScriptLine) (peers : Peers) → AnsweredBy peers lines (move.Event e ∷ (log ++ later)) → AnsweredSoFar peers lines (move.Event e ∷ log)
+event_first : (e : Event) (log later : List Move) → Cuts log later → (lines : List ScriptLine) (peers : Peers)
+    → AnsweredBy peers lines (move.Event e ∷ (log ++ later)) → AnsweredSoFar peers lines (move.Event e ∷ log)
 unfolding AnsweredBy
 event_first e log later again [] peers answered = absurd answered
 event_first e log later again (Happens d ∷ lines) peers answered =
@@ -43,10 +44,12 @@ event_first e log later again (TakesAtMost c n ∷ lines) peers answered =
     let after = peers_after_move (with_room c n peers) (move.Event e) in
     read_more peers after (TakesAtMost c n) lines log (move.Event e ∷ log) (again after lines answered.1) (λ ls so. (answered.0, so))
 event_first e log later again (FailsNext c ∷ lines) peers answered =
-    read_more peers (with_failing c peers) (FailsNext c) lines (move.Event e ∷ log) (move.Event e ∷ log) (event_first e log later again lines (with_failing c peers) answered) (λ ls so. so)
+    read_more peers (with_failing c peers) (FailsNext c) lines (move.Event e ∷ log) (move.Event e ∷ log)
+    (event_first e log later again lines (with_failing c peers) answered) (λ ls so. so)
 
 -- an offer or an end first
-offer_first : (m : Move) (log : List Move) (peers after : Peers) (lines : List ScriptLine) → AnsweredSoFar after lines log → ((ls : List ScriptLine) → AnsweredBy after ls log → AnsweredBy peers ls (m ∷ log))
+offer_first : (m : Move) (log : List Move) (peers after : Peers) (lines : List ScriptLine)
+    → AnsweredSoFar after lines log → ((ls : List ScriptLine) → AnsweredBy after ls log → AnsweredBy peers ls (m ∷ log))
     → AnsweredSoFar peers lines (m ∷ log)
 offer_first m log peers after lines rest so = record { read = rest.read; left = rest.left; whole = rest.whole; answered = so rest.read rest.answered }
 
@@ -68,7 +71,8 @@ cut_answered (move.Shut c ∷ log) later peers lines answered =
     offer_first m log peers after lines (cut_answered log later after lines answered.1) (λ ls so. (answered.0, so))
 
 -- what was read is a first part still where less is looked at
-still_first : (peers : Peers) (lines read left : List ScriptLine) (log : List Move) → lines ≡ read ++ left → AnsweredSoFar peers read log → AnsweredSoFar peers lines log
+still_first : (peers : Peers) (lines read left : List ScriptLine) (log : List Move)
+    → lines ≡ read ++ left → AnsweredSoFar peers read log → AnsweredSoFar peers lines log
 still_first peers lines read left log whole first = record {
   read = first.read;
   left = first.left ++ left;
@@ -102,7 +106,8 @@ bare_answered (TakesAtMost c n ∷ lines) peers = (refl, bare_answered lines (pe
 bare_answered (FailsNext c ∷ lines) peers = fails_answered peers c lines (bare_events lines) (bare_begin lines) (bare_answered lines (with_failing c peers))
 
 -- the log of a wire that plays a script
-pub plays_so_far : (lines left : List ScriptLine) (log : List Move) (rooms : Rooms) (failing : List ℕ) (looking : Bool) (ends : ℕ) → PlaysOn lines left log rooms failing looking ends → AnsweredSoFar first_peers lines log
+pub plays_so_far : (lines left : List ScriptLine) (log : List Move) (rooms : Rooms) (failing : List ℕ) (looking : Bool) (ends : ℕ)
+    → PlaysOn lines left log rooms failing looking ends → AnsweredSoFar first_peers lines log
 plays_so_far lines left log rooms failing looking ends plays =
     cut_answered log (bare_events left) first_peers lines (plays.so_far (bare_events left) (λ e. bare_begin left) (bare_answered left plays.peers))
 

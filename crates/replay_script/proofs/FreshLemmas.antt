@@ -1,5 +1,7 @@
 -- Each line of a script opens a number that no line before it opens.
-use Rattle.std.proofs.Common.{codes, nat_lt, length, if◌then◌else◌, ◌≡◌, ℕ, ◌+◌, Bool, true, false, not, ◌&&◌, cond, List, [], ◌∷◌, ◌++◌, append_assoc, append-nil, Option, Some, None, Result, Ok, Err, IfSome, IfOk, refl, sym, ap, ◌∙◌, subst}
+use Rattle.std.proofs.Common.{codes, nat_lt, length, if◌then◌else◌, ◌≡◌, ℕ, ◌+◌, Bool, true, false, not, ◌&&◌}
+use Rattle.std.proofs.Common.{cond, List, [], ◌∷◌, ◌++◌, append_assoc, append-nil, Option, Some, None, Result}
+use Rattle.std.proofs.Common.{Ok, Err, IfSome, IfOk, refl, sym, ap, ◌∙◌, subst}
 use Rattle.std.specs.Option.{option_map, option_and_then, option_map_or}
 use Rattle.std.specs.Str.{bytes_eq}
 use Rattle.ads_outside.specs.declared.event.Event.TheVariants as event
@@ -8,7 +10,9 @@ use Rattle.spec_machine.specs.Reading.{Reading, Block, nothing_read, is_among, o
 use Rattle.spec_machine.specs.ScriptLine.{ScriptLine, Happens, TakesAtMost, FailsNext}
 use Rattle.spec_machine.specs.ScriptLines.{lines_of, text_of, words_of}
 use Rattle.spec_machine.specs.ScriptWords.{number_of_word, connection_of_word, bytes_of_words}
-use Rattle.spec_machine.specs.Script.{open_connection, after_words, kind_of, after_built, after_line_of_words, is_blank_line, after_plain_line, after_text_line, after_line, said_by, script_after, script_of}
+use Rattle.spec_machine.specs.Script.{open_connection, after_words, kind_of, after_built, after_line_of_words}
+use Rattle.spec_machine.specs.Script.{is_blank_line, after_plain_line, after_text_line, after_line, said_by}
+use Rattle.spec_machine.specs.Script.{script_after, script_of}
 use Rattle.replay_script.specs.Fresh.{AreNew, OpenNew}
 
 -- the numbers that lines open
@@ -21,14 +25,17 @@ record IsFresh (r : Reading) : Type 0 where
   noted : (cs : List ℕ) → opened_in r.said ++ cs ≡ r.opened ++ cs
   new : OpenNew [] r.said
 
-opened_in-append : (lines : List ScriptLine) (line : ScriptLine) (cs : List ℕ) → opened_in (lines ++ line ∷ []) ++ cs ≡ opened_in lines ++ (opened_by line ++ cs)
+opened_in-append : (lines : List ScriptLine) (line : ScriptLine) (cs : List ℕ)
+    → opened_in (lines ++ line ∷ []) ++ cs ≡ opened_in lines ++ (opened_by line ++ cs)
 unfolding opened_in
 opened_in-append [] line cs = ap (λ os. os ++ cs) (append-nil (opened_by line))
 opened_in-append (l ∷ ls) line cs =
-    append_assoc (opened_by l) (opened_in (ls ++ line ∷ [])) cs ∙ (ap (λ os. opened_by l ++ os) (opened_in-append ls line cs) ∙ sym (append_assoc (opened_by l) (opened_in ls) (opened_by line ++ cs)))
+    append_assoc (opened_by l) (opened_in (ls ++ line ∷ [])) cs
+    ∙ (ap (λ os. opened_by l ++ os) (opened_in-append ls line cs) ∙ sym (append_assoc (opened_by l) (opened_in ls) (opened_by line ++ cs)))
 
 -- one more line that opens new numbers
-OpenNew-append : (opened : List ℕ) (lines : List ScriptLine) (line : ScriptLine) → OpenNew opened lines → AreNew (opened_by line) (opened ++ opened_in lines) → OpenNew opened (lines ++ line ∷ [])
+OpenNew-append : (opened : List ℕ) (lines : List ScriptLine) (line : ScriptLine) → OpenNew opened lines
+    → AreNew (opened_by line) (opened ++ opened_in lines) → OpenNew opened (lines ++ line ∷ [])
 unfolding OpenNew opened_in
 OpenNew-append opened [] line all new =
     let P : List ℕ → Type 0 = λ os. AreNew (opened_by line) os in
@@ -100,7 +107,8 @@ words_fresh built r kind words fresh = tt
 plain_fresh : (built : BuiltLines) (r : Reading) (words : List (List ℕ)) → IsFresh r → IfSome (after_line_of_words built r words) IsFresh
 plain_fresh built r [] fresh = tt
 plain_fresh built r (word ∷ words) fresh =
-    if_then (after_built built r words) (kind_of word) (λ kind. if_cond (built.is_built kind) (after_words built r kind words) None (words_fresh built r kind words fresh) tt)
+    if_then (after_built built r words) (kind_of word)
+    (λ kind. if_cond (built.is_built kind) (after_words built r kind words) None (words_fresh built r kind words fresh) tt)
 
 text_fresh : (b : Block) (line : List ℕ) (r : Reading) (ends : Bool) → IsFresh r → IsFresh (cond ends (reload_ended b r) (reload_goes_on b line r))
 text_fresh b line r true fresh = reload_fresh b r fresh
@@ -111,7 +119,8 @@ line_fresh built r line fresh = by_block r.block
   where
     by_block : (o : Option Block) → IfSome (option_map_or (λ b. Some (after_text_line b line r)) o (after_plain_line built r (text_of line))) IsFresh
     by_block (Some b) = text_fresh b line r (bytes_eq (text_of line) (codes ".")) fresh
-    by_block None = if_cond (built.is_built Blank && is_blank_line (text_of line)) (Some (one_more_line r)) (after_line_of_words built r (words_of (text_of line)))
+    by_block None = if_cond (built.is_built Blank && is_blank_line (text_of line))
+        (Some (one_more_line r)) (after_line_of_words built r (words_of (text_of line)))
         (same_fresh r (one_more_line r) fresh refl refl) (plain_fresh built r (words_of (text_of line)) fresh)
 
 said_by_fresh : (r : Reading) → IsFresh r → IfOk (said_by r) (OpenNew [])
@@ -121,7 +130,8 @@ said_by_fresh r fresh = by_block r.block
     by_block (Some b) = tt
     by_block None = fresh.new
 
-next_fresh : (f : Reading → Result (List ScriptLine) ℕ) (o : Option Reading) (n : ℕ) → IfSome o IsFresh → ((s : Reading) → IsFresh s → IfOk (f s) (OpenNew [])) → IfOk (option_map_or f o (Err n)) (OpenNew [])
+next_fresh : (f : Reading → Result (List ScriptLine) ℕ) (o : Option Reading) (n : ℕ) → IfSome o IsFresh
+    → ((s : Reading) → IsFresh s → IfOk (f s) (OpenNew [])) → IfOk (option_map_or f o (Err n)) (OpenNew [])
 next_fresh f None n some all = tt
 next_fresh f (Some s) n some all = all s some
 
@@ -129,7 +139,8 @@ after_fresh : (built : BuiltLines) (lines : List (List ℕ)) (r : Reading) → I
 unfolding script_after
 after_fresh built [] r fresh = said_by_fresh r fresh
 after_fresh built (line ∷ lines) r fresh =
-    next_fresh (λ s. script_after built s lines) (after_line built r line) (r.lines + 1) (line_fresh built r line fresh) (λ s more. after_fresh built lines s more)
+    next_fresh (λ s. script_after built s lines) (after_line built r line) (r.lines + 1)
+    (line_fresh built r line fresh) (λ s more. after_fresh built lines s more)
 
 nothing_fresh : IsFresh nothing_read
 unfolding OpenNew opened_in

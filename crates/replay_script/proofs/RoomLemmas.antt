@@ -49,7 +49,8 @@ takes_free rs c n found = sym (taken_by-room rs c n ∙ ap (λ o. taken_of o n) 
 -- a connection that is not bounded stays so
 pub free_after : (rs : List Room) (c n : ℕ) → None ≡ room_at rs c → (d : ℕ) → room_at rs d ≡ room_at (rooms_after rs c n) d
 free_after rs c n found d = elim (cases_eq c d) [
-  | inl e ↦ (let own : room_at (rooms_after rs c n) c ≡ room_at rs c = after-own rs c n ∙ (ap (option_map (λ left. left - n)) (sym found) ∙ found) in let P = ap (λ k. room_at rs k) e in sym P ∙ (sym own ∙ ap (λ k. room_at (rooms_after rs c n) k) e))
+  | inl e ↦ (let own : room_at (rooms_after rs c n) c ≡ room_at rs c = after-own rs c n ∙ (ap (option_map (λ left. left - n)) (sym found) ∙ found) in
+      let P = ap (λ k. room_at rs k) e in sym P ∙ (sym own ∙ ap (λ k. room_at (rooms_after rs c n) k) e))
   | inr e ↦ sym (after-other rs c n d e)
 ]
 
@@ -58,10 +59,12 @@ was_put (Ok v) put absent there = put
 was_put (Err e) put absent there = absurd (there absent)
 
 -- what is put in a map
-pub after_put : {S : Type 0} (rs : List Room) (c n left less : ℕ) (old new : IndexMap ℕ ℕ S) → get nat_eq old c ≡ Some left → less ≡ left - n → Updates nat_eq old new c (Some less)
+pub after_put : {S : Type 0} (rs : List Room) (c n left less : ℕ) (old new : IndexMap ℕ ℕ S)
+    → get nat_eq old c ≡ Some left → less ≡ left - n → Updates nat_eq old new c (Some less)
     → ((d : ℕ) → get nat_eq old d ≡ room_at rs d) → (d : ℕ) → get nat_eq new d ≡ room_at (rooms_after rs c n) d
 after_put rs c n left less old new found is put holds d = elim (cases_eq c d) [
-  | inl e ↦ (let here : get nat_eq new c ≡ room_at (rooms_after rs c n) c = put.1 ∙ (ap Some is ∙ sym (after-own rs c n ∙ ap (option_map (λ l. l - n)) (sym (holds c) ∙ found))) in
+  | inl e ↦ (let here : get nat_eq new c ≡ room_at (rooms_after rs c n) c = put.1
+      ∙ (ap Some is ∙ sym (after-own rs c n ∙ ap (option_map (λ l. l - n)) (sym (holds c) ∙ found))) in
       let P : ℕ → Type 0 = λ k. get nat_eq new k ≡ room_at (rooms_after rs c n) k in subst P e here)
   | inr e ↦ put.2 d (test_other c d e) ∙ (holds d ∙ sym (after-other rs c n d e))
 ]

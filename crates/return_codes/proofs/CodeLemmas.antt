@@ -3,7 +3,9 @@ use Rattle.std.proofs.Common.{◌≡◌, ℕ, eqb, List, [], ◌∷◌, map, Som
 use Rattle.std.specs.Prelude.{find, option_map}
 use Rattle.std.proofs.lemmas.Bool.Decides.{eqb_tells}
 use Rattle.return_codes.specs.declared.code.Code.{Code}
-use Rattle.return_codes.specs.declared.code.Code.TheVariants.{C6, C7, C8, CB, CE, C700, C701, C702, C703, C704, C705, C706, C710, C711, C713, C714, C716, C717, C744, C745, C754}
+use Rattle.return_codes.specs.declared.code.Code.TheVariants.{C6, C7, C8, CB, CE, C700, C701, C702, C703, C704}
+use Rattle.return_codes.specs.declared.code.Code.TheVariants.{C705, C706, C710, C711, C713, C714, C716, C717}
+use Rattle.return_codes.specs.declared.code.Code.TheVariants.{C744, C745, C754}
 use Rattle.spec_formats.specs.Codes.{CodeRow, code_table, text_in}
 use Rattle.return_codes.specs.Code.{number_of, all_codes, code_of, text_of, AreInverse, HasCodeWhereText}
 

@@ -2,8 +2,16 @@
 use Rattle.std.specs.Prelude.{◌≡◌, ℕ, Option, Some, List, [], ◌∷◌, ◌++◌, true, ◌==◌, find, codes, unwrap_or, option_map}
 use Rattle.std.specs.Fmt.{digits}
 use Rattle.return_codes.specs.declared.code.Code.{Code}
-use Rattle.return_codes.specs.declared.code.Code.TheVariants.{C6, C7, C8, CB, CE, C700, C701, C702, C703, C704, C705, C706, C710, C711, C713, C714, C716, C717, C744, C745, C754}
-use Rattle.spec_formats.specs.Codes.{text_of_code, target_port_not_found, target_machine_not_found, unknown_command_id, unknown_ams_command, invalid_ams_length, general_device_error, service_not_supported, invalid_group, invalid_offset, not_permitted, invalid_size, invalid_value, symbol_not_found, symbol_version_invalid, mode_not_supported, notification_handle_invalid, no_more_notifications, watch_too_big, invoke_id_in_use, timeout_elapsed, invalid_response}
+use Rattle.return_codes.specs.declared.code.Code.TheVariants.{C6, C7, C8, CB, CE, C700, C701, C702, C703, C704}
+use Rattle.return_codes.specs.declared.code.Code.TheVariants.{C705, C706, C710, C711, C713, C714, C716, C717}
+use Rattle.return_codes.specs.declared.code.Code.TheVariants.{C744, C745, C754}
+use Rattle.spec_formats.specs.Codes.{text_of_code, target_port_not_found, target_machine_not_found}
+use Rattle.spec_formats.specs.Codes.{unknown_command_id, unknown_ams_command, invalid_ams_length}
+use Rattle.spec_formats.specs.Codes.{general_device_error, service_not_supported, invalid_group}
+use Rattle.spec_formats.specs.Codes.{invalid_offset, not_permitted, invalid_size, invalid_value}
+use Rattle.spec_formats.specs.Codes.{symbol_not_found, symbol_version_invalid, mode_not_supported}
+use Rattle.spec_formats.specs.Codes.{notification_handle_invalid, no_more_notifications, watch_too_big}
+use Rattle.spec_formats.specs.Codes.{invoke_id_in_use, timeout_elapsed, invalid_response}
 
 abbrev pub number_of : Code → ℕ
 number_of C6 = target_port_not_found

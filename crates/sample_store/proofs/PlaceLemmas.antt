@@ -47,7 +47,8 @@ pub put_none : (rows : List Row) (row : Row) → None ≡ place_from 0 row.numbe
 put_none rows row none = sym (rows_after_put-place rows row ∙ ap (put_in rows row) (sym none))
 
 -- where it is new, a copy goes to its place
-pub put_some : (rows new : List Row) (row copy : Row) (at : ℕ) → Some at ≡ place_from 0 row.number rows → row_kept copy ≡ row_kept row → new ≡ insert rows at copy
+pub put_some : (rows new : List Row) (row copy : Row) (at : ℕ)
+    → Some at ≡ place_from 0 row.number rows → row_kept copy ≡ row_kept row → new ≡ insert rows at copy
     → map row_kept new ≡ rows_after_put (map row_kept rows) (row_kept row)
 put_some rows new row copy at place same is =
     let number : copy.number ≡ row.number = ap (λ r. r.number) same in

@@ -30,7 +30,8 @@ last_row-is [] = refl
 last_row-is (r ∷ []) = refl
 last_row-is (r ∷ (s ∷ rs)) = last_row-is (s ∷ rs)
 
-total_parts : (name : List ℕ) (rows : List Row) → total_of name (map row_kept rows) ≡ option_map (total_with_last (count_from 0 name rows)) (last_from None name rows)
+total_parts : (name : List ℕ) (rows : List Row)
+    → total_of name (map row_kept rows) ≡ option_map (total_with_last (count_from 0 name rows)) (last_from None name rows)
 unfolding total_of
 total_parts name rows =
     let named = rows_named name (map row_kept rows) in

@@ -24,12 +24,17 @@ more m o log told = ap (option_map (λ ms. ms ++ m ∷ [])) told
 pub log-after : (ms : List Move) (h : WireHistory) (log : List Move) → h.log ≡ Some log → (history_after h ms).log ≡ Some (log ++ ms)
 unfolding history_after
 log-after [] h log told = told ∙ ap Some (sym (append-nil log))
-log-after (move.Event e ∷ ms) h log told = log-after ms (event_given e h) (log ++ move.Event e ∷ []) (more (move.Event e) h.log log told) ∙ ap Some (append_assoc log (move.Event e ∷ []) ms)
+log-after (move.Event e ∷ ms) h log told =
+    log-after ms (event_given e h) (log ++ move.Event e ∷ []) (more (move.Event e) h.log log told) ∙ ap Some (append_assoc log (move.Event e ∷ []) ms)
 log-after (move.Took c offered bytes ∷ ms) h log told =
     let m = move.Took c offered bytes in
     log-after ms (history_after_move h m) (log ++ m ∷ []) (more m h.log log told) ∙ ap Some (append_assoc log (m ∷ []) ms)
-log-after (move.Lost c ∷ ms) h log told = log-after ms (history_after_move h (move.Lost c)) (log ++ move.Lost c ∷ []) (more (move.Lost c) h.log log told) ∙ ap Some (append_assoc log (move.Lost c ∷ []) ms)
-log-after (move.Shut c ∷ ms) h log told = log-after ms (history_after_move h (move.Shut c)) (log ++ move.Shut c ∷ []) (more (move.Shut c) h.log log told) ∙ ap Some (append_assoc log (move.Shut c ∷ []) ms)
+log-after (move.Lost c ∷ ms) h log told =
+    log-after ms (history_after_move h (move.Lost c)) (log ++ move.Lost c ∷ []) (more (move.Lost c) h.log log told)
+    ∙ ap Some (append_assoc log (move.Lost c ∷ []) ms)
+log-after (move.Shut c ∷ ms) h log told =
+    log-after ms (history_after_move h (move.Shut c)) (log ++ move.Shut c ∷ []) (more (move.Shut c) h.log log told)
+    ∙ ap Some (append_assoc log (move.Shut c ∷ []) ms)
 
 raised_again : (n k : ℕ) → raised_by n (raised k) ≡ raised_by (n + 1) k
 unfolding raised_by
@@ -51,11 +56,14 @@ record TurnsOf {W C : Type 0} (step : EventStep W C) (noted : Noting W C) (old_s
   turns : TakesTurns step noted old_serves new_serves old last count
   log : new.log ≡ last.log
 
-turns_of : {W C : Type 0} (step : EventStep W C) (noted : Noting W C) (old_serves new_serves : Standing W C → Type 0) (old new : WireState) (limit : ℕ) (r : End) → r ≢ end.Memory → AfterServe r step noted old_serves new_serves old new limit
+turns_of : {W C : Type 0} (step : EventStep W C) (noted : Noting W C) (old_serves new_serves : Standing W C → Type 0)
+    (old new : WireState) (limit : ℕ) (r : End) → r ≢ end.Memory → AfterServe r step noted old_serves new_serves old new limit
     → TurnsOf step noted old_serves new_serves old.history new.history
-turns_of step noted old_serves new_serves old new limit end.Done other after = record { last = after.last; count = after.count; turns = after.turns; log = ap (λ (h : WireHistory). h.log) after.then_ }
+turns_of step noted old_serves new_serves old new limit end.Done other after =
+    record { last = after.last; count = after.count; turns = after.turns; log = ap (λ (h : WireHistory). h.log) after.then_ }
 turns_of step noted old_serves new_serves old new limit end.Budget other after = record { last = new.history; count = limit; turns = after; log = refl }
-turns_of step noted old_serves new_serves old new limit end.LinkFault other after = record { last = after.last; count = after.count; turns = after.turns; log = ap (λ (h : WireHistory). h.log) after.then_.same }
+turns_of step noted old_serves new_serves old new limit end.LinkFault other after =
+    record { last = after.last; count = after.count; turns = after.turns; log = ap (λ (h : WireHistory). h.log) after.then_.same }
 turns_of step noted old_serves new_serves old new limit end.Memory other after = absurd (other refl)
 
 where_told : (o : Option (List Move)) (P : List Move → Type 0) → ((log : List Move) → o ≡ Some log → P log) → WhereTold o P
@@ -68,7 +76,8 @@ keeps_turns step x ms are none =
     record { turns = are.turns; whole = are.are; served = subst P none are.served }
 
 -- what is told of the turns
-pub logs_turns : {W C : Type 0} (step : EventStep W C) (noted : Noting W C) (old_serves new_serves : Standing W C → Type 0) (old new : WireState) (limit : ℕ) (r : End) → AfterServe r step noted old_serves new_serves old new limit → r ≢ end.Memory
+pub logs_turns : {W C : Type 0} (step : EventStep W C) (noted : Noting W C) (old_serves new_serves : Standing W C → Type 0)
+    (old new : WireState) (limit : ℕ) (r : End) → AfterServe r step noted old_serves new_serves old new limit → r ≢ end.Memory
     → (x : Standing W C) → StandsOver old_serves old.history.opened x → WhereTold old.history.log (λ log. LogsTurns step noted new_serves x log new.history.log)
 logs_turns step noted old_serves new_serves old new limit r after other x over =
     let of_ = turns_of step noted old_serves new_serves old new limit r other after in
@@ -79,7 +88,8 @@ logs_turns step noted old_serves new_serves old new limit r after other x over =
       keeps = keeps_turns step x.running of_.turns.moves (of_.turns.are x over);
     })
 
-offers_of : {W C : Type 0} (step : EventStep W C) (noted : Noting W C) (old_serves new_serves : Standing W C → Type 0) (old new : WireState) (limit : ℕ) (r : End) → r ≢ end.Memory → AfterServe r step noted old_serves new_serves old new limit
+offers_of : {W C : Type 0} (step : EventStep W C) (noted : Noting W C) (old_serves new_serves : Standing W C → Type 0)
+    (old new : WireState) (limit : ℕ) (r : End) → r ≢ end.Memory → AfterServe r step noted old_serves new_serves old new limit
     → (x : Standing W C) → StandsOver old_serves old.history.opened x → WhereTold old.history.log (λ log. LogsOffers step x.running.state log new.history.log)
 offers_of step noted old_serves new_serves old new limit r other after x over =
     let of_ = turns_of step noted old_serves new_serves old new limit r other after in
@@ -90,7 +100,8 @@ offers_of step noted old_serves new_serves old new limit r other after x over =
     })
 
 -- and of the offers, in every end
-pub logs_offers : {W C : Type 0} (step : EventStep W C) (noted : Noting W C) (old_serves new_serves : Standing W C → Type 0) (old new : WireState) (limit : ℕ) (r : End) → AfterServe r step noted old_serves new_serves old new limit
+pub logs_offers : {W C : Type 0} (step : EventStep W C) (noted : Noting W C) (old_serves new_serves : Standing W C → Type 0)
+    (old new : WireState) (limit : ℕ) (r : End) → AfterServe r step noted old_serves new_serves old new limit
     → (x : Standing W C) → StandsOver old_serves old.history.opened x → WhereTold old.history.log (λ log. LogsOffers step x.running.state log new.history.log)
 logs_offers step noted old_serves new_serves old new limit end.Memory after x over =
     where_told old.history.log (λ log. LogsOffers step x.running.state log new.history.log) (λ log told. record {
@@ -98,33 +109,48 @@ logs_offers step noted old_serves new_serves old new limit end.Memory after x ov
       told = ap (λ (h : WireHistory). h.log) after.breaks.logged ∙ log-after after.breaks.moves old.history log told;
       offers = after.breaks.are x over;
     })
-logs_offers step noted old_serves new_serves old new limit end.Done after x over = offers_of step noted old_serves new_serves old new limit end.Done (λ e. (cc)) after x over
-logs_offers step noted old_serves new_serves old new limit end.Budget after x over = offers_of step noted old_serves new_serves old new limit end.Budget (λ e. (cc)) after x over
-logs_offers step noted old_serves new_serves old new limit end.LinkFault after x over = offers_of step noted old_serves new_serves old new limit end.LinkFault (λ e. (cc)) after x over
+logs_offers step noted old_serves new_serves old new limit end.Done after x over =
+    offers_of step noted old_serves new_serves old new limit end.Done (λ e. (cc)) after x over
+logs_offers step noted old_serves new_serves old new limit end.Budget after x over =
+    offers_of step noted old_serves new_serves old new limit end.Budget (λ e. (cc)) after x over
+logs_offers step noted old_serves new_serves old new limit end.LinkFault after x over =
+    offers_of step noted old_serves new_serves old new limit end.LinkFault (λ e. (cc)) after x over
 
 -- the counts: of stops
-pub no_stops : {W C : Type 0} (step : EventStep W C) (noted : Noting W C) (old_serves new_serves : Standing W C → Type 0) (old new : WireState) (limit : ℕ) (r : End) → AfterServe r step noted old_serves new_serves old new limit → r ≢ end.LinkFault → new.history.stops ≡ old.history.stops
+pub no_stops : {W C : Type 0} (step : EventStep W C) (noted : Noting W C) (old_serves new_serves : Standing W C → Type 0)
+    (old new : WireState) (limit : ℕ) (r : End) → AfterServe r step noted old_serves new_serves old new limit
+    → r ≢ end.LinkFault → new.history.stops ≡ old.history.stops
 no_stops step noted old_serves new_serves old new limit end.Done after other =
     ap (λ (h : WireHistory). h.stops) after.then_ ∙ (ap (λ (h : WireHistory). h.stops) after.turns.logged ∙ stops-after after.turns.moves old.history)
-no_stops step noted old_serves new_serves old new limit end.Budget after other = ap (λ (h : WireHistory). h.stops) after.logged ∙ stops-after after.moves old.history
+no_stops step noted old_serves new_serves old new limit end.Budget after other =
+    ap (λ (h : WireHistory). h.stops) after.logged ∙ stops-after after.moves old.history
 no_stops step noted old_serves new_serves old new limit end.LinkFault after other = absurd (other refl)
-no_stops step noted old_serves new_serves old new limit end.Memory after other = ap (λ (h : WireHistory). h.stops) after.breaks.logged ∙ stops-after after.breaks.moves old.history
+no_stops step noted old_serves new_serves old new limit end.Memory after other =
+    ap (λ (h : WireHistory). h.stops) after.breaks.logged ∙ stops-after after.breaks.moves old.history
 
-pub stops_rose : {W C : Type 0} (step : EventStep W C) (noted : Noting W C) (old_serves new_serves : Standing W C → Type 0) (old new : WireState) (limit : ℕ) (r : End) → AfterServe r step noted old_serves new_serves old new limit → r ≡ end.LinkFault → Rose old.history.stops new.history.stops
+pub stops_rose : {W C : Type 0} (step : EventStep W C) (noted : Noting W C) (old_serves new_serves : Standing W C → Type 0)
+    (old new : WireState) (limit : ℕ) (r : End) → AfterServe r step noted old_serves new_serves old new limit
+    → r ≡ end.LinkFault → Rose old.history.stops new.history.stops
 stops_rose step noted old_serves new_serves old new limit end.Done after is = cc
 stops_rose step noted old_serves new_serves old new limit end.Budget after is = cc
 stops_rose step noted old_serves new_serves old new limit end.LinkFault after is = after.then_.stopped
 stops_rose step noted old_serves new_serves old new limit end.Memory after is = cc
 
 -- of ends
-pub no_end : {W C : Type 0} (step : EventStep W C) (noted : Noting W C) (old_serves new_serves : Standing W C → Type 0) (old new : WireState) (limit : ℕ) (r : End) → AfterServe r step noted old_serves new_serves old new limit → r ≢ end.Done → new.history.ends ≡ old.history.ends
+pub no_end : {W C : Type 0} (step : EventStep W C) (noted : Noting W C) (old_serves new_serves : Standing W C → Type 0)
+    (old new : WireState) (limit : ℕ) (r : End) → AfterServe r step noted old_serves new_serves old new limit
+    → r ≢ end.Done → new.history.ends ≡ old.history.ends
 no_end step noted old_serves new_serves old new limit end.Done after other = absurd (other refl)
-no_end step noted old_serves new_serves old new limit end.Budget after other = ap (λ (h : WireHistory). h.ends) after.logged ∙ ends-after after.moves old.history
+no_end step noted old_serves new_serves old new limit end.Budget after other =
+    ap (λ (h : WireHistory). h.ends) after.logged ∙ ends-after after.moves old.history
 no_end step noted old_serves new_serves old new limit end.LinkFault after other =
     ap (λ (h : WireHistory). h.ends) after.then_.same ∙ (ap (λ (h : WireHistory). h.ends) after.turns.logged ∙ ends-after after.turns.moves old.history)
-no_end step noted old_serves new_serves old new limit end.Memory after other = ap (λ (h : WireHistory). h.ends) after.breaks.logged ∙ ends-after after.breaks.moves old.history
+no_end step noted old_serves new_serves old new limit end.Memory after other =
+    ap (λ (h : WireHistory). h.ends) after.breaks.logged ∙ ends-after after.breaks.moves old.history
 
-pub end_rose : {W C : Type 0} (step : EventStep W C) (noted : Noting W C) (old_serves new_serves : Standing W C → Type 0) (old new : WireState) (limit : ℕ) (r : End) → AfterServe r step noted old_serves new_serves old new limit → r ≡ end.Done → new.history.ends ≡ raised old.history.ends
+pub end_rose : {W C : Type 0} (step : EventStep W C) (noted : Noting W C) (old_serves new_serves : Standing W C → Type 0)
+    (old new : WireState) (limit : ℕ) (r : End) → AfterServe r step noted old_serves new_serves old new limit
+    → r ≡ end.Done → new.history.ends ≡ raised old.history.ends
 end_rose step noted old_serves new_serves old new limit end.Done after is =
     ap (λ (h : WireHistory). h.ends) after.then_ ∙ ap raised (ap (λ (h : WireHistory). h.ends) after.turns.logged ∙ ends-after after.turns.moves old.history)
 end_rose step noted old_serves new_serves old new limit end.Budget after is = cc
@@ -132,12 +158,15 @@ end_rose step noted old_serves new_serves old new limit end.LinkFault after is =
 end_rose step noted old_serves new_serves old new limit end.Memory after is = cc
 
 -- and of events
-pub events_by : {W C : Type 0} (step : EventStep W C) (noted : Noting W C) (old_serves new_serves : Standing W C → Type 0) (old new : WireState) (limit : ℕ) (r : End) → AfterServe r step noted old_serves new_serves old new limit → GaveEvents r old.history new.history limit
+pub events_by : {W C : Type 0} (step : EventStep W C) (noted : Noting W C) (old_serves new_serves : Standing W C → Type 0)
+    (old new : WireState) (limit : ℕ) (r : End) → AfterServe r step noted old_serves new_serves old new limit → GaveEvents r old.history new.history limit
 events_by step noted old_serves new_serves old new limit end.Done after = record {
   count = after.count;
   most = omega (arith, after.fewer);
   exactly = after.fewer;
-  events = ap (λ (h : WireHistory). h.events) after.then_ ∙ (ap (λ (h : WireHistory). h.events) after.turns.logged ∙ (events-after after.turns.moves old.history ∙ ap (λ n. raised_by n old.history.events) after.turns.events));
+  events = ap (λ (h : WireHistory). h.events) after.then_
+      ∙ (ap (λ (h : WireHistory). h.events) after.turns.logged
+      ∙ (events-after after.turns.moves old.history ∙ ap (λ n. raised_by n old.history.events) after.turns.events));
 }
 events_by step noted old_serves new_serves old new limit end.Budget after = record {
   count = limit;
@@ -149,11 +178,14 @@ events_by step noted old_serves new_serves old new limit end.LinkFault after = r
   count = after.count;
   most = omega (arith, after.fewer);
   exactly = after.fewer;
-  events = ap (λ (h : WireHistory). h.events) after.then_.same ∙ (ap (λ (h : WireHistory). h.events) after.turns.logged ∙ (events-after after.turns.moves old.history ∙ ap (λ n. raised_by n old.history.events) after.turns.events));
+  events = ap (λ (h : WireHistory). h.events) after.then_.same
+      ∙ (ap (λ (h : WireHistory). h.events) after.turns.logged
+      ∙ (events-after after.turns.moves old.history ∙ ap (λ n. raised_by n old.history.events) after.turns.events));
 }
 events_by step noted old_serves new_serves old new limit end.Memory after = record {
   count = after.count;
   most = after.within;
   exactly = tt;
-  events = ap (λ (h : WireHistory). h.events) after.breaks.logged ∙ (events-after after.breaks.moves old.history ∙ ap (λ n. raised_by n old.history.events) after.breaks.events);
+  events = ap (λ (h : WireHistory). h.events) after.breaks.logged
+      ∙ (events-after after.breaks.moves old.history ∙ ap (λ n. raised_by n old.history.events) after.breaks.events);
 }

@@ -32,18 +32,22 @@ standing-running step noted x [] = refl
 standing-running step noted x (m ∷ ms) = standing-running step noted (standing_after step noted x m) ms
 
 -- nothing was called
-pub leads_nowhere : {W C : Type 0} (step : EventStep W C) (noted : Noting W C) (old_serves new_serves : Standing W C → Type 0) (old new : WireHistory) (Are : Running W C → List Move → Type 0)
+pub leads_nowhere : {W C : Type 0} (step : EventStep W C) (noted : Noting W C)
+    (old_serves new_serves : Standing W C → Type 0) (old new : WireHistory) (Are : Running W C → List Move → Type 0)
     → new ≡ old → ((x : Standing W C) → old_serves x → new_serves x) → ((x : Standing W C) → old_serves x → Are x.running [])
     → Leads step noted old_serves new_serves old new 0 Are
 unfolding standing_after_all history_after
 leads_nowhere step noted old_serves new_serves old new Are same stays are = record { moves = []; logged = same; events = refl; stands = stays; are = are }
 
 -- one move
-pub leads_one : {W C : Type 0} (step : EventStep W C) (noted : Noting W C) (old_serves new_serves : Standing W C → Type 0) (old new : WireHistory) (Are : Running W C → List Move → Type 0) (m : Move)
-    → events_in (m ∷ []) ≡ 0 → new ≡ history_after_move old m → ((x : Standing W C) → old_serves x → new_serves (standing_after step noted x m)) → ((x : Standing W C) → old_serves x → Are x.running (m ∷ []))
+pub leads_one : {W C : Type 0} (step : EventStep W C) (noted : Noting W C) (old_serves new_serves : Standing W C → Type 0)
+    (old new : WireHistory) (Are : Running W C → List Move → Type 0) (m : Move)
+    → events_in (m ∷ []) ≡ 0 → new ≡ history_after_move old m → ((x : Standing W C) → old_serves x → new_serves (standing_after step noted x m))
+    → ((x : Standing W C) → old_serves x → Are x.running (m ∷ []))
     → Leads step noted old_serves new_serves old new 0 Are
 unfolding standing_after_all history_after
-leads_one step noted old_serves new_serves old new Are m no_event one stands are = record { moves = m ∷ []; logged = one; events = no_event; stands = stands; are = are }
+leads_one step noted old_serves new_serves old new Are m no_event one stands are =
+    record { moves = m ∷ []; logged = one; events = no_event; stands = stands; are = are }
 
 pub events-append : (ms ns : List Move) → events_in (ms ++ ns) ≡ events_in ms + events_in ns
 events-append [] ns = omega arith
@@ -53,15 +57,18 @@ events-append (move.Lost c ∷ ms) ns = events-append ms ns
 events-append (move.Shut c ∷ ms) ns = events-append ms ns
 
 -- what is called after what
-pub leads_then : {W C : Type 0} (step : EventStep W C) (noted : Noting W C) (old_serves mid_serves new_serves : Standing W C → Type 0) (old mid new : WireHistory) (m n : ℕ) (First Second Both : Running W C → List Move → Type 0)
+pub leads_then : {W C : Type 0} (step : EventStep W C) (noted : Noting W C) (old_serves mid_serves new_serves : Standing W C → Type 0)
+    (old mid new : WireHistory) (m n : ℕ) (First Second Both : Running W C → List Move → Type 0)
     → ((x : Running W C) (ms ns : List Move) → First x ms → Second (running_after_all step x ms) ns → Both x (ms ++ ns))
-    → Leads step noted old_serves mid_serves old mid m First → Leads step noted mid_serves new_serves mid new n Second → Leads step noted old_serves new_serves old new (m + n) Both
+    → Leads step noted old_serves mid_serves old mid m First → Leads step noted mid_serves new_serves mid new n Second
+    → Leads step noted old_serves new_serves old new (m + n) Both
 leads_then {W} {C} step noted old_serves mid_serves new_serves old mid new m n First Second Both join first second = record {
   moves = first.moves ++ second.moves;
   events = events-append first.moves second.moves ∙ (ap (λ k. k + events_in second.moves) first.events ∙ ap (λ k. m + k) second.events);
   logged = second.logged ∙ (ap (λ h. history_after h second.moves) first.logged ∙ sym (history-append old first.moves second.moves));
   stands = λ x serves.
-      subst new_serves (sym (standing-append step noted x first.moves second.moves)) (second.stands (standing_after_all step noted x first.moves) (first.stands x serves));
+      subst new_serves (sym (standing-append step noted x first.moves second.moves))
+      (second.stands (standing_after_all step noted x first.moves) (first.stands x serves));
   are = λ x serves.
       let P : Running W C → Type 0 = λ y. Second y second.moves in
       join x.running first.moves second.moves (first.are x serves)
@@ -69,13 +76,21 @@ leads_then {W} {C} step noted old_serves mid_serves new_serves old mid new m n F
 }
 
 -- weaker promises of the same moves
-pub leads_so : {W C : Type 0} (step : EventStep W C) (noted : Noting W C) (old_serves new_serves : Standing W C → Type 0) (old new : WireHistory) (n : ℕ) (First Second : Running W C → List Move → Type 0)
+pub leads_so : {W C : Type 0} (step : EventStep W C) (noted : Noting W C) (old_serves new_serves : Standing W C → Type 0)
+    (old new : WireHistory) (n : ℕ) (First Second : Running W C → List Move → Type 0)
     → ((x : Running W C) (ms : List Move) → First x ms → Second x ms)
     → Leads step noted old_serves new_serves old new n First → Leads step noted old_serves new_serves old new n Second
 leads_so step noted old_serves new_serves old new n First Second so leads =
-    record { moves = leads.moves; logged = leads.logged; events = leads.events; stands = leads.stands; are = λ x serves. so x.running leads.moves (leads.are x serves) }
+    record {
+      moves = leads.moves;
+      logged = leads.logged;
+      events = leads.events;
+      stands = leads.stands;
+      are = λ x serves. so x.running leads.moves (leads.are x serves);
+    }
 
-offers-append : {W C : Type 0} (step : EventStep W C) (ms ns : List Move) (s : MachineState W C) → AreOffers step s ms → AreOffers step (state_after step s ms) ns → AreOffers step s (ms ++ ns)
+offers-append : {W C : Type 0} (step : EventStep W C) (ms ns : List Move) (s : MachineState W C)
+    → AreOffers step s ms → AreOffers step (state_after step s ms) ns → AreOffers step s (ms ++ ns)
 unfolding AreOffers state_after
 offers-append step [] ns s first second = second
 offers-append step (m ∷ ms) ns s first second = (first.0, offers-append step ms ns (state_after_move step s m) first.1 second)
@@ -85,7 +100,8 @@ pub AreOffers-append : {W C : Type 0} (step : EventStep W C) (x : Running W C) (
 AreOffers-append step x ms ns first second = offers-append step ms ns x.state first second
 
 -- memory was wanting behind some offers
-pub breaks_then : {W C : Type 0} (step : EventStep W C) (noted : Noting W C) (old_serves mid_serves : Standing W C → Type 0) (old mid new : WireHistory) (m n : ℕ) (First : Running W C → List Move → Type 0)
+pub breaks_then : {W C : Type 0} (step : EventStep W C) (noted : Noting W C) (old_serves mid_serves : Standing W C → Type 0)
+    (old mid new : WireHistory) (m n : ℕ) (First : Running W C → List Move → Type 0)
     → ((x : Running W C) (ms : List Move) → First x ms → AreOffers step x.state ms)
     → Leads step noted old_serves mid_serves old mid m First → Breaks step noted mid_serves mid new n → Breaks step noted old_serves old new (m + n)
 breaks_then {W} {C} step noted old_serves mid_serves old mid new m n First offers first second =
@@ -93,7 +109,8 @@ breaks_then {W} {C} step noted old_serves mid_serves old mid new m n First offer
     (λ x ms ns a b. AreOffers-append step x ms ns (offers x ms a) b) first second
 
 -- or nothing more was called
-pub breaks_here : {W C : Type 0} (step : EventStep W C) (noted : Noting W C) (old_serves mid_serves : Standing W C → Type 0) (old mid new : WireHistory) (n : ℕ) (First : Running W C → List Move → Type 0)
+pub breaks_here : {W C : Type 0} (step : EventStep W C) (noted : Noting W C) (old_serves mid_serves : Standing W C → Type 0)
+    (old mid new : WireHistory) (n : ℕ) (First : Running W C → List Move → Type 0)
     → ((x : Running W C) (ms : List Move) → First x ms → AreOffers step x.state ms)
     → Leads step noted old_serves mid_serves old mid n First → new ≡ mid → Breaks step noted old_serves old new n
 breaks_here step noted old_serves mid_serves old mid new n First offers first same = record {
@@ -104,13 +121,15 @@ breaks_here step noted old_serves mid_serves old mid new n First offers first sa
   are = λ x serves. offers x.running first.moves (first.are x serves);
 }
 
-pub breaks_nowhere : {W C : Type 0} (step : EventStep W C) (noted : Noting W C) (old_serves : Standing W C → Type 0) (old new : WireHistory) → new ≡ old → Breaks step noted old_serves old new 0
+pub breaks_nowhere : {W C : Type 0} (step : EventStep W C) (noted : Noting W C) (old_serves : Standing W C → Type 0) (old new : WireHistory)
+    → new ≡ old → Breaks step noted old_serves old new 0
 unfolding AreOffers
 breaks_nowhere step noted old_serves old new same =
     leads_nowhere step noted old_serves serves_any old new (λ x ms. AreOffers step x.state ms) same (λ x serves. tt) (λ x serves. tt)
 
 -- what was served before served also this
-pub leads_from : {W C : Type 0} (step : EventStep W C) (noted : Noting W C) (old_serves mid_serves new_serves : Standing W C → Type 0) (old new : WireHistory) (n : ℕ) (First Second : Running W C → List Move → Type 0)
+pub leads_from : {W C : Type 0} (step : EventStep W C) (noted : Noting W C) (old_serves mid_serves new_serves : Standing W C → Type 0)
+    (old new : WireHistory) (n : ℕ) (First Second : Running W C → List Move → Type 0)
     → ((x : Standing W C) → old_serves x → mid_serves x) → ((x : Standing W C) (ms : List Move) → mid_serves x → First x.running ms → Second x.running ms)
     → Leads step noted mid_serves new_serves old new n First → Leads step noted old_serves new_serves old new n Second
 leads_from step noted old_serves mid_serves new_serves old new n First Second from so leads = record {

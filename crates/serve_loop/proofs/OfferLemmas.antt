@@ -25,7 +25,8 @@ first_of : (fs : List (List ℕ)) (left : List ℕ) → first_frame fs ≡ Some 
 first_of [] left e = cc
 first_of (f ∷ fs) left e = (fs, (let same : f ≡ left = cc in ap (λ g. g ∷ fs) same))
 
-offered_if : (blocked : Bool) (fs : List (List ℕ)) (left : List ℕ) → (if blocked then None else first_frame fs) ≡ Some left → (blocked ≡ false) × (first_frame fs ≡ Some left)
+offered_if : (blocked : Bool) (fs : List (List ℕ)) (left : List ℕ)
+    → (if blocked then None else first_frame fs) ≡ Some left → (blocked ≡ false) × (first_frame fs ≡ Some left)
 offered_if true fs left e = cc
 offered_if false fs left e = (refl, e)
 
@@ -51,7 +52,8 @@ take_short : (n : ℕ) (f : List ℕ) → n ≤ length f → length (take n f) �
 take_short n f e = length-take-le n f e
 
 -- so many bytes of it are an offer
-offer_of_first : {W C : Type 0} (x : Running W C) (c : ℕ) (left : List ℕ) (n : ℕ) → Offers_ x c left → n ≤ length left → IsOffer (waiting_at c x.state) (length left) (take n left)
+offer_of_first : {W C : Type 0} (x : Running W C) (c : ℕ) (left : List ℕ) (n : ℕ)
+    → Offers_ x c left → n ≤ length left → IsOffer (waiting_at c x.state) (length left) (take n left)
 offer_of_first x c left n o fits =
     let is = take_short n left fits in
     let P : List (List ℕ) → Type 0 = λ fs. IsOffer fs (length left) (take n left) in
@@ -87,6 +89,7 @@ unfolding blocked_after
 blocked_after-append [] ns b = refl
 blocked_after-append (m ∷ ms) ns b = blocked_after-append ms ns (blocked_after_move b m)
 
-pub running-append : {W C : Type 0} (step : EventStep W C) (x : Running W C) (ms ns : List Move) → running_after_all step x (ms ++ ns) ≡ running_after_all step (running_after_all step x ms) ns
+pub running-append : {W C : Type 0} (step : EventStep W C) (x : Running W C) (ms ns : List Move)
+    → running_after_all step x (ms ++ ns) ≡ running_after_all step (running_after_all step x ms) ns
 running-append step x ms ns = ap (λ s. record { state = s; blocked = blocked_after x.blocked (ms ++ ns) }) (state_after-append step ms ns x.state)
     ∙ ap (λ b. record { state = state_after step (state_after step x.state ms) ns; blocked = b }) (blocked_after-append ms ns x.blocked)

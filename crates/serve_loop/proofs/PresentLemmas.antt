@@ -18,11 +18,13 @@ numbers_of {C} ks = map (λ (k : Connection C). k.number) (filter (λ (k : Conne
 
 numbers-gone : {C : Type 0} (k : Connection C) (ks : List (Connection C)) → k.gone ≡ true → numbers_of (k ∷ ks) ≡ numbers_of ks
 numbers-gone {C} k ks e =
-    ap (map (λ (j : Connection C). j.number)) (cond-false (not k.gone) (k ∷ filter (λ (j : Connection C). not j.gone) ks) (filter (λ (j : Connection C). not j.gone) ks) (not_from_true k.gone e))
+    ap (map (λ (j : Connection C). j.number))
+    (cond-false (not k.gone) (k ∷ filter (λ (j : Connection C). not j.gone) ks) (filter (λ (j : Connection C). not j.gone) ks) (not_from_true k.gone e))
 
 numbers-there : {C : Type 0} (k : Connection C) (ks : List (Connection C)) → k.gone ≡ false → numbers_of (k ∷ ks) ≡ k.number ∷ numbers_of ks
 numbers-there {C} k ks e =
-    ap (map (λ (j : Connection C). j.number)) (cond-true (not k.gone) (k ∷ filter (λ (j : Connection C). not j.gone) ks) (filter (λ (j : Connection C). not j.gone) ks) (not_from_false k.gone e))
+    ap (map (λ (j : Connection C). j.number))
+    (cond-true (not k.gone) (k ∷ filter (λ (j : Connection C). not j.gone) ks) (filter (λ (j : Connection C). not j.gone) ks) (not_from_false k.gone e))
 
 -- a connection of this number is found, and is there
 record IsThere {C : Type 0} (c : ℕ) (ks : List (Connection C)) : Type 0 where
@@ -42,7 +44,8 @@ other_found n k ks e = cond-false (k.number == n) (Some k) (connection_of n ks) 
 there_behind : {C : Type 0} (c : ℕ) (k : Connection C) (ks : List (Connection C)) → connection_of k.number ks ≡ None → IsThere c ks → IsThere c (k ∷ ks)
 there_behind c k ks none there = record {
   connection = there.connection;
-  found = other_found c k ks (λ same. (let found : connection_of k.number ks ≡ Some there.connection = ap (λ n. connection_of n ks) same ∙ there.found in cc)) ∙ there.found;
+  found = other_found c k ks (λ same. (let found : connection_of k.number ks ≡ Some there.connection = ap (λ n. connection_of n ks) same ∙ there.found in cc))
+      ∙ there.found;
   here = there.here;
 }
 
@@ -58,7 +61,8 @@ among_there {C} (k ∷ ks) apart c among = elim (cases_Bool k.gone) [
       let among_both : is_among c (k.number ∷ numbers_of ks) ≡ true = ap (is_among c) (sym (numbers-there k ks here)) ∙ among in
       elim (cases_eq k.number c) [
         | inl same ↦ record { connection = k; found = same_found c k ks same; here = here }
-        | inr differs ↦ there_behind c k ks apart.0 (among_there ks apart.1 c (or_other (k.number == c) (is_among c (numbers_of ks)) (test_other k.number c differs) among_both))
+        | inr differs ↦ there_behind c k ks apart.0
+            (among_there ks apart.1 c (or_other (k.number == c) (is_among c (numbers_of ks)) (test_other k.number c differs) among_both))
       ]
 ]
 

@@ -1,5 +1,6 @@
 -- The connections that are there are served one after another; those that are left out are idle.
-use Rattle.std.proofs.Common.{◌≡◌, ◌≢◌, ℕ, ◌+◌, ◌<◌, ◌≤◌, length, drop, slice_index_or, add-one, List, [], ◌∷◌, ◌++◌, true, false, refl, sym, ap, ◌∙◌, subst, append_assoc, append-nil, inl, inr}
+use Rattle.std.proofs.Common.{◌≡◌, ◌≢◌, ℕ, ◌+◌, ◌<◌, ◌≤◌, length, drop, slice_index_or, add-one, List, [], ◌∷◌}
+use Rattle.std.proofs.Common.{◌++◌, true, false, refl, sym, ap, ◌∙◌, subst, append_assoc, append-nil, inl, inr}
 use Rattle.std.specs.Prelude.{Bool, ◌||◌, ◌==◌, filter, None, if◌then◌else◌}
 use Rattle.std.specs.List.{flat_map}
 use Rattle.std.proofs.Math.Seq.{drop-cons}
@@ -59,7 +60,8 @@ among_later d c cs among = later (c == d) (is_among d cs) among
     later false b e = e
 
 -- an idle connection is served by no move
-idle_serves : {W C : Type 0} (step : EventStep W C) (x y : Running W C) (c : ℕ) → IsSameAt c x y → is_gone_at c x.state ≡ false → IsIdle x c → ServesOne step c y []
+idle_serves : {W C : Type 0} (step : EventStep W C) (x y : Running W C) (c : ℕ)
+    → IsSameAt c x y → is_gone_at c x.state ≡ false → IsIdle x c → ServesOne step c y []
 unfolding Serves
 idle_serves step x y c same there idle =
     let offer : offer_at c y ≡ None =
@@ -70,7 +72,8 @@ idle_serves step x y c same there idle =
     (none_at y c offer, closing)
 
 -- an idle one is passed over
-round_passes : {W C : Type 0} (step : EventStep W C) (x : Running W C) (c : ℕ) (cs : List ℕ) (ms : List Move) → Round step x (c ∷ cs) ms → IsIdle x c → Round step x cs ms
+round_passes : {W C : Type 0} (step : EventStep W C) (x : Running W C) (c : ℕ) (cs : List ℕ) (ms : List Move)
+    → Round step x (c ∷ cs) ms → IsIdle x c → Round step x cs ms
 unfolding ServesEach state_after blocked_after
 round_passes step x c cs ms round idle = record {
   so_far = λ rest each. round.so_far ([] ∷ rest)
@@ -86,11 +89,13 @@ differs_later : (d c : ℕ) (cs : List ℕ) → is_among c cs ≡ false → is_a
 differs_later d c cs apart among same = let both = sym apart ∙ (ap (λ n. is_among n cs) same ∙ among) in cc
 
 -- the first that is left is there
-pub round_there : {W C : Type 0} (step : EventStep W C) (x : Running W C) (c : ℕ) (cs : List ℕ) (ms : List Move) → Round step x (c ∷ cs) ms → is_gone_at c (running_after_all step x ms).state ≡ false
+pub round_there : {W C : Type 0} (step : EventStep W C) (x : Running W C) (c : ℕ) (cs : List ℕ) (ms : List Move)
+    → Round step x (c ∷ cs) ms → is_gone_at c (running_after_all step x ms).state ≡ false
 round_there step x c cs ms round = ap is_gone (round.same c (among_first c cs)).found ∙ round.there c (among_first c cs)
 
 -- it is served
-pub round_serves : {W C : Type 0} (step : EventStep W C) (x : Running W C) (c : ℕ) (cs : List ℕ) (ms ns : List Move) → Round step x (c ∷ cs) ms → Ends step c (running_after_all step x ms) ns → Round step x cs (ms ++ ns)
+pub round_serves : {W C : Type 0} (step : EventStep W C) (x : Running W C) (c : ℕ) (cs : List ℕ) (ms ns : List Move)
+    → Round step x (c ∷ cs) ms → Ends step c (running_after_all step x ms) ns → Round step x cs (ms ++ ns)
 unfolding ServesEach
 round_serves {W} {C} step x c cs ms ns round ends =
     let y = running_after_all step x ms in
@@ -102,7 +107,8 @@ round_serves {W} {C} step x c cs ms ns round ends =
           (all.0, append_assoc ms ns (joined rest) ∙ all.1, all.2);
       same = λ d among.
           let Q : Running W C → Type 0 = λ z. IsSameAt d x z in
-          subst Q (sym both) (same_then d x y (running_after_all step y ns) (round.same d (among_later d c cs among)) (serves-other step d c ns y (differs_later d c cs round.apart.0 among) ends.served));
+          subst Q (sym both) (same_then d x y (running_after_all step y ns) (round.same d (among_later d c cs among))
+          (serves-other step d c ns y (differs_later d c cs round.apart.0 among) ends.served));
       apart = round.apart.1;
       there = λ d among. round.there d (among_later d c cs among);
       offers = AreOffers-append step x ms ns round.offers ends.offers;
@@ -129,7 +135,8 @@ first_of_round {W} {C} step is_in x ms idle (d ∷ ds) c numbers are round = eli
       let same : d ≡ c = cc in
       let P : ℕ → Type 0 = λ n. Round step x (n ∷ ds) ms in
       record { behind = ds; are = (let rest : numbers ≡ filter is_in ds = cc in rest); round = subst P same round }
-  | inr no_ ↦ first_of_round step is_in x ms idle ds c numbers (are ∙ cond-false (is_in d) (d ∷ filter is_in ds) (filter is_in ds) no_) (round_passes step x d ds ms round (idle d no_))
+  | inr no_ ↦ first_of_round step is_in x ms idle ds c numbers
+      (are ∙ cond-false (is_in d) (d ∷ filter is_in ds) (filter is_in ds) no_) (round_passes step x d ds ms round (idle d no_))
 ]
 
 -- there is none any more
@@ -138,7 +145,8 @@ pub last_of_round : {W C : Type 0} (step : EventStep W C) (is_in : ℕ → Bool)
 last_of_round step is_in x ms idle [] are round = round
 last_of_round step is_in x ms idle (d ∷ ds) are round = elim (cases_Bool (is_in d)) [
   | inl yes_ ↦ (let both : [] ≡ d ∷ filter is_in ds = are ∙ cond-true (is_in d) (d ∷ filter is_in ds) (filter is_in ds) yes_ in cc)
-  | inr no_ ↦ last_of_round step is_in x ms idle ds (are ∙ cond-false (is_in d) (d ∷ filter is_in ds) (filter is_in ds) no_) (round_passes step x d ds ms round (idle d no_))
+  | inr no_ ↦ last_of_round step is_in x ms idle ds
+      (are ∙ cond-false (is_in d) (d ∷ filter is_in ds) (filter is_in ds) no_) (round_passes step x d ds ms round (idle d no_))
 ]
 
 -- all are served
@@ -160,7 +168,8 @@ from_first step numbers x =
 
 -- one more is served
 pub from_next : {W C : Type 0} (step : EventStep W C) (numbers : List ℕ) (i : ℕ) → i < length numbers → (x : Running W C) (ms ns : List Move)
-    → RoundFrom step numbers i x ms → EndsWhereThere step (slice_index_or numbers i 0) (running_after_all step x ms) ns → RoundFrom step numbers (i + 1) x (ms ++ ns)
+    → RoundFrom step numbers i x ms → EndsWhereThere step (slice_index_or numbers i 0) (running_after_all step x ms) ns
+    → RoundFrom step numbers (i + 1) x (ms ++ ns)
 from_next step numbers i within x ms ns from ends = record {
   offers = AreOffers-append step x ms ns from.offers ends.offers;
   of_ = λ due apart.
@@ -169,11 +178,16 @@ from_next step numbers i within x ms ns from ends = record {
       let cut : drop i numbers ≡ c ∷ drop (i + 1) numbers = rw add-one (drop-cons numbers i 0 within) in
       let first = first_of_round step due.is_in x ms due.idle now.left c (drop (i + 1) numbers) (sym cut ∙ now.are) now.round in
       let served = ends.served (round_there step x c first.behind ms first.round) in
-      record { left = first.behind; are = first.are; round = round_serves step x c first.behind ms ns first.round (record { served = served; offers = ends.offers }) };
+      record {
+        left = first.behind;
+        are = first.are;
+        round = round_serves step x c first.behind ms ns first.round (record { served = served; offers = ends.offers });
+      };
 }
 
 -- all are
-pub from_last : {W C : Type 0} (step : EventStep W C) (numbers : List ℕ) (i : ℕ) → length numbers ≤ i → (x : Running W C) (ms : List Move) → RoundFrom step numbers i x ms → ServesAllOf step numbers x ms
+pub from_last : {W C : Type 0} (step : EventStep W C) (numbers : List ℕ) (i : ℕ) → length numbers ≤ i
+    → (x : Running W C) (ms : List Move) → RoundFrom step numbers i x ms → ServesAllOf step numbers x ms
 from_last step numbers i past x ms from due apart =
     let now = from.of_ due apart in
     round_ends step x ms (last_of_round step due.is_in x ms due.idle now.left (sym (drop_all i numbers past) ∙ now.are) now.round)

@@ -23,7 +23,8 @@ pub begins_nothing : {W C : Type 0} (step : EventStep W C) (c : ℕ) (x : Runnin
 unfolding AreOffers state_after blocked_after
 begins_nothing step c x = record { so_far = λ rest serves. serves; offers = tt; stays = λ there. there }
 
-pub begins_begins : {W C : Type 0} (step : EventStep W C) (c : ℕ) (x : Running W C) (ms ns : List Move) → Begins step c x ms → Begins step c (running_after_all step x ms) ns → Begins step c x (ms ++ ns)
+pub begins_begins : {W C : Type 0} (step : EventStep W C) (c : ℕ) (x : Running W C) (ms ns : List Move)
+    → Begins step c x ms → Begins step c (running_after_all step x ms) ns → Begins step c x (ms ++ ns)
 begins_begins {W} {C} step c x ms ns first second = record {
   so_far = λ rest serves.
       let P : Running W C → Type 0 = λ y. ServesOne step c y rest in
@@ -33,10 +34,12 @@ begins_begins {W} {C} step c x ms ns first second = record {
   stays = λ there. ap (is_gone_at c) (state_after-append step ms ns x.state) ∙ second.stays (first.stays there);
 }
 
-pub begins_ends : {W C : Type 0} (step : EventStep W C) (c : ℕ) (x : Running W C) (ms ns : List Move) → Begins step c x ms → Ends step c (running_after_all step x ms) ns → Ends step c x (ms ++ ns)
+pub begins_ends : {W C : Type 0} (step : EventStep W C) (c : ℕ) (x : Running W C) (ms ns : List Move)
+    → Begins step c x ms → Ends step c (running_after_all step x ms) ns → Ends step c x (ms ++ ns)
 begins_ends step c x ms ns first second = record { served = first.so_far ns second.served; offers = AreOffers-append step x ms ns first.offers second.offers }
 
-pub begins_all : {W C : Type 0} (step : EventStep W C) (c : ℕ) (x : Running W C) (ms ns : List Move) → Begins step c x ms → BeginsAll step c (running_after_all step x ms) ns → BeginsAll step c x (ms ++ ns)
+pub begins_all : {W C : Type 0} (step : EventStep W C) (c : ℕ) (x : Running W C) (ms ns : List Move)
+    → Begins step c x ms → BeginsAll step c (running_after_all step x ms) ns → BeginsAll step c x (ms ++ ns)
 begins_all step c x ms ns first second = record {
   begins = begins_begins step c x ms ns first second.begins;
   no_offer = ap (offer_at c) (running-append step x ms ns) ∙ second.no_offer;
@@ -47,7 +50,8 @@ to_be_shut None e = refl
 to_be_shut (Some k) e = ap (λ b. not b && k.closing) e
 
 -- a connection that is not to be shut
-pub ends_open : {W C : Type 0} (step : EventStep W C) (c : ℕ) (x : Running W C) (ms : List Move) → BeginsAll step c x ms → is_to_be_shut_at c (running_after_all step x ms) ≡ false → EndsWhereThere step c x ms
+pub ends_open : {W C : Type 0} (step : EventStep W C) (c : ℕ) (x : Running W C) (ms : List Move)
+    → BeginsAll step c x ms → is_to_be_shut_at c (running_after_all step x ms) ≡ false → EndsWhereThere step c x ms
 unfolding Serves
 ends_open step c x ms all shut =
     let y = running_after_all step x ms in
@@ -68,7 +72,8 @@ pub record IsShutting {W C : Type 0} (c : ℕ) (x : Running W C) (ms : List Move
   pub is : ms ≡ move.Shut c ∷ []
   pub closing : is_to_be_shut_at c x ≡ true
 
-pub ends_shut : {W C : Type 0} (step : EventStep W C) (c : ℕ) (x : Running W C) (ms ns : List Move) → BeginsAll step c x ms → IsShutting c (running_after_all step x ms) ns → EndsWhereThere step c x (ms ++ ns)
+pub ends_shut : {W C : Type 0} (step : EventStep W C) (c : ℕ) (x : Running W C) (ms ns : List Move)
+    → BeginsAll step c x ms → IsShutting c (running_after_all step x ms) ns → EndsWhereThere step c x (ms ++ ns)
 unfolding Serves AreOffers
 ends_shut {W} {C} step c x ms ns all shutting =
     let y = running_after_all step x ms in
@@ -81,9 +86,11 @@ ends_shut {W} {C} step c x ms ns all shutting =
     })
 
 -- what is known of whatever is served behind some moves
-pub leads_seen : {W C : Type 0} (step : EventStep W C) (noted : Noting W C) (old_serves new_serves : Standing W C → Type 0) (old new : WireHistory) (n : ℕ) (Are Both : Running W C → List Move → Type 0) (Seen : Running W C → Type 0)
+pub leads_seen : {W C : Type 0} (step : EventStep W C) (noted : Noting W C) (old_serves new_serves : Standing W C → Type 0)
+    (old new : WireHistory) (n : ℕ) (Are Both : Running W C → List Move → Type 0) (Seen : Running W C → Type 0)
     → ((x : Running W C) (ms : List Move) → Are x ms → Seen (running_after_all step x ms) → Both x ms)
-    → Leads step noted old_serves new_serves old new n Are → ((y : Standing W C) → new_serves y → Seen y.running) → Leads step noted old_serves new_serves old new n Both
+    → Leads step noted old_serves new_serves old new n Are → ((y : Standing W C) → new_serves y → Seen y.running)
+    → Leads step noted old_serves new_serves old new n Both
 leads_seen step noted old_serves new_serves old new n Are Both Seen join leads seen = record {
   moves = leads.moves;
   logged = leads.logged;
@@ -101,15 +108,18 @@ pub record IsSameAt {W C : Type 0} (d : ℕ) (x y : Running W C) : Type 0 where
 pub same_then : {W C : Type 0} (d : ℕ) (x y z : Running W C) → IsSameAt d x y → IsSameAt d y z → IsSameAt d x z
 same_then d x y z first second = record { found = second.found ∙ first.found; blocked = second.blocked ∙ first.blocked }
 
-other_took : {W C : Type 0} (step : EventStep W C) (d n offered : ℕ) (bytes : List ℕ) (s : MachineState W C) → n ≢ d → connection_of d (state_after_move step s (move.Took n offered bytes)).connections ≡ connection_of d s.connections
+other_took : {W C : Type 0} (step : EventStep W C) (d n offered : ℕ) (bytes : List ℕ) (s : MachineState W C) → n ≢ d
+    → connection_of d (state_after_move step s (move.Took n offered bytes)).connections ≡ connection_of d s.connections
 unfolding state_after_move
 other_took step d n offered bytes s differs = exchange_other d n (with_took (length bytes)) (with_took-number (length bytes)) differs s
 
-other_lost : {W C : Type 0} (step : EventStep W C) (d n : ℕ) (s : MachineState W C) → n ≢ d → connection_of d (state_after_move step s (move.Lost n)).connections ≡ connection_of d s.connections
+other_lost : {W C : Type 0} (step : EventStep W C) (d n : ℕ) (s : MachineState W C) → n ≢ d
+    → connection_of d (state_after_move step s (move.Lost n)).connections ≡ connection_of d s.connections
 unfolding state_after_move
 other_lost step d n s differs = exchange_other d n with_gone with_gone-number differs s
 
-other_shut : {W C : Type 0} (step : EventStep W C) (d n : ℕ) (s : MachineState W C) → n ≢ d → connection_of d (state_after_move step s (move.Shut n)).connections ≡ connection_of d s.connections
+other_shut : {W C : Type 0} (step : EventStep W C) (d n : ℕ) (s : MachineState W C) → n ≢ d
+    → connection_of d (state_after_move step s (move.Shut n)).connections ≡ connection_of d s.connections
 unfolding state_after_move
 other_shut step d n s differs = exchange_other d n with_gone with_gone-number differs s
 
@@ -118,7 +128,8 @@ other_among d n blocked true differs = let t = test_other n d differs in rw t re
 other_among d n blocked false differs = refl
 
 -- the moves of one leave another
-pub serves-other : {W C : Type 0} (step : EventStep W C) (d c : ℕ) (ms : List Move) (x : Running W C) → c ≢ d → ServesOne step c x ms → IsSameAt d x (running_after_all step x ms)
+pub serves-other : {W C : Type 0} (step : EventStep W C) (d c : ℕ) (ms : List Move) (x : Running W C)
+    → c ≢ d → ServesOne step c x ms → IsSameAt d x (running_after_all step x ms)
 unfolding Serves state_after blocked_after
 serves-other step d c [] x differs serves = record { found = refl; blocked = refl }
 serves-other step d c (move.Took n offered bytes ∷ ms) x differs serves =

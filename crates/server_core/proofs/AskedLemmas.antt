@@ -1,5 +1,6 @@
 -- All connections after a tick or a reload: each is asked, and its frames are produced.
-use Rattle.std.proofs.Common.{◌≡◌, ℕ, zero, suc, ◌+◌, ◌<◌, List, [], ◌∷◌, length, map, get_or, set, Bool, true, false, refl, sym, ap, ◌∙◌, subst, inl, inr, arith}
+use Rattle.std.proofs.Common.{◌≡◌, ℕ, zero, suc, ◌+◌, ◌<◌, List, [], ◌∷◌, length, map, get_or, set, Bool, true}
+use Rattle.std.proofs.Common.{false, refl, sym, ap, ◌∙◌, subst, inl, inr, arith}
 use Rattle.std.specs.Prelude.{sum_by, filter, Option, Some, None, option_map}
 use Rattle.std.proofs.lemmas.Bool.{true≢false, cases_Bool, cases_lt, cond-true, cond-false, or_right}
 use Rattle.std.proofs.lemmas.List.{length-map, get_or-set_same, get_or-set_other}
@@ -68,16 +69,19 @@ present-given outcome (k ∷ ks) =
     let keeps = given_keeps outcome k in
     elim (cases_Bool k.gone) [
       | inl gone ↦ present-gone (f k) (map f ks) (keeps.gone ∙ gone) ∙ present-given outcome ks ∙ ap (map f) (sym (present-gone k ks gone))
-      | inr there ↦ present-there (f k) (map f ks) (keeps.gone ∙ there) ∙ ap (λ ls. f k ∷ ls) (present-given outcome ks) ∙ ap (map f) (sym (present-there k ks there))
+      | inr there ↦ present-there (f k) (map f ks) (keeps.gone ∙ there)
+          ∙ ap (λ ls. f k ∷ ls) (present-given outcome ks) ∙ ap (map f) (sym (present-there k ks there))
     ]
 
-found-given : (outcome : Outcomes) (n : ℕ) (ks : List ServedConnection) → connection_of n (map (after_given outcome) ks) ≡ option_map (after_given outcome) (connection_of n ks)
+found-given : (outcome : Outcomes) (n : ℕ) (ks : List ServedConnection)
+    → connection_of n (map (after_given outcome) ks) ≡ option_map (after_given outcome) (connection_of n ks)
 found-given outcome n ks = connection_of-map n (after_given outcome) (λ k. (given_keeps outcome k).number) ks
 
 apart-given : (outcome : Outcomes) (ks : List ServedConnection) → AreApart ks → AreApart (map (after_given outcome) ks)
 apart-given outcome [] apart = apart
 apart-given outcome (k ∷ ks) apart = (
-  ap (λ n. connection_of n (map (after_given outcome) ks)) (given_keeps outcome k).number ∙ found-given outcome k.number ks ∙ ap (option_map (after_given outcome)) apart.0,
+  ap (λ n. connection_of n (map (after_given outcome) ks)) (given_keeps outcome k).number
+      ∙ found-given outcome k.number ks ∙ ap (option_map (after_given outcome)) apart.0,
   apart-given outcome ks apart.1,
 )
 
@@ -89,7 +93,8 @@ none-given outcome n ks e = by (connection_of n ks) (sym (found-given outcome n 
     by (Some k) e = cc
 
 -- marks are those of numbers and of who is blocked
-marked_same : (blocked : List ℕ) (ts us : List Turned) (es fs : List (ℕ × Waiting)) → length ts ≡ length es → length us ≡ length fs → map mark_of fs ≡ map mark_of es
+marked_same : (blocked : List ℕ) (ts us : List Turned) (es fs : List (ℕ × Waiting))
+    → length ts ≡ length es → length us ≡ length fs → map mark_of fs ≡ map mark_of es
     → EachMarked blocked (conns_of ts es) → EachMarked blocked (conns_of us fs)
 marked_same blocked ts [] es [] a b same marks = tt
 marked_same blocked ts [] es (f ∷ fs) a b same marks = absurd (omega (arith, b))
@@ -115,7 +120,8 @@ all_there (k ∷ ks) = elim (cases_Bool k.gone) [
   | inr there ↦ subst AreThere (sym (present-there k ks there)) (there, all_there ks)
 ]
 
-pending_one : (old_plant plant : Plant) (outcome : Outcomes) (t u : Turned) (e : ℕ × Waiting) (k : ServedConnection) → IsAsked old_plant plant outcome t u → Stands old_plant (conn_of t e) k → k.gone ≡ false
+pending_one : (old_plant plant : Plant) (outcome : Outcomes) (t u : Turned) (e : ℕ × Waiting) (k : ServedConnection)
+    → IsAsked old_plant plant outcome t u → Stands old_plant (conn_of t e) k → k.gone ≡ false
     → IsPending plant outcome u e k
 pending_one old_plant plant outcome t u e k asked st there = record {
   closing = asked.skip ∙ st.closing;
@@ -140,12 +146,14 @@ pending_one old_plant plant outcome t u e k asked st there = record {
 }
   where
     stream : Represents u.session.stream (record { fed = k.received; given = k.frames_taken; told_broken = u.session.stream.told_broken })
-    stream = subst (λ (held : Held). Represents held (record { fed = k.received; given = k.frames_taken; told_broken = held.told_broken })) (sym asked.stream) st.stream
+    stream = subst (λ (held : Held). Represents held (record { fed = k.received; given = k.frames_taken; told_broken = held.told_broken }))
+        (sym asked.stream) st.stream
 
     gives : k.closing ≡ false → Gives plant (outcome k.client) u
     gives is_open = asked.gives (st.closing ∙ is_open) k.client (st.client is_open)
 
-pending_all : (old_plant plant : Plant) (outcome : Outcomes) (ts us : List Turned) (es : List (ℕ × Waiting)) (ps : List ServedConnection) → length ts ≡ length es → EachAsked old_plant plant outcome ts us
+pending_all : (old_plant plant : Plant) (outcome : Outcomes) (ts us : List Turned) (es : List (ℕ × Waiting)) (ps : List ServedConnection)
+    → length ts ≡ length es → EachAsked old_plant plant outcome ts us
     → EachStands old_plant (conns_of ts es) ps → AreThere ps → EachUpTo plant outcome zero us es ps
 pending_all old_plant plant outcome [] [] [] [] e asked each there = tt
 pending_all old_plant plant outcome [] [] [] (p ∷ ps) e asked each there = absurd each
@@ -154,8 +162,10 @@ pending_all old_plant plant outcome [] (u ∷ us) es ps e asked each there = abs
 pending_all old_plant plant outcome (t ∷ ts) [] es ps e asked each there = absurd asked
 pending_all old_plant plant outcome (t ∷ ts) (u ∷ us) [] ps e asked each there = absurd (omega (arith, e))
 pending_all old_plant plant outcome (t ∷ ts) (u ∷ us) (f ∷ fs) [] e asked each there = absurd each
-pending_all old_plant plant outcome (t ∷ ts) (u ∷ us) (f ∷ fs) (p ∷ ps) e asked each there =
-    (pending_one old_plant plant outcome t u f p asked.0 each.0 there.0, pending_all old_plant plant outcome ts us fs ps (omega (arith, e)) asked.1 each.1 there.1)
+pending_all old_plant plant outcome (t ∷ ts) (u ∷ us) (f ∷ fs) (p ∷ ps) e asked each there = (
+  pending_one old_plant plant outcome t u f p asked.0 each.0 there.0,
+  pending_all old_plant plant outcome ts us fs ps (omega (arith, e)) asked.1 each.1 there.1,
+)
 
 -- sums over those that are there, and over the others
 gone_ones : List ServedConnection → List ServedConnection
@@ -196,7 +206,8 @@ gone-given outcome (k ∷ ks) =
           ∙ sym (cond-false k.gone (k ∷ gone_ones ks) (gone_ones ks) there)
     ]
 
-grows_all : (outcome : Outcomes) (g : ServedConnection → ℕ) (p q : ℕ) (ks : List ServedConnection) → Grows p q (sum_by g (present ks)) (sum_by g (map (after_given outcome) (present ks)))
+grows_all : (outcome : Outcomes) (g : ServedConnection → ℕ) (p q : ℕ) (ks : List ServedConnection)
+    → Grows p q (sum_by g (present ks)) (sum_by g (map (after_given outcome) (present ks)))
     → p ≡ count_of (sum_by g ks) → q ≡ count_of (sum_by g (map (after_given outcome) ks))
 grows_all outcome g p q ks grows e =
     let before = sum_present g ks in
@@ -206,7 +217,8 @@ grows_all outcome g p q ks grows e =
     grows (sum_by g (gone_ones ks)) (e ∙ ap count_of (omega (arith, before))) ∙ ap count_of (omega (arith, after, here, gone))
 
 -- the counts follow
-pub counted_all : (outcome : Outcomes) (s t : Summary) (z y : ServedState) → y.connections ≡ map (after_given outcome) z.connections → y.accepted ≡ z.accepted → y.refused ≡ z.refused
+pub counted_all : (outcome : Outcomes) (s t : Summary) (z y : ServedState)
+    → y.connections ≡ map (after_given outcome) z.connections → y.accepted ≡ z.accepted → y.refused ≡ z.refused
     → CountsAll s t (present z.connections) (map (after_given outcome) (present z.connections)) → counts_in s ≡ summary_of z → counts_in t ≡ summary_of y
 counted_all outcome s t z y connections accepted refused c e =
     let ks = z.connections in
@@ -214,10 +226,13 @@ counted_all outcome s t z y connections accepted refused c e =
     let f : ServedConnection → ServedConnection = after_given outcome in
     let taken : ServedConnection → ℕ = λ k. k.frames_taken in
     let requests = grows_all outcome taken s.requests t.requests ks c.requests (ap (λ (q : CountsOfState). q.requests) e ∙ ap count_of (sum-map taken ks)) in
-    let replies = grows_all outcome replies_of s.replies t.replies ks c.replies (ap (λ (q : CountsOfState). q.replies) e ∙ ap count_of (produced_sum replies_in ks)) in
-    let samples = grows_all outcome samples_of s.samples t.samples ks c.samples (ap (λ (q : CountsOfState). q.samples) e ∙ ap count_of (produced_sum samples_in ks)) in
+    let replies = grows_all outcome replies_of s.replies t.replies ks c.replies
+    (ap (λ (q : CountsOfState). q.replies) e ∙ ap count_of (produced_sum replies_in ks)) in
+    let samples = grows_all outcome samples_of s.samples t.samples ks c.samples
+    (ap (λ (q : CountsOfState). q.samples) e ∙ ap count_of (produced_sum samples_in ks)) in
     same_counts_of (counts_in t) (summary_of y)
-    (c.connections ∙ ap (λ (q : CountsOfState). q.connections) e ∙ ap count_of (sym (length-map ks f)) ∙ ap (λ (js : List ServedConnection). count_of (length js)) (sym connections))
+    (c.connections ∙ ap (λ (q : CountsOfState). q.connections) e ∙ ap count_of (sym (length-map ks f))
+    ∙ ap (λ (js : List ServedConnection). count_of (length js)) (sym connections))
     (requests ∙ ap (λ (js : List ServedConnection). count_of (sum_by taken js)) (sym connections) ∙ ap count_of (sym (sum-map taken ls)))
     (replies ∙ ap (λ (js : List ServedConnection). count_of (sum_by replies_of js)) (sym connections) ∙ ap count_of (sym (produced_sum replies_in ls)))
     (samples ∙ ap (λ (js : List ServedConnection). count_of (sum_by samples_of js)) (sym connections) ∙ ap count_of (sym (produced_sum samples_in ls)))
@@ -229,7 +244,8 @@ pub record AllFollow (v w : ServerView) (s : Summary) (ws : List Wave) (x : Core
   pub serves : ServesEach w ws (record { state = y; blocked = x.blocked })
   pub counted : CountsAll s w.summary (present x.state.connections) (map (after_given outcome) (present x.state.connections))
 
-pub all_follow : (v w : ServerView) (s : Summary) (waves ws : List Wave) (x : CoreState) (outcome : Outcomes) (y : ServedState) (mid new : Clients) → ServesEach v waves x
+pub all_follow : (v w : ServerView) (s : Summary) (waves ws : List Wave) (x : CoreState) (outcome : Outcomes) (y : ServedState) (mid new : Clients)
+    → ServesEach v waves x
     → EachAsked x.state.world.plant y.world.plant outcome v.sessions mid.sessions.items → mid.waiting.entries ≡ v.entries → DeliversAll mid new s w.summary
     → w.sessions ≡ new.sessions.items → w.entries ≡ new.waiting.entries
     → HoldsState w.device ws y → y.connections ≡ map (after_given outcome) x.state.connections
@@ -244,17 +260,21 @@ all_follow v w s waves ws x outcome y mid new serves asked entries delivers new_
     (pending_all x.state.world.plant plant outcome v.sessions mid.sessions.items v.entries ps serves.aligned asked serves.connections.each (all_there ks)) in
     let done = all_done plant outcome new.sessions.items new.waiting.entries ps (delivers.each plant outcome ps pending) in
     let here : map f ps ≡ present y.connections = sym (present-given outcome ks) ∙ ap present (sym connections) in
-    let conns : conns_of new.sessions.items new.waiting.entries ≡ conns_in w = ap (λ ts. conns_of ts new.waiting.entries) (sym new_sessions) ∙ ap (λ es. conns_of w.sessions es) (sym new_entries) in
+    let conns : conns_of new.sessions.items new.waiting.entries ≡ conns_in w =
+    ap (λ ts. conns_of ts new.waiting.entries) (sym new_sessions) ∙ ap (λ es. conns_of w.sessions es) (sym new_entries) in
     record {
       serves = record {
         device = device;
         aligned = ap (λ (ts : List Turned). length ts) new_sessions ∙ delivers.aligned ∙ sym (ap (λ (es : List (ℕ × Waiting)). length es) new_entries);
         connections = record {
-          each = subst (λ cs. EachStands plant cs (present y.connections)) conns (subst (λ qs. EachStands plant (conns_of new.sessions.items new.waiting.entries) qs) here done);
+          each = subst (λ cs. EachStands plant cs (present y.connections)) conns
+              (subst (λ qs. EachStands plant (conns_of new.sessions.items new.waiting.entries) qs) here done);
           apart = subst AreApart (sym connections) (apart-given outcome ks serves.connections.apart);
-          marked = subst (λ cs. EachMarked x.blocked cs) conns (marked_same x.blocked v.sessions new.sessions.items v.entries new.waiting.entries serves.aligned delivers.aligned
+          marked = subst (λ cs. EachMarked x.blocked cs) conns
+              (marked_same x.blocked v.sessions new.sessions.items v.entries new.waiting.entries serves.aligned delivers.aligned
               (delivers.marks ∙ ap (map mark_of) entries) serves.connections.marked);
-          known = λ n none. serves.connections.known n (none-given outcome n ks (ap (λ (js : List ServedConnection). connection_of n js) (sym connections) ∙ none));
+          known = λ n none. serves.connections.known n
+              (none-given outcome n ks (ap (λ (js : List ServedConnection). connection_of n js) (sym connections) ∙ none));
         };
       };
       counted = delivers.counted plant outcome ps pending;
@@ -276,5 +296,6 @@ asked_more P ts us i u within one all k d below = elim (cases_lt k i) [
   | inl before ↦ subst (λ (z : Turned). P (get_or ts k d) z) (sym (get_or-set_other us i k u d (λ e. absurd (omega (arith, before, e))))) (all k d before)
   | inr last ↦
       let at : k ≡ i = omega (arith, last, below) in
-      subst (λ (j : ℕ). P (get_or ts j d) (get_or (set us i u) j d)) (sym at) (subst (λ (z : Turned). P (get_or ts i d) z) (sym (get_or-set_same us i u d within)) (one d))
+      subst (λ (j : ℕ). P (get_or ts j d) (get_or (set us i u) j d)) (sym at)
+      (subst (λ (z : Turned). P (get_or ts i d) z) (sym (get_or-set_same us i u d within)) (one d))
 ]

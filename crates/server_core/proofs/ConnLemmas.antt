@@ -39,7 +39,8 @@ conns_remove (s ∷ ss) (g ∷ gs) zero e = refl
 conns_remove (s ∷ ss) (g ∷ gs) (suc i) e = ap (λ cs. conn_of s g ∷ cs) (conns_remove ss gs i (omega (arith, e)))
 
 -- one of them changes
-pub conns_set : (ts : List Turned) (es : List (ℕ × Waiting)) (i : ℕ) (t : Turned) (w : Waiting) (n : ℕ) → length ts ≡ length es → i < length es → get_or (keys_of es) i 0 ≡ n
+pub conns_set : (ts : List Turned) (es : List (ℕ × Waiting)) (i : ℕ) (t : Turned) (w : Waiting) (n : ℕ)
+    → length ts ≡ length es → i < length es → get_or (keys_of es) i 0 ≡ n
     → conns_of (set ts i t) (set_value_at es i w) ≡ set (conns_of ts es) i (conn_of t (n, w))
 conns_set ts [] i t w n e below key = absurd (omega (arith, below))
 conns_set [] (g ∷ gs) i t w n e below key = absurd (omega (arith, e))
@@ -47,15 +48,18 @@ conns_set (s ∷ ss) (g ∷ gs) zero t w n e below key = ap (λ m. conn_of t (m,
 conns_set (s ∷ ss) (g ∷ gs) (suc i) t w n e below key = ap (λ cs. conn_of s g ∷ cs) (conns_set ss gs i t w n (omega (arith, e)) (omega (arith, below)) key)
 
 -- what waits changes alone
-pub conns_set_waiting : (ts : List Turned) (es : List (ℕ × Waiting)) (i : ℕ) (w : Waiting) (n : ℕ) (t : Turned) → length ts ≡ length es → i < length es → get_or (keys_of es) i 0 ≡ n
+pub conns_set_waiting : (ts : List Turned) (es : List (ℕ × Waiting)) (i : ℕ) (w : Waiting) (n : ℕ) (t : Turned)
+    → length ts ≡ length es → i < length es → get_or (keys_of es) i 0 ≡ n
     → conns_of ts (set_value_at es i w) ≡ set (conns_of ts es) i (conn_of (get_or ts i t) (n, w))
 conns_set_waiting ts [] i w n t e below key = absurd (omega (arith, below))
 conns_set_waiting [] (g ∷ gs) i w n t e below key = absurd (omega (arith, e))
 conns_set_waiting (s ∷ ss) (g ∷ gs) zero w n t e below key = ap (λ m. conn_of s (m, w) ∷ conns_of ss gs) key
-conns_set_waiting (s ∷ ss) (g ∷ gs) (suc i) w n t e below key = ap (λ cs. conn_of s g ∷ cs) (conns_set_waiting ss gs i w n t (omega (arith, e)) (omega (arith, below)) key)
+conns_set_waiting (s ∷ ss) (g ∷ gs) (suc i) w n t e below key =
+    ap (λ cs. conn_of s g ∷ cs) (conns_set_waiting ss gs i w n t (omega (arith, e)) (omega (arith, below)) key)
 
 -- what stands at a place
-pub conns_at : (ts : List Turned) (es : List (ℕ × Waiting)) (i : ℕ) (t : Turned) (w : Waiting) (d : Conn) → length ts ≡ length es → i < length es → slice_get (values_of es) i ≡ Some w
+pub conns_at : (ts : List Turned) (es : List (ℕ × Waiting)) (i : ℕ) (t : Turned) (w : Waiting) (d : Conn)
+    → length ts ≡ length es → i < length es → slice_get (values_of es) i ≡ Some w
     → conn_of (get_or ts i t) (get_or (keys_of es) i 0, w) ≡ get_or (conns_of ts es) i d
 conns_at ts [] i t w d e below value = absurd (omega (arith, below))
 conns_at [] (g ∷ gs) i t w d e below value = absurd (omega (arith, e))
@@ -89,7 +93,8 @@ no_entry_is_absent ts es n e none = λ k d below same. none k d.number (omega (a
     number_at k d = sym (number_read (conns_of ts es) k d) ∙ ap (λ ns. get_or ns k d.number) (conns_numbers ts es e)
 
 -- the connection of a session and of what waits
-pub conn_here : (ts : List Turned) (es : List (ℕ × Waiting)) (n i : ℕ) (t : Turned) (a : Waiting) → length ts ≡ length es → IsEntry es n i → slice_get (values_of es) i ≡ Some a
+pub conn_here : (ts : List Turned) (es : List (ℕ × Waiting)) (n i : ℕ) (t : Turned) (a : Waiting)
+    → length ts ≡ length es → IsEntry es n i → slice_get (values_of es) i ≡ Some a
     → conn_of (get_or ts i t) (n, a) ≡ get_or (conns_of ts es) i (conn_of t (n, a))
 conn_here ts es n i t a e at value =
     ap (λ m. conn_of (get_or ts i t) (m, a)) (sym (at.number 0)) ∙ conns_at ts es i t a (conn_of t (n, a)) e at.within value

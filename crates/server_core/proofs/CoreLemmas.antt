@@ -18,7 +18,8 @@ use Rattle.server_core.specs.ServerView.{ServerView}
 use Rattle.server_core.specs.Serves.{CoreView, StandsEach, ServesEach, ServesSome, Serves, FollowsEach, Follows}
 
 -- what is kept follows, and so does the core
-pub follows_core : (v w : CoreView) (x y : CoreState) → Serves v x → w.failed ≡ v.failed → w.waves ≡ v.waves → FollowsEach v.server w.server v.waves x y → Follows v w x y
+pub follows_core : (v w : CoreView) (x y : CoreState) → Serves v x → w.failed ≡ v.failed
+    → w.waves ≡ v.waves → FollowsEach v.server w.server v.waves x y → Follows v w x y
 follows_core v w x y s failed waves follows = record {
   serves = record { working = failed ∙ s.working; server = subst (λ (ws : List Wave). ServesEach w.server ws y) (sym waves) follows.serves };
   counted = follows.counted;
@@ -42,7 +43,8 @@ pub ended_some : (v w : ServerView) (waves : List Wave) (n : ℕ) → ServesSome
 ended_some v w waves n s follows = record { state = after_event s.state (event.Closed n); serves = (follows waves s.state s.serves).serves }
 
 -- nothing was opened
-pub started_serves : (v : ServerView) (waves : List Wave) (d : Description) → HoldsState v.device waves (server_start d waves) → v.sessions ≡ [] → v.entries ≡ [] → ServesEach v waves (started d waves)
+pub started_serves : (v : ServerView) (waves : List Wave) (d : Description)
+    → HoldsState v.device waves (server_start d waves) → v.sessions ≡ [] → v.entries ≡ [] → ServesEach v waves (started d waves)
 unfolding connection_of
 started_serves v waves d device sessions entries =
     let none : conns_of v.sessions v.entries ≡ [] = ap (λ ts. conns_of ts v.entries) sessions in
@@ -50,5 +52,6 @@ started_serves v waves d device sessions entries =
     record {
       device = device;
       aligned = ap (λ (ts : List Turned). length ts) sessions ∙ sym (ap (λ (es : List (ℕ × Waiting)). length es) entries);
-      connections = subst (λ (cs : List Conn). StandsEach x.state.world.plant cs x) (sym none) (record { each = tt; apart = tt; marked = tt; known = λ n e. refl });
+      connections = subst (λ (cs : List Conn). StandsEach x.state.world.plant cs x)
+          (sym none) (record { each = tt; apart = tt; marked = tt; known = λ n e. refl });
     }

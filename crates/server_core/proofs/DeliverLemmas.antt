@@ -1,5 +1,6 @@
 -- Frames of samples that connections give, produced connection after connection.
-use Rattle.std.proofs.Common.{◌≡◌, ℕ, zero, suc, ◌+◌, ◌<◌, List, [], ◌∷◌, ◌++◌, length, take, map, set, get_or, Bool, true, false, refl, sym, ap, ◌∙◌, subst, inl, inr, arith}
+use Rattle.std.proofs.Common.{◌≡◌, ℕ, zero, suc, ◌+◌, ◌<◌, List, [], ◌∷◌, ◌++◌, length, take, map, set, get_or}
+use Rattle.std.proofs.Common.{Bool, true, false, refl, sym, ap, ◌∙◌, subst, inl, inr, arith}
 use Rattle.std.specs.Prelude.{◌↔◌, sum_by, reverse, All, slice_get, Some, None, IsSome, Result, OnOk}
 use Rattle.ads_base.specs.declared.no_memory.NoMemory.{NoMemory}
 use Rattle.std.specs.Map.{values_of}
@@ -42,7 +43,8 @@ pub record DeliversSome (plant : Plant) (new : Conn) (s t : Summary) (all rest :
   pub counted : Counts s t k next
   pub same_end : produce_all rest next ≡ produce_all all k
 
-pub delivers_first : (plant : Plant) (conn : Conn) (s : Summary) (all : List Produced) (k : ServedConnection) → Stands plant conn k → DeliversSome plant conn s s all all k
+pub delivers_first : (plant : Plant) (conn : Conn) (s : Summary) (all : List Produced) (k : ServedConnection)
+    → Stands plant conn k → DeliversSome plant conn s s all all k
 delivers_first plant conn s all k st = record { next = k; stands = st; counted = same_counts s k; same_end = refl }
 
 pub delivers_next : (plant : Plant) (mid new : Conn) (s t u : Summary) (all rest : List Produced) (frame : Produced) (k : ServedConnection)
@@ -55,7 +57,8 @@ delivers_next plant mid new s t u all rest frame k some produces = record {
   same_end = some.same_end;
 }
 
-pub delivers_all : (plant : Plant) (new : Conn) (s t : Summary) (all : List Produced) (k : ServedConnection) → DeliversSome plant new s t all [] k → Delivers plant new s t all k
+pub delivers_all : (plant : Plant) (new : Conn) (s t : Summary) (all : List Produced) (k : ServedConnection)
+    → DeliversSome plant new s t all [] k → Delivers plant new s t all k
 unfolding produce_all
 delivers_all plant new s t all k some = record {
   stands = subst (λ l. Stands plant new l) some.same_end some.stands;
@@ -76,7 +79,8 @@ produce_all-closing [] k closing = refl
 produce_all-closing (f ∷ fs) k closing = ap (λ l. produce_all fs l) (produce-closing f k closing) ∙ produce_all-closing fs k closing
 
 -- nothing is produced for one that is closing
-pub delivers_closing : (plant : Plant) (conn : Conn) (s : Summary) (frames : List Produced) (k : ServedConnection) → Stands plant conn k → k.closing ≡ true → Delivers plant conn s s frames k
+pub delivers_closing : (plant : Plant) (conn : Conn) (s : Summary) (frames : List Produced) (k : ServedConnection)
+    → Stands plant conn k → k.closing ≡ true → Delivers plant conn s s frames k
 delivers_closing plant conn s frames k st closing =
     let same = sym (produce_all-closing frames k closing) in
     record { stands = subst (λ l. Stands plant conn l) same st; counted = subst (λ l. Counts s s k l) same (same_counts s k) }
@@ -86,7 +90,8 @@ pub record IsDone (plant : Plant) (outcome : Outcomes) (new : Conn) (s u : Summa
   pub stands : Stands plant new (after_given outcome k)
   pub counted : Counts s u k (after_given outcome k)
 
-pub is_done : (plant : Plant) (outcome : Outcomes) (t : Turned) (e : ℕ × Waiting) (new : Conn) (s u : Summary) (k : ServedConnection) → IsPending plant outcome t e k
+pub is_done : (plant : Plant) (outcome : Outcomes) (t : Turned) (e : ℕ × Waiting) (new : Conn) (s u : Summary) (k : ServedConnection)
+    → IsPending plant outcome t e k
     → ((l : ServedConnection) → Stands plant (conn_of t e) l → (l.closing ≡ false → All IsNoteFrame t.out) → Delivers plant new s u (map produced_of t.out) l)
     → IsDone plant outcome new s u k
 is_done plant outcome t e new s u k pending goes = elim (cases_Bool k.closing) [
@@ -117,9 +122,11 @@ pub record AtTurn (plant : Plant) (outcome : Outcomes) (i : ℕ) (ts : List Turn
   pub value : slice_get (values_of es) i ≡ Some a
   pub connection : slice_get ks i ≡ Some k
   pub pending : IsPending plant outcome t (n, a) k
-  pub next : (u : Turned) (b : Waiting) → Stands plant (conn_of u (n, b)) (after_given outcome k) → EachUpTo plant outcome (suc i) (set ts i u) (set_value_at es i b) ks
+  pub next : (u : Turned) (b : Waiting) → Stands plant (conn_of u (n, b)) (after_given outcome k)
+      → EachUpTo plant outcome (suc i) (set ts i u) (set_value_at es i b) ks
 
-pub at_turn : (plant : Plant) (outcome : Outcomes) (i : ℕ) (ts : List Turned) (es : List (ℕ × Waiting)) (ks : List ServedConnection) → EachUpTo plant outcome i ts es ks → i < length ts
+pub at_turn : (plant : Plant) (outcome : Outcomes) (i : ℕ) (ts : List Turned) (es : List (ℕ × Waiting)) (ks : List ServedConnection)
+    → EachUpTo plant outcome i ts es ks → i < length ts
     → AtTurn plant outcome i ts es ks
 at_turn plant outcome i [] es ks each below = absurd (omega (arith, below))
 at_turn plant outcome zero (t ∷ ts) [] [] each below = absurd each
@@ -153,7 +160,8 @@ at_turn plant outcome (suc i) (t ∷ ts) (e ∷ es) (k ∷ ks) each below =
       next = λ u b st. (each.0, at.next u b st);
     }
 
-pub up_to_length : (plant : Plant) (outcome : Outcomes) (i : ℕ) (ts : List Turned) (es : List (ℕ × Waiting)) (ks : List ServedConnection) → EachUpTo plant outcome i ts es ks → length ts ≡ length ks
+pub up_to_length : (plant : Plant) (outcome : Outcomes) (i : ℕ) (ts : List Turned) (es : List (ℕ × Waiting)) (ks : List ServedConnection)
+    → EachUpTo plant outcome i ts es ks → length ts ≡ length ks
 up_to_length plant outcome i [] [] [] each = refl
 up_to_length plant outcome zero [] [] (k ∷ ks) each = absurd each
 up_to_length plant outcome zero [] (e ∷ es) [] each = absurd each
@@ -171,7 +179,8 @@ up_to_length plant outcome (suc i) (t ∷ ts) (e ∷ es) [] each = absurd each
 up_to_length plant outcome (suc i) (t ∷ ts) (e ∷ es) (k ∷ ks) each = ap suc (up_to_length plant outcome i ts es ks each.1)
 
 -- all are done
-pub all_done : (plant : Plant) (outcome : Outcomes) (ts : List Turned) (es : List (ℕ × Waiting)) (ks : List ServedConnection) → EachUpTo plant outcome (length ks) ts es ks
+pub all_done : (plant : Plant) (outcome : Outcomes) (ts : List Turned) (es : List (ℕ × Waiting)) (ks : List ServedConnection)
+    → EachUpTo plant outcome (length ks) ts es ks
     → EachStands plant (conns_of ts es) (map (after_given outcome) ks)
 all_done plant outcome [] [] [] each = tt
 all_done plant outcome [] (e ∷ es) [] each = absurd each
@@ -194,7 +203,8 @@ sum_more g ks k =
     let nil : sum_by g [] ≡ 0 = refl in
     omega (arith, all, one, nil)
 
-pub counts_more : (s t u : Summary) (ks ls : List ServedConnection) (k l : ServedConnection) → CountsAll s t ks ls → Counts t u k l → CountsAll s u (ks ++ k ∷ []) (ls ++ l ∷ [])
+pub counts_more : (s t u : Summary) (ks ls : List ServedConnection) (k l : ServedConnection)
+    → CountsAll s t ks ls → Counts t u k l → CountsAll s u (ks ++ k ∷ []) (ls ++ l ∷ [])
 counts_more s t u ks ls k l first second = record {
   connections = second.connections ∙ first.connections;
   requests = grown (λ (j : ServedConnection). j.frames_taken) s.requests t.requests u.requests first.requests second.requests;
@@ -204,7 +214,8 @@ counts_more s t u ks ls k l first second = record {
   refused = second.refused ∙ first.refused;
 }
   where
-    grown : (g : ServedConnection → ℕ) (p q r : ℕ) → Grows p q (sum_by g ks) (sum_by g ls) → Grows q r (g k) (g l) → Grows p r (sum_by g (ks ++ k ∷ [])) (sum_by g (ls ++ l ∷ []))
+    grown : (g : ServedConnection → ℕ) (p q r : ℕ) → Grows p q (sum_by g ks) (sum_by g ls)
+        → Grows q r (g k) (g l) → Grows p r (sum_by g (ks ++ k ∷ [])) (sum_by g (ls ++ l ∷ []))
     grown g p q r one two =
         subst (λ m. Grows p r m (sum_by g (ls ++ l ∷ []))) (sym (sum_more g ks k))
         (subst (λ m. Grows p r (sum_by g ks + g k) m) (sym (sum_more g ls l)) (grows_more p q r (sum_by g ks) (sum_by g ls) (g k) (g l) one two))
@@ -223,18 +234,21 @@ counts_none s = record {
 pub reverse-last : {X : Type 0} (xs : List X) (x : X) → reverse (xs ++ x ∷ []) ≡ x ∷ reverse xs
 reverse-last xs x = reverse-append xs (x ∷ [])
 
-pub produced_of-last : (xs ys : List NoteFrame) (x : NoteFrame) → ys ≡ xs ++ x ∷ [] → map produced_of (reverse ys) ≡ produced_of x ∷ map produced_of (reverse xs)
+pub produced_of-last : (xs ys : List NoteFrame) (x : NoteFrame) → ys ≡ xs ++ x ∷ []
+    → map produced_of (reverse ys) ≡ produced_of x ∷ map produced_of (reverse xs)
 produced_of-last xs ys x e = ap (λ (zs : List NoteFrame). map produced_of (reverse zs)) e ∙ ap (map produced_of) (reverse-last xs x)
 
 pub fit-last : (xs ys : List NoteFrame) (x : NoteFrame) → ys ≡ xs ++ x ∷ [] → All IsNoteFrame (reverse ys) → All IsNoteFrame (x ∷ reverse xs)
 fit-last xs ys x e all = subst (λ (zs : List NoteFrame). All IsNoteFrame zs) (ap (λ (zs : List NoteFrame). reverse zs) e ∙ reverse-last xs x) all
 
 -- one more of them is produced
-pub record UpToNext (plant : Plant) (outcome : Outcomes) (i : ℕ) (ts : List Turned) (es : List (ℕ × Waiting)) (s u : Summary) (ks : List ServedConnection) : Type 0 where
+pub record UpToNext (plant : Plant) (outcome : Outcomes) (i : ℕ) (ts : List Turned)
+    (es : List (ℕ × Waiting)) (s u : Summary) (ks : List ServedConnection) : Type 0 where
   pub each : EachUpTo plant outcome (i + 1) ts es ks
   pub counted : CountsAll s u (take (i + 1) ks) (map (after_given outcome) (take (i + 1) ks))
 
-pub up_to_next : (plant : Plant) (outcome : Outcomes) (i : ℕ) (old new : Clients) (s t u : Summary) (ks : List ServedConnection) → DeliversAt i old new t u → i < length old.sessions.items
+pub up_to_next : (plant : Plant) (outcome : Outcomes) (i : ℕ) (old new : Clients) (s t u : Summary) (ks : List ServedConnection)
+    → DeliversAt i old new t u → i < length old.sessions.items
     → EachUpTo plant outcome i old.sessions.items old.waiting.entries ks → CountsAll s t (take i ks) (map (after_given outcome) (take i ks))
     → UpToNext plant outcome i new.sessions.items new.waiting.entries s u ks
 up_to_next plant outcome i old new s t u ks delivers below each counted =
@@ -259,7 +273,8 @@ up_to_next plant outcome i old new s t u ks delivers below each counted =
         take_more ls i l within ∙ ap (λ (m : ServedConnection). take i ls ++ m ∷ []) (get_or_from_slice_get ls i l l e)
 
 -- marks stay where one keeps its own
-pub marks-set : (es : List (ℕ × Waiting)) (i : ℕ) (b : Waiting) → ((a : Waiting) → slice_get (values_of es) i ≡ Some a → b.blocked ≡ a.blocked) → map mark_of (set_value_at es i b) ≡ map mark_of es
+pub marks-set : (es : List (ℕ × Waiting)) (i : ℕ) (b : Waiting)
+    → ((a : Waiting) → slice_get (values_of es) i ≡ Some a → b.blocked ≡ a.blocked) → map mark_of (set_value_at es i b) ≡ map mark_of es
 marks-set [] i b same = refl
 marks-set (e ∷ es) zero b same = ap (λ (m : Bool). (e.0, m) ∷ map mark_of es) (same e.1 refl)
 marks-set (e ∷ es) (suc i) b same = ap (λ (ms : List (ℕ × Bool)). mark_of e ∷ ms) (marks-set es i b same)
@@ -270,8 +285,10 @@ none_left [] len ok variant = refl
 none_left (x ∷ xs) len ok variant = absurd (true≢false (sym (variant.1 (omega (arith, ok)))))
 
 -- what one session gives is produced in its place
-pub delivers_at : (i : ℕ) (old new : Clients) (t u : Turned) (a b : Waiting) (s r : Summary) (result : Result (Unit {0}) NoMemory) → i < length old.sessions.items → t ≡ get_or old.sessions.items i t
-    → slice_get (values_of old.waiting.entries) i ≡ Some a → new.sessions.items ≡ set old.sessions.items i u → new.waiting.entries ≡ set_value_at old.waiting.entries i b → b.blocked ≡ a.blocked
+pub delivers_at : (i : ℕ) (old new : Clients) (t u : Turned) (a b : Waiting) (s r : Summary) (result : Result (Unit {0}) NoMemory)
+    → i < length old.sessions.items → t ≡ get_or old.sessions.items i t
+    → slice_get (values_of old.waiting.entries) i ≡ Some a → new.sessions.items ≡ set old.sessions.items i u
+    → new.waiting.entries ≡ set_value_at old.waiting.entries i b → b.blocked ≡ a.blocked
     → OnOk result ((plant : Plant) (n : ℕ) (k : ServedConnection) → Stands plant (conn_of t (n, a)) k → (k.closing ≡ false → All IsNoteFrame t.out)
     → Delivers plant (conn_of u (n, b)) s r (map produced_of t.out) k)
     → OnOk result (DeliversAt i old new s r)
@@ -284,7 +301,8 @@ delivers_at i old new t u a b s r result below read value sessions entries mark 
   goes = λ plant n k v other here there st fit.
       let same_t : v ≡ t = here ∙ get_or_default old.sessions.items i v t below ∙ sym read in
       let same_a : other ≡ a = sym (same_waiting there) in
-      let st_here = subst (λ (w : Waiting). Stands plant (conn_of t (n, w)) k) same_a (subst (λ (z : Turned). Stands plant (conn_of z (n, other)) k) same_t st) in
+      let st_here = subst (λ (w : Waiting). Stands plant (conn_of t (n, w)) k) same_a
+      (subst (λ (z : Turned). Stands plant (conn_of z (n, other)) k) same_t st) in
       subst (λ (z : Turned). Delivers plant (conn_of u (n, b)) s r (map produced_of z.out) k) (sym same_t)
       (produces plant n k st_here (subst (λ (z : Turned). k.closing ≡ false → All IsNoteFrame z.out) same_t fit));
 }) goes

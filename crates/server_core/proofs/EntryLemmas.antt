@@ -1,5 +1,6 @@
 -- Entries of a map by their numbers: where a number is found, and what an insertion adds.
-use Rattle.std.proofs.Common.{◌≡◌, ◌≢◌, ◌⊎◌, ℕ, zero, suc, ◌+◌, ◌<◌, ◌≤◌, List, [], ◌∷◌, ◌++◌, length, get_or, false, refl, sym, ap, ◌∙◌, inl, inr, nat_eq, true, arith}
+use Rattle.std.proofs.Common.{◌≡◌, ◌≢◌, ◌⊎◌, ℕ, zero, suc, ◌+◌, ◌<◌, ◌≤◌, List, [], ◌∷◌, ◌++◌, length, get_or}
+use Rattle.std.proofs.Common.{false, refl, sym, ap, ◌∙◌, inl, inr, nat_eq, true, arith}
 use Rattle.std.specs.Prelude.{◌==◌, not, nat_lt, take, slice_get, option_map, Option, Some, None, IfSome, IfNone, position}
 use Rattle.std.specs.List.{prefix_len, IsDistinct, AllByRecursion}
 use Rattle.std.specs.Map.{keys_of, values_of}
@@ -27,7 +28,8 @@ found_at es n i e =
     }
 
 -- what holds of each key behind the first, and of the first
-none_of_all : (j : ℕ) (js : List ℕ) (n : ℕ) → (n == j) ≡ false → ((k d : ℕ) → k < length js → get_or js k d ≢ n) → (k d : ℕ) → k < length (j ∷ js) → get_or (j ∷ js) k d ≢ n
+none_of_all : (j : ℕ) (js : List ℕ) (n : ℕ) → (n == j) ≡ false
+    → ((k d : ℕ) → k < length js → get_or js k d ≢ n) → (k d : ℕ) → k < length (j ∷ js) → get_or (j ∷ js) k d ≢ n
 none_of_all j js n other rest zero d below same = let no = sym other ∙ test_same n j (sym same) in cc
 none_of_all j js n other rest (suc k) d below same = rest k d (omega (arith, below)) same
 
@@ -44,7 +46,8 @@ none_at (j ∷ js) n all k d below same = elim (cases_Bool (n == j)) [
 
 none_found : (ks : List ℕ) (n : ℕ) → position (λ k. n == k) ks ≡ None → (k d : ℕ) → k < length ks → get_or ks k d ≢ n
 none_found ks n e = elim (cases_Bool (nat_lt (prefix_len (λ k. not (n == k)) ks) (length ks))) [
-  | inl t ↦ absurd (let some = sym (cond-true (nat_lt (prefix_len (λ k. not (n == k)) ks) (length ks)) (Some (prefix_len (λ k. not (n == k)) ks)) None t) ∙ e in cc)
+  | inl t ↦ absurd (let some = sym
+      (cond-true (nat_lt (prefix_len (λ k. not (n == k)) ks) (length ks)) (Some (prefix_len (λ k. not (n == k)) ks)) None t) ∙ e in cc)
   | inr t ↦ none_at ks n (ltb-false (prefix_len (λ k. not (n == k)) ks) (length ks) t)
 ]
 
@@ -97,7 +100,8 @@ entry_behind e es n i at = record {
 }
 
 -- what is read there
-pub read_at : {X : Type 0} (read : Waiting → X) (none : X) (es : List (ℕ × Waiting)) (n i : ℕ) (w : Waiting) → IsEntry es n i → slice_get (values_of es) i ≡ Some w
+pub read_at : {X : Type 0} (read : Waiting → X) (none : X) (es : List (ℕ × Waiting)) (n i : ℕ) (w : Waiting)
+    → IsEntry es n i → slice_get (values_of es) i ≡ Some w
     → read_among read none es n ≡ read w
 read_at read none [] n i w at value = absurd (omega (arith, at.within))
 read_at read none (e ∷ es) n zero w at value =
@@ -126,7 +130,8 @@ read_set read none (e ∷ es) n (suc i) w at =
 key_at : (es : List (ℕ × Waiting)) (i : ℕ) → slice_get (keys_of es) i ≡ option_map (λ (e : ℕ × Waiting). e.0) (slice_get es i)
 key_at es i = slice_get-map (λ (e : ℕ × Waiting). e.0) es i
 
-pub keys_next : (es : List (ℕ × Waiting)) (i n : ℕ) (o : Option ℕ) → o ≡ option_map (λ (e : ℕ × Waiting). e.0) (slice_get es i) → o ≡ Some n → take (i + 1) (keys_of es) ≡ take i (keys_of es) ++ n ∷ []
+pub keys_next : (es : List (ℕ × Waiting)) (i n : ℕ) (o : Option ℕ) → o ≡ option_map (λ (e : ℕ × Waiting). e.0) (slice_get es i)
+    → o ≡ Some n → take (i + 1) (keys_of es) ≡ take i (keys_of es) ++ n ∷ []
 keys_next es i n o read some =
     let here : slice_get (keys_of es) i ≡ Some n = key_at es i ∙ sym read ∙ some in
     let within = slice_get_within (keys_of es) i n here in
@@ -141,12 +146,14 @@ key_is_there es i o read below none =
     let some = slice_get-get_or (keys_of es) i 0 (omega (arith, below, keys_length es)) in
     let both = sym here ∙ some in cc
 
-pub key_there : (es : List (ℕ × Waiting)) (i : ℕ) (o : Option ℕ) → o ≡ option_map (λ (e : ℕ × Waiting). e.0) (slice_get es i) → i < length es → ((n : ℕ) → o ≡ Some n → ⊥) → ⊥
+pub key_there : (es : List (ℕ × Waiting)) (i : ℕ) (o : Option ℕ)
+    → o ≡ option_map (λ (e : ℕ × Waiting). e.0) (slice_get es i) → i < length es → ((n : ℕ) → o ≡ Some n → ⊥) → ⊥
 key_there es i None read below not_some = key_is_there es i None read below refl
 key_there es i (Some n) read below not_some = not_some n refl
 
 -- among keys of which none is equal to one before it, the place of a number is the first
-none_before : (es : List (ℕ × Waiting)) (x n i : ℕ) → AllByRecursion (λ y. nat_eq x y ≡ false) (keys_of es) → option_map (λ (e : ℕ × Waiting). e.0) (slice_get es i) ≡ Some n → x ≢ n
+none_before : (es : List (ℕ × Waiting)) (x n i : ℕ) → AllByRecursion (λ y. nat_eq x y ≡ false) (keys_of es)
+    → option_map (λ (e : ℕ × Waiting). e.0) (slice_get es i) ≡ Some n → x ≢ n
 none_before [] x n i none there same = absurd (let e : ◌≡◌ {A = Option ℕ} None (Some n) = there in cc)
 none_before (e ∷ es) x n zero none there same =
     let some : ◌≡◌ {A = Option ℕ} (Some e.0) (Some n) = there in
@@ -161,7 +168,8 @@ first_or_later : (e : ℕ × Waiting) (es : List (ℕ × Waiting)) (n i : ℕ) �
 first_or_later e es n i head rest zero d below same = head same
 first_or_later e es n i head rest (suc k) d below same = rest k d (omega (arith, below)) same
 
-pub entry_of_key : (es : List (ℕ × Waiting)) (n i : ℕ) → IsDistinct nat_eq (keys_of es) → option_map (λ (e : ℕ × Waiting). e.0) (slice_get es i) ≡ Some n → IsEntry es n i
+pub entry_of_key : (es : List (ℕ × Waiting)) (n i : ℕ) → IsDistinct nat_eq (keys_of es)
+    → option_map (λ (e : ℕ × Waiting). e.0) (slice_get es i) ≡ Some n → IsEntry es n i
 unfolding IsDistinct
 entry_of_key [] n i distinct there = absurd (let e : ◌≡◌ {A = Option ℕ} None (Some n) = there in cc)
 entry_of_key (e ∷ es) n zero distinct there =

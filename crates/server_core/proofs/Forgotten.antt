@@ -28,7 +28,8 @@ none_present n (k ∷ ks) e =
     let rest = none_present n ks (none_behind n k ks e) in
     elim (cases_Bool k.gone) [
       | inl gone ↦ ap (λ (ps : List ServedConnection). connection_of n ps) (present-gone k ks gone) ∙ rest
-      | inr there ↦ ap (λ (ps : List ServedConnection). connection_of n ps) (present-there k ks there) ∙ connection_of-other n k (present ks) (number_differs n k ks e) ∙ rest
+      | inr there ↦ ap (λ (ps : List ServedConnection). connection_of n ps) (present-there k ks there)
+          ∙ connection_of-other n k (present ks) (number_differs n k ks e) ∙ rest
     ]
 
 apart_present : (ks : List ServedConnection) → AreApart ks → AreApart (present ks)
@@ -63,7 +64,8 @@ among_kept p n (b ∷ bs) e = elim (cases_eq b n) [
   | inl same ↦ ap (is_among n) (cond-true (p b) (b ∷ filter p bs) (filter p bs) (ap p same ∙ e)) ∙ ap (λ q. (b == n) || q) (among_kept p n bs e)
   | inr other ↦ elim (cases_Bool (p b)) [
     | inl yes_ ↦ ap (is_among n) (cond-true (p b) (b ∷ filter p bs) (filter p bs) yes_) ∙ ap (λ q. (b == n) || q) (among_kept p n bs e)
-    | inr no_ ↦ ap (is_among n) (cond-false (p b) (b ∷ filter p bs) (filter p bs) no_) ∙ among_kept p n bs e ∙ ap (λ q. q || is_among n bs) (sym (test_other b n other))
+    | inr no_ ↦ ap (is_among n) (cond-false (p b) (b ∷ filter p bs) (filter p bs) no_)
+        ∙ among_kept p n bs e ∙ ap (λ q. q || is_among n bs) (sym (test_other b n other))
   ]
 ]
 
@@ -76,7 +78,8 @@ among_dropped p n (b ∷ bs) e = elim (cases_Bool (p b)) [
 ]
 
 marked_kept : (plant : Plant) (p : ℕ → Bool) (bs : List ℕ) (conns : List Conn) (ps : List ServedConnection) → EachStands plant conns ps
-    → (all : List ServedConnection) → AreFound all ps → ((n : ℕ) → is_some (connection_of n all) ≡ true → p n ≡ true) → EachMarked bs conns → EachMarked (filter p bs) conns
+    → (all : List ServedConnection) → AreFound all ps → ((n : ℕ) → is_some (connection_of n all) ≡ true → p n ≡ true)
+    → EachMarked bs conns → EachMarked (filter p bs) conns
 marked_kept plant p bs [] [] each all found keeps marks = marks
 marked_kept plant p bs [] (k ∷ ks) each all found keeps marks = absurd each
 marked_kept plant p bs (c ∷ cs) [] each all found keeps marks = absurd each

@@ -1,5 +1,7 @@
 -- The numbers of the connections that are to be served, in the code and in the machine.
-use Rattle.std.proofs.Common.{◌≡◌, ℕ, zero, suc, ◌+◌, ◌-◌, ◌<◌, ◌≤◌, List, [], ◌∷◌, ◌++◌, length, take, get_or, Bool, true, false, not, cond, refl, sym, ap, ◌∙◌, subst, inl, inr, zero-add, add-one, arith}
+use Rattle.std.proofs.Common.{◌≡◌, ℕ, zero, suc, ◌+◌, ◌-◌, ◌<◌, ◌≤◌, List, [], ◌∷◌, ◌++◌, length, take, get_or}
+use Rattle.std.proofs.Common.{Bool, true, false, not, cond, refl, sym, ap, ◌∙◌, subst, inl, inr, zero-add}
+use Rattle.std.proofs.Common.{add-one, arith}
 use Rattle.std.specs.Prelude.{◌||◌, ◌&&◌, filter, is_some, slice_get, Option, Some, None}
 use Rattle.std.specs.Option.{option_map}
 use Rattle.std.specs.Map.{keys_of}
@@ -43,26 +45,30 @@ none_before ts es (suc n) idle =
 suc_before : (j n : ℕ) → suc j + n ≡ suc (j + n)
 suc_before j n = omega arith
 
-same_numbers : (ts : List Turned) (es : List (ℕ × Waiting)) (n j : ℕ) → ((k : ℕ) → n ≤ k → number_if (due_at ts es k) (slice_get es k) ≡ []) → numbers_due ts es (j + n) ≡ numbers_due ts es n
+same_numbers : (ts : List Turned) (es : List (ℕ × Waiting)) (n j : ℕ)
+    → ((k : ℕ) → n ≤ k → number_if (due_at ts es k) (slice_get es k) ≡ []) → numbers_due ts es (j + n) ≡ numbers_due ts es n
 same_numbers ts es n zero none = ap (λ m. numbers_due ts es m) (zero-add n)
 same_numbers ts es n (suc j) none =
     ap (λ m. numbers_due ts es m) (suc_before j n)
     ∙ ap (λ ns. numbers_due ts es (j + n) ++ ns) (none (j + n) (omega arith)) ∙ append-nil (numbers_due ts es (j + n)) ∙ same_numbers ts es n j none
 
-same_up_to : (ts : List Turned) (es : List (ℕ × Waiting)) (n m : ℕ) → n ≤ m → ((k : ℕ) → n ≤ k → number_if (due_at ts es k) (slice_get es k) ≡ []) → numbers_due ts es m ≡ numbers_due ts es n
+same_up_to : (ts : List Turned) (es : List (ℕ × Waiting)) (n m : ℕ) → n ≤ m
+    → ((k : ℕ) → n ≤ k → number_if (due_at ts es k) (slice_get es k) ≡ []) → numbers_due ts es m ≡ numbers_due ts es n
 same_up_to ts es n m below none = by (m - n) (omega arith)
   where
     by : (j : ℕ) → m ≡ j + n → numbers_due ts es m ≡ numbers_due ts es n
     by j e = ap (λ i. numbers_due ts es i) e ∙ same_numbers ts es n j none
 
-pub all_due : (ts : List Turned) (es : List (ℕ × Waiting)) (n : ℕ) → ((k : ℕ) → n ≤ k → due_at ts es k ≡ false) → numbers_due ts es n ≡ numbers_due ts es (length es)
+pub all_due : (ts : List Turned) (es : List (ℕ × Waiting)) (n : ℕ)
+    → ((k : ℕ) → n ≤ k → due_at ts es k ≡ false) → numbers_due ts es n ≡ numbers_due ts es (length es)
 all_due ts es n idle = elim (cases_lt n (length es)) [
   | inl below ↦ sym (same_up_to ts es n (length es) (omega arith) (λ k past. no_number (due_at ts es k) (slice_get es k) (idle k past)))
   | inr past ↦ same_up_to ts es (length es) n past (λ k behind. ap (number_if (due_at ts es k)) (slice_get_past es k behind))
 ]
 
 -- what stands at a place
-conn_read : (ts : List Turned) (es : List (ℕ × Waiting)) (k : ℕ) (t : Turned) (e : ℕ × Waiting) (d : Conn) → slice_get ts k ≡ Some t → slice_get es k ≡ Some e → get_or (conns_of ts es) k d ≡ conn_of t e
+conn_read : (ts : List Turned) (es : List (ℕ × Waiting)) (k : ℕ) (t : Turned) (e : ℕ × Waiting) (d : Conn)
+    → slice_get ts k ≡ Some t → slice_get es k ≡ Some e → get_or (conns_of ts es) k d ≡ conn_of t e
 conn_read [] es k t e d a b = absurd (cc)
 conn_read (s ∷ ss) [] k t e d a b = absurd (cc)
 conn_read (s ∷ ss) (f ∷ fs) zero t e d a b =
@@ -72,7 +78,8 @@ conn_read (s ∷ ss) (f ∷ fs) zero t e d a b =
 conn_read (s ∷ ss) (f ∷ fs) (suc k) t e d a b = conn_read ss fs k t e d a b
 
 -- whether one is to be served is what the machine says of its number
-due_read : (v : ServerView) (waves : List Wave) (x : CoreState) (k : ℕ) (e : ℕ × Waiting) → ServesEach v waves x → slice_get v.entries k ≡ Some e → is_due x e.0 ≡ due_at v.sessions v.entries k
+due_read : (v : ServerView) (waves : List Wave) (x : CoreState) (k : ℕ) (e : ℕ × Waiting)
+    → ServesEach v waves x → slice_get v.entries k ≡ Some e → is_due x e.0 ≡ due_at v.sessions v.entries k
 due_read v waves x k e s there =
     let conns = conns_in v in
     let plant = x.state.world.plant in
@@ -121,12 +128,14 @@ one_passes test ts es n (Some f) e same so_far =
     ap (λ ns. ns ++ number_if (due_at ts es n) (Some f)) so_far ∙ ap (λ b. filter test ks ++ cond b (f.0 ∷ []) []) (sym (same f e))
     ∙ sym (filter-append test ks (f.0 ∷ [])) ∙ ap (filter test) (sym next)
 
-numbers_pass : (test : ℕ → Bool) (ts : List Turned) (es : List (ℕ × Waiting)) → ((k : ℕ) (e : ℕ × Waiting) → slice_get es k ≡ Some e → test e.0 ≡ due_at ts es k)
+numbers_pass : (test : ℕ → Bool) (ts : List Turned) (es : List (ℕ × Waiting))
+    → ((k : ℕ) (e : ℕ × Waiting) → slice_get es k ≡ Some e → test e.0 ≡ due_at ts es k)
     → (n : ℕ) → numbers_due ts es n ≡ filter test (take n (keys_of es))
 numbers_pass test ts es same zero = refl
 numbers_pass test ts es same (suc n) = one_passes test ts es n (slice_get es n) refl (same n) (numbers_pass test ts es same n)
 
-pub due_numbers_are : (v : ServerView) (waves : List Wave) (x : CoreState) → ServesEach v waves x → numbers_due v.sessions v.entries (length v.entries) ≡ filter (is_due x) (present_numbers x.state)
+pub due_numbers_are : (v : ServerView) (waves : List Wave) (x : CoreState) → ServesEach v waves x
+    → numbers_due v.sessions v.entries (length v.entries) ≡ filter (is_due x) (present_numbers x.state)
 due_numbers_are v waves x s =
     numbers_pass (is_due x) v.sessions v.entries (λ k e there. due_read v waves x k e s there) (length v.entries)
     ∙ ap (filter (is_due x)) (keys_all v.entries (length v.entries) (omega arith) ∙ numbers_are v waves x s)

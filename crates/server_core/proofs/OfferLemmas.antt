@@ -1,5 +1,6 @@
 -- What is read of a core, in the code and in the machine.
-use Rattle.std.proofs.Common.{◌≡◌, ℕ, ◌<◌, ◌≤◌, List, [], ◌∷◌, length, map, get_or, Bool, true, false, not, cond, Bor, refl, sym, ap, ◌∙◌, subst, inl, inr, arith}
+use Rattle.std.proofs.Common.{◌≡◌, ℕ, ◌<◌, ◌≤◌, List, [], ◌∷◌, length, map, get_or, Bool, true, false, not}
+use Rattle.std.proofs.Common.{cond, Bor, refl, sym, ap, ◌∙◌, subst, inl, inr, arith}
 use Rattle.std.specs.Prelude.{◌&&◌, nat_lt, drop, ◌==◌, Option, Some, None, IsNone, IsSomeAnd, IfSome, option_copied, slice_get}
 use Rattle.std.specs.Option.{option_map}
 use Rattle.std.specs.Map.{keys_of}
@@ -28,7 +29,8 @@ use Rattle.server_core.proofs.ServeLemmas.{served_at}
 use Rattle.server_core.proofs.StandLemmas.{at_mark}
 
 -- the front of a queue, as a reference
-pub front_is : (r : Option (Bor (List ℕ))) (out : List (List ℕ)) → (IsNone r → out ≡ []) → IfSome r (λ left. front_of out ≡ Some left.now) → option_copied r ≡ front_of out
+pub front_is : (r : Option (Bor (List ℕ))) (out : List (List ℕ)) → (IsNone r → out ≡ [])
+    → IfSome r (λ left. front_of out ≡ Some left.now) → option_copied r ≡ front_of out
 front_is None out empty first = sym (ap front_of (empty refl))
 front_is (Some left) out empty first = sym first
 
@@ -36,7 +38,8 @@ front_is (Some left) out empty first = sym first
 pub waiting_there : (plant : Plant) (conn : Conn) (k : ServedConnection) → Stands plant conn k → k.gone ≡ false → waiting_of (Some k) ≡ conn.out
 waiting_there plant conn k s there = cond-false k.gone [] (left_after k.bytes_taken (map bytes_of k.produced)) there ∙ sym s.waiting
 
-offer_found : (v : ServerView) (waves : List Wave) (x : CoreState) (n : ℕ) → ServesEach v waves x → (e : HasEntry v.entries n) → offer_of_waiting e.waiting ≡ offer_at n x
+offer_found : (v : ServerView) (waves : List Wave) (x : CoreState) (n : ℕ)
+    → ServesEach v waves x → (e : HasEntry v.entries n) → offer_of_waiting e.waiting ≡ offer_at n x
 offer_found v waves x n s e =
     let i = e.i in
     let conns = conns_in v in
@@ -67,7 +70,8 @@ absent_there v waves x n s none =
 pub offer_is : (v : ServerView) (waves : List Wave) (x : CoreState) (n : ℕ) → ServesEach v waves x → offer_among v.entries n ≡ offer_at n x
 offer_is v waves x n s = elim (entry_or_not v.entries n) [
   | inl e ↦ read_at offer_of_waiting None v.entries n e.i e.waiting e.place e.value ∙ offer_found v waves x n s e
-  | inr none ↦ read_absent offer_of_waiting None v.entries n none ∙ sym (no_offer (is_among n x.blocked) (waiting_at n x.state) (nothing_waits n x (absent_there v waves x n s none)))
+  | inr none ↦ read_absent offer_of_waiting None v.entries n none
+      ∙ sym (no_offer (is_among n x.blocked) (waiting_at n x.state) (nothing_waits n x (absent_there v waves x n s none)))
 ]
 
 -- what is offered: it is not blocked, and its first frame is there
@@ -88,7 +92,8 @@ fits_first n w h = elim (cases_Bool w.blocked) [
 ]
 
 -- fewer offers are left once bytes of one were taken
-pub fewer_left : (n : ℕ) (w u : Waiting) → IsSomeAnd (offer_of_waiting w) (λ left. n ≤ length left) → u.out ≡ frames_after n w.out → u.blocked ≡ nat_lt n (length (first_left w.out))
+pub fewer_left : (n : ℕ) (w u : Waiting) → IsSomeAnd (offer_of_waiting w) (λ left. n ≤ length left)
+    → u.out ≡ frames_after n w.out → u.blocked ≡ nat_lt n (length (first_left w.out))
     → offers_of_waiting u < offers_of_waiting w
 fewer_left n w u h out blocked = elim (cases_Bool w.blocked) [
   | inl b ↦ absurd (subst (λ o. IsSomeAnd o (λ left. n ≤ length left)) (cond-true w.blocked None (front_of w.out) b) h)
@@ -100,7 +105,8 @@ fewer_left n w u h out blocked = elim (cases_Bool w.blocked) [
       omega (arith, before, after, less)
 ]
   where
-    by : (fs : List (List ℕ)) → IsSomeAnd (front_of fs) (λ left. n ≤ length left) → cond (nat_lt n (length (first_left fs))) 0 (length (frames_after n fs)) < length fs
+    by : (fs : List (List ℕ)) → IsSomeAnd (front_of fs) (λ left. n ≤ length left)
+        → cond (nat_lt n (length (first_left fs))) 0 (length (frames_after n fs)) < length fs
     by [] h = absurd h
     by (f ∷ fs) h = elim (cases_Bool (nat_lt n (length f))) [
       | inl t ↦ let e = cond-true (nat_lt n (length f)) 0 (length (frames_after n (f ∷ fs))) t in omega (arith, e)
@@ -113,7 +119,8 @@ fewer_left n w u h out blocked = elim (cases_Bool w.blocked) [
     ]
 
 -- whether it is to be shut
-pub closing_found : (v : ServerView) (waves : List Wave) (x : CoreState) (n i : ℕ) (t : Turned) → ServesEach v waves x → (e : HasEntry v.entries n) → e.i ≡ i → t ≡ get_or v.sessions i t
+pub closing_found : (v : ServerView) (waves : List Wave) (x : CoreState) (n i : ℕ) (t : Turned)
+    → ServesEach v waves x → (e : HasEntry v.entries n) → e.i ≡ i → t ≡ get_or v.sessions i t
     → t.skip ≡ is_to_be_shut_at n x
 closing_found v waves x n i t s e same read =
     let d = conn_of t (n, e.waiting) in
@@ -136,7 +143,8 @@ keys_at es n = sym (slice_get-map (λ (e : ℕ × Waiting). e.0) es n)
 pub number_read : (v : ServerView) (waves : List Wave) (x : CoreState) (n : ℕ) → ServesEach v waves x
     → option_map (λ (e : ℕ × Waiting). e.0) (slice_get v.entries n) ≡ slice_get (present_numbers x.state) n
 number_read v waves x n s =
-    keys_at v.entries n ∙ ap (λ ns. slice_get ns n) (sym (conns_numbers v.sessions v.entries s.aligned) ∙ numbers-same x.state.world.plant (conns_in v) (present x.state.connections) s.connections.each)
+    keys_at v.entries n ∙ ap (λ ns. slice_get ns n)
+    (sym (conns_numbers v.sessions v.entries s.aligned) ∙ numbers-same x.state.world.plant (conns_in v) (present x.state.connections) s.connections.each)
 
 -- some connection, where an entry is there
 pub some_conn : (v : ServerView) (waves : List Wave) (x : CoreState) (n i : ℕ) → ServesEach v waves x → IsEntry v.entries n i → Conn

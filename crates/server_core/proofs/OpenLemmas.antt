@@ -27,14 +27,16 @@ use Rattle.server_core.proofs.StateLemmas.{connection_of-other, none_of_nil}
 use Rattle.server_core.proofs.StreamLemmas.{own_mark}
 
 -- a number that is there is not new
-pub opened_again : (v : ServerView) (waves : List Wave) (x : CoreState) (n i : ℕ) → ServesEach v waves x → IsEntry v.entries n i → connection_of n x.state.connections ≡ None → ⊥
+pub opened_again : (v : ServerView) (waves : List Wave) (x : CoreState) (n i : ℕ)
+    → ServesEach v waves x → IsEntry v.entries n i → connection_of n x.state.connections ≡ None → ⊥
 opened_again v waves x n i s place new =
     let d = first_conn (conns_in v) i (omega (arith, place.within, conns_length v.sessions v.entries s.aligned)) in
     let at = served_at v waves x n i d s place in
     let both = sym new ∙ at.found in cc
 
 -- a new session stands for a new connection
-fresh_stands : (plant : Plant) (n : ℕ) (t : Turned) (a : Waiting) → IsFreshSession t → IsNothing a → Stands plant (conn_of t (n, a)) (fresh_connection served.new_client n)
+fresh_stands : (plant : Plant) (n : ℕ) (t : Turned) (a : Waiting) → IsFreshSession t
+    → IsNothing a → Stands plant (conn_of t (n, a)) (fresh_connection served.new_client n)
 unfolding served left_after
 fresh_stands plant n t a fresh nothing = record {
   number = refl;
@@ -46,14 +48,17 @@ fresh_stands plant n t a fresh nothing = record {
 }
 
 pub opens_new : (old new : Server) (n : ℕ) (waves : List Wave) (x : CoreState) → Opens n old.clients new.clients → new.device ≡ old.device
-    → new.summary ≡ (let s = old.summary in record s { connections = count_of (s.connections + 1) }) → ServesEach (view_of old) waves x → connection_of n x.state.connections ≡ None
+    → new.summary ≡ (let s = old.summary in record s { connections = count_of (s.connections + 1) })
+    → ServesEach (view_of old) waves x → connection_of n x.state.connections ≡ None
     → FollowsEach (view_of old) (view_of new) waves x (after_event x (event.Opened n))
 opens_new old new n waves x opens device counts s is_new =
-    opened_follows (view_of old) (view_of new) waves x n opens.turned opens.waiting s is_new (fresh_stands x.state.world.plant n opens.turned opens.waiting opens.fresh opens.nothing)
+    opened_follows (view_of old) (view_of new) waves x n opens.turned opens.waiting s is_new
+    (fresh_stands x.state.world.plant n opens.turned opens.waiting opens.fresh opens.nothing)
     opens.nothing.free device counts opens.sessions opens.entries
 
 -- no connection that is there has a number that the code's connections have not
-not_present : (plant : Plant) (n : ℕ) (conns : List Conn) (ps : List ServedConnection) → EachStands plant conns ps → IsAbsent conns n → connection_of n ps ≡ None
+not_present : (plant : Plant) (n : ℕ) (conns : List Conn) (ps : List ServedConnection)
+    → EachStands plant conns ps → IsAbsent conns n → connection_of n ps ≡ None
 not_present plant n [] [] each absent_ = none_of_nil n
 not_present plant n [] (p ∷ ps) each absent_ = absurd each
 not_present plant n (c ∷ cs) [] each absent_ = absurd each
@@ -62,8 +67,10 @@ not_present plant n (c ∷ cs) (p ∷ ps) each absent_ =
     connection_of-other n p ps (λ e. All-head P c cs absent_ (each.0.number ∙ e)) ∙ not_present plant n cs ps each.1 (All-tail P c cs absent_)
 
 -- there is a state after an opening whose number is not there
-pub opened_some : (old new : Server) (n : ℕ) (waves : List Wave) → IsNoEntry old.clients.waiting.entries n → Opens n old.clients new.clients → new.device ≡ old.device
-    → new.summary ≡ (let s = old.summary in record s { connections = count_of (s.connections + 1) }) → ServesSome (view_of old) waves → ServesSome (view_of new) waves
+pub opened_some : (old new : Server) (n : ℕ) (waves : List Wave)
+    → IsNoEntry old.clients.waiting.entries n → Opens n old.clients new.clients → new.device ≡ old.device
+    → new.summary ≡ (let s = old.summary in record s { connections = count_of (s.connections + 1) })
+    → ServesSome (view_of old) waves → ServesSome (view_of new) waves
 opened_some old new n waves none opens device counts s =
     let v = view_of old in
     let x = without_gone s.state in

@@ -1,5 +1,6 @@
 -- A connection of the code at its place, and the one of the machine that it stands for.
-use Rattle.std.proofs.Common.{◌≡◌, ◌≢◌, ◌⊎◌, ℕ, zero, suc, ◌<◌, List, [], ◌∷◌, ◌++◌, length, map, set, get_or, true, false, refl, sym, ap, ◌∙◌, subst, inl, inr, arith}
+use Rattle.std.proofs.Common.{◌≡◌, ◌≢◌, ◌⊎◌, ℕ, zero, suc, ◌<◌, List, [], ◌∷◌, ◌++◌, length, map, set, get_or}
+use Rattle.std.proofs.Common.{true, false, refl, sym, ap, ◌∙◌, subst, inl, inr, arith}
 use Rattle.std.specs.Prelude.{remove, Some, None}
 use Rattle.std.proofs.lemmas.Bool.{cases_Bool, cases_eq}
 use Rattle.std.proofs.lemmas.List.Elements.{All-head, All-tail}
@@ -12,7 +13,9 @@ use Rattle.server_core.specs.ConnStands.{Stands}
 use Rattle.server_core.specs.Places.{IsAbsent}
 use Rattle.ads_served.specs.Opened.{AreApart}
 use Rattle.server_core.specs.Serves.{present, EachStands, EachMarked}
-use Rattle.server_core.proofs.StateLemmas.{present-gone, present-there, connection_of-same, connection_of-other, put_back-same, put_back-other, none_of_nil, none_behind, number_differs}
+use Rattle.server_core.proofs.StateLemmas.{present-gone, present-there, connection_of-same}
+use Rattle.server_core.proofs.StateLemmas.{connection_of-other, put_back-same, put_back-other, none_of_nil}
+use Rattle.server_core.proofs.StateLemmas.{none_behind, number_differs}
 
 -- a change of the blocked connections that concerns one number alone
 abbrev pub Concerns : ℕ → List ℕ → List ℕ → Type 0
@@ -38,9 +41,11 @@ module _ (plant : Plant) where
     pub found : connection_of n ks ≡ Some k
     pub there : k.gone ≡ false
     pub stands : Stands plant conn k
-    pub put : (new : Conn) (l : ServedConnection) → Stands plant new l → l.number ≡ n → l.gone ≡ false → EachStands plant (set conns i new) (present (put_back l ks))
+    pub put : (new : Conn) (l : ServedConnection) → Stands plant new l → l.number ≡ n
+        → l.gone ≡ false → EachStands plant (set conns i new) (present (put_back l ks))
     pub ended : (l : ServedConnection) → l.number ≡ n → l.gone ≡ true → EachStands plant (remove conns i) (present (put_back l ks))
-    pub marked : (old new : List ℕ) (c : Conn) → Concerns n old new → c.number ≡ n → c.blocked ≡ is_among n new → EachMarked old conns → EachMarked new (set conns i c)
+    pub marked : (old new : List ℕ) (c : Conn) → Concerns n old new → c.number ≡ n
+        → c.blocked ≡ is_among n new → EachMarked old conns → EachMarked new (set conns i c)
 
   -- a connection that is gone stands before it
   behind_gone : (conns : List Conn) (k : ServedConnection) (ks : List ServedConnection) (n i : ℕ) (conn : Conn) → k.gone ≡ true → k.number ≢ n
@@ -51,14 +56,17 @@ module _ (plant : Plant) where
     there = at.there;
     stands = at.stands;
     put = λ new l s number there.
-        subst (λ ps. EachStands plant (set conns i new) ps) (sym (ap present (put_back-other l k ks (λ e. other (e ∙ number))) ∙ present-gone k (put_back l ks) gone)) (at.put new l s number there);
+        subst (λ ps. EachStands plant (set conns i new) ps)
+        (sym (ap present (put_back-other l k ks (λ e. other (e ∙ number))) ∙ present-gone k (put_back l ks) gone)) (at.put new l s number there);
     ended = λ l number is_gone.
-        subst (λ ps. EachStands plant (remove conns i) ps) (sym (ap present (put_back-other l k ks (λ e. other (e ∙ number))) ∙ present-gone k (put_back l ks) gone)) (at.ended l number is_gone);
+        subst (λ ps. EachStands plant (remove conns i) ps)
+        (sym (ap present (put_back-other l k ks (λ e. other (e ∙ number))) ∙ present-gone k (put_back l ks) gone)) (at.ended l number is_gone);
     marked = at.marked;
   }
 
   -- a connection that is there stands before it
-  behind_there : (c : Conn) (cs : List Conn) (k : ServedConnection) (ks : List ServedConnection) (n i : ℕ) (conn : Conn) → Stands plant c k → k.gone ≡ false → k.number ≢ n
+  behind_there : (c : Conn) (cs : List Conn) (k : ServedConnection) (ks : List ServedConnection) (n i : ℕ) (conn : Conn)
+      → Stands plant c k → k.gone ≡ false → k.number ≢ n
       → AtPlace cs ks n i conn → AtPlace (c ∷ cs) (k ∷ ks) n (suc i) conn
   behind_there c cs k ks n i conn s there other at = record {
     k = at.k;
@@ -66,9 +74,11 @@ module _ (plant : Plant) where
     there = at.there;
     stands = at.stands;
     put = λ new l t number here.
-        subst (λ ps. EachStands plant (c ∷ set cs i new) ps) (sym (ap present (put_back-other l k ks (λ e. other (e ∙ number))) ∙ present-there k (put_back l ks) there)) (s, at.put new l t number here);
+        subst (λ ps. EachStands plant (c ∷ set cs i new) ps)
+        (sym (ap present (put_back-other l k ks (λ e. other (e ∙ number))) ∙ present-there k (put_back l ks) there)) (s, at.put new l t number here);
     ended = λ l number is_gone.
-        subst (λ ps. EachStands plant (c ∷ remove cs i) ps) (sym (ap present (put_back-other l k ks (λ e. other (e ∙ number))) ∙ present-there k (put_back l ks) there)) (s, at.ended l number is_gone);
+        subst (λ ps. EachStands plant (c ∷ remove cs i) ps)
+        (sym (ap present (put_back-other l k ks (λ e. other (e ∙ number))) ∙ present-there k (put_back l ks) there)) (s, at.ended l number is_gone);
     marked = λ old new d concerns number blocked all.
         (all.0 ∙ sym (concerns c.number (λ e. other (sym s.number ∙ e))), at.marked old new d concerns number blocked all.1);
   }
@@ -89,11 +99,13 @@ module _ (plant : Plant) where
       let rest = none_has n ks (none_behind n k ks none) old new concerns in
       elim (cases_Bool k.gone) [
         | inl gone ↦ rest conns (subst (λ ps. EachStands plant conns ps) (present-gone k ks gone) each) all
-        | inr there ↦ here_none n k (present ks) (number_differs n k ks none) old new concerns rest conns (subst (λ ps. EachStands plant conns ps) (present-there k ks there) each) all
+        | inr there ↦ here_none n k (present ks) (number_differs n k ks none) old new concerns rest conns
+            (subst (λ ps. EachStands plant conns ps) (present-there k ks there) each) all
       ]
 
   -- the first of the list is the one
-  at_head : (c : Conn) (cs : List Conn) (k : ServedConnection) (ks : List ServedConnection) (n : ℕ) → Stands plant c k → EachStands plant cs (present ks) → k.gone ≡ false
+  at_head : (c : Conn) (cs : List Conn) (k : ServedConnection) (ks : List ServedConnection) (n : ℕ)
+      → Stands plant c k → EachStands plant cs (present ks) → k.gone ≡ false
       → connection_of k.number ks ≡ None → c.number ≡ n → AtPlace (c ∷ cs) (k ∷ ks) n zero c
   at_head c cs k ks n s each there none number =
       let same : k.number ≡ n = sym s.number ∙ number in
@@ -115,7 +127,8 @@ module _ (plant : Plant) where
   -- the first of those that are there stands for this connection
   at_first : (k : ServedConnection) (ks : List ServedConnection) (n : ℕ) (d : Conn) → k.gone ≡ false → connection_of k.number ks ≡ None
       → ((cs : List Conn) (i : ℕ) → EachStands plant cs (present ks) → i < length cs → (get_or cs i d).number ≡ n → AtPlace cs ks n i (get_or cs i d))
-      → (conns : List Conn) (i : ℕ) → EachStands plant conns (k ∷ present ks) → i < length conns → (get_or conns i d).number ≡ n → AtPlace conns (k ∷ ks) n i (get_or conns i d)
+      → (conns : List Conn) (i : ℕ) → EachStands plant conns (k ∷ present ks) → i < length conns
+      → (get_or conns i d).number ≡ n → AtPlace conns (k ∷ ks) n i (get_or conns i d)
   at_first k ks n d there none rest [] i each below number = absurd each
   at_first k ks n d there none rest (c ∷ cs) zero each below number = at_head c cs k ks n each.0 each.1 there none number
   at_first k ks n d there none rest (c ∷ cs) (suc i) each below number =
@@ -138,7 +151,8 @@ module _ (plant : Plant) where
         | inr there ↦ at_first k ks n d there apart.0 rest conns i (subst (λ ps. EachStands plant conns ps) (present-there k ks there) each) below number
       ]
 
-  absent_first : (n : ℕ) (k : ServedConnection) (ks : List ServedConnection) → ((cs : List Conn) → EachStands plant cs (present ks) → IsAbsent cs n → IsNotThere n ks)
+  absent_first : (n : ℕ) (k : ServedConnection) (ks : List ServedConnection)
+      → ((cs : List Conn) → EachStands plant cs (present ks) → IsAbsent cs n → IsNotThere n ks)
       → (conns : List Conn) → EachStands plant conns (k ∷ present ks) → IsAbsent conns n → IsNotThere n (k ∷ ks)
   absent_first n k ks rest [] each absent_ = absurd each
   absent_first n k ks rest (c ∷ cs) each absent_ =
@@ -165,18 +179,21 @@ module _ (plant : Plant) where
   marked_removed blocked (c ∷ cs) zero all = all.1
   marked_removed blocked (c ∷ cs) (suc i) all = (all.0, marked_removed blocked cs i all.1)
 
-  pub marked_append : (blocked : List ℕ) (conns : List Conn) (c : Conn) → EachMarked blocked conns → c.blocked ≡ is_among c.number blocked → EachMarked blocked (conns ++ c ∷ [])
+  pub marked_append : (blocked : List ℕ) (conns : List Conn) (c : Conn) → EachMarked blocked conns
+      → c.blocked ≡ is_among c.number blocked → EachMarked blocked (conns ++ c ∷ [])
   marked_append blocked [] c all new = (new, tt)
   marked_append blocked (d ∷ ds) c all new = (all.0, marked_append blocked ds c all.1 new)
 
-  pub stands_append : (conns : List Conn) (ps : List ServedConnection) (c : Conn) (k : ServedConnection) → EachStands plant conns ps → Stands plant c k → EachStands plant (conns ++ c ∷ []) (ps ++ k ∷ [])
+  pub stands_append : (conns : List Conn) (ps : List ServedConnection) (c : Conn) (k : ServedConnection)
+      → EachStands plant conns ps → Stands plant c k → EachStands plant (conns ++ c ∷ []) (ps ++ k ∷ [])
   stands_append [] [] c k each s = (s, tt)
   stands_append [] (p ∷ ps) c k each s = absurd each
   stands_append (d ∷ ds) [] c k each s = absurd each
   stands_append (d ∷ ds) (p ∷ ps) c k each s = (each.0, stands_append ds ps c k each.1 s)
 
   -- the numbers of the code's connections are those of the machine's
-  pub numbers-same : (conns : List Conn) (ps : List ServedConnection) → EachStands plant conns ps → map (λ (c : Conn). c.number) conns ≡ map (λ (k : ServedConnection). k.number) ps
+  pub numbers-same : (conns : List Conn) (ps : List ServedConnection) → EachStands plant conns ps
+      → map (λ (c : Conn). c.number) conns ≡ map (λ (k : ServedConnection). k.number) ps
   numbers-same [] [] each = refl
   numbers-same [] (p ∷ ps) each = absurd each
   numbers-same (c ∷ cs) [] each = absurd each

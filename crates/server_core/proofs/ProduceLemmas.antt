@@ -30,15 +30,19 @@ queued_bytes plant conn k s =
     ap queued s.waiting ∙ queued-left_after (map bytes_of k.produced) k.bytes_taken
     ∙ ap (λ (bs : List ℕ). length bs - k.bytes_taken) (joined_bytes k.produced)
 
-pub produce-fits : (frame : Produced) (k : ServedConnection) → k.closing ≡ false → queued_of k + length (bytes_of frame) ≤ 4194304 → produce frame k ≡ with_frame frame k
+pub produce-fits : (frame : Produced) (k : ServedConnection) → k.closing ≡ false
+    → queued_of k + length (bytes_of frame) ≤ 4194304 → produce frame k ≡ with_frame frame k
 unfolding produce
 produce-fits frame k is_open room =
-    cond-false k.closing k _ is_open ∙ cond-true (fits frame k) (with_frame frame k) (with_closing k) (le-leb (queued_of k + length (bytes_of frame)) 4194304 room)
+    cond-false k.closing k _ is_open
+    ∙ cond-true (fits frame k) (with_frame frame k) (with_closing k) (le-leb (queued_of k + length (bytes_of frame)) 4194304 room)
 
-pub produce-over : (frame : Produced) (k : ServedConnection) → k.closing ≡ false → 4194304 < queued_of k + length (bytes_of frame) → produce frame k ≡ with_closing k
+pub produce-over : (frame : Produced) (k : ServedConnection) → k.closing ≡ false
+    → 4194304 < queued_of k + length (bytes_of frame) → produce frame k ≡ with_closing k
 unfolding produce
 produce-over frame k is_open over =
-    cond-false k.closing k _ is_open ∙ cond-false (fits frame k) (with_frame frame k) (with_closing k) (lt-leb (queued_of k + length (bytes_of frame)) 4194304 over)
+    cond-false k.closing k _ is_open
+    ∙ cond-false (fits frame k) (with_frame frame k) (with_closing k) (lt-leb (queued_of k + length (bytes_of frame)) 4194304 over)
 
 pub produce-closing : (frame : Produced) (k : ServedConnection) → k.closing ≡ true → produce frame k ≡ k
 unfolding produce
@@ -69,22 +73,29 @@ pub record SameSession (plant : Plant) (conn new : Conn) (k l : ServedConnection
   pub stream : Represents new.session.stream (history_of new l)
   pub client : l.closing ≡ false → StandsFor plant l.client new.session
 
-pub same_session : (plant : Plant) (conn new : Conn) (k l : ServedConnection) → Stands plant conn k → new.session ≡ conn.session → l.received ≡ k.received → l.frames_taken ≡ k.frames_taken
+pub same_session : (plant : Plant) (conn new : Conn) (k l : ServedConnection) → Stands plant conn k
+    → new.session ≡ conn.session → l.received ≡ k.received → l.frames_taken ≡ k.frames_taken
     → l.client ≡ k.client → (l.closing ≡ false → k.closing ≡ false) → SameSession plant conn new k l
 same_session plant conn new k l s session received taken client opens = record {
   stream =
-      let P : SessionState → Type 0 = λ held. Represents held.stream (record { fed = l.received; given = l.frames_taken; told_broken = held.stream.told_broken }) in
-      let Q : List ℕ → Type 0 = λ fed. Represents conn.session.stream (record { fed = fed; given = l.frames_taken; told_broken = conn.session.stream.told_broken }) in
-      let R : ℕ → Type 0 = λ given. Represents conn.session.stream (record { fed = k.received; given = given; told_broken = conn.session.stream.told_broken }) in
+      let P : SessionState → Type 0 =
+      λ held. Represents held.stream (record { fed = l.received; given = l.frames_taken; told_broken = held.stream.told_broken }) in
+      let Q : List ℕ → Type 0 =
+      λ fed. Represents conn.session.stream (record { fed = fed; given = l.frames_taken; told_broken = conn.session.stream.told_broken }) in
+      let R : ℕ → Type 0 = λ given. Represents conn.session.stream
+      (record { fed = k.received; given = given; told_broken = conn.session.stream.told_broken }) in
       subst P (sym session) (subst Q (sym received) (subst R (sym taken) s.stream));
-  client = λ is_open. subst (λ (held : SessionState). StandsFor plant l.client held) (sym session) (subst (λ c. StandsFor plant c conn.session) (sym client) (s.client (opens is_open)));
+  client = λ is_open. subst (λ (held : SessionState). StandsFor plant l.client held) (sym session)
+      (subst (λ c. StandsFor plant c conn.session) (sym client) (s.client (opens is_open)));
 }
 
-pub stands_with_frame : (plant : Plant) (conn new : Conn) (k : ServedConnection) (frame : Produced) → Stands plant conn k → new.number ≡ conn.number → new.session ≡ conn.session
+pub stands_with_frame : (plant : Plant) (conn new : Conn) (k : ServedConnection) (frame : Produced)
+    → Stands plant conn k → new.number ≡ conn.number → new.session ≡ conn.session
     → new.out ≡ conn.out ++ bytes_of frame ∷ [] → new.closing ≡ conn.closing → 0 < length (bytes_of frame) → Stands plant new (with_frame frame k)
 stands_with_frame plant conn new k frame s number session out closing some =
     let given : length (joined (map bytes_of k.produced)) ≡ length (bytes_of_all k.produced) = ap (λ (bs : List ℕ). length bs) (joined_bytes k.produced) in
-    let all = ap (λ (bs : List ℕ). length bs) (flat_map-append bytes_of k.produced (frame ∷ [])) ∙ length-append (bytes_of_all k.produced) (bytes_of_all (frame ∷ [])) in
+    let all = ap (λ (bs : List ℕ). length bs) (flat_map-append bytes_of k.produced (frame ∷ []))
+    ∙ length-append (bytes_of_all k.produced) (bytes_of_all (frame ∷ [])) in
     let same = same_session plant conn new k (with_frame frame k) s session refl refl refl (λ e. e) in
     record {
       number = number ∙ s.number;
@@ -119,7 +130,8 @@ sum_by-nil : (f : Produced → ℕ) → sum_by f [] ≡ 0
 sum_by-nil f = refl
 
 push_sum : (f : Produced → ℕ) (k : ServedConnection) (frame : Produced) → sum (map f (k.produced ++ frame ∷ [])) ≡ sum (map f k.produced) + f frame
-push_sum f k frame = sum-map f (k.produced ++ frame ∷ []) ∙ sum_by-append f k.produced (frame ∷ []) ∙ omega (arith, sum-map f k.produced, sum_by-cons f frame [], sum_by-nil f)
+push_sum f k frame = sum-map f (k.produced ++ frame ∷ []) ∙ sum_by-append f k.produced (frame ∷ [])
+    ∙ omega (arith, sum-map f k.produced, sum_by-cons f frame [], sum_by-nil f)
 
 pub counts_frame : (s t : Summary) (k : ServedConnection) (frame : Produced) → t ≡ counted_with frame s → Counts s t k (with_frame frame k)
 counts_frame s t k (Reply bytes) e =
@@ -178,7 +190,8 @@ produces_over plant conn new s k frame st is_open over number session out closin
     }
 
 -- one that is closing produces nothing
-pub produces_closing : (plant : Plant) (conn : Conn) (s : Summary) (k : ServedConnection) (frame : Produced) → Stands plant conn k → k.closing ≡ true → Produces plant conn s s frame k
+pub produces_closing : (plant : Plant) (conn : Conn) (s : Summary) (k : ServedConnection) (frame : Produced)
+    → Stands plant conn k → k.closing ≡ true → Produces plant conn s s frame k
 produces_closing plant conn s k frame st closing =
     let same = sym (produce-closing frame k closing) in
     record { stands = subst (λ l. Stands plant conn l) same st; counted = subst (λ l. Counts s s k l) same (same_counts s k) }

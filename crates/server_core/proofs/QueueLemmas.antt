@@ -9,7 +9,8 @@ use Rattle.spec_machine.proofs.Waiting.{joined}
 use Rattle.out_queue.specs.Queue.{queued, front_of, frames_after, FitsFront}
 
 -- a frame more waits behind the others
-pub left_after-push : (fs : List (List ℕ)) (n : ℕ) (f : List ℕ) → n ≤ length (joined fs) → 0 < length f → left_after n (fs ++ f ∷ []) ≡ left_after n fs ++ f ∷ []
+pub left_after-push : (fs : List (List ℕ)) (n : ℕ) (f : List ℕ) → n ≤ length (joined fs)
+    → 0 < length f → left_after n (fs ++ f ∷ []) ≡ left_after n fs ++ f ∷ []
 unfolding left_after
 left_after-push [] n f fits some =
     let none : n ≡ 0 = omega (arith, fits) in

@@ -85,8 +85,10 @@ unfolding connection_after_reload served
 accepted_is d x = refl
 
 -- a refused reload
-pub refuses_takes : (old new : Server) (waves : List Wave) (text : List ℕ) (answer : Result layout.Description DescFault) (fault : DescFault) (outcome : Outcome) → answer ≡ Err fault
-    → IsVerdict old.device.signals text answer → Refuses old new fault outcome → ServesSome (view_of old) waves → TakesEvent (view_of old) (view_of new) waves waves (event.Reload text) outcome
+pub refuses_takes : (old new : Server) (waves : List Wave) (text : List ℕ)
+    (answer : Result layout.Description DescFault) (fault : DescFault) (outcome : Outcome) → answer ≡ Err fault
+    → IsVerdict old.device.signals text answer → Refuses old new fault outcome → ServesSome (view_of old) waves
+    → TakesEvent (view_of old) (view_of new) waves waves (event.Reload text) outcome
 refuses_takes old new waves text answer fault outcome is verdict refuses some = record {
   follows = λ x s opens. follows x s;
   told = λ x s. ap outcome_of refuses.outcome_is ∙ sym (ap (λ r. outcome_of_reload r) (told_is text x (Err (fault_of fault)) (reads x s)));
@@ -104,26 +106,35 @@ refuses_takes old new waves text answer fault outcome is verdict refuses some = 
           serves = record {
             device = held_on old.device new.device waves x.state y refuses.device refl refl s.device;
             aligned = subst (λ (c : Clients). length c.sessions.items ≡ length c.waiting.entries) (sym refuses.clients) s.aligned;
-            connections = subst (λ (c : Clients). StandsEach x.state.world.plant (conns_of c.sessions.items c.waiting.entries) (record { state = y; blocked = x.blocked })) (sym refuses.clients)
+            connections = subst (λ (c : Clients). StandsEach x.state.world.plant
+                (conns_of c.sessions.items c.waiting.entries) (record { state = y; blocked = x.blocked })) (sym refuses.clients)
                 (record { each = s.connections.each; apart = s.connections.apart; marked = s.connections.marked; known = s.connections.known });
           };
           counted = counted_refused old.summary new.summary x.state y refl refuses.summary;
         })
 
 -- an accepted one: what is kept after all were told and all frames are produced
-pub accept_follows : (v w : ServerView) (s : Summary) (waves : List Wave) (x : CoreState) (d : Description) (mid new : Clients) → ServesEach v waves x → HoldsState w.device waves (reloaded d x)
-    → EachAsked x.state.world.plant (reloaded d x).world.plant (client_reloaded x.state.moment x.state.world (reloaded d x).world) v.sessions mid.sessions.items → mid.waiting.entries ≡ v.entries
-    → s ≡ (let t = v.summary in record t { accepted = count_of (t.accepted + 1) }) → DeliversAll mid new s w.summary → w.sessions ≡ new.sessions.items → w.entries ≡ new.waiting.entries
+pub accept_follows : (v w : ServerView) (s : Summary) (waves : List Wave) (x : CoreState) (d : Description) (mid new : Clients)
+    → ServesEach v waves x → HoldsState w.device waves (reloaded d x)
+    → EachAsked x.state.world.plant (reloaded d x).world.plant
+    (client_reloaded x.state.moment x.state.world (reloaded d x).world) v.sessions mid.sessions.items → mid.waiting.entries ≡ v.entries
+    → s ≡ (let t = v.summary in record t { accepted = count_of (t.accepted + 1) })
+    → DeliversAll mid new s w.summary → w.sessions ≡ new.sessions.items → w.entries ≡ new.waiting.entries
     → FollowsEach v w waves x (record { state = reloaded d x; blocked = x.blocked })
 accept_follows v w s waves x d mid new serves device asked entries counts delivers sessions new_entries =
     let y = reloaded d x in
     let outcome : Outcomes = client_reloaded x.state.moment x.state.world y.world in
     let z : ServedState = (let q = x.state in record q { accepted = q.accepted + 1 }) in
     let all = all_follow v w s waves waves x outcome y mid new serves asked entries delivers sessions new_entries device refl in
-    record { serves = all.serves; counted = λ c. counted_all outcome s w.summary z y refl refl refl all.counted (counted_accepted v.summary s x.state z refl counts c) }
+    record {
+      serves = all.serves;
+      counted = λ c. counted_all outcome s w.summary z y refl refl refl all.counted (counted_accepted v.summary s x.state z refl counts c);
+    }
 
-pub accepts_takes : (old new : Server) (waves : List Wave) (text : List ℕ) (answer : Result layout.Description DescFault) (d : layout.Description) (outcome : Outcome) → answer ≡ Ok d
-    → IsVerdict old.device.signals text answer → Accepts old new (description_of d) outcome → ServesSome (view_of old) waves → TakesEvent (view_of old) (view_of new) waves waves (event.Reload text) outcome
+pub accepts_takes : (old new : Server) (waves : List Wave) (text : List ℕ)
+    (answer : Result layout.Description DescFault) (d : layout.Description) (outcome : Outcome) → answer ≡ Ok d
+    → IsVerdict old.device.signals text answer → Accepts old new (description_of d) outcome
+    → ServesSome (view_of old) waves → TakesEvent (view_of old) (view_of new) waves waves (event.Reload text) outcome
 accepts_takes old new waves text answer d outcome is verdict accepts some = record {
   follows = λ x s opens. follows x s;
   told = λ x s. ap outcome_of accepts.outcome_is ∙ ap machine.ReloadOk (accepts.version_is waves x s)
@@ -139,11 +150,13 @@ accepts_takes old new waves text answer d outcome is verdict accepts some = reco
     follows : (x : CoreState) → ServesEach (view_of old) waves x → FollowsEach (view_of old) (view_of new) waves x (after_event x (event.Reload text))
     follows x s =
         subst (λ (z : CoreState). FollowsEach (view_of old) (view_of new) waves x z)
-        (sym (reload_is text x (Ok (description_of d)) (reads x s) ∙ ap (λ (z : ServedState). record { state = z; blocked = x.blocked }) (accepted_is (description_of d) x)))
+        (sym (reload_is text x (Ok (description_of d)) (reads x s)
+        ∙ ap (λ (z : ServedState). record { state = z; blocked = x.blocked }) (accepted_is (description_of d) x)))
         (accepts.follows waves x s)
 
 -- each session that is not closing can be told of the moves to another world
-told_each : (w z : World) (moves : List KeptPlace) (ts : List Turned) (es : List (ℕ × Waiting)) (ps : List ServedConnection) → AreMoves w.plant z.plant moves → length ts ≡ length es
+told_each : (w z : World) (moves : List KeptPlace) (ts : List Turned) (es : List (ℕ × Waiting)) (ps : List ServedConnection)
+    → AreMoves w.plant z.plant moves → length ts ≡ length es
     → EachStands w.plant (conns_of ts es) ps → All (λ (t : Turned). t.skip ≡ false → IsReloadable moves t.session) ts
 told_each w z moves [] es ps moved e each = λ k d below. absurd (omega (arith, below))
 told_each w z moves (t ∷ ts) [] ps moved e each = absurd (omega (arith, e))
@@ -168,7 +181,8 @@ can_tell v ports moves d ts serving reloads kept same =
     let w = x.state.world in
     let z = world_after_reload w d in
     subst (λ (us : List Turned). All (λ (t : Turned). t.skip ≡ false → IsReloadable moves t.session) us) (sym same)
-    (told_each w z moves v.sessions v.entries (present x.state.connections) (moved_between w z v.device.ports ports moves s.device.world.ports (reloads w s.device.world.ports) kept)
+    (told_each w z moves v.sessions v.entries (present x.state.connections)
+    (moved_between w z v.device.ports ports moves s.device.world.ports (reloads w s.device.world.ports) kept)
     s.aligned s.connections.each)
 
 -- the plant of a description, and the signals as before
@@ -188,13 +202,15 @@ pub record ReloadsDevice (old new : Device) (d : Description) : Type 0 where
   pub signals : new.signals ≡ old.signals
   pub moment : new.moment ≡ old.moment
 
-pub reloaded_device : (old new : Device) (waves : List Wave) (d : Description) (x : CoreState) → ReloadsDevice old new d → HoldsState old waves x.state → HoldsState new waves (reloaded d x)
+pub reloaded_device : (old new : Device) (waves : List Wave) (d : Description) (x : CoreState)
+    → ReloadsDevice old new d → HoldsState old waves x.state → HoldsState new waves (reloaded d x)
 reloaded_device old new waves d x reloads held =
     let w = x.state.world in
     record {
       world = record {
         ports = reloads.ports w held.world.ports;
-        address = subst (λ (p : Plant). HasAddress p new.net.bytes new.routes) (sym (reload_plant w d)) (record { net_is = sym reloads.net; routes_are = reloads.routes });
+        address = subst (λ (p : Plant). HasAddress p new.net.bytes new.routes)
+            (sym (reload_plant w d)) (record { net_is = sym reloads.net; routes_are = reloads.routes });
       };
       signals = reload_signals w d ∙ held.signals;
       count = reloads.signals ∙ held.count;
@@ -209,11 +225,13 @@ asked_length a b outcome [] (u ∷ us) each = absurd each
 asked_length a b outcome (t ∷ ts) [] each = absurd each
 asked_length a b outcome (t ∷ ts) (u ∷ us) each = ap suc (asked_length a b outcome ts us each.1)
 
-pub exchanged_aligned : (old new : Server) (d : Description) (version : ℕ) → IsServing (view_of old) → Exchanges old new d version → length new.clients.sessions.items ≡ length new.clients.waiting.entries
+pub exchanged_aligned : (old new : Server) (d : Description) (version : ℕ) → IsServing (view_of old)
+    → Exchanges old new d version → length new.clients.sessions.items ≡ length new.clients.waiting.entries
 exchanged_aligned old new d version serving ex =
     let x = serving.some.state in
     let s = serving.some.serves in
-    asked_length x.state.world.plant (reloaded d x).world.plant (client_reloaded x.state.moment x.state.world (reloaded d x).world) old.clients.sessions.items new.clients.sessions.items (ex.asked serving.waves x s)
+    asked_length x.state.world.plant (reloaded d x).world.plant (client_reloaded x.state.moment x.state.world (reloaded d x).world)
+    old.clients.sessions.items new.clients.sessions.items (ex.asked serving.waves x s)
     ∙ s.aligned ∙ sym (ap (λ (m : HashMap ℕ Waiting (BuildHasherDefault FoldHasher)). length m.entries) ex.waiting)
 
 pub if_ok : {A E : Type 0} {P Q : A → Type 0} (r : Result A E) → ((a : A) → P a → Q a) → IfOk r P → IfOk r Q
@@ -221,12 +239,15 @@ if_ok (Ok a) f h = f a h
 if_ok (Err e) f h = h
 
 -- an accepted reload, from its parts
-pub accepts_all : (old mid new : Server) (d : Description) (version : ℕ) → Exchanges old mid d version → {s : Summary} → s ≡ (let t = mid.summary in record t { accepted = count_of (t.accepted + 1) })
-    → DeliversAll mid.clients new.clients s new.summary → new.notes ≡ mid.notes ++ note.Ok version ∷ [] → new.device ≡ mid.device → Accepts old new d (ReloadOk version)
+pub accepts_all : (old mid new : Server) (d : Description) (version : ℕ) → Exchanges old mid d version
+    → {s : Summary} → s ≡ (let t = mid.summary in record t { accepted = count_of (t.accepted + 1) })
+    → DeliversAll mid.clients new.clients s new.summary → new.notes ≡ mid.notes ++ note.Ok version ∷ []
+    → new.device ≡ mid.device → Accepts old new d (ReloadOk version)
 accepts_all old mid new d version ex {s} counts delivers notes device = record {
   version = version;
   follows = λ waves x serves.
-      accept_follows (view_of old) (view_of new) s waves x d mid.clients new.clients serves (subst (λ (e : Device). HoldsState e waves (reloaded d x)) (sym device) (ex.device waves x serves))
+      accept_follows (view_of old) (view_of new) s waves x d mid.clients new.clients serves
+      (subst (λ (e : Device). HoldsState e waves (reloaded d x)) (sym device) (ex.device waves x serves))
       (ex.asked waves x serves) (ap (λ (m : HashMap ℕ Waiting (BuildHasherDefault FoldHasher)). m.entries) ex.waiting)
       (counts ∙ ap (λ (t : Summary). record t { accepted = count_of (t.accepted + 1) }) ex.summary) delivers refl refl;
   version_is = ex.version_is;

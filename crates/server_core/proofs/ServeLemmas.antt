@@ -47,7 +47,8 @@ stays v waves x state e serves =
     subst (λ (z : ServedState). FollowsEach v v waves x (record { state = z; blocked = x.blocked })) (sym e) (record { serves = serves; counted = λ c. c })
 
 -- the same device holds a state of the same world and moment
-pub held_on : (old new : Device) (waves : List Wave) (s t : ServedState) → new ≡ old → t.world ≡ s.world → t.moment ≡ s.moment → HoldsState old waves s → HoldsState new waves t
+pub held_on : (old new : Device) (waves : List Wave) (s t : ServedState) → new ≡ old
+    → t.world ≡ s.world → t.moment ≡ s.moment → HoldsState old waves s → HoldsState new waves t
 held_on old new waves s t device world moment held =
     subst (λ (d : Device). HoldsState d waves t) (sym device) (record {
       world = subst (λ (w : World). HoldsWorld old w) (sym world) held.world;
@@ -58,7 +59,8 @@ held_on old new waves s t device world moment held =
     })
 
 -- A piece.
-pub piece_follows : (v w : ServerView) (waves : List Wave) (x : CoreState) (n i : ℕ) (t u : Turned) (a b : Waiting) (piece : List ℕ) → ServesEach v waves x → IsEntry v.entries n i
+pub piece_follows : (v w : ServerView) (waves : List Wave) (x : CoreState) (n i : ℕ) (t u : Turned) (a b : Waiting) (piece : List ℕ)
+    → ServesEach v waves x → IsEntry v.entries n i
     → conn_of t (n, a) ≡ get_or (conns_in v) i (conn_of t (n, a))
     → ((e : ServedExchange) → HoldsWorld v.device e.world → Stands e.world.plant (conn_of t (n, a)) e.connection → e.connection.gone ≡ false
     → Goes (conn_of u (n, b)) w.device v.summary w.summary e (after_piece served piece e))
@@ -74,12 +76,16 @@ piece_follows v w waves x n i t u a b piece serves place here goes mark device s
     let go = goes (exchange_of x.state at.k) serves.device.world (subst (λ c. Stands plant c at.k) (sym here) at.stands) at.there in
     let number = sym go.stands.number in
     let at_mark_here = at_mark conns x.blocked i (conn_of t (n, a)) serves.connections.marked at_entry.within in
-    let marked : b.blocked ≡ is_among n x.blocked = mark ∙ ap (λ (c : Conn). c.blocked) here ∙ at_mark_here ∙ ap (λ m. is_among m x.blocked) (at_entry.number (conn_of t (n, a))) in
+    let marked : b.blocked ≡ is_among n x.blocked =
+    mark ∙ ap (λ (c : Conn). c.blocked) here ∙ at_mark_here ∙ ap (λ m. is_among m x.blocked) (at_entry.number (conn_of t (n, a))) in
     let new_conns : conns_of w.sessions w.entries ≡ set conns i (conn_of u (n, b)) =
-    ap (λ ts. conns_of ts w.entries) sessions ∙ ap (λ es. conns_of (set v.sessions i u) es) entries ∙ conns_set v.sessions v.entries i u b n serves.aligned place.within (place.number 0) in
-    let changed = stands_changed plant conns x n i (get_or conns i (conn_of t (n, a))) (conn_of u (n, b)) x.blocked e serves.connections at go.stands number (go.gone ∙ at.there) (λ m other. refl) marked in
+    ap (λ ts. conns_of ts w.entries) sessions ∙ ap (λ es. conns_of (set v.sessions i u) es) entries
+    ∙ conns_set v.sessions v.entries i u b n serves.aligned place.within (place.number 0) in
+    let changed = stands_changed plant conns x n i (get_or conns i (conn_of t (n, a)))
+    (conn_of u (n, b)) x.blocked e serves.connections at go.stands number (go.gone ∙ at.there) (λ m other. refl) marked in
     let y : CoreState = record { state = with_exchange e x.state; blocked = x.blocked } in
-    subst (λ (o : Option ServedConnection). FollowsEach v w waves x (record { state = after_exchange o (after_piece served piece) x.state; blocked = x.blocked })) (sym at.found) (record {
+    subst (λ (o : Option ServedConnection). FollowsEach v w waves x
+    (record { state = after_exchange o (after_piece served piece) x.state; blocked = x.blocked })) (sym at.found) (record {
       serves = record {
         device = record {
           world = go.holds;
@@ -88,7 +94,8 @@ piece_follows v w waves x n i t u a b piece serves place here goes mark device s
           few = serves.device.few;
           moment = device.moment ∙ serves.device.moment;
         };
-        aligned = ap (λ (ts : List Turned). length ts) sessions ∙ length-set v.sessions i u ∙ serves.aligned ∙ sym (length-set_value_at v.entries i b) ∙ sym (ap (λ (es : List (ℕ × Waiting)). length es) entries);
+        aligned = ap (λ (ts : List Turned). length ts) sessions ∙ length-set v.sessions i u ∙ serves.aligned
+            ∙ sym (length-set_value_at v.entries i b) ∙ sym (ap (λ (es : List (ℕ × Waiting)). length es) entries);
         connections = subst (λ (p : Plant). StandsEach p (conns_in w) y) (sym go.plant) (subst (λ cs. StandsEach plant cs y) (sym new_conns) changed);
       };
       counted = counted_one v.summary w.summary n at.k e x.state at.found number go.counted;
@@ -100,7 +107,8 @@ unfolding state_after_move state_after_event
 piece_absent v waves x n piece serves none =
     stays v waves x (after_exchange (connection_of n x.state.connections) (after_piece served piece) x.state)
     (unchanged n (after_piece served piece) x.state
-    (not_there x.state.world.plant n x.state.connections (conns_in v) serves.connections.each (no_entry_is_absent v.sessions v.entries n serves.aligned none)) (gone_takes_nothing piece x.state)) serves
+    (not_there x.state.world.plant n x.state.connections (conns_in v) serves.connections.each (no_entry_is_absent v.sessions v.entries n serves.aligned none))
+    (gone_takes_nothing piece x.state)) serves
 
 -- An end.
 pub ended_follows : (v w : ServerView) (waves : List Wave) (x : CoreState) (n i : ℕ) (d : Conn) → ServesEach v waves x → IsEntry v.entries n i
@@ -131,8 +139,10 @@ ended_follows v w waves x n i d serves place device summary sessions entries =
     record {
       serves = record {
         device = held_on v.device w.device waves x.state state device same moment serves.device;
-        aligned = ap (λ (ts : List Turned). length ts) sessions ∙ length_removed v.sessions v.entries i serves.aligned ∙ sym (ap (λ (es : List (ℕ × Waiting)). length es) entries);
-        connections = subst (λ (p : Plant). StandsEach p (conns_in w) y) (ap (λ (z : World). z.plant) (sym same)) (subst (λ cs. StandsEach x.state.world.plant cs y) (sym new_conns) ended);
+        aligned = ap (λ (ts : List Turned). length ts) sessions ∙ length_removed v.sessions v.entries i serves.aligned
+            ∙ sym (ap (λ (es : List (ℕ × Waiting)). length es) entries);
+        connections = subst (λ (p : Plant). StandsEach p (conns_in w) y) (ap (λ (z : World). z.plant) (sym same))
+            (subst (λ cs. StandsEach x.state.world.plant cs y) (sym new_conns) ended);
       };
       counted = λ c. ap counts_in summary ∙ counted c ∙ ap (λ (o : Option ServedConnection). summary_of (after_exchange o with_gone x.state)) (sym at.found);
     }
@@ -145,12 +155,14 @@ ended_follows v w waves x n i d serves place device summary sessions entries =
     length_removed (s ∷ ss) (g ∷ gs) zero e = omega (arith, e)
     length_removed (s ∷ ss) (g ∷ gs) (suc i) e = ap suc (length_removed ss gs i (omega (arith, e)))
 
-pub ended_absent : (v : ServerView) (waves : List Wave) (x : CoreState) (n : ℕ) → ServesEach v waves x → IsNoEntry v.entries n → FollowsEach v v waves x (after_event x (event.Closed n))
+pub ended_absent : (v : ServerView) (waves : List Wave) (x : CoreState) (n : ℕ) → ServesEach v waves x
+    → IsNoEntry v.entries n → FollowsEach v v waves x (after_event x (event.Closed n))
 unfolding state_after_move state_after_event
 ended_absent v waves x n serves none =
     stays v waves x (after_exchange (connection_of n x.state.connections) with_gone x.state)
     (unchanged n with_gone x.state
-    (not_there x.state.world.plant n x.state.connections (conns_in v) serves.connections.each (no_entry_is_absent v.sessions v.entries n serves.aligned none)) (gone_twice x.state)) serves
+    (not_there x.state.world.plant n x.state.connections (conns_in v) serves.connections.each (no_entry_is_absent v.sessions v.entries n serves.aligned none))
+    (gone_twice x.state)) serves
 
 -- whatever is called lost or shut is gone as one that is closed
 pub shut_is_closed : (x : CoreState) (n : ℕ) → after_event x (event.Closed n) ≡ after_move x (move.Shut n)
@@ -162,9 +174,11 @@ unfolding state_after_move state_after_event
 lost_is_closed x n = refl
 
 -- A connection is opened.
-pub opened_follows : (v w : ServerView) (waves : List Wave) (x : CoreState) (n : ℕ) (t : Turned) (a : Waiting) → ServesEach v waves x → connection_of n x.state.connections ≡ None
+pub opened_follows : (v w : ServerView) (waves : List Wave) (x : CoreState) (n : ℕ) (t : Turned) (a : Waiting)
+    → ServesEach v waves x → connection_of n x.state.connections ≡ None
     → Stands x.state.world.plant (conn_of t (n, a)) (fresh_connection served.new_client n) → a.blocked ≡ false → w.device ≡ v.device
-    → w.summary ≡ (let s = v.summary in record s { connections = count_of (s.connections + 1) }) → w.sessions ≡ v.sessions ++ t ∷ [] → w.entries ≡ v.entries ++ (n, a) ∷ []
+    → w.summary ≡ (let s = v.summary in record s { connections = count_of (s.connections + 1) })
+    → w.sessions ≡ v.sessions ++ t ∷ [] → w.entries ≡ v.entries ++ (n, a) ∷ []
     → FollowsEach v w waves x (after_event x (event.Opened n))
 unfolding state_after_move state_after_event
 opened_follows v w waves x n t a serves new stands mark device counts sessions entries =
@@ -172,7 +186,8 @@ opened_follows v w waves x n t a serves new stands mark device counts sessions e
     let state : ServedState = (let s = x.state in record s { connections = s.connections ++ k ∷ [] }) in
     let y : CoreState = record { state = state; blocked = x.blocked } in
     let new_conns : conns_of w.sessions w.entries ≡ conns_in v ++ conn_of t (n, a) ∷ [] =
-    ap (λ ts. conns_of ts w.entries) sessions ∙ ap (λ es. conns_of (v.sessions ++ t ∷ []) es) entries ∙ conns_push v.sessions v.entries t (n, a) serves.aligned in
+    ap (λ ts. conns_of ts w.entries) sessions ∙ ap (λ es. conns_of (v.sessions ++ t ∷ []) es) entries
+    ∙ conns_push v.sessions v.entries t (n, a) serves.aligned in
     let opened = stands_opened x.state.world.plant (conns_in v) x n (conn_of t (n, a)) serves.connections new stands mark in
     record {
       serves = record {
@@ -185,9 +200,11 @@ opened_follows v w waves x n t a serves new stands mark device counts sessions e
     }
 
 -- what waits of a connection changes, and the connection with it
-pub waiting_follows : (v w : ServerView) (waves : List Wave) (x : CoreState) (n i : ℕ) (a b : Waiting) (blocked : List ℕ) (f : ServedConnection → ServedConnection) → ServesEach v waves x
+pub waiting_follows : (v w : ServerView) (waves : List Wave) (x : CoreState) (n i : ℕ)
+    (a b : Waiting) (blocked : List ℕ) (f : ServedConnection → ServedConnection) → ServesEach v waves x
     → (place : IsEntry v.entries n i) → (t : Turned) → conn_of (get_or v.sessions i t) (n, a) ≡ get_or (conns_in v) i (conn_of t (n, a))
-    → ((k : ServedConnection) → Stands x.state.world.plant (conn_of (get_or v.sessions i t) (n, a)) k → Stands x.state.world.plant (conn_of (get_or v.sessions i t) (n, b)) (f k))
+    → ((k : ServedConnection) → Stands x.state.world.plant (conn_of (get_or v.sessions i t) (n, a)) k
+    → Stands x.state.world.plant (conn_of (get_or v.sessions i t) (n, b)) (f k))
     → ((k : ServedConnection) → (f k).number ≡ k.number) → ((k : ServedConnection) → (f k).gone ≡ k.gone)
     → ((k : ServedConnection) → Counts v.summary v.summary k (f k))
     → ((m : ℕ) → m ≢ n → is_among m blocked ≡ is_among m x.blocked) → b.blocked ≡ is_among n blocked
@@ -207,14 +224,17 @@ waiting_follows v w waves x n i a b blocked f serves place t here goes number go
     let e = exchange_of x.state (f k) in
     let new = conn_of (get_or v.sessions i t) (n, b) in
     let new_conns : conns_of w.sessions w.entries ≡ set conns i new =
-    ap (λ ts. conns_of ts w.entries) sessions ∙ ap (λ es. conns_of v.sessions es) entries ∙ conns_set_waiting v.sessions v.entries i b n t serves.aligned place.within (place.number 0) in
-    let changed = stands_changed plant conns x n i (get_or conns i d) new blocked e serves.connections at (goes k (subst (λ c. Stands plant c k) (sym here) stands))
+    ap (λ ts. conns_of ts w.entries) sessions ∙ ap (λ es. conns_of v.sessions es) entries
+    ∙ conns_set_waiting v.sessions v.entries i b n t serves.aligned place.within (place.number 0) in
+    let changed = stands_changed plant conns x n i (get_or conns i d) new blocked e
+    serves.connections at (goes k (subst (λ c. Stands plant c k) (sym here) stands))
     (number k ∙ own) (gone k ∙ there) concerns mark in
     let y : CoreState = record { state = with_exchange e x.state; blocked = blocked } in
     record {
       serves = record {
         device = held_on v.device w.device waves x.state (with_exchange e x.state) device refl refl serves.device;
-        aligned = ap (λ (ts : List Turned). length ts) sessions ∙ serves.aligned ∙ sym (length-set_value_at v.entries i b) ∙ sym (ap (λ (es : List (ℕ × Waiting)). length es) entries);
+        aligned = ap (λ (ts : List Turned). length ts) sessions ∙ serves.aligned
+            ∙ sym (length-set_value_at v.entries i b) ∙ sym (ap (λ (es : List (ℕ × Waiting)). length es) entries);
         connections = subst (λ cs. StandsEach plant cs y) (sym new_conns) changed;
       };
       counted = λ c. ap counts_in summary ∙ counted_one v.summary v.summary n k e x.state found (number k ∙ own) (counts k) c;

@@ -1,5 +1,6 @@
 -- What the code's connections stand for, where one of them changes, goes or comes.
-use Rattle.std.proofs.Common.{◌≡◌, ◌≢◌, ℕ, zero, suc, ◌+◌, ◌<◌, List, [], ◌∷◌, ◌++◌, length, set, get_or, Bool, true, false, not, cond, refl, sym, ap, ◌∙◌, subst, inl, inr, arith}
+use Rattle.std.proofs.Common.{◌≡◌, ◌≢◌, ℕ, zero, suc, ◌+◌, ◌<◌, List, [], ◌∷◌, ◌++◌, length, set, get_or, Bool}
+use Rattle.std.proofs.Common.{true, false, not, cond, refl, sym, ap, ◌∙◌, subst, inl, inr, arith}
 use Rattle.std.specs.Prelude.{◌==◌, ◌||◌, filter, remove, Option, None}
 use Rattle.std.proofs.lemmas.Bool.{cases_eq, cond-true, cond-false, or_right, or_left}
 use Rattle.std.proofs.lemmas.List.Elements.{All-head, All-tail}
@@ -25,7 +26,8 @@ pub stands_at : (plant : Plant) (conns : List Conn) (x : CoreState) (n i : ℕ) 
 stands_at plant conns x n i d s at = at_place plant x.state.connections n d s.apart conns i s.each at.within (at.number d)
 
 -- one connection changes in its place
-pub stands_changed : (plant : Plant) (conns : List Conn) (x : CoreState) (n i : ℕ) (conn new : Conn) (blocked : List ℕ) (e : ServedExchange) → StandsEach plant conns x
+pub stands_changed : (plant : Plant) (conns : List Conn) (x : CoreState) (n i : ℕ) (conn new : Conn) (blocked : List ℕ) (e : ServedExchange)
+    → StandsEach plant conns x
     → AtPlace plant conns x.state.connections n i conn → Stands plant new e.connection → e.connection.number ≡ n → e.connection.gone ≡ false
     → Concerns n x.blocked blocked → new.blocked ≡ is_among n blocked
     → StandsEach plant (set conns i new) (record { state = with_exchange e x.state; blocked = blocked })
@@ -42,10 +44,12 @@ stands_changed plant conns x n i conn new blocked e s at t number there concerns
         concerns m (λ same. let both = sym (ap (λ q. connection_of q x.state.connections) (sym same) ∙ was) ∙ at.found in cc) ∙ s.known m was
 
 -- one connection goes
-pub stands_ended : (plant : Plant) (conns : List Conn) (x : CoreState) (n i : ℕ) (conn : Conn) → StandsEach plant conns x → AtPlace plant conns x.state.connections n i conn → conn.number ≡ n
+pub stands_ended : (plant : Plant) (conns : List Conn) (x : CoreState) (n i : ℕ) (conn : Conn)
+    → StandsEach plant conns x → AtPlace plant conns x.state.connections n i conn → conn.number ≡ n
     → StandsEach plant (remove conns i) (record { state = after_exchange (connection_of n x.state.connections) with_gone x.state; blocked = x.blocked })
 stands_ended plant conns x n i conn s at number =
-    subst (λ (o : Option ServedConnection). StandsEach plant (remove conns i) (record { state = after_exchange o with_gone x.state; blocked = x.blocked })) (sym at.found) (record {
+    subst (λ (o : Option ServedConnection). StandsEach plant (remove conns i) (record { state = after_exchange o with_gone x.state; blocked = x.blocked }))
+    (sym at.found) (record {
       each = at.ended (record at.k { gone = true }) (sym at.stands.number ∙ number) refl;
       apart = AreApart-put_back (record at.k { gone = true }) x.state.connections s.apart;
       marked = marked_removed plant x.blocked conns i s.marked;
@@ -53,9 +57,11 @@ stands_ended plant conns x n i conn s at number =
     })
 
 -- a connection comes
-pub stands_opened : (plant : Plant) (conns : List Conn) (x : CoreState) (n : ℕ) (c : Conn) → StandsEach plant conns x → connection_of n x.state.connections ≡ None
+pub stands_opened : (plant : Plant) (conns : List Conn) (x : CoreState) (n : ℕ) (c : Conn)
+    → StandsEach plant conns x → connection_of n x.state.connections ≡ None
     → Stands plant c (fresh_connection served.new_client n) → c.blocked ≡ false
-    → StandsEach plant (conns ++ c ∷ []) (record { state = record x.state { connections = x.state.connections ++ fresh_connection served.new_client n ∷ [] }; blocked = x.blocked })
+    → StandsEach plant (conns ++ c ∷ [])
+    (record { state = record x.state { connections = x.state.connections ++ fresh_connection served.new_client n ∷ [] }; blocked = x.blocked })
 stands_opened plant conns x n c serves new stands mark =
     let k = fresh_connection served.new_client n in
     let ks = x.state.connections in
@@ -78,7 +84,8 @@ unchanged n f s (inr one) keeps =
 pub gone_twice : (s : ServedState) (k : ServedConnection) → k.gone ≡ true → with_gone (exchange_of s k) ≡ exchange_of s k
 gone_twice s k gone = ap (λ (b : Bool). exchange_of s (record k { gone = b })) (sym gone)
 
-pub gone_takes_nothing : (piece : List ℕ) (s : ServedState) (k : ServedConnection) → k.gone ≡ true → after_piece served piece (exchange_of s k) ≡ exchange_of s k
+pub gone_takes_nothing : (piece : List ℕ) (s : ServedState) (k : ServedConnection)
+    → k.gone ≡ true → after_piece served piece (exchange_of s k) ≡ exchange_of s k
 unfolding after_piece
 gone_takes_nothing piece s k gone = cond-true (is_deaf k) (exchange_of s k) _ (or_right k.closing k.gone gone)
 
@@ -141,5 +148,6 @@ pub took-same : (short : Bool) (n : ℕ) (bs : List ℕ) → is_among n bs ≡ f
 took-same false n bs free = sym free
 took-same true n bs free = sym (or_left (n == n) (is_among n bs) (test_same n n refl))
 
-pub took_exchange : (n : ℕ) (s : ServedState) (k : ServedConnection) → k.gone ≡ false → with_took n (exchange_of s k) ≡ exchange_of s (record k { bytes_taken = k.bytes_taken + n })
+pub took_exchange : (n : ℕ) (s : ServedState) (k : ServedConnection) → k.gone ≡ false
+    → with_took n (exchange_of s k) ≡ exchange_of s (record k { bytes_taken = k.bytes_taken + n })
 took_exchange n s k there = cond-false k.gone (exchange_of s k) (exchange_of s (record k { bytes_taken = k.bytes_taken + n })) there

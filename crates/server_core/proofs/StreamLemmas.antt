@@ -44,7 +44,8 @@ unfolding answer_of
 packet_is_next h packet e =
     let some = frame_is_there packet (slice_get (frames_of h.fed) h.given) (rest_of h.fed) e in
     let within = slice_get_within (frames_of h.fed) h.given packet some in
-    drop_more (frames_of h.fed) h.given [] within ∙ ap (λ x. x ∷ drop (h.given + 1) (frames_of h.fed)) (get_or_from_slice_get (frames_of h.fed) h.given packet [] some)
+    drop_more (frames_of h.fed) h.given [] within
+    ∙ ap (λ x. x ∷ drop (h.given + 1) (frames_of h.fed)) (get_or_from_slice_get (frames_of h.fed) h.given packet [] some)
 
 no_packets : (xs : List (List ℕ)) (i : ℕ) → slice_get xs i ≡ None → drop i xs ≡ []
 no_packets xs i e = elim (cases_lt i (length xs)) [
@@ -76,8 +77,10 @@ pub after_frame : (held : Held) (h : History) (packet : List ℕ) → cut.Frame 
     → Represents held (record { fed = h.fed; given = h.given + 1; told_broken = held.told_broken })
 after_frame held h packet e s = own_mark held (record h { given = h.given + 1 }) (subst (λ x. Represents held (after_answer x h)) (sym e) s)
 
-pub after_not_yet : (held : Held) (h : History) → cut.NotYet ≡ answer_of h → Represents held (after_next h) → Represents held (record h { told_broken = held.told_broken })
+pub after_not_yet : (held : Held) (h : History) → cut.NotYet ≡ answer_of h
+    → Represents held (after_next h) → Represents held (record h { told_broken = held.told_broken })
 after_not_yet held h e s = own_mark held h (subst (λ x. Represents held (after_answer x h)) (sym e) s)
 
-pub after_broken : (held : Held) (h : History) → cut.Broken ≡ answer_of h → Represents held (after_next h) → Represents held (record h { told_broken = held.told_broken })
+pub after_broken : (held : Held) (h : History) → cut.Broken ≡ answer_of h
+    → Represents held (after_next h) → Represents held (record h { told_broken = held.told_broken })
 after_broken held h e s = own_mark held (record h { told_broken = true }) (subst (λ x. Represents held (after_answer x h)) (sym e) s)

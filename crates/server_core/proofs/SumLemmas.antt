@@ -29,7 +29,8 @@ pub record OneChanges (f : ServedConnection → ℕ) (ks : List ServedConnection
   pub before : sum_by f ks ≡ others + f k
   pub after : sum_by f (put_back l ks) ≡ others + f l
 
-pub one_changes : (f : ServedConnection → ℕ) (n : ℕ) (k l : ServedConnection) (ks : List ServedConnection) → connection_of n ks ≡ Some k → l.number ≡ n → OneChanges f ks k l
+pub one_changes : (f : ServedConnection → ℕ) (n : ℕ) (k l : ServedConnection) (ks : List ServedConnection)
+    → connection_of n ks ≡ Some k → l.number ≡ n → OneChanges f ks k l
 one_changes f n k l [] e number = absurd (let both = sym (none_of_nil n) ∙ e in cc)
 one_changes f n k l (j ∷ js) e number = elim (cases_eq j.number n) [
   | inl q ↦
@@ -57,7 +58,8 @@ length-put_back l (k ∷ ks) = elim (cases_eq k.number l.number) [
 ]
 
 -- what all connections were given, added up
-pub produced_sum : (g : Produced → ℕ) (ks : List ServedConnection) → sum (map g (flat_map (λ (k : ServedConnection). k.produced) ks)) ≡ sum_by (λ (k : ServedConnection). sum (map g k.produced)) ks
+pub produced_sum : (g : Produced → ℕ) (ks : List ServedConnection)
+    → sum (map g (flat_map (λ (k : ServedConnection). k.produced) ks)) ≡ sum_by (λ (k : ServedConnection). sum (map g k.produced)) ks
 produced_sum g [] = refl
 produced_sum g (k ∷ ks) =
     let rest = produced_sum g ks in
@@ -69,7 +71,8 @@ produced_sum g (k ∷ ks) =
     omega (arith, rest, all, split, one, more, cons)
 
 -- the counts follow a change of one connection
-pub counted_one : (old new : Summary) (n : ℕ) (k : ServedConnection) (x : ServedExchange) (s : ServedState) → connection_of n s.connections ≡ Some k → x.connection.number ≡ n
+pub counted_one : (old new : Summary) (n : ℕ) (k : ServedConnection) (x : ServedExchange) (s : ServedState)
+    → connection_of n s.connections ≡ Some k → x.connection.number ≡ n
     → Counts old new k x.connection → counts_in old ≡ summary_of s → counts_in new ≡ summary_of (with_exchange x s)
 counted_one old new n k x s found number c e =
     let l = x.connection in
@@ -120,7 +123,8 @@ counted_fresh old new n s t state counts e =
     (ap (λ (z : Summary). z.refused) counts ∙ ap (λ (z : CountsOfState). z.refused) e))
 
 -- a refused reload is counted
-pub counted_refused : (old new : Summary) (s t : ServedState) → t ≡ record s { refused = s.refused + 1 } → new ≡ record old { refused = count_of (old.refused + 1) }
+pub counted_refused : (old new : Summary) (s t : ServedState)
+    → t ≡ record s { refused = s.refused + 1 } → new ≡ record old { refused = count_of (old.refused + 1) }
     → counts_in old ≡ summary_of s → counts_in new ≡ summary_of t
 counted_refused old new s t state counts e =
     subst (λ (z : ServedState). counts_in new ≡ summary_of z) (sym state)
@@ -133,7 +137,8 @@ counted_refused old new s t state counts e =
     (ap (λ (z : Summary). z.refused) counts ∙ ap (λ m. count_of (m + 1)) (ap (λ (z : CountsOfState). z.refused) e) ∙ once s.refused))
 
 -- an accepted one is counted
-pub counted_accepted : (old new : Summary) (s t : ServedState) → t ≡ record s { accepted = s.accepted + 1 } → new ≡ record old { accepted = count_of (old.accepted + 1) }
+pub counted_accepted : (old new : Summary) (s t : ServedState)
+    → t ≡ record s { accepted = s.accepted + 1 } → new ≡ record old { accepted = count_of (old.accepted + 1) }
     → counts_in old ≡ summary_of s → counts_in new ≡ summary_of t
 counted_accepted old new s t state counts e =
     subst (λ (z : ServedState). counts_in new ≡ summary_of z) (sym state)

@@ -10,7 +10,9 @@ use Rattle.spec_plant.specs.Description.{Route}
 use Rattle.spec_plant.specs.World.{Plant}
 use Rattle.spec_machine.specs.Device.{Answer, Answered, Silent, Closing, Reply}
 use Rattle.spec_machine.specs.Connection.{with_closing, produce, is_deaf}
-use Rattle.spec_machine.specs.Piece.{packets_left, with_one_taken, with_client, after_answer, after_packet, after_packets, after_rest, end_of_piece, with_received, with_piece, after_piece}
+use Rattle.spec_machine.specs.Piece.{packets_left, with_one_taken, with_client, after_answer, after_packet}
+use Rattle.spec_machine.specs.Piece.{after_packets, after_rest, end_of_piece, with_received, with_piece}
+use Rattle.spec_machine.specs.Piece.{after_piece}
 use Rattle.spec_machine.specs.Replies.{performed}
 use Rattle.spec_machine.specs.Summary.{count_of}
 use Rattle.ams_tcp.specs.Held.{Held}
@@ -62,7 +64,8 @@ answer-stream (Answered packet) k = produce-stream (Reply (frame_bytes packet)) 
 answer-stream Silent k = record { number = refl; received = refl; frames_taken = refl; client = refl; gone = refl }
 answer-stream Closing k = record { number = refl; received = refl; frames_taken = refl; client = refl; gone = refl }
 
-answered-left : (packet : List ℕ) (x : ServedExchange) → packets_left (answered packet (with_one x)).connection ≡ drop (x.connection.frames_taken + 1) (frames_of x.connection.received)
+answered-left : (packet : List ℕ) (x : ServedExchange)
+    → packets_left (answered packet (with_one x)).connection ≡ drop (x.connection.frames_taken + 1) (frames_of x.connection.received)
 answered-left packet x =
     let o = served.take x.world x.connection.client packet in
     let stream = answer-stream o.answer (with_client o.client (with_one_taken x.connection)) in
@@ -107,23 +110,27 @@ pub settled-open : (x : ServedExchange) → packets_left x.connection ≡ [] →
 unfolding settled after_packets
 settled-open x none rest =
     ap (λ ps. end_of_piece (after_packets served ps x)) none
-    ∙ ap (λ (k : ServedConnection). record x { connection = k }) (cond-false (is_broken (front_of (rest_of x.connection.received))) (with_closing x.connection) x.connection rest)
+    ∙ ap (λ (k : ServedConnection). record x { connection = k })
+    (cond-false (is_broken (front_of (rest_of x.connection.received))) (with_closing x.connection) x.connection rest)
 
 pub settled-broken : (x : ServedExchange) → packets_left x.connection ≡ [] → is_broken (front_of (rest_of x.connection.received)) ≡ true
     → settled x ≡ record x { connection = with_closing x.connection }
 unfolding settled after_packets
 settled-broken x none rest =
     ap (λ ps. end_of_piece (after_packets served ps x)) none
-    ∙ ap (λ (k : ServedConnection). record x { connection = k }) (cond-true (is_broken (front_of (rest_of x.connection.received))) (with_closing x.connection) x.connection rest)
+    ∙ ap (λ (k : ServedConnection). record x { connection = k })
+    (cond-true (is_broken (front_of (rest_of x.connection.received))) (with_closing x.connection) x.connection rest)
 
 -- a session whose stream alone is another stands for the same client
 pub kept_client : (plant : Plant) (c : Client) (s t : SessionState) → t ≡ record s { stream = t.stream } → StandsFor plant c s → StandsFor plant c t
-kept_client plant c s t keeps st = subst (λ (held : SessionState). StandsFor plant c held) (sym keeps) (record { handles = st.handles; additions = st.additions; watches = st.watches })
+kept_client plant c s t keeps st =
+    subst (λ (held : SessionState). StandsFor plant c held) (sym keeps) (record { handles = st.handles; additions = st.additions; watches = st.watches })
 
 -- the session gave a frame
 pub taken_one : (plant : Plant) (conn mid : Conn) (k : ServedConnection) (packet : List ℕ) → Stands plant conn k
     → cut.Frame packet ≡ answer_of (history_of conn k) → Represents mid.session.stream (after_next (history_of conn k))
-    → mid.session ≡ (let held = conn.session in record held { stream = mid.session.stream }) → mid.number ≡ conn.number → mid.out ≡ conn.out → mid.closing ≡ conn.closing
+    → mid.session ≡ (let held = conn.session in record held { stream = mid.session.stream })
+    → mid.number ≡ conn.number → mid.out ≡ conn.out → mid.closing ≡ conn.closing
     → Stands plant mid (with_one_taken k)
 taken_one plant conn mid k packet st answer stream keeps number out closing = record {
   number = number ∙ st.number;
@@ -146,11 +153,13 @@ counts_request s t k counted = record {
 }
 
 -- nothing was produced, and the client is another
-pub stands_with_client : (plant : Plant) (conn new : Conn) (k : ServedConnection) (c : Client) → Stands plant conn k → new.session.stream ≡ conn.session.stream → StandsFor plant c new.session
+pub stands_with_client : (plant : Plant) (conn new : Conn) (k : ServedConnection) (c : Client)
+    → Stands plant conn k → new.session.stream ≡ conn.session.stream → StandsFor plant c new.session
     → new.number ≡ conn.number → new.out ≡ conn.out → new.closing ≡ conn.closing → Stands plant new (with_client c k)
 stands_with_client plant conn new k c st stream client number out closing = record {
   number = number ∙ st.number;
-  stream = subst (λ (held : Held). Represents held (record { fed = k.received; given = k.frames_taken; told_broken = held.told_broken })) (sym stream) st.stream;
+  stream = subst (λ (held : Held). Represents held (record { fed = k.received; given = k.frames_taken; told_broken = held.told_broken }))
+      (sym stream) st.stream;
   client = λ is_open. client;
   waiting = out ∙ st.waiting;
   bytes_taken = st.bytes_taken;
@@ -172,7 +181,8 @@ pub counts_client : (s t : Summary) (k l : ServedConnection) (c : Client) → Co
 counts_client s t k l c counted = then_counts s s t k (with_client c k) l (same_with_client s k c) counted
 
 -- what the session makes of a packet is what the device does
-pub took_packet : (w : World) (c : Client) (packet : List ℕ) (answer : Taken) (ports : PortsMemory) (s : SessionState) → TakesPacket (outcome_of_packet w c packet) answer ports s
+pub took_packet : (w : World) (c : Client) (packet : List ℕ) (answer : Taken) (ports : PortsMemory) (s : SessionState)
+    → TakesPacket (outcome_of_packet w c packet) answer ports s
     → TakesPacket (served.take w c packet) answer ports s
 took_packet w c packet answer ports s took = subst (λ o. TakesPacket o answer ports s) (sym (take_is w c packet)) took
 
@@ -189,7 +199,8 @@ held_after old new w c packet held ports net routes =
     }
 
 -- the client that the session stands for, over the plant that is as before
-pub stands_after : (w : World) (c : Client) (packet : List ℕ) (s : SessionState) → StandsFor (served.take w c packet).world.plant (served.take w c packet).client s
+pub stands_after : (w : World) (c : Client) (packet : List ℕ) (s : SessionState)
+    → StandsFor (served.take w c packet).world.plant (served.take w c packet).client s
     → StandsFor w.plant (served.take w c packet).client s
 stands_after w c packet s stands = subst (λ (p : Plant). StandsFor p (served.take w c packet).client s) (take_keeps w c packet).plant stands
 
@@ -205,7 +216,8 @@ connected_after old new s t packet k answer took net routes =
     }
 
 -- an exchange in which a packet was answered so
-goes_answered : (new : Conn) (device : Device) (s t : Summary) (packet : List ℕ) (x : ServedExchange) (a : Answer) → (served.take x.world x.connection.client packet).answer ≡ a
+goes_answered : (new : Conn) (device : Device) (s t : Summary) (packet : List ℕ) (x : ServedExchange) (a : Answer)
+    → (served.take x.world x.connection.client packet).answer ≡ a
     → (let o = served.take x.world x.connection.client packet in Stands x.world.plant new (after_answer a (with_client o.client x.connection)))
     → (let o = served.take x.world x.connection.client packet in Counts s t x.connection (after_answer a (with_client o.client x.connection)))
     → HoldsWorld device (served.take x.world x.connection.client packet).world
@@ -250,10 +262,12 @@ goes_reply new device s t packet frame x answer produces holds =
     let reply = is_reply o.answer frame answer in
     goes_answered new device s t packet x (Answered reply.0) reply.1
     (subst (λ (bytes : List ℕ). Stands x.world.plant new (produce (Reply bytes) k)) reply.2 produces.stands)
-    (subst (λ (bytes : List ℕ). Counts s t x.connection (produce (Reply bytes) k)) reply.2 (counts_client s t x.connection (produce (Reply frame) k) o.client produces.counted)) holds
+    (subst (λ (bytes : List ℕ). Counts s t x.connection (produce (Reply bytes) k)) reply.2
+    (counts_client s t x.connection (produce (Reply frame) k) o.client produces.counted)) holds
 
 -- by nothing
-pub goes_silent : (new : Conn) (device : Device) (s : Summary) (packet : List ℕ) (x : ServedExchange) → IsAnswer (served.take x.world x.connection.client packet).answer taken.Silent
+pub goes_silent : (new : Conn) (device : Device) (s : Summary) (packet : List ℕ) (x : ServedExchange)
+    → IsAnswer (served.take x.world x.connection.client packet).answer taken.Silent
     → Stands x.world.plant new (with_client (served.take x.world x.connection.client packet).client x.connection)
     → HoldsWorld device (served.take x.world x.connection.client packet).world → Goes new device s s x (answered packet x)
 goes_silent new device s packet x answer stands holds =
@@ -261,7 +275,8 @@ goes_silent new device s packet x answer stands holds =
     goes_answered new device s s packet x Silent (is_silent o.answer answer) stands (same_with_client s x.connection o.client) holds
 
 -- by an end of the connection
-pub goes_close : (mid new : Conn) (device : Device) (s : Summary) (packet : List ℕ) (x : ServedExchange) → IsAnswer (served.take x.world x.connection.client packet).answer taken.Close
+pub goes_close : (mid new : Conn) (device : Device) (s : Summary) (packet : List ℕ) (x : ServedExchange)
+    → IsAnswer (served.take x.world x.connection.client packet).answer taken.Close
     → Stands x.world.plant mid (with_client (served.take x.world x.connection.client packet).client x.connection)
     → new.number ≡ mid.number → new.session ≡ mid.session → new.out ≡ mid.out → new.closing ≡ true
     → HoldsWorld device (served.take x.world x.connection.client packet).world → Goes new device s s x (answered packet x)
@@ -269,7 +284,8 @@ goes_close mid new device s packet x answer stands number session out closing ho
     let o = served.take x.world x.connection.client packet in
     let k = with_client o.client x.connection in
     goes_answered new device s s packet x Closing (is_close o.answer answer)
-    (stands_with_closing x.world.plant mid new k stands number session out closing) (counts_client s s x.connection (with_closing k) o.client (counts_closing s k)) holds
+    (stands_with_closing x.world.plant mid new k stands number session out closing)
+    (counts_client s s x.connection (with_closing k) o.client (counts_closing s k)) holds
 
 -- one exchange after another
 pub then_goes : (mid new : Conn) (d e : Device) (s t u : Summary) (x y z : ServedExchange) → Goes mid d s t x y → Goes new e t u y z → Goes new e s u x z
@@ -292,10 +308,12 @@ takes_frame conn mid new d e s t u x packet is_open answer first second = by_mar
     y = after_packet served packet x
 
     goes : Goes new e s u x y
-    goes = subst (λ z. Goes new e s u x z) (sym (after_packet-answered packet x is_open)) (then_goes mid new d e s t u x (with_one x) (answered packet (with_one x)) first second)
+    goes = subst (λ z. Goes new e s u x z) (sym (after_packet-answered packet x is_open))
+        (then_goes mid new d e s t u x (with_one x) (answered packet (with_one x)) first second)
 
     same_end : settled y ≡ settled x
-    same_end = settled-one packet (drop (x.connection.frames_taken + 1) (frames_of x.connection.received)) x is_open (packet_is_next (history_of conn x.connection) packet answer)
+    same_end = settled-one packet (drop (x.connection.frames_taken + 1) (frames_of x.connection.received)) x is_open
+        (packet_is_next (history_of conn x.connection) packet answer)
         (ap (λ (z : ServedExchange). packets_left z.connection) (after_packet-answered packet x is_open) ∙ answered-left packet x)
 
     by_mark : (b : Bool) → new.closing ≡ b → Takes (not b) new e s u x
@@ -305,14 +323,16 @@ takes_frame conn mid new d e s t u x packet is_open answer first second = by_mar
         subst (λ z. Goes new e s u x z) (sym end) goes
 
 -- nothing of the device and the world changes
-pub goes_still : (new : Conn) (d : Device) (s t : Summary) (x : ServedExchange) (l : ServedConnection) → HoldsWorld d x.world → Stands x.world.plant new l → Counts s t x.connection l
+pub goes_still : (new : Conn) (d : Device) (s t : Summary) (x : ServedExchange) (l : ServedConnection)
+    → HoldsWorld d x.world → Stands x.world.plant new l → Counts s t x.connection l
     → l.gone ≡ x.connection.gone → Goes new d s t x (record x { connection = l })
 goes_still new d s t x l held stands counted gone = record { stands = stands; holds = held; plant = refl; signals = refl; counted = counted; gone = gone }
 
 -- the rest is open: nothing changes
 pub takes_open : (conn new : Conn) (d : Device) (s : Summary) (x : ServedExchange) → HoldsWorld d x.world → Stands x.world.plant conn x.connection
     → cut.NotYet ≡ answer_of (history_of conn x.connection) → Represents new.session.stream (after_next (history_of conn x.connection))
-    → new.session ≡ (let held = conn.session in record held { stream = new.session.stream }) → new.number ≡ conn.number → new.out ≡ conn.out → new.closing ≡ conn.closing
+    → new.session ≡ (let held = conn.session in record held { stream = new.session.stream })
+    → new.number ≡ conn.number → new.out ≡ conn.out → new.closing ≡ conn.closing
     → Goes new d s s x (settled x)
 takes_open conn new d s x held st answer stream keeps number out closing =
     let rest = rest_is_open (history_of conn x.connection) answer in
@@ -329,7 +349,8 @@ takes_open conn new d s x held st answer stream keeps number out closing =
 -- the rest is broken: the connection closes
 pub takes_broken : (conn new : Conn) (d : Device) (s : Summary) (x : ServedExchange) → HoldsWorld d x.world → Stands x.world.plant conn x.connection
     → cut.Broken ≡ answer_of (history_of conn x.connection) → Represents new.session.stream (after_next (history_of conn x.connection))
-    → new.session ≡ (let held = conn.session in record held { stream = new.session.stream }) → new.number ≡ conn.number → new.out ≡ conn.out → new.closing ≡ true
+    → new.session ≡ (let held = conn.session in record held { stream = new.session.stream })
+    → new.number ≡ conn.number → new.out ≡ conn.out → new.closing ≡ true
     → Goes new d s s x (settled x)
 takes_broken conn new d s x held st answer stream keeps number out closing =
     let rest = rest_is_broken (history_of conn x.connection) answer in
@@ -343,7 +364,8 @@ takes_broken conn new d s x held st answer stream keeps number out closing =
       closing = closing;
     }) (counts_closing s x.connection) refl)
 
-pub none_taken : (conn : Conn) (d : Device) (s : Summary) (x : ServedExchange) → HoldsWorld d x.world → Stands x.world.plant conn x.connection → x.connection.closing ≡ false → TakesSome conn d s s x
+pub none_taken : (conn : Conn) (d : Device) (s : Summary) (x : ServedExchange) → HoldsWorld d x.world
+    → Stands x.world.plant conn x.connection → x.connection.closing ≡ false → TakesSome conn d s s x
 none_taken conn d s x held st is_open = record {
   next = x;
   goes = goes_still conn d s s x x.connection held st (same_counts s x.connection) refl;
@@ -352,7 +374,8 @@ none_taken conn d s x held st is_open = record {
 }
 
 -- some frames, and then more
-pub takes_more : (mid new : Conn) (d e : Device) (s t u : Summary) (x : ServedExchange) (first : TakesSome mid d s t x) → TakesSome new e t u first.next → TakesSome new e s u x
+pub takes_more : (mid new : Conn) (d e : Device) (s t u : Summary) (x : ServedExchange) (first : TakesSome mid d s t x)
+    → TakesSome new e t u first.next → TakesSome new e s u x
 takes_more mid new d e s t u x first second = record {
   next = second.next;
   goes = then_goes mid new d e s t u x first.next second.next first.goes second.goes;
@@ -368,7 +391,8 @@ takes_all mid new d e s t u x first last =
 
 -- a piece came in
 pub fed : (conn new : Conn) (d : Device) (s : Summary) (x : ServedExchange) (piece : List ℕ) → HoldsWorld d x.world → Stands x.world.plant conn x.connection
-    → Represents new.session.stream (after_feed (history_of conn x.connection) piece) → new.session ≡ (let held = conn.session in record held { stream = new.session.stream })
+    → Represents new.session.stream (after_feed (history_of conn x.connection) piece)
+    → new.session ≡ (let held = conn.session in record held { stream = new.session.stream })
     → new.number ≡ conn.number → new.out ≡ conn.out → new.closing ≡ conn.closing → Goes new d s s x (with_piece piece x)
 fed conn new d s x piece held st stream keeps number out closing = goes_still new d s s x (with_received piece x.connection) held (record {
   number = number ∙ st.number;
@@ -404,4 +428,5 @@ on_ok (Err e) f h = h
 -- what a lent slice gives back, where it has as many elements as before
 pub lent_back : {X : Type 0} (new old : List X) (len : ℕ) → len ≡ length old → length new ≡ length old → take len (new ++ drop (length new) old) ≡ new
 lent_back new old len ok long =
-    ap (λ n. take n (new ++ drop (length new) old)) (ok ∙ sym long) ∙ take-append-le (length new) new (drop (length new) old) (omega arith) ∙ take_all (length new) new (omega arith)
+    ap (λ n. take n (new ++ drop (length new) old)) (ok ∙ sym long)
+    ∙ take-append-le (length new) new (drop (length new) old) (omega arith) ∙ take_all (length new) new (omega arith)

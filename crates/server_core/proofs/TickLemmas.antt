@@ -35,14 +35,20 @@ all_cons P x xs p ps zero d below = p
 all_cons P x xs p ps (suc k) d below = ps k d (omega (arith, below))
 
 -- each session that is not closing is served over a world of the same plant
-pub served_each : (plant : Plant) (w : World) (ports : PortsMemory) (ts : List Turned) (es : List (ℕ × Waiting)) (ps : List ServedConnection) → HoldsPorts w ports → w.plant ≡ plant → length ts ≡ length es
+pub served_each : (plant : Plant) (w : World) (ports : PortsMemory) (ts : List Turned) (es : List (ℕ × Waiting)) (ps : List ServedConnection)
+    → HoldsPorts w ports → w.plant ≡ plant → length ts ≡ length es
     → EachStands plant (conns_of ts es) ps → All (λ (t : Turned). t.skip ≡ false → IsServed ports t.session) ts
 served_each plant w ports [] es ps held same e each = λ k d below. absurd (omega (arith, below))
 served_each plant w ports (t ∷ ts) [] ps held same e each = absurd (omega (arith, e))
 served_each plant w ports (t ∷ ts) (f ∷ fs) [] held same e each = absurd each
 served_each plant w ports (t ∷ ts) (f ∷ fs) (p ∷ ps) held same e each =
     all_cons (λ (t : Turned). t.skip ≡ false → IsServed ports t.session) t ts
-    (λ open_. record { world = w; client = p.client; held = held; stands = subst (λ (q : Plant). StandsFor q p.client t.session) (sym same) (each.0.client (sym each.0.closing ∙ open_)) })
+    (λ open_. record {
+      world = w;
+      client = p.client;
+      held = held;
+      stands = subst (λ (q : Plant). StandsFor q p.client t.session) (sym same) (each.0.client (sym each.0.closing ∙ open_));
+    })
     (served_each plant w ports ts fs ps held same (omega (arith, e)) each.1)
 
 -- a tick keeps the plant, and steps each signal
@@ -75,10 +81,12 @@ pub record TicksDevice (old new : Device) (waves : List Wave) (t : ℕ) : Type 0
   pub ports : (w : World) → HoldsPorts w old.ports → w.signals ≡ waves → HoldsPorts (world_after_tick w) new.ports
 
 -- the ports hold the world after the tick
-pub ticked_ports : (old new : Device) (waves : List Wave) (t : ℕ) (s : ServedState) → TicksDevice old new waves t → HoldsState old waves s → HoldsPorts (world_after_tick s.world) new.ports
+pub ticked_ports : (old new : Device) (waves : List Wave) (t : ℕ) (s : ServedState)
+    → TicksDevice old new waves t → HoldsState old waves s → HoldsPorts (world_after_tick s.world) new.ports
 ticked_ports old new waves t s ticks held = ticks.ports s.world held.world.ports held.signals
 
-ticked_device : (old new : Device) (waves ws : List Wave) (t : ℕ) (x : CoreState) → TicksDevice old new waves t → ws ≡ map wave_after_step waves → HoldsState old waves x.state → HoldsState new ws (ticked t x)
+ticked_device : (old new : Device) (waves ws : List Wave) (t : ℕ) (x : CoreState) → TicksDevice old new waves t
+    → ws ≡ map wave_after_step waves → HoldsState old waves x.state → HoldsState new ws (ticked t x)
 ticked_device old new waves ws t x ticks steps held =
     let w = x.state.world in
     record {
@@ -94,8 +102,10 @@ ticked_device old new waves ws t x ticks steps held =
       moment = ticks.moment ∙ ap (λ m. max m t) held.moment;
     }
 
-pub tick_follows : (v w : ServerView) (waves ws : List Wave) (x : CoreState) (t : ℕ) (mid new : Clients) → ServesEach v waves x → TicksDevice v.device w.device waves t → ws ≡ map wave_after_step waves
-    → ((u : World) → HoldsPorts u w.device.ports → u.plant.net ≡ w.device.net.bytes → EachAsked u.plant u.plant (client_after_tick w.device.moment u) v.sessions mid.sessions.items)
+pub tick_follows : (v w : ServerView) (waves ws : List Wave) (x : CoreState) (t : ℕ) (mid new : Clients)
+    → ServesEach v waves x → TicksDevice v.device w.device waves t → ws ≡ map wave_after_step waves
+    → ((u : World) → HoldsPorts u w.device.ports → u.plant.net ≡ w.device.net.bytes
+    → EachAsked u.plant u.plant (client_after_tick w.device.moment u) v.sessions mid.sessions.items)
     → mid.waiting.entries ≡ v.entries → DeliversAll mid new v.summary w.summary → w.sessions ≡ new.sessions.items → w.entries ≡ new.waiting.entries
     → FollowsEach v w ws x (after_event x (event.Tick t))
 tick_follows v w waves ws x t mid new serves ticks steps asked entries delivers sessions new_entries =
@@ -112,7 +122,8 @@ tick_follows v w waves ws x t mid new serves ticks steps asked entries delivers 
     (record { serves = all.serves; counted = counted_all outcome v.summary w.summary x.state y refl refl refl all.counted })
 
 -- the condition of the check, before it is known which state the core stands for
-pub tick_served : (v : ServerView) (device : Device) (waves : List Wave) (t : ℕ) (ts : List Turned) → ServesSome v waves → TicksDevice v.device device waves t → ts ≡ v.sessions
+pub tick_served : (v : ServerView) (device : Device) (waves : List Wave) (t : ℕ) (ts : List Turned)
+    → ServesSome v waves → TicksDevice v.device device waves t → ts ≡ v.sessions
     → All (λ (u : Turned). u.skip ≡ false → IsServed device.ports u.session) ts
 tick_served v device waves t ts some ticks same =
     let s = some.serves in

@@ -1,5 +1,7 @@
 -- Which connections are idle while one is touched, opened or gone.
-use Rattle.std.proofs.Common.{◌≡◌, ◌≢◌, ℕ, zero, suc, ◌+◌, ◌<◌, ◌≤◌, List, [], ◌∷◌, ◌++◌, length, set, take, drop, Bool, true, false, cond, refl, sym, ap, ◌∙◌, subst, inl, inr, nat_eq, add-one, arith}
+use Rattle.std.proofs.Common.{◌≡◌, ◌≢◌, ℕ, zero, suc, ◌+◌, ◌<◌, ◌≤◌, List, [], ◌∷◌, ◌++◌, length, set, take}
+use Rattle.std.proofs.Common.{drop, Bool, true, false, cond, refl, sym, ap, ◌∙◌, subst, inl, inr, nat_eq}
+use Rattle.std.proofs.Common.{add-one, arith}
 use Rattle.std.specs.Prelude.{◌||◌, is_some, remove, slice_get, Option, Some, None, Result, Ok, Err, OnOk, OnErr}
 use Rattle.std.proofs.lemmas.Bool.{cases_lt}
 use Rattle.indexmap.specs.IndexMap.{set_value_at, insert_entry}
@@ -30,7 +32,8 @@ module _ (ts us : List Turned) (es fs : List (ℕ × Waiting)) (k j : ℕ) where
   idle_by idle offers closes =
       let a = test_in is_entry_offered (slice_get es k) in
       let b = test_in is_closing (slice_get ts k) in
-      both_fail (test_in is_entry_offered (slice_get fs j)) (test_in is_closing (slice_get us j)) (offers (first_fails a b idle)) (closes (second_fails a b idle))
+      both_fail (test_in is_entry_offered (slice_get fs j)) (test_in is_closing (slice_get us j))
+      (offers (first_fails a b idle)) (closes (second_fails a b idle))
 
 -- the others of a list are as they were
 get_set-other : {X : Type 0} (xs : List X) (i k : ℕ) (x : X) → k ≢ i → slice_get (set xs i x) k ≡ slice_get xs k
@@ -62,16 +65,19 @@ idle_set_waiting old new ts es i w idle touches k outside =
     idle_by ts ts es (set_value_at es i w) k k (idle k was.0) (λ e. ap (test_in is_entry_offered) (get_value-other es i k w was.1) ∙ e) (λ e. e)
 
 -- one that comes is idle
-test_pushed : {X : Type 0} (test : X → Bool) (xs : List X) (x : X) (k : ℕ) → test x ≡ false → test_in test (slice_get xs k) ≡ false → test_in test (slice_get (xs ++ x ∷ []) k) ≡ false
+test_pushed : {X : Type 0} (test : X → Bool) (xs : List X) (x : X) (k : ℕ) → test x ≡ false
+    → test_in test (slice_get xs k) ≡ false → test_in test (slice_get (xs ++ x ∷ []) k) ≡ false
 test_pushed test [] x zero new e = new
 test_pushed test [] x (suc k) new e = refl
 test_pushed test (y ∷ ys) x zero new e = e
 test_pushed test (y ∷ ys) x (suc k) new e = test_pushed test ys x k new e
 
-pub idle_session : (touched : Touched) (ts : List Turned) (es : List (ℕ × Waiting)) (t : Turned) → t.skip ≡ false → OthersIdle touched ts es → OthersIdle touched (ts ++ t ∷ []) es
+pub idle_session : (touched : Touched) (ts : List Turned) (es : List (ℕ × Waiting)) (t : Turned)
+    → t.skip ≡ false → OthersIdle touched ts es → OthersIdle touched (ts ++ t ∷ []) es
 idle_session touched ts es t open_ idle k outside = idle_by ts (ts ++ t ∷ []) es es k k (idle k outside) (λ e. e) (λ e. test_pushed is_closing ts t k open_ e)
 
-pub idle_entry : (touched : Touched) (ts : List Turned) (es : List (ℕ × Waiting)) (n : ℕ) (w : Waiting) → is_offered w ≡ false → OthersIdle touched ts es → OthersIdle touched ts (es ++ (n, w) ∷ [])
+pub idle_entry : (touched : Touched) (ts : List Turned) (es : List (ℕ × Waiting)) (n : ℕ) (w : Waiting)
+    → is_offered w ≡ false → OthersIdle touched ts es → OthersIdle touched ts (es ++ (n, w) ∷ [])
 idle_entry touched ts es n w none idle k outside =
     idle_by ts ts es (es ++ (n, w) ∷ []) k k (idle k outside) (λ e. test_pushed is_entry_offered es (n, w) k none e) (λ e. e)
 
@@ -89,10 +95,12 @@ get_removed-behind (x ∷ xs) zero k behind = refl
 get_removed-behind (x ∷ xs) (suc i) zero behind = absurd (omega (arith, behind))
 get_removed-behind (x ∷ xs) (suc i) (suc k) behind = get_removed-behind xs i k (omega (arith, behind))
 
-pub idle_removed : (old new : Touched) (ts : List Turned) (es : List (ℕ × Waiting)) (i : ℕ) → OthersIdle old ts es → ((k : ℕ) → k < i → IsOutside new k → IsOutside old k)
+pub idle_removed : (old new : Touched) (ts : List Turned) (es : List (ℕ × Waiting)) (i : ℕ)
+    → OthersIdle old ts es → ((k : ℕ) → k < i → IsOutside new k → IsOutside old k)
     → ((k : ℕ) → i ≤ k → IsOutside new k → IsOutside old (k + 1)) → OthersIdle new (remove ts i) (remove es i)
 idle_removed old new ts es i idle before behind k outside = elim (cases_lt k i) [
-  | inl below ↦ idle_by ts (remove ts i) es (remove es i) k k (idle k (before k below outside)) (λ e. ap (test_in is_entry_offered) (get_removed-before es i k below) ∙ e)
+  | inl below ↦ idle_by ts (remove ts i) es (remove es i) k k (idle k (before k below outside))
+      (λ e. ap (test_in is_entry_offered) (get_removed-before es i k below) ∙ e)
       (λ e. ap (test_in is_closing) (get_removed-before ts i k below) ∙ e)
   | inr above ↦ idle_by ts (remove ts i) es (remove es i) (suc k) k (idle (suc k) (subst (λ m. IsOutside old m) (add-one k) (behind k above outside)))
       (λ e. ap (test_in is_entry_offered) (get_removed-behind es i k above) ∙ e) (λ e. ap (test_in is_closing) (get_removed-behind ts i k above) ∙ e)
@@ -111,7 +119,8 @@ nothing_offered w none =
     ap (λ b. is_some (cond b None (front_of w.out))) none.free ∙ ap (λ fs. is_some (cond false None (front_of fs))) none.out
 
 -- one that is put in where its number is not there, or is not, for want of memory
-pub idle_inserted : {A E : Type 0} (r : Result A E) (touched : Touched) (ts : List Turned) (old new : List (ℕ × Waiting)) (n : ℕ) (w : Waiting) → OnOk r (new ≡ insert_entry nat_eq old n w) → OnErr r (new ≡ old)
+pub idle_inserted : {A E : Type 0} (r : Result A E) (touched : Touched) (ts : List Turned) (old new : List (ℕ × Waiting)) (n : ℕ) (w : Waiting)
+    → OnOk r (new ≡ insert_entry nat_eq old n w) → OnErr r (new ≡ old)
     → IsNoEntry old n → is_offered w ≡ false → OthersIdle touched ts old → OthersIdle touched ts new
 idle_inserted (Ok a) touched ts old new n w put kept none quiet idle =
     subst (λ (es : List (ℕ × Waiting)). OthersIdle touched ts es) (sym (put ∙ entry_added old n w none)) (idle_entry touched ts old n w quiet idle)

@@ -1,6 +1,7 @@
 -- At a tick or a reload each connection gives frames of samples, which are produced connection after connection.
 -- No public clause cites this file.
-use Rattle.std.specs.Prelude.{◌≡◌, ℕ, zero, suc, List, [], ◌∷◌, length, map, sum_by, set, All, Bool, true, false, if◌then◌else◌, Some, slice_get, slice_index_or}
+use Rattle.std.specs.Prelude.{◌≡◌, ℕ, zero, suc, List, [], ◌∷◌, length, map, sum_by, set, All, Bool, true}
+use Rattle.std.specs.Prelude.{false, if◌then◌else◌, Some, slice_get, slice_index_or}
 use Rattle.std.specs.Map.{values_of}
 use Rattle.indexmap.specs.IndexMap.{set_value_at}
 use Rattle.spec_plant.specs.World.{Plant}

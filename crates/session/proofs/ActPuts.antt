@@ -5,18 +5,22 @@ use Rattle.std.specs.List.{list_any}
 use Rattle.spec_plant.specs.Finding.{Found, found_of}
 use Rattle.spec_plant.specs.World.{PlantPort, SymbolPart}
 use Rattle.spec_plant.specs.Sound.{Each}
-use Rattle.spec_formats.specs.Codes.{general_device_error, not_permitted, invalid_value, invalid_size, symbol_not_found, no_more_notifications, watch_too_big, notification_handle_invalid}
+use Rattle.spec_formats.specs.Codes.{general_device_error, not_permitted, invalid_value, invalid_size}
+use Rattle.spec_formats.specs.Codes.{symbol_not_found, no_more_notifications, watch_too_big}
+use Rattle.spec_formats.specs.Codes.{notification_handle_invalid}
 use Rattle.spec_formats.specs.Numbers.{number32}
 use Rattle.spec_formats.specs.Groups.{Group, AreaBytes, AreaBit, ValueByHandle, ReleaseHandle, HandleByName, SumRead, SumWrite, SumReadWrite}
 use Rattle.spec_formats.specs.Ranges.{Range, Bytes, Bit, Size, range_in}
-use Rattle.spec_formats.specs.Request.{Request, ReadDeviceInfo, Read, Write, ReadState, WriteControl, AddDeviceNotification, DeleteDeviceNotification, DeviceNotification, ReadWrite}
+use Rattle.spec_formats.specs.Request.{Request, ReadDeviceInfo, Read, Write, ReadState, WriteControl}
+use Rattle.spec_formats.specs.Request.{AddDeviceNotification, DeleteDeviceNotification, DeviceNotification}
+use Rattle.spec_formats.specs.Request.{ReadWrite}
 use Rattle.spec_machine.specs.World.{Setup, numbers_from, state_names, state_bytes, RUN, STOP}
 use Rattle.spec_machine.specs.Access.{Addressed, WholeByte, addressed_name, Put, puts_of}
 use Rattle.spec_machine.specs.Acts.{Act, Refusal, Allowed, writing, changing}
 use Rattle.spec_machine.specs.Reads.{read_group}
 use Rattle.std.specs.Int.{w32, to_le_bytes}
 use Rattle.port_device.specs.Groups.{without_handles}
-use Rattle.spec_machine.specs.Answers.{AnswerTable, answered_group, READ, WRITE, ADD_DEVICE_NOTIFICATION, READ_WRITE}
+use Rattle.spec_machine.specs.Answers.{answered_group, READ, WRITE, ADD_DEVICE_NOTIFICATION, READ_WRITE}
 use Rattle.spec_machine.specs.ByName.{MAX_LIVE, MAX_NUMBER, place_of, grant_act, if_found, read_write_group}
 use Rattle.spec_machine.specs.Decisions.{acts_in}
 use Rattle.spec_machine.specs.Watches.{Mode}
@@ -103,7 +107,8 @@ if-nothing false x y h k = k
 release-nothing : (c : Client) (p : PlantPort) (bytes : List ℕ) → WritesNothing (release_act c p bytes)
 release-nothing c p bytes = if-nothing (not (length bytes == 4)) (Refusal invalid_size)
     (if is_releasable (kept_status c.handles (number32 0 bytes) p.number) then changing [] (Releases (number32 0 bytes)) else Refusal symbol_not_found) tt
-    (if-nothing (is_releasable (kept_status c.handles (number32 0 bytes) p.number)) (changing [] (Releases (number32 0 bytes))) (Refusal symbol_not_found) refl tt)
+    (if-nothing (is_releasable (kept_status c.handles (number32 0 bytes) p.number))
+    (changing [] (Releases (number32 0 bytes))) (Refusal symbol_not_found) refl tt)
 
 group-at : (c : Client) (k : Asker) (g : Option Group) (offset : ℕ) (bytes : List ℕ) → PutsAt k.port.number (write_group c k g offset bytes)
 unfolding write_group
@@ -121,7 +126,8 @@ group-at c k (Some ValueByHandle) offset bytes =
 group-at c k (Some g) offset bytes = tt
 
 grant-nothing : (c : Client) (p : PlantPort) (place : Place) → WritesNothing (grant_act c p place)
-grant-nothing c p place = if-nothing (nat_le MAX_LIVE (live_count c.handles) || nat_le MAX_NUMBER (length c.handles)) (Refusal general_device_error) (changing (to_le_bytes w32 (length c.handles + 1)) (Grants p.number place)) tt refl
+grant-nothing c p place = if-nothing (nat_le MAX_LIVE (live_count c.handles) || nat_le MAX_NUMBER (length c.handles))
+    (Refusal general_device_error) (changing (to_le_bytes w32 (length c.handles + 1)) (Grants p.number place)) tt refl
 
 found-nothing : (c : Client) (p : PlantPort) (o : Option Found) → WritesNothing (if_found o (λ f. grant_act c p (place_of f)))
 found-nothing c p None = tt
@@ -130,7 +136,8 @@ found-nothing c p (Some f) = grant-nothing c p (place_of f)
 named-nothing : (c : Client) (p : PlantPort) (g : Option Group) (len : ℕ) (name : List ℕ) → WritesNothing (read_write_group c p g len name)
 unfolding read_write_group
 named-nothing c p (Some HandleByName) len name =
-    if-nothing (nat_lt len 4) (Refusal invalid_size) (if_found (found_of p.symbols name) (λ f. grant_act c p (place_of f))) tt (found-nothing c p (found_of p.symbols name))
+    if-nothing (nat_lt len 4) (Refusal invalid_size)
+    (if_found (found_of p.symbols name) (λ f. grant_act c p (place_of f))) tt (found-nothing c p (found_of p.symbols name))
 named-nothing c p (Some ValueByHandle) len name = tt
 named-nothing c p g len name = idle-nothing (read_write_group c p (without_handles g) len name) (port-idle c p g len name)
 
@@ -138,15 +145,18 @@ reached-nothing : (c : Client) (k : Asker) (mode : Mode) (len cycle : ℕ) (r : 
 reached-nothing c k mode len cycle (Err code) = tt
 reached-nothing c k mode len cycle (Ok watched) =
     if-nothing (len == 0) (Refusal invalid_size) (add_watch c (next_watch c k mode cycle watched)) tt
-    (if-nothing (nat_le MAX_WATCHES (length c.watches) || nat_le MAX_NUMBER c.additions) (Refusal no_more_notifications) (let w = next_watch c k mode cycle watched in changing (to_le_bytes w32 w.handle) (Adds w)) tt refl)
+    (if-nothing (nat_le MAX_WATCHES (length c.watches) || nat_le MAX_NUMBER c.additions) (Refusal no_more_notifications)
+    (let w = next_watch c k mode cycle watched in changing (to_le_bytes w32 w.handle) (Adds w)) tt refl)
 
 add-nothing : (c : Client) (k : Asker) (g : Option Group) (offset len cycle : ℕ) (mode : Option Mode) → WritesNothing (add_act c k g offset len cycle mode)
 add-nothing c k g offset len cycle None = tt
 add-nothing c k g offset len cycle (Some mode) =
-    if-nothing (nat_lt MAX_WATCHED len) (Refusal watch_too_big) (add_reached c k mode len cycle (reach_of c k.port g offset len)) tt (reached-nothing c k mode len cycle (reach_of c k.port g offset len))
+    if-nothing (nat_lt MAX_WATCHED len) (Refusal watch_too_big) (add_reached c k mode len cycle (reach_of c k.port g offset len)) tt
+    (reached-nothing c k mode len cycle (reach_of c k.port g offset len))
 
 delete-nothing : (c : Client) (k : Asker) (handle : ℕ) → WritesNothing (delete_act c k handle)
-delete-nothing c k handle = if-nothing (list_any (is_watch_of k.port.number handle) c.watches) (changing [] (Deletes handle)) (Refusal notification_handle_invalid) refl tt
+delete-nothing c k handle =
+    if-nothing (list_any (is_watch_of k.port.number handle) c.watches) (changing [] (Deletes handle)) (Refusal notification_handle_invalid) refl tt
 
 state-at : (p : PlantPort) → AreAtPort p.number (map WholeByte (state_names p))
 state-at p = (refl, (refl, (refl, (refl, tt))))
@@ -158,46 +168,48 @@ control-at k ads device =
     (if (ads == RUN) || (ads == STOP) then writing (puts_of (map WholeByte (state_names k.port)) (state_bytes ads device)) else Refusal invalid_value)
     (go ((ads == RUN) || (ads == STOP)))
   where
-    go : (b : Bool) → PutsAt k.port.number (if b then writing (puts_of (map WholeByte (state_names k.port)) (state_bytes ads device)) else Refusal invalid_value)
+    go : (b : Bool) → PutsAt k.port.number
+        (if b then writing (puts_of (map WholeByte (state_names k.port)) (state_bytes ads device)) else Refusal invalid_value)
     go true = puts-at k.port.number (map WholeByte (state_names k.port)) (state_bytes ads device) (state-at k.port)
     go false = tt
 
-pub act-at : (table : AnswerTable) (d : Setup) (c : Client) (k : Asker) (r : Request) → PutsAt k.port.number (act_of table d c k r)
+pub act-at : (d : Setup) (c : Client) (k : Asker) (r : Request) → PutsAt k.port.number (act_of d c k r)
 unfolding act_of
-act-at table d c k ReadDeviceInfo = tt
-act-at table d c k (Read group offset len) =
-    let act = read_group d c k.port (answered_group table READ group) offset len in
-    nothing-at k.port.number act (idle-nothing act (read-idle d c k.port (answered_group table READ group) offset len))
-act-at table d c k (Write group offset bytes) = group-at c k (answered_group table WRITE group) offset bytes
-act-at table d c k ReadState = tt
-act-at table d c k (WriteControl ads device bytes) = control-at k ads device
-act-at table d c k (AddDeviceNotification group offset len mode delay cycle) =
-    nothing-at k.port.number (add_act c k (answered_group table ADD_DEVICE_NOTIFICATION group) offset len cycle (mode_of mode))
-    (add-nothing c k (answered_group table ADD_DEVICE_NOTIFICATION group) offset len cycle (mode_of mode))
-act-at table d c k (DeleteDeviceNotification handle) = nothing-at k.port.number (delete_act c k handle) (delete-nothing c k handle)
-act-at table d c k (DeviceNotification bytes) = tt
-act-at table d c k (ReadWrite group offset len bytes) =
-    nothing-at k.port.number (read_write_group c k.port (answered_group table READ_WRITE group) len bytes) (named-nothing c k.port (answered_group table READ_WRITE group) len bytes)
+act-at d c k ReadDeviceInfo = tt
+act-at d c k (Read group offset len) =
+    let act = read_group d c k.port (answered_group READ group) offset len in
+    nothing-at k.port.number act (idle-nothing act (read-idle d c k.port (answered_group READ group) offset len))
+act-at d c k (Write group offset bytes) = group-at c k (answered_group WRITE group) offset bytes
+act-at d c k ReadState = tt
+act-at d c k (WriteControl ads device bytes) = control-at k ads device
+act-at d c k (AddDeviceNotification group offset len mode delay cycle) =
+    nothing-at k.port.number (add_act c k (answered_group ADD_DEVICE_NOTIFICATION group) offset len cycle (mode_of mode))
+    (add-nothing c k (answered_group ADD_DEVICE_NOTIFICATION group) offset len cycle (mode_of mode))
+act-at d c k (DeleteDeviceNotification handle) = nothing-at k.port.number (delete_act c k handle) (delete-nothing c k handle)
+act-at d c k (DeviceNotification bytes) = tt
+act-at d c k (ReadWrite group offset len bytes) =
+    nothing-at k.port.number (read_write_group c k.port (answered_group READ_WRITE group) len bytes)
+    (named-nothing c k.port (answered_group READ_WRITE group) len bytes)
 
 -- and so do the acts of parts
-pub acts-at : (table : AnswerTable) (d : Setup) (c : Client) (k : Asker) (rs : List Request) → PutAllAt k.port.number (acts_of table d c k rs)
+pub acts-at : (d : Setup) (c : Client) (k : Asker) (rs : List Request) → PutAllAt k.port.number (acts_of d c k rs)
 unfolding acts_of given_in_turn
-acts-at table d c k [] = tt
-acts-at table d c k (r ∷ rs) = (act-at table d c k r, acts-at table d (client_after_request table d k c r) k rs)
+acts-at d c k [] = tt
+acts-at d c k (r ∷ rs) = (act-at d c k r, acts-at d (client_after_request d k c r) k rs)
 
-parts-at : (table : AnswerTable) (d : Setup) (c : Client) (k : Asker) (s : SumRequest) (o : Option ℕ) → PutAllAt k.port.number (acts_in (decide_parts table d c k s o))
-parts-at table d c k s (Some code) = (tt, tt)
-parts-at table d c k s None = acts-at table d c k s.parts
+parts-at : (d : Setup) (c : Client) (k : Asker) (s : SumRequest) (o : Option ℕ) → PutAllAt k.port.number (acts_in (decide_parts d c k s o))
+parts-at d c k s (Some code) = (tt, tt)
+parts-at d c k s None = acts-at d c k s.parts
 
-group-sum-at : (table : AnswerTable) (d : Setup) (c : Client) (k : Asker) (g : Option Group) (r : Request) (n len : ℕ) (bytes : List ℕ)
-    → PutAllAt k.port.number (acts_in (decide_read_write table d c k g r n len bytes))
-group-sum-at table d c k (Some SumRead) r n len bytes = parts-at table d c k (sum_of_reads n bytes) _
-group-sum-at table d c k (Some SumWrite) r n len bytes = parts-at table d c k (sum_of_writes n bytes) _
-group-sum-at table d c k (Some SumReadWrite) r n len bytes = parts-at table d c k (sum_of_read_writes n bytes) _
-group-sum-at table d c k g r n len bytes = acts-at table d c k (r ∷ [])
+group-sum-at : (d : Setup) (c : Client) (k : Asker) (g : Option Group) (r : Request) (n len : ℕ) (bytes : List ℕ)
+    → PutAllAt k.port.number (acts_in (decide_read_write d c k g r n len bytes))
+group-sum-at d c k (Some SumRead) r n len bytes = parts-at d c k (sum_of_reads n bytes) _
+group-sum-at d c k (Some SumWrite) r n len bytes = parts-at d c k (sum_of_writes n bytes) _
+group-sum-at d c k (Some SumReadWrite) r n len bytes = parts-at d c k (sum_of_read_writes n bytes) _
+group-sum-at d c k g r n len bytes = acts-at d c k (r ∷ [])
 
-pub request-at : (table : AnswerTable) (d : Setup) (c : Client) (k : Asker) (r : Request) → PutAllAt k.port.number (acts_in (decide_request table d c k r))
+pub request-at : (d : Setup) (c : Client) (k : Asker) (r : Request) → PutAllAt k.port.number (acts_in (decide_request d c k r))
 unfolding decide_request
-request-at table d c k (ReadWrite group offset len bytes) =
-    group-sum-at table d c k (answered_group table READ_WRITE group) (ReadWrite group offset len bytes) offset len bytes
-request-at table d c k r = acts-at table d c k (r ∷ [])
+request-at d c k (ReadWrite group offset len bytes) =
+    group-sum-at d c k (answered_group READ_WRITE group) (ReadWrite group offset len bytes) offset len bytes
+request-at d c k r = acts-at d c k (r ∷ [])

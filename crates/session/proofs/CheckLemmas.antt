@@ -9,7 +9,6 @@ use Rattle.spec_plant.specs.World.{PlantPort}
 use Rattle.spec_formats.specs.Header.{AmsHeader, header_of, payload_of}
 use Rattle.spec_formats.specs.Request as format
 use Rattle.spec_formats.proofs.HeaderLemmas.{header_of-short}
-use Rattle.spec_machine.specs.Answers.{all_answered}
 use Rattle.spec_machine.specs.Client.{Client}
 use Rattle.spec_machine.specs.Decisions.{Decision, NoAnswer}
 use Rattle.spec_machine.specs.Packets.{checked, decide, decide_header, decide_passed}
@@ -48,7 +47,7 @@ not-some (Some x) = refl
 
 -- what is passed on where no check stops the packet
 abbrev pub passed_on : World → Client → List ℕ → AmsHeader → Decision
-passed_on w c ams h = decide_passed all_answered (setup_of w) c h.source (routed.rights_of h.source.net w.plant.routes)
+passed_on w c ams h = decide_passed (setup_of w) c h.source (routed.rights_of h.source.net w.plant.routes)
     (port_numbered h.target.port w.plant.ports) (format.request_of h.command (payload_of ams))
 
 pub decided : (w : World) (c : Client) (ams : List ℕ) (h : AmsHeader) (payload net : List ℕ) (routes : List plant.Route) (ports : PortsMemory)
@@ -58,9 +57,10 @@ pub decided : (w : World) (c : Client) (ams : List ℕ) (h : AmsHeader) (payload
     → option_map request_meant request ≡ format.request_of h.command payload
     → no_route ≡ is_none rights → no_port ≡ not there → no_request ≡ is_none request
     → ((d : Decision) → stopped_by stop d ≡ checked (all_checks h (length payload) net no_route no_port no_request) d)
-    → decide all_answered (setup_of w) c ams ≡ stopped_by stop (passed_on w c ams h)
+    → decide (setup_of w) c ams ≡ stopped_by stop (passed_on w c ams h)
 unfolding decide
-decided w c ams h payload net routes ports rights there no_route no_port no_request request stop held address header pay rights_are there_is request_is e1 e2 e3 said =
+decided w c ams h payload net routes ports rights there no_route no_port no_request
+    request stop held address header pay rights_are there_is request_is e1 e2 e3 said =
     let plant_rights = routed.rights_of h.source.net w.plant.routes in
     let o = port_numbered h.target.port w.plant.ports in
     let r = format.request_of h.command (payload_of ams) in
@@ -68,7 +68,7 @@ decided w c ams h payload net routes ports rights there no_route no_port no_requ
     let f1 : no_route ≡ is_none plant_rights = e1 ∙ sym (none-map rights_of rights) ∙ ap is_none (rights_are ∙ address.routes_are h.source.net) in
     let f2 : no_port ≡ is_none o = e2 ∙ ap not (there_is ∙ port-there w ports h.target.port held) ∙ not-some o in
     let f3 : no_request ≡ is_none r = e3 ∙ sym (none-map request_meant request) ∙ ap is_none (request_is ∙ ap (format.request_of h.command) pay) in
-    ap (decide_header all_answered (setup_of w) c (payload_of ams)) header
+    ap (decide_header (setup_of w) c (payload_of ams)) header
     ∙ sym (said D ∙ ap (λ b. checked (all_checks h (length payload) net b no_port no_request) D) f1
     ∙ ap (λ b. checked (all_checks h (length payload) net (is_none plant_rights) b no_request) D) f2
     ∙ ap (λ b. checked (all_checks h (length payload) net (is_none plant_rights) (is_none o) b) D) f3
@@ -108,9 +108,10 @@ asked-at w c ams h rights r (Some p) found there passed is_rights is_request is_
     found = found;
     command = is_command;
     decision = passed.decision
-        ∙ ap (λ x. decide_passed all_answered (setup_of w) c h.source x (port_numbered h.target.port w.plant.ports) (format.request_of h.command (payload_of ams))) (sym is_rights)
-        ∙ ap (λ x. decide_passed all_answered (setup_of w) c h.source (Some rights) x (format.request_of h.command (payload_of ams))) found
-        ∙ ap (λ x. decide_passed all_answered (setup_of w) c h.source (Some rights) (Some p) x) (sym is_request);
+        ∙ ap (λ x. decide_passed (setup_of w) c h.source x (port_numbered h.target.port w.plant.ports) (format.request_of h.command (payload_of ams)))
+        (sym is_rights)
+        ∙ ap (λ x. decide_passed (setup_of w) c h.source (Some rights) x (format.request_of h.command (payload_of ams))) found
+        ∙ ap (λ x. decide_passed (setup_of w) c h.source (Some rights) (Some p) x) (sym is_request);
   },
 )
 
@@ -118,7 +119,8 @@ pub asked : (w : World) (c : Client) (ams : List ℕ) (h : Header) (rights' : Op
     (rights : Rights) (request : Request) → HasPassed w c ams (ams_header_of h) → HasParts w ams (ams_header_of h) rights' there request'
     → rights' ≡ Some rights → there ≡ true → request' ≡ Some request
     → (header_of ams ≡ Some (ams_header_of h))
-    × ((p : PlantPort) × IsAsked w c ams (ams_header_of h) (record { port = p; address = address_of h.source; rights = rights_of rights }) (request_meant request))
+    × ((p : PlantPort) × IsAsked w c ams (ams_header_of h)
+    (record { port = p; address = address_of h.source; rights = rights_of rights }) (request_meant request))
 asked w c ams h rights' there request' rights request passed parts is_rights is_there is_request =
     let H = ams_header_of h in
     let P : Option Request → Type 0 = λ o. IfSome o (λ r. format.command_of (request_meant r) ≡ H.command) in (
@@ -129,6 +131,6 @@ asked w c ams h rights' there request' rights request passed parts is_rights is_
     )
 
 -- too few bytes for a header
-pub headless : (w : World) (c : Client) (ams : List ℕ) → length ams < 32 → decide all_answered (setup_of w) c ams ≡ NoAnswer
+pub headless : (w : World) (c : Client) (ams : List ℕ) → length ams < 32 → decide (setup_of w) c ams ≡ NoAnswer
 unfolding decide
-headless w c ams short = ap (decide_header all_answered (setup_of w) c (payload_of ams)) (header_of-short ams short)
+headless w c ams short = ap (decide_header (setup_of w) c (payload_of ams)) (header_of-short ams short)

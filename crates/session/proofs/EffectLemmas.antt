@@ -11,7 +11,7 @@ use Rattle.spec_formats.specs.Numbers.{number32}
 use Rattle.spec_formats.specs.Request.{Read, Write, ReadWrite}
 use Rattle.spec_machine.specs.World.{setup_of}
 use Rattle.spec_machine.specs.Acts.{Act, Refusal, Allowed, changing, effect_of}
-use Rattle.spec_machine.specs.Answers.{all_answered, answered_group}
+use Rattle.spec_machine.specs.Answers.{answered_group}
 use Rattle.spec_machine.specs.ByName.{MAX_LIVE, MAX_NUMBER, place_of, grant_act, if_found, read_write_group}
 use Rattle.spec_machine.specs.Client.{Place, Client, Effect, NoEffect, Grants, Releases, Adds, Deletes, client_after}
 use Rattle.spec_machine.specs.Handles.{live_count, kept_status}
@@ -56,12 +56,13 @@ permitted-effect k b bytes r = subst IsOfHandles (sym (permitted-quiet k b bytes
 pub read-effect : (a : Asking) (group offset len : ℕ) → IsOfHandles (effect_of (act_asked a (Read group offset len)))
 unfolding act_of
 read-effect a group offset len =
-    idle-effect (act_asked a (Read group offset len)) (read-idle (setup_of a.world) a.client a.asker.port (answered_group all_answered _ group) offset len)
+    idle-effect (act_asked a (Read group offset len)) (read-idle (setup_of a.world) a.client a.asker.port (answered_group _ group) offset len)
 
 release-effect : (c : Client) (p : PlantPort) (bytes : List ℕ) → IsOfHandles (effect_of (release_act c p bytes))
 release-effect c p bytes = go (length bytes == 4) (is_releasable (kept_status c.handles (number32 0 bytes) p.number))
   where
-    go : (b r : Bool) → IsOfHandles (effect_of (if not b then Refusal invalid_size else if r then changing [] (Releases (number32 0 bytes)) else Refusal symbol_not_found))
+    go : (b r : Bool) → IsOfHandles
+        (effect_of (if not b then Refusal invalid_size else if r then changing [] (Releases (number32 0 bytes)) else Refusal symbol_not_found))
     go true true = tt
     go true false = tt
     go false r = tt
@@ -80,12 +81,13 @@ group-effect c k (Some g) offset bytes = tt
 
 pub write-effect : (a : Asking) (group offset : ℕ) (bytes : List ℕ) → IsOfHandles (effect_of (act_asked a (Write group offset bytes)))
 unfolding act_of
-write-effect a group offset bytes = group-effect a.client a.asker (answered_group all_answered _ group) offset bytes
+write-effect a group offset bytes = group-effect a.client a.asker (answered_group _ group) offset bytes
 
 grant-effect : (c : Client) (p : PlantPort) (place : Place) → IsOfHandles (effect_of (grant_act c p place))
 grant-effect c p place = go (nat_le MAX_LIVE (live_count c.handles) || nat_le MAX_NUMBER (length c.handles))
   where
-    go : (b : Bool) → IsOfHandles (effect_of (if b then Refusal general_device_error else changing (to_le_bytes w32 (length c.handles + 1)) (Grants p.number place)))
+    go : (b : Bool) → IsOfHandles
+        (effect_of (if b then Refusal general_device_error else changing (to_le_bytes w32 (length c.handles + 1)) (Grants p.number place)))
     go true = tt
     go false = tt
 
@@ -106,4 +108,4 @@ named-effect c p g len name = idle-effect (read_write_group c p (without_handles
 
 pub read_write-effect : (a : Asking) (group offset len : ℕ) (bytes : List ℕ) → IsOfHandles (effect_of (act_asked a (ReadWrite group offset len bytes)))
 unfolding act_of
-read_write-effect a group offset len bytes = named-effect a.client a.asker.port (answered_group all_answered _ group) len bytes
+read_write-effect a group offset len bytes = named-effect a.client a.asker.port (answered_group _ group) len bytes

@@ -21,7 +21,7 @@ use Rattle.spec_laws.proofs.ShortActs.{no_more_than_asked}
 use Rattle.spec_machine.specs.World.{World, setup_of}
 use Rattle.spec_machine.specs.Access.{Put, WholeByte, memory_after_puts}
 use Rattle.spec_machine.specs.Acts.{Act, Refusal, Allowed, fixed_data, reading, changing, outcome_of}
-use Rattle.spec_machine.specs.Answers.{all_answered, if_answered, answered_group, READ_WRITE}
+use Rattle.spec_machine.specs.Answers.{if_answered, answered_group, READ_WRITE}
 use Rattle.spec_machine.specs.ByName.{MAX_LIVE, MAX_NUMBER, place_of, value_act, info_of, grant_act, if_found, read_write_group}
 use Rattle.spec_machine.specs.Client as client
 use Rattle.spec_machine.specs.Client.{names_of_place, NoEffect, Grants, client_after}
@@ -49,12 +49,12 @@ use Rattle.session.proofs.ReadLemmas.{answered-len}
 -- which act it is
 
 handle-group : (c : client.Client) (p : PlantPort) (g : Option Group) (len : ℕ) (name : List ℕ) → is_handle_by_name g ≡ true
-    → read_write_group c p (option_and_then (if_answered all_answered READ_WRITE) g) len name ≡ read_write_group c p (Some HandleByName) len name
+    → read_write_group c p (option_and_then (if_answered READ_WRITE) g) len name ≡ read_write_group c p (Some HandleByName) len name
 handle-group c p (Some HandleByName) len name is = refl
 handle-group c p g len name is = absurd (false≢true is)
 
 port-group : (c : client.Client) (p : PlantPort) (g : Option Group) (len : ℕ) (name : List ℕ) → is_handle_by_name g ≡ false
-    → read_write_group c p (option_and_then (if_answered all_answered READ_WRITE) g) len name ≡ read_write_group c p (without_handles g) len name
+    → read_write_group c p (option_and_then (if_answered READ_WRITE) g) len name ≡ read_write_group c p (without_handles g) len name
 unfolding read_write_group
 port-group c p (Some HandleByName) len name is = absurd (false≢true (sym is))
 port-group c p g len name is = refl
@@ -69,13 +69,14 @@ pub asks-port : (a : Asking) (group offset len : ℕ) (bytes : List ℕ) → is_
 unfolding act_of answered_group
 asks-port a group offset len bytes is = port-group a.client a.asker.port (group_of group) len bytes is
 
-pub read_write-asked : (m : PortMemory) (kept : Kept) (group offset len : ℕ) (bytes : List ℕ) (r : Result (Result (Unit {0}) Code) NoMemory) (old new : List ℕ) → SomeAsks m kept
+pub read_write-asked : (m : PortMemory) (kept : Kept) (group offset len : ℕ) (bytes : List ℕ)
+    (r : Result (Result (Unit {0}) Code) NoMemory) (old new : List ℕ) → SomeAsks m kept
     → IfOk r (λ answer. (a : Asking) → Asks a m kept → AnswersAct a.world (act_asked a (ReadWrite group offset len bytes)) answer old new)
     → OnOk r (length new ≤ length old + len)
 read_write-asked m kept group offset len bytes (Err no_memory) old new some said = tt
 read_write-asked m kept group offset len bytes (Ok answer) old new some said =
     let a = some.asking in
-    let short = (no_more_than_asked all_answered (setup_of a.world) a.client a.asker a.world.memory).read_write group offset len bytes in
+    let short = (no_more_than_asked (setup_of a.world) a.client a.asker a.world.memory).read_write group offset len bytes in
     answered-len (outcome_of a.world.memory (act_asked a (ReadWrite group offset len bytes))) answer old new len (said a some.asks) short
 
 -- what leaves all as it was
@@ -108,7 +109,8 @@ grant-if : (c : client.Client) (p : PlantPort) (named : client.Place) (b : Bool)
     → grant_act c p named ≡ (if b then Refusal general_device_error else changing (to_le_bytes w32 (length c.handles + 1)) (Grants p.number named))
 grant-if c p named b is = ap (λ x. if x then Refusal general_device_error else changing (to_le_bytes w32 (length c.handles + 1)) (Grants p.number named)) is
 
-full-is : (ports : List PlantPort) (c : client.Client) (kept : Kept) (k : KeptFor ports c.handles kept) → IsFull k.history → (live_full c || number_full c) ≡ true
+full-is : (ports : List PlantPort) (c : client.Client) (kept : Kept) (k : KeptFor ports c.handles kept)
+    → IsFull k.history → (live_full c || number_full c) ≡ true
 full-is ports c kept k (inl many) =
     let same = same-count (is_place_of ports) c.handles (handles_of k.history) k.agree in
     let t : live_full c ≡ true = le-leb MAX_LIVE (live_count c.handles) (omega (arith, same, many)) in
@@ -118,7 +120,8 @@ full-is ports c kept k (inr long) =
     let t : number_full c ≡ true = le-leb MAX_NUMBER (length c.handles) (omega (arith, same, long)) in
     ap (λ b. live_full c || b) t ∙ or-true (live_full c)
 
-not-full-is : (ports : List PlantPort) (c : client.Client) (kept : Kept) (k : KeptFor ports c.handles kept) → (IsFull k.history → ⊥) → (live_full c || number_full c) ≡ false
+not-full-is : (ports : List PlantPort) (c : client.Client) (kept : Kept) (k : KeptFor ports c.handles kept)
+    → (IsFull k.history → ⊥) → (live_full c || number_full c) ≡ false
 not-full-is ports c kept k not_full = is_false (live_full c || number_full c) (λ t. elim (or_cases (live_full c) (number_full c) t) [
   | inl many ↦
       let same = same-count (is_place_of ports) c.handles (handles_of k.history) k.agree in
@@ -181,7 +184,8 @@ grant-leaves a m kept kept' number place named asks is not_full is_named granted
 pub short-handle : (a : Asking) (len : ℕ) (name : List ℕ) → len < 4 → handle_act a len name ≡ Refusal (number_of C705)
 unfolding read_write_group
 short-handle a len name short =
-    ap (λ b. if b then Refusal invalid_size else if_found (found_of a.asker.port.symbols name) (λ f. grant_act a.client a.asker.port (place_of f))) (lt-ltb len 4 short)
+    ap (λ b. if b then Refusal invalid_size else if_found (found_of a.asker.port.symbols name) (λ f. grant_act a.client a.asker.port (place_of f)))
+    (lt-ltb len 4 short)
 
 long-handle : (a : Asking) (len : ℕ) (name : List ℕ) → 4 ≤ len
     → handle_act a len name ≡ if_found (found_of a.asker.port.symbols name) (λ f. grant_act a.client a.asker.port (place_of f))
@@ -190,11 +194,13 @@ long-handle a len name long =
     ap (λ b. if b then Refusal invalid_size else if_found (found_of a.asker.port.symbols name) (λ f. grant_act a.client a.asker.port (place_of f)))
     (is_false (nat_lt len 4) (λ t. omega (arith, ltb-true len 4 t, long)))
 
-nothing-found : (w : World) (p : PlantPort) (o : Option Found) (code : Code) (act : Found → Act) → FindsPlace w p o (Err code) → if_found o act ≡ Refusal (number_of code)
+nothing-found : (w : World) (p : PlantPort) (o : Option Found) (code : Code) (act : Found → Act)
+    → FindsPlace w p o (Err code) → if_found o act ≡ Refusal (number_of code)
 nothing-found w p None code act is = ap (λ c. Refusal (number_of c)) (sym is)
 nothing-found w p (Some f) code act is = absurd is
 
-pub lost-handle : (a : Asking) (len : ℕ) (name : List ℕ) (code : Code) → 4 ≤ len → FindsPlace a.world a.asker.port (found_of a.asker.port.symbols name) (Err code)
+pub lost-handle : (a : Asking) (len : ℕ) (name : List ℕ) (code : Code) → 4 ≤ len
+    → FindsPlace a.world a.asker.port (found_of a.asker.port.symbols name) (Err code)
     → handle_act a len name ≡ Refusal (number_of code)
 lost-handle a len name code long finds =
     long-handle a len name long ∙ nothing-found a.world a.asker.port (found_of a.asker.port.symbols name) code _ finds
@@ -210,7 +216,8 @@ something-found : (a : Asking) (len : ℕ) (name : List ℕ) (place : Place) (o 
 something-found a len name place None finds is = absurd finds
 something-found a len name place (Some f) finds is = record { named = place_of f; is_named = finds; act = is }
 
-pub found-handle : (a : Asking) (len : ℕ) (name : List ℕ) (place : Place) → 4 ≤ len → FindsPlace a.world a.asker.port (found_of a.asker.port.symbols name) (Ok place)
+pub found-handle : (a : Asking) (len : ℕ) (name : List ℕ) (place : Place) → 4 ≤ len
+    → FindsPlace a.world a.asker.port (found_of a.asker.port.symbols name) (Ok place)
     → FindsNamed a len name place
 found-handle a len name place long finds = something-found a len name place (found_of a.asker.port.symbols name) finds (long-handle a len name long)
 

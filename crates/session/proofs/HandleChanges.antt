@@ -1,7 +1,8 @@
 -- Handles that agree do so after a grant and after a release, and as many of them are live.
 use Rattle.std.proofs.Common.{◌≡◌, ℕ, ◌-◌, List, [], ◌∷◌, ◌++◌, length, cond, true, false, refl, sym, ◌∙◌, ap, subst, arith}
 use Rattle.std.specs.Prelude.{◌==◌, filter}
-use Rattle.spec_machine.specs.Handles.{Handle, HandleEvent, HandleStatus, Never, Released, Outdated, Live, Grant, Release, is_live, live_count, with_released, handles_after}
+use Rattle.spec_machine.specs.Handles.{Handle, HandleEvent, HandleStatus, Never, Released, Outdated, Live}
+use Rattle.spec_machine.specs.Handles.{Grant, Release, is_live, live_count, with_released, handles_after}
 use Rattle.spec_machine.specs.HandleLaws.{Test, AgreeingStatus, AgreeingHandles, handles_of, handles_after_all}
 
 -- what is kept through one event more

@@ -32,7 +32,8 @@ pub statuses-agree : {P Q : Type 0} (test : Test P Q) (hs : List (Handle P)) (ks
 unfolding handle_in
 statuses-agree test [] [] n port h = tt
 statuses-agree {P} {Q} test (x ∷ xs) (y ∷ ys) n port h =
-    elim (n == 1) as (λ b. AgreeingStatus test port (status_of_handle port (cond b (Some x) (handle_in xs (n - 1)))) (status_of_handle port (cond b (Some y) (handle_in ys (n - 1))))) [
+    elim (n == 1) as (λ b. AgreeingStatus test port (status_of_handle port (cond b (Some x) (handle_in xs (n - 1))))
+    (status_of_handle port (cond b (Some y) (handle_in ys (n - 1))))) [
       | true ↦ here
       | false ↦ statuses-agree test xs ys (n - 1) port h.2
     ]
@@ -64,7 +65,8 @@ looks-up ports hs kept handle port answer k said =
     let same : t ≡ status_of k.history handle port = status_is_history Place k.history handle port in
     let is : answer ≡ look_up t = said k.history k.represented ∙ ap look_up (sym same) in
     let Q : Result Place Code → Type 0 = λ r. LooksUp ports port (kept_status hs handle port) r in
-    subst Q (sym is) (agreeing-looks ports port (kept_status hs handle port) t (statuses-agree (is_place_of ports) hs (handles_of k.history) handle port k.agree))
+    subst Q (sym is) (agreeing-looks ports port (kept_status hs handle port) t
+    (statuses-agree (is_place_of ports) hs (handles_of k.history) handle port k.agree))
 
 -- a place by name is one of the table
 

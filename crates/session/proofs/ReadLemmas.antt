@@ -10,7 +10,7 @@ use Rattle.spec_formats.specs.Request.{Read}
 use Rattle.spec_laws.proofs.ShortActs.{no_more_than_asked}
 use Rattle.spec_machine.specs.World.{World, Setup, setup_of}
 use Rattle.spec_machine.specs.Acts.{Act, Outcome, outcome_of}
-use Rattle.spec_machine.specs.Answers.{all_answered, if_answered, answered_group, READ}
+use Rattle.spec_machine.specs.Answers.{if_answered, answered_group, READ}
 use Rattle.spec_machine.specs.Client as client
 use Rattle.spec_machine.specs.Handles.{kept_status}
 use Rattle.spec_machine.specs.Reach.{reach_of, addressed_by_status}
@@ -26,14 +26,14 @@ use Rattle.session.specs.Asks.{Asks, SomeAsks}
 use Rattle.session.specs.HandleGroups.{is_value_by_handle}
 
 handle-group : (d : Setup) (c : client.Client) (p : PlantPort) (g : Option Group) (offset len : ℕ) → is_value_by_handle g ≡ true
-    → read_group d c p (option_and_then (if_answered all_answered READ) g) offset len
+    → read_group d c p (option_and_then (if_answered READ) g) offset len
     ≡ read_act (addressed_by_status p.number (kept_status c.handles offset p.number) len)
 unfolding read_group reach_of
 handle-group d c p (Some ValueByHandle) offset len is = refl
 handle-group d c p g offset len is = absurd (false≢true is)
 
 port-group : (d : Setup) (c : client.Client) (p : PlantPort) (g : Option Group) (offset len : ℕ) → is_value_by_handle g ≡ false
-    → read_group d c p (option_and_then (if_answered all_answered READ) g) offset len ≡ read_group d c p (without_handles g) offset len
+    → read_group d c p (option_and_then (if_answered READ) g) offset len ≡ read_group d c p (without_handles g) offset len
 unfolding read_group reach_of
 port-group d c p (Some ValueByHandle) offset len is = absurd (false≢true (sym is))
 port-group d c p g offset len is = refl
@@ -60,7 +60,8 @@ answer-along m kept act other (Ok answer) old new same said = λ a asks.
     let P : Act → Type 0 = λ x. AnswersAct a.world x answer old new in subst P (sym (same a)) (said a asks)
 
 -- what a port answers to every client, and so to one who asks
-pub port-answer : (m : PortMemory) (kept : Kept) (act : World → client.Client → PlantPort → Act) (r : Result (Result (Unit {0}) Code) NoMemory) (old new : List ℕ)
+pub port-answer : (m : PortMemory) (kept : Kept) (act : World → client.Client → PlantPort → Act)
+    (r : Result (Result (Unit {0}) Code) NoMemory) (old new : List ℕ)
     → IfOk r (λ answer. (w : World) (c : client.Client) (p : PlantPort) → HoldsPort w p m → AnswersAct w (act w c p) answer old new)
     → IfOk r (λ answer. (a : Asking) → Asks a m kept → AnswersAct a.world (act a.world a.client a.asker.port) answer old new)
 port-answer m kept act (Err no_memory) old new said = tt
@@ -78,5 +79,5 @@ pub read-asked : (m : PortMemory) (kept : Kept) (group offset len : ℕ) (r : Re
 read-asked m kept group offset len (Err no_memory) old new some said = tt
 read-asked m kept group offset len (Ok answer) old new some said =
     let a = some.asking in
-    let short = (no_more_than_asked all_answered (setup_of a.world) a.client a.asker a.world.memory).read group offset len in
+    let short = (no_more_than_asked (setup_of a.world) a.client a.asker a.world.memory).read group offset len in
     answered-len (outcome_of a.world.memory (act_asked a (Read group offset len))) answer old new len (said a some.asks) short

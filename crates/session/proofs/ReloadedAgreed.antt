@@ -65,7 +65,8 @@ ranges_move old new moves are port watched range same =
 
 -- ---- handles
 
-all_in_old_world : (old new : Plant) (moves : List KeptPlace) → AreMoves old new moves → (number : ℕ) (hs : List (Handle client.Place)) (ks : List (Handle Place))
+all_in_old_world : (old new : Plant) (moves : List KeptPlace) → AreMoves old new moves
+    → (number : ℕ) (hs : List (Handle client.Place)) (ks : List (Handle Place))
     → AgreeingHandles (is_place_of old.ports) hs ks → All (HasPlaceInOldWorld moves) (kept_from number ks)
 all_in_old_world old new moves are number [] [] h = All-nil (HasPlaceInOldWorld moves)
 all_in_old_world old new moves are number (x ∷ xs) (y ∷ ys) h =
@@ -122,7 +123,8 @@ reloaded_stands time w v c moves s handles watches are stands moved left = recor
   additions = ap (λ (t : WatchTable). t.additions) left ∙ stands.additions;
   watches =
       subst (λ (t : WatchTable). AgreeingWatches (is_same_range v.plant.ports) (client_after_reload (is_kept w.plant v.plant) c).watches t.watches) (sym left)
-      ((tables_agree (List Addressed) Range (is_same_range w.plant.ports) (is_same_range v.plant.ports) (kept_bytes (is_kept w.plant v.plant)) (range_after moves)
+      ((tables_agree (List Addressed) Range (is_same_range w.plant.ports)
+      (is_same_range v.plant.ports) (kept_bytes (is_kept w.plant v.plant)) (range_after moves)
       (ranges_move w.plant v.plant moves are)).watches c.watches s.watches.watches stands.watches);
 }
 
@@ -139,7 +141,8 @@ samples-of ended vs same =
     sym (map-map end_sample ended_meant ended) ∙ (ap (map end_sample) same ∙ map-map end_sample end_of vs)
 
 -- the frames of those that ended are the client's
-pub reloaded_frames : (time : ℕ) (net : List ℕ) (w v : World) (c : Client) (moves : List KeptPlace) (s : SessionState) (ended : List Ended) (frames : List NoteFrame)
+pub reloaded_frames : (time : ℕ) (net : List ℕ) (w v : World) (c : Client)
+    (moves : List KeptPlace) (s : SessionState) (ended : List Ended) (frames : List NoteFrame)
     → AreMoves w.plant v.plant moves → StandsFor w.plant c s → w.plant.net ≡ net
     → map ended_meant ended ≡ map end_of (ended_watches (range_after moves) s.watches.watches)
     → map produced_of frames ≡ frames_of_samples net time (samples_of_ended ended)

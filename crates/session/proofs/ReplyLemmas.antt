@@ -1,5 +1,6 @@
 -- The payloads of replies that have whole.
-use Rattle.std.proofs.Common.{◌≡◌, ℕ, ◌+◌, ◌-◌, ◌≤◌, List, [], ◌++◌, length, take, drop, refl, sym, ◌∙◌, ap, arith, append_assoc, length-append, take_at, drop_at, length-take}
+use Rattle.std.proofs.Common.{◌≡◌, ℕ, ◌+◌, ◌-◌, ◌≤◌, List, [], ◌++◌, length, take, drop, refl, sym, ◌∙◌, ap}
+use Rattle.std.proofs.Common.{arith, append_assoc, length-append, take_at, drop_at, length-take}
 use Rattle.std.specs.Prelude.{Result, Ok, Err, ◌==◌}
 use Rattle.std.specs.Int.{w32, to_le_bytes}
 use Rattle.std.proofs.lemmas.Bool.{cases_Bool}
@@ -46,7 +47,8 @@ filled-front out f1 f2 number le start len code there is_len is_number is_le fir
 
 read-written : (memory : List Block) (act : Act) → let o = outcome_of memory act in written_bytes (Read o.code o.bytes) ≡ data_payload o.code o.bytes
 unfolding written_bytes
-read-written memory (Allowed access) = let o = outcome_of memory (Allowed access) in append_assoc (to_le_bytes w32 no_error) (to_le_bytes w32 (length o.bytes)) o.bytes
+read-written memory (Allowed access) = let o = outcome_of memory (Allowed access) in
+    append_assoc (to_le_bytes w32 no_error) (to_le_bytes w32 (length o.bytes)) o.bytes
 read-written memory (Refusal code) = refused-read code
   where
     refused-read : (code : ℕ) → written_bytes (Read code []) ≡ data_payload code []
@@ -54,7 +56,8 @@ read-written memory (Refusal code) = refused-read code
 
 read_write-written : (memory : List Block) (act : Act) → let o = outcome_of memory act in written_bytes (ReadWrite o.code o.bytes) ≡ data_payload o.code o.bytes
 unfolding written_bytes
-read_write-written memory (Allowed access) = let o = outcome_of memory (Allowed access) in append_assoc (to_le_bytes w32 no_error) (to_le_bytes w32 (length o.bytes)) o.bytes
+read_write-written memory (Allowed access) = let o = outcome_of memory (Allowed access) in
+    append_assoc (to_le_bytes w32 no_error) (to_le_bytes w32 (length o.bytes)) o.bytes
 read_write-written memory (Refusal code) = refused-read code
   where
     refused-read : (code : ℕ) → written_bytes (ReadWrite code []) ≡ data_payload code []

@@ -14,11 +14,13 @@ use Rattle.spec_formats.specs.Groups.{Group, SumRead, SumWrite, SumReadWrite, gr
 use Rattle.spec_formats.specs.Numbers.{number16, number32}
 use Rattle.spec_formats.specs.Reply as reply
 use Rattle.spec_formats.specs.Reply.{written_bytes, facts_bytes, facts_at}
-use Rattle.spec_formats.specs.Request.{Request, ReadDeviceInfo, Read, Write, ReadState, WriteControl, AddDeviceNotification, DeleteDeviceNotification, DeviceNotification, ReadWrite, command_of}
+use Rattle.spec_formats.specs.Request.{Request, ReadDeviceInfo, Read, Write, ReadState, WriteControl}
+use Rattle.spec_formats.specs.Request.{AddDeviceNotification, DeleteDeviceNotification, DeviceNotification}
+use Rattle.spec_formats.specs.Request.{ReadWrite, command_of}
 use Rattle.spec_machine.specs.World.{Setup, setup_of, state_names, state_bytes, RUN, STOP}
 use Rattle.spec_machine.specs.Access.{Addressed, WholeByte, Put, puts_of, values_at, memory_after_puts}
 use Rattle.spec_machine.specs.Acts.{Act, Outcome, Refusal, Allowed, writing, effect_of, outcomes_of, memory_after, memory_after_acts, client_after_acts}
-use Rattle.spec_machine.specs.Answers.{all_answered, if_answered, answered_group, READ_WRITE}
+use Rattle.spec_machine.specs.Answers.{if_answered, answered_group, READ_WRITE}
 use Rattle.spec_machine.specs.Client.{Client, Effect, NoEffect, client_after}
 use Rattle.spec_machine.specs.Watches.{Watch}
 use Rattle.notify_table.specs.Table.{WatchTable}
@@ -85,20 +87,21 @@ IsSingleRequest (ReadWrite group offset len bytes) = is_sum (group_of group) ≡
 IsSingleRequest r = Unit {0}
 
 no-sum : (d : Setup) (c : Client) (k : Asker) (g : Option Group) (r : Request) (n len : ℕ) (bytes : List ℕ) → is_sum g ≡ false
-    → decide_read_write all_answered d c k (option_and_then (if_answered all_answered READ_WRITE) g) r n len bytes ≡ decide_single all_answered d c k r
+    → decide_read_write d c k (option_and_then (if_answered READ_WRITE) g) r n len bytes ≡ decide_single d c k r
 no-sum d c k (Some SumRead) r n len bytes is = absurd (false≢true (sym is))
 no-sum d c k (Some SumWrite) r n len bytes is = absurd (false≢true (sym is))
 no-sum d c k (Some SumReadWrite) r n len bytes is = absurd (false≢true (sym is))
 no-sum d c k g r n len bytes is = refl
 
-one-act : (a : Asking) (r : Request) → decide_single all_answered (setup_of a.world) a.client a.asker r ≡ Perform (act_asked a r ∷ []) Single
+one-act : (a : Asking) (r : Request) → decide_single (setup_of a.world) a.client a.asker r ≡ Perform (act_asked a r ∷ []) Single
 unfolding acts_of given_in_turn
 one-act a r = refl
 
 pub single-decision : (a : Asking) (r : Request) → IsSingleRequest r → decision_of a r ≡ Perform (act_asked a r ∷ []) Single
 unfolding decide_request answered_group
 single-decision a (ReadWrite group offset len bytes) h =
-    no-sum (setup_of a.world) a.client a.asker (group_of group) (ReadWrite group offset len bytes) offset len bytes h ∙ one-act a (ReadWrite group offset len bytes)
+    no-sum (setup_of a.world) a.client a.asker (group_of group) (ReadWrite group offset len bytes) offset len bytes h
+    ∙ one-act a (ReadWrite group offset len bytes)
 single-decision a r h = one-act a r
 
 pub runs-single : (a : Asking) (r : Request) (old new : List ℕ) (m : PortMemory) (s : SessionState) → IsSingleRequest r
@@ -189,10 +192,12 @@ note-runs a m s bytes old new h put =
 
 -- a number of a notification
 
-zero-number : (code : Code) → written_bytes (reply.AddDeviceNotification (number_of code) (number32 0 [])) ≡ written_bytes (reply.AddDeviceNotification (number_of code) 0)
+zero-number : (code : Code)
+    → written_bytes (reply.AddDeviceNotification (number_of code) (number32 0 [])) ≡ written_bytes (reply.AddDeviceNotification (number_of code) 0)
 unfolding written_bytes
 zero-number code = let n = number_of code in
-    ap (λ b. if b then reply.reply_bytes (reply.AddDeviceNotification n (number32 0 [])) else reply.refused_bytes (reply.AddDeviceNotification n (number32 0 []))) (not-zero code)
+    ap (λ b. if b then reply.reply_bytes (reply.AddDeviceNotification n (number32 0 [])) else reply.refused_bytes
+    (reply.AddDeviceNotification n (number32 0 []))) (not-zero code)
     ∙ sym (ap (λ b. if b then reply.reply_bytes (reply.AddDeviceNotification n 0) else reply.refused_bytes (reply.AddDeviceNotification n 0)) (not-zero code))
 
 added-payload : (o : Outcome) (n : ℕ) → n < 2 ^ 32 → o ≡ record { code = no_error; bytes = to_le_bytes w32 n }
@@ -242,7 +247,8 @@ pub deleted-runs : (a : Asking) (handle n : ℕ) (answer : Result (Unit {0}) Cod
 deleted-runs a handle n answer m s old new held deletes is put =
     let r = DeleteDeviceNotification handle in
     runs-single a r old new m s tt
-    (code-reply a r old new reply.DeleteDeviceNotification n put (is ∙ nothing-code (outcome_asked a r) answer deletes.ends) (delete-payload (outcome_asked a r)))
+    (code-reply a r old new reply.DeleteDeviceNotification n put
+    (is ∙ nothing-code (outcome_asked a r) answer deletes.ends) (delete-payload (outcome_asked a r)))
     (changed-session a (act_asked a r) m s held deletes.changes.memory deletes.changes.stands)
 
 -- what holds where a call is well, follows from what it says then
@@ -250,7 +256,8 @@ pub ok-then : {T E : Type 0} (r : Result T E) (P Q : Type 0) → (P → Q) → O
 ok-then (Ok x) P Q f h = f h
 ok-then (Err e) P Q f h = tt
 
-pub write-runs : (a : Asking) (group offset n : ℕ) (bytes : List ℕ) (answer : Result (Unit {0}) Code) (m m' : PortMemory) (s s' : SessionState) (old new : List ℕ)
+pub write-runs : (a : Asking) (group offset n : ℕ) (bytes : List ℕ)
+    (answer : Result (Unit {0}) Code) (m m' : PortMemory) (s s' : SessionState) (old new : List ℕ)
     → AsksSession a m s → EndsAct a (act_asked a (Write group offset bytes)) answer m' s'.handles → s'.watches ≡ s.watches → n ≡ code_in answer
     → new ≡ old ++ written_bytes (reply.Write n) → Runs a (Write group offset bytes) old new m' s'
 write-runs a group offset n bytes answer m m' s s' old new h ends watches is put =

@@ -18,7 +18,7 @@ use Rattle.spec_formats.specs.Request.{Request, Read}
 use Rattle.spec_machine.specs.World.{World, Setup, setup_of}
 use Rattle.spec_machine.specs.Access.{Addressed}
 use Rattle.spec_machine.specs.Acts.{Act, Refusal, Allowed, fixed_data, outcome_of}
-use Rattle.spec_machine.specs.Answers.{all_answered, answered_group}
+use Rattle.spec_machine.specs.Answers.{answered_group}
 use Rattle.spec_machine.specs.Client.{Client}
 use Rattle.spec_machine.specs.Reach.{reach_of}
 use Rattle.spec_machine.specs.Reads.{fixed_reply, read_act, read_group}
@@ -98,7 +98,7 @@ pub read-leaves : (a : Asking) (group offset len : ℕ) (m : PortMemory) (kept :
 unfolding act_of
 read-leaves a group offset len m kept asks =
     idle-leaves a (act_asked a (Read group offset len)) m kept
-    (read-idle (setup_of a.world) a.client a.asker.port (answered_group all_answered _ group) offset len) asks
+    (read-idle (setup_of a.world) a.client a.asker.port (answered_group _ group) offset len) asks
 
 -- only bytes are others, twice
 pub keeps-both : (first second third : PortMemory) → KeepsDescription first second → KeepsDescription second third → KeepsDescription first third

@@ -19,7 +19,67 @@ row-of (r ∷ rs) n h t = elim (cases_Bool (r.number == n)) [
 ]
 
 table-rows : SumsAreThree group_table
-table-rows = ((λ t. absurd (false≢true t)), ((λ t. absurd (false≢true t)), ((λ t. absurd (false≢true t)), ((λ t. absurd (false≢true t)), ((λ t. absurd (false≢true t)), ((λ t. absurd (false≢true t)), ((λ t. absurd (false≢true t)), ((λ t. absurd (false≢true t)), ((λ t. absurd (false≢true t)), ((λ t. absurd (false≢true t)), ((λ t. absurd (false≢true t)), ((λ t. absurd (false≢true t)), ((λ t. absurd (false≢true t)), ((λ t. absurd (false≢true t)), ((λ t. absurd (false≢true t)), ((λ t. absurd (false≢true t)), ((λ t. absurd (false≢true t)), ((λ t. absurd (false≢true t)), ((λ t. absurd (false≢true t)), ((λ t. absurd (false≢true t)), ((λ t. absurd (false≢true t)), ((λ t. absurd (false≢true t)), ((λ t. inl refl), ((λ t. inr (inl refl)), ((λ t. inr (inr refl)), tt)))))))))))))))))))))))))
+table-rows = (
+  (λ t. absurd (false≢true t)),
+  (
+    (λ t. absurd (false≢true t)),
+    (
+      (λ t. absurd (false≢true t)),
+      (
+        (λ t. absurd (false≢true t)),
+        (
+          (λ t. absurd (false≢true t)),
+          (
+            (λ t. absurd (false≢true t)),
+            (
+              (λ t. absurd (false≢true t)),
+              (
+                (λ t. absurd (false≢true t)),
+                (
+                  (λ t. absurd (false≢true t)),
+                  (
+                    (λ t. absurd (false≢true t)),
+                    (
+                      (λ t. absurd (false≢true t)),
+                      (
+                        (λ t. absurd (false≢true t)),
+                        (
+                          (λ t. absurd (false≢true t)),
+                          (
+                            (λ t. absurd (false≢true t)),
+                            (
+                              (λ t. absurd (false≢true t)),
+                              (
+                                (λ t. absurd (false≢true t)),
+                                (
+                                  (λ t. absurd (false≢true t)),
+                                  (
+                                    (λ t. absurd (false≢true t)),
+                                    (
+                                      (λ t. absurd (false≢true t)),
+                                      (
+                                        (λ t. absurd (false≢true t)),
+                                        ((λ t. absurd (false≢true t)), ((λ t. absurd (false≢true t)), ((λ t. inl refl), ((λ t. inr (inl refl)), ((λ t. inr (inr refl)), tt))))),
+                                      ),
+                                    ),
+                                  ),
+                                ),
+                              ),
+                            ),
+                          ),
+                        ),
+                      ),
+                    ),
+                  ),
+                ),
+              ),
+            ),
+          ),
+        ),
+      ),
+    ),
+  ),
+)
 
 pub sum-group : (n : ℕ) → is_sum (group_of n) ≡ true → IsSumGroup n
 unfolding group_of

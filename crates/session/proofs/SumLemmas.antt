@@ -9,7 +9,7 @@ use Rattle.spec_formats.specs.Groups.{sum_read, sum_write, sum_read_write, group
 use Rattle.spec_formats.specs.Request.{Request, ReadWrite}
 use Rattle.spec_machine.specs.World.{setup_of}
 use Rattle.spec_machine.specs.Acts.{Act, Refusal, fixed_data, outcome_of, outcomes_of, memory_after_acts, client_after_acts}
-use Rattle.spec_machine.specs.Answers.{all_answered, answered_group}
+use Rattle.spec_machine.specs.Answers.{answered_group}
 use Rattle.spec_machine.specs.Client.{client_after}
 use Rattle.spec_machine.specs.Decisions.{Decision, Perform, Sum, acts_in, refuse}
 use Rattle.spec_machine.specs.Replies.{reply_payload, outcome_in_all}
@@ -35,7 +35,7 @@ use Rattle.session.proofs.RunLemmas.{rejoin}
 
 -- the acts of parts, each on what those before it left
 abbrev pub acts_asked : Asking → List Request → List Act
-acts_asked a rs = acts_of all_answered (setup_of a.world) a.client a.asker rs
+acts_asked a rs = acts_of (setup_of a.world) a.client a.asker rs
 
 turn-outcomes : (x : SumState) (rs : List Request) → given_in_turn part_outcome state_after x rs ≡ outcomes_of x.asking.world.memory (acts_asked x.asking rs)
 unfolding given_in_turn outcomes_of acts_of
@@ -52,7 +52,7 @@ turn-state x (r ∷ rs) = turn-state (state_after x r) rs
 
 abbrev Decides : Asking → ℕ → ℕ → List ℕ → ℕ → Type 0
 Decides a n len bytes g = decision_of a (ReadWrite g n len bytes)
-    ≡ decide_parts all_answered (setup_of a.world) a.client a.asker (sum_of g n bytes) (refusal_in (sum_of g n bytes) n (length bytes) len)
+    ≡ decide_parts (setup_of a.world) a.client a.asker (sum_of g n bytes) (refusal_in (sum_of g n bytes) n (length bytes) len)
 
 reads-decide : (a : Asking) (n len : ℕ) (bytes : List ℕ) → Decides a n len bytes sum_read
 unfolding decide_request answered_group group_of group_in
@@ -78,9 +78,10 @@ refused-decision : (a : Asking) (group n len : ℕ) (bytes : List ℕ) (code : C
     → decision_of a (ReadWrite group n len bytes) ≡ refuse (number_of code)
 refused-decision a group n len bytes code is said =
     sum-decides a group n len bytes is
-    ∙ ap (λ o. decide_parts all_answered (setup_of a.world) a.client a.asker (sum_of group n bytes) o) (sym said)
+    ∙ ap (λ o. decide_parts (setup_of a.world) a.client a.asker (sum_of group n bytes) o) (sym said)
 
-pub refused-runs : (a : Asking) (group n len : ℕ) (bytes : List ℕ) (code : Code) (m m' : PortMemory) (s s' : SessionState) (old mid whole new : List ℕ) (start number : ℕ)
+pub refused-runs : (a : Asking) (group n len : ℕ) (bytes : List ℕ) (code : Code)
+    (m m' : PortMemory) (s s' : SessionState) (old mid whole new : List ℕ) (start number : ℕ)
     → IsSumGroup group → AsksSession a m s → m' ≡ m → s' ≡ s
     → refused_by {X = Unit {0}} (Err code) ≡ refusal_in (sum_of group n bytes) n (length bytes) len
     → whole ≡ mid → number ≡ number_of code → start ≡ length old → length mid ≡ length old + 8 → take (length old) mid ≡ old
@@ -109,14 +110,15 @@ ran-decision : (a : Asking) (group n len : ℕ) (bytes : List ℕ) → IsSumGrou
     → decision_of a (ReadWrite group n len bytes) ≡ Perform (acts_asked a (sum_of group n bytes).parts) (Sum (sum_of group n bytes).form)
 ran-decision a group n len bytes is said =
     sum-decides a group n len bytes is
-    ∙ ap (λ o. decide_parts all_answered (setup_of a.world) a.client a.asker (sum_of group n bytes) o) (sym said)
+    ∙ ap (λ o. decide_parts (setup_of a.world) a.client a.asker (sum_of group n bytes) o) (sym said)
 
 packed-payload : (bytes : List ℕ) → reply_payload 9 (record { code = no_error; bytes = bytes }) ≡ data_payload no_error bytes
 packed-payload bytes =
     ap (λ b. reply_payload 9 (record { code = no_error; bytes = b })) (sym (append-nil bytes)) ∙ read_write-payload [] (fixed_data bytes)
     ∙ ap (λ b. data_payload no_error b) (append-nil bytes)
 
-pub ran-runs : (a : Asking) (group n len : ℕ) (bytes : List ℕ) (m m' : PortMemory) (s s' : SessionState) (before single : declared.Single) (old mid whole new : List ℕ) (start : ℕ)
+pub ran-runs : (a : Asking) (group n len : ℕ) (bytes : List ℕ) (m m' : PortMemory)
+    (s s' : SessionState) (before single : declared.Single) (old mid whole new : List ℕ) (start : ℕ)
     → IsSumGroup group → AsksSession a m s → single.port.now ≡ m' → s'.handles ≡ single.handles.now → s'.watches ≡ s.watches
     → refused_by {X = Unit {0}} (Ok tt) ≡ refusal_in (sum_of group n bytes) n (length bytes) len
     → whole ≡ mid ++ sum_reply part_outcome state_after (record { asking = a; begun = before; first = a.client }) (sum_of group n bytes)
@@ -125,7 +127,8 @@ pub ran-runs : (a : Asking) (group n len : ℕ) (bytes : List ℕ) (m m' : PortM
     → new ≡ take start whole ++ (to_le_bytes w32 0 ++ (to_le_bytes w32 (length whole - (start + 8)) ++ drop (start + 8) whole))
     → Runs a (ReadWrite group n len bytes) old new m' s'
 unfolding outcome_in_all
-ran-runs a group n len bytes m m' s s' before single old mid whole new start is h same_m same_handles same_watches said is_data stands is_start long begins filled =
+ran-runs a group n len bytes m m' s s' before single old mid whole new start is h
+    same_m same_handles same_watches said is_data stands is_start long begins filled =
     let x : SumState = record { asking = a; begun = before; first = a.client } in
     let parts = (sum_of group n bytes).parts in
     let form = (sum_of group n bytes).form in
@@ -166,20 +169,27 @@ pub sum-runs : (a : Asking) (group n len : ℕ) (bytes : List ℕ) (m m' : PortM
     → number ≡ code_in answer → start ≡ length old → length mid ≡ length old + 8 → take (length old) mid ≡ old
     → new ≡ take start whole ++ (to_le_bytes w32 number ++ (to_le_bytes w32 (length whole - (start + 8)) ++ drop (start + 8) whole))
     → Runs a (ReadWrite group n len bytes) old new m' s'
-sum-runs a group n len bytes m m' s s' before after old mid whole new start number (Err code) said err reply leaves is h single port_is handles_is port_after s_is is_number is_start long begins filled =
+sum-runs a group n len bytes m m' s s' before after old mid whole new start number
+    (Err code) said err reply leaves is h single port_is handles_is port_after s_is is_number is_start long begins filled =
     let same_m : m' ≡ m = sym port_after ∙ ap (λ (x : declared.Single). x.port.now) err.0 ∙ port_is in
     let same_s : s' ≡ s = s_is ∙ ap (λ (k : Kept). record s { handles = k }) (ap (λ (x : declared.Single). x.handles.now) err.0 ∙ handles_is) in
     refused-runs a group n len bytes code m m' s s' old mid whole new start number is h same_m same_s said err.1 is_number is_start long begins filled
-sum-runs a group n len bytes m m' s s' before after old mid whole new start number (Ok done) said err reply leaves is h single port_is handles_is port_after s_is is_number is_start long begins filled =
+sum-runs a group n len bytes m m' s s' before after old mid whole new start number
+    (Ok done) said err reply leaves is h single port_is handles_is port_after s_is is_number is_start long begins filled =
     let x : SumState = record { asking = a; begun = before; first = a.client } in
-    ran-runs a group n len bytes m m' s s' before after old mid whole new start is h port_after (ap (λ (k : SessionState). k.handles) s_is) (ap (λ (k : SessionState). k.watches) s_is)
+    ran-runs a group n len bytes m m' s s' before after old mid whole new start is h port_after
+    (ap (λ (k : SessionState). k.handles) s_is) (ap (λ (k : SessionState). k.watches) s_is)
     said (reply x single) (leaves x single) is_start long begins
     (filled ∙ ap (λ k. take start whole ++ (to_le_bytes w32 k ++ (to_le_bytes w32 (length whole - (start + 8)) ++ drop (start + 8) whole))) is_number)
 
 -- some client asks with these rights and this NetId
 abbrev pub some-state : (s : declared.Single) → SomeAsks s.port.now s.handles.now → SumState
 some-state s some = let a = some.asking in record {
-  asking = record { world = a.world; client = a.client; asker = record { port = a.asker.port; address = record { net = s.net.bytes; port = 0 }; rights = rights_of s.rights } };
+  asking = record {
+    world = a.world;
+    client = a.client;
+    asker = record { port = a.asker.port; address = record { net = s.net.bytes; port = 0 }; rights = rights_of s.rights };
+  };
   begun = s;
   first = a.client;
 }
@@ -204,7 +214,8 @@ sum-grows before after x s old new (Ok done) single err reply =
     let e = reply x single in omega (arith, ap length e, length-append old (sum_reply part_outcome state_after x s))
 sum-grows before after x s old new (Err code) single err reply = omega (arith, ap length err.1)
 
-pub ok-grows : (before after : declared.Single) (x : SumState) (s : SumRequest) (old new : List ℕ) (r : Result (Result (Unit {0}) Code) NoMemory) → IsSingle before x
+pub ok-grows : (before after : declared.Single) (x : SumState) (s : SumRequest) (old new : List ℕ) (r : Result (Result (Unit {0}) Code) NoMemory)
+    → IsSingle before x
     → IfOk r (λ answer. OnErr answer ((after ≡ before) × (new ≡ old)))
     → IfOk r (λ answer. OnOk answer ((y : SumState) → IsSingle before y → new ≡ old ++ sum_reply part_outcome state_after y s))
     → IfOk r (λ answer. length old ≤ length new)
@@ -215,7 +226,8 @@ left-lent : (v : declared.Single) (y : SumState) (rs : List Request) → IsSingl
 left-lent v y rs stands = let I : SumState → Type 0 = λ z. IsSingle v z in (subst I (turn-state y rs) stands).lent
 
 -- whether it is refused, runs or wants memory, only bytes of the port are others
-pub sum-lent : (before after : declared.Single) (x : SumState) (s : SumRequest) (out out' : List ℕ) (r : Result (Result (Unit {0}) Code) NoMemory) → IsSingle before x
+pub sum-lent : (before after : declared.Single) (x : SumState) (s : SumRequest) (out out' : List ℕ) (r : Result (Result (Unit {0}) Code) NoMemory)
+    → IsSingle before x
     → IfOk r (λ answer. OnErr answer ((after ≡ before) × (out' ≡ out)))
     → IfOk r (λ answer. OnOk answer ((y : SumState) → IsSingle before y → IsSingle after (left_by_sum state_after y s)))
     → OnErr r ((y : SumState) → IsSingle before y → StopsAmong IsSingle state_after MayLeave s.parts y after)

@@ -24,7 +24,7 @@ use Rattle.spec_formats.specs.Header.{AmsHeader, header_of}
 use Rattle.spec_formats.specs.Request.{Request, ReadWrite, command_of}
 use Rattle.spec_machine.specs.World.{World, Setup, setup_of}
 use Rattle.spec_machine.specs.Acts.{outcomes_of, memory_after_acts, client_after_acts}
-use Rattle.spec_machine.specs.Answers.{AnswerTable, all_answered, answered_group, READ_WRITE}
+use Rattle.spec_machine.specs.Answers.{answered_group, READ_WRITE}
 use Rattle.spec_machine.specs.Client.{Client, client_after}
 use Rattle.spec_machine.specs.Decisions.{Decision, NoAnswer, EndConnection, AmsError, Perform, acts_in, refuse}
 use Rattle.spec_machine.specs.Device.{Answer, Answered, FrameOutcome}
@@ -57,7 +57,8 @@ pub numbered-is : (number : ℕ) (ms : List PortMemory) (m : PortMemory) → mem
 numbered-is number [] m found = absurd (false≢true (ap is_some found))
 numbered-is number (x ∷ xs) m found = go (x.number == number) refl found (λ behind. numbered-is number xs m behind)
   where
-    go : (b : Bool) → (x.number == number) ≡ b → cond b (Some x) (memory_numbered number xs) ≡ Some m → (memory_numbered number xs ≡ Some m → m.number ≡ number) → m.number ≡ number
+    go : (b : Bool) → (x.number == number) ≡ b → cond b (Some x) (memory_numbered number xs) ≡ Some m
+        → (memory_numbered number xs ≡ Some m → m.number ≡ number) → m.number ≡ number
     go true e found_ rest = let same : x ≡ m = cc in ap (λ (k : PortMemory). k.number) (sym same) ∙ eqb-true x.number number e
     go false e found_ rest = rest found_
 
@@ -66,17 +67,20 @@ pub record FoundPort (w : World) (number : ℕ) (m : PortMemory) : Type 0 where
   pub found : port_numbered number w.plant.ports ≡ Some port
   pub held : HoldsPort w port m
 
-found-from : (w : World) (number : ℕ) (m : PortMemory) (o : Option PlantPort) → port_numbered number w.plant.ports ≡ o → HoldsFound w o (Some m) → FoundPort w number m
+found-from : (w : World) (number : ℕ) (m : PortMemory) (o : Option PlantPort)
+    → port_numbered number w.plant.ports ≡ o → HoldsFound w o (Some m) → FoundPort w number m
 found-from w number m None is h = absurd h
 found-from w number m (Some p) is h = record { port = p; found = is; held = h }
 
-pub found-port : (w : World) (ports : PortsMemory) (number : ℕ) (m : PortMemory) → HoldsPorts w ports → memory_numbered number ports.ports ≡ Some m → FoundPort w number m
+pub found-port : (w : World) (ports : PortsMemory) (number : ℕ) (m : PortMemory)
+    → HoldsPorts w ports → memory_numbered number ports.ports ≡ Some m → FoundPort w number m
 found-port w ports number m h found =
     let F : Option PortMemory → Type 0 = λ o. HoldsFound w (port_numbered number w.plant.ports) o in
     found-from w number m (port_numbered number w.plant.ports) refl (subst F found (found_is_held w ports number h))
 
 -- and is the port that is asked
-pub same-port : (w : World) (ports : PortsMemory) (number : ℕ) (m : PortMemory) (p : PlantPort) → HoldsPorts w ports → memory_numbered number ports.ports ≡ Some m
+pub same-port : (w : World) (ports : PortsMemory) (number : ℕ) (m : PortMemory) (p : PlantPort)
+    → HoldsPorts w ports → memory_numbered number ports.ports ≡ Some m
     → port_numbered number w.plant.ports ≡ Some p → HoldsPort w p m
 same-port w ports number m p h found is =
     let own = found-port w ports number m h found in
@@ -106,7 +110,8 @@ some-asks ports s number m served found =
 
 -- the answer to the request of a packet
 
-pub answers-asked : (a : Asking) (h : AmsHeader) (r : Request) (ports : PortsMemory) (number : ℕ) (m m' : PortMemory) (s s' : SessionState) (room out frame : List ℕ)
+pub answers-asked : (a : Asking) (h : AmsHeader) (r : Request) (ports : PortsMemory)
+    (number : ℕ) (m m' : PortMemory) (s s' : SessionState) (room out frame : List ℕ)
     → HoldsPorts a.world ports → port_numbered number a.world.plant.ports ≡ Some a.asker.port
     → Runs a r room out m' s' → length room ≡ 38 → frame ≡ frame_bytes (response_packet h no_error (drop 38 out))
     → AnswersAsked a h r (taken.Answer frame) (with_port ports number m') s'
@@ -117,7 +122,7 @@ answers-asked a h r ports number m m' s s' room out frame held found runs long i
     record {
       answered = is_frame ∙ ap (λ x. frame_bytes (response_packet h no_error x)) behind;
       held = ports-held a.world ports number p m' (acts_in (decision_of a r)) held found (port_number number a.world.plant.ports p found)
-          (request-at all_answered (setup_of a.world) a.client a.asker r) runs.after.held;
+          (request-at (setup_of a.world) a.client a.asker r) runs.after.held;
       stands = runs.after.stands;
     }
 
@@ -126,21 +131,21 @@ abbrev IsPerform : Decision → Type 0
 IsPerform (Perform acts form) = Unit {0}
 IsPerform d = ⊥
 
-parts-perform : (table : AnswerTable) (d : Setup) (c : Client) (k : Asker) (s : SumRequest) (o : Option ℕ) → IsPerform (decide_parts table d c k s o)
-parts-perform table d c k s (Some code) = tt
-parts-perform table d c k s None = tt
+parts-perform : (d : Setup) (c : Client) (k : Asker) (s : SumRequest) (o : Option ℕ) → IsPerform (decide_parts d c k s o)
+parts-perform d c k s (Some code) = tt
+parts-perform d c k s None = tt
 
-group-performs : (table : AnswerTable) (d : Setup) (c : Client) (k : Asker) (g : Option Group) (r : Request) (n len : ℕ) (bytes : List ℕ)
-    → IsPerform (decide_read_write table d c k g r n len bytes)
-group-performs table d c k (Some SumRead) r n len bytes = parts-perform table d c k (sum_of_reads n bytes) _
-group-performs table d c k (Some SumWrite) r n len bytes = parts-perform table d c k (sum_of_writes n bytes) _
-group-performs table d c k (Some SumReadWrite) r n len bytes = parts-perform table d c k (sum_of_read_writes n bytes) _
-group-performs table d c k g r n len bytes = tt
+group-performs : (d : Setup) (c : Client) (k : Asker) (g : Option Group) (r : Request) (n len : ℕ) (bytes : List ℕ)
+    → IsPerform (decide_read_write d c k g r n len bytes)
+group-performs d c k (Some SumRead) r n len bytes = parts-perform d c k (sum_of_reads n bytes) _
+group-performs d c k (Some SumWrite) r n len bytes = parts-perform d c k (sum_of_writes n bytes) _
+group-performs d c k (Some SumReadWrite) r n len bytes = parts-perform d c k (sum_of_read_writes n bytes) _
+group-performs d c k g r n len bytes = tt
 
-performs : (table : AnswerTable) (d : Setup) (c : Client) (k : Asker) (r : Request) → IsPerform (decide_request table d c k r)
+performs : (d : Setup) (c : Client) (k : Asker) (r : Request) → IsPerform (decide_request d c k r)
 unfolding decide_request
-performs table d c k (ReadWrite group offset len bytes) = group-performs table d c k (answered_group table READ_WRITE group) (ReadWrite group offset len bytes) offset len bytes
-performs table d c k r = tt
+performs d c k (ReadWrite group offset len bytes) = group-performs d c k (answered_group READ_WRITE group) (ReadWrite group offset len bytes) offset len bytes
+performs d c k r = tt
 
 performed-answer : (h : AmsHeader) (d : Decision) (memory : List Block) → IsPerform d
     → answer_to h d memory ≡ Answered (response_packet h no_error (reply_payload h.command (ending_of d memory)))
@@ -158,7 +163,7 @@ outcome_by w c h d = record {
 }
 
 takes-by : (w : World) (c : Client) (ams : List ℕ) (h : Option AmsHeader) (d : Decision) (answer : Taken) (ports : PortsMemory) (s : SessionState)
-    → header_of ams ≡ h → decide all_answered (setup_of w) c ams ≡ d → Takes (outcome_by w c h d) answer ports s → Takes (outcome_of_packet w c ams) answer ports s
+    → header_of ams ≡ h → decide (setup_of w) c ams ≡ d → Takes (outcome_by w c h d) answer ports s → Takes (outcome_of_packet w c ams) answer ports s
 unfolding performed
 takes-by w c ams h d answer ports s is_header is_decision takes =
     let D : Decision → Type 0 = λ x. Takes (outcome_by w c (header_of ams) x) answer ports s in
@@ -172,14 +177,14 @@ takes-asked w c ams h k r answer ports s is_header asked answers =
     let a : Asking = record { world = w; client = c; asker = k } in
     let d = decision_of a r in
     let own : answer_to h d w.memory ≡ Answered (response_packet h no_error (reply_payload (command_of r) (ending_of d w.memory))) =
-    performed-answer h d w.memory (performs all_answered (setup_of w) c k r)
+    performed-answer h d w.memory (performs (setup_of w) c k r)
     ∙ ap (λ n. Answered (response_packet h no_error (reply_payload n (ending_of d w.memory)))) (sym asked.command) in
     let A : Answer → Type 0 = λ x. IsAnswer x answer in
     takes-by w c ams (Some h) d answer ports s is_header asked.decision
     (record { answered = subst A (sym own) answers.answered; held = answers.held; stands = answers.stands })
 
 pub takes-silent : (w : World) (c : Client) (ams : List ℕ) (ports : PortsMemory) (s : SessionState) → HoldsPorts w ports → StandsFor w.plant c s
-    → decide all_answered (setup_of w) c ams ≡ NoAnswer → Takes (outcome_of_packet w c ams) taken.Silent ports s
+    → decide (setup_of w) c ams ≡ NoAnswer → Takes (outcome_of_packet w c ams) taken.Silent ports s
 unfolding memory_after_acts client_after_acts
 takes-silent w c ams ports s held stands is =
     takes-by w c ams (header_of ams) NoAnswer taken.Silent ports s refl is (record { answered = none (header_of ams); held = held; stands = stands })
@@ -189,13 +194,13 @@ takes-silent w c ams ports s held stands is =
     none (Some h) = tt
 
 pub takes-close : (w : World) (c : Client) (ams : List ℕ) (h : AmsHeader) (ports : PortsMemory) (s : SessionState) → HoldsPorts w ports → StandsFor w.plant c s
-    → header_of ams ≡ Some h → decide all_answered (setup_of w) c ams ≡ EndConnection → Takes (outcome_of_packet w c ams) taken.Close ports s
+    → header_of ams ≡ Some h → decide (setup_of w) c ams ≡ EndConnection → Takes (outcome_of_packet w c ams) taken.Close ports s
 unfolding memory_after_acts client_after_acts
 takes-close w c ams h ports s held stands is_header is =
     takes-by w c ams (Some h) EndConnection taken.Close ports s is_header is (record { answered = tt; held = held; stands = stands })
 
 pub takes-error : (w : World) (c : Client) (ams frame : List ℕ) (h : AmsHeader) (code : Code) (ports : PortsMemory) (s : SessionState) → HoldsPorts w ports
-    → StandsFor w.plant c s → header_of ams ≡ Some h → decide all_answered (setup_of w) c ams ≡ AmsError (number_of code) → IsErrorFrame h code frame
+    → StandsFor w.plant c s → header_of ams ≡ Some h → decide (setup_of w) c ams ≡ AmsError (number_of code) → IsErrorFrame h code frame
     → Takes (outcome_of_packet w c ams) (taken.Answer frame) ports s
 unfolding memory_after_acts client_after_acts
 takes-error w c ams frame h code ports s held stands is_header is is_frame =
@@ -203,7 +208,7 @@ takes-error w c ams frame h code ports s held stands is_header is is_frame =
     (record { answered = is_frame; held = held; stands = stands })
 
 pub takes-refused : (w : World) (c : Client) (ams frame : List ℕ) (h : AmsHeader) (ports : PortsMemory) (s : SessionState) → HoldsPorts w ports
-    → StandsFor w.plant c s → header_of ams ≡ Some h → decide all_answered (setup_of w) c ams ≡ refuse invalid_size → IsRefusedFrame h frame
+    → StandsFor w.plant c s → header_of ams ≡ Some h → decide (setup_of w) c ams ≡ refuse invalid_size → IsRefusedFrame h frame
     → Takes (outcome_of_packet w c ams) (taken.Answer frame) ports s
 unfolding outcomes_of outcome_in_all memory_after_acts client_after_acts client_after
 takes-refused w c ams frame h ports s held stands is_header is is_frame =
@@ -226,7 +231,8 @@ refused-framed h room out payload (Ok frame) long is is_payload framed =
 refused-framed h room out payload (Err no_memory) long is is_payload framed = tt
 
 -- the payload of a reply stands behind the room of the headers
-pub long-enough : (ports : PortsMemory) (number : ℕ) (m m' : PortMemory) (s s' : SessionState) (source : AmsAddr) (rights : Rights) (r : Request) (room out : List ℕ)
+pub long-enough : (ports : PortsMemory) (number : ℕ) (m m' : PortMemory)
+    (s s' : SessionState) (source : AmsAddr) (rights : Rights) (r : Request) (room out : List ℕ)
     → IsServed ports s → memory_numbered number ports.ports ≡ Some m → length room ≡ 38
     → ((a : Asking) → AsksSession a m s → IsFrom a source rights → Runs a r room out m' s') → 38 ≤ length out
 long-enough ports number m m' s s' source rights r room out served found long runs =
@@ -241,7 +247,8 @@ long-enough ports number m m' s s' source rights r room out served found long ru
     omega (arith, ap length said.reply, length-append room payload, long)
 
 -- a packet that passed the checks is answered
-pub if-asked : (H : World → Type 0) (ams : List ℕ) (h : declared.Header) (rights : Rights) (request : meant.Request) (ports ports' : PortsMemory) (s s' : SessionState)
+pub if-asked : (H : World → Type 0) (ams : List ℕ) (h : declared.Header) (rights : Rights)
+    (request : meant.Request) (ports ports' : PortsMemory) (s s' : SessionState)
     (r : Result Taken NoMemory)
     → ((w : World) (c : Client) → HoldsPorts w ports → H w → Examines w c ams (examined.Asked h rights request))
     → IfOk r (λ answer. (a : Asking) → HoldsPorts a.world ports → StandsFor a.world.plant a.client s → IsFrom a h.source rights

@@ -1,5 +1,6 @@
 -- The checks of a tick, one after another.
-use Rattle.std.proofs.Common.{◌≡◌, ℕ, zero, suc, ◌+◌, ◌<◌, ◌≤◌, Bool, true, false, List, [], ◌∷◌, ◌++◌, length, map, take, get_or, refl, sym, ap, subst, ◌∙◌, arith}
+use Rattle.std.proofs.Common.{◌≡◌, ℕ, zero, suc, ◌+◌, ◌<◌, ◌≤◌, Bool, true, false, List, [], ◌∷◌, ◌++◌, length}
+use Rattle.std.proofs.Common.{map, take, get_or, refl, sym, ap, subst, ◌∙◌, arith}
 use Rattle.std.proofs.Common.{Option, Some, None, option_map, IsTrue, IsSomeAnd, IfSome, OnOk, Result, Ok, Err, inl, inr, nat_eq}
 use Rattle.std.specs.List.{All, find, filter, flat_map, list_any}
 use Rattle.std.specs.List.Sorted.{IsStrictlyIncreasing}
@@ -40,7 +41,8 @@ find_holds P p (x ∷ xs) all =
 pub spec_is_short : (handle : ℕ) (t : WatchTable) (s : Spec) → IsTable t
     → Some (new_watch handle s) ≡ option_map before_checks (watch_of_handle handle t) → watched_len (range_meant s.reach) ≤ 2048
 spec_is_short handle t s table asked =
-    by_watch (watch_of_handle handle t) (find_holds (λ (v : Watch Range). (0 < watched_len v.watched) × (watched_len v.watched ≤ 2048)) (is_numbered handle) t.watches table.watched) asked
+    by_watch (watch_of_handle handle t)
+    (find_holds (λ (v : Watch Range). (0 < watched_len v.watched) × (watched_len v.watched ≤ 2048)) (is_numbered handle) t.watches table.watched) asked
   where
     by_watch : (o : Option (Watch Range)) → IfSome o (λ (v : Watch Range). (0 < watched_len v.watched) × (watched_len v.watched ≤ 2048))
         → Some (new_watch handle s) ≡ option_map before_checks o → watched_len (range_meant s.reach) ≤ 2048

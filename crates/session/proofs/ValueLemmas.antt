@@ -34,9 +34,11 @@ looked-by a m kept number handle answer asks is looked =
     let P : ℕ → Type 0 = λ n. LooksUp a.world.plant.ports n (kept_status a.client.handles handle n) answer in
     subst P same (looked a.world.plant.ports a.client.handles asks.handles)
 
-read-live : (w : World) (p : PlantPort) (m : PortMemory) (place : Place) (len : ℕ) (s : HandleStatus client.Place) (answer : Result (Unit {0}) Code) (old new : List ℕ)
+read-live : (w : World) (p : PlantPort) (m : PortMemory) (place : Place) (len : ℕ)
+    (s : HandleStatus client.Place) (answer : Result (Unit {0}) Code) (old new : List ℕ)
     → HoldsPort w p m → LooksUp w.plant.ports p.number s (Ok place)
-    → ((v : World) (q : PlantPort) (named : client.Place) → HoldsPort v q m → IsNamed v q place named → AnswersAct v (place_read_act q named len) answer old new)
+    → ((v : World) (q : PlantPort) (named : client.Place) → HoldsPort v q m
+    → IsNamed v q place named → AnswersAct v (place_read_act q named len) answer old new)
     → AnswersAct w (read_act (addressed_by_status p.number s len)) answer old new
 read-live w p m place len (Live named) answer old new h looks said = said w p named h looks
 read-live w p m place len Never answer old new h looks said = absurd looks

@@ -16,7 +16,7 @@ use Rattle.spec_formats.specs.Groups.{Group, AreaBytes, AreaBit, AreaSize, Value
 use Rattle.spec_formats.specs.Groups.{ExtendedInfoByName, SymbolUpload, UploadInfo, TypeUpload, UploadInfoWithTypes, SumRead, SumWrite, SumReadWrite, group_of}
 use Rattle.spec_formats.specs.Ranges.{Range, Size, range_in, range_of, byte_range, bit_range, greatest_len}
 use Rattle.spec_machine.specs.Access.{Addressed, WholeByte, OneBit}
-use Rattle.spec_machine.specs.Answers.{all_answered, if_answered, answered_group, ADD_DEVICE_NOTIFICATION}
+use Rattle.spec_machine.specs.Answers.{if_answered, answered_group, ADD_DEVICE_NOTIFICATION}
 use Rattle.spec_machine.specs.Client as client
 use Rattle.spec_machine.specs.Handles.{HandleStatus, Never, Released, Outdated, Live, kept_status}
 use Rattle.spec_machine.specs.NumberedPlaces.{is_place_in, is_place_at}
@@ -116,7 +116,7 @@ area_watched ports p len r (Ok (value.Bit a offset bit)) found area is within =
 area_watched ports p len r (Ok (value.Size a)) found area is within = absurd (area.none (area_of a) (sym is))
 
 reach_of_area : (c : client.Client) (p : PlantPort) (g : Option Group) (offset len : ℕ) → is_byte_or_bit g ≡ true
-    → reach_of c p (option_and_then (if_answered all_answered ADD_DEVICE_NOTIFICATION) g) offset len ≡ addressed_by_range p (range_in g p.sizes offset len)
+    → reach_of c p (option_and_then (if_answered ADD_DEVICE_NOTIFICATION) g) offset len ≡ addressed_by_range p (range_in g p.sizes offset len)
 unfolding reach_of
 reach_of_area c p (Some (AreaBytes area)) offset len is = refl
 reach_of_area c p (Some (AreaBit area)) offset len is = refl
@@ -126,12 +126,13 @@ reach_of_area c p _ offset len is = absurd (false≢true is)
 pub watched_in_area : (a : Asking) (m : PortMemory) (group offset len : ℕ) (answer : Result Reach Code) → HoldsPort a.world a.asker.port m
     → is_byte_or_bit (group_of group) ≡ true → answer_meant answer ≡ range_of m.table.sizes group offset len → IfOk answer (IsWithin m.table.sizes)
     → IsWatched a.world.plant.ports a.asker.port.number len
-    (reach_of a.client a.asker.port (answered_group all_answered ADD_DEVICE_NOTIFICATION group) offset len) answer
+    (reach_of a.client a.asker.port (answered_group ADD_DEVICE_NOTIFICATION group) offset len) answer
 unfolding answered_group range_of
 watched_in_area a m group offset len answer held kind rule within =
     let p = a.asker.port in
     let sizes = same_sizes a.world p m held in
-    let rule_ : answer_meant answer ≡ range_in (group_of group) p.sizes offset len = subst (λ s. answer_meant answer ≡ range_in (group_of group) s offset len) (sym sizes) rule in
+    let rule_ : answer_meant answer ≡ range_in (group_of group) p.sizes offset len =
+    subst (λ s. answer_meant answer ≡ range_in (group_of group) s offset len) (sym sizes) rule in
     let within_ : IfOk answer (IsWithin p.sizes) = subst (λ s. IfOk answer (IsWithin s)) (sym sizes) within in
     subst (λ r. IsWatched a.world.plant.ports p.number len r answer) (sym (reach_of_area a.client p (group_of group) offset len kind))
     (area_watched a.world.plant.ports p len (range_in (group_of group) p.sizes offset len) answer held.sound.found
@@ -148,7 +149,7 @@ area_len sizes group offset len (Ok reach) kind rule =
 -- ---- other groups
 
 no_reach : (c : client.Client) (p : PlantPort) (g : Option Group) (offset len : ℕ) → is_byte_or_bit g ≡ false → is_value_by_handle g ≡ false
-    → reach_of c p (option_and_then (if_answered all_answered ADD_DEVICE_NOTIFICATION) g) offset len ≡ Err (number_of C702)
+    → reach_of c p (option_and_then (if_answered ADD_DEVICE_NOTIFICATION) g) offset len ≡ Err (number_of C702)
 unfolding reach_of
 no_reach c p None offset len area value = refl
 no_reach c p (Some (AreaBytes area)) offset len is other = absurd (false≢true (sym is))
@@ -171,7 +172,7 @@ no_reach c p (Some SumReadWrite) offset len is value = refl
 
 pub watched_nowhere : (a : Asking) (group offset len : ℕ) → is_byte_or_bit (group_of group) ≡ false → is_value_by_handle (group_of group) ≡ false
     → IsWatched a.world.plant.ports a.asker.port.number len
-    (reach_of a.client a.asker.port (answered_group all_answered ADD_DEVICE_NOTIFICATION group) offset len) (Err C702)
+    (reach_of a.client a.asker.port (answered_group ADD_DEVICE_NOTIFICATION group) offset len) (Err C702)
 unfolding answered_group
 watched_nowhere a group offset len area value =
     subst (λ r. IsWatched a.world.plant.ports a.asker.port.number len r (Err C702))
@@ -180,7 +181,7 @@ watched_nowhere a group offset len area value =
 -- ---- a value by its handle
 
 reach_of_value : (c : client.Client) (p : PlantPort) (g : Option Group) (handle len : ℕ) → is_value_by_handle g ≡ true
-    → reach_of c p (option_and_then (if_answered all_answered ADD_DEVICE_NOTIFICATION) g) handle len
+    → reach_of c p (option_and_then (if_answered ADD_DEVICE_NOTIFICATION) g) handle len
     ≡ addressed_by_status p.number (kept_status c.handles handle p.number) len
 unfolding reach_of
 reach_of_value c p (Some ValueByHandle) handle len is = refl
@@ -190,7 +191,7 @@ pub watched_by_value : (a : Asking) (group handle len : ℕ) (answer : Result Re
     → IsWatched a.world.plant.ports a.asker.port.number len
     (addressed_by_status a.asker.port.number (kept_status a.client.handles handle a.asker.port.number) len) answer
     → IsWatched a.world.plant.ports a.asker.port.number len
-    (reach_of a.client a.asker.port (answered_group all_answered ADD_DEVICE_NOTIFICATION group) handle len) answer
+    (reach_of a.client a.asker.port (answered_group ADD_DEVICE_NOTIFICATION group) handle len) answer
 unfolding answered_group
 watched_by_value a group handle len answer value is =
     subst (λ r. IsWatched a.world.plant.ports a.asker.port.number len r answer)
@@ -242,7 +243,8 @@ live_watched a m place len (Live named) held looks short =
     let p = a.asker.port in
     let lies = live_in_area a.world p m place named held looks in
     let fits : nat_lt named.len len ≡ false = le-ltb named.len len (omega (arith, lies.long)) in
-    let names = same_places_have_same_bytes a.world.plant p p.number len named (numbered place) held.plant_sound held.sound.found looks (omega (arith, lies.long)) in
+    let names = same_places_have_same_bytes a.world.plant p p.number len named
+    (numbered place) held.plant_sound held.sound.found looks (omega (arith, lies.long)) in
     rw fits (λ some.
     at_found a.world.plant.ports p (map WholeByte (client.names_of_place p.number named len)) (range_meant (value.Bytes place.area place.«at» len))
     held.sound.found

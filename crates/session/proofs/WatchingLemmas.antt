@@ -11,7 +11,7 @@ use Rattle.return_codes.specs.Code.{number_of}
 use Rattle.spec_formats.specs.Request.{AddDeviceNotification, DeleteDeviceNotification}
 use Rattle.spec_machine.specs.Access.{Addressed, memory_after_puts}
 use Rattle.spec_machine.specs.Acts.{Act, Outcome, Refusal, changing}
-use Rattle.spec_machine.specs.Answers.{all_answered, answered_group, ADD_DEVICE_NOTIFICATION}
+use Rattle.spec_machine.specs.Answers.{answered_group, ADD_DEVICE_NOTIFICATION}
 use Rattle.spec_machine.specs.Client.{client_after, Adds, Deletes}
 use Rattle.spec_machine.specs.HandleLaws.{Test, AgreeingWatch, AgreeingWatches}
 use Rattle.spec_machine.specs.Reach.{reach_of}
@@ -36,26 +36,26 @@ module _ (a : Asking) (group offset len mode delay cycle : ℕ) where
   asked = act_asked a (AddDeviceNotification group offset len mode delay cycle)
 
   abbrev reached : Result (List Addressed) ℕ
-  reached = reach_of a.client a.asker.port (answered_group all_answered ADD_DEVICE_NOTIFICATION group) offset len
+  reached = reach_of a.client a.asker.port (answered_group ADD_DEVICE_NOTIFICATION group) offset len
 
-  asked-is : asked ≡ add_act a.client a.asker (answered_group all_answered ADD_DEVICE_NOTIFICATION group) offset len cycle (mode_of mode)
+  asked-is : asked ≡ add_act a.client a.asker (answered_group ADD_DEVICE_NOTIFICATION group) offset len cycle (mode_of mode)
   unfolding act_of
   asked-is = refl
 
   -- no mode
   pub asked_no_mode : mode_of mode ≡ None → IsSpecAsked a asked (Err C713)
   asked_no_mode none =
-      asked-is ∙ ap (add_act a.client a.asker (answered_group all_answered ADD_DEVICE_NOTIFICATION group) offset len cycle) none
+      asked-is ∙ ap (add_act a.client a.asker (answered_group ADD_DEVICE_NOTIFICATION group) offset len cycle) none
 
   -- too much
   pub asked_too_much : (m : machine.Mode) → Some m ≡ mode_of mode → 2048 < len → IsSpecAsked a asked (Err C717)
   asked_too_much m is big =
-      asked-is ∙ (ap (add_act a.client a.asker (answered_group all_answered ADD_DEVICE_NOTIFICATION group) offset len cycle) (sym is)
+      asked-is ∙ (ap (add_act a.client a.asker (answered_group ADD_DEVICE_NOTIFICATION group) offset len cycle) (sym is)
       ∙ rw (lt-ltb 2048 len big) refl)
 
   reached-is : (m : machine.Mode) → Some m ≡ mode_of mode → len ≤ 2048 → asked ≡ add_reached a.client a.asker m len cycle reached
   reached-is m is few =
-      asked-is ∙ (ap (add_act a.client a.asker (answered_group all_answered ADD_DEVICE_NOTIFICATION group) offset len cycle) (sym is)
+      asked-is ∙ (ap (add_act a.client a.asker (answered_group ADD_DEVICE_NOTIFICATION group) offset len cycle) (sym is)
       ∙ rw (le-ltb 2048 len few) refl)
 
   -- nothing that can be watched

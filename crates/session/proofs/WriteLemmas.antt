@@ -13,7 +13,7 @@ use Rattle.spec_formats.specs.Numbers.{number32}
 use Rattle.spec_formats.specs.Request.{Write}
 use Rattle.spec_machine.specs.Access.{Addressed, puts_of, memory_after_puts}
 use Rattle.spec_machine.specs.Acts.{Act, Refusal, writing, changing, effect_of}
-use Rattle.spec_machine.specs.Answers.{all_answered, if_answered, answered_group, WRITE}
+use Rattle.spec_machine.specs.Answers.{if_answered, answered_group, WRITE}
 use Rattle.spec_machine.specs.Client.{Client, NoEffect, Releases, client_after}
 use Rattle.spec_machine.specs.Client as client
 use Rattle.spec_machine.specs.Handles.{HandleStatus, Never, Released, Outdated, Live, Release, kept_status, status_of}
@@ -42,13 +42,13 @@ use Rattle.session.proofs.ValueLemmas.{LookedUp, looked-by}
 -- which act it is
 
 release-group : (c : Client) (k : Asker) (g : Option Group) (offset : ℕ) (bytes : List ℕ) → is_release g ≡ true
-    → write_group c k (option_and_then (if_answered all_answered WRITE) g) offset bytes ≡ release_act c k.port bytes
+    → write_group c k (option_and_then (if_answered WRITE) g) offset bytes ≡ release_act c k.port bytes
 unfolding write_group
 release-group c k (Some ReleaseHandle) offset bytes is = refl
 release-group c k g offset bytes is = absurd (false≢true is)
 
 value-group : (c : Client) (k : Asker) (g : Option Group) (offset : ℕ) (bytes : List ℕ) → is_value_by_handle g ≡ true
-    → write_group c k (option_and_then (if_answered all_answered WRITE) g) offset bytes
+    → write_group c k (option_and_then (if_answered WRITE) g) offset bytes
     ≡ (if not (may_write k.rights) then Refusal not_permitted
     else write_act k bytes (addressed_by_status k.port.number (kept_status c.handles offset k.port.number) (length bytes)))
 unfolding write_group reach_of
@@ -56,7 +56,7 @@ value-group c k (Some ValueByHandle) offset bytes is = refl
 value-group c k g offset bytes is = absurd (false≢true is)
 
 port-group : (c : Client) (k : Asker) (g : Option Group) (offset : ℕ) (bytes : List ℕ) → is_release g ≡ false → is_value_by_handle g ≡ false
-    → write_group c k (option_and_then (if_answered all_answered WRITE) g) offset bytes ≡ write_group c k (written_by_port g) offset bytes
+    → write_group c k (option_and_then (if_answered WRITE) g) offset bytes ≡ write_group c k (written_by_port g) offset bytes
 unfolding write_group
 port-group c k (Some ReleaseHandle) offset bytes is not_ = absurd (false≢true (sym is))
 port-group c k (Some ValueByHandle) offset bytes is not_ = absurd (false≢true (sym not_))
@@ -120,11 +120,14 @@ pub permitted-quiet : (k : Asker) (b : Bool) (bytes : List ℕ) (r : Result (Lis
 permitted-quiet k true bytes r = write-quiet k bytes r
 permitted-quiet k false bytes r = refl
 
-group-quiet : (c : Client) (k : Asker) (g : Option Group) (offset : ℕ) (bytes : List ℕ) → effect_of (write_group c k (written_by_port g) offset bytes) ≡ NoEffect
+group-quiet : (c : Client) (k : Asker) (g : Option Group) (offset : ℕ) (bytes : List ℕ)
+    → effect_of (write_group c k (written_by_port g) offset bytes) ≡ NoEffect
 unfolding write_group
 group-quiet c k None offset bytes = refl
-group-quiet c k (Some (AreaBytes area)) offset bytes = permitted-quiet k (may_write k.rights) bytes (reach_of c k.port (Some (AreaBytes area)) offset (length bytes))
-group-quiet c k (Some (AreaBit area)) offset bytes = permitted-quiet k (may_write k.rights) bytes (reach_of c k.port (Some (AreaBit area)) offset (length bytes))
+group-quiet c k (Some (AreaBytes area)) offset bytes =
+    permitted-quiet k (may_write k.rights) bytes (reach_of c k.port (Some (AreaBytes area)) offset (length bytes))
+group-quiet c k (Some (AreaBit area)) offset bytes =
+    permitted-quiet k (may_write k.rights) bytes (reach_of c k.port (Some (AreaBit area)) offset (length bytes))
 group-quiet c k (Some g) offset bytes = refl
 
 pub port-ends : (a : Asking) (group offset : ℕ) (bytes : List ℕ) (answer : Result (Unit {0}) Code) (m m' : PortMemory) (kept : Kept)
@@ -246,14 +249,16 @@ release-ends a bytes number handle answer m kept kept' asks is four is_handle sa
     let agreed : AgreeingStatus test p.number s t = statuses-agree test a.client.handles (handles_of k.history) handle p.number k.agree in
     let is_answer : answer ≡ release_of t = said k.history k.represented ∙ ap (λ n. release_of (status_of k.history handle n)) same
     ∙ ap release_of (sym (status_is_history Place k.history handle p.number)) in
-    let OkOf : Result (Unit {0}) Code → Type 0 = λ r. OnOk r ((history : History) → Represents kept history → Represents kept' (history ++ Release handle ∷ [])) in
+    let OkOf : Result (Unit {0}) Code → Type 0 =
+    λ r. OnOk r ((history : History) → Represents kept history → Represents kept' (history ++ Release handle ∷ [])) in
     let ErrOf : Result (Unit {0}) Code → Type 0 = λ r. OnErr r (kept' ≡ kept) in
     let E : Result (Unit {0}) Code → Type 0 = λ r. EndsAct a (released s handle) r m kept' in
     let own : EndsAct a (released s handle) answer m kept'
     = subst E (sym is_answer) (released-ends a handle m kept kept' k.history s t asks k.agree agreed
     (on-ok (release_of t) k.history k.represented (subst OkOf is_answer ok)) (subst ErrOf is_answer err)) in
     let act : release_act a.client p bytes ≡ released s handle =
-    ap (λ b. if not b then Refusal invalid_size else released (kept_status a.client.handles (number32 0 bytes) p.number) (number32 0 bytes)) (eq-eqb (length bytes) 4 four)
+    ap (λ b. if not b then Refusal invalid_size else released (kept_status a.client.handles (number32 0 bytes) p.number) (number32 0 bytes))
+    (eq-eqb (length bytes) 4 four)
     ∙ ap (λ n. released (kept_status a.client.handles n p.number) n) (sym is_handle) in
     ends-along a (released s handle) (release_act a.client p bytes) answer m kept' act own
   where

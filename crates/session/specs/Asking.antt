@@ -3,7 +3,6 @@ use Rattle.spec_formats.specs.Request.{Request}
 use Rattle.spec_machine.specs.World.{World, setup_of}
 use Rattle.spec_machine.specs.Client.{Client, client_after}
 use Rattle.spec_machine.specs.Acts.{Act, Outcome, outcome_of, effect_of}
-use Rattle.spec_machine.specs.Answers.{all_answered}
 use Rattle.spec_machine.specs.Requests.{act_of}
 use Rattle.spec_machine.specs.Writes.{Asker}
 use Rattle.port_device.specs.Endings.{world_after_act}
@@ -14,7 +13,7 @@ pub record Asking : Type 0 where
   pub asker : Asker
 
 abbrev pub act_asked : Asking → Request → Act
-act_asked a r = act_of all_answered (setup_of a.world) a.client a.asker r
+act_asked a r = act_of (setup_of a.world) a.client a.asker r
 
 abbrev pub outcome_asked : Asking → Request → Outcome
 outcome_asked a r = outcome_of a.world.memory (act_asked a r)

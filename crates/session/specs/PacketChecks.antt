@@ -6,7 +6,7 @@ use Rattle.spec_formats.specs.Codes.{target_port_not_found, target_machine_not_f
 use Rattle.spec_formats.specs.Codes.{unknown_ams_command, invalid_ams_length, invalid_size}
 use Rattle.spec_formats.specs.Header.{AmsHeader, header_of, payload_of, request_flags}
 use Rattle.spec_formats.specs.Request as format
-use Rattle.spec_machine.specs.Answers.{all_answered, DEVICE_NOTIFICATION}
+use Rattle.spec_machine.specs.Answers.{is_answered, DEVICE_NOTIFICATION}
 use Rattle.spec_machine.specs.Client.{Client}
 use Rattle.spec_machine.specs.Decisions.{Decision, NoAnswer, EndConnection, AmsError, refuse}
 use Rattle.spec_machine.specs.Packets.{Check, stop_if, decide, decide_passed}
@@ -28,7 +28,7 @@ use Rattle.session.specs.declared.examined.Examined.TheVariants as examined
 abbrev pub last_checks : AmsHeader → Bool → List Check
 last_checks h no_request =
     stop_if (h.command == DEVICE_NOTIFICATION) NoAnswer
-    ∷ stop_if (not (all_answered.is_answered h.command)) (AmsError unknown_command_id)
+    ∷ stop_if (not (is_answered h.command)) (AmsError unknown_command_id)
     ∷ stop_if no_request (refuse invalid_size)
     ∷ []
 
@@ -60,17 +60,17 @@ stopped_by stop.Refused decision = refuse invalid_size
 pub record IsAsked (w : World) (c : Client) (ams : List ℕ) (h : AmsHeader) (k : Asker) (r : format.Request) : Type 0 where
   pub found : port_numbered h.target.port w.plant.ports ≡ Some k.port
   pub command : format.command_of r ≡ h.command
-  pub decision : decide all_answered (setup_of w) c ams ≡ decide_request all_answered (setup_of w) c k r
+  pub decision : decide (setup_of w) c ams ≡ decide_request (setup_of w) c k r
 
 -- what the examination of a packet says: what it leads to; and where something is answered, whose header it has
 abbrev pub Examines : World → Client → List ℕ → Examined → Type 0
-Examines w c ams examined.Silent = decide all_answered (setup_of w) c ams ≡ NoAnswer
+Examines w c ams examined.Silent = decide (setup_of w) c ams ≡ NoAnswer
 Examines w c ams examined.Close =
-    (h : AmsHeader) × ((header_of ams ≡ Some h) × (decide all_answered (setup_of w) c ams ≡ EndConnection))
+    (h : AmsHeader) × ((header_of ams ≡ Some h) × (decide (setup_of w) c ams ≡ EndConnection))
 Examines w c ams (examined.Error h code) =
-    (header_of ams ≡ Some (ams_header_of h)) × (decide all_answered (setup_of w) c ams ≡ AmsError (number_of code))
+    (header_of ams ≡ Some (ams_header_of h)) × (decide (setup_of w) c ams ≡ AmsError (number_of code))
 Examines w c ams (examined.Refused h) =
-    (header_of ams ≡ Some (ams_header_of h)) × (decide all_answered (setup_of w) c ams ≡ refuse invalid_size)
+    (header_of ams ≡ Some (ams_header_of h)) × (decide (setup_of w) c ams ≡ refuse invalid_size)
 Examines w c ams (examined.Asked h rights request) =
     (header_of ams ≡ Some (ams_header_of h))
     × ((p : PlantPort) × IsAsked w c ams (ams_header_of h)
@@ -79,8 +79,8 @@ Examines w c ams (examined.Asked h rights request) =
 -- a packet that passed the checks: its header, and that its parts alone decide
 pub record HasPassed (w : World) (c : Client) (ams : List ℕ) (h : AmsHeader) : Type 0 where
   pub header : header_of ams ≡ Some h
-  pub decision : decide all_answered (setup_of w) c ams
-      ≡ decide_passed all_answered (setup_of w) c h.source (routed.rights_of h.source.net w.plant.routes)
+  pub decision : decide (setup_of w) c ams
+      ≡ decide_passed (setup_of w) c h.source (routed.rights_of h.source.net w.plant.routes)
       (port_numbered h.target.port w.plant.ports) (format.request_of h.command (payload_of ams))
 
 -- these are the rights of its source, whether its port is there, and its request

@@ -5,7 +5,6 @@ use Rattle.spec_formats.specs.Groups.{sum_read, sum_write, sum_read_write}
 use Rattle.spec_formats.specs.Request.{Request, command_of}
 use Rattle.spec_machine.specs.World.{setup_of}
 use Rattle.spec_machine.specs.Acts.{Act, Outcome, outcomes_of, memory_after_acts, client_after_acts}
-use Rattle.spec_machine.specs.Answers.{all_answered}
 use Rattle.spec_machine.specs.Decisions.{Decision, NoAnswer, EndConnection, AmsError, Perform, acts_in}
 use Rattle.spec_machine.specs.Replies.{outcome_in_all, reply_payload}
 use Rattle.spec_machine.specs.SumPackets.{decide_request}
@@ -36,7 +35,7 @@ pub record RunsSingle (a : Asking) (r : Request) (old new : List ℕ) (port : Po
 
 -- what the request of a packet leads to
 abbrev pub decision_of : Asking → Request → Decision
-decision_of a r = decide_request all_answered (setup_of a.world) a.client a.asker r
+decision_of a r = decide_request (setup_of a.world) a.client a.asker r
 
 -- how a decision ends over these bytes
 abbrev pub ending_of : Decision → List Block → Outcome

@@ -4,7 +4,6 @@ use Rattle.spec_frames.specs.Frame.{frame_bytes}
 use Rattle.spec_plant.specs.Description.{Route}
 use Rattle.spec_plant.specs.Rights.{rights_of}
 use Rattle.spec_plant.specs.World.{Plant}
-use Rattle.spec_machine.specs.Answers.{all_answered}
 use Rattle.spec_machine.specs.Client.{Client}
 use Rattle.spec_machine.specs.Device.{Answer, Answered, Silent, Closing, FrameOutcome}
 use Rattle.spec_machine.specs.Packets.{decide}
@@ -19,7 +18,7 @@ use Rattle.session.specs.StandsFor.{StandsFor}
 
 -- what the server that answers everything makes of an AMS packet
 abbrev pub outcome_of_packet : World → Client → List ℕ → FrameOutcome World Client
-outcome_of_packet w c ams = performed (decide all_answered (setup_of w) c ams) ams w c
+outcome_of_packet w c ams = performed (decide (setup_of w) c ams) ams w c
 
 -- this is the plant's NetId, and these are its routes
 pub record HasAddress (plant : Plant) (net : List ℕ) (routes : List Route) : Type 0 where

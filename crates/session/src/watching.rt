@@ -4,7 +4,7 @@
 ghost use Rattle.std.specs.Prelude.{◌≡◌, ◌≤◌, ℕ, Some, option_map, IfOk, OnErr};
 ghost use Rattle.spec_formats.specs.Groups.{group_of};
 ghost use Rattle.spec_formats.specs.Request.{AddDeviceNotification, DeleteDeviceNotification};
-ghost use Rattle.spec_machine.specs.Answers.{all_answered, answered_group, ADD_DEVICE_NOTIFICATION};
+ghost use Rattle.spec_machine.specs.Answers.{answered_group, ADD_DEVICE_NOTIFICATION};
 ghost use Rattle.spec_machine.specs.Acts.{Act};
 ghost use Rattle.spec_machine.specs.Handles.{kept_status};
 ghost use Rattle.spec_machine.specs.Reach.{reach_of, addressed_by_status};
@@ -188,7 +188,7 @@ fn watched(
     requires number { number ≡ port.now.number }
     ensures watched { (a : Asking) → Asks a port.now handles.now
         → IsWatched a.world.plant.ports a.asker.port.number len
-        (reach_of a.client a.asker.port (answered_group all_answered ADD_DEVICE_NOTIFICATION group) offset len) result }
+        (reach_of a.client a.asker.port (answered_group ADD_DEVICE_NOTIFICATION group) offset len) result }
     ensures len { IfOk result (λ reach. watched_len (range_meant reach) ≡ len) }
 {
     if is_value_by_handle(group) {

@@ -14,7 +14,11 @@ use Rattle.spec_client.specs.Heard.{StampedSample, samples_of_stamps}
 use Rattle.spec_client.specs.Unanswered.{Unanswered, is_outstanding_at, is_timed_out, is_timed_out_at, least_id, next_timeout, without_first}
 use Rattle.spec_client.specs.PassedOver.{is_response, says_something}
 use Rattle.spec_client.specs.Client.{Client, packets_left}
-use Rattle.spec_client.specs.Hearing.{Hearing, broken_hearing, is_answer, is_off_its_text, response_hearing, samples_hearing, notification_hearing, header_hearing, packet_hearing, rest_hearing, with_one_taken, packets_hearing, hearing_of_samples, hearing_unless_broken, hearing_of_timeout, next_hearing, samples_in, hearings_left}
+use Rattle.spec_client.specs.Hearing.{Hearing, broken_hearing, is_answer, is_off_its_text, response_hearing}
+use Rattle.spec_client.specs.Hearing.{samples_hearing, notification_hearing, header_hearing, packet_hearing}
+use Rattle.spec_client.specs.Hearing.{rest_hearing, with_one_taken, packets_hearing, hearing_of_samples}
+use Rattle.spec_client.specs.Hearing.{hearing_unless_broken, hearing_of_timeout, next_hearing, samples_in}
+use Rattle.spec_client.specs.Hearing.{hearings_left}
 use Rattle.spec_client.specs.Laws.{goes_on, HearingsFall}
 
 either : {X : Type 0} (P : X → Type 0) (b : Bool) (x y : X) → P x → P y → P (if b then x else y)

@@ -50,7 +50,8 @@ record HistoryRows : Type 0 where
   out_of_order : heard_in (state_issued 0 ∷ state_issued 0 ∷ Fed (state_reply 2 ++ state_reply 1) ∷ Next ∷ Next ∷ Next ∷ Fed (state_reply 1) ∷ Next ∷ [])
       ≡ state_answered 2 ∷ state_answered 1 ∷ NotYet ∷ Stray 1 ∷ []
   -- a broken frame stays broken, and timeouts come before it
-  broken : heard_in (state_issued 5 ∷ state_issued 6 ∷ Fed (hex (codes "010020000000 00")) ∷ Next ∷ Tick 50000005 ∷ Next ∷ Next ∷ Fed (state_reply 1) ∷ Next ∷ [])
+  broken : heard_in (state_issued 5 ∷ state_issued 6 ∷ Fed (hex (codes "010020000000 00"))
+      ∷ Next ∷ Tick 50000005 ∷ Next ∷ Next ∷ Fed (state_reply 1) ∷ Next ∷ [])
       ≡ Broken (peers.Frame (hex (codes "010020000000"))) ∷ TimedOut 1 5 50000005 ∷ Broken (peers.Frame (hex (codes "010020000000")))
       ∷ Broken (peers.Frame (hex (codes "010020000000"))) ∷ []
   -- timeouts are told by their ids, and a late reply answers nothing
@@ -64,4 +65,5 @@ record HistoryRows : Type 0 where
 
 history_rows : HistoryRows
 unfolding handle_parts ams_length_of is_header front_of packet_of behind_frame frames_from frames_of left_behind rest_of header_of reply_in reply_of sample_of samples_of stamp_of stamps_of notification_of free_id least_id without_first issued_by client_after_issue client_after_tick says_something packet_hearing packets_hearing next_hearing client_after_move client_after all_heard
-history_rows = record { first = refl; names = refl; at_most = refl; next = refl; out_of_order = refl; broken = refl; late = refl; in_time = refl; samples = refl }
+history_rows = record
+    { first = refl; names = refl; at_most = refl; next = refl; out_of_order = refl; broken = refl; late = refl; in_time = refl; samples = refl }

@@ -17,7 +17,8 @@ use Rattle.spec_client.specs.Stages.{BadPeer}
 use Rattle.spec_client.specs.Replies.{after_reply, after_answer}
 use Rattle.spec_client.specs.Steps.{after_sample, after_end, after_heard, begun}
 use Rattle.spec_client.specs.Runner.{runner_after_hearing, given, turn_within, all_given, turns_within}
-use Rattle.spec_client.specs.Conversation.{LinkAnswer, Bytes, Quiet, Closed, CallEnded, Conversation, conversation_after_turns, conversation_going_on, conversation_after}
+use Rattle.spec_client.specs.Conversation.{LinkAnswer, Bytes, Quiet, Closed, CallEnded, Conversation}
+use Rattle.spec_client.specs.Conversation.{conversation_after_turns, conversation_going_on, conversation_after}
 use Rattle.spec_client.specs.CallOver.{call_over, conversation_after_all}
 use Rattle.spec_client.proofs.Frames.{me, peer, request, reply}
 use Rattle.spec_client.proofs.Told.{told_in}

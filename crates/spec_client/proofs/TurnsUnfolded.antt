@@ -9,7 +9,9 @@ use Rattle.spec_client.specs.Client.{Client, is_full, next_id, with_request, cli
 use Rattle.spec_client.specs.Hearing.{Hearing, next_hearing, hearings_left}
 use Rattle.spec_client.specs.Stages.{Output, ToSend, ToPrint, ToKeep, CallEnd, BadPeer, Stage, Records, Finished, FinishedRecording, ended_at}
 use Rattle.spec_client.specs.Steps.{after_heard}
-use Rattle.spec_client.specs.Runner.{Runner, Wait, Turned, turned, Turns, runner_after_hearing, is_not_yet, given, resting, is_over, turn_within, after_step, all_given, joined, turns_within, turns}
+use Rattle.spec_client.specs.Runner.{Runner, Wait, Turned, turned, Turns, runner_after_hearing, is_not_yet}
+use Rattle.spec_client.specs.Runner.{given, resting, is_over, turn_within, after_step, all_given, joined}
+use Rattle.spec_client.specs.Runner.{turns_within, turns}
 use Rattle.spec_client.specs.Unanswered.{Unanswered, is_timed_out}
 use Rattle.spec_client.specs.Laws.{goes_on, turns_behind, TurnsUnfold}
 use Rattle.spec_client.proofs.Hearings.{hearings_fall}
@@ -100,7 +102,8 @@ abbrev heard_by : ℕ → Runner → Hearing
 heard_by now r = next_hearing (all_given now r.pending r).runner.client
 
 -- turns behind something that was heard, where more turns make no difference behind what goes on
-same_behind : (n m now : ℕ) (r : Runner) → ((q : Runner) → hearings_left q.client ≤ n → hearings_left q.client ≤ m → turns_within n now q ≡ turns_within m now q)
+same_behind : (n m now : ℕ) (r : Runner)
+    → ((q : Runner) → hearings_left q.client ≤ n → hearings_left q.client ≤ m → turns_within n now q ≡ turns_within m now q)
     → hearings_left r.client ≤ suc n → hearings_left r.client ≤ suc m → is_not_yet (heard_by now r).heard ≡ false
     → turns_within n now (behind now r) ≡ turns_within m now (behind now r)
 same_behind n m now r again few many waits = elim (cases_of (goes_on (heard_by now r).heard)) [
@@ -140,13 +143,16 @@ given_first : (n now : ℕ) (c : Client) (stage : Stage) (o : Output) (os : List
 unfolding turns_within all_given given
 given_first n now c stage (ToSend request) os =
     let t = giving now c stage os (ToSend request) in
-    pulled (is_over stage) (is_not_yet (heard_by now t.runner).heard) t (all_given now os t.runner) (turns_within n now (behind now t.runner)) (behind now t.runner)
+    pulled (is_over stage) (is_not_yet (heard_by now t.runner).heard) t
+    (all_given now os t.runner) (turns_within n now (behind now t.runner)) (behind now t.runner)
 given_first n now c stage (ToKeep row) os =
     let t = giving now c stage os (ToKeep row) in
-    pulled (is_over stage) (is_not_yet (heard_by now t.runner).heard) t (all_given now os t.runner) (turns_within n now (behind now t.runner)) (behind now t.runner)
+    pulled (is_over stage) (is_not_yet (heard_by now t.runner).heard) t
+    (all_given now os t.runner) (turns_within n now (behind now t.runner)) (behind now t.runner)
 given_first n now c stage (ToPrint text) os =
     let t = giving now c stage os (ToPrint text) in
-    pulled (is_over stage) (is_not_yet (heard_by now t.runner).heard) t (all_given now os t.runner) (turns_within n now (behind now t.runner)) (behind now t.runner)
+    pulled (is_over stage) (is_not_yet (heard_by now t.runner).heard) t
+    (all_given now os t.runner) (turns_within n now (behind now t.runner)) (behind now t.runner)
 
 steps_behind : (now : ℕ) (o : Output) (r : Runner)
     → turns_behind now (given now o r).step (given now o r).runner ≡ after_step (given now o r) (turns now (given now o r).runner)

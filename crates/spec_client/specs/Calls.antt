@@ -1,7 +1,9 @@
 -- The calls of the client, and the requests that they are made of. Beckhoff Information System, "ADS Commands".
 use Rattle.std.specs.Prelude.{ℕ, List}
 use Rattle.std.specs.Int.{w32, to_le_bytes}
-use Rattle.spec_formats.specs.Groups.{handle_by_name, value_by_name, value_by_handle, release_handle, extended_info_by_name, symbol_upload, upload_info, type_upload, upload_info_with_types}
+use Rattle.spec_formats.specs.Groups.{handle_by_name, value_by_name, value_by_handle, release_handle}
+use Rattle.spec_formats.specs.Groups.{extended_info_by_name, symbol_upload, upload_info, type_upload}
+use Rattle.spec_formats.specs.Groups.{upload_info_with_types}
 use Rattle.spec_formats.specs.Request.{Request, Read, Write, ReadWrite, AddDeviceNotification}
 use Rattle.spec_formats.specs.SymbolEntry.{SymbolEntry}
 

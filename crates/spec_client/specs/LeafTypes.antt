@@ -1,5 +1,6 @@
 -- Which types of a peer have leaves: the types of its upload, as far as a symbol's value meets them.
-use Rattle.std.specs.Prelude.{ℕ, zero, suc, ◌+◌, ◌*◌, List, [], ◌∷◌, Bool, true, false, not, ◌&&◌, ◌==◌, nat_le, Option, Some, None, find, bytes_eq, nat_abs, ◌-ℤ◌}
+use Rattle.std.specs.Prelude.{ℕ, zero, suc, ◌+◌, ◌*◌, List, [], ◌∷◌, Bool, true, false, not, ◌&&◌, ◌==◌}
+use Rattle.std.specs.Prelude.{nat_le, Option, Some, None, find, bytes_eq, nat_abs, ◌-ℤ◌}
 use Rattle.std.specs.Option.{option_map_or}
 use Rattle.name_paths.specs.Identifier.{lower}
 use Rattle.spec_plant.specs.Plain.{kind_size}

@@ -5,7 +5,9 @@ use Rattle.spec_formats.specs.Request.{DeleteDeviceNotification}
 use Rattle.spec_formats.specs.SymbolEntry.{SymbolEntry}
 use Rattle.spec_samples.specs.Row.{Row}
 use Rattle.spec_client.specs.Calls.{Watching, entry_request, addition_request}
-use Rattle.spec_client.specs.Stages.{Done, Output, ToSend, ToKeep, Recorded, Recording, RecordWait, ForEntry, ForNotification, ForSamples, ForDeletion, Records, Progress, progress, recording_ended, bad_text}
+use Rattle.spec_client.specs.Stages.{Done, Output, ToSend, ToKeep, Recorded, Recording, RecordWait, ForEntry}
+use Rattle.spec_client.specs.Stages.{ForNotification, ForSamples, ForDeletion, Records, Progress, progress}
+use Rattle.spec_client.specs.Stages.{recording_ended, bad_text}
 
 -- the notification of a handle has ended
 abbrev pub has_ended : Recording → ℕ → Bool

@@ -6,12 +6,18 @@ use Rattle.spec_formats.specs.SymbolEntry.{SymbolEntry}
 use Rattle.spec_formats.specs.TypeEntry.{TypeEntry}
 use Rattle.spec_plant.specs.TypeTexts.{type_text_of}
 use Rattle.spec_formats.specs.ValueText.{value_text}
-use Rattle.spec_client.specs.Calls.{value_request, handle_request, write_request, release_request, upload_request, type_info_request, type_upload_request, addition_request}
+use Rattle.spec_client.specs.Calls.{value_request, handle_request, write_request, release_request}
+use Rattle.spec_client.specs.Calls.{upload_request, type_info_request, type_upload_request, addition_request}
 use Rattle.spec_client.specs.Entries.{one_entry_in, entries_in, types_in}
 use Rattle.spec_client.specs.Leaves.{Leaf, leaves_of, leaf_line}
 use Rattle.spec_client.specs.LeafTypes.{is_sound_text}
 use Rattle.spec_client.specs.Printed.{line, ok_line, facts_line, state_line, entry_line}
-use Rattle.spec_client.specs.Stages.{Refused, BadValue, ToSend, ToPrint, Purpose, ToGet, ToSet, ToWatch, ToShow, RecordWait, ForEntry, ForNotification, ForDeletion, Recording, Stage, AwaitsFacts, AwaitsState, AwaitsLast, AwaitsEntry, AwaitsValue, AwaitsHandle, AwaitsWrite, AwaitsUploadInfo, AwaitsUpload, AwaitsNotification, Watches, AwaitsTypeInfo, AwaitsTypes, AwaitsLeaves, Records, Progress, progress, stay, ended, ended_at, done_with, bad_text}
+use Rattle.spec_client.specs.Stages.{Refused, BadValue, ToSend, ToPrint, Purpose, ToGet, ToSet, ToWatch}
+use Rattle.spec_client.specs.Stages.{ToShow, RecordWait, ForEntry, ForNotification, ForDeletion, Recording}
+use Rattle.spec_client.specs.Stages.{Stage, AwaitsFacts, AwaitsState, AwaitsLast, AwaitsEntry, AwaitsValue}
+use Rattle.spec_client.specs.Stages.{AwaitsHandle, AwaitsWrite, AwaitsUploadInfo, AwaitsUpload}
+use Rattle.spec_client.specs.Stages.{AwaitsNotification, Watches, AwaitsTypeInfo, AwaitsTypes, AwaitsLeaves}
+use Rattle.spec_client.specs.Stages.{Records, Progress, progress, stay, ended, ended_at, done_with, bad_text}
 use Rattle.spec_client.specs.Recordings.{after_record_entry, after_notification, after_deletion}
 use Rattle.spec_client.specs.ValueReading.{value_of_text}
 

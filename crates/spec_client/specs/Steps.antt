@@ -8,7 +8,9 @@ use Rattle.spec_client.specs.Heard.{Heard, Answered, Sampled, Ended, Broken}
 use Rattle.spec_client.specs.Heard as heard
 use Rattle.spec_client.specs.Calls.{Call, Info, State, Control, Get, Set, Symbols, Watch, Show, Record, entry_request, upload_info_request}
 use Rattle.spec_client.specs.Printed.{ok_line, ended_line, sample_line}
-use Rattle.spec_client.specs.Stages.{BadPeer, TimedOut, ToSend, ToPrint, ToGet, ToSet, ToWatch, ToShow, Stage, AwaitsFacts, AwaitsState, AwaitsLast, AwaitsEntry, AwaitsUploadInfo, Watches, Records, Progress, progress, stay, ended_at, done_with}
+use Rattle.spec_client.specs.Stages.{BadPeer, TimedOut, ToSend, ToPrint, ToGet, ToSet, ToWatch, ToShow, Stage}
+use Rattle.spec_client.specs.Stages.{AwaitsFacts, AwaitsState, AwaitsLast, AwaitsEntry, AwaitsUploadInfo}
+use Rattle.spec_client.specs.Stages.{Watches, Records, Progress, progress, stay, ended_at, done_with}
 use Rattle.spec_client.specs.Recordings.{recording_begun, recorded_at, after_record_sample, after_record_end}
 use Rattle.spec_client.specs.Replies.{after_answer}
 

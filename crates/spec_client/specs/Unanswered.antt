@@ -1,5 +1,6 @@
 -- The requests of a client that are not answered yet, their invoke ids, and when they time out.
-use Rattle.std.specs.Prelude.{ℕ, zero, suc, ◌+◌, ◌-◌, List, [], ◌∷◌, filter, find, count_by, Bool, not, ◌==◌, ◌&&◌, nat_le, nat_lt, Option, Some, None, is_some, is_none}
+use Rattle.std.specs.Prelude.{ℕ, zero, suc, ◌+◌, ◌-◌, List, [], ◌∷◌, filter, find, count_by, Bool, not, ◌==◌}
+use Rattle.std.specs.Prelude.{◌&&◌, nat_le, nat_lt, Option, Some, None, is_some, is_none}
 use Rattle.std.specs.Prelude.{if◌then◌else◌}
 use Rattle.std.specs.Option.{option_and_then}
 use Rattle.std.specs.List.{list_any}

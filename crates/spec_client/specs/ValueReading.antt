@@ -1,5 +1,7 @@
 -- The value that a text is read as: a value is made up from the text, and it is read where the text is that value's own.
-use Rattle.std.specs.Prelude.{ℕ, zero, suc, ◌+◌, ◌-◌, ◌*◌, ◌/◌, ◌%◌, ◌^◌, List, [], ◌∷◌, ◌++◌, length, drop, replicate, slice_index, Bool, ◌&&◌, ◌==◌, nat_lt, Option, Some, None, Result, Ok, Err, is_ok, if◌then◌else◌, bytes_eq, codes, decimal}
+use Rattle.std.specs.Prelude.{ℕ, zero, suc, ◌+◌, ◌-◌, ◌*◌, ◌/◌, ◌%◌, ◌^◌, List, [], ◌∷◌, ◌++◌, length, drop}
+use Rattle.std.specs.Prelude.{replicate, slice_index, Bool, ◌&&◌, ◌==◌, nat_lt, Option, Some, None, Result, Ok}
+use Rattle.std.specs.Prelude.{Err, is_ok, if◌then◌else◌, bytes_eq, codes, decimal}
 use Rattle.std.specs.List.{list_all}
 use Rattle.std.specs.Str.Parse.{digits_value}
 use Rattle.hex.specs.Hex.{decode_of}

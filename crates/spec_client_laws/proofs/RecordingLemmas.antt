@@ -158,7 +158,8 @@ adds_one x ns first kept count n p g = record {
   few = g.few;
   quiet = g.quiet;
   heard = λ known h. g.heard (x.handle ∷ known)
-      (all_with (x.handle ∷ known) ns x (all_more x.handle known ns h) (or_left (x.handle == x.handle) (is_known x.handle known) (eq-eqb x.handle x.handle refl)));
+      (all_with (x.handle ∷ known) ns x (all_more x.handle known ns h)
+      (or_left (x.handle == x.handle) (is_known x.handle known) (eq-eqb x.handle x.handle refl)));
   rows = g.rows;
   stands = g.stands;
 }

@@ -21,7 +21,8 @@ use Rattle.spec_client.specs.LeafTypes.{is_sound_text}
 use Rattle.spec_client.specs.Stages.{CallEnd, Output, ToSend, ToPrint, ToKeep, Purpose, ToGet, ToSet, ToWatch, ToShow, Stage}
 use Rattle.spec_client.specs.Stages.{AwaitsFacts, AwaitsState, AwaitsLast, AwaitsEntry, AwaitsValue, AwaitsHandle}
 use Rattle.spec_client.specs.Stages.{AwaitsWrite, AwaitsUploadInfo, AwaitsUpload, AwaitsNotification, Watches}
-use Rattle.spec_client.specs.Stages.{AwaitsTypeInfo, AwaitsTypes, AwaitsLeaves, RecordWait, ForSamples, Recording, Records, Finished, FinishedRecording, Progress, stay, ended_at}
+use Rattle.spec_client.specs.Stages.{AwaitsTypeInfo, AwaitsTypes, AwaitsLeaves, RecordWait, ForSamples}
+use Rattle.spec_client.specs.Stages.{Recording, Records, Finished, FinishedRecording, Progress, stay, ended_at}
 use Rattle.spec_client.specs.Replies.{bytes_given, handle_given, after_value_read, after_entry, after_entry_read}
 use Rattle.spec_client.specs.Replies.{after_upload, after_types, after_reply, after_answer}
 use Rattle.spec_client.specs.Recordings.{recorded_at}
@@ -87,7 +88,8 @@ plain_upload (Some entries) payload = plain_prints _ _ entries
 plain_types : (name : List ℕ) (e : SymbolEntry) (o : Option (List TypeEntry)) (payload : List ℕ) → Plain (after_types name e o payload)
 plain_types name e None payload = plain_end _
 plain_types name e (Some types) payload =
-    if_both Plain (is_sound_text types e.size (type_text_of e.type_name)) _ _ (λ t. record { other = refl; apart = refl; few = omega arith; none = refl }) (λ t. plain_end _)
+    if_both Plain (is_sound_text types e.size (type_text_of e.type_name)) _ _
+    (λ t. record { other = refl; apart = refl; few = omega arith; none = refl }) (λ t. plain_end _)
 
 -- a reply: a plain progress; or the notification that it gave a handle of is listened to; or nothing changes
 pub record Listens (reply : Reply) (p : Progress) : Type 0 where
@@ -120,7 +122,8 @@ reply_case AwaitsState reply payload = inl (record { other = refl; apart = refl;
 reply_case (AwaitsLast text) reply payload = inl (plain_last text reply payload)
 reply_case (AwaitsEntry purpose name) reply payload = inl (plain_entry_read purpose name (one_entry_in (bytes_given reply)) payload)
 reply_case (AwaitsValue e) reply payload =
-    inl (if_both Plain (length (bytes_given reply) == e.size) _ _ (λ t. record { other = refl; apart = refl; few = omega arith; none = refl }) (λ t. plain_end _))
+    inl (if_both Plain (length (bytes_given reply) == e.size) _ _
+    (λ t. record { other = refl; apart = refl; few = omega arith; none = refl }) (λ t. plain_end _))
 reply_case (AwaitsHandle value) reply payload =
     inl (if_both Plain (length (bytes_given reply) == 4) _ _ (λ t. record { other = refl; apart = refl; few = omega arith; none = refl }) (λ t. plain_end _))
 reply_case (AwaitsWrite handle) reply payload = inl (record { other = refl; apart = refl; few = omega arith; none = refl })

@@ -17,7 +17,11 @@ use Rattle.spec_client.specs.Heard.{Heard, Answered, Stray, StampedSample, sampl
 use Rattle.spec_client.specs.Unanswered.{Unanswered, is_outstanding_at, next_timeout, without_first}
 use Rattle.spec_client.specs.PassedOver.{is_response, notification_says, header_says, says_something, is_any}
 use Rattle.spec_client.specs.Client.{Client, client_after_feed, packets_left}
-use Rattle.spec_client.specs.Hearing.{Hearing, hearing, broken_hearing, is_answer, is_off_its_text, response_hearing, samples_hearing, notification_hearing, header_hearing, packet_hearing, rest_hearing, with_one_taken, packets_hearing, hearing_of_samples, hearing_unless_broken, hearing_of_timeout, next_hearing}
+use Rattle.spec_client.specs.Hearing.{Hearing, hearing, broken_hearing, is_answer, is_off_its_text}
+use Rattle.spec_client.specs.Hearing.{response_hearing, samples_hearing, notification_hearing, header_hearing}
+use Rattle.spec_client.specs.Hearing.{packet_hearing, rest_hearing, with_one_taken, packets_hearing}
+use Rattle.spec_client.specs.Hearing.{hearing_of_samples, hearing_unless_broken, hearing_of_timeout}
+use Rattle.spec_client.specs.Hearing.{next_hearing}
 use Rattle.spec_client.specs.Runner.{is_not_yet}
 
 -- what is heard, where more bytes came
@@ -34,11 +38,13 @@ record IsHeard (more : List ℕ) (o fed_o : Option Hearing) : Type 0 where
 heard_so : (more : List ℕ) (x : Hearing) → is_not_yet x.heard ≡ false → IsHeard more (Some x) (Some (fed x more))
 heard_so more x some = record { x = x; is = refl; longer = refl; some = some }
 
-either_heard : (more : List ℕ) (b : Bool) (o p o' p' : Option Hearing) → (b ≡ true → IsHeard more o o') → (b ≡ false → IsHeard more p p') → IsHeard more (if b then o else p) (if b then o' else p')
+either_heard : (more : List ℕ) (b : Bool) (o p o' p' : Option Hearing) → (b ≡ true → IsHeard more o o')
+    → (b ≡ false → IsHeard more p p') → IsHeard more (if b then o else p) (if b then o' else p')
 either_heard more true o p o' p' first second = first refl
 either_heard more false o p o' p' first second = second refl
 
-one_heard : (more : List ℕ) (b : Bool) (x y x' y' : Hearing) → IsHeard more (Some x) (Some x') → IsHeard more (Some y) (Some y') → IsHeard more (Some (if b then x else y)) (Some (if b then x' else y'))
+one_heard : (more : List ℕ) (b : Bool) (x y x' y' : Hearing) → IsHeard more (Some x) (Some x')
+    → IsHeard more (Some y) (Some y') → IsHeard more (Some (if b then x else y)) (Some (if b then x' else y'))
 one_heard more true x y x' y' first second = first
 one_heard more false x y x' y' first second = second
 
@@ -46,24 +52,29 @@ sample_heard : (b : Bool) (x y : Heard) → is_not_yet x ≡ false → is_not_ye
 sample_heard true x y first second = first
 sample_heard false x y first second = second
 
-response_heard : (c : Client) (more : List ℕ) (h : AmsHeader) (packet : List ℕ) → IsHeard more (Some (response_hearing c h packet)) (Some (response_hearing (client_after_feed c more) h packet))
+response_heard : (c : Client) (more : List ℕ) (h : AmsHeader) (packet : List ℕ)
+    → IsHeard more (Some (response_hearing c h packet)) (Some (response_hearing (client_after_feed c more) h packet))
 response_heard c more h packet =
     one_heard more (is_answer c h) _ _ _ _
     (one_heard more (is_off_its_text h (payload_of packet)) _ _ _ _ (heard_so more (broken_hearing c (peer.Text packet)) refl)
-    (heard_so more (hearing (Answered h.id h.error h.command (payload_of packet)) (record c { unanswered = without_first (is_outstanding_at h.id) c.unanswered })) refl))
+    (heard_so more (hearing (Answered h.id h.error h.command (payload_of packet))
+    (record c { unanswered = without_first (is_outstanding_at h.id) c.unanswered })) refl))
     (heard_so more (hearing (Stray h.id) c) refl)
 
-samples_heard : (c : Client) (more : List ℕ) (ss : List StampedSample) → is_any ss ≡ true → IsHeard more (samples_hearing c ss) (samples_hearing (client_after_feed c more) ss)
+samples_heard : (c : Client) (more : List ℕ) (ss : List StampedSample) → is_any ss ≡ true
+    → IsHeard more (samples_hearing c ss) (samples_hearing (client_after_feed c more) ss)
 samples_heard c more [] says = absurd (let e : false ≡ true = says in cc)
 samples_heard c more (s ∷ ss) says =
     heard_so more (hearing (heard_of_sample s) (record c { samples = ss }))
     (sample_heard (length s.sample.bytes == 0) (Ended s.sample.handle) (Sampled s.sample.handle s.time s.sample.bytes) refl refl)
 
-notification_heard : (c : Client) (more packet : List ℕ) (o : Option (List Stamp)) → notification_says o ≡ true → IsHeard more (notification_hearing c packet o) (notification_hearing (client_after_feed c more) packet o)
+notification_heard : (c : Client) (more packet : List ℕ) (o : Option (List Stamp)) → notification_says o ≡ true
+    → IsHeard more (notification_hearing c packet o) (notification_hearing (client_after_feed c more) packet o)
 notification_heard c more packet None says = heard_so more (broken_hearing c (peer.Text packet)) refl
 notification_heard c more packet (Some stamps) says = samples_heard c more (samples_of_stamps stamps) says
 
-header_heard : (c : Client) (more : List ℕ) (o : Option AmsHeader) (packet : List ℕ) → header_says o packet ≡ true → IsHeard more (header_hearing c o packet) (header_hearing (client_after_feed c more) o packet)
+header_heard : (c : Client) (more : List ℕ) (o : Option AmsHeader) (packet : List ℕ) → header_says o packet ≡ true
+    → IsHeard more (header_hearing c o packet) (header_hearing (client_after_feed c more) o packet)
 header_heard c more None packet says = absurd (let e : false ≡ true = says in cc)
 header_heard c more (Some h) packet says =
     either_heard more (not (32 + h.len == length packet)) _ _ _ _ (λ wrong. heard_so more (broken_hearing c (peer.Text packet)) refl)
@@ -72,7 +83,8 @@ header_heard c more (Some h) packet says =
     (λ is. notification_heard c more packet (notification_of (payload_of packet)) (rw (right, other, is) at says))
     (λ not_so. absurd (let e : false ≡ true = rw (right, other, not_so) at says in cc))))
 
-packet_heard : (c : Client) (more packet : List ℕ) → says_something packet ≡ true → IsHeard more (packet_hearing c packet) (packet_hearing (client_after_feed c more) packet)
+packet_heard : (c : Client) (more packet : List ℕ) → says_something packet ≡ true
+    → IsHeard more (packet_hearing c packet) (packet_hearing (client_after_feed c more) packet)
 unfolding packet_hearing says_something
 packet_heard c more packet says = header_heard c more (header_of packet) packet says
 
@@ -99,13 +111,15 @@ drop_some-append (suc n) (x ∷ xs) y ys zs e = drop_some-append n xs y ys zs e
 abbrev new_frames : Client → List ℕ → List (List ℕ)
 new_frames c more = frames_of (rest_of c.received ++ more)
 
-says_more : (c : Client) (more : List ℕ) → filter says_something (frames_of (c.received ++ more)) ≡ filter says_something (frames_of c.received) ++ filter says_something (new_frames c more)
+says_more : (c : Client) (more : List ℕ)
+    → filter says_something (frames_of (c.received ++ more)) ≡ filter says_something (frames_of c.received) ++ filter says_something (new_frames c more)
 says_more c more = ap (filter says_something) (frames_of-append more c.received) ∙ filter-append says_something (frames_of c.received) (new_frames c more)
 
 packets_more : (c : Client) (more packet : List ℕ) (packets : List (List ℕ)) → packets_left c ≡ packet ∷ packets
     → packets_left (client_after_feed c more) ≡ packet ∷ packets ++ filter says_something (new_frames c more)
 packets_more c more packet packets e =
-    ap (drop c.taken) (says_more c more) ∙ drop_some-append c.taken (filter says_something (frames_of c.received)) packet packets (filter says_something (new_frames c more)) e
+    ap (drop c.taken) (says_more c more)
+    ∙ drop_some-append c.taken (filter says_something (frames_of c.received)) packet packets (filter says_something (new_frames c more)) e
 
 -- nothing comes behind a broken rest
 broken_new : (c : Client) (more : List ℕ) → front_of (rest_of c.received) ≡ Broken → new_frames c more ≡ []
@@ -120,7 +134,8 @@ broken_rest c more broken =
 
 broken_left : (c : Client) (more : List ℕ) → front_of (rest_of c.received) ≡ Broken → packets_left c ≡ [] → packets_left (client_after_feed c more) ≡ []
 broken_left c more broken none =
-    ap (drop c.taken) (says_more c more ∙ ap (λ l. filter says_something (frames_of c.received) ++ filter says_something l) (broken_new c more broken) ∙ append-nil (filter says_something (frames_of c.received))) ∙ none
+    ap (drop c.taken) (says_more c more ∙ ap (λ l. filter says_something (frames_of c.received) ++ filter says_something l) (broken_new c more broken)
+    ∙ append-nil (filter says_something (frames_of c.received))) ∙ none
 
 same_rest : (c : Client) (more : List ℕ) (f : Front) → front_of (rest_of c.received) ≡ f → packets_left c ≡ [] → is_not_yet (rest_hearing c f).heard ≡ false
     → packets_hearing (client_after_feed c more) (packets_left (client_after_feed c more)) ≡ fed (rest_hearing c f) more
@@ -163,7 +178,8 @@ same_timeout c more (Some u) some = refl
 same_timeout c more None some = same_unless_broken c more c.broken some
 
 -- what is heard is heard, whatever comes behind it
-pub heard_as_fed : (c : Client) (more : List ℕ) → is_not_yet (next_hearing c).heard ≡ false → next_hearing (client_after_feed c more) ≡ fed (next_hearing c) more
+pub heard_as_fed : (c : Client) (more : List ℕ) → is_not_yet (next_hearing c).heard ≡ false
+    → next_hearing (client_after_feed c more) ≡ fed (next_hearing c) more
 unfolding next_hearing
 heard_as_fed c more some = same_timeout c more (next_timeout c.unanswered) some
 
@@ -173,7 +189,8 @@ still_front c Whole waits = refl
 still_front c Open waits = refl
 still_front c Broken waits = absurd (let h : false ≡ true = waits in cc)
 
-still_packets : (c : Client) (packets : List (List ℕ)) → packets_left c ≡ packets → is_not_yet (packets_hearing c packets).heard ≡ true → (packets_hearing c packets).client ≡ c
+still_packets : (c : Client) (packets : List (List ℕ)) → packets_left c ≡ packets
+    → is_not_yet (packets_hearing c packets).heard ≡ true → (packets_hearing c packets).client ≡ c
 unfolding packets_hearing
 still_packets c [] e waits = still_front c (front_of (rest_of c.received)) waits
 still_packets c (packet ∷ packets) e waits =

@@ -10,7 +10,9 @@ use Rattle.spec_client.specs.Client.{Client, is_full, next_id, with_request, cli
 use Rattle.spec_client.specs.Hearing.{Hearing, next_hearing, hearings_left}
 use Rattle.spec_client.specs.Stages.{Output, ToSend, ToPrint, ToKeep, Stage, Finished, FinishedRecording, stay}
 use Rattle.spec_client.specs.Steps.{after_heard}
-use Rattle.spec_client.specs.Runner.{Runner, Wait, Turned, turned, Turns, runner_after_hearing, runner_after_feed, is_not_yet, given, is_over, turn, after_step, joined, turns}
+use Rattle.spec_client.specs.Runner.{Runner, Wait, Turned, turned, Turns, runner_after_hearing}
+use Rattle.spec_client.specs.Runner.{runner_after_feed, is_not_yet, given, is_over, turn, after_step, joined}
+use Rattle.spec_client.specs.Runner.{turns}
 use Rattle.spec_client.specs.Unanswered.{Unanswered, is_timed_out}
 use Rattle.spec_client.specs.Laws.{goes_on, turn_hearing, turn_of_stage, turns_behind}
 use Rattle.spec_client.proofs.Hearings.{hearings_fall}
@@ -67,7 +69,8 @@ still_runner : (c : Client) (stage : Stage) → is_not_yet (next_hearing c).hear
 unfolding runner_after_hearing
 still_runner c stage waits = rw (still_client c waits, stays stage (next_hearing c).heard waits) refl
 
-pub turns_wait : (now : ℕ) (c : Client) (stage : Stage) → is_over stage ≡ false → is_not_yet (next_hearing c).heard ≡ true → turns now (at c stage []) ≡ still c stage
+pub turns_wait : (now : ℕ) (c : Client) (stage : Stage) → is_over stage ≡ false
+    → is_not_yet (next_hearing c).heard ≡ true → turns now (at c stage []) ≡ still c stage
 turns_wait now c stage on waits =
     let x = next_hearing c in
     unfolded now (at c stage []) (turned Wait (runner_after_hearing stage x))
@@ -165,12 +168,14 @@ none_pending now r = by_turns now (λ r ts. ts.runner.pending ≡ []) (record {
 }) r
 
 fed_issue : (c : Client) (request : Request) (id now : ℕ) (more : List ℕ) (b : Bool)
-    → (if b then client_after_feed c more else with_request (client_after_feed c more) id request now) ≡ client_after_feed (if b then c else with_request c id request now) more
+    → (if b then client_after_feed c more else with_request (client_after_feed c more) id request now)
+    ≡ client_after_feed (if b then c else with_request c id request now) more
 fed_issue c request id now more true = refl
 fed_issue c request id now more false = refl
 
 fed_given : (now : ℕ) (c : Client) (stage : Stage) (o : Output) (os : List Output) (more : List ℕ)
-    → given now o (at (client_after_feed c more) stage os) ≡ turned (given now o (at c stage os)).step (runner_after_feed (given now o (at c stage os)).runner more)
+    → given now o (at (client_after_feed c more) stage os) ≡ turned
+    (given now o (at c stage os)).step (runner_after_feed (given now o (at c stage os)).runner more)
 unfolding given client_after_issue
 fed_given now c stage (ToSend request) os more =
     ap (λ (d : Client). turned (given now (ToSend request) (at c stage os)).step (at d stage os)) (fed_issue c request (next_id c) now more (is_full c))

@@ -7,7 +7,9 @@ use Rattle.spec_samples.specs.Row.{Row}
 use Rattle.spec_client.specs.Client.{client_after_feed, client_after_tick}
 use Rattle.spec_client.specs.Stages.{Stage, Finished, FinishedRecording}
 use Rattle.spec_client.specs.Runner.{Runner, CallStep, Send, Print, Keep, Wait, Over, Turns, is_over, joined, runner_after_feed, runner_after_tick, turns}
-use Rattle.spec_client.specs.Conversation.{LinkAnswer, Bytes, Quiet, Closed, LoopEnd, Conversation, MAX_ANSWERS, printed_by, kept_by, end_of_stage, runner_after_answer, conversation_after}
+use Rattle.spec_client.specs.Conversation.{LinkAnswer, Bytes, Quiet, Closed, LoopEnd, Conversation}
+use Rattle.spec_client.specs.Conversation.{MAX_ANSWERS, printed_by, kept_by, end_of_stage, runner_after_answer}
+use Rattle.spec_client.specs.Conversation.{conversation_after}
 use Rattle.spec_client.specs.CallOver.{conversation_after_all}
 use Rattle.spec_client.proofs.TurnsUnfolded.{at}
 use Rattle.spec_local.proofs.Scenes.{over_stays, one_more}
@@ -62,7 +64,8 @@ bytes_behind : (v : View) (ts : Turns) (bytes : List ℕ) (now : ℕ) → view_b
 bytes_behind v ts bytes now = ap (bytes_view v ts) (no_end (end_of_stage ts.runner.stage) bytes now)
 
 -- turns behind turns that ended a call
-ended_turns : (now : ℕ) (more : List ℕ) (r : Runner) → is_over r.stage ≡ true → r.pending ≡ [] → turns now (runner_after_feed r more) ≡ still (client_after_feed r.client more) r.stage
+ended_turns : (now : ℕ) (more : List ℕ) (r : Runner) → is_over r.stage ≡ true → r.pending ≡ []
+    → turns now (runner_after_feed r more) ≡ still (client_after_feed r.client more) r.stage
 ended_turns now more r over none =
     ap (λ os. turns now (at (client_after_feed r.client more) r.stage os)) none ∙ turns_over now (client_after_feed r.client more) r.stage over
 
@@ -96,13 +99,15 @@ cut_going_on v now bytes other ts us =
 -- both parts of what came, one after the other
 cut_parts : (v : View) (now : ℕ) (first second : List ℕ) (o : Option LoopEnd) → let r = runner_after_answer v.runner (Bytes first now) in
     end_of_stage (turns now r).runner.stage ≡ o
-    → view_after (bytes_view v (turns now r) o) (Bytes second now) ≡ view_behind v (Bytes (first ++ second) now) (joined (turns now r).steps (turns now (runner_after_feed (turns now r).runner second)))
+    → view_after (bytes_view v (turns now r) o) (Bytes second now) ≡ view_behind v (Bytes (first ++ second) now)
+    (joined (turns now r).steps (turns now (runner_after_feed (turns now r).runner second)))
 unfolding client_after_tick view_after
 cut_parts v now first second (Some e) is = cut_ended v now second (first ++ second) (runner_after_answer v.runner (Bytes first now)) e is
 cut_parts v now first second None is =
     let r = runner_after_answer v.runner (Bytes first now) in
     let ts = turns now r in
-    ap (λ s. view_behind (bytes_view v ts None) (Bytes second now) (turns now (runner_after_feed s second))) (ticked_again now v.runner (v.runner.client.received ++ first))
+    ap (λ s. view_behind (bytes_view v ts None) (Bytes second now) (turns now (runner_after_feed s second)))
+    (ticked_again now v.runner (v.runner.client.received ++ first))
     ∙ cut_going_on v now (first ++ second) second ts (turns now (runner_after_feed ts.runner second))
 
 cut_so : (v : View) (now : ℕ) (first second : List ℕ) (o : Option LoopEnd) → v.end ≡ o
@@ -115,10 +120,12 @@ cut_so v now first second None is =
     ap (λ w. view_after w (Bytes second now)) (bytes_behind v ts first now)
     ∙ cut_parts v now first second (end_of_stage ts.runner.stage) refl
     ∙ ap (view_behind v (Bytes (first ++ second) now)) (sym (turns_fed now second r)
-    ∙ ap (λ bytes. turns now (record v.runner { client = record (runner_after_tick v.runner now).client { received = bytes } })) (append_assoc v.runner.client.received first second))
+    ∙ ap (λ bytes. turns now (record v.runner { client = record (runner_after_tick v.runner now).client { received = bytes } }))
+    (append_assoc v.runner.client.received first second))
 
 -- an answer that is cut in two
-pub cut_in_two : (v : View) (now : ℕ) (first second : List ℕ) → view_after (view_after v (Bytes first now)) (Bytes second now) ≡ view_after v (Bytes (first ++ second) now)
+pub cut_in_two : (v : View) (now : ℕ) (first second : List ℕ)
+    → view_after (view_after v (Bytes first now)) (Bytes second now) ≡ view_after v (Bytes (first ++ second) now)
 unfolding view_after
 cut_in_two v now first second = cut_so v now first second v.end refl
 
@@ -127,10 +134,12 @@ view_after_all v [] = v
 view_after_all v (a ∷ ds) = view_after_all (view_after v a) ds
 
 joined_so : (v : View) (bytes more : List ℕ) (now later : ℕ) (ds : List LinkAnswer) (b : Bool) → (now == later) ≡ b
-    → view_after_all v (if b then Bytes (bytes ++ more) now ∷ ds else Bytes bytes now ∷ Bytes more later ∷ ds) ≡ view_after_all (view_after v (Bytes bytes now)) (Bytes more later ∷ ds)
+    → view_after_all v (if b then Bytes (bytes ++ more) now ∷ ds else Bytes bytes now ∷ Bytes more later ∷ ds)
+    ≡ view_after_all (view_after v (Bytes bytes now)) (Bytes more later ∷ ds)
 joined_so v bytes more now later ds false differs = refl
 joined_so v bytes more now later ds true is =
-    ap (λ w. view_after_all w ds) (sym (cut_in_two v now bytes more) ∙ ap (λ t. view_after (view_after v (Bytes bytes now)) (Bytes more t)) (eqb-true now later is))
+    ap (λ w. view_after_all w ds)
+    (sym (cut_in_two v now bytes more) ∙ ap (λ t. view_after (view_after v (Bytes bytes now)) (Bytes more t)) (eqb-true now later is))
 
 before_same : (v : View) (a : LinkAnswer) (ds : List LinkAnswer) → view_after_all v (before a ds) ≡ view_after_all (view_after v a) ds
 before_same v (Bytes bytes now) [] = refl
@@ -160,7 +169,8 @@ unfolding conversation_after_all
 all_count_up c [] = omega arith
 all_count_up c (a ∷ ds) = let one = counts_up c a in let more = all_count_up (conversation_after c a) ds in omega (arith, one, more)
 
-all_views : (c : Conversation) (ds : List LinkAnswer) → (conversation_after_all c ds).answers ≤ MAX_ANSWERS → view (conversation_after_all c ds) ≡ view_after_all (view c) ds
+all_views : (c : Conversation) (ds : List LinkAnswer) → (conversation_after_all c ds).answers ≤ MAX_ANSWERS
+    → view (conversation_after_all c ds) ≡ view_after_all (view c) ds
 unfolding conversation_after_all
 all_views c [] few = refl
 all_views c (a ∷ ds) few =

@@ -9,7 +9,8 @@ use Rattle.spec_machine.specs.MachineState.{MachineState}
 use Rattle.spec_machine.specs.Offers.{is_closing_at}
 use Rattle.spec_client.specs.Calls.{Call}
 use Rattle.spec_client.specs.Conversation.{Sent, LoopEnd, Conversation, MAX_ANSWERS, conversation_after, conversation_after_turns}
-use Rattle.spec_local.specs.LocalCall.{Cutting, LocalScene, Answered, machine_after_pieces, scene_after, answer_in, scene_behind, scene_begun, scene_after_answers, local_call}
+use Rattle.spec_local.specs.LocalCall.{Cutting, LocalScene, Answered, machine_after_pieces, scene_after}
+use Rattle.spec_local.specs.LocalCall.{answer_in, scene_behind, scene_begun, scene_after_answers, local_call}
 use Rattle.spec_local.specs.LinkLog.{cutting_of}
 use Rattle.spec_local.proofs.CallLogs.{calls_are_local}
 use Rattle.spec_local.proofs.Scenes.{one_more, scene_stays, scene_goes_on}
@@ -17,7 +18,8 @@ use Rattle.spec_cutting.specs.Joining.{bytes_sent, IsSameCall}
 use Rattle.spec_cutting.specs.Laws.{byte_by_byte, ClosesAlone, HasRoom, CuttingsAreOne, LinksAreOne}
 use Rattle.spec_cutting.proofs.Views.{View, view, view_after, view_after_answer, view_end}
 use Rattle.spec_cutting.proofs.JoinedCalls.{end_cases, view_sent, same_views}
-use Rattle.spec_cutting.proofs.LocalScenes.{Scene, seen_by, seen, new_requests, next, steps, ClosesAloneIn, AllCloseAlone, steps-add, over_steps, seen_on, answer_steps}
+use Rattle.spec_cutting.proofs.LocalScenes.{Scene, seen_by, seen, new_requests, next, steps, ClosesAloneIn}
+use Rattle.spec_cutting.proofs.LocalScenes.{AllCloseAlone, steps-add, over_steps, seen_on, answer_steps}
 use Rattle.spec_cutting.proofs.Takes.{behind_pieces}
 
 -- sums and orders of the counts below
@@ -143,7 +145,8 @@ some_is_none o x some none = cc
 
 over_scene : {W C : Type 0} (x : LocalScene W C) → (scene_of x).machine ≡ None → x.conversation.end ≡ None → ⊥
 over_scene {W} {C} x over on =
-    some_is_none (scene_of x).machine x.machine (ap (λ o. (seen_by {W = W} {C = C} o x.machine (view x.conversation)).machine) (view_end x.conversation ∙ on)) over
+    some_is_none (scene_of x).machine x.machine
+    (ap (λ o. (seen_by {W = W} {C = C} o x.machine (view x.conversation)).machine) (view_end x.conversation ∙ on)) over
 
 abbrev run : {W C : Type 0} → Device W C → ℕ → LocalScene W C → LocalScene W C
 run device n x = scene_after_answers (state_after_event device) byte_by_byte n x
@@ -151,7 +154,8 @@ run device n x = scene_after_answers (state_after_event device) byte_by_byte n x
 abbrev count : {W C : Type 0} → LocalScene W C → ℕ
 count x = x.conversation.answers
 
-one_counted : {W C : Type 0} (device : Device W C) (cutting : Cutting) (x : LocalScene W C) → x.conversation.end ≡ None → count (scene_behind (state_after_event device) cutting x) ≡ count x + 1
+one_counted : {W C : Type 0} (device : Device W C) (cutting : Cutting) (x : LocalScene W C)
+    → x.conversation.end ≡ None → count (scene_behind (state_after_event device) cutting x) ≡ count x + 1
 unfolding scene_after
 one_counted device cutting x on = one_more x.conversation (answer_in (state_after_event device) cutting x).answer on
 
@@ -171,7 +175,8 @@ run_counts {W} {C} device (suc n) x = elim (end_cases x.conversation.end) [
 ]
 
 -- the scenes of the call byte by byte, one after another
-run_is_steps : {W C : Type 0} (device : Device W C) (n : ℕ) (x : LocalScene W C) → count (run device n x) ≤ MAX_ANSWERS → scene_of (run device n x) ≡ steps device n (scene_of x)
+run_is_steps : {W C : Type 0} (device : Device W C) (n : ℕ) (x : LocalScene W C)
+    → count (run device n x) ≤ MAX_ANSWERS → scene_of (run device n x) ≡ steps device n (scene_of x)
 unfolding scene_after_answers
 run_is_steps device zero x few = refl
 run_is_steps {W} {C} device (suc n) x few = elim (end_cases x.conversation.end) [
@@ -230,7 +235,8 @@ ends_so {W} {C} device (suc n) x = elim (end_cases x.conversation.end) [
 ]
 
 -- behind the end nothing more is counted
-counts_within : {W C : Type 0} (device : Device W C) (n m : ℕ) (x : LocalScene W C) (e : LoopEnd) → (run device n x).conversation.end ≡ Some e → count (run device m x) ≤ count (run device n x)
+counts_within : {W C : Type 0} (device : Device W C) (n m : ℕ) (x : LocalScene W C) (e : LoopEnd)
+    → (run device n x).conversation.end ≡ Some e → count (run device m x) ≤ count (run device n x)
 unfolding scene_after_answers
 counts_within device n zero x e ends = run_counts device n x
 counts_within {W} {C} device zero (suc m) x e ends =
@@ -268,12 +274,14 @@ cut_runs {W} {C} device cutting (suc n) (suc left) x within over few alone = eli
       let step = state_after_event device in
       let y = scene_behind step cutting x in
       let most = cutting (count x) in
-      let here : scene_of x ≡ record { machine = Some x.machine; view = view x.conversation } = seen_on x.machine (view x.conversation) (view_end x.conversation ∙ on) in
+      let here : scene_of x ≡ record { machine = Some x.machine; view = view x.conversation } =
+      seen_on x.machine (view x.conversation) (view_end x.conversation ∙ on) in
       let one = one_counted device cutting x on in
       let r = answer_steps device most (view x.conversation) x.machine (subst (ClosesAloneIn device) here (alone 0))
       (subst (λ z. AllCloseAlone device (next device 0 z)) here (λ m. alone (suc m))) in
       let there : scene_of y ≡ steps device (suc r.steps_of) (scene_of x)
-      = scene_next device cutting x on (room_left (count x) left MAX_ANSWERS few) ∙ ap (next device most) here ∙ r.is ∙ ap (λ z. steps device r.steps_of (next device 0 z)) (sym here) in
+      = scene_next device cutting x on (room_left (count x) left MAX_ANSWERS few)
+      ∙ ap (next device most) here ∙ r.is ∙ ap (λ z. steps device r.steps_of (next device 0 z)) (sym here) in
       let again : (m : ℕ) → steps device m (scene_of y) ≡ steps device (suc r.steps_of + m) (scene_of x)
       = λ m. ap (steps device m) there ∙ sym (steps-add device (suc r.steps_of) m (scene_of x)) in
       let goes = ap (λ z. scene_of z) (scene_goes_on step cutting n x on) in
@@ -282,20 +290,24 @@ cut_runs {W} {C} device cutting (suc n) (suc left) x within over few alone = eli
             let d = suc r.steps_of - suc left in
             let sum : suc r.steps_of ≡ suc left + d = difference (suc left) (suc r.steps_of) passed in
             let end_is : scene_of y ≡ steps device (suc left) (scene_of x)
-            = there ∙ ap (λ m. steps device m (scene_of x)) sum ∙ steps-add device (suc left) d (scene_of x) ∙ over_steps device d (steps device (suc left) (scene_of x)) over in
-            goes ∙ cut_runs device cutting n 0 y (below_zero n) (ap (λ (z : Scene W C). z.machine) end_is ∙ over) (one_left (count x) (count y) left MAX_ANSWERS one few)
+            = there ∙ ap (λ m. steps device m (scene_of x)) sum ∙ steps-add device (suc left) d (scene_of x)
+            ∙ over_steps device d (steps device (suc left) (scene_of x)) over in
+            goes ∙ cut_runs device cutting n 0 y (below_zero n) (ap (λ (z : Scene W C). z.machine) end_is ∙ over)
+            (one_left (count x) (count y) left MAX_ANSWERS one few)
             (λ m. subst (ClosesAloneIn device) (sym (again m)) (alone (suc r.steps_of + m))) ∙ end_is
         | inl not_yet ↦
             let d = suc left - suc r.steps_of in
             let sum : suc r.steps_of + d ≡ suc left = difference_yet (suc r.steps_of) (suc left) not_yet in
             let end_is : steps device d (scene_of y) ≡ steps device (suc left) (scene_of x) = again d ∙ ap (λ m. steps device m (scene_of x)) sum in
-            goes ∙ cut_runs device cutting n d y (rest_within r.steps_of d left n sum within) (ap (λ (z : Scene W C). z.machine) end_is ∙ over) (rest_left (count x) (count y) r.steps_of d left MAX_ANSWERS one sum few)
+            goes ∙ cut_runs device cutting n d y (rest_within r.steps_of d left n sum within)
+            (ap (λ (z : Scene W C). z.machine) end_is ∙ over) (rest_left (count x) (count y) r.steps_of d left MAX_ANSWERS one sum few)
             (λ m. subst (ClosesAloneIn device) (sym (again m)) (alone (suc r.steps_of + m))) ∙ end_is
       ]
 ]
 
 -- the premise, in views
-alone_so : {W C : Type 0} (device : Device W C) (x : LocalScene W C) → (x.conversation.end ≡ None → count x < MAX_ANSWERS) → ClosesAlone (state_after_event device) x → ClosesAloneIn device (scene_of x)
+alone_so : {W C : Type 0} (device : Device W C) (x : LocalScene W C) → (x.conversation.end ≡ None → count x < MAX_ANSWERS)
+    → ClosesAlone (state_after_event device) x → ClosesAloneIn device (scene_of x)
 unfolding scene_after
 alone_so {W} {C} device x few alone = elim (end_cases x.conversation.end) [
   | inr over ↦ subst (ClosesAloneIn device) (sym (ap (λ o. seen_by o x.machine (view x.conversation)) (view_end x.conversation ∙ over.1))) tt
@@ -307,7 +319,8 @@ alone_so {W} {C} device x few alone = elim (end_cases x.conversation.end) [
 ]
 
 -- where it goes on, more is counted to come
-goes_on_within : {W C : Type 0} (device : Device W C) (n m : ℕ) (x : LocalScene W C) (e : LoopEnd) → (run device n x).conversation.end ≡ Some e → (run device m x).conversation.end ≡ None
+goes_on_within : {W C : Type 0} (device : Device W C) (n m : ℕ) (x : LocalScene W C) (e : LoopEnd)
+    → (run device n x).conversation.end ≡ Some e → (run device m x).conversation.end ≡ None
     → count (run device m x) < count (run device n x)
 unfolding scene_after_answers
 goes_on_within device zero zero x e ends on = absurd (some_none x.conversation.end e ends on)
@@ -317,7 +330,8 @@ goes_on_within {W} {C} device (suc n) zero x e ends on =
     let more = run_counts device n (scene_behind (state_after_event device) byte_by_byte x) in
     one_up _ _ _ _ goes one more
 goes_on_within {W} {C} device zero (suc m) x e ends on =
-    absurd (some_none x.conversation.end e ends (sym (ap (λ (z : LocalScene W C). z.conversation.end) (scene_stays (state_after_event device) byte_by_byte (suc m) x e ends)) ∙ on))
+    absurd (some_none x.conversation.end e ends
+    (sym (ap (λ (z : LocalScene W C). z.conversation.end) (scene_stays (state_after_event device) byte_by_byte (suc m) x e ends)) ∙ on))
 goes_on_within {W} {C} device (suc n) (suc m) x e ends on = elim (end_cases x.conversation.end) [
   | inl begun ↦
       let y = scene_behind (state_after_event device) byte_by_byte x in
@@ -325,7 +339,8 @@ goes_on_within {W} {C} device (suc n) (suc m) x e ends on = elim (end_cases x.co
       let goes_too = scene_goes_on (state_after_event device) byte_by_byte m x begun in
       let first = counted _ _ goes in
       let second = counted _ _ goes_too in
-      let less = goes_on_within device n m y e (sym (ap (λ (z : LocalScene W C). z.conversation.end) goes) ∙ ends) (sym (ap (λ (z : LocalScene W C). z.conversation.end) goes_too) ∙ on) in
+      let less = goes_on_within device n m y e (sym (ap (λ (z : LocalScene W C). z.conversation.end) goes) ∙ ends)
+      (sym (ap (λ (z : LocalScene W C). z.conversation.end) goes_too) ∙ on) in
       both_up_yet _ _ _ _ first second less
   | inr over ↦
       absurd (some_none x.conversation.end over.0 over.1
@@ -336,12 +351,14 @@ seen_view : {W C : Type 0} (o : Option LoopEnd) (s : MachineState W C) (v : View
 seen_view None s v = refl
 seen_view (Some e) s v = refl
 
-begun_counts : {W C : Type 0} (device : Device W C) (s : MachineState W C) (me peer : AmsAddress) (call : Call) → count (scene_begun (state_after_event device) s me peer call) ≡ 1
+begun_counts : {W C : Type 0} (device : Device W C) (s : MachineState W C) (me peer : AmsAddress) (call : Call)
+    → count (scene_begun (state_after_event device) s me peer call) ≡ 1
 unfolding conversation_after_turns
 begun_counts device s me peer call = refl
 
 -- a call that ends within so many answers, byte by byte
-one_cutting : {W C : Type 0} (device : Device W C) (cutting : Cutting) (n : ℕ) (x : LocalScene W C) → count x ≡ 1 → n ≡ MAX_ANSWERS → count (run device n x) ≤ MAX_ANSWERS
+one_cutting : {W C : Type 0} (device : Device W C) (cutting : Cutting) (n : ℕ) (x : LocalScene W C)
+    → count x ≡ 1 → n ≡ MAX_ANSWERS → count (run device n x) ≤ MAX_ANSWERS
     → ((m : ℕ) → ClosesAlone (state_after_event device) (run device m x))
     → IsSameCall (scene_after_answers (state_after_event device) cutting n x).conversation (run device n x).conversation
 one_cutting {W} {C} device cutting n x first all few alone =
@@ -367,10 +384,12 @@ one_cutting {W} {C} device cutting n x first all few alone =
           ∙ seen_view (view whole.conversation).end whole.machine (view whole.conversation))
     ]
 
-by_bytes : {W C : Type 0} (device : Device W C) (cutting : Cutting) (s : MachineState W C) (me peer : AmsAddress) (call : Call) → HasRoom (state_after_event device) s me peer call
+by_bytes : {W C : Type 0} (device : Device W C) (cutting : Cutting) (s : MachineState W C) (me peer : AmsAddress) (call : Call)
+    → HasRoom (state_after_event device) s me peer call
     → IsSameCall (local_call (state_after_event device) cutting s me peer call) (local_call (state_after_event device) byte_by_byte s me peer call)
 by_bytes device cutting s me peer call room =
-    one_cutting device cutting MAX_ANSWERS (scene_begun (state_after_event device) s me peer call) (begun_counts device s me peer call) refl room.answers_left room.closes_alone
+    one_cutting device cutting MAX_ANSWERS (scene_begun (state_after_event device) s me peer call)
+    (begun_counts device s me peer call) refl room.answers_left room.closes_alone
 
 pub cuttings_are_one : {W C : Type 0} → CuttingsAreOne W C
 cuttings_are_one device cutting other s me peer call room =

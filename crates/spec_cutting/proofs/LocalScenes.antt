@@ -1,5 +1,6 @@
 -- An answer of the server's machine to a call is some answers of one byte.
-use Rattle.std.proofs.Common.{◌≡◌, ℕ, zero, suc, ◌+◌, List, [], ◌∷◌, ◌++◌, length, take, drop, Bool, true, false, refl, sym, ap, ◌∙◌, arith, subst, inl, inr, append_assoc}
+use Rattle.std.proofs.Common.{◌≡◌, ℕ, zero, suc, ◌+◌, List, [], ◌∷◌, ◌++◌, length, take, drop, Bool, true}
+use Rattle.std.proofs.Common.{false, refl, sym, ap, ◌∙◌, arith, subst, inl, inr, append_assoc}
 use Rattle.std.specs.Prelude.{◌⊎◌, Option, Some, None, if◌then◌else◌}
 use Rattle.std.proofs.lemmas.Bool.{cases_Bool}
 use Rattle.std.proofs.lemmas.List.{append-nil, take-append-drop}
@@ -18,7 +19,9 @@ use Rattle.spec_client.specs.Runner.{Runner, turns, Turns}
 use Rattle.spec_local.specs.LocalCall.{Answered, answered, waiting_or, waiting_bytes, next_tick, bytes_taken, answer_after_tick, local_answer}
 use Rattle.spec_cutting.proofs.Views.{View, view_of, requests_by, view_unless, view_after}
 use Rattle.spec_cutting.proofs.JoinedCalls.{cut_in_two, end_cases}
-use Rattle.spec_cutting.proofs.Takes.{HasOne, taken_by, behind_pieces, some_one, take_twice, one_behind_take, pieces_and_take, pieces-append, pieces_moment, taken_moment, waits_behind}
+use Rattle.spec_cutting.proofs.Takes.{HasOne, taken_by, behind_pieces, some_one, take_twice, one_behind_take}
+use Rattle.spec_cutting.proofs.Takes.{pieces_and_take, pieces-append, pieces_moment, taken_moment}
+use Rattle.spec_cutting.proofs.Takes.{waits_behind}
 
 one_plus : (n : ℕ) → 1 + n ≡ suc n
 one_plus n = omega arith
@@ -64,7 +67,8 @@ steps device (suc n) x = steps device n (next device 0 x)
 
 -- nothing waits where what the call sends behind an answer closes the connection
 abbrev pub ClosesAloneBehind : {W C : Type 0} → Device W C → View → Answered W C → Type 0
-ClosesAloneBehind device v a = is_closing_at 1 a.machine ≡ false → is_closing_at 1 (behind_pieces device (new_requests v (view_after v a.answer)) a.machine) ≡ true
+ClosesAloneBehind device v a = is_closing_at 1 a.machine ≡ false
+    → is_closing_at 1 (behind_pieces device (new_requests v (view_after v a.answer)) a.machine) ≡ true
     → waiting_bytes a.machine ≡ []
 
 abbrev pub ClosesAloneBy : {W C : Type 0} → Device W C → View → Option (MachineState W C) → Type 0
@@ -143,7 +147,8 @@ ended_view v a e over = ap (λ o. view_unless o v a) over
 pub seen_on : {W C : Type 0} (s : MachineState W C) (v : View) → v.end ≡ None → seen s v ≡ record { machine = Some s; view = v }
 seen_on s v on = ap (λ o. seen_by o s v) on
 
-open_or : {W C : Type 0} (device : Device W C) (pieces : List (List ℕ)) (s : MachineState W C) (k : Connection C) → HasOne s k → (b : ℕ) (bs : List ℕ) → waiting_bytes s ≡ b ∷ bs
+open_or : {W C : Type 0} (device : Device W C) (pieces : List (List ℕ)) (s : MachineState W C) (k : Connection C)
+    → HasOne s k → (b : ℕ) (bs : List ℕ) → waiting_bytes s ≡ b ∷ bs
     → (is_closing_at 1 s ≡ false → is_closing_at 1 (behind_pieces device pieces s) ≡ true → waiting_bytes s ≡ [])
     → (k.closing ≡ true) ⊎ (is_closing_at 1 (behind_pieces device pieces s) ≡ false)
 open_or {W} {C} device pieces s k one b bs waits alone = elim (cases_Bool k.closing) [
@@ -186,7 +191,8 @@ behind_rest {W} {C} device v s b c bytes rest waits alone =
     ∙ ap (λ m. seen m v2) machine
     ∙ ap (λ t. behind device v1 (answered (Bytes (c ∷ bytes) t) (taken_by n s1))) (sym moment)
 
-bytes_are_steps : {W C : Type 0} (device : Device W C) (bytes : List ℕ) (v : View) (s : MachineState W C) (b : ℕ) (rest : List ℕ) → waiting_bytes s ≡ b ∷ bytes ++ rest
+bytes_are_steps : {W C : Type 0} (device : Device W C) (bytes : List ℕ) (v : View) (s : MachineState W C) (b : ℕ) (rest : List ℕ)
+    → waiting_bytes s ≡ b ∷ bytes ++ rest
     → ClosesAloneBehind device v (taken s (b ∷ [])) → AllCloseAlone device (first_byte device v s b)
     → IsSteps device (behind device v (taken s (b ∷ bytes))) (first_byte device v s b)
 bytes_are_steps device [] v s b rest waits alone later = record { steps_of = 0; is = refl }
@@ -219,7 +225,8 @@ bytes_are_steps {W} {C} device (c ∷ bytes) v s b rest waits alone later =
 abbrev pub AnswerIsSteps : {W C : Type 0} → Device W C → View → Answered W C → Answered W C → Type 0
 AnswerIsSteps device v a b = ClosesAloneBehind device v b → AllCloseAlone device (behind device v b) → IsSteps device (behind device v a) (behind device v b)
 
-waiting_steps : {W C : Type 0} (device : Device W C) (most : ℕ) (v : View) (s : MachineState W C) (other other_byte : Answered W C) (ws : List ℕ) → waiting_bytes s ≡ ws
+waiting_steps : {W C : Type 0} (device : Device W C) (most : ℕ) (v : View) (s : MachineState W C) (other other_byte : Answered W C) (ws : List ℕ)
+    → waiting_bytes s ≡ ws
     → AnswerIsSteps device v other other_byte
     → AnswerIsSteps device v (waiting_or (state_after_event device) most s other ws) (waiting_or (state_after_event device) 0 s other_byte ws)
 unfolding bytes_taken state_after_move
@@ -248,5 +255,6 @@ answer_steps device most v s =
     let step = state_after_event device in
     let ticked = step s (event.Tick (next_tick s.moment)) in
     waiting_steps device most v s _ _ (waiting_bytes s) refl
-    (shut_steps device v (is_to_be_shut (connection_of 1 s.connections)) (answered (Closed s.moment) s) (answer_after_tick step most ticked) (answer_after_tick step 0 ticked)
+    (shut_steps device v (is_to_be_shut (connection_of 1 s.connections)) (answered (Closed s.moment) s)
+    (answer_after_tick step most ticked) (answer_after_tick step 0 ticked)
     (tick_steps device most v ticked))

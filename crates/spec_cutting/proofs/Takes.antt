@@ -6,11 +6,14 @@ use Rattle.std.proofs.lemmas.List.{drop-append-le}
 use Rattle.std.proofs.Math.Seq.{drop-append-add}
 use Rattle.spec_frames.specs.Division.{rest_of, front_of, is_broken}
 use Rattle.spec_machine.specs.Device.{Device, Produced, Answer, Answered, Silent, Closing, FrameOutcome}
-use Rattle.spec_machine.specs.Connection.{Connection, connection_of, put_back, bytes_of, bytes_of_all, is_deaf, fits, with_closing, with_frame, queued_of, produce, MAX_QUEUED}
+use Rattle.spec_machine.specs.Connection.{Connection, connection_of, put_back, bytes_of, bytes_of_all, is_deaf}
+use Rattle.spec_machine.specs.Connection.{fits, with_closing, with_frame, queued_of, produce, MAX_QUEUED}
 use Rattle.spec_machine.specs.MachineState.{MachineState, Exchange, exchange_of, with_exchange, after_exchange}
 use Rattle.spec_machine.specs.Moves.{with_took}
 use Rattle.spec_machine.specs.Offers.{left_after, waiting_of, is_closing, is_closing_at}
-use Rattle.spec_machine.specs.Piece.{with_received, packets_left, with_one_taken, with_client, after_answer, after_outcome, after_packet, after_packets, with_piece, end_of_piece, after_piece}
+use Rattle.spec_machine.specs.Piece.{with_received, packets_left, with_one_taken, with_client, after_answer}
+use Rattle.spec_machine.specs.Piece.{after_outcome, after_packet, after_packets, with_piece, end_of_piece}
+use Rattle.spec_machine.specs.Piece.{after_piece}
 use Rattle.spec_machine.proofs.Changes.{KeepsNumber, exchange_own, with_took-number}
 use Rattle.spec_machine.proofs.Find.{test_same, test_other}
 use Rattle.spec_machine.proofs.Growth.{Grows, grows_same, grows_then, bytes_of_grown, after_piece-grows}
@@ -31,7 +34,8 @@ fits_later f n k e =
 
 produce_so : {C : Type 0} (f : Produced) (n : ℕ) (k : Connection C) (closing fit fit' : Bool) → (fit ≡ true → fit' ≡ true)
     → (if closing then k else if fit then with_frame f k else with_closing k).closing ≡ false
-    → (if closing then later_by n k else if fit' then with_frame f (later_by n k) else with_closing (later_by n k)) ≡ later_by n (if closing then k else if fit then with_frame f k else with_closing k)
+    → (if closing then later_by n k else if fit' then with_frame f (later_by n k) else with_closing (later_by n k))
+    ≡ later_by n (if closing then k else if fit then with_frame f k else with_closing k)
 produce_so f n k true fit fit' more stays = refl
 produce_so f n k false true fit' more stays = cond-true fit' _ _ (more refl)
 produce_so f n k false false fit' more stays = absurd (let e : true ≡ false = stays in cc)
@@ -40,14 +44,16 @@ produce_later : {C : Type 0} (f : Produced) (n : ℕ) (k : Connection C) → (pr
 unfolding produce
 produce_later f n k stays = produce_so f n k k.closing (fits f k) (fits f (later_by n k)) (fits_later f n k) stays
 
-answer_later : {C : Type 0} (a : Answer) (n : ℕ) (k : Connection C) → (after_answer a k).closing ≡ false → after_answer a (later_by n k) ≡ later_by n (after_answer a k)
+answer_later : {C : Type 0} (a : Answer) (n : ℕ) (k : Connection C)
+    → (after_answer a k).closing ≡ false → after_answer a (later_by n k) ≡ later_by n (after_answer a k)
 answer_later (Answered packet) n k stays = produce_later _ n k stays
 answer_later Silent n k stays = refl
 answer_later Closing n k stays = refl
 
 packet_so : {W C : Type 0} (n : ℕ) (o : FrameOutcome W C) (x : Exchange W C) (closing : Bool)
     → (if closing then x else after_outcome o x.connection).connection.closing ≡ false
-    → (if closing then exchange_later n x else after_outcome o (later_by n x.connection)) ≡ exchange_later n (if closing then x else after_outcome o x.connection)
+    → (if closing then exchange_later n x else after_outcome o (later_by n x.connection))
+    ≡ exchange_later n (if closing then x else after_outcome o x.connection)
 packet_so n o x true stays = refl
 packet_so {W} {C} n o x false stays =
     ap (λ (k : Connection C). record { world = o.world; connection = k }) (answer_later o.answer n (with_client o.client (with_one_taken x.connection)) stays)
@@ -57,20 +63,24 @@ packet_later : {W C : Type 0} (device : Device W C) (packet : List ℕ) (n : ℕ
 unfolding after_packet
 packet_later device packet n x stays = packet_so n (device.take x.world x.connection.client packet) x x.connection.closing stays
 
-open_so : {W C : Type 0} (x y : Exchange W C) (closing : Bool) → x.connection.closing ≡ closing → (if closing then x else y).connection.closing ≡ false → closing ≡ false
+open_so : {W C : Type 0} (x y : Exchange W C) (closing : Bool) → x.connection.closing ≡ closing
+    → (if closing then x else y).connection.closing ≡ false → closing ≡ false
 open_so x y true is stays = absurd (let e : true ≡ false = sym is ∙ stays in cc)
 open_so x y false is stays = refl
 
-packet_open : {W C : Type 0} (device : Device W C) (packet : List ℕ) (x : Exchange W C) → (after_packet device packet x).connection.closing ≡ false → x.connection.closing ≡ false
+packet_open : {W C : Type 0} (device : Device W C) (packet : List ℕ) (x : Exchange W C)
+    → (after_packet device packet x).connection.closing ≡ false → x.connection.closing ≡ false
 unfolding after_packet
 packet_open device packet x stays = open_so x _ x.connection.closing refl stays
 
-packets_open : {W C : Type 0} (device : Device W C) (packets : List (List ℕ)) (x : Exchange W C) → (after_packets device packets x).connection.closing ≡ false → x.connection.closing ≡ false
+packets_open : {W C : Type 0} (device : Device W C) (packets : List (List ℕ)) (x : Exchange W C)
+    → (after_packets device packets x).connection.closing ≡ false → x.connection.closing ≡ false
 unfolding after_packets
 packets_open device [] x stays = stays
 packets_open device (packet ∷ packets) x stays = packet_open device packet x (packets_open device packets (after_packet device packet x) stays)
 
-packets_later : {W C : Type 0} (device : Device W C) (packets : List (List ℕ)) (n : ℕ) (x : Exchange W C) → (after_packets device packets x).connection.closing ≡ false
+packets_later : {W C : Type 0} (device : Device W C) (packets : List (List ℕ)) (n : ℕ) (x : Exchange W C)
+    → (after_packets device packets x).connection.closing ≡ false
     → after_packets device packets (exchange_later n x) ≡ exchange_later n (after_packets device packets x)
 unfolding after_packets
 packets_later device [] n x stays = refl
@@ -78,7 +88,8 @@ packets_later device (packet ∷ packets) n x stays =
     let next = after_packet device packet x in
     ap (after_packets device packets) (packet_later device packet n x (packets_open device packets next stays)) ∙ packets_later device packets n next stays
 
-rest_so : {C : Type 0} (n : ℕ) (k : Connection C) (b : Bool) → (if b then with_closing (later_by n k) else later_by n k) ≡ later_by n (if b then with_closing k else k)
+rest_so : {C : Type 0} (n : ℕ) (k : Connection C) (b : Bool)
+    → (if b then with_closing (later_by n k) else later_by n k) ≡ later_by n (if b then with_closing k else k)
 rest_so n k true = refl
 rest_so n k false = refl
 
@@ -90,14 +101,17 @@ end_later : {W C : Type 0} (n : ℕ) (y : Exchange W C) → end_of_piece (exchan
 end_later {W} {C} n y = ap (λ (k : Connection C). record y { connection = k }) (rest_so n y.connection (is_broken (front_of (rest_of y.connection.received))))
 
 piece_so : {W C : Type 0} (device : Device W C) (piece : List ℕ) (n : ℕ) (x : Exchange W C) (deaf : Bool)
-    → (if deaf then x else end_of_piece (after_packets device (packets_left (with_received piece x.connection)) (with_piece piece x))).connection.closing ≡ false
-    → (if deaf then exchange_later n x else end_of_piece (after_packets device (packets_left (with_received piece x.connection)) (exchange_later n (with_piece piece x))))
+    → (if deaf then x else end_of_piece
+    (after_packets device (packets_left (with_received piece x.connection)) (with_piece piece x))).connection.closing ≡ false
+    → (if deaf then exchange_later n x else end_of_piece
+    (after_packets device (packets_left (with_received piece x.connection)) (exchange_later n (with_piece piece x))))
     ≡ exchange_later n (if deaf then x else end_of_piece (after_packets device (packets_left (with_received piece x.connection)) (with_piece piece x)))
 piece_so device piece n x true stays = refl
 piece_so device piece n x false stays =
     let packets = packets_left (with_received piece x.connection) in
     let y = after_packets device packets (with_piece piece x) in
-    ap end_of_piece (packets_later device packets n (with_piece piece x) (rest_open_so y.connection (is_broken (front_of (rest_of y.connection.received))) stays)) ∙ end_later n y
+    ap end_of_piece (packets_later device packets n (with_piece piece x)
+    (rest_open_so y.connection (is_broken (front_of (rest_of y.connection.received))) stays)) ∙ end_later n y
 
 piece_later : {W C : Type 0} (device : Device W C) (piece : List ℕ) (n : ℕ) (x : Exchange W C) → (after_piece device piece x).connection.closing ≡ false
     → after_piece device piece (exchange_later n x) ≡ exchange_later n (after_piece device piece x)
@@ -131,7 +145,8 @@ exchanged : {W C : Type 0} (f : Exchange W C → Exchange W C) (s : MachineState
     → after_exchange (connection_of 1 s.connections) f s ≡ with_exchange (f (exchange_of s k)) s
 exchanged f s k is = ap (λ o. after_exchange o f s) is
 
-put_back_twice : {C : Type 0} (new other : Connection C) (ks : List (Connection C)) → new.number ≡ other.number → put_back new (put_back other ks) ≡ put_back new ks
+put_back_twice : {C : Type 0} (new other : Connection C) (ks : List (Connection C))
+    → new.number ≡ other.number → put_back new (put_back other ks) ≡ put_back new ks
 unfolding put_back
 put_back_twice new other [] same = refl
 put_back_twice {C} new other (k ∷ ks) same = elim (cases_eq k.number other.number) [
@@ -147,15 +162,18 @@ put_back_twice {C} new other (k ∷ ks) same = elim (cases_eq k.number other.num
 ]
 
 -- two changes of connection 1, one behind the other
-exchanged_twice : {W C : Type 0} (f g : Exchange W C → Exchange W C) → KeepsNumber f → KeepsNumber g → (s : MachineState W C) (k : Connection C) → connection_of 1 s.connections ≡ Some k
-    → (let t = after_exchange (connection_of 1 s.connections) f s in after_exchange (connection_of 1 t.connections) g t) ≡ with_exchange (g (f (exchange_of s k))) s
+exchanged_twice : {W C : Type 0} (f g : Exchange W C → Exchange W C) → KeepsNumber f
+    → KeepsNumber g → (s : MachineState W C) (k : Connection C) → connection_of 1 s.connections ≡ Some k
+    → (let t = after_exchange (connection_of 1 s.connections) f s in after_exchange (connection_of 1 t.connections) g t)
+    ≡ with_exchange (g (f (exchange_of s k))) s
 exchanged_twice {W} {C} f g keeps keeps_too s k is =
     let x = f (exchange_of s k) in
     let t = after_exchange (connection_of 1 s.connections) f s in
     let own = exchange_own 1 f keeps s k is in
     ap (λ o. after_exchange o g t) own
     ∙ ap (λ (u : MachineState W C). with_exchange (g (exchange_of u x.connection)) u) (exchanged f s k is)
-    ∙ ap (λ (ks : List (Connection C)). record s { world = (g x).world; connections = ks }) (put_back_twice (g x).connection x.connection s.connections (keeps_too x))
+    ∙ ap (λ (ks : List (Connection C)). record s { world = (g x).world; connections = ks })
+    (put_back_twice (g x).connection x.connection s.connections (keeps_too x))
 
 took_later : {W C : Type 0} (n : ℕ) (x : Exchange W C) → x.connection.gone ≡ false → with_took n x ≡ exchange_later n x
 took_later n x there = cond-false x.connection.gone _ _ there
@@ -196,7 +214,8 @@ pub record GrewTo {W C : Type 0} (s : MachineState W C) (k : Connection C) : Typ
   pub one : HasOne s new
   pub grew : Grows k new
 
-abbrev pub grew_by_piece : {W C : Type 0} (device : Device W C) (piece : List ℕ) (s : MachineState W C) (k : Connection C) → HasOne s k → GrewTo (behind_piece device piece s) k
+abbrev pub grew_by_piece : {W C : Type 0} (device : Device W C) (piece : List ℕ) (s : MachineState W C) (k : Connection C)
+    → HasOne s k → GrewTo (behind_piece device piece s) k
 grew_by_piece device piece s k one =
     let grows = after_piece-grows device piece (exchange_of s k) in
     record {
@@ -205,7 +224,8 @@ grew_by_piece device piece s k one =
       grew = grows;
     }
 
-pub grew_by_pieces : {W C : Type 0} (device : Device W C) (pieces : List (List ℕ)) (s : MachineState W C) (k : Connection C) → HasOne s k → GrewTo (behind_pieces device pieces s) k
+pub grew_by_pieces : {W C : Type 0} (device : Device W C) (pieces : List (List ℕ)) (s : MachineState W C) (k : Connection C)
+    → HasOne s k → GrewTo (behind_pieces device pieces s) k
 grew_by_pieces device [] s k one = record { new = k; one = one; grew = grows_same k }
 grew_by_pieces device (piece ∷ pieces) s k one =
     let first = grew_by_piece device piece s k one in
@@ -224,7 +244,8 @@ closing_of s k one = ap is_closing one.is
 -- a connection that closes stays so
 piece_closing : {W C : Type 0} (device : Device W C) (piece : List ℕ) (s : MachineState W C) (k : Connection C) (one : HasOne s k) → k.closing ≡ true
     → (grew_by_piece device piece s k one).new.closing ≡ true
-piece_closing {W} {C} device piece s k one closing = ap (λ (x : Exchange W C). x.connection.closing) (piece_deaf device piece (exchange_of s k) closing) ∙ closing
+piece_closing {W} {C} device piece s k one closing =
+    ap (λ (x : Exchange W C). x.connection.closing) (piece_deaf device piece (exchange_of s k) closing) ∙ closing
 
 pieces_closing : {W C : Type 0} (device : Device W C) (pieces : List (List ℕ)) (s : MachineState W C) (k : Connection C) → HasOne s k → k.closing ≡ true
     → is_closing_at 1 (behind_pieces device pieces s) ≡ true
@@ -255,7 +276,8 @@ pieces_and_take {W} {C} device (piece ∷ pieces) n s k one or_open =
       ]
     ]
 
-pub pieces-append : {W C : Type 0} (device : Device W C) (first second : List (List ℕ)) (s : MachineState W C) → behind_pieces device (first ++ second) s ≡ behind_pieces device second (behind_pieces device first s)
+pub pieces-append : {W C : Type 0} (device : Device W C) (first second : List (List ℕ)) (s : MachineState W C)
+    → behind_pieces device (first ++ second) s ≡ behind_pieces device second (behind_pieces device first s)
 pieces-append device [] second s = refl
 pieces-append device (piece ∷ first) second s = pieces-append device first second (behind_piece device piece s)
 
@@ -287,7 +309,8 @@ flat_left n (f ∷ fs) = elim (cases_Bool (nat_le (length f) n)) [
       rw t (ap (λ bytes. drop n f ++ bytes) (flat_left 0 fs) ∙ sym (drop-append-le n f (joined fs) (omega (arith, l))))
 ]
 
-waiting_so : {C : Type 0} (k : Connection C) (gone : Bool) → k.gone ≡ gone → gone ≡ false → flat_map (λ (f : List ℕ). f) (waiting_of (Some k)) ≡ drop k.bytes_taken (bytes_of_all k.produced)
+waiting_so : {C : Type 0} (k : Connection C) (gone : Bool) → k.gone ≡ gone → gone ≡ false
+    → flat_map (λ (f : List ℕ). f) (waiting_of (Some k)) ≡ drop k.bytes_taken (bytes_of_all k.produced)
 waiting_so k true is there = absurd (let e : true ≡ false = there in cc)
 waiting_so k false is there = rw is (flat_left k.bytes_taken (map bytes_of k.produced) ∙ ap (drop k.bytes_taken) (joined_bytes k.produced))
 
@@ -302,7 +325,8 @@ pub record SomeOne {W C : Type 0} (s : MachineState W C) : Type 0 where
 empty_or_not : (xs : List ℕ) (b : ℕ) (bs : List ℕ) → xs ≡ [] → xs ≡ b ∷ bs → ⊥
 empty_or_not xs b bs none some = cc
 
-found_so : {W C : Type 0} (s : MachineState W C) (o : Option (Connection C)) → connection_of 1 s.connections ≡ o → (b : ℕ) (bs : List ℕ) → flat_map (λ (f : List ℕ). f) (waiting_of o) ≡ b ∷ bs → SomeOne s
+found_so : {W C : Type 0} (s : MachineState W C) (o : Option (Connection C)) → connection_of 1 s.connections ≡ o
+    → (b : ℕ) (bs : List ℕ) → flat_map (λ (f : List ℕ). f) (waiting_of o) ≡ b ∷ bs → SomeOne s
 found_so s None is b bs waits = absurd (empty_or_not [] b bs refl waits)
 found_so {W} {C} s (Some k) is b bs waits = elim (cases_Bool k.gone) [
   | inl gone ↦ absurd (empty_or_not [] b bs refl (rw gone at waits))

@@ -14,7 +14,10 @@ use Rattle.spec_client.specs.Heard.{StampedSample, samples_of_stamps}
 use Rattle.spec_client.specs.Unanswered.{Unanswered, TIMEOUT, is_overdue, after_tick_of, is_outstanding_at, is_timed_out_at, next_timeout, without_first}
 use Rattle.spec_client.specs.PassedOver.{is_response}
 use Rattle.spec_client.specs.Client.{Client, is_full, client_after_issue, client_after_tick, packets_left}
-use Rattle.spec_client.specs.Hearing.{Hearing, is_answer, is_off_its_text, response_hearing, samples_hearing, notification_hearing, header_hearing, packet_hearing, rest_hearing, with_one_taken, packets_hearing, hearing_of_samples, hearing_unless_broken, hearing_of_timeout, next_hearing}
+use Rattle.spec_client.specs.Hearing.{Hearing, is_answer, is_off_its_text, response_hearing, samples_hearing}
+use Rattle.spec_client.specs.Hearing.{notification_hearing, header_hearing, packet_hearing, rest_hearing}
+use Rattle.spec_client.specs.Hearing.{with_one_taken, packets_hearing, hearing_of_samples}
+use Rattle.spec_client.specs.Hearing.{hearing_unless_broken, hearing_of_timeout, next_hearing}
 use Rattle.spec_client.specs.Stages.{Output, ToSend, ToPrint, ToKeep, Stage}
 use Rattle.spec_client.specs.Runner.{Runner, given, runner_after_hearing, runner_after_tick, turns}
 use Rattle.spec_client.proofs.TurnsUnfolded.{at}
@@ -66,7 +69,8 @@ either P false x y first second = second
 timely_response : (now : ℕ) (c : Client) (h : AmsHeader) (packet : List ℕ) → IsTimely now c → IsTimely now (response_hearing c h packet).client
 timely_response now c h packet timely =
     let P : Hearing → Type 0 = λ x. IsTimely now x.client in
-    either P (is_answer c h) _ _ (either P (is_off_its_text h (payload_of packet)) _ _ timely (timely_without now (is_outstanding_at h.id) c.unanswered timely)) timely
+    either P (is_answer c h) _ _
+    (either P (is_off_its_text h (payload_of packet)) _ _ timely (timely_without now (is_outstanding_at h.id) c.unanswered timely)) timely
 
 timely_samples : (now : ℕ) (c : Client) (ss : List StampedSample) → IsTimely now c → IsTimelyIf now (samples_hearing c ss)
 timely_samples now c [] timely = tt
@@ -144,7 +148,8 @@ timely_turns now r = by_turns now (λ r ts. IsTimely now r.client → IsTimely n
 
 still_ticked : (now : ℕ) (r : Runner) → IsTimely now r.client → runner_after_tick r now ≡ r
 unfolding client_after_tick
-still_ticked now r timely = ap (λ (us : List Unanswered). record r { client = record r.client { unanswered = us } }) (tick_changes_none now r.client.unanswered timely)
+still_ticked now r timely =
+    ap (λ (us : List Unanswered). record r { client = record r.client { unanswered = us } }) (tick_changes_none now r.client.unanswered timely)
 
 -- a second tick at the same moment changes nothing
 pub ticked_again : (now : ℕ) (r : Runner) (more : List ℕ) → let s = record r { client = record (client_after_tick r.client now) { received = more } } in

@@ -8,7 +8,12 @@ use Rattle.spec_samples.specs.Row.{Row}
 use Rattle.spec_client.specs.Client.{new_client}
 use Rattle.spec_client.specs.Stages.{BadPeer, AwaitsFacts}
 use Rattle.spec_client.specs.Runner.{Runner, CallStep, Send, Print, Keep, Wait, Over, Turns, turns}
-use Rattle.spec_client.specs.Conversation.{LinkAnswer, Bytes, Quiet, Closed, Sent, LoopEnd, CallEnded, Budget, Conversation, MAX_QUIET, MAX_ANSWERS, moment_of, quiet_after, sent_by, printed_by, kept_by, end_of_stage, runner_after_answer, with_answer, conversation_after_turns, conversation_going_on, conversation_after, after_answer_unless, ended_by, unless_ended, end_by_answer, end_by_count}
+use Rattle.spec_client.specs.Conversation.{LinkAnswer, Bytes, Quiet, Closed, Sent, LoopEnd, CallEnded, Budget}
+use Rattle.spec_client.specs.Conversation.{Conversation, MAX_QUIET, MAX_ANSWERS, moment_of, quiet_after}
+use Rattle.spec_client.specs.Conversation.{sent_by, printed_by, kept_by, end_of_stage, runner_after_answer}
+use Rattle.spec_client.specs.Conversation.{with_answer, conversation_after_turns, conversation_going_on}
+use Rattle.spec_client.specs.Conversation.{conversation_after, after_answer_unless, ended_by, unless_ended}
+use Rattle.spec_client.specs.Conversation.{end_by_answer, end_by_count}
 use Rattle.spec_client.proofs.TurnsUnfolded.{at}
 use Rattle.spec_cutting.specs.Joining.{bytes_sent}
 
@@ -92,7 +97,8 @@ view_behind_turns c ts a few =
     let sent : map (λ (s : Sent). s.bytes) (c.sent ++ sent_by c.answers ts.steps) ≡ bytes_sent c ++ requests_by ts.steps
     = map-append (λ (s : Sent). s.bytes) c.sent (sent_by c.answers ts.steps) ∙ ap (λ l. bytes_sent c ++ l) (requests_are_sent c.answers ts.steps) in
     view_ended (conversation_after_turns c ts) a (end_of_stage ts.runner.stage) refl few
-    ∙ ap (λ l. view_of ts.runner c.quiet l (c.text ++ printed_by ts.steps) (c.kept ++ kept_by ts.steps) (ended_so (end_of_stage ts.runner.stage) c.quiet a)) sent
+    ∙ ap (λ l. view_of ts.runner c.quiet l (c.text ++ printed_by ts.steps)
+    (c.kept ++ kept_by ts.steps) (ended_so (end_of_stage ts.runner.stage) c.quiet a)) sent
 
 view_goes_on : (c : Conversation) (a : LinkAnswer) → c.answers < MAX_ANSWERS → view (conversation_going_on c a)
     ≡ view_unless None (view_of c.runner c.quiet (bytes_sent c) c.text c.kept None) a

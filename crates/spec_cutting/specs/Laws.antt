@@ -50,7 +50,8 @@ CuttingsAreOne W C = (device : Device W C) (cutting other : Cutting) (s : Machin
 
 -- A call over a link whose log is one of that machine is the local call, cut in any way, where the call is over.
 abbrev pub LinksAreOne : (W C : Type 0) → Type 0
-LinksAreOne W C = (device : Device W C) (cutting : Cutting) (s : MachineState W C) (me peer : AmsAddress) (call : Call) (to : List ℕ) (now : ℕ) (answers : List LinkAnswer)
+LinksAreOne W C = (device : Device W C) (cutting : Cutting) (s : MachineState W C)
+    (me peer : AmsAddress) (call : Call) (to : List ℕ) (now : ℕ) (answers : List LinkAnswer)
     → connection_of 1 s.connections ≡ None → IsLogOf (state_after_event device) s (call_log_up_to me peer call to now answers)
     → is_some (call_over me peer call now answers).end ≡ true → HasRoom (state_after_event device) s me peer call
     → IsSameCall (call_over me peer call now answers) (local_call (state_after_event device) cutting s me peer call)

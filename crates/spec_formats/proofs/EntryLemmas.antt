@@ -1,5 +1,7 @@
 -- The symbol entry that is read is the entry whose text stands in front.
-use Rattle.std.proofs.Common.{◌≡◌, ℕ, ◌+◌, ◌-◌, ◌^◌, ◌<◌, ◌≤◌, Bool, true, false, ◌&&◌, cond, leb, List, [], ◌∷◌, ◌++◌, length, get_or, take, drop, Some, None, refl, sym, ap, subst, ◌∙◌, append_assoc, arith}
+use Rattle.std.proofs.Common.{◌≡◌, ℕ, ◌+◌, ◌-◌, ◌^◌, ◌<◌, ◌≤◌, Bool, true, false, ◌&&◌, cond, leb, List, []}
+use Rattle.std.proofs.Common.{◌∷◌, ◌++◌, length, get_or, take, drop, Some, None, refl, sym, ap, subst, ◌∙◌}
+use Rattle.std.proofs.Common.{append_assoc, arith}
 use Rattle.std.specs.Int.{w16, w32, to_le_bytes}
 use Rattle.std.specs.Cmp.Derive.{both_true}
 use Rattle.std.proofs.Math.Seq.{get_or-append_seam}
@@ -7,7 +9,9 @@ use Rattle.std.proofs.lemmas.Bool.{leb-true, le-leb, eqb-true, eq-eqb}
 use Rattle.std.proofs.lemmas.List.{length-append, length-drop, length-take-le, take_at, drop_at, drop-drop, drop_more, take-append-drop}
 use Rattle.std.proofs.lemmas.Nat.{from_le_bytes-to_le_bytes_2, from_le_bytes-to_le_bytes_4}
 use Rattle.spec_formats.specs.Numbers.{AreBytes, number16, number32}
-use Rattle.spec_formats.specs.SymbolEntry.{SymbolEntry, text_bytes, entry_len, entry_fields, FitsEntry, BeginsWithEntry, ends_in_nul, after_text, name_place, type_place, comment_place, entry_at, is_entry, entry_of}
+use Rattle.spec_formats.specs.SymbolEntry.{SymbolEntry, text_bytes, entry_len, entry_fields, FitsEntry}
+use Rattle.spec_formats.specs.SymbolEntry.{BeginsWithEntry, ends_in_nul, after_text, name_place, type_place}
+use Rattle.spec_formats.specs.SymbolEntry.{comment_place, entry_at, is_entry, entry_of}
 use Rattle.spec_formats.proofs.Fields.{number32-front, number16-lt, number32-lt, next16, next32}
 
 pub both : (s t : Bool) → (s && t) ≡ true → (s ≡ true) × (t ≡ true)

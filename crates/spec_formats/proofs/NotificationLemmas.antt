@@ -1,5 +1,7 @@
 -- The stamps that are read are the stamps whose text the payload is.
-use Rattle.std.proofs.Common.{◌≡◌, ℕ, zero, suc, ◌+◌, ◌≤◌, Bool, true, false, ◌||◌, cond, eqb, ltb, List, [], ◌∷◌, ◌++◌, length, take, drop, Option, Some, None, refl, sym, ap, subst, ◌∙◌, append_assoc, arith, inl, inr, ◌⊎◌}
+use Rattle.std.proofs.Common.{◌≡◌, ℕ, zero, suc, ◌+◌, ◌≤◌, Bool, true, false, ◌||◌, cond, eqb, ltb, List, []}
+use Rattle.std.proofs.Common.{◌∷◌, ◌++◌, length, take, drop, Option, Some, None, refl, sym, ap, subst, ◌∙◌}
+use Rattle.std.proofs.Common.{append_assoc, arith, inl, inr, ◌⊎◌}
 use Rattle.std.specs.Option.{option_and_then}
 use Rattle.std.specs.List.{AllByRecursion, flat_map}
 use Rattle.std.specs.Int.{w32, w64, to_le_bytes}
@@ -187,7 +189,8 @@ text_of-samples_of zero bytes ss rest h e =
     let same : none ≡ (ss, rest) = cc in
     subst (λ (x : List Sample × List ℕ). AreSamples 0 bytes x.0 x.1) same (record { count = refl; fits = tt; takes = nothing bytes h })
 text_of-samples_of (suc n) bytes ss rest h e =
-    let first = step (λ (x : Sample × List ℕ). option_and_then (λ (y : List Sample × List ℕ). Some (x.0 ∷ y.0, y.1)) (samples_of n x.1)) (sample_of bytes) (ss, rest) e in
+    let first = step (λ (x : Sample × List ℕ). option_and_then (λ (y : List Sample × List ℕ). Some (x.0 ∷ y.0, y.1)) (samples_of n x.1))
+    (sample_of bytes) (ss, rest) e in
     let x = first.0 in
     let others = step (λ (y : List Sample × List ℕ). Some (x.0 ∷ y.0, y.1)) (samples_of n x.1) (ss, rest) first.2 in
     let y = others.0 in
@@ -243,7 +246,8 @@ text_of-stamps_of zero bytes ss rest h e =
     let same : none ≡ (ss, rest) = cc in
     subst (λ (x : List Stamp × List ℕ). AreStamps 0 bytes x.0 x.1) same (record { count = refl; fits = tt; takes = nothing bytes h })
 text_of-stamps_of (suc n) bytes ss rest h e =
-    let first = step (λ (x : Stamp × List ℕ). option_and_then (λ (y : List Stamp × List ℕ). Some (x.0 ∷ y.0, y.1)) (stamps_of n x.1)) (stamp_of bytes) (ss, rest) e in
+    let first = step (λ (x : Stamp × List ℕ). option_and_then (λ (y : List Stamp × List ℕ). Some (x.0 ∷ y.0, y.1)) (stamps_of n x.1))
+    (stamp_of bytes) (ss, rest) e in
     let x = first.0 in
     let others = step (λ (y : List Stamp × List ℕ). Some (x.0 ∷ y.0, y.1)) (stamps_of n x.1) (ss, rest) first.2 in
     let y = others.0 in

@@ -8,7 +8,10 @@ use Rattle.std.proofs.lemmas.List.{length-append, length-drop, drop_all}
 use Rattle.std.proofs.lemmas.Nat.{from_le_bytes-to_le_bytes_2, from_le_bytes-to_le_bytes_4}
 use Rattle.spec_plant.specs.Description.{Facts}
 use Rattle.spec_formats.specs.Numbers.{AreBytes, number16, number32, at_length}
-use Rattle.spec_formats.specs.Reply.{Reply, ReadDeviceInfo, Read, Write, ReadState, WriteControl, AddDeviceNotification, DeleteDeviceNotification, ReadWrite, command_of, result_of, facts_at, reply_bytes, refused_bytes, written_bytes, FitsFields, IsReplyPayload, ReplyForm, reply_forms, reply_in, reply_of}
+use Rattle.spec_formats.specs.Reply.{Reply, ReadDeviceInfo, Read, Write, ReadState, WriteControl}
+use Rattle.spec_formats.specs.Reply.{AddDeviceNotification, DeleteDeviceNotification, ReadWrite, command_of}
+use Rattle.spec_formats.specs.Reply.{result_of, facts_at, reply_bytes, refused_bytes, written_bytes}
+use Rattle.spec_formats.specs.Reply.{FitsFields, IsReplyPayload, ReplyForm, reply_forms, reply_in, reply_of}
 use Rattle.spec_formats.proofs.Fields.{number32-front, number16-lt, number32-lt, next8, next16, next32, no_more}
 use Rattle.spec_formats.proofs.Forms.{at_length-is, at_length-some}
 
@@ -25,7 +28,8 @@ info_again result facts lt f =
     let b : number16 6 p ≡ facts.build = from_le_bytes-to_le_bytes_2 facts.build f.2 in
     let same : facts_at 4 p ≡ facts = ap (λ (n : ℕ). record facts { build = n }) b in
     let front : ReadDeviceInfo (number32 0 p) (facts_at 4 p) ≡ ReadDeviceInfo result (facts_at 4 p) = ap (λ (n : ℕ). ReadDeviceInfo n (facts_at 4 p)) r in
-    at_length-is 24 p (ReadDeviceInfo (number32 0 p) (facts_at 4 p)) (ReadDeviceInfo result facts) (omega (arith, f.3)) (front ∙ ap (ReadDeviceInfo result) same)
+    at_length-is 24 p (ReadDeviceInfo (number32 0 p) (facts_at 4 p))
+    (ReadDeviceInfo result facts) (omega (arith, f.3)) (front ∙ ap (ReadDeviceInfo result) same)
 
 read_again : (result : ℕ) (bytes : List ℕ) → IsRead (Read result bytes)
 unfolding reply_of reply_in

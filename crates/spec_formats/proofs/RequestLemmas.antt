@@ -6,7 +6,11 @@ use Rattle.std.specs.Int.{w16, w32, to_le_bytes}
 use Rattle.std.proofs.lemmas.List.{append-nil, length-append, length-drop, drop_all}
 use Rattle.std.proofs.lemmas.Nat.{from_le_bytes-to_le_bytes_2, from_le_bytes-to_le_bytes_4}
 use Rattle.spec_formats.specs.Numbers.{AreBytes, number16, number32, at_length}
-use Rattle.spec_formats.specs.Request.{Request, ReadDeviceInfo, Read, Write, ReadState, WriteControl, AddDeviceNotification, DeleteDeviceNotification, DeviceNotification, ReadWrite, command_of, access_bytes, request_fields, FitsRequest, IsRequestPayload, RequestForm, request_forms, reserved_len, request_in, request_of}
+use Rattle.spec_formats.specs.Request.{Request, ReadDeviceInfo, Read, Write, ReadState, WriteControl}
+use Rattle.spec_formats.specs.Request.{AddDeviceNotification, DeleteDeviceNotification, DeviceNotification}
+use Rattle.spec_formats.specs.Request.{ReadWrite, command_of, access_bytes, request_fields, FitsRequest}
+use Rattle.spec_formats.specs.Request.{IsRequestPayload, RequestForm, request_forms, reserved_len, request_in}
+use Rattle.spec_formats.specs.Request.{request_of}
 use Rattle.spec_formats.proofs.Fields.{number16-front, number32-front, number16-lt, number32-lt, next16, next32, no_more}
 use Rattle.spec_formats.proofs.Forms.{at_length-is, at_length-some, no_reserved, empty}
 
@@ -103,7 +107,8 @@ again (WriteControl ads device bytes) reserved f e = plain (WriteControl ads dev
 again (AddDeviceNotification group offset len mode delay cycle) reserved f e = addition_again group offset len mode delay cycle reserved f e
 again (DeleteDeviceNotification handle) reserved f e = plain (DeleteDeviceNotification handle) reserved e (deletion_again handle f)
 again (DeviceNotification bytes) reserved f e = plain (DeviceNotification bytes) reserved e (as_it_is bytes)
-again (ReadWrite group offset read_len bytes) reserved f e = plain (ReadWrite group offset read_len bytes) reserved e (read_write_again group offset read_len bytes f)
+again (ReadWrite group offset read_len bytes) reserved f e =
+    plain (ReadWrite group offset read_len bytes) reserved e (read_write_again group offset read_len bytes f)
 
 -- a text is read as its request
 pub request_of-of_text : (command : ℕ) (payload : List ℕ) (r : Request) → IsRequestPayload command payload r
@@ -207,7 +212,8 @@ sound_deletion p r h e =
     let r0 = DeleteDeviceNotification (number32 0 p) in
     let s = at_length-some 4 p r0 r e in
     subst (λ (x : Request). IsRequestPayload 7 p x) s.1
-    (text r0 p refl (number32-lt 0 p h) (no_more (to_le_bytes w32 (number32 0 p)) (drop 4 p) p (number32-front 0 p h (omega (arith, s.0))) (drop_all 4 p (omega (arith, s.0)))))
+    (text r0 p refl (number32-lt 0 p h)
+    (no_more (to_le_bytes w32 (number32 0 p)) (drop 4 p) p (number32-front 0 p h (omega (arith, s.0))) (drop_all 4 p (omega (arith, s.0)))))
 
 sound_notification : Sound (record { command = 8; read = λ p. Some (DeviceNotification p) })
 unfolding Sound

@@ -1,8 +1,10 @@
 -- The frames of a stream and what is left of it: frame by frame, and under appended bytes.
-use Rattle.std.proofs.Common.{◌≡◌, ◌≢◌, ◌⊎◌, ℕ, zero, suc, ◌+◌, ◌<◌, ◌≤◌, List, [], ◌∷◌, ◌++◌, length, drop, get_or, false, refl, sym, ap, ◌∙◌, inl, inr, arith, add-one}
+use Rattle.std.proofs.Common.{◌≡◌, ◌≢◌, ◌⊎◌, ℕ, zero, suc, ◌+◌, ◌<◌, ◌≤◌, List, [], ◌∷◌, ◌++◌, length, drop}
+use Rattle.std.proofs.Common.{get_or, false, refl, sym, ap, ◌∙◌, inl, inr, arith, add-one}
 use Rattle.std.proofs.lemmas.Bool.{cases_lt}
 use Rattle.std.proofs.lemmas.List.{drop_more}
-use Rattle.spec_frames.specs.Division.{Front, Whole, Open, Broken, front_of, ams_length_of, is_whole, packet_of, behind_frame, frames_from, frames_of, left_behind, rest_of}
+use Rattle.spec_frames.specs.Division.{Front, Whole, Open, Broken, front_of, ams_length_of, is_whole}
+use Rattle.spec_frames.specs.Division.{packet_of, behind_frame, frames_from, frames_of, left_behind, rest_of}
 use Rattle.spec_frames.proofs.FrontLemmas.{has_frame, front_of-append_whole, front_of-short, packet_of-append, behind_frame-append, length-behind_frame}
 
 -- three cases of a front

@@ -1,16 +1,21 @@
 -- A stream of bytes has one division into frames and a rest, and it is that of `frames_of` and `rest_of`.
-use Rattle.std.proofs.Common.{◌≡◌, ◌≢◌, ◌⊎◌, ℕ, ◌+◌, ◌<◌, ◌≤◌, List, [], ◌∷◌, ◌++◌, length, take, drop, get_or, true, ◌&&◌, replicate, refl, sym, ap, ◌∙◌, subst, inl, inr, arith}
+use Rattle.std.proofs.Common.{◌≡◌, ◌≢◌, ◌⊎◌, ℕ, ◌+◌, ◌<◌, ◌≤◌, List, [], ◌∷◌, ◌++◌, length, take, drop, get_or}
+use Rattle.std.proofs.Common.{true, ◌&&◌, replicate, refl, sym, ap, ◌∙◌, subst, inl, inr, arith}
 use Rattle.std.specs.Prelude.{◌==◌, nat_le}
 use Rattle.std.specs.List.{flat_map}
 use Rattle.std.specs.Int.{w32, from_le_bytes, to_le_bytes}
 use Rattle.std.proofs.lemmas.Bool.{cases_lt, cases_Bool, and_parts, and_from, le-leb, eqb-true, eq-eqb, false≢true}
-use Rattle.std.proofs.lemmas.List.{append_assoc, take-append-drop, drop_at, take_at, get_or-drop, get_or-take, get_or_past, length-append, length-take, drop-drop, drop-take, length-replicate}
+use Rattle.std.proofs.lemmas.List.{append_assoc, take-append-drop, drop_at, take_at, get_or-drop, get_or-take}
+use Rattle.std.proofs.lemmas.List.{get_or_past, length-append, length-take, drop-drop, drop-take}
+use Rattle.std.proofs.lemmas.List.{length-replicate}
 use Rattle.std.proofs.lemmas.List.Elements.{All-nil, All-cons, All-head, All-tail}
 use Rattle.std.proofs.lemmas.Nat.{le_bytes_4, from_le_bytes-to_le_bytes_4}
 use Rattle.spec_frames.specs.Number.{AreBytes}
 use Rattle.spec_frames.specs.Frame.{IsAmsPacket, header_bytes, frame_bytes, Begins, IsBrokenText, IsBegunFrame, IsOpenText}
 use Rattle.spec_frames.specs.Division.{Divides, Front, Whole, Open, Broken, front_of, is_header, ams_length_of, packet_of, behind_frame, frames_of, rest_of}
-use Rattle.spec_frames.proofs.FrontLemmas.{has_frame, front_of-whole, has_broken_header, front_of-broken, open_cases, front_of-short, front_of-begun, has_size, length-packet_of}
+use Rattle.spec_frames.proofs.FrontLemmas.{has_frame, front_of-whole, has_broken_header, front_of-broken}
+use Rattle.spec_frames.proofs.FrontLemmas.{open_cases, front_of-short, front_of-begun, has_size}
+use Rattle.spec_frames.proofs.FrontLemmas.{length-packet_of}
 use Rattle.spec_frames.proofs.DivisionLemmas.{by_frames, frames_of-none, frames_of-whole, rest_of-none, rest_of-whole}
 
 pub AreBytes-drop : (n : ℕ) (bs : List ℕ) → AreBytes bs → AreBytes (drop n bs)

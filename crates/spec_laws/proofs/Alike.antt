@@ -43,7 +43,8 @@ acts-alike (a ∷ rest) m = alike_then (memory_after_acts (memory_after m a) res
     one (Allowed x) = puts-alike x.writes m
 
 -- reloads: what is kept is taken from the old memory
-reloaded-length : (kept : Kept) (m : List Block) (port : ℕ) (part : Part) (new : List Block) → (kept port part ≡ true → length (block_of m port part) ≡ length (block_of new port part))
+reloaded-length : (kept : Kept) (m : List Block) (port : ℕ) (part : Part) (new : List Block)
+    → (kept port part ≡ true → length (block_of m port part) ≡ length (block_of new port part))
     → length (block_of (memory_after_reload kept m new) port part) ≡ length (block_of new port part)
 unfolding memory_after_reload
 reloaded-length kept m port part [] h = refl
@@ -55,7 +56,8 @@ reloaded-length kept m port part (b ∷ bs) h =
           elim (cases_Bool (kept b.port b.part)) [
             | inl t ↦
                 let g = h (sym same ∙ t) in
-                let found : length (block_of m b.port b.part) ≡ length b.bytes = ap (λ n. length (block_of m n b.part)) i.same_port ∙ ap (λ x. length (block_of m port x)) i.same_part ∙ g ∙ ap (λ (x : Bool). length (cond x b.bytes (block_of bs port part))) u in
+                let found : length (block_of m b.port b.part) ≡ length b.bytes = ap (λ n. length (block_of m n b.part)) i.same_port
+                ∙ ap (λ x. length (block_of m port x)) i.same_part ∙ g ∙ ap (λ (x : Bool). length (cond x b.bytes (block_of bs port part))) u in
                 rw (t, u) found
             | inr t ↦ rw (t, u) refl
           ]
@@ -84,12 +86,25 @@ pub kept_symbol : (old new : Plant) (n : ℕ) (name : List ℕ) → is_kept old 
 unfolding is_kept
 kept_symbol old new n name t = go (port_numbered n old.ports) refl (port_numbered n new.ports) refl t
   where
-    both : (p q : PlantPort) → port_numbered n old.ports ≡ Some p → port_numbered n new.ports ≡ Some q → (x y : Option PlantSymbol) → symbol_named name p.symbols ≡ x → symbol_named name q.symbols ≡ y → is_kept_symbol x y ≡ true → KeptSymbol old new n name
+    both : (p q : PlantPort) → port_numbered n old.ports ≡ Some p → port_numbered n new.ports ≡ Some q → (x y : Option PlantSymbol)
+        → symbol_named name p.symbols ≡ x → symbol_named name q.symbols ≡ y → is_kept_symbol x y ≡ true → KeptSymbol old new n name
     both p q ep eq None y ex ey u = absurd (false≢true u)
     both p q ep eq (Some a) None ex ey u = absurd (false≢true u)
-    both p q ep eq (Some a) (Some b) ex ey u = record { before = p; before_found = ep; was = a; was_found = ex; after = q; after_found = eq; is = b; is_found = ey; size = same_type-size a.type b.type u }
+    both p q ep eq (Some a) (Some b) ex ey u =
+        record {
+          before = p;
+          before_found = ep;
+          was = a;
+          was_found = ex;
+          after = q;
+          after_found = eq;
+          is = b;
+          is_found = ey;
+          size = same_type-size a.type b.type u;
+        }
 
-    go : (o : Option PlantPort) → port_numbered n old.ports ≡ o → (x : Option PlantPort) → port_numbered n new.ports ≡ x → is_kept_part (SymbolPart name) o x ≡ true → KeptSymbol old new n name
+    go : (o : Option PlantPort) → port_numbered n old.ports ≡ o → (x : Option PlantPort)
+        → port_numbered n new.ports ≡ x → is_kept_part (SymbolPart name) o x ≡ true → KeptSymbol old new n name
     go None eo x ex u = absurd (false≢true u)
     go (Some p) eo None ex u = absurd (false≢true u)
     go (Some p) eo (Some q) ex u = both p q eo ex (symbol_named name p.symbols) (symbol_named name q.symbols) refl refl u
@@ -105,7 +120,8 @@ pub kept_port : (old new : Plant) (n : ℕ) → is_kept old new n StatePart ≡ 
 unfolding is_kept
 kept_port old new n t = go (port_numbered n old.ports) refl (port_numbered n new.ports) refl t
   where
-    go : (o : Option PlantPort) → port_numbered n old.ports ≡ o → (x : Option PlantPort) → port_numbered n new.ports ≡ x → is_kept_part StatePart o x ≡ true → KeptPort old new n
+    go : (o : Option PlantPort) → port_numbered n old.ports ≡ o → (x : Option PlantPort)
+        → port_numbered n new.ports ≡ x → is_kept_part StatePart o x ≡ true → KeptPort old new n
     go None eo x ex u = absurd (false≢true u)
     go (Some p) eo None ex u = absurd (false≢true u)
     go (Some p) eo (Some q) ex u = record { before = p; before_found = eo; after = q; after_found = ex }
@@ -120,9 +136,11 @@ no_area_kept old new n a t = go (port_numbered n old.ports) (port_numbered n new
     go (Some p) (Some q) u = false≢true u
 
 -- the bytes of a kept part are as many in both plants
-pub kept-length : (old new : Plant) → IsSoundPlant old → IsSoundPlant new → (n : ℕ) (part : Part) → is_kept old new n part ≡ true → length (block_of (first_memory old) n part) ≡ length (block_of (first_memory new) n part)
+pub kept-length : (old new : Plant) → IsSoundPlant old → IsSoundPlant new → (n : ℕ) (part : Part)
+    → is_kept old new n part ≡ true → length (block_of (first_memory old) n part) ≡ length (block_of (first_memory new) n part)
 kept-length old new so sn n (AreaPart a) t = absurd (no_area_kept old new n a t)
-kept-length old new so sn n StatePart t = let k = kept_port old new n t in first-states n k.before old.ports k.before_found ∙ sym (first-states n k.after new.ports k.after_found)
+kept-length old new so sn n StatePart t = let k = kept_port old new n t in
+    first-states n k.before old.ports k.before_found ∙ sym (first-states n k.after new.ports k.after_found)
 kept-length old new so sn n (SymbolPart name) t =
     let k = kept_symbol old new n name t in
     let p = port_sound old.ports old.ports n k.before so k.before_found in
@@ -132,7 +150,8 @@ kept-length old new so sn n (SymbolPart name) t =
     ap length (first-symbol n name k.before k.was old.ports k.before_found k.was_found) ∙ was.initial ∙ k.size
     ∙ sym is.initial ∙ sym (ap length (first-symbol n name k.after k.is new.ports k.after_found k.is_found))
 
-pub reload-alike : (old new : Plant) → IsSoundPlant old → IsSoundPlant new → (m : List Block) → Alike m (first_memory old) → Alike (memory_after_reload (is_kept old new) m (first_memory new)) (first_memory new)
+pub reload-alike : (old new : Plant) → IsSoundPlant old → IsSoundPlant new → (m : List Block)
+    → Alike m (first_memory old) → Alike (memory_after_reload (is_kept old new) m (first_memory new)) (first_memory new)
 reload-alike old new so sn m a = record {
   same = λ port part. reloaded-length (is_kept old new) m port part (first_memory new) (λ t. a.same port part ∙ kept-length old new so sn port part t);
 }

@@ -50,11 +50,14 @@ bit_put-here (suc k) v n l = bit_at-suc (with_bit (suc k) v n) k ∙ ap (λ (m :
 bit_put-others : (k v n i : ℕ) → v < 2 → i ≢ k → bit_at (with_bit k v n) i ≡ bit_at n i
 bit_put-others zero v n zero l ne = absurd (ne refl)
 bit_put-others zero v n (suc i) l ne =
-    bit_at-suc (with_bit 0 v n) i ∙ ap (λ (m : ℕ). bit_at (m / 2) i) (with_bit-zero v n) ∙ ap (λ (m : ℕ). bit_at m i) (div-mul-add (n / 2) 2 v l) ∙ sym (bit_at-suc n i)
+    bit_at-suc (with_bit 0 v n) i ∙ ap (λ (m : ℕ). bit_at (m / 2) i) (with_bit-zero v n)
+    ∙ ap (λ (m : ℕ). bit_at m i) (div-mul-add (n / 2) 2 v l) ∙ sym (bit_at-suc n i)
 bit_put-others (suc k) v n zero l ne =
-    ap (λ (m : ℕ). bit_at m 0) (with_bit-suc k v n) ∙ bit_at_lowest (with_bit k v (n / 2) * 2 + n % 2) ∙ mod-mul-add (with_bit k v (n / 2)) 2 (n % 2) (lowest n) ∙ sym (bit_at_lowest n)
+    ap (λ (m : ℕ). bit_at m 0) (with_bit-suc k v n) ∙ bit_at_lowest (with_bit k v (n / 2) * 2 + n % 2)
+    ∙ mod-mul-add (with_bit k v (n / 2)) 2 (n % 2) (lowest n) ∙ sym (bit_at_lowest n)
 bit_put-others (suc k) v n (suc i) l ne =
-    bit_at-suc (with_bit (suc k) v n) i ∙ ap (λ (m : ℕ). bit_at m i) (half_of k v n) ∙ bit_put-others k v (n / 2) i l (λ e. ne (ap (λ (m : ℕ). suc m) e)) ∙ sym (bit_at-suc n i)
+    bit_at-suc (with_bit (suc k) v n) i ∙ ap (λ (m : ℕ). bit_at m i) (half_of k v n)
+    ∙ bit_put-others k v (n / 2) i l (λ e. ne (ap (λ (m : ℕ). suc m) e)) ∙ sym (bit_at-suc n i)
 
 pub puts_bits : PutsBits
 puts_bits memory n bit value byte e =

@@ -16,7 +16,6 @@ use Rattle.spec_machine.specs.World.{World}
 use Rattle.spec_machine.specs.Access.{addressed_name, byte_after}
 use Rattle.spec_machine.specs.Client.{Client}
 use Rattle.spec_machine.specs.Acts.{writes_of_acts}
-use Rattle.spec_machine.specs.Answers.{AnswerTable}
 use Rattle.spec_machine.specs.Ticks.{signal_puts, world_after_tick}
 use Rattle.spec_machine.specs.AdsDevice.{DescriptionReading, reloading, ads_device}
 use Rattle.spec_machine.specs.Projection.{acts_at, acts_of_move}
@@ -41,34 +40,35 @@ gone-keeps : (o : Option (Connection Client)) (s : MachineState World Client) �
 gone-keeps None s = refl
 gone-keeps (Some k) s = refl
 
-piece-exact : (table : AnswerTable) (reading : DescriptionReading) (o : Option (Connection Client)) (bytes : List ℕ) (s : MachineState World Client) (n : ByteName) → (IsAmong n (writes_of_acts (acts_at table reading s bytes o)) → ⊥)
-    → byte_at (after_exchange o (after_piece (ads_device table reading) bytes) s).world.memory n ≡ byte_at s.world.memory n
-piece-exact table reading None bytes s n h = refl
-piece-exact table reading (Some k) bytes s n h =
+piece-exact : (reading : DescriptionReading) (o : Option (Connection Client)) (bytes : List ℕ) (s : MachineState World Client) (n : ByteName)
+    → (IsAmong n (writes_of_acts (acts_at reading s bytes o)) → ⊥)
+    → byte_at (after_exchange o (after_piece (ads_device reading) bytes) s).world.memory n ≡ byte_at s.world.memory n
+piece-exact reading None bytes s n h = refl
+piece-exact reading (Some k) bytes s n h =
     let R : ByteName → Type 0 = λ x. n ≡ x in
-    let g = piece-outside table reading R bytes (exchange_of s k) s.world.memory (agree_itself R s.world.memory) (each_apart n _ h) in
+    let g = piece-outside reading R bytes (exchange_of s k) s.world.memory (agree_itself R s.world.memory) (each_apart n _ h) in
     g.memory.same n refl
 
-reload-exact : (table : AnswerTable) (reading : DescriptionReading) (r : Result Description DescriptionFault) (s : MachineState World Client) (n : ByteName) → is_accepted r ≡ false
-    → byte_at (after_reload (ads_device table reading) (reloading s.world r) s).world.memory n ≡ byte_at s.world.memory n
-reload-exact table reading (Err fault) s n h = refl
-reload-exact table reading (Ok d) s n h = absurd (false≢true (sym h))
+reload-exact : (reading : DescriptionReading) (r : Result Description DescriptionFault) (s : MachineState World Client) (n : ByteName) → is_accepted r ≡ false
+    → byte_at (after_reload (ads_device reading) (reloading s.world r) s).world.memory n ≡ byte_at s.world.memory n
+reload-exact reading (Err fault) s n h = refl
+reload-exact reading (Ok d) s n h = absurd (false≢true (sym h))
 
 pub changes_only_by_writes : ChangesOnlyByWrites
 unfolding state_after_move state_after_event acts_of_move world_after_tick
-changes_only_by_writes table reading s (move.Event (event.Opened c)) n r h = refl
-changes_only_by_writes table reading s (move.Event (event.Piece c bytes)) n r h = piece-exact table reading (connection_of c s.connections) bytes s n h
-changes_only_by_writes table reading s (move.Event (event.Closed c)) n r h = ap (λ m. byte_at m n) (gone-keeps (connection_of c s.connections) s)
-changes_only_by_writes table reading s (move.Event (event.Tick t)) n r h =
+changes_only_by_writes reading s (move.Event (event.Opened c)) n r h = refl
+changes_only_by_writes reading s (move.Event (event.Piece c bytes)) n r h = piece-exact reading (connection_of c s.connections) bytes s n h
+changes_only_by_writes reading s (move.Event (event.Closed c)) n r h = ap (λ m. byte_at m n) (gone-keeps (connection_of c s.connections) s)
+changes_only_by_writes reading s (move.Event (event.Tick t)) n r h =
     let R : ByteName → Type 0 = λ x. n ≡ x in
     let puts = signal_puts s.world.plant.ports 0 s.world.signals in
     let g = puts-outside R puts s.world.memory s.world.memory (each_apart n (names_of_puts puts) h) (agree_itself R s.world.memory) in
     g.same n refl
-changes_only_by_writes table reading s (move.Event (event.Reload bytes)) n r h = reload-exact table reading (reading bytes (length s.world.signals)) s n r
-changes_only_by_writes table reading s (move.Event (event.Writable c)) n r h = refl
-changes_only_by_writes table reading s (move.Took c offered bytes) n r h = ap (λ m. byte_at m n) (took-keeps (connection_of c s.connections) (length bytes) s)
-changes_only_by_writes table reading s (move.Lost c) n r h = ap (λ m. byte_at m n) (gone-keeps (connection_of c s.connections) s)
-changes_only_by_writes table reading s (move.Shut c) n r h = ap (λ m. byte_at m n) (gone-keeps (connection_of c s.connections) s)
+changes_only_by_writes reading s (move.Event (event.Reload bytes)) n r h = reload-exact reading (reading bytes (length s.world.signals)) s n r
+changes_only_by_writes reading s (move.Event (event.Writable c)) n r h = refl
+changes_only_by_writes reading s (move.Took c offered bytes) n r h = ap (λ m. byte_at m n) (took-keeps (connection_of c s.connections) (length bytes) s)
+changes_only_by_writes reading s (move.Lost c) n r h = ap (λ m. byte_at m n) (gone-keeps (connection_of c s.connections) s)
+changes_only_by_writes reading s (move.Shut c) n r h = ap (λ m. byte_at m n) (gone-keeps (connection_of c s.connections) s)
 
 pub puts_are_exact : PutsAreExact
 puts_are_exact memory p = record {

@@ -10,9 +10,14 @@ use Rattle.spec_plant.specs.World.{Plant, PlantPort, PlantSymbol, lower_name, sy
 use Rattle.spec_plant.specs.Finding.{Found, whole_of, is_named_by, steps_behind_name, found_in_symbol, found_of_steps, without_nul, found_of}
 use Rattle.spec_plant.proofs.PartLemmas.{part_behind-end}
 use Rattle.spec_formats.specs.Codes.{invalid_size, invalid_group, symbol_not_found}
-use Rattle.spec_formats.specs.Groups.{Group, AreaBytes, AreaBit, AreaSize, HandleByName, ValueByName, ValueByHandle, ReleaseHandle, InfoByName, SymbolVersion, ExtendedInfoByName, SymbolUpload, UploadInfo, TypeUpload, UploadInfoWithTypes}
+use Rattle.spec_formats.specs.Groups.{Group, AreaBytes, AreaBit, AreaSize, HandleByName, ValueByName}
+use Rattle.spec_formats.specs.Groups.{ValueByHandle, ReleaseHandle, InfoByName, SymbolVersion}
+use Rattle.spec_formats.specs.Groups.{ExtendedInfoByName, SymbolUpload, UploadInfo, TypeUpload}
+use Rattle.spec_formats.specs.Groups.{UploadInfoWithTypes}
 use Rattle.spec_formats.specs.Ranges.{greatest_len, byte_range, bit_range, range_in}
-use Rattle.spec_formats.specs.Request.{Request, ReadDeviceInfo, Read, Write, ReadState, WriteControl, AddDeviceNotification, DeleteDeviceNotification, DeviceNotification, ReadWrite}
+use Rattle.spec_formats.specs.Request.{Request, ReadDeviceInfo, Read, Write, ReadState, WriteControl}
+use Rattle.spec_formats.specs.Request.{AddDeviceNotification, DeleteDeviceNotification, DeviceNotification}
+use Rattle.spec_formats.specs.Request.{ReadWrite}
 use Rattle.spec_machine.proofs.Emptied.{or_false}
 use Rattle.spec_machine.specs.World.{Setup, port_numbered, numbers_from, name_at, names_at}
 use Rattle.spec_machine.specs.Access.{Addressed, WholeByte, addressed_name, Put}
@@ -20,7 +25,7 @@ use Rattle.spec_machine.specs.Handles.{HandleStatus, Never, Released, Outdated, 
 use Rattle.spec_machine.specs.Watches.{Watch, Mode}
 use Rattle.spec_machine.specs.Client.{Place, Client, Effect, NoEffect, Grants, Releases, Adds, Deletes}
 use Rattle.spec_machine.specs.Acts.{Act, Refusal, Allowed, fixed_data, reading, writing, changing}
-use Rattle.spec_machine.specs.Answers.{AnswerTable, answered_group}
+use Rattle.spec_machine.specs.Answers.{answered_group}
 use Rattle.spec_machine.specs.Reach.{addressed_by_range, addressed_in_place, addressed_by_status, reach_of}
 use Rattle.spec_machine.specs.Reads.{fixed_reply, type_upload_reply, read_act, read_group}
 use Rattle.spec_machine.specs.Writes.{Asker, write_act, release_act, write_group, control_act}
@@ -44,7 +49,8 @@ pub record IsAsked (plant : Plant) (p : PlantPort) : Type 0 where
 abbrev pub AreNamed : Plant → List Addressed → Type 0
 AreNamed plant places = Each (IsNamed plant) (map addressed_name places)
 
-names-fine : (R : ByteName → Type 0) (f : ℕ → ByteName) (n first : ℕ) → ((i : ℕ) → first ≤ i → i < first + n → R (f i)) → Each R (map addressed_name (map WholeByte (map f (numbers_from first n))))
+names-fine : (R : ByteName → Type 0) (f : ℕ → ByteName) (n first : ℕ) → ((i : ℕ) → first ≤ i → i < first + n → R (f i))
+    → Each R (map addressed_name (map WholeByte (map f (numbers_from first n))))
 unfolding numbers_from
 names-fine R f zero first h = tt
 names-fine R f (suc n) first h = (h first (omega arith) (omega arith), names-fine R f n (first + 1) (λ i l u. h i (omega (arith, l)) (omega (arith, u))))
@@ -75,7 +81,8 @@ fine_if : (plant : Plant) (b : Bool) (x y : Result (List Addressed) ℕ) → Fin
 fine_if plant true x y p q = p
 fine_if plant false x y p q = q
 
-bytes-fine : (plant : Plant) (p : PlantPort) → IsAsked plant p → (a : Area) (offset len : ℕ) → FineReach plant (addressed_by_range p (byte_range a (size_in p.sizes a) offset len))
+bytes-fine : (plant : Plant) (p : PlantPort) → IsAsked plant p → (a : Area) (offset len : ℕ)
+    → FineReach plant (addressed_by_range p (byte_range a (size_in p.sizes a) offset len))
 unfolding byte_range names_at
 bytes-fine plant p k a offset len =
     elim (cases_Bool (nat_lt (size_in p.sizes a) offset)) [
@@ -84,11 +91,13 @@ bytes-fine plant p k a offset len =
         | inl u ↦ rw u (fine_err plant _)
         | inr u ↦
             let l = ltb-false (size_in p.sizes a) (offset + len) (or_false (nat_lt (size_in p.sizes a) (offset + len)) (nat_lt greatest_len len) u).0 in
-            rw u (fine_ok plant _ (names-fine (IsNamed plant) (name_at p a) len offset (λ i low high. area-named plant k.sound p k.found a i (omega (arith, l, high)))))
+            rw u (fine_ok plant _
+            (names-fine (IsNamed plant) (name_at p a) len offset (λ i low high. area-named plant k.sound p k.found a i (omega (arith, l, high)))))
       ])
     ]
 
-bit-fine : (plant : Plant) (p : PlantPort) → IsAsked plant p → (a : Area) (offset len : ℕ) → FineReach plant (addressed_by_range p (bit_range a (size_in p.sizes a) offset len))
+bit-fine : (plant : Plant) (p : PlantPort) → IsAsked plant p → (a : Area) (offset len : ℕ)
+    → FineReach plant (addressed_by_range p (bit_range a (size_in p.sizes a) offset len))
 unfolding bit_range
 bit-fine plant p k a offset len =
     elim (cases_Bool (nat_le (size_in p.sizes a) (offset / 8))) [
@@ -99,18 +108,21 @@ bit-fine plant p k a offset len =
       ])
     ]
 
-place-fine : (plant : Plant) (port : ℕ) (place : Place) → IsSoundPlant plant → IsPlaced plant port place → (len : ℕ) → FineReach plant (addressed_in_place port place len)
+place-fine : (plant : Plant) (port : ℕ) (place : Place) → IsSoundPlant plant
+    → IsPlaced plant port place → (len : ℕ) → FineReach plant (addressed_in_place port place len)
 place-fine plant port place sound i len =
     elim (cases_Bool (nat_lt place.len len)) [
       | inl t ↦ rw t (fine_err plant _)
       | inr t ↦
           let l = ltb-false place.len len t in
           let e = i.ends in
-          rw t (fine_ok plant _ (names-fine (IsNamed plant) (λ n. record { port = port; part = Rattle.spec_plant.specs.World.SymbolPart place.symbol; index = n }) len place.first
+          rw t (fine_ok plant _
+          (names-fine (IsNamed plant) (λ n. record { port = port; part = Rattle.spec_plant.specs.World.SymbolPart place.symbol; index = n }) len place.first
           (λ n low high. symbol-named plant sound port i.asked place.symbol i.symbol i.port_found i.symbol_found n (omega (arith, l, e, high)))))
     ]
 
-status-fine : (plant : Plant) (port : ℕ) → IsSoundPlant plant → (s : HandleStatus Place) → IsPlacedStatus plant port s → (len : ℕ) → FineReach plant (addressed_by_status port s len)
+status-fine : (plant : Plant) (port : ℕ) → IsSoundPlant plant → (s : HandleStatus Place)
+    → IsPlacedStatus plant port s → (len : ℕ) → FineReach plant (addressed_by_status port s len)
 status-fine plant port sound Never h len = fine_err plant _
 status-fine plant port sound Released h len = fine_err plant _
 status-fine plant port sound Outdated h len = fine_err plant _
@@ -129,16 +141,19 @@ kept-placed plant (h ∷ hs) n port e =
       | inr t ↦ rw t (kept-placed plant hs (n - 1) port (e.1))
     ]
 
-pub reach-fine : (plant : Plant) (c : Client) (p : PlantPort) → IsAsked plant p → Each (IsPlacedHandle plant) c.handles → (g : Option Group) (offset len : ℕ) → FineReach plant (reach_of c p g offset len)
+pub reach-fine : (plant : Plant) (c : Client) (p : PlantPort) → IsAsked plant p → Each (IsPlacedHandle plant) c.handles
+    → (g : Option Group) (offset len : ℕ) → FineReach plant (reach_of c p g offset len)
 unfolding reach_of range_in
 reach-fine plant c p k e (Some (AreaBytes a)) offset len = bytes-fine plant p k a offset len
 reach-fine plant c p k e (Some (AreaBit a)) offset len = bit-fine plant p k a offset len
-reach-fine plant c p k e (Some ValueByHandle) offset len = status-fine plant p.number k.sound (kept_status c.handles offset p.number) (kept-placed plant c.handles offset p.number e) len
+reach-fine plant c p k e (Some ValueByHandle) offset len =
+    status-fine plant p.number k.sound (kept_status c.handles offset p.number) (kept-placed plant c.handles offset p.number e) len
 reach-fine plant c p k e g offset len = fine_err plant _
 
 -- a name leads to a place within a symbol of the port
 
-pub found-placed : (plant : Plant) (p : PlantPort) → IsAsked plant p → (name : List ℕ) (f : Found) → found_of p.symbols name ≡ Some f → IsPlaced plant p.number (place_of f)
+pub found-placed : (plant : Plant) (p : PlantPort) → IsAsked plant p → (name : List ℕ) (f : Found)
+    → found_of p.symbols name ≡ Some f → IsPlaced plant p.number (place_of f)
 unfolding found_of
 found-placed plant p k name f e = steps_go (steps_of (without_nul name)) e
   where
@@ -165,9 +180,12 @@ found-placed plant p k name f e = steps_go (steps_of (without_nul name)) e
           | inr t ↦ let g : find test xs ≡ Some s = rw t at q in among test xs s (h.1) g
         ]
 
-    symbol_go : (steps : List Step) (o : Option PlantSymbol) → find (is_named_by steps) p.symbols ≡ o → option_and_then (found_in_symbol steps) o ≡ Some f → IsPlaced plant p.number (place_of f)
+    symbol_go : (steps : List Step) (o : Option PlantSymbol) → find (is_named_by steps) p.symbols ≡ o
+        → option_and_then (found_in_symbol steps) o ≡ Some f → IsPlaced plant p.number (place_of f)
     symbol_go steps None q g = cc
-    symbol_go steps (Some s) q g = placed s (among (is_named_by steps) p.symbols s sound q) (steps_behind_name steps s) (part_behind (whole_of s) (steps_behind_name steps s)) refl (steps_behind_name steps s) g
+    symbol_go steps (Some s) q g =
+        placed s (among (is_named_by steps) p.symbols s sound q) (steps_behind_name steps s)
+        (part_behind (whole_of s) (steps_behind_name steps s)) refl (steps_behind_name steps s) g
 
     steps_go : (o : Option (List Step)) → option_and_then (found_of_steps p.symbols) o ≡ Some f → IsPlaced plant p.number (place_of f)
     steps_go None g = cc
@@ -254,43 +272,53 @@ if_found-fine : (plant : Plant) (o : Option Found) (act : Found → Act) → ((f
 if_found-fine plant None act h = act_refusal plant symbol_not_found
 if_found-fine plant (Some f) act h = h f refl
 
-read_write-fine : (plant : Plant) (c : Client) (p : PlantPort) → IsAsked plant p → (g : Option Group) (len : ℕ) (name : List ℕ) → FineAct plant (read_write_group c p g len name)
+read_write-fine : (plant : Plant) (c : Client) (p : PlantPort) → IsAsked plant p
+    → (g : Option Group) (len : ℕ) (name : List ℕ) → FineAct plant (read_write_group c p g len name)
 unfolding read_write_group
 read_write-fine plant c p k (Some HandleByName) len name =
-    let inside = if_found-fine plant (found_of p.symbols name) (λ f. grant_act c p (place_of f)) (λ f e. grant-fine plant c p (place_of f) (found-placed plant p k name f e)) in
-    act_if plant (nat_lt len 4) (Refusal invalid_size) (if_found (found_of p.symbols name) (λ f. grant_act c p (place_of f))) (act_refusal plant invalid_size) inside
+    let inside = if_found-fine plant (found_of p.symbols name) (λ f. grant_act c p (place_of f))
+    (λ f e. grant-fine plant c p (place_of f) (found-placed plant p k name f e)) in
+    act_if plant (nat_lt len 4) (Refusal invalid_size)
+    (if_found (found_of p.symbols name) (λ f. grant_act c p (place_of f))) (act_refusal plant invalid_size) inside
 read_write-fine plant c p k (Some ValueByName) len name =
     if_found-fine plant (found_of p.symbols name) (λ f. value_act p len (place_of f)) (λ f e. act_if plant _ _ _ (act_refusal plant _) (act_reading plant _))
 read_write-fine plant c p k (Some InfoByName) len name =
     let inside = if_found-fine plant (found_of p.symbols name) (λ f. fixed_data (info_of f)) (λ f e. act_fixed plant (info_of f)) in
-    act_if plant (nat_lt len 12) (Refusal invalid_size) (if_found (found_of p.symbols name) (λ f. fixed_data (info_of f))) (act_refusal plant invalid_size) inside
-read_write-fine plant c p k (Some ExtendedInfoByName) len name = if_found-fine plant (found_of p.symbols name) (λ f. fixed_reply len (entry_bytes (entry_of_part f))) (λ f e. search (act_if, act_refusal, act_fixed))
+    act_if plant (nat_lt len 12) (Refusal invalid_size)
+    (if_found (found_of p.symbols name) (λ f. fixed_data (info_of f))) (act_refusal plant invalid_size) inside
+read_write-fine plant c p k (Some ExtendedInfoByName) len name =
+    if_found-fine plant (found_of p.symbols name) (λ f. fixed_reply len (entry_bytes (entry_of_part f))) (λ f e. search (act_if, act_refusal, act_fixed))
 read_write-fine plant c p k g len name = act_refusal plant invalid_group
 
 watch-fine : (plant : Plant) (c : Client) (w : Watch (List Addressed)) → AreNamed plant w.watched → FineAct plant (add_watch c w)
 watch-fine plant c w h =
-    act_if plant (nat_le MAX_WATCHES (length c.watches) || nat_le MAX_NUMBER c.additions) (Refusal no_more_notifications) (changing (to_le_bytes w32 w.handle) (Adds w))
+    act_if plant (nat_le MAX_WATCHES (length c.watches) || nat_le MAX_NUMBER c.additions)
+    (Refusal no_more_notifications) (changing (to_le_bytes w32 w.handle) (Adds w))
     (act_refusal plant no_more_notifications) (act_changing plant (to_le_bytes w32 w.handle) (Adds w) h)
 
-add_reached-fine : (plant : Plant) (c : Client) (k : Asker) (mode : Mode) (len cycle : ℕ) (r : Result (List Addressed) ℕ) → FineReach plant r → FineAct plant (add_reached c k mode len cycle r)
+add_reached-fine : (plant : Plant) (c : Client) (k : Asker) (mode : Mode) (len cycle : ℕ) (r : Result (List Addressed) ℕ)
+    → FineReach plant r → FineAct plant (add_reached c k mode len cycle r)
 add_reached-fine plant c k mode len cycle (Err code) h = act_refusal plant code
 add_reached-fine plant c k mode len cycle (Ok places) h =
     let w : Watch (List Addressed) = next_watch c k mode cycle places in
     act_if plant (len == 0) (Refusal invalid_size) (add_watch c w) (act_refusal plant invalid_size) (watch-fine plant c w (h.named places refl))
 
-add-fine : (plant : Plant) (c : Client) (k : Asker) (g : Option Group) (offset len cycle : ℕ) (mode : Option Mode) → FineReach plant (reach_of c k.port g offset len) → FineAct plant (add_act c k g offset len cycle mode)
+add-fine : (plant : Plant) (c : Client) (k : Asker) (g : Option Group) (offset len cycle : ℕ) (mode : Option Mode)
+    → FineReach plant (reach_of c k.port g offset len) → FineAct plant (add_act c k g offset len cycle mode)
 add-fine plant c k g offset len cycle None h = act_refusal plant _
-add-fine plant c k g offset len cycle (Some mode) h = act_if plant _ _ _ (act_refusal plant _) (add_reached-fine plant c k mode len cycle (reach_of c k.port g offset len) h)
+add-fine plant c k g offset len cycle (Some mode) h =
+    act_if plant _ _ _ (act_refusal plant _) (add_reached-fine plant c k mode len cycle (reach_of c k.port g offset len) h)
 
-pub act-fine : (table : AnswerTable) (plant : Plant) (d : Setup) (c : Client) (k : Asker) → IsAsked plant k.port → Each (IsPlacedHandle plant) c.handles → (r : Request) → FineAct plant (act_of table d c k r)
+pub act-fine : (plant : Plant) (d : Setup) (c : Client) (k : Asker) → IsAsked plant k.port
+    → Each (IsPlacedHandle plant) c.handles → (r : Request) → FineAct plant (act_of d c k r)
 unfolding act_of
-act-fine table plant d c k i e ReadDeviceInfo = act_fixed plant _
-act-fine table plant d c k i e (Read group offset len) = read_group-fine plant d c k.port (answered_group table _ group) offset len
-act-fine table plant d c k i e (Write group offset bytes) = write_group-fine plant c k (answered_group table _ group) offset bytes
-act-fine table plant d c k i e ReadState = act_reading plant _
-act-fine table plant d c k i e (WriteControl ads device bytes) = control-fine plant k ads device
-act-fine table plant d c k i e (AddDeviceNotification group offset len mode delay cycle) =
-    add-fine plant c k (answered_group table _ group) offset len cycle _ (reach-fine plant c k.port i e (answered_group table _ group) offset len)
-act-fine table plant d c k i e (DeleteDeviceNotification handle) = act_if plant _ _ _ (act_changing plant [] (Deletes handle) tt) (act_refusal plant _)
-act-fine table plant d c k i e (DeviceNotification bytes) = act_fixed plant _
-act-fine table plant d c k i e (ReadWrite group offset len bytes) = read_write-fine plant c k.port i (answered_group table _ group) len bytes
+act-fine plant d c k i e ReadDeviceInfo = act_fixed plant _
+act-fine plant d c k i e (Read group offset len) = read_group-fine plant d c k.port (answered_group _ group) offset len
+act-fine plant d c k i e (Write group offset bytes) = write_group-fine plant c k (answered_group _ group) offset bytes
+act-fine plant d c k i e ReadState = act_reading plant _
+act-fine plant d c k i e (WriteControl ads device bytes) = control-fine plant k ads device
+act-fine plant d c k i e (AddDeviceNotification group offset len mode delay cycle) =
+    add-fine plant c k (answered_group _ group) offset len cycle _ (reach-fine plant c k.port i e (answered_group _ group) offset len)
+act-fine plant d c k i e (DeleteDeviceNotification handle) = act_if plant _ _ _ (act_changing plant [] (Deletes handle) tt) (act_refusal plant _)
+act-fine plant d c k i e (DeviceNotification bytes) = act_fixed plant _
+act-fine plant d c k i e (ReadWrite group offset len bytes) = read_write-fine plant c k.port i (answered_group _ group) len bytes

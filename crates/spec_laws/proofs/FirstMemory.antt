@@ -18,7 +18,8 @@ pub first-states : (n : ℕ) (p : PlantPort) (ps : List PlantPort) → port_numb
 first-states n p ps e = ap length (states_first n p ps e)
 
 -- an area's block is as long as the area
-pub first-area : (n : ℕ) (a : Area) (p : PlantPort) (ps : List PlantPort) → port_numbered n ps ≡ Some p → length (block_of (flat_map first_blocks ps) n (AreaPart a)) ≡ size_in p.sizes a
+pub first-area : (n : ℕ) (a : Area) (p : PlantPort) (ps : List PlantPort) → port_numbered n ps ≡ Some p
+    → length (block_of (flat_map first_blocks ps) n (AreaPart a)) ≡ size_in p.sizes a
 first-area n a p ps e = ap length (area_first n a p ps e) ∙ length-replicate (size_in p.sizes a) 0
 
 -- a name that a plant has: its byte is within its part
@@ -26,7 +27,8 @@ abbrev pub IsNamed : Plant → ByteName → Type 0
 IsNamed plant n = n.index < length (block_of (first_memory plant) n.port n.part)
 
 -- the bytes of a symbol of the plant have names of it
-pub symbol-named : (plant : Plant) → IsSoundPlant plant → (n : ℕ) (p : PlantPort) (name : List ℕ) (s : PlantSymbol) → port_numbered n plant.ports ≡ Some p → symbol_named name p.symbols ≡ Some s
+pub symbol-named : (plant : Plant) → IsSoundPlant plant → (n : ℕ) (p : PlantPort) (name : List ℕ) (s : PlantSymbol)
+    → port_numbered n plant.ports ≡ Some p → symbol_named name p.symbols ≡ Some s
     → (i : ℕ) → i < symbol_size s → IsNamed plant (record { port = n; part = SymbolPart name; index = i })
 symbol-named plant sound n p name s e f i h =
     let port = port_sound plant.ports plant.ports n p sound e in
@@ -35,7 +37,8 @@ symbol-named plant sound n p name s e f i h =
     omega (arith, len, h)
 
 -- the name of each byte of an area is one of the plant
-among-named : (plant : Plant) → IsSoundPlant plant → (p : PlantPort) → port_numbered p.number plant.ports ≡ Some p → (a : Area) (i : ℕ) → i < size_in p.sizes a → (ss : List PlantSymbol) → Each (IsSoundSymbol p) ss → IsNamed plant (name_among p.number a i ss)
+among-named : (plant : Plant) → IsSoundPlant plant → (p : PlantPort) → port_numbered p.number plant.ports ≡ Some p → (a : Area) (i : ℕ)
+    → i < size_in p.sizes a → (ss : List PlantSymbol) → Each (IsSoundSymbol p) ss → IsNamed plant (name_among p.number a i ss)
 among-named plant sound p e a i h [] s = let l = first-area p.number a p plant.ports e in omega (arith, l, h)
 among-named plant sound p e a i h (x ∷ xs) s =
     elim (cases_Bool (covers a i x)) [
@@ -48,7 +51,8 @@ among-named plant sound p e a i h (x ∷ xs) s =
           rw t (symbol-named plant sound p.number p (lower_name x) x e s.0.found (i - x.offset) (omega (arith, low, high)))
     ]
 
-pub area-named : (plant : Plant) → IsSoundPlant plant → (p : PlantPort) → port_numbered p.number plant.ports ≡ Some p → (a : Area) (i : ℕ) → i < size_in p.sizes a → IsNamed plant (name_at p a i)
+pub area-named : (plant : Plant) → IsSoundPlant plant → (p : PlantPort) → port_numbered p.number plant.ports ≡ Some p
+    → (a : Area) (i : ℕ) → i < size_in p.sizes a → IsNamed plant (name_at p a i)
 unfolding name_at
 area-named plant sound p e a i h =
     let port = port_sound plant.ports plant.ports p.number p sound e in

@@ -30,7 +30,8 @@ abbrev symbol_byte : ℕ → List ℕ → ℕ → ByteName
 symbol_byte port symbol k = record { port = port; part = SymbolPart symbol; index = k }
 
 -- other names keep their bytes
-puts-others : (port : ℕ) (symbol : List ℕ) (bytes : List ℕ) (first : ℕ) (m : List Block) (n : ByteName) → (IsAmong n (symbol_names port symbol first (length bytes)) → ⊥)
+puts-others : (port : ℕ) (symbol : List ℕ) (bytes : List ℕ) (first : ℕ) (m : List Block) (n : ByteName)
+    → (IsAmong n (symbol_names port symbol first (length bytes)) → ⊥)
     → byte_at (memory_after_puts m (puts_at port symbol first bytes)) n ≡ byte_at m n
 unfolding memory_after_puts numbers_from
 puts-others port symbol [] first m n h = refl
@@ -61,12 +62,14 @@ still_there m n x b there e =
     some None ne e = ne refl
     some (Some y) ne e = cc
 
-all_still_there : (m : List Block) (n : ByteName) (b : ℕ) (ns : List ByteName) → Each (λ x. byte_at m x ≢ None) ns → Each (λ x. byte_at (memory_after_put m (put_byte n b)) x ≢ None) ns
+all_still_there : (m : List Block) (n : ByteName) (b : ℕ) (ns : List ByteName)
+    → Each (λ x. byte_at m x ≢ None) ns → Each (λ x. byte_at (memory_after_put m (put_byte n b)) x ≢ None) ns
 all_still_there m n b [] e = tt
 all_still_there m n b (x ∷ xs) e = (still_there m n x b (e.0), all_still_there m n b xs (e.1))
 
 -- and what was put is read there
-puts-read : (port : ℕ) (symbol : List ℕ) (bytes : List ℕ) (first : ℕ) (m : List Block) → Each (λ n. byte_at m n ≢ None) (symbol_names port symbol first (length bytes))
+puts-read : (port : ℕ) (symbol : List ℕ) (bytes : List ℕ) (first : ℕ) (m : List Block)
+    → Each (λ n. byte_at m n ≢ None) (symbol_names port symbol first (length bytes))
     → values_at (memory_after_puts m (puts_at port symbol first bytes)) (map WholeByte (symbol_names port symbol first (length bytes))) ≡ bytes
 unfolding memory_after_puts numbers_from
 puts-read port symbol [] first m there = refl
@@ -74,7 +77,8 @@ puts-read port symbol (b ∷ bs) first m there =
     let n = symbol_byte port symbol first in
     let w : List Block = memory_after_put m (put_byte n b) in
     let here : byte_at (memory_after_puts w (puts_at port symbol (first + 1) bs)) n ≡ Some b =
-    puts-others port symbol bs (first + 1) w n (earlier port symbol (length bs) (first + 1) first (omega arith)) ∙ byte_at-same m n (λ old. b) ∙ put_there (byte_at m n) (there.0) in
+    puts-others port symbol bs (first + 1) w n (earlier port symbol (length bs) (first + 1) first (omega arith))
+    ∙ byte_at-same m n (λ old. b) ∙ put_there (byte_at m n) (there.0) in
     let front = ap (λ (o : Option ℕ). unwrap_or o 0) here in
     let back = puts-read port symbol bs (first + 1) w (all_still_there m n b (symbol_names port symbol (first + 1) (length bs)) (there.1)) in
     rw (front, back) refl
@@ -88,7 +92,8 @@ record WritesAt (port : ℕ) (place : Place) (bytes : List ℕ) (access : Access
   fits : length bytes ≤ place.len
   writes : access.writes ≡ puts_at port place.symbol place.first bytes
 
-act-writes : (k : Asker) (port : ℕ) (place : Place) (bytes : List ℕ) (access : Access) → write_act k bytes (addressed_in_place port place (length bytes)) ≡ Allowed access → WritesAt port place bytes access
+act-writes : (k : Asker) (port : ℕ) (place : Place) (bytes : List ℕ) (access : Access)
+    → write_act k bytes (addressed_in_place port place (length bytes)) ≡ Allowed access → WritesAt port place bytes access
 act-writes k port place bytes access e =
     elim (cases_Bool (nat_lt place.len (length bytes))) [
       | inl t ↦ let f : Refusal _ ≡ Allowed access = rw t at e in cc
@@ -108,7 +113,8 @@ act-writes k port place bytes access e =
     writes_in (Refusal code) = []
     writes_in (Allowed a) = a.writes
 
-group-writes : (c : Client) (k : Asker) (handle : ℕ) (place : Place) (bytes : List ℕ) (access : Access) → kept_status c.handles handle k.port.number ≡ Live place
+group-writes : (c : Client) (k : Asker) (handle : ℕ) (place : Place) (bytes : List ℕ) (access : Access)
+    → kept_status c.handles handle k.port.number ≡ Live place
     → (g : Option Group) → (g ≡ Some ValueByHandle) ⊎ (g ≡ None) → write_group c k g handle bytes ≡ Allowed access → WritesAt k.port.number place bytes access
 unfolding write_group reach_of
 group-writes c k handle place bytes access live g (inr none) e =
@@ -119,7 +125,8 @@ group-writes c k handle place bytes access live g (inl some) e =
     elim (cases_Bool (may_write k.rights)) [
       | inr t ↦ let h : Refusal _ ≡ Allowed access = rw t at f in cc
       | inl t ↦
-          let h : write_act k bytes (addressed_by_status k.port.number (kept_status c.handles handle k.port.number) (length bytes)) ≡ Allowed access = rw t at f in
+          let h : write_act k bytes (addressed_by_status k.port.number (kept_status c.handles handle k.port.number) (length bytes)) ≡ Allowed access =
+          rw t at f in
           act-writes k k.port.number place bytes access (subst P live h)
     ]
 

@@ -10,7 +10,8 @@ use Rattle.ads_outside.specs.declared.moves.Move.TheVariants as move
 use Rattle.spec_machine.specs.Device.{FrameOutcome, DescriptionFault}
 use Rattle.spec_machine.specs.Connection.{Connection, fresh_connection, connection_of, is_deaf}
 use Rattle.spec_machine.specs.MachineState.{MachineState, Exchange, exchange_of, after_exchange}
-use Rattle.spec_machine.specs.Piece.{with_received, packets_left, with_one_taken, with_client, after_outcome, after_packet, after_packets, with_piece, end_of_piece, after_piece}
+use Rattle.spec_machine.specs.Piece.{with_received, packets_left, with_one_taken, with_client, after_outcome}
+use Rattle.spec_machine.specs.Piece.{after_packet, after_packets, with_piece, end_of_piece, after_piece}
 use Rattle.spec_machine.specs.Moves.{with_gone, with_took, state_after_move, state_after}
 use Rattle.spec_machine.specs.Events.{after_client_outcome, moment_of_tick, connection_after_tick, connection_after_reload, after_reload, state_after_event}
 use Rattle.spec_machine.specs.World.{World, setup_of}
@@ -18,7 +19,6 @@ use Rattle.spec_machine.specs.Handles.{Handle, HandleEvent, kept_status, handles
 use Rattle.spec_machine.specs.HandleLaws.{handles_after_all, handles_of}
 use Rattle.spec_machine.specs.Client.{Place, Client, Effect, NoEffect, Grants, Releases, Adds, Deletes, client_after, client_after_reload}
 use Rattle.spec_machine.specs.Acts.{Act, effect_of, client_after_acts}
-use Rattle.spec_machine.specs.Answers.{AnswerTable}
 use Rattle.spec_machine.specs.Decisions.{Decision, acts_in}
 use Rattle.spec_machine.specs.Packets.{decide}
 use Rattle.spec_machine.specs.Replies.{performed}
@@ -31,7 +31,9 @@ use Rattle.spec_machine.proofs.Growth.{after_piece-grows, connection_after_tick-
 use Rattle.spec_machine.proofs.Changes.{KeepsNumber, exchange_own, exchange_other, exchange_none, with_gone-number, with_took-number}
 use Rattle.spec_machine.proofs.HandleStatuses.{status_is_history}
 use Rattle.spec_laws.specs.Isolation.{start}
-use Rattle.spec_laws.specs.Histories.{handle_events_of, handle_events_of_acts, handle_events_of_reload, is_heard, handle_events_of_event, handle_events_of_move, handle_history, HandlesAreHistory}
+use Rattle.spec_laws.specs.Histories.{handle_events_of, handle_events_of_acts, handle_events_of_reload}
+use Rattle.spec_laws.specs.Histories.{is_heard, handle_events_of_event, handle_events_of_move, handle_history}
+use Rattle.spec_laws.specs.Histories.{HandlesAreHistory}
 use Rattle.spec_laws.proofs.Exchanges.{produce_all-client, answer-client, rest-client}
 
 all-append : (hs : List (Handle Place)) (es fs : List (HandleEvent Place)) → handles_after_all hs (es ++ fs) ≡ handles_after_all (handles_after_all hs es) fs
@@ -63,12 +65,13 @@ acts-append [] bs c = refl
 acts-append (a ∷ rest) bs c = acts-append rest bs (client_after c (effect_of a))
 
 -- the client after a piece is the one after its acts
-packet-client : (table : AnswerTable) (reading : DescriptionReading) (p : List ℕ) (x : Exchange World Client) → (after_packet (ads_device table reading) p x).connection.client ≡ client_after_acts x.connection.client (acts_of_packet table p x)
+packet-client : (reading : DescriptionReading) (p : List ℕ) (x : Exchange World Client)
+    → (after_packet (ads_device reading) p x).connection.client ≡ client_after_acts x.connection.client (acts_of_packet p x)
 unfolding after_packet performed client_after_acts
-packet-client table reading p x = go x.connection.closing
+packet-client reading p x = go x.connection.closing
   where
     decision : Decision
-    decision = decide table (setup_of x.world) x.connection.client p
+    decision = decide (setup_of x.world) x.connection.client p
 
     o : FrameOutcome World Client
     o = performed decision p x.world x.connection.client
@@ -77,29 +80,31 @@ packet-client table reading p x = go x.connection.closing
     go true = refl
     go false = answer-client o.answer (with_client o.client (with_one_taken x.connection))
 
-packets-client : (table : AnswerTable) (reading : DescriptionReading) (ps : List (List ℕ)) (x : Exchange World Client)
-    → (after_packets (ads_device table reading) ps x).connection.client ≡ client_after_acts x.connection.client (acts_of_packets table reading ps x)
+packets-client : (reading : DescriptionReading) (ps : List (List ℕ)) (x : Exchange World Client)
+    → (after_packets (ads_device reading) ps x).connection.client ≡ client_after_acts x.connection.client (acts_of_packets reading ps x)
 unfolding after_packets acts_of_packets client_after_acts
-packets-client table reading [] x = refl
-packets-client table reading (p ∷ ps) x =
-    let y = after_packet (ads_device table reading) p x in
-    packets-client table reading ps y
-    ∙ ap (λ (c : Client). client_after_acts c (acts_of_packets table reading ps y)) (packet-client table reading p x)
-    ∙ sym (acts-append (acts_of_packet table p x) (acts_of_packets table reading ps y) x.connection.client)
+packets-client reading [] x = refl
+packets-client reading (p ∷ ps) x =
+    let y = after_packet (ads_device reading) p x in
+    packets-client reading ps y
+    ∙ ap (λ (c : Client). client_after_acts c (acts_of_packets reading ps y)) (packet-client reading p x)
+    ∙ sym (acts-append (acts_of_packet p x) (acts_of_packets reading ps y) x.connection.client)
 
-piece-client : (table : AnswerTable) (reading : DescriptionReading) (bytes : List ℕ) (x : Exchange World Client) → (after_piece (ads_device table reading) bytes x).connection.client ≡ client_after_acts x.connection.client (acts_of_piece table reading bytes x)
+piece-client : (reading : DescriptionReading) (bytes : List ℕ) (x : Exchange World Client)
+    → (after_piece (ads_device reading) bytes x).connection.client ≡ client_after_acts x.connection.client (acts_of_piece reading bytes x)
 unfolding after_piece client_after_acts
-piece-client table reading bytes x = go (is_deaf x.connection)
+piece-client reading bytes x = go (is_deaf x.connection)
   where
     ps : List (List ℕ)
     ps = packets_left (with_received bytes x.connection)
 
     y : Exchange World Client
-    y = after_packets (ads_device table reading) ps (with_piece bytes x)
+    y = after_packets (ads_device reading) ps (with_piece bytes x)
 
-    go : (b : Bool) → (cond b x (end_of_piece y)).connection.client ≡ client_after_acts x.connection.client (cond b [] (acts_of_packets table reading ps (with_piece bytes x)))
+    go : (b : Bool) → (cond b x (end_of_piece y)).connection.client ≡ client_after_acts
+        x.connection.client (cond b [] (acts_of_packets reading ps (with_piece bytes x)))
     go true = refl
-    go false = rest-client y.connection ∙ packets-client table reading ps (with_piece bytes x)
+    go false = rest-client y.connection ∙ packets-client reading ps (with_piece bytes x)
 
 -- the handles of a connection; none before it is opened
 abbrev handles_in : Option (Connection Client) → List (Handle Place)
@@ -107,24 +112,28 @@ handles_in None = []
 handles_in (Some k) = k.client.handles
 
 -- a move that leaves the clients of connections
-quiet : (c n : ℕ) (f : Exchange World Client → Exchange World Client) → KeepsNumber f → ((x : Exchange World Client) → (f x).connection.client ≡ x.connection.client) → (s : MachineState World Client)
+quiet : (c n : ℕ) (f : Exchange World Client → Exchange World Client) → KeepsNumber f
+    → ((x : Exchange World Client) → (f x).connection.client ≡ x.connection.client) → (s : MachineState World Client)
     → handles_in (connection_of c (after_exchange (connection_of n s.connections) f s).connections) ≡ handles_in (connection_of c s.connections)
 quiet c n f same keeps s =
     elim (cases_eq n c) [
       | inr ne ↦ ap handles_in (exchange_other c n f same ne s)
       | inl q ↦
-          let P : ℕ → Type 0 = λ i. handles_in (connection_of c (after_exchange (connection_of i s.connections) f s).connections) ≡ handles_in (connection_of c s.connections) in
+          let P : ℕ → Type 0 = λ i. handles_in (connection_of c (after_exchange (connection_of i s.connections) f s).connections)
+          ≡ handles_in (connection_of c s.connections) in
           subst P (sym q) (own (connection_of c s.connections) refl)
     ]
   where
-    own : (o : Option (Connection Client)) → connection_of c s.connections ≡ o → handles_in (connection_of c (after_exchange (connection_of c s.connections) f s).connections) ≡ handles_in (connection_of c s.connections)
+    own : (o : Option (Connection Client)) → connection_of c s.connections ≡ o
+        → handles_in (connection_of c (after_exchange (connection_of c s.connections) f s).connections) ≡ handles_in (connection_of c s.connections)
     own None e = ap (λ (u : MachineState World Client). handles_in (connection_of c u.connections)) (exchange_none c f s e)
     own (Some k) e = ap handles_in (exchange_own c f same s k e) ∙ ap (λ (d : Client). d.handles) (keeps (exchange_of s k)) ∙ sym (ap handles_in e)
 
 took-client : (n : ℕ) (x : Exchange World Client) → (with_took n x).connection.client ≡ x.connection.client
 took-client n x = elim (cases_Bool x.connection.gone) [ inl b ↦ rw b refl | inr b ↦ rw b refl ]
 
-opened-handles : (c n : ℕ) (client : Client) (ks : List (Connection Client)) → client.handles ≡ [] → handles_in (connection_of c (ks ++ fresh_connection client n ∷ [])) ≡ handles_in (connection_of c ks)
+opened-handles : (c n : ℕ) (client : Client) (ks : List (Connection Client)) → client.handles ≡ []
+    → handles_in (connection_of c (ks ++ fresh_connection client n ∷ [])) ≡ handles_in (connection_of c ks)
 unfolding connection_of
 opened-handles c n client ks none = ap handles_in (connection_of-append c ks (fresh_connection client n ∷ [])) ∙ one (connection_of c ks)
   where
@@ -133,7 +142,8 @@ opened-handles c n client ks none = ap handles_in (connection_of-append c ks (fr
     one None = elim (cases_Bool (n == c)) [ inl b ↦ rw b none | inr b ↦ rw b refl ]
 
 -- a change of every client
-mapped-handles : (c : ℕ) (f : Connection Client → Connection Client) → ((k : Connection Client) → (f k).number ≡ k.number) → (events : Option (Connection Client) → List (HandleEvent Place)) → handles_after_all [] (events None) ≡ []
+mapped-handles : (c : ℕ) (f : Connection Client → Connection Client) → ((k : Connection Client) → (f k).number ≡ k.number)
+    → (events : Option (Connection Client) → List (HandleEvent Place)) → handles_after_all [] (events None) ≡ []
     → ((k : Connection Client) → (f k).client.handles ≡ handles_after_all k.client.handles (events (Some k))) → (ks : List (Connection Client))
     → handles_in (connection_of c (map f ks)) ≡ handles_after_all (handles_in (connection_of c ks)) (events (connection_of c ks))
 mapped-handles c f same events none each ks = ap handles_in (connection_of-map c f same ks) ∙ one (connection_of c ks)
@@ -142,108 +152,121 @@ mapped-handles c f same events none each ks = ap handles_in (connection_of-map c
     one None = sym none
     one (Some k) = each k
 
-tick-handles : (table : AnswerTable) (reading : DescriptionReading) (now : ℕ) (w : World) (k : Connection Client) → (connection_after_tick (ads_device table reading) now w k).client.handles ≡ k.client.handles
+tick-handles : (reading : DescriptionReading) (now : ℕ) (w : World) (k : Connection Client)
+    → (connection_after_tick (ads_device reading) now w k).client.handles ≡ k.client.handles
 unfolding connection_after_tick client_after_tick
-tick-handles table reading now w k = go (is_deaf k)
+tick-handles reading now w k = go (is_deaf k)
   where
     go : (b : Bool) → (cond b k (after_client_outcome (client_after_tick now w k.client) k)).client.handles ≡ k.client.handles
     go true = refl
-    go false = ap (λ (d : Client). d.handles) (produce_all-client (client_after_tick now w k.client).frames (with_client (client_after_tick now w k.client).client k))
+    go false = ap (λ (d : Client). d.handles)
+        (produce_all-client (client_after_tick now w k.client).frames (with_client (client_after_tick now w k.client).client k))
 
-reload-handles : (table : AnswerTable) (reading : DescriptionReading) (now : ℕ) (w : World) (d : Description) (k : Connection Client)
-    → (connection_after_reload (ads_device table reading) now w (world_after_reload w d) k).client.handles
+reload-handles : (reading : DescriptionReading) (now : ℕ) (w : World) (d : Description) (k : Connection Client)
+    → (connection_after_reload (ads_device reading) now w (world_after_reload w d) k).client.handles
     ≡ handles_after_all k.client.handles (cond (not (is_deaf k)) (handle_events_of_reload w (Ok d)) [])
 unfolding connection_after_reload client_reloaded client_after_reload world_after_reload handles_after_all
-reload-handles table reading now w d k = go (is_deaf k)
+reload-handles reading now w d k = go (is_deaf k)
   where
     new : World
     new = world_after_reload w d
 
-    go : (b : Bool) → (cond b k (after_client_outcome (client_reloaded now w new k.client) k)).client.handles ≡ handles_after_all k.client.handles (cond (not b) (handle_events_of_reload w (Ok d)) [])
+    go : (b : Bool) → (cond b k (after_client_outcome (client_reloaded now w new k.client) k)).client.handles
+        ≡ handles_after_all k.client.handles (cond (not b) (handle_events_of_reload w (Ok d)) [])
     go true = refl
-    go false = ap (λ (e : Client). e.handles) (produce_all-client (client_reloaded now w new k.client).frames (with_client (client_reloaded now w new k.client).client k))
+    go false = ap (λ (e : Client). e.handles)
+        (produce_all-client (client_reloaded now w new k.client).frames (with_client (client_reloaded now w new k.client).client k))
 
 none_either : (b : Bool) (hs : List (Handle Place)) → handles_after_all hs (cond b [] []) ≡ hs
 unfolding handles_after_all
 none_either true hs = refl
 none_either false hs = refl
 
-reloaded : (table : AnswerTable) (reading : DescriptionReading) (c : ℕ) (r : Result Description DescriptionFault) (s : MachineState World Client)
-    → handles_in (connection_of c (after_reload (ads_device table reading) (reloading s.world r) s).connections)
+reloaded : (reading : DescriptionReading) (c : ℕ) (r : Result Description DescriptionFault) (s : MachineState World Client)
+    → handles_in (connection_of c (after_reload (ads_device reading) (reloading s.world r) s).connections)
     ≡ handles_after_all (handles_in (connection_of c s.connections)) (cond (is_heard (connection_of c s.connections)) (handle_events_of_reload s.world r) [])
 unfolding handles_after_all
-reloaded table reading c (Err fault) s = sym (none_either (is_heard (connection_of c s.connections)) (handles_in (connection_of c s.connections)))
-reloaded table reading c (Ok d) s =
-    let device = ads_device table reading in
+reloaded reading c (Err fault) s = sym (none_either (is_heard (connection_of c s.connections)) (handles_in (connection_of c s.connections)))
+reloaded reading c (Ok d) s =
+    let device = ads_device reading in
     let new = world_after_reload s.world d in
     mapped-handles c (connection_after_reload device s.moment s.world new) (λ k. (connection_after_reload-grows device s.moment s.world new k).number)
-    (λ o. cond (is_heard o) (handle_events_of_reload s.world (Ok d)) []) refl (reload-handles table reading s.moment s.world d) s.connections
+    (λ o. cond (is_heard o) (handle_events_of_reload s.world (Ok d)) []) refl (reload-handles reading s.moment s.world d) s.connections
 
 -- a piece of its own
-piece-own : (table : AnswerTable) (reading : DescriptionReading) (c : ℕ) (bytes : List ℕ) (s : MachineState World Client) (o : Option (Connection Client)) → connection_of c s.connections ≡ o
-    → handles_in (connection_of c (after_exchange (connection_of c s.connections) (after_piece (ads_device table reading) bytes) s).connections)
-    ≡ handles_after_all (handles_in o) (handle_events_of_acts (acts_at table reading s bytes o))
+piece-own : (reading : DescriptionReading) (c : ℕ) (bytes : List ℕ) (s : MachineState World Client) (o : Option (Connection Client))
+    → connection_of c s.connections ≡ o
+    → handles_in (connection_of c (after_exchange (connection_of c s.connections) (after_piece (ads_device reading) bytes) s).connections)
+    ≡ handles_after_all (handles_in o) (handle_events_of_acts (acts_at reading s bytes o))
 unfolding handles_after_all
-piece-own table reading c bytes s None e = ap (λ (u : MachineState World Client). handles_in (connection_of c u.connections)) (exchange_none c (after_piece (ads_device table reading) bytes) s e) ∙ ap handles_in e
-piece-own table reading c bytes s (Some k) e =
-    let device = ads_device table reading in
+piece-own reading c bytes s None e =
+    ap (λ (u : MachineState World Client). handles_in (connection_of c u.connections))
+    (exchange_none c (after_piece (ads_device reading) bytes) s e) ∙ ap handles_in e
+piece-own reading c bytes s (Some k) e =
+    let device = ads_device reading in
     let x = exchange_of s k in
     ap handles_in (exchange_own c (after_piece device bytes) (λ y. (after_piece-grows device bytes y).number) s k e)
-    ∙ ap (λ (d : Client). d.handles) (piece-client table reading bytes x)
-    ∙ acts-handles (acts_of_piece table reading bytes x) k.client
+    ∙ ap (λ (d : Client). d.handles) (piece-client reading bytes x)
+    ∙ acts-handles (acts_of_piece reading bytes x) k.client
 
-piece-handles : (table : AnswerTable) (reading : DescriptionReading) (c n : ℕ) (bytes : List ℕ) (s : MachineState World Client)
-    → handles_in (connection_of c (after_exchange (connection_of n s.connections) (after_piece (ads_device table reading) bytes) s).connections)
-    ≡ handles_after_all (handles_in (connection_of c s.connections)) (cond (n == c) (handle_events_of_acts (acts_at table reading s bytes (connection_of n s.connections))) [])
+piece-handles : (reading : DescriptionReading) (c n : ℕ) (bytes : List ℕ) (s : MachineState World Client)
+    → handles_in (connection_of c (after_exchange (connection_of n s.connections) (after_piece (ads_device reading) bytes) s).connections)
+    ≡ handles_after_all (handles_in (connection_of c s.connections))
+    (cond (n == c) (handle_events_of_acts (acts_at reading s bytes (connection_of n s.connections))) [])
 unfolding handles_after_all
-piece-handles table reading c n bytes s =
-    let device = ads_device table reading in
+piece-handles reading c n bytes s =
+    let device = ads_device reading in
     elim (cases_eq n c) [
-      | inr ne ↦ let t = test_other n c ne in rw t (ap handles_in (exchange_other c n (after_piece device bytes) (λ y. (after_piece-grows device bytes y).number) ne s))
+      | inr ne ↦ let t = test_other n c ne in
+          rw t (ap handles_in (exchange_other c n (after_piece device bytes) (λ y. (after_piece-grows device bytes y).number) ne s))
       | inl q ↦
           let P : ℕ → Type 0 = λ i. handles_in (connection_of c (after_exchange (connection_of i s.connections) (after_piece device bytes) s).connections)
-          ≡ handles_after_all (handles_in (connection_of c s.connections)) (handle_events_of_acts (acts_at table reading s bytes (connection_of i s.connections))) in
+          ≡ handles_after_all (handles_in (connection_of c s.connections)) (handle_events_of_acts (acts_at reading s bytes (connection_of i s.connections))) in
           let t = test_same n c q in
-          rw t (subst P (sym q) (piece-own table reading c bytes s (connection_of c s.connections) refl))
+          rw t (subst P (sym q) (piece-own reading c bytes s (connection_of c s.connections) refl))
     ]
 
-event-handles : (table : AnswerTable) (reading : DescriptionReading) (c : ℕ) (s : MachineState World Client) (e : Event)
-    → handles_in (connection_of c (state_after_event (ads_device table reading) s e).connections) ≡ handles_after_all (handles_in (connection_of c s.connections)) (handle_events_of_event table reading c s e)
+event-handles : (reading : DescriptionReading) (c : ℕ) (s : MachineState World Client) (e : Event)
+    → handles_in (connection_of c (state_after_event (ads_device reading) s e).connections) ≡ handles_after_all
+    (handles_in (connection_of c s.connections)) (handle_events_of_event reading c s e)
 unfolding state_after_event handle_events_of_event handles_after_all
-event-handles table reading c s (event.Opened n) = opened-handles c n (ads_device table reading).new_client s.connections refl
-event-handles table reading c s (event.Piece n bytes) = piece-handles table reading c n bytes s
-event-handles table reading c s (event.Closed n) = quiet c n with_gone with_gone-number (λ x. refl) s
-event-handles table reading c s (event.Tick now) =
-    let device = ads_device table reading in
+event-handles reading c s (event.Opened n) = opened-handles c n (ads_device reading).new_client s.connections refl
+event-handles reading c s (event.Piece n bytes) = piece-handles reading c n bytes s
+event-handles reading c s (event.Closed n) = quiet c n with_gone with_gone-number (λ x. refl) s
+event-handles reading c s (event.Tick now) =
+    let device = ads_device reading in
     let w = world_after_tick s.world in
     let moment = moment_of_tick now s in
-    mapped-handles c (connection_after_tick device moment w) (λ k. (connection_after_tick-grows device moment w k).number) (λ o. []) refl (tick-handles table reading moment w) s.connections
-event-handles table reading c s (event.Reload bytes) = reloaded table reading c (reading bytes (length s.world.signals)) s
-event-handles table reading c s (event.Writable n) = refl
+    mapped-handles c (connection_after_tick device moment w) (λ k. (connection_after_tick-grows device moment w k).number)
+    (λ o. []) refl (tick-handles reading moment w) s.connections
+event-handles reading c s (event.Reload bytes) = reloaded reading c (reading bytes (length s.world.signals)) s
+event-handles reading c s (event.Writable n) = refl
 
-move-handles : (table : AnswerTable) (reading : DescriptionReading) (c : ℕ) (s : MachineState World Client) (m : Move)
-    → handles_in (connection_of c (state_after_move (server_step table reading) s m).connections) ≡ handles_after_all (handles_in (connection_of c s.connections)) (handle_events_of_move table reading c s m)
+move-handles : (reading : DescriptionReading) (c : ℕ) (s : MachineState World Client) (m : Move)
+    → handles_in (connection_of c (state_after_move (server_step reading) s m).connections) ≡ handles_after_all
+    (handles_in (connection_of c s.connections)) (handle_events_of_move reading c s m)
 unfolding state_after_move handles_after_all
-move-handles table reading c s (move.Event e) = event-handles table reading c s e
-move-handles table reading c s (move.Took n offered bytes) = quiet c n (with_took (length bytes)) (with_took-number (length bytes)) (took-client (length bytes)) s
-move-handles table reading c s (move.Lost n) = quiet c n with_gone with_gone-number (λ x. refl) s
-move-handles table reading c s (move.Shut n) = quiet c n with_gone with_gone-number (λ x. refl) s
+move-handles reading c s (move.Event e) = event-handles reading c s e
+move-handles reading c s (move.Took n offered bytes) = quiet c n (with_took (length bytes)) (with_took-number (length bytes)) (took-client (length bytes)) s
+move-handles reading c s (move.Lost n) = quiet c n with_gone with_gone-number (λ x. refl) s
+move-handles reading c s (move.Shut n) = quiet c n with_gone with_gone-number (λ x. refl) s
 
-log-handles : (table : AnswerTable) (reading : DescriptionReading) (c : ℕ) (log : List Move) (s : MachineState World Client)
-    → handles_in (connection_of c (state_after (server_step table reading) s log).connections) ≡ handles_after_all (handles_in (connection_of c s.connections)) (handle_history table reading c s log)
+log-handles : (reading : DescriptionReading) (c : ℕ) (log : List Move) (s : MachineState World Client)
+    → handles_in (connection_of c (state_after (server_step reading) s log).connections)
+    ≡ handles_after_all (handles_in (connection_of c s.connections)) (handle_history reading c s log)
 unfolding state_after handle_history handles_after_all
-log-handles table reading c [] s = refl
-log-handles table reading c (m ∷ ms) s =
-    let next = state_after_move (server_step table reading) s m in
-    let here = handle_events_of_move table reading c s m in
-    let later = handle_history table reading c next ms in
-    log-handles table reading c ms next
-    ∙ ap (λ (hs : List (Handle Place)). handles_after_all hs later) (move-handles table reading c s m)
+log-handles reading c [] s = refl
+log-handles reading c (m ∷ ms) s =
+    let next = state_after_move (server_step reading) s m in
+    let here = handle_events_of_move reading c s m in
+    let later = handle_history reading c next ms in
+    log-handles reading c ms next
+    ∙ ap (λ (hs : List (Handle Place)). handles_after_all hs later) (move-handles reading c s m)
     ∙ sym (all-append (handles_in (connection_of c s.connections)) here later)
 
 pub handles_are_history : HandlesAreHistory
 unfolding connection_of
-handles_are_history table reading d signals log c k found handle port =
-    let history = handle_history table reading c (start d signals) log in
-    let same : k.client.handles ≡ handles_of history = sym (ap handles_in found) ∙ log-handles table reading c log (start d signals) in
+handles_are_history reading d signals log c k found handle port =
+    let history = handle_history reading c (start d signals) log in
+    let same : k.client.handles ≡ handles_of history = sym (ap handles_in found) ∙ log-handles reading c log (start d signals) in
     ap (λ (hs : List (Handle Place)). kept_status hs handle port) same ∙ status_is_history Place history handle port

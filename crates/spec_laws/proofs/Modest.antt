@@ -35,7 +35,6 @@ use Rattle.spec_machine.specs.World.{World}
 use Rattle.spec_plant.proofs.TextLengths.{short_comment}
 use Rattle.spec_machine.specs.Client.{Place, Client}
 use Rattle.spec_machine.specs.Entries.{entry_of_symbol, symbol_upload_of, entry_of_part}
-use Rattle.spec_machine.specs.Answers.{AnswerTable}
 use Rattle.spec_machine.specs.Ticks.{world_after_tick}
 use Rattle.spec_machine.specs.Reloads.{world_after_reload}
 use Rattle.spec_machine.specs.AdsDevice.{DescriptionReading, reloading, ads_device, server_step}
@@ -80,9 +79,11 @@ facts-name f e =
     let n = and_parts (length f.name == 16) (is_device_name f.name) (q.1) in
     eqb-true (length f.name) 16 (n.0)
 
-symbol-modest : (types : List NamedType) → AreTypes types → (sizes : Sizes) (signals : ℕ) (s : Symbol) → is_symbol types sizes signals s ≡ true → IsModestSymbol (plant_symbol types s)
+symbol-modest : (types : List NamedType) → AreTypes types → (sizes : Sizes) (signals : ℕ) (s : Symbol)
+    → is_symbol types sizes signals s ≡ true → IsModestSymbol (plant_symbol types s)
 symbol-modest types a sizes signals s e =
-    let d = four (is_symbol_name s.name) (is_shape types s.shape && is_small_shape s.shape && nat_le (size_of_symbol types s) LIMIT) _ _ (is_comment s.comment) _ _ e in
+    let d = four (is_symbol_name s.name)
+    (is_shape types s.shape && is_small_shape s.shape && nat_le (size_of_symbol types s) LIMIT) _ _ (is_comment s.comment) _ _ e in
     let p = and_parts (is_shape types s.shape && is_small_shape s.shape) (nat_le (size_of_symbol types s) LIMIT) (d.1) in
     let q = and_parts (is_shape types s.shape) (is_small_shape s.shape) (p.0) in
     let n = and_parts (nat_le (length s.name) 255) (list_all is_identifier (identifiers_of s.name)) (d.0) in
@@ -105,7 +106,8 @@ symbol-modest types a sizes signals s e =
         let q6 = and_parts a b (q5.0) in
         (q6.0, q6.1, q3.1)
 
-symbols-modest : (types : List NamedType) → AreTypes types → (sizes : Sizes) (signals : ℕ) (ss : List Symbol) → list_all (is_symbol types sizes signals) ss ≡ true → Each IsModestSymbol (map (plant_symbol types) ss)
+symbols-modest : (types : List NamedType) → AreTypes types → (sizes : Sizes) (signals : ℕ) (ss : List Symbol)
+    → list_all (is_symbol types sizes signals) ss ≡ true → Each IsModestSymbol (map (plant_symbol types) ss)
 symbols-modest types a sizes signals [] e = tt
 symbols-modest types a sizes signals (s ∷ ss) e =
     let q = and_parts (is_symbol types sizes signals s) (list_all (is_symbol types sizes signals) ss) e in
@@ -113,7 +115,8 @@ symbols-modest types a sizes signals (s ∷ ss) e =
 
 port-modest : (types : List NamedType) → AreTypes types → (signals : ℕ) (p : Port) → is_port types signals p ≡ true → IsModestPort (plant_port types p)
 port-modest types a signals p e =
-    let fine = parts _ (are_facts p.facts) _ _ (list_all (is_symbol types p.sizes signals) p.symbols) (all_pairs are_two_names p.symbols) (all_pairs (are_apart types) p.symbols) (nat_le (upload_size types p.symbols) 2000000) e in
+    let fine = parts _ (are_facts p.facts) _ _ (list_all (is_symbol types p.sizes signals) p.symbols)
+    (all_pairs are_two_names p.symbols) (all_pairs (are_apart types) p.symbols) (nat_le (upload_size types p.symbols) 2000000) e in
     let len = upload-len types p.symbols in
     let most = leb-true (upload_size types p.symbols) 2000000 (fine.2) in
     record {
@@ -132,7 +135,8 @@ port-modest types a signals p e =
         let q6 = and_parts a b (q5.0) in
         (q6.1, q4.1, q1.1)
 
-ports-modest : (types : List NamedType) → AreTypes types → (signals : ℕ) (ps : List Port) → list_all (is_port types signals) ps ≡ true → Each IsModestPort (map (plant_port types) ps)
+ports-modest : (types : List NamedType) → AreTypes types → (signals : ℕ) (ps : List Port)
+    → list_all (is_port types signals) ps ≡ true → Each IsModestPort (map (plant_port types) ps)
 ports-modest types a signals [] e = tt
 ports-modest types a signals (p ∷ ps) e =
     let q = and_parts (is_port types signals p) (list_all (is_port types signals) ps) e in
@@ -158,7 +162,8 @@ placed-small plant m port place i =
     omega (arith, s, e)
 
 -- the entry of a part that a name leads to
-part-short : (s : PlantSymbol) → IsModestSymbol s → (steps : List Step) (p : TypePart) → part_behind (whole_of s) steps ≡ Some p → length (entry_bytes (entry_of_part (record { symbol = s; steps = steps; part = p }))) ≤ 2000000
+part-short : (s : PlantSymbol) → IsModestSymbol s → (steps : List Step) (p : TypePart) → part_behind (whole_of s) steps ≡ Some p
+    → length (entry_bytes (entry_of_part (record { symbol = s; steps = steps; part = p }))) ≤ 2000000
 unfolding entry_of_part
 part-short s m steps p e =
     let f : Found = record { symbol = s; steps = steps; part = p } in
@@ -171,23 +176,28 @@ part-short s m steps p e =
     let text = text-short p.type t.tame in
     omega (arith, len, own, said, text)
 
-pub entry-short : (p : PlantPort) → IsModestPort p → (name : List ℕ) (f : Found) → found_of p.symbols name ≡ Some f → length (entry_bytes (entry_of_part f)) ≤ 2000000
+pub entry-short : (p : PlantPort) → IsModestPort p → (name : List ℕ) (f : Found)
+    → found_of p.symbols name ≡ Some f → length (entry_bytes (entry_of_part f)) ≤ 2000000
 unfolding found_of
 entry-short p m name f e = steps_go (steps_of (without_nul name)) e
   where
     Short : Found → Type 0
     Short x = length (entry_bytes (entry_of_part x)) ≤ 2000000
 
-    placed : (s : PlantSymbol) → IsModestSymbol s → (steps : List Step) (o : Option TypePart) → part_behind (whole_of s) steps ≡ o → option_map (λ part. record { symbol = s; steps = steps; part = part }) o ≡ Some f → Short f
+    placed : (s : PlantSymbol) → IsModestSymbol s → (steps : List Step) (o : Option TypePart) → part_behind (whole_of s) steps ≡ o
+        → option_map (λ part. record { symbol = s; steps = steps; part = part }) o ≡ Some f → Short f
     placed s h steps None q g = cc
     placed s h steps (Some y) q g =
         let here : Found = record { symbol = s; steps = steps; part = y } in
         let same : here ≡ f = cc in
         subst Short same (part-short s h steps y q)
 
-    symbol_go : (steps : List Step) (o : Option PlantSymbol) → find (is_named_by steps) p.symbols ≡ o → option_and_then (found_in_symbol steps) o ≡ Some f → Short f
+    symbol_go : (steps : List Step) (o : Option PlantSymbol) → find (is_named_by steps) p.symbols ≡ o
+        → option_and_then (found_in_symbol steps) o ≡ Some f → Short f
     symbol_go steps None q g = cc
-    symbol_go steps (Some s) q g = placed s (found_has IsModestSymbol (is_named_by steps) p.symbols s m.symbols q) (steps_behind_name steps s) (part_behind (whole_of s) (steps_behind_name steps s)) refl g
+    symbol_go steps (Some s) q g =
+        placed s (found_has IsModestSymbol (is_named_by steps) p.symbols s m.symbols q)
+        (steps_behind_name steps s) (part_behind (whole_of s) (steps_behind_name steps s)) refl g
 
     steps_go : (o : Option (List Step)) → option_and_then (found_of_steps p.symbols) o ≡ Some f → Short f
     steps_go None g = cc
@@ -195,46 +205,51 @@ entry-short p m name f e = steps_go (steps_of (without_nul name)) e
 
 -- the plant of every state
 
-exchange-plant : (P : Plant → Type 0) (f : Exchange World Client → Exchange World Client) → ((x : Exchange World Client) → Goes x (f x)) → (s : MachineState World Client) (o : Option (Connection Client))
+exchange-plant : (P : Plant → Type 0) (f : Exchange World Client → Exchange World Client)
+    → ((x : Exchange World Client) → Goes x (f x)) → (s : MachineState World Client) (o : Option (Connection Client))
     → P s.world.plant → P (after_exchange o f s).world.plant
 exchange-plant P f goes s None h = h
 exchange-plant P f goes s (Some k) h = let y = goes (exchange_of s k) in subst P (sym y.plant) h
 
-reload-plant : (P : Plant → Type 0) (table : AnswerTable) (reading : DescriptionReading) (r : Result Description DescriptionFault) → ((d : Description) → r ≡ Ok d → P (plant_of d)) → (s : MachineState World Client)
-    → P s.world.plant → P (after_reload (ads_device table reading) (reloading s.world r) s).world.plant
+reload-plant : (P : Plant → Type 0) (reading : DescriptionReading) (r : Result Description DescriptionFault)
+    → ((d : Description) → r ≡ Ok d → P (plant_of d)) → (s : MachineState World Client)
+    → P s.world.plant → P (after_reload (ads_device reading) (reloading s.world r) s).world.plant
 unfolding world_after_reload
-reload-plant P table reading (Err fault) h s g = g
-reload-plant P table reading (Ok d) h s g = h d refl
+reload-plant P reading (Err fault) h s g = g
+reload-plant P reading (Ok d) h s g = h d refl
 
 -- something that each accepted plant has
 abbrev HoldOfAccepted : (Plant → Type 0) → Type 0
 HoldOfAccepted P = (d : Description) (signals : ℕ) → IsAccepted d signals → P (plant_of d)
 
-event-plant : (P : Plant → Type 0) → HoldOfAccepted P → (table : AnswerTable) (reading : DescriptionReading) → ReadsAccepted reading → (s : MachineState World Client) (e : Event)
-    → P s.world.plant → P (state_after_event (ads_device table reading) s e).world.plant
+event-plant : (P : Plant → Type 0) → HoldOfAccepted P → (reading : DescriptionReading) → ReadsAccepted reading → (s : MachineState World Client) (e : Event)
+    → P s.world.plant → P (state_after_event (ads_device reading) s e).world.plant
 unfolding state_after_event world_after_tick
-event-plant P a table reading h s (event.Opened n) g = g
-event-plant P a table reading h s (event.Piece n bytes) g = exchange-plant P (after_piece (ads_device table reading) bytes) (piece-goes table reading bytes) s (connection_of n s.connections) g
-event-plant P a table reading h s (event.Closed n) g = exchange-plant P with_gone gone-goes s (connection_of n s.connections) g
-event-plant P a table reading h s (event.Tick t) g = g
-event-plant P a table reading h s (event.Reload bytes) g =
-    reload-plant P table reading (reading bytes (length s.world.signals)) (λ d e. a d (length s.world.signals) (h bytes (length s.world.signals) d e)) s g
-event-plant P a table reading h s (event.Writable n) g = g
+event-plant P a reading h s (event.Opened n) g = g
+event-plant P a reading h s (event.Piece n bytes) g =
+    exchange-plant P (after_piece (ads_device reading) bytes) (piece-goes reading bytes) s (connection_of n s.connections) g
+event-plant P a reading h s (event.Closed n) g = exchange-plant P with_gone gone-goes s (connection_of n s.connections) g
+event-plant P a reading h s (event.Tick t) g = g
+event-plant P a reading h s (event.Reload bytes) g =
+    reload-plant P reading (reading bytes (length s.world.signals)) (λ d e. a d (length s.world.signals) (h bytes (length s.world.signals) d e)) s g
+event-plant P a reading h s (event.Writable n) g = g
 
-move-plant : (P : Plant → Type 0) → HoldOfAccepted P → (table : AnswerTable) (reading : DescriptionReading) → ReadsAccepted reading → (s : MachineState World Client) (m : Move)
-    → P s.world.plant → P (state_after_move (server_step table reading) s m).world.plant
+move-plant : (P : Plant → Type 0) → HoldOfAccepted P → (reading : DescriptionReading) → ReadsAccepted reading → (s : MachineState World Client) (m : Move)
+    → P s.world.plant → P (state_after_move (server_step reading) s m).world.plant
 unfolding state_after_move
-move-plant P a table reading h s (move.Event e) g = event-plant P a table reading h s e g
-move-plant P a table reading h s (move.Took n offered bytes) g = exchange-plant P (with_took (length bytes)) (took-goes (length bytes)) s (connection_of n s.connections) g
-move-plant P a table reading h s (move.Lost n) g = exchange-plant P with_gone gone-goes s (connection_of n s.connections) g
-move-plant P a table reading h s (move.Shut n) g = exchange-plant P with_gone gone-goes s (connection_of n s.connections) g
+move-plant P a reading h s (move.Event e) g = event-plant P a reading h s e g
+move-plant P a reading h s (move.Took n offered bytes) g =
+    exchange-plant P (with_took (length bytes)) (took-goes (length bytes)) s (connection_of n s.connections) g
+move-plant P a reading h s (move.Lost n) g = exchange-plant P with_gone gone-goes s (connection_of n s.connections) g
+move-plant P a reading h s (move.Shut n) g = exchange-plant P with_gone gone-goes s (connection_of n s.connections) g
 
-log-plant : (P : Plant → Type 0) → HoldOfAccepted P → (table : AnswerTable) (reading : DescriptionReading) → ReadsAccepted reading → (log : List Move) (s : MachineState World Client)
-    → P s.world.plant → P (state_after (server_step table reading) s log).world.plant
+log-plant : (P : Plant → Type 0) → HoldOfAccepted P → (reading : DescriptionReading) → ReadsAccepted reading → (log : List Move) (s : MachineState World Client)
+    → P s.world.plant → P (state_after (server_step reading) s log).world.plant
 unfolding state_after
-log-plant P a table reading h [] s g = g
-log-plant P a table reading h (m ∷ ms) s g = log-plant P a table reading h ms (state_after_move (server_step table reading) s m) (move-plant P a table reading h s m g)
+log-plant P a reading h [] s g = g
+log-plant P a reading h (m ∷ ms) s g = log-plant P a reading h ms (state_after_move (server_step reading) s m) (move-plant P a reading h s m g)
 
-pub every_plant : (P : Plant → Type 0) → HoldOfAccepted P → (table : AnswerTable) (reading : DescriptionReading) → ReadsAccepted reading → (d : Description) (signals : List Wave) → IsAccepted d (length signals)
-    → (log : List Move) → P (state_after (server_step table reading) (start d signals) log).world.plant
-every_plant P a table reading h d signals accepted log = log-plant P a table reading h log (start d signals) (a d (length signals) accepted)
+pub every_plant : (P : Plant → Type 0) → HoldOfAccepted P → (reading : DescriptionReading)
+    → ReadsAccepted reading → (d : Description) (signals : List Wave) → IsAccepted d (length signals)
+    → (log : List Move) → P (state_after (server_step reading) (start d signals) log).world.plant
+every_plant P a reading h d signals accepted log = log-plant P a reading h log (start d signals) (a d (length signals) accepted)

@@ -5,15 +5,19 @@ use Rattle.std.specs.Int.{w32, to_le_bytes}
 use Rattle.spec_plant.specs.World.{PlantPort}
 use Rattle.spec_plant.specs.Finding.{Found, found_of}
 use Rattle.spec_formats.specs.Codes.{invalid_size, invalid_group, symbol_not_found, watch_too_big, mode_not_supported, no_more_notifications}
-use Rattle.spec_formats.specs.Groups.{Group, AreaSize, HandleByName, ValueByName, ReleaseHandle, InfoByName, SymbolVersion, ExtendedInfoByName, SymbolUpload, UploadInfo, TypeUpload, UploadInfoWithTypes}
-use Rattle.spec_formats.specs.Request.{Request, ReadDeviceInfo, Read, Write, ReadState, WriteControl, AddDeviceNotification, DeleteDeviceNotification, DeviceNotification, ReadWrite}
+use Rattle.spec_formats.specs.Groups.{Group, AreaSize, HandleByName, ValueByName, ReleaseHandle, InfoByName}
+use Rattle.spec_formats.specs.Groups.{SymbolVersion, ExtendedInfoByName, SymbolUpload, UploadInfo, TypeUpload}
+use Rattle.spec_formats.specs.Groups.{UploadInfoWithTypes}
+use Rattle.spec_formats.specs.Request.{Request, ReadDeviceInfo, Read, Write, ReadState, WriteControl}
+use Rattle.spec_formats.specs.Request.{AddDeviceNotification, DeleteDeviceNotification, DeviceNotification}
+use Rattle.spec_formats.specs.Request.{ReadWrite}
 use Rattle.spec_formats.specs.SymbolEntry.{entry_bytes}
 use Rattle.spec_machine.specs.World.{Setup}
 use Rattle.spec_machine.specs.Access.{Addressed, Put}
 use Rattle.spec_machine.specs.Watches.{Watch, Mode}
 use Rattle.spec_machine.specs.Client.{Client, Effect, NoEffect, Grants, Releases, Adds, Deletes}
 use Rattle.spec_machine.specs.Acts.{Act, Refusal, Allowed, fixed_data, reading, writing, changing}
-use Rattle.spec_machine.specs.Answers.{AnswerTable, answered_group}
+use Rattle.spec_machine.specs.Answers.{answered_group}
 use Rattle.spec_machine.specs.Entries.{entry_of_part}
 use Rattle.spec_machine.specs.Reach.{reach_of}
 use Rattle.spec_machine.specs.Reads.{fixed_reply, read_act, read_group}
@@ -85,40 +89,45 @@ if_found-next c (Some f) act h = h f
 read_write-next : (c : Client) (p : PlantPort) (g : Option Group) (len : ℕ) (name : List ℕ) → NextAct c (read_write_group c p g len name)
 unfolding read_write_group
 read_write-next c p (Some HandleByName) len name =
-    let inside = if_found-next c (found_of p.symbols name) (λ f. grant_act c p (place_of f)) (λ f. next_if c _ _ _ (next_refusal c _) (next_changing c _ (Grants p.number (place_of f)) tt)) in
+    let inside = if_found-next c (found_of p.symbols name) (λ f. grant_act c p (place_of f))
+    (λ f. next_if c _ _ _ (next_refusal c _) (next_changing c _ (Grants p.number (place_of f)) tt)) in
     next_if c (nat_lt len 4) (Refusal invalid_size) (if_found (found_of p.symbols name) (λ f. grant_act c p (place_of f))) (next_refusal c invalid_size) inside
-read_write-next c p (Some ValueByName) len name = if_found-next c (found_of p.symbols name) (λ f. value_act p len (place_of f)) (λ f. next_if c _ _ _ (next_refusal c _) (next_reading c _))
+read_write-next c p (Some ValueByName) len name =
+    if_found-next c (found_of p.symbols name) (λ f. value_act p len (place_of f)) (λ f. next_if c _ _ _ (next_refusal c _) (next_reading c _))
 read_write-next c p (Some InfoByName) len name =
     let inside = if_found-next c (found_of p.symbols name) (λ f. fixed_data (info_of f)) (λ f. next_fixed c (info_of f)) in
     next_if c (nat_lt len 12) (Refusal invalid_size) (if_found (found_of p.symbols name) (λ f. fixed_data (info_of f))) (next_refusal c invalid_size) inside
-read_write-next c p (Some ExtendedInfoByName) len name = if_found-next c (found_of p.symbols name) (λ f. fixed_reply len (entry_bytes (entry_of_part f))) (λ f. search (next_if, next_refusal, next_fixed))
+read_write-next c p (Some ExtendedInfoByName) len name =
+    if_found-next c (found_of p.symbols name) (λ f. fixed_reply len (entry_bytes (entry_of_part f))) (λ f. search (next_if, next_refusal, next_fixed))
 read_write-next c p g len name = next_refusal c invalid_group
 
 add_reached-next : (c : Client) (k : Asker) (mode : Mode) (len cycle : ℕ) (r : Result (List Addressed) ℕ) → NextAct c (add_reached c k mode len cycle r)
 add_reached-next c k mode len cycle (Err code) = next_refusal c code
 add_reached-next c k mode len cycle (Ok places) =
     let w : Watch (List Addressed) = next_watch c k mode cycle places in
-    let added = next_if c (nat_le MAX_WATCHES (length c.watches) || nat_le MAX_NUMBER c.additions) (Refusal no_more_notifications) (changing (to_le_bytes w32 w.handle) (Adds w))
+    let added = next_if c (nat_le MAX_WATCHES (length c.watches) || nat_le MAX_NUMBER c.additions)
+    (Refusal no_more_notifications) (changing (to_le_bytes w32 w.handle) (Adds w))
     (next_refusal c no_more_notifications) (next_changing c (to_le_bytes w32 w.handle) (Adds w) refl) in
     next_if c (len == 0) (Refusal invalid_size) (add_watch c w) (next_refusal c invalid_size) added
 
 add-next : (c : Client) (k : Asker) (g : Option Group) (offset len cycle : ℕ) (mode : Option Mode) → NextAct c (add_act c k g offset len cycle mode)
 add-next c k g offset len cycle None = next_refusal c mode_not_supported
 add-next c k g offset len cycle (Some mode) =
-    next_if c (nat_lt MAX_WATCHED len) (Refusal watch_too_big) (add_reached c k mode len cycle (reach_of c k.port g offset len)) (next_refusal c watch_too_big) (add_reached-next c k mode len cycle (reach_of c k.port g offset len))
+    next_if c (nat_lt MAX_WATCHED len) (Refusal watch_too_big) (add_reached c k mode len cycle (reach_of c k.port g offset len))
+    (next_refusal c watch_too_big) (add_reached-next c k mode len cycle (reach_of c k.port g offset len))
 
 control-next : (c : Client) (k : Asker) (ads device : ℕ) → NextAct c (control_act k ads device)
 unfolding control_act
 control-next c k ads device = next_if c _ _ _ (next_refusal c _) (next_if c _ _ _ (next_writing c _) (next_refusal c _))
 
-pub act-next : (table : AnswerTable) (d : Setup) (c : Client) (k : Asker) (r : Request) → NextAct c (act_of table d c k r)
+pub act-next : (d : Setup) (c : Client) (k : Asker) (r : Request) → NextAct c (act_of d c k r)
 unfolding act_of
-act-next table d c k ReadDeviceInfo = next_fixed c _
-act-next table d c k (Read group offset len) = read_group-next d c k.port (answered_group table _ group) offset len
-act-next table d c k (Write group offset bytes) = write_group-next c k (answered_group table _ group) offset bytes
-act-next table d c k ReadState = next_reading c _
-act-next table d c k (WriteControl ads device bytes) = control-next c k ads device
-act-next table d c k (AddDeviceNotification group offset len mode delay cycle) = add-next c k (answered_group table _ group) offset len cycle _
-act-next table d c k (DeleteDeviceNotification handle) = next_if c _ _ _ (next_changing c [] (Deletes handle) tt) (next_refusal c _)
-act-next table d c k (DeviceNotification bytes) = next_fixed c _
-act-next table d c k (ReadWrite group offset len bytes) = read_write-next c k.port (answered_group table _ group) len bytes
+act-next d c k ReadDeviceInfo = next_fixed c _
+act-next d c k (Read group offset len) = read_group-next d c k.port (answered_group _ group) offset len
+act-next d c k (Write group offset bytes) = write_group-next c k (answered_group _ group) offset bytes
+act-next d c k ReadState = next_reading c _
+act-next d c k (WriteControl ads device bytes) = control-next c k ads device
+act-next d c k (AddDeviceNotification group offset len mode delay cycle) = add-next c k (answered_group _ group) offset len cycle _
+act-next d c k (DeleteDeviceNotification handle) = next_if c _ _ _ (next_changing c [] (Deletes handle) tt) (next_refusal c _)
+act-next d c k (DeviceNotification bytes) = next_fixed c _
+act-next d c k (ReadWrite group offset len bytes) = read_write-next c k.port (answered_group _ group) len bytes

@@ -14,7 +14,7 @@ use Rattle.spec_machine.specs.Handles.{HandleStatus, Never, Released, Outdated, 
 use Rattle.spec_machine.specs.Watches.{Mode}
 use Rattle.spec_machine.specs.Client.{Place, Client, client_after}
 use Rattle.spec_machine.specs.Acts.{Act, Refusal, Allowed, outcomes_of, memory_after_acts, client_after_acts}
-use Rattle.spec_machine.specs.Answers.{AnswerTable, answered_group, READ, WRITE, READ_WRITE, ADD_DEVICE_NOTIFICATION}
+use Rattle.spec_machine.specs.Answers.{answered_group, groups_of_command, READ, WRITE, READ_WRITE, ADD_DEVICE_NOTIFICATION}
 use Rattle.spec_machine.specs.Reach.{addressed_by_status, reach_of}
 use Rattle.spec_machine.specs.Reads.{read_group}
 use Rattle.spec_machine.specs.Writes.{Asker, may_write, write_group}
@@ -26,7 +26,10 @@ use Rattle.spec_machine.specs.SumPackets.{acts_of, decide_single, decide_parts}
 use Rattle.spec_machine.specs.Packets.{decide}
 use Rattle.spec_machine.specs.Replies.{outcome_in_all, performed}
 use Rattle.spec_machine.proofs.DecisionCases.{decide-cases}
-use Rattle.spec_laws.specs.Refusals.{RefusalChangesNothing, IsTurnedAway, TurnedAwayChangesNothing, result_told, ResultChangesNothing, RefusedReloadCounts, dead_code, IsRefused, BadAdditionsAreRefused, RefusesHandle, RefusesAnyForm, DeadHandleTouchesNothing}
+use Rattle.spec_laws.specs.Refusals.{RefusalChangesNothing, IsTurnedAway, TurnedAwayChangesNothing}
+use Rattle.spec_laws.specs.Refusals.{result_told, ResultChangesNothing, RefusedReloadCounts, dead_code}
+use Rattle.spec_laws.specs.Refusals.{IsRefused, BadAdditionsAreRefused, RefusesHandle, RefusesAnyForm}
+use Rattle.spec_laws.specs.Refusals.{DeadHandleTouchesNothing}
 
 pub refusal_changes_nothing : RefusalChangesNothing
 unfolding client_after
@@ -40,8 +43,8 @@ no_acts x (inr (inr (code, e))) = ap acts_in e
 
 pub turned_away_changes_nothing : TurnedAwayChangesNothing
 unfolding performed memory_after_acts client_after_acts
-turned_away_changes_nothing table w c packet away =
-    let none = no_acts (decide table _ c packet) away in
+turned_away_changes_nothing w c packet away =
+    let none = no_acts (decide _ c packet) away in
     record {
       world_stays = ap (λ acts. record w { memory = memory_after_acts w.memory acts }) none;
       client_stays = ap (λ acts. client_after_acts c acts) none;
@@ -61,34 +64,34 @@ unfolding outcomes_of outcome_in_all memory_after_acts client_after_acts client_
 one_act c (Refusal code) = record { memory = λ m told. refl; client = λ m told. refl }
 one_act c (Allowed a) = record { memory = λ m told. absurd (told refl); client = λ m told. absurd (told refl) }
 
-single-refuses : (table : AnswerTable) (d : Setup) (c : Client) (k : Asker) (r : Request) → Refuses c (decide_single table d c k r)
+single-refuses : (d : Setup) (c : Client) (k : Asker) (r : Request) → Refuses c (decide_single d c k r)
 unfolding acts_of given_in_turn
-single-refuses table d c k r = one_act c (act_of table d c k r)
+single-refuses d c k r = one_act c (act_of d c k r)
 
-parts-refuse : (table : AnswerTable) (d : Setup) (c : Client) (k : Asker) (s : SumRequest) (o : Option ℕ) → Refuses c (decide_parts table d c k s o)
+parts-refuse : (d : Setup) (c : Client) (k : Asker) (s : SumRequest) (o : Option ℕ) → Refuses c (decide_parts d c k s o)
 unfolding outcome_in_all
-parts-refuse table d c k s (Some code) = one_act c (Refusal code)
-parts-refuse table d c k s None = tells_none c (decide_parts table d c k s None) (λ m. refl)
+parts-refuse d c k s (Some code) = one_act c (Refusal code)
+parts-refuse d c k s None = tells_none c (decide_parts d c k s None) (λ m. refl)
 
-decide-refuses : (table : AnswerTable) (d : Setup) (c : Client) (packet : List ℕ) → Refuses c (decide table d c packet)
-decide-refuses table d c packet =
-    decide-cases table d c (Refuses c)
+decide-refuses : (d : Setup) (c : Client) (packet : List ℕ) → Refuses c (decide d c packet)
+decide-refuses d c packet =
+    decide-cases d c (Refuses c)
     (record {
       silent = tells_none c NoAnswer (λ m. refl);
       ends = tells_none c EndConnection (λ m. refl);
       error = λ code. tells_none c (AmsError code) (λ m. refl);
       refused = λ code. one_act c (Refusal code);
-      single = λ k number e r. single-refuses table d c k r;
-      reads = λ k number e n len bytes. parts-refuse table d c k (sum_of_reads n bytes) _;
-      writes = λ k number e n len bytes. parts-refuse table d c k (sum_of_writes n bytes) _;
-      read_writes = λ k number e n len bytes. parts-refuse table d c k (sum_of_read_writes n bytes) _;
+      single = λ k number e r. single-refuses d c k r;
+      reads = λ k number e n len bytes. parts-refuse d c k (sum_of_reads n bytes) _;
+      writes = λ k number e n len bytes. parts-refuse d c k (sum_of_writes n bytes) _;
+      read_writes = λ k number e n len bytes. parts-refuse d c k (sum_of_read_writes n bytes) _;
     })
     packet
 
 pub result_changes_nothing : ResultChangesNothing
 unfolding performed
-result_changes_nothing table w c packet told =
-    let r = decide-refuses table (setup_of w) c packet in
+result_changes_nothing w c packet told =
+    let r = decide-refuses (setup_of w) c packet in
     record {
       world_stays = ap (λ (m : List Block). record w { memory = m }) (r.memory w.memory told);
       client_stays = r.client w.memory told;
@@ -96,7 +99,7 @@ result_changes_nothing table w c packet told =
 
 pub refused_reload_counts : RefusedReloadCounts
 unfolding state_after_move state_after_event
-refused_reload_counts table reading s bytes fault e = rw e refl
+refused_reload_counts reading s bytes fault e = rw e refl
 
 dead-reach : (port : ℕ) (s : HandleStatus Place) (code len : ℕ) → dead_code s ≡ Some code → addressed_by_status port s len ≡ Err code
 dead-reach port Never code len e = cc
@@ -105,10 +108,10 @@ dead-reach port Outdated code len e = cc
 dead-reach port (Live place) code len e = cc
 
 -- a command answers the group of values by handle, or no group of that number
-pub by_handle : (table : AnswerTable) (command : ℕ) → (answered_group table command value_by_handle ≡ Some ValueByHandle) ⊎ (answered_group table command value_by_handle ≡ None)
+pub by_handle : (command : ℕ) → (answered_group command value_by_handle ≡ Some ValueByHandle) ⊎ (answered_group command value_by_handle ≡ None)
 unfolding answered_group group_of group_in
-by_handle table command =
-    elim (cases_Bool (table.answers_group command ValueByHandle)) [
+by_handle command =
+    elim (cases_Bool (groups_of_command command ValueByHandle)) [
       | inl t ↦ inl (rw t refl)
       | inr t ↦ inr (rw t refl)
     ]
@@ -117,7 +120,8 @@ read_group-none : (d : Setup) (c : Client) (p : PlantPort) (offset len : ℕ) �
 unfolding read_group reach_of
 read_group-none d c p offset len = (invalid_group, refl)
 
-add-refused : (c : Client) (k : Asker) (g : Option Group) (offset len cycle code : ℕ) (mode : Option Mode) → reach_of c k.port g offset len ≡ Err code → IsRefused (add_act c k g offset len cycle mode)
+add-refused : (c : Client) (k : Asker) (g : Option Group) (offset len cycle code : ℕ) (mode : Option Mode)
+    → reach_of c k.port g offset len ≡ Err code → IsRefused (add_act c k g offset len cycle mode)
 add-refused c k g offset len cycle code None e = (mode_not_supported, refl)
 add-refused c k g offset len cycle code (Some mode) e =
     elim (cases_Bool (nat_lt MAX_WATCHED len)) [
@@ -129,7 +133,8 @@ reach-none : (c : Client) (p : PlantPort) (offset len : ℕ) → reach_of c p No
 unfolding reach_of
 reach-none c p offset len = refl
 
-bad-addition : (c : Client) (k : Asker) (g : Option Group) (offset len cycle : ℕ) (m : Option Mode) → (m ≡ None) ⊎ ((MAX_WATCHED < len) ⊎ ((len ≡ 0) ⊎ (g ≡ None))) → IsRefused (add_act c k g offset len cycle m)
+bad-addition : (c : Client) (k : Asker) (g : Option Group) (offset len cycle : ℕ) (m : Option Mode)
+    → (m ≡ None) ⊎ ((MAX_WATCHED < len) ⊎ ((len ≡ 0) ⊎ (g ≡ None))) → IsRefused (add_act c k g offset len cycle m)
 bad-addition c k g offset len cycle None bad = (mode_not_supported, refl)
 bad-addition c k g offset len cycle (Some mode) bad =
     elim (cases_Bool (nat_lt MAX_WATCHED len)) [
@@ -137,7 +142,8 @@ bad-addition c k g offset len cycle (Some mode) bad =
       | inr t ↦ reached (reach_of c k.port g offset len) refl t
     ]
   where
-    none : (watched : List Addressed) → reach_of c k.port g offset len ≡ Ok watched → nat_lt MAX_WATCHED len ≡ false → (len == 0) ≡ false → (Some mode ≡ None) ⊎ ((MAX_WATCHED < len) ⊎ ((len ≡ 0) ⊎ (g ≡ None))) → ⊥
+    none : (watched : List Addressed) → reach_of c k.port g offset len ≡ Ok watched → nat_lt MAX_WATCHED len ≡ false
+        → (len == 0) ≡ false → (Some mode ≡ None) ⊎ ((MAX_WATCHED < len) ⊎ ((len ≡ 0) ⊎ (g ≡ None))) → ⊥
     none watched e t z (inl m) = cc
     none watched e t z (inr (inl l)) = let few = ltb-false MAX_WATCHED len t in omega (arith, few, l)
     none watched e t z (inr (inr (inl empty))) = false≢true (sym z ∙ eq-eqb len 0 empty)
@@ -146,7 +152,8 @@ bad-addition c k g offset len cycle (Some mode) bad =
         let both : Err invalid_group ≡ Ok watched = sym (reach-none c k.port offset len) ∙ subst P off e in
         cc
 
-    reached : (r : Result (List Addressed) ℕ) → reach_of c k.port g offset len ≡ r → nat_lt MAX_WATCHED len ≡ false → IsRefused (add_act c k g offset len cycle (Some mode))
+    reached : (r : Result (List Addressed) ℕ) → reach_of c k.port g offset len ≡ r
+        → nat_lt MAX_WATCHED len ≡ false → IsRefused (add_act c k g offset len cycle (Some mode))
     reached (Err code) e t = (code, rw (t, e) refl)
     reached (Ok watched) e t =
         elim (cases_Bool (len == 0)) [
@@ -156,29 +163,31 @@ bad-addition c k g offset len cycle (Some mode) bad =
 
 pub bad_additions_are_refused : BadAdditionsAreRefused
 unfolding act_of
-bad_additions_are_refused table d c k group offset len number delay cycle bad =
-    bad-addition c k (answered_group table ADD_DEVICE_NOTIFICATION group) offset len cycle (mode_of number) bad
+bad_additions_are_refused d c k group offset len number delay cycle bad =
+    bad-addition c k (answered_group ADD_DEVICE_NOTIFICATION group) offset len cycle (mode_of number) bad
 
-read_write-refused : (c : Client) (p : PlantPort) (g : Option Group) (len : ℕ) (bytes : List ℕ) → (g ≡ Some ValueByHandle) ⊎ (g ≡ None) → IsRefused (read_write_group c p g len bytes)
+read_write-refused : (c : Client) (p : PlantPort) (g : Option Group) (len : ℕ) (bytes : List ℕ)
+    → (g ≡ Some ValueByHandle) ⊎ (g ≡ None) → IsRefused (read_write_group c p g len bytes)
 unfolding read_write_group
 read_write-refused c p g len bytes (inl e) = subst (λ (o : Option Group). IsRefused (read_write_group c p o len bytes)) (sym e) (invalid_group, refl)
 read_write-refused c p g len bytes (inr e) = subst (λ (o : Option Group). IsRefused (read_write_group c p o len bytes)) (sym e) (invalid_group, refl)
 
-any_form : (table : AnswerTable) (d : Setup) (c : Client) (k : Asker) (handle code : ℕ) → dead_code (kept_status c.handles handle k.port.number) ≡ Some code → RefusesAnyForm table d c k handle
+any_form : (d : Setup) (c : Client) (k : Asker) (handle code : ℕ)
+    → dead_code (kept_status c.handles handle k.port.number) ≡ Some code → RefusesAnyForm d c k handle
 unfolding act_of read_group write_group reach_of
-any_form table d c k handle code dead = record {
-  read = λ len. elim (by_handle table READ) [
+any_form d c k handle code dead = record {
+  read = λ len. elim (by_handle READ) [
     | inl g ↦ (code, rw g (let r = reach len in rw r refl))
     | inr g ↦ (invalid_group, rw g refl)
   ];
-  write = λ bytes. elim (by_handle table WRITE) [
+  write = λ bytes. elim (by_handle WRITE) [
     | inl g ↦ elim (cases_Bool (may_write k.rights)) [
       | inl may ↦ (code, rw g (let r = reach (length bytes) in rw (may, r) refl))
       | inr may ↦ (not_permitted, rw g (rw may refl))
     ]
     | inr g ↦ (invalid_group, rw g refl)
   ];
-  add = λ len mode delay cycle. elim (by_handle table ADD_DEVICE_NOTIFICATION) [
+  add = λ len mode delay cycle. elim (by_handle ADD_DEVICE_NOTIFICATION) [
     | inl g ↦
         let P : Option Group → Type 0 = λ o. IsRefused (add_act c k o handle len cycle (mode_of mode)) in
         subst P (sym g) (add-refused c k (Some ValueByHandle) handle len cycle code (mode_of mode) (reach len))
@@ -186,15 +195,16 @@ any_form table d c k handle code dead = record {
         let P : Option Group → Type 0 = λ o. IsRefused (add_act c k o handle len cycle (mode_of mode)) in
         subst P (sym g) (add-refused c k None handle len cycle invalid_group (mode_of mode) refl)
   ];
-  read_write = λ len bytes. read_write-refused c k.port (answered_group table READ_WRITE value_by_handle) len bytes (by_handle table READ_WRITE);
+  read_write = λ len bytes. read_write-refused c k.port (answered_group READ_WRITE value_by_handle) len bytes (by_handle READ_WRITE);
 }
   where
     reach : (len : ℕ) → addressed_by_status k.port.number (kept_status c.handles handle k.port.number) len ≡ Err code
     reach len = dead-reach k.port.number (kept_status c.handles handle k.port.number) code len dead
 
-refuses_handle : (table : AnswerTable) (d : Setup) (c : Client) (k : Asker) (handle code : ℕ) → dead_code (kept_status c.handles handle k.port.number) ≡ Some code → RefusesHandle table d c k handle code
+refuses_handle : (d : Setup) (c : Client) (k : Asker) (handle code : ℕ)
+    → dead_code (kept_status c.handles handle k.port.number) ≡ Some code → RefusesHandle d c k handle code
 unfolding act_of read_group write_group reach_of
-refuses_handle table d c k handle code dead =
+refuses_handle d c k handle code dead =
     let reach : (len : ℕ) → addressed_by_status k.port.number (kept_status c.handles handle k.port.number) len ≡ Err code =
     λ len. dead-reach k.port.number (kept_status c.handles handle k.port.number) code len dead in
     record {
@@ -205,4 +215,4 @@ refuses_handle table d c k handle code dead =
     }
 
 pub dead_handle_touches_nothing : DeadHandleTouchesNothing
-dead_handle_touches_nothing table d c k handle code dead = (refuses_handle table d c k handle code dead, any_form table d c k handle code dead)
+dead_handle_touches_nothing d c k handle code dead = (refuses_handle d c k handle code dead, any_form d c k handle code dead)

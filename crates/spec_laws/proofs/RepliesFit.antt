@@ -7,11 +7,15 @@ use Rattle.spec_plant.specs.Description.{size_in}
 use Rattle.spec_plant.specs.World.{Plant, PlantPort, Block}
 use Rattle.spec_plant.specs.Finding.{found_of}
 use Rattle.spec_formats.specs.Codes.{invalid_size}
-use Rattle.spec_formats.specs.Groups.{Group, AreaSize, HandleByName, ValueByName, InfoByName, SymbolVersion, ExtendedInfoByName, SymbolUpload, UploadInfo, TypeUpload, UploadInfoWithTypes, ReleaseHandle}
+use Rattle.spec_formats.specs.Groups.{Group, AreaSize, HandleByName, ValueByName, InfoByName, SymbolVersion}
+use Rattle.spec_formats.specs.Groups.{ExtendedInfoByName, SymbolUpload, UploadInfo, TypeUpload}
+use Rattle.spec_formats.specs.Groups.{UploadInfoWithTypes, ReleaseHandle}
 use Rattle.spec_formats.specs.Header.{AmsHeader, header_of}
 use Rattle.spec_formats.specs.Ranges.{greatest_len}
 use Rattle.spec_formats.specs.Reply.{facts_bytes}
-use Rattle.spec_formats.specs.Request.{Request, ReadDeviceInfo, Read, Write, ReadState, WriteControl, AddDeviceNotification, DeleteDeviceNotification, DeviceNotification, ReadWrite}
+use Rattle.spec_formats.specs.Request.{Request, ReadDeviceInfo, Read, Write, ReadState, WriteControl}
+use Rattle.spec_formats.specs.Request.{AddDeviceNotification, DeleteDeviceNotification, DeviceNotification}
+use Rattle.spec_formats.specs.Request.{ReadWrite}
 use Rattle.spec_machine.specs.Connection.{Connection}
 use Rattle.spec_machine.specs.Moves.{state_after}
 use Rattle.spec_machine.specs.World.{World, Setup, setup_of, port_numbered, state_names}
@@ -20,7 +24,7 @@ use Rattle.spec_machine.specs.Handles.{Live, kept_status}
 use Rattle.spec_machine.specs.Watches.{Mode}
 use Rattle.spec_machine.specs.Client.{Place, Client, Deletes}
 use Rattle.spec_machine.specs.Acts.{Refusal, fixed_data, outcomes_of}
-use Rattle.spec_machine.specs.Answers.{AnswerTable, answered_group}
+use Rattle.spec_machine.specs.Answers.{answered_group}
 use Rattle.spec_machine.specs.Reach.{reach_of}
 use Rattle.spec_machine.specs.Reads.{fixed_reply, type_upload_reply, read_group}
 use Rattle.std.specs.Int.{w32, to_le_bytes}
@@ -45,7 +49,9 @@ use Rattle.spec_laws.proofs.EveryState.{every_state_fits}
 use Rattle.spec_laws.proofs.FirstMemory.{port_number}
 use Rattle.spec_laws.proofs.FineActs.{IsAsked, kept-placed, found-placed}
 use Rattle.spec_laws.proofs.Modest.{IsModestPort, IsModestPlant, accepted_are_modest, found_has, placed-small, entry-short, every_plant}
-use Rattle.spec_laws.proofs.ShortActs.{IsShort, short_if, short_refusal, short_fixed, short_reading, short_writing, short_changing, fixed-within, reach-short, read-short, value-short, if_found-short, grant-short, least-short, given-short}
+use Rattle.spec_laws.proofs.ShortActs.{IsShort, short_if, short_refusal, short_fixed, short_reading}
+use Rattle.spec_laws.proofs.ShortActs.{short_writing, short_changing, fixed-within, reach-short, read-short}
+use Rattle.spec_laws.proofs.ShortActs.{value-short, if_found-short, grant-short, least-short, given-short}
 use Rattle.spec_laws.proofs.ShortSums.{IsPackedShort, reads-packed, writes-packed, read_writes-packed, unrefused-short}
 use Rattle.spec_laws.proofs.ShortReplies.{payload-short, IsShortHeader, MaybeShort, header-short, response-short}
 
@@ -58,7 +64,8 @@ record IsKnown (plant : Plant) (c : Client) (p : PlantPort) : Type 0 where
 port-modest : (plant : Plant) (c : Client) (p : PlantPort) → IsKnown plant c p → IsModestPort p
 port-modest plant c p k = found_has IsModestPort (λ (q : PlantPort). q.number == p.number) plant.ports p k.modest k.asked.found
 
-handle-small : (plant : Plant) (c : Client) (p : PlantPort) → IsKnown plant c p → (handle : ℕ) (place : Place) → kept_status c.handles handle p.number ≡ Live place → place.len ≤ LIMIT
+handle-small : (plant : Plant) (c : Client) (p : PlantPort) → IsKnown plant c p
+    → (handle : ℕ) (place : Place) → kept_status c.handles handle p.number ≡ Live place → place.len ≤ LIMIT
 handle-small plant c p k handle place e =
     placed-small plant k.modest p.number place (subst (IsPlacedStatus plant p.number) e (kept-placed plant c.handles handle p.number k.handles))
 
@@ -69,7 +76,8 @@ upload-short len bytes =
       | inr t ↦ let l = ltb-false greatest_len (length bytes) t in rw t (fixed-within greatest_len len bytes l)
     ]
 
-read-limit : (d : Setup) (c : Client) (p : PlantPort) → IsKnown d.plant c p → (g : Option Group) (offset len : ℕ) → IsShort greatest_len (read_group d c p g offset len)
+read-limit : (d : Setup) (c : Client) (p : PlantPort) → IsKnown d.plant c p
+    → (g : Option Group) (offset len : ℕ) → IsShort greatest_len (read_group d c p g offset len)
 unfolding read_group
 read-limit d c p k (Some (AreaSize a)) offset len = fixed-within greatest_len len (to_le_bytes w32 (size_in p.sizes a)) (omega arith)
 read-limit d c p k (Some SymbolVersion) offset len = fixed-within greatest_len len (d.version ∷ []) (omega arith)
@@ -79,7 +87,8 @@ read-limit d c p k (Some TypeUpload) offset len = upload-short len (type_upload_
 read-limit d c p k (Some UploadInfoWithTypes) offset len = fixed-within greatest_len len (upload_info_with_types_of d.plant p) (omega arith)
 read-limit d c p k g offset len =
     read-short greatest_len (reach_of c p g offset len)
-    (reach-short greatest_len c p g offset len (λ h. h) (λ e. omega arith) (λ place s h. let l = handle-small d.plant c p k offset place s in omega (arith, l, h)))
+    (reach-short greatest_len c p g offset len (λ h. h) (λ e. omega arith)
+    (λ place s h. let l = handle-small d.plant c p k offset place s in omega (arith, l, h)))
 
 write-limit : (most : ℕ) (k : Asker) (bytes : List ℕ) (r : Result (List Addressed) ℕ) → IsShort most (write_act k bytes r)
 write-limit most k bytes (Err code) = short_refusal most code
@@ -99,7 +108,8 @@ control-limit : (most : ℕ) (k : Asker) (ads device : ℕ) → IsShort most (co
 unfolding control_act
 control-limit most k ads device = short_if most _ _ _ (short_refusal most _) (short_if most _ _ _ (short_writing most _) (short_refusal most _))
 
-add_reached-limit : (c : Client) (k : Asker) (mode : Mode) (len cycle : ℕ) (r : Result (List Addressed) ℕ) → IsShort greatest_len (add_reached c k mode len cycle r)
+add_reached-limit : (c : Client) (k : Asker) (mode : Mode) (len cycle : ℕ) (r : Result (List Addressed) ℕ)
+    → IsShort greatest_len (add_reached c k mode len cycle r)
 add_reached-limit c k mode len cycle (Err code) = short_refusal greatest_len code
 add_reached-limit c k mode len cycle (Ok places) =
     short_if greatest_len (len == 0) (Refusal invalid_size) (add_watch c (next_watch c k mode cycle places)) (short_refusal greatest_len invalid_size)
@@ -107,33 +117,40 @@ add_reached-limit c k mode len cycle (Ok places) =
 
 add-limit : (c : Client) (k : Asker) (g : Option Group) (offset len cycle : ℕ) (mode : Option Mode) → IsShort greatest_len (add_act c k g offset len cycle mode)
 add-limit c k g offset len cycle None = short_refusal greatest_len _
-add-limit c k g offset len cycle (Some mode) = short_if greatest_len _ _ _ (short_refusal greatest_len _) (add_reached-limit c k mode len cycle (reach_of c k.port g offset len))
+add-limit c k g offset len cycle (Some mode) =
+    short_if greatest_len _ _ _ (short_refusal greatest_len _) (add_reached-limit c k mode len cycle (reach_of c k.port g offset len))
 
-read_write-limit : (plant : Plant) (c : Client) (p : PlantPort) → IsKnown plant c p → (g : Option Group) (len : ℕ) (name : List ℕ) → IsShort greatest_len (read_write_group c p g len name)
+read_write-limit : (plant : Plant) (c : Client) (p : PlantPort) → IsKnown plant c p
+    → (g : Option Group) (len : ℕ) (name : List ℕ) → IsShort greatest_len (read_write_group c p g len name)
 unfolding read_write_group
 read_write-limit plant c p k (Some HandleByName) len name =
-    least-short greatest_len 4 len invalid_size _ (λ h. if_found-short greatest_len (found_of p.symbols name) (λ f. grant_act c p (place_of f)) (λ f e. grant-short greatest_len c p (place_of f) (omega arith)))
+    least-short greatest_len 4 len invalid_size _
+    (λ h. if_found-short greatest_len (found_of p.symbols name) (λ f. grant_act c p (place_of f))
+    (λ f e. grant-short greatest_len c p (place_of f) (omega arith)))
 read_write-limit plant c p k (Some ValueByName) len name =
     if_found-short greatest_len (found_of p.symbols name) (λ f. value_act p len (place_of f))
-    (λ f e. value-short greatest_len p len (place_of f) (λ h. let l = placed-small plant k.modest p.number (place_of f) (found-placed plant p k.asked name f e) in omega (arith, l, h)))
+    (λ f e. value-short greatest_len p len (place_of f)
+    (λ h. let l = placed-small plant k.modest p.number (place_of f) (found-placed plant p k.asked name f e) in omega (arith, l, h)))
 read_write-limit plant c p k (Some InfoByName) len name =
-    least-short greatest_len 12 len invalid_size _ (λ h. if_found-short greatest_len (found_of p.symbols name) (λ f. fixed_data (info_of f)) (λ f e. short_fixed greatest_len (info_of f) (omega arith)))
+    least-short greatest_len 12 len invalid_size _
+    (λ h. if_found-short greatest_len (found_of p.symbols name) (λ f. fixed_data (info_of f)) (λ f e. short_fixed greatest_len (info_of f) (omega arith)))
 read_write-limit plant c p k (Some ExtendedInfoByName) len name =
     if_found-short greatest_len (found_of p.symbols name) (λ f. fixed_reply len (entry_bytes (entry_of_part f)))
     (λ f e. fixed-within greatest_len len (entry_bytes (entry_of_part f)) (entry-short p (port-modest plant c p k) name f e))
 read_write-limit plant c p k g len name = short_refusal greatest_len _
 
-act-limit : (table : AnswerTable) (d : Setup) (c : Client) (k : Asker) → IsKnown d.plant c k.port → (r : Request) → IsShort greatest_len (act_of table d c k r)
+act-limit : (d : Setup) (c : Client) (k : Asker) → IsKnown d.plant c k.port → (r : Request) → IsShort greatest_len (act_of d c k r)
 unfolding act_of
-act-limit table d c k i ReadDeviceInfo = let n = (port-modest d.plant c k.port i).facts in short_fixed greatest_len (facts_bytes k.port.facts) (omega (arith, n))
-act-limit table d c k i (Read group offset len) = read-limit d c k.port i (answered_group table _ group) offset len
-act-limit table d c k i (Write group offset bytes) = write_group-limit greatest_len c k (answered_group table _ group) offset bytes
-act-limit table d c k i ReadState = short_reading greatest_len (map WholeByte (state_names k.port)) (omega arith)
-act-limit table d c k i (WriteControl ads device bytes) = control-limit greatest_len k ads device
-act-limit table d c k i (AddDeviceNotification group offset len mode delay cycle) = add-limit c k (answered_group table _ group) offset len cycle _
-act-limit table d c k i (DeleteDeviceNotification handle) = short_if greatest_len _ _ _ (short_changing greatest_len [] (Deletes handle) (omega arith)) (short_refusal greatest_len _)
-act-limit table d c k i (DeviceNotification bytes) = short_fixed greatest_len [] (omega arith)
-act-limit table d c k i (ReadWrite group offset len bytes) = read_write-limit d.plant c k.port i (answered_group table _ group) len bytes
+act-limit d c k i ReadDeviceInfo = let n = (port-modest d.plant c k.port i).facts in short_fixed greatest_len (facts_bytes k.port.facts) (omega (arith, n))
+act-limit d c k i (Read group offset len) = read-limit d c k.port i (answered_group _ group) offset len
+act-limit d c k i (Write group offset bytes) = write_group-limit greatest_len c k (answered_group _ group) offset bytes
+act-limit d c k i ReadState = short_reading greatest_len (map WholeByte (state_names k.port)) (omega arith)
+act-limit d c k i (WriteControl ads device bytes) = control-limit greatest_len k ads device
+act-limit d c k i (AddDeviceNotification group offset len mode delay cycle) = add-limit c k (answered_group _ group) offset len cycle _
+act-limit d c k i (DeleteDeviceNotification handle) =
+    short_if greatest_len _ _ _ (short_changing greatest_len [] (Deletes handle) (omega arith)) (short_refusal greatest_len _)
+act-limit d c k i (DeviceNotification bytes) = short_fixed greatest_len [] (omega arith)
+act-limit d c k i (ReadWrite group offset len bytes) = read_write-limit d.plant c k.port i (answered_group _ group) len bytes
 
 -- how many bytes a decision gives
 
@@ -159,14 +176,15 @@ refuse_short : (code : ℕ) → IsShortDecision (refuse code)
 unfolding outcomes_of outcome_in_all
 refuse_short code = record { short = λ memory. omega arith }
 
-single-limit : (table : AnswerTable) (d : Setup) (c : Client) (k : Asker) → IsKnown d.plant c k.port → (r : Request) → IsShortDecision (decide_single table d c k r)
+single-limit : (d : Setup) (c : Client) (k : Asker) → IsKnown d.plant c k.port → (r : Request) → IsShortDecision (decide_single d c k r)
 unfolding acts_of given_in_turn outcomes_of outcome_in_all
-single-limit table d c k i r = record { short = λ memory. given-short greatest_len memory (act_of table d c k r) (act-limit table d c k i r) }
+single-limit d c k i r = record { short = λ memory. given-short greatest_len memory (act_of d c k r) (act-limit d c k i r) }
 
-parts-limit : (table : AnswerTable) (d : Setup) (c : Client) (k : Asker) (s : SumRequest) → IsPackedShort table d k c s → (o : Option ℕ) → (o ≡ None → s.reply_len ≤ greatest_len) → IsShortDecision (decide_parts table d c k s o)
+parts-limit : (d : Setup) (c : Client) (k : Asker) (s : SumRequest) → IsPackedShort d k c s
+    → (o : Option ℕ) → (o ≡ None → s.reply_len ≤ greatest_len) → IsShortDecision (decide_parts d c k s o)
 unfolding outcome_in_all
-parts-limit table d c k s h (Some code) l = refuse_short code
-parts-limit table d c k s h None l = record { short = λ memory. let a = h.short memory in let b = l refl in omega (arith, a, b) }
+parts-limit d c k s h (Some code) l = refuse_short code
+parts-limit d c k s h None l = record { short = λ memory. let a = h.short memory in let b = l refl in omega (arith, a, b) }
 
 -- what is known of a world and a client
 record IsServed (plant : Plant) (c : Client) : Type 0 where
@@ -179,18 +197,18 @@ known plant c p number s e =
     let P : ℕ → Type 0 = λ m. port_numbered m plant.ports ≡ Some p in
     record { asked = record { sound = s.sound; found = subst P (sym (port_number number plant.ports p e)) e }; modest = s.modest; handles = s.handles }
 
-decide-limit : (table : AnswerTable) (d : Setup) (c : Client) → IsServed d.plant c → (packet : List ℕ) → IsShortDecision (decide table d c packet)
-decide-limit table d c s packet =
-    decide-cases table d c IsShortDecision
+decide-limit : (d : Setup) (c : Client) → IsServed d.plant c → (packet : List ℕ) → IsShortDecision (decide d c packet)
+decide-limit d c s packet =
+    decide-cases d c IsShortDecision
     (record {
       silent = silent_short;
       ends = end_short;
       error = error_short;
       refused = refuse_short;
-      single = λ k number e r. single-limit table d c k (known d.plant c k.port number s e) r;
-      reads = λ k number e n len bytes. parts-limit table d c k (sum_of_reads n bytes) (reads-packed table d k c n bytes) _ (unrefused-short n _ _ _ len);
-      writes = λ k number e n len bytes. parts-limit table d c k (sum_of_writes n bytes) (writes-packed table d k c n bytes) _ (unrefused-short n _ _ _ len);
-      read_writes = λ k number e n len bytes. parts-limit table d c k (sum_of_read_writes n bytes) (read_writes-packed table d k c n bytes) _ (unrefused-short n _ _ _ len);
+      single = λ k number e r. single-limit d c k (known d.plant c k.port number s e) r;
+      reads = λ k number e n len bytes. parts-limit d c k (sum_of_reads n bytes) (reads-packed d k c n bytes) _ (unrefused-short n _ _ _ len);
+      writes = λ k number e n len bytes. parts-limit d c k (sum_of_writes n bytes) (writes-packed d k c n bytes) _ (unrefused-short n _ _ _ len);
+      read_writes = λ k number e n len bytes. parts-limit d c k (sum_of_read_writes n bytes) (read_writes-packed d k c n bytes) _ (unrefused-short n _ _ _ len);
     })
     packet
 
@@ -206,20 +224,22 @@ maybe-fits : (o : Option AmsHeader) (x : Decision) (memory : List Block) → May
 maybe-fits None x memory s d = tt
 maybe-fits (Some h) x memory s d = answer-fits h x memory s d
 
-answers-fit : (table : AnswerTable) (reading : DescriptionReading) (w : World) (k : Connection Client) → IsSoundPlant w.plant → IsModestPlant w.plant → ConnectionFits w k → AnswersFit (ads_device table reading) w k
+answers-fit : (reading : DescriptionReading) (w : World) (k : Connection Client) → IsSoundPlant w.plant
+    → IsModestPlant w.plant → ConnectionFits w k → AnswersFit (ads_device reading) w k
 unfolding performed
-answers-fit table reading w k sound modest f = λ heard packet.
-    maybe-fits (header_of packet) (decide table (setup_of w) k.client packet) w.memory (header-short packet)
-    (decide-limit table (setup_of w) k.client (record { sound = sound; modest = modest; handles = (f heard).handles }) packet)
+answers-fit reading w k sound modest f = λ heard packet.
+    maybe-fits (header_of packet) (decide (setup_of w) k.client packet) w.memory (header-short packet)
+    (decide-limit (setup_of w) k.client (record { sound = sound; modest = modest; handles = (f heard).handles }) packet)
 
-all-fit : (table : AnswerTable) (reading : DescriptionReading) (w : World) → IsSoundPlant w.plant → IsModestPlant w.plant → (ks : List (Connection Client)) → Each (ConnectionFits w) ks → Each (AnswersFit (ads_device table reading) w) ks
-all-fit table reading w sound modest [] e = tt
-all-fit table reading w sound modest (k ∷ ks) e = (answers-fit table reading w k sound modest (e.0), all-fit table reading w sound modest ks (e.1))
+all-fit : (reading : DescriptionReading) (w : World) → IsSoundPlant w.plant → IsModestPlant w.plant
+    → (ks : List (Connection Client)) → Each (ConnectionFits w) ks → Each (AnswersFit (ads_device reading) w) ks
+all-fit reading w sound modest [] e = tt
+all-fit reading w sound modest (k ∷ ks) e = (answers-fit reading w k sound modest (e.0), all-fit reading w sound modest ks (e.1))
 
 pub replies_fit : RepliesFit
-replies_fit table reading h d signals accepted log =
-    let s = state_after (server_step table reading) (start d signals) log in
-    let sound = every_plant IsSoundPlant accepted_are_sound table reading h d signals accepted log in
-    let modest = every_plant IsModestPlant accepted_are_modest table reading h d signals accepted log in
-    let all = every_state_fits table reading h d signals accepted log in
-    all-fit table reading s.world sound modest s.connections all.connections
+replies_fit reading h d signals accepted log =
+    let s = state_after (server_step reading) (start d signals) log in
+    let sound = every_plant IsSoundPlant accepted_are_sound reading h d signals accepted log in
+    let modest = every_plant IsModestPlant accepted_are_modest reading h d signals accepted log in
+    let all = every_state_fits reading h d signals accepted log in
+    all-fit reading s.world sound modest s.connections all.connections

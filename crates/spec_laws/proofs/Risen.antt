@@ -10,7 +10,6 @@ use Rattle.spec_machine.specs.Access.{Addressed, values_at}
 use Rattle.spec_machine.specs.Watches.{Watch, is_due, is_sent, checked_watch, AddressedSample, addressed_sample, watch_after_reload, watches_after_reload}
 use Rattle.spec_machine.specs.Client.{Client, Effect, NoEffect, Grants, Releases, Adds, Deletes, client_after, Kept, are_kept, kept_bytes, client_after_reload}
 use Rattle.spec_machine.specs.Acts.{Act, Refusal, Allowed, effect_of}
-use Rattle.spec_machine.specs.Answers.{AnswerTable}
 use Rattle.spec_machine.specs.Requests.{act_of}
 use Rattle.spec_machine.specs.Stamps.{SampleGroup, goes_with, with_sample, grouped, samples_at, watches_after_tick}
 use Rattle.spec_machine.specs.Ticks.{client_after_tick}
@@ -28,11 +27,13 @@ lower : (low mid : ℕ) (ws : List (Watch (List Addressed))) (high : ℕ) → lo
 lower low mid [] high l r = omega (arith, l, r)
 lower low mid (w ∷ ws) high l r = let a = r.0 in (omega (arith, l, a), r.1)
 
-pushed : (low : ℕ) (ws : List (Watch (List Addressed))) (w : Watch (List Addressed)) (high : ℕ) → AreRising low ws high → w.handle ≡ high + 1 → AreRising low (ws ++ w ∷ []) (high + 1)
+pushed : (low : ℕ) (ws : List (Watch (List Addressed))) (w : Watch (List Addressed)) (high : ℕ)
+    → AreRising low ws high → w.handle ≡ high + 1 → AreRising low (ws ++ w ∷ []) (high + 1)
 pushed low [] w high r e = (omega (arith, r, e), omega (arith, e))
 pushed low (v ∷ vs) w high r e = (r.0, pushed v.handle vs w high (r.1) e)
 
-filtered : (low : ℕ) (test : Watch (List Addressed) → Bool) (ws : List (Watch (List Addressed))) (high : ℕ) → AreRising low ws high → AreRising low (filter test ws) high
+filtered : (low : ℕ) (test : Watch (List Addressed) → Bool) (ws : List (Watch (List Addressed))) (high : ℕ)
+    → AreRising low ws high → AreRising low (filter test ws) high
 filtered low test [] high r = r
 filtered low test (w ∷ ws) high r =
     elim (cases_Bool (test w)) [
@@ -40,14 +41,16 @@ filtered low test (w ∷ ws) high r =
       | inr t ↦ rw t (let a = r.0 in lower low w.handle (filter test ws) high (omega (arith, a)) (filtered w.handle test ws high (r.1)))
     ]
 
-kept : (low : ℕ) (k : Kept) (ws : List (Watch (List Addressed))) (high : ℕ) → AreRising low ws high → AreRising low (filter_map (watch_after_reload (kept_bytes k)) ws) high
+kept : (low : ℕ) (k : Kept) (ws : List (Watch (List Addressed))) (high : ℕ)
+    → AreRising low ws high → AreRising low (filter_map (watch_after_reload (kept_bytes k)) ws) high
 kept low k [] high r = r
 kept low k (w ∷ ws) high r = go (are_kept k w.watched) (kept w.handle k ws high (r.1))
   where
     rest : List (Watch (List Addressed))
     rest = filter_map (watch_after_reload (kept_bytes k)) ws
 
-    go : (b : Bool) → AreRising w.handle rest high → AreRising low (cons_option (option_map (λ watched. record w { watched = watched }) (if b then Some w.watched else None)) rest) high
+    go : (b : Bool) → AreRising w.handle rest high
+        → AreRising low (cons_option (option_map (λ watched. record w { watched = watched }) (if b then Some w.watched else None)) rest) high
     go true h = (r.0, h)
     go false h = let a = r.0 in lower low w.handle rest high (omega (arith, a)) h
 
@@ -59,7 +62,8 @@ checked-handle now bytes w = go (is_due now w) (is_sent bytes w)
     go true false = refl
     go false b = refl
 
-checked : (low : ℕ) (m : List Block) (now : ℕ) (ws : List (Watch (List Addressed))) (high : ℕ) → AreRising low ws high → AreRising low (watches_after_tick m now ws) high
+checked : (low : ℕ) (m : List Block) (now : ℕ) (ws : List (Watch (List Addressed))) (high : ℕ)
+    → AreRising low ws high → AreRising low (watches_after_tick m now ws) high
 unfolding watches_after_tick
 checked low m now [] high r = r
 checked low m now (w ∷ ws) high r =
@@ -79,11 +83,11 @@ act-rises : (c : Client) (a : Act) → WatchesRise c → NextAct c a → Watches
 act-rises c (Refusal code) r h = effect-rises c NoEffect r tt
 act-rises c (Allowed a) r h = effect-rises c a.effect r h.next
 
-rise_kept : (table : AnswerTable) → Keeps table WatchesRise
+rise_kept : Keeps WatchesRise
 unfolding client_after_tick client_reloaded client_after_reload watches_after_reload
-rise_kept table = record {
+rise_kept = record {
   new = omega arith;
-  request = λ d c k r i. act-rises c (act_of table d c k r) i (act-next table d c k r);
+  request = λ d c k r i. act-rises c (act_of d c k r) i (act-next d c k r);
   tick = λ now w c i. checked 0 w.memory now c.watches c.additions i;
   reload = λ now old new c i. kept 0 (is_kept old.plant new.plant) c.watches c.additions i;
 }
@@ -98,12 +102,14 @@ samples_lower : (low mid : ℕ) (ss : List AddressedSample) → low ≤ mid → 
 samples_lower low mid [] l r = tt
 samples_lower low mid (s ∷ ss) l r = let a = r.0 in (omega (arith, l, a), r.1)
 
-tick-samples : (low : ℕ) (m : List Block) (now : ℕ) (ws : List (Watch (List Addressed))) (high : ℕ) → AreRising low ws high → OrderedSamples low (samples_at m now ws)
+tick-samples : (low : ℕ) (m : List Block) (now : ℕ) (ws : List (Watch (List Addressed))) (high : ℕ)
+    → AreRising low ws high → OrderedSamples low (samples_at m now ws)
 unfolding samples_at
 tick-samples low m now [] high r = tt
 tick-samples low m now (w ∷ ws) high r = go (is_due now w && is_sent (values_at m w.watched) w) (tick-samples w.handle m now ws high (r.1))
   where
-    go : (b : Bool) → OrderedSamples w.handle (samples_at m now ws) → OrderedSamples low (cond b (addressed_sample (values_at m w.watched) w ∷ []) [] ++ samples_at m now ws)
+    go : (b : Bool) → OrderedSamples w.handle (samples_at m now ws)
+        → OrderedSamples low (cond b (addressed_sample (values_at m w.watched) w ∷ []) [] ++ samples_at m now ws)
     go true h = (r.0, h)
     go false h = let a = r.0 in samples_lower low w.handle (samples_at m now ws) (omega (arith, a)) h
 
@@ -131,7 +137,8 @@ all-higher : (gs : List SampleGroup) (high more : ℕ) → high ≤ more → Eac
 all-higher [] high more l e = tt
 all-higher (g ∷ gs) high more l e = (higher 0 g.samples high more l (e.0), all-higher gs high more l (e.1))
 
-with_sample-rises : (gs : List SampleGroup) (s : AddressedSample) (high : ℕ) → Each (GroupUpTo high) gs → high < s.sample.handle → Each (GroupUpTo s.sample.handle) (with_sample gs s)
+with_sample-rises : (gs : List SampleGroup) (s : AddressedSample) (high : ℕ) → Each (GroupUpTo high) gs
+    → high < s.sample.handle → Each (GroupUpTo s.sample.handle) (with_sample gs s)
 with_sample-rises [] s high e l = ((omega (arith, l), omega arith), tt)
 with_sample-rises (g ∷ gs) s high e l =
     elim (cases_Bool (goes_with s g)) [
@@ -139,7 +146,8 @@ with_sample-rises (g ∷ gs) s high e l =
       | inr t ↦ rw t (higher 0 g.samples high s.sample.handle (omega (arith, l)) (e.0), with_sample-rises gs s high (e.1) l)
     ]
 
-grouped-rise : (ss : List AddressedSample) (gs : List SampleGroup) (high : ℕ) → Each (GroupUpTo high) gs → OrderedSamples high ss → Each IsRisingGroup (grouped gs ss)
+grouped-rise : (ss : List AddressedSample) (gs : List SampleGroup) (high : ℕ)
+    → Each (GroupUpTo high) gs → OrderedSamples high ss → Each IsRisingGroup (grouped gs ss)
 unfolding grouped
 grouped-rise [] gs high e o = all gs e
   where
@@ -150,9 +158,11 @@ grouped-rise (s ∷ ss) gs high e o = grouped-rise ss (with_sample gs s) s.sampl
 
 pub handles_rise : HandlesRise
 unfolding connection_of
-handles_rise table reading d signals log c k found =
-    let rises = subst (MaybeKept WatchesRise) found (log-carried (ads_device table reading) (MaybeKept WatchesRise) (carries table reading WatchesRise (rise_kept table)) c log (start d signals) tt) in
+handles_rise reading d signals log c k found =
+    let rises = subst (MaybeKept WatchesRise) found
+    (log-carried (ads_device reading) (MaybeKept WatchesRise) (carries reading WatchesRise (rise_kept)) c log (start d signals) tt) in
     record {
       watches = rises;
-      samples = λ memory now. grouped-rise (samples_at memory now k.client.watches) [] 0 tt (tick-samples 0 memory now k.client.watches k.client.additions rises);
+      samples = λ memory now. grouped-rise (samples_at memory now k.client.watches) [] 0 tt
+          (tick-samples 0 memory now k.client.watches k.client.additions rises);
     }

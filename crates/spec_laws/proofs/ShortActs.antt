@@ -7,7 +7,9 @@ use Rattle.spec_plant.specs.Description.{Area, size_in}
 use Rattle.spec_plant.specs.World.{PlantPort, ByteName, Block}
 use Rattle.spec_plant.specs.Finding.{Found, found_of}
 use Rattle.spec_formats.specs.Codes.{invalid_size, symbol_not_found}
-use Rattle.spec_formats.specs.Groups.{Group, AreaBytes, AreaBit, AreaSize, HandleByName, ValueByName, ValueByHandle, InfoByName, SymbolVersion, ExtendedInfoByName, SymbolUpload, UploadInfo, TypeUpload, UploadInfoWithTypes}
+use Rattle.spec_formats.specs.Groups.{Group, AreaBytes, AreaBit, AreaSize, HandleByName, ValueByName}
+use Rattle.spec_formats.specs.Groups.{ValueByHandle, InfoByName, SymbolVersion, ExtendedInfoByName}
+use Rattle.spec_formats.specs.Groups.{SymbolUpload, UploadInfo, TypeUpload, UploadInfoWithTypes}
 use Rattle.spec_formats.specs.Ranges.{greatest_len, byte_range, bit_range, range_in}
 use Rattle.spec_formats.specs.Request.{Read, ReadWrite}
 use Rattle.spec_formats.specs.SymbolEntry.{entry_bytes}
@@ -16,7 +18,7 @@ use Rattle.spec_machine.specs.Access.{Addressed, WholeByte, Put, value_at}
 use Rattle.spec_machine.specs.Handles.{HandleStatus, Never, Released, Outdated, Live, kept_status}
 use Rattle.spec_machine.specs.Client.{Place, Client, Effect}
 use Rattle.spec_machine.specs.Acts.{Act, Refusal, Allowed, outcome_of, fixed_data, reading, writing, changing}
-use Rattle.spec_machine.specs.Answers.{AnswerTable, answered_group}
+use Rattle.spec_machine.specs.Answers.{answered_group}
 use Rattle.spec_machine.specs.Entries.{entry_of_part, symbol_upload_of, type_upload_of, upload_info_of, upload_info_with_types_of}
 use Rattle.std.specs.Int.{w32, to_le_bytes}
 use Rattle.spec_machine.specs.Reach.{addressed_by_range, addressed_in_place, addressed_by_status, reach_of}
@@ -81,7 +83,8 @@ unfolding numbers_from
 length-names f zero first = refl
 length-names f (suc n) first = ap suc (length-names f n (first + 1))
 
-bytes-short : (most : ℕ) (p : PlantPort) (a : Area) (offset len : ℕ) → (len ≤ greatest_len → len ≤ most) → IsShortReach most (addressed_by_range p (byte_range a (size_in p.sizes a) offset len))
+bytes-short : (most : ℕ) (p : PlantPort) (a : Area) (offset len : ℕ) → (len ≤ greatest_len → len ≤ most)
+    → IsShortReach most (addressed_by_range p (byte_range a (size_in p.sizes a) offset len))
 unfolding byte_range names_at
 bytes-short most p a offset len h =
     elim (cases_Bool (nat_lt (size_in p.sizes a) offset)) [
@@ -99,7 +102,8 @@ bytes-short most p a offset len h =
     or_right true b e = cc
     or_right false b e = e
 
-bit-short : (most : ℕ) (p : PlantPort) (a : Area) (offset len : ℕ) → (len ≡ 1 → 1 ≤ most) → IsShortReach most (addressed_by_range p (bit_range a (size_in p.sizes a) offset len))
+bit-short : (most : ℕ) (p : PlantPort) (a : Area) (offset len : ℕ) → (len ≡ 1 → 1 ≤ most)
+    → IsShortReach most (addressed_by_range p (bit_range a (size_in p.sizes a) offset len))
 unfolding bit_range
 bit-short most p a offset len h =
     elim (cases_Bool (nat_le (size_in p.sizes a) (offset / 8))) [
@@ -120,7 +124,8 @@ place-short most port place len h =
           rw t (record { short = omega (arith, l, e) })
     ]
 
-status-short : (most port : ℕ) (s : HandleStatus Place) (len : ℕ) → ((place : Place) → s ≡ Live place → len ≤ place.len → len ≤ most) → IsShortReach most (addressed_by_status port s len)
+status-short : (most port : ℕ) (s : HandleStatus Place) (len : ℕ)
+    → ((place : Place) → s ≡ Live place → len ≤ place.len → len ≤ most) → IsShortReach most (addressed_by_status port s len)
 status-short most port Never len h = reach_err most _
 status-short most port Released len h = reach_err most _
 status-short most port Outdated len h = reach_err most _
@@ -174,15 +179,19 @@ read-asked d c p (Some UploadInfo) offset len = fixed-asked len (upload_info_of 
 read-asked d c p (Some TypeUpload) offset len =
     short_if len _ (Refusal invalid_size) (fixed_reply len (type_upload_of d.plant)) (short_refusal len invalid_size) (fixed-asked len (type_upload_of d.plant))
 read-asked d c p (Some UploadInfoWithTypes) offset len = fixed-asked len (upload_info_with_types_of d.plant p)
-read-asked d c p g offset len = read-short len (reach_of c p g offset len) (reach-short len c p g offset len (λ h. omega arith) (λ e. omega (arith, e)) (λ place s h. omega arith))
+read-asked d c p g offset len =
+    read-short len (reach_of c p g offset len) (reach-short len c p g offset len (λ h. omega arith) (λ e. omega (arith, e)) (λ place s h. omega arith))
 
 read_write-asked : (c : Client) (p : PlantPort) (g : Option Group) (len : ℕ) (name : List ℕ) → IsShort len (read_write_group c p g len name)
 unfolding read_write_group
 read_write-asked c p (Some HandleByName) len name =
-    least-short len 4 len invalid_size _ (λ h. if_found-short len (found_of p.symbols name) (λ f. grant_act c p (place_of f)) (λ f e. grant-short len c p (place_of f) h))
-read_write-asked c p (Some ValueByName) len name = if_found-short len (found_of p.symbols name) (λ f. value_act p len (place_of f)) (λ f e. value-short len p len (place_of f) (λ h. omega arith))
+    least-short len 4 len invalid_size _
+    (λ h. if_found-short len (found_of p.symbols name) (λ f. grant_act c p (place_of f)) (λ f e. grant-short len c p (place_of f) h))
+read_write-asked c p (Some ValueByName) len name =
+    if_found-short len (found_of p.symbols name) (λ f. value_act p len (place_of f)) (λ f e. value-short len p len (place_of f) (λ h. omega arith))
 read_write-asked c p (Some InfoByName) len name =
-    least-short len 12 len invalid_size _ (λ h. if_found-short len (found_of p.symbols name) (λ f. fixed_data (info_of f)) (λ f e. short_fixed len (info_of f) h))
+    least-short len 12 len invalid_size _
+    (λ h. if_found-short len (found_of p.symbols name) (λ f. fixed_data (info_of f)) (λ f e. short_fixed len (info_of f) h))
 read_write-asked c p (Some ExtendedInfoByName) len name =
     if_found-short len (found_of p.symbols name) (λ f. fixed_reply len (entry_bytes (entry_of_part f))) (λ f e. fixed-asked len (entry_bytes (entry_of_part f)))
 read_write-asked c p g len name = short_refusal len _
@@ -195,16 +204,17 @@ length-given memory (Allowed a) = length-append a.fixed (map (value_at memory) a
 pub given-short : (most : ℕ) (memory : List Block) (a : Act) → IsShort most a → length (outcome_of memory a).bytes ≤ most
 given-short most memory a h = let e = length-given memory a in let s = h.short in omega (arith, e, s)
 
-pub read-act-asked : (table : AnswerTable) (d : Setup) (c : Client) (k : Asker) (group offset len : ℕ) → IsShort len (act_of table d c k (Read group offset len))
+pub read-act-asked : (d : Setup) (c : Client) (k : Asker) (group offset len : ℕ) → IsShort len (act_of d c k (Read group offset len))
 unfolding act_of
-read-act-asked table d c k group offset len = read-asked d c k.port (answered_group table _ group) offset len
+read-act-asked d c k group offset len = read-asked d c k.port (answered_group _ group) offset len
 
-pub read_write-act-asked : (table : AnswerTable) (d : Setup) (c : Client) (k : Asker) (group offset len : ℕ) (bytes : List ℕ) → IsShort len (act_of table d c k (ReadWrite group offset len bytes))
+pub read_write-act-asked : (d : Setup) (c : Client) (k : Asker) (group offset len : ℕ) (bytes : List ℕ)
+    → IsShort len (act_of d c k (ReadWrite group offset len bytes))
 unfolding act_of
-read_write-act-asked table d c k group offset len bytes = read_write-asked c k.port (answered_group table _ group) len bytes
+read_write-act-asked d c k group offset len bytes = read_write-asked c k.port (answered_group _ group) len bytes
 
 pub no_more_than_asked : NoMoreThanAsked
-no_more_than_asked table d c k memory = record {
-  read = λ group offset len. given-short len memory _ (read-act-asked table d c k group offset len);
-  read_write = λ group offset len bytes. given-short len memory _ (read_write-act-asked table d c k group offset len bytes);
+no_more_than_asked d c k memory = record {
+  read = λ group offset len. given-short len memory _ (read-act-asked d c k group offset len);
+  read_write = λ group offset len bytes. given-short len memory _ (read_write-act-asked d c k group offset len bytes);
 }

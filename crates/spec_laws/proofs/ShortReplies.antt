@@ -6,7 +6,9 @@ use Rattle.std.proofs.lemmas.Bool.{cases_Bool}
 use Rattle.std.proofs.lemmas.List.{length-append, length-drop}
 use Rattle.spec_formats.specs.Header.{AmsAddress, AmsHeader, header_of, header_bytes, address_bytes, response_header, response_flags}
 use Rattle.spec_formats.specs.Ranges.{greatest_len}
-use Rattle.spec_formats.specs.Reply.{Reply, ReadDeviceInfo, Read, Write, ReadState, WriteControl, AddDeviceNotification, DeleteDeviceNotification, ReadWrite, facts_at, result_of, reply_bytes, refused_bytes, written_bytes}
+use Rattle.spec_formats.specs.Reply.{Reply, ReadDeviceInfo, Read, Write, ReadState, WriteControl}
+use Rattle.spec_formats.specs.Reply.{AddDeviceNotification, DeleteDeviceNotification, ReadWrite, facts_at}
+use Rattle.spec_formats.specs.Reply.{result_of, reply_bytes, refused_bytes, written_bytes}
 use Rattle.spec_machine.specs.Acts.{Outcome}
 use Rattle.spec_machine.specs.Replies.{OutcomeForm, outcome_forms, reply_in_forms, reply_payload, response_packet}
 use Rattle.spec_laws.specs.Soundness.{Each}
@@ -30,7 +32,8 @@ reply_if false x y p q = q
 IsShortForm : OutcomeForm → Type 0
 IsShortForm f = (o : Outcome) → length o.bytes ≤ greatest_len → IsShortReply (f.reply o)
 
-in-forms : (fs : List OutcomeForm) (command : ℕ) (o : Outcome) → length o.bytes ≤ greatest_len → Each IsShortForm fs → IsShortReply (reply_in_forms fs command o)
+in-forms : (fs : List OutcomeForm) (command : ℕ) (o : Outcome) → length o.bytes ≤ greatest_len
+    → Each IsShortForm fs → IsShortReply (reply_in_forms fs command o)
 unfolding reply_in_forms IsShortForm
 in-forms [] command o h e = written-short (Write o.code) (omega arith) (omega arith)
 in-forms (f ∷ fs) command o h e = reply_if (f.command == command) (f.reply o) (reply_in_forms fs command o) (e.0 o h) (in-forms fs command o h (e.1))
@@ -47,7 +50,11 @@ write-form : IsShortForm (record { command = 3; reply = λ o. Write o.code })
 unfolding IsShortForm
 write-form o h = written-short (Write o.code) (omega arith) (omega arith)
 
-state-form : IsShortForm (record { command = 4; reply = λ o. ReadState o.code (Rattle.spec_formats.specs.Numbers.number16 0 o.bytes) (Rattle.spec_formats.specs.Numbers.number16 2 o.bytes) })
+state-form : IsShortForm
+    (record {
+      command = 4;
+      reply = λ o. ReadState o.code (Rattle.spec_formats.specs.Numbers.number16 0 o.bytes) (Rattle.spec_formats.specs.Numbers.number16 2 o.bytes);
+    })
 unfolding IsShortForm
 state-form o h = written-short (ReadState o.code _ _) (omega arith) (omega arith)
 
@@ -69,7 +76,8 @@ read_write-form o h = written-short (ReadWrite o.code o.bytes) (omega (arith, h)
 
 pub payload-short : (command : ℕ) (o : Outcome) → length o.bytes ≤ greatest_len → length (reply_payload command o) ≤ 8 + greatest_len
 payload-short command o h =
-    (in-forms outcome_forms command o h (facts-short, (read-form, (write-form, (state-form, (control-form, (add-form, (delete-form, (read_write-form, tt))))))))).short
+    (in-forms outcome_forms command o h
+    (facts-short, (read-form, (write-form, (state-form, (control-form, (add-form, (delete-form, (read_write-form, tt))))))))).short
 
 -- the header of a packet has NetIds of at most 6 bytes
 
@@ -120,9 +128,11 @@ seven a b c d e f g x y =
       length-append abcdef (to_le_bytes w32 g),
     )
 
-pub response-short : (h : AmsHeader) (code : ℕ) (payload : List ℕ) → IsShortHeader h → length payload ≤ 8 + greatest_len → length (response_packet h code payload) ≤ 32 + 8 + greatest_len
+pub response-short : (h : AmsHeader) (code : ℕ) (payload : List ℕ) → IsShortHeader h
+    → length payload ≤ 8 + greatest_len → length (response_packet h code payload) ≤ 32 + 8 + greatest_len
 unfolding response_packet
 response-short h code payload s l =
-    let front = seven (address_bytes h.source) (address_bytes h.target) h.command response_flags (length payload) code h.id (address-short h.source s.source) (address-short h.target s.target) in
+    let front = seven (address_bytes h.source) (address_bytes h.target) h.command response_flags
+    (length payload) code h.id (address-short h.source s.source) (address-short h.target s.target) in
     let all = length-append (header_bytes (response_header h code (length payload))) payload in
     omega (arith, l, front, all)

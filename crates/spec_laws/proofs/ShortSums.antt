@@ -12,21 +12,22 @@ use Rattle.spec_formats.specs.Request.{Request, Read, ReadWrite}
 use Rattle.spec_machine.specs.World.{Setup}
 use Rattle.spec_machine.specs.Client.{Client}
 use Rattle.spec_machine.specs.Acts.{Outcome, outcome_of, memory_after, outcomes_of}
-use Rattle.spec_machine.specs.Answers.{AnswerTable}
 use Rattle.spec_machine.specs.Writes.{Asker}
 use Rattle.spec_machine.specs.Requests.{act_of}
-use Rattle.spec_machine.specs.Sums.{SumRequest, numbers_of_heads, read_parts, write_parts, read_write_parts, sum_of_reads, sum_of_writes, sum_of_read_writes, sum_refusal, MAX_PARTS, codes_of, filled, filled_data, packed, given_in_turn}
+use Rattle.spec_machine.specs.Sums.{SumRequest, numbers_of_heads, read_parts, write_parts, read_write_parts}
+use Rattle.spec_machine.specs.Sums.{sum_of_reads, sum_of_writes, sum_of_read_writes, sum_refusal, MAX_PARTS}
+use Rattle.spec_machine.specs.Sums.{codes_of, filled, filled_data, packed, given_in_turn}
 use Rattle.spec_machine.specs.SumPackets.{client_after_request, acts_of}
 use Rattle.spec_laws.proofs.ShortActs.{given-short, read-act-asked, read_write-act-asked}
 
 -- how the parts end
-abbrev pub ends_of : AnswerTable → Setup → Asker → Client → List Block → List Request → List Outcome
-ends_of table d k c memory rs = outcomes_of memory (acts_of table d c k rs)
+abbrev pub ends_of : Setup → Asker → Client → List Block → List Request → List Outcome
+ends_of d k c memory rs = outcomes_of memory (acts_of d c k rs)
 
-ends-len : (table : AnswerTable) (d : Setup) (k : Asker) (rs : List Request) (c : Client) (memory : List Block) → length (ends_of table d k c memory rs) ≡ length rs
+ends-len : (d : Setup) (k : Asker) (rs : List Request) (c : Client) (memory : List Block) → length (ends_of d k c memory rs) ≡ length rs
 unfolding acts_of given_in_turn outcomes_of
-ends-len table d k [] c memory = refl
-ends-len table d k (r ∷ rs) c memory = ap suc (ends-len table d k rs (client_after_request table d k c r) (memory_after memory (act_of table d c k r)))
+ends-len d k [] c memory = refl
+ends-len d k (r ∷ rs) c memory = ap suc (ends-len d k rs (client_after_request d k c r) (memory_after memory (act_of d c k r)))
 
 codes-len : (os : List Outcome) → length (codes_of os) ≡ 4 * length os
 codes-len [] = refl
@@ -63,79 +64,82 @@ filled-short len bytes h =
     let r = length-replicate {A = ℕ} (len - length bytes) 0 in
     omega (arith, h, e, r)
 
-reads-filled : (table : AnswerTable) (d : Setup) (k : Asker) (n : ℕ) (heads : List ℕ) (c : Client) (memory : List Block)
-    → length (filled_data (numbers_of_heads n 12 8 heads) (ends_of table d k c memory (read_parts n heads))) ≤ sum (numbers_of_heads n 12 8 heads)
+reads-filled : (d : Setup) (k : Asker) (n : ℕ) (heads : List ℕ) (c : Client) (memory : List Block)
+    → length (filled_data (numbers_of_heads n 12 8 heads) (ends_of d k c memory (read_parts n heads))) ≤ sum (numbers_of_heads n 12 8 heads)
 unfolding acts_of given_in_turn outcomes_of
-reads-filled table d k zero heads c memory = omega arith
-reads-filled table d k (suc n) heads c memory =
+reads-filled d k zero heads c memory = omega arith
+reads-filled d k (suc n) heads c memory =
     let len = number32 8 heads in
     let r : Request = Read (number32 0 heads) (number32 4 heads) len in
-    let a = act_of table d c k r in
+    let a = act_of d c k r in
     let gave = (outcome_of memory a).bytes in
-    let one = filled-short len gave (given-short len memory a (read-act-asked table d c k (number32 0 heads) (number32 4 heads) len)) in
-    let rest = reads-filled table d k n (drop 12 heads) (client_after_request table d k c r) (memory_after memory a) in
-    let all = length-append (filled len gave) (filled_data (numbers_of_heads n 12 8 (drop 12 heads)) (ends_of table d k (client_after_request table d k c r) (memory_after memory a) (read_parts n (drop 12 heads)))) in
+    let one = filled-short len gave (given-short len memory a (read-act-asked d c k (number32 0 heads) (number32 4 heads) len)) in
+    let rest = reads-filled d k n (drop 12 heads) (client_after_request d k c r) (memory_after memory a) in
+    let all = length-append (filled len gave)
+    (filled_data (numbers_of_heads n 12 8 (drop 12 heads))
+    (ends_of d k (client_after_request d k c r) (memory_after memory a) (read_parts n (drop 12 heads)))) in
     let total = sum_by-cons (λ x. x) len (numbers_of_heads n 12 8 (drop 12 heads)) in
     omega (arith, one, rest, all, total)
 
 abbrev data_of : List Outcome → List ℕ
 data_of os = flat_map (λ (o : Outcome). o.bytes) os
 
-read_writes-given : (table : AnswerTable) (d : Setup) (k : Asker) (n : ℕ) (heads bytes : List ℕ) (c : Client) (memory : List Block)
-    → length (data_of (ends_of table d k c memory (read_write_parts n heads bytes))) ≤ sum (numbers_of_heads n 16 8 heads)
+read_writes-given : (d : Setup) (k : Asker) (n : ℕ) (heads bytes : List ℕ) (c : Client) (memory : List Block)
+    → length (data_of (ends_of d k c memory (read_write_parts n heads bytes))) ≤ sum (numbers_of_heads n 16 8 heads)
 unfolding acts_of given_in_turn outcomes_of
-read_writes-given table d k zero heads bytes c memory = omega arith
-read_writes-given table d k (suc n) heads bytes c memory =
+read_writes-given d k zero heads bytes c memory = omega arith
+read_writes-given d k (suc n) heads bytes c memory =
     let len = number32 8 heads in
     let own = take (number32 12 heads) bytes in
     let r : Request = ReadWrite (number32 0 heads) (number32 4 heads) len own in
-    let a = act_of table d c k r in
+    let a = act_of d c k r in
     let gave = (outcome_of memory a).bytes in
-    let one = given-short len memory a (read_write-act-asked table d c k (number32 0 heads) (number32 4 heads) len own) in
-    let rest = read_writes-given table d k n (drop 16 heads) (drop (number32 12 heads) bytes) (client_after_request table d k c r) (memory_after memory a) in
-    let all = length-append gave (data_of (ends_of table d k (client_after_request table d k c r) (memory_after memory a) (read_write_parts n (drop 16 heads) (drop (number32 12 heads) bytes)))) in
+    let one = given-short len memory a (read_write-act-asked d c k (number32 0 heads) (number32 4 heads) len own) in
+    let rest = read_writes-given d k n (drop 16 heads) (drop (number32 12 heads) bytes) (client_after_request d k c r) (memory_after memory a) in
+    let all = length-append gave
+    (data_of (ends_of d k (client_after_request d k c r) (memory_after memory a) (read_write_parts n (drop 16 heads) (drop (number32 12 heads) bytes)))) in
     let total = sum_by-cons (λ x. x) len (numbers_of_heads n 16 8 (drop 16 heads)) in
     omega (arith, one, rest, all, total)
 
 -- a sum is packed in no more bytes than its reply's greatest length
-pub record IsPackedShort (table : AnswerTable) (d : Setup) (k : Asker) (c : Client) (s : SumRequest) : Type 0 where
-  pub short : (memory : List Block) → length (packed s.form (ends_of table d k c memory s.parts)) ≤ s.reply_len
+pub record IsPackedShort (d : Setup) (k : Asker) (c : Client) (s : SumRequest) : Type 0 where
+  pub short : (memory : List Block) → length (packed s.form (ends_of d k c memory s.parts)) ≤ s.reply_len
 
-pub reads-packed : (table : AnswerTable) (d : Setup) (k : Asker) (c : Client) (n : ℕ) (bytes : List ℕ) → IsPackedShort table d k c (sum_of_reads n bytes)
+pub reads-packed : (d : Setup) (k : Asker) (c : Client) (n : ℕ) (bytes : List ℕ) → IsPackedShort d k c (sum_of_reads n bytes)
 unfolding packed
-reads-packed table d k c n bytes = record {
+reads-packed d k c n bytes = record {
   short = λ memory.
-      let os = ends_of table d k c memory (read_parts n bytes) in
+      let os = ends_of d k c memory (read_parts n bytes) in
       let all = length-append (codes_of os) (filled_data (numbers_of_heads n 12 8 bytes) os) in
       let codes = codes-len os in
-      let ends = ends-len table d k (read_parts n bytes) c memory in
+      let ends = ends-len d k (read_parts n bytes) c memory in
       let parts = read_parts-len n bytes in
-      let gave = reads-filled table d k n bytes c memory in
+      let gave = reads-filled d k n bytes c memory in
       omega (arith, all, codes, ends, parts, gave);
 }
 
-pub writes-packed : (table : AnswerTable) (d : Setup) (k : Asker) (c : Client) (n : ℕ) (bytes : List ℕ) → IsPackedShort table d k c (sum_of_writes n bytes)
+pub writes-packed : (d : Setup) (k : Asker) (c : Client) (n : ℕ) (bytes : List ℕ) → IsPackedShort d k c (sum_of_writes n bytes)
 unfolding packed
-writes-packed table d k c n bytes = record {
+writes-packed d k c n bytes = record {
   short = λ memory.
       let rs = write_parts n bytes (drop (12 * n) bytes) in
-      let codes = codes-len (ends_of table d k c memory rs) in
-      let ends = ends-len table d k rs c memory in
+      let codes = codes-len (ends_of d k c memory rs) in
+      let ends = ends-len d k rs c memory in
       let parts = write_parts-len n bytes (drop (12 * n) bytes) in
       omega (arith, codes, ends, parts);
 }
 
-pub read_writes-packed : (table : AnswerTable) (d : Setup) (k : Asker) (c : Client) (n : ℕ) (bytes : List ℕ) → IsPackedShort table d k c (sum_of_read_writes n bytes)
+pub read_writes-packed : (d : Setup) (k : Asker) (c : Client) (n : ℕ) (bytes : List ℕ) → IsPackedShort d k c (sum_of_read_writes n bytes)
 unfolding packed
-read_writes-packed table d k c n bytes = record {
+read_writes-packed d k c n bytes = record {
   short = λ memory.
       let rs = read_write_parts n bytes (drop (16 * n) bytes) in
-      let os = ends_of table d k c memory rs in
+      let os = ends_of d k c memory rs in
       let all = length-append (heads_of os) (data_of os) in
       let heads = heads-len os in
-      let ends = ends-len table d k rs c memory in
+      let ends = ends-len d k rs c memory in
       let parts = read_write_parts-len n bytes (drop (16 * n) bytes) in
-      let gave = read_writes-given table d k n bytes (drop (16 * n) bytes) c memory in
+      let gave = read_writes-given d k n bytes (drop (16 * n) bytes) c memory in
       omega (arith, all, heads, ends, parts, gave);
 }
 

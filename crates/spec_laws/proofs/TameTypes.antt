@@ -12,7 +12,8 @@ use Rattle.name_paths.specs.Path.{Step, name_step, index_step}
 use Rattle.spec_plant.specs.Listed.{Bound}
 use Rattle.spec_plant.specs.Trees.{TypeTree, PlainTree, TextTree, EnumTree, ArrayTree, StructTree, MemberTrees, NoMember, MemberTree}
 use Rattle.spec_plant.specs.Sizes.{type_size, member_start}
-use Rattle.spec_plant.specs.Parts.{TypePart, MemberPart, below, within, element_from, element_of, member_from, member_of, part_of, part_of_member, part_behind, within_part}
+use Rattle.spec_plant.specs.Parts.{TypePart, MemberPart, below, within, element_from, element_of, member_from}
+use Rattle.spec_plant.specs.Parts.{member_of, part_of, part_of_member, part_behind, within_part}
 use Rattle.spec_plant.specs.Spelling.{integer_text, high_of, joined_by_comma, type_text}
 use Rattle.spec_plant.specs.AcceptedTypes.{is_bound, are_bounds}
 use Rattle.spec_plant.proofs.TextLengths.{index-mag, integer-short, bound_parts, three_bounds, commas, joined-short, kind-short, string-short, array-short}
@@ -117,14 +118,17 @@ abbrev mutual
   members_path (MemberTree name type comment members) = max (256 + path_len type) (members_path members)
 
 -- the indexes of an element
-indexes-short : (n : ℕ) (bs : List Bound) (is : List ℤ) (k : ℕ) → list_all is_bound bs ≡ true → element_from n bs is ≡ Some k → length (commas (map integer_text is)) ≤ 12 * length bs
+indexes-short : (n : ℕ) (bs : List Bound) (is : List ℤ) (k : ℕ) → list_all is_bound bs ≡ true
+    → element_from n bs is ≡ Some k → length (commas (map integer_text is)) ≤ 12 * length bs
 indexes-short n [] [] k e f = omega arith
 indexes-short n [] (i ∷ is) k e f = cc
 indexes-short n (b ∷ bs) [] k e f = cc
-indexes-short n (b ∷ bs) (i ∷ is) k e f = go (within b i) refl f (λ m g. indexes-short (n * b.count + m) bs is k (and_parts (is_bound b) (list_all is_bound bs) e).1 g)
+indexes-short n (b ∷ bs) (i ∷ is) k e f =
+    go (within b i) refl f (λ m g. indexes-short (n * b.count + m) bs is k (and_parts (is_bound b) (list_all is_bound bs) e).1 g)
   where
     go : (o : Option ℕ) → within b i ≡ o → option_and_then (λ m. element_from (n * b.count + m) bs is) o ≡ Some k
-        → ((m : ℕ) → element_from (n * b.count + m) bs is ≡ Some k → length (commas (map integer_text is)) ≤ 12 * length bs) → length (commas (map integer_text (i ∷ is))) ≤ 12 * length (b ∷ bs)
+        → ((m : ℕ) → element_from (n * b.count + m) bs is ≡ Some k → length (commas (map integer_text is)) ≤ 12 * length bs)
+        → length (commas (map integer_text (i ∷ is))) ≤ 12 * length (b ∷ bs)
     go None q g behind = cc
     go (Some m) q g behind =
         let p = and_parts (is_bound b) (list_all is_bound bs) e in
@@ -148,7 +152,8 @@ tame-member at (MemberTree n type comment ms) name m h e =
       | inl t ↦
           let f : Some here ≡ Some m = rw t at e in
           let same : here ≡ m = cc in
-          let P : MemberPart → Type 0 = λ y. IsTame y.type × (length y.name ≤ 255) × (length y.comment ≤ 255) × (256 + path_len y.type ≤ max (256 + path_len type) (members_path ms)) in
+          let P : MemberPart → Type 0 =
+          λ y. IsTame y.type × (length y.name ≤ 255) × (length y.comment ≤ 255) × (256 + path_len y.type ≤ max (256 + path_len type) (members_path ms)) in
           subst P same (h.1.1.0, h.0, h.1.0, le-max_left (256 + path_len type) (members_path ms))
       | inr t ↦
           let f : member_from (member_start at type + type_size type) ms name ≡ Some m = rw t at e in
@@ -158,7 +163,8 @@ tame-member at (MemberTree n type comment ms) name m h e =
           (r.0, r.1, r.2, omega (arith, l, g))
     ]
 
-tame-name : (t : TypeTree) (name : List ℕ) (o : Option MemberPart) (p : TypePart) → IsTame t → member_of t name ≡ o → option_map part_of_member o ≡ Some p → IsTameStep t (name_step name) p
+tame-name : (t : TypeTree) (name : List ℕ) (o : Option MemberPart) (p : TypePart) → IsTame t
+    → member_of t name ≡ o → option_map part_of_member o ≡ Some p → IsTameStep t (name_step name) p
 tame-name t name None p h q f = cc
 tame-name (PlainTree k) name (Some m) p h q f = cc
 tame-name (TextTree n) name (Some m) p h q f = cc
@@ -210,14 +216,16 @@ pub record IsTamePart (most : ℕ) (name comment : List ℕ) (p : TypePart) : Ty
   pub short_name : length name ≤ most
   pub short_comment : length comment ≤ 255
 
-pub tame-steps : (whole : TypePart) (steps : List Step) (name comment : List ℕ) (p : TypePart) (most : ℕ) → IsTame whole.type → length name + path_len whole.type ≤ most → length comment ≤ 255
+pub tame-steps : (whole : TypePart) (steps : List Step) (name comment : List ℕ) (p : TypePart) (most : ℕ)
+    → IsTame whole.type → length name + path_len whole.type ≤ most → length comment ≤ 255
     → part_behind whole steps ≡ Some p → IsTamePart most (name_behind name whole.type steps) (comment_behind comment whole.type steps) p
 unfolding part_behind name_behind comment_behind
 tame-steps whole [] name comment p most h l c e =
     let same : whole ≡ p = cc in
     subst (IsTamePart most name comment) same (record { tame = h; short_name = omega (arith, l); short_comment = c })
 tame-steps whole (step ∷ steps) name comment p most h l c e =
-    go (part_of whole.type step) refl e (λ v a b d f. tame-steps (within_part whole v) steps (name ++ text_of_step whole.type step) (comment_of_step whole.type step) p most a b d f)
+    go (part_of whole.type step) refl e
+    (λ v a b d f. tame-steps (within_part whole v) steps (name ++ text_of_step whole.type step) (comment_of_step whole.type step) p most a b d f)
   where
     next : List ℕ
     next = name ++ text_of_step whole.type step
@@ -226,7 +234,8 @@ tame-steps whole (step ∷ steps) name comment p most h l c e =
     said = comment_of_step whole.type step
 
     go : (o : Option TypePart) → part_of whole.type step ≡ o → option_and_then (λ v. part_behind (within_part whole v) steps) o ≡ Some p
-        → ((v : TypePart) → IsTame v.type → length next + path_len v.type ≤ most → length said ≤ 255 → part_behind (within_part whole v) steps ≡ Some p → IsTamePart most (name_behind next v.type steps) (comment_behind said v.type steps) p)
+        → ((v : TypePart) → IsTame v.type → length next + path_len v.type ≤ most → length said ≤ 255
+        → part_behind (within_part whole v) steps ≡ Some p → IsTamePart most (name_behind next v.type steps) (comment_behind said v.type steps) p)
         → IsTamePart most (name_behind next (type_behind whole.type o) steps) (comment_behind said (type_behind whole.type o) steps) p
     go None q f rest = cc
     go (Some v) q f rest =

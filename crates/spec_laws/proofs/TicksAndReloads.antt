@@ -12,7 +12,6 @@ use Rattle.spec_machine.specs.World.{World}
 use Rattle.spec_machine.specs.Access.{Addressed, values_at}
 use Rattle.spec_machine.specs.Watches.{Watch, is_due, is_sent, after_check, checked_watch, samples_of, watch_after_reload, watches_after_reload}
 use Rattle.spec_machine.specs.Client.{Client, Kept, are_kept, kept_bytes, client_after_reload}
-use Rattle.spec_machine.specs.Answers.{AnswerTable}
 use Rattle.spec_machine.specs.Stamps.{frames_of_samples, samples_at, watches_after_tick}
 use Rattle.spec_machine.specs.Ticks.{client_after_tick}
 use Rattle.spec_machine.specs.Reloads.{is_kept, block_after_reload, memory_after_reload, client_reloaded}
@@ -21,14 +20,16 @@ use Rattle.spec_laws.proofs.Memory.{Agree, IsBlock, is_block-true}
 use Rattle.spec_laws.proofs.Footprints.{Each, values-agree}
 use Rattle.spec_laws.proofs.Exchanges.{WatchIn, WatchesIn, produce_all-client, with_memory}
 
-checked-agree : (R : ByteName → Type 0) (now : ℕ) (m w : List Block) (ws : List (Watch (List Addressed))) → Each (WatchIn R) ws → Agree R m w → watches_after_tick m now ws ≡ watches_after_tick w now ws
+checked-agree : (R : ByteName → Type 0) (now : ℕ) (m w : List Block) (ws : List (Watch (List Addressed)))
+    → Each (WatchIn R) ws → Agree R m w → watches_after_tick m now ws ≡ watches_after_tick w now ws
 unfolding watches_after_tick
 checked-agree R now m w [] e g = refl
 checked-agree R now m w (x ∷ xs) e g =
     ap (λ bytes. checked_watch now bytes x ∷ watches_after_tick m now xs) (values-agree R m w x.watched (e.0) g)
     ∙ ap (λ rest. checked_watch now (values_at w x.watched) x ∷ rest) (checked-agree R now m w xs (e.1) g)
 
-samples-agree : (R : ByteName → Type 0) (now : ℕ) (m w : List Block) (ws : List (Watch (List Addressed))) → Each (WatchIn R) ws → Agree R m w → samples_at m now ws ≡ samples_at w now ws
+samples-agree : (R : ByteName → Type 0) (now : ℕ) (m w : List Block) (ws : List (Watch (List Addressed)))
+    → Each (WatchIn R) ws → Agree R m w → samples_at m now ws ≡ samples_at w now ws
 unfolding samples_at
 samples-agree R now m w [] e g = refl
 samples-agree R now m w (x ∷ xs) e g =
@@ -40,7 +41,8 @@ watch-cond : (R : ByteName → Type 0) (b : Bool) (x y : Watch (List Addressed))
 watch-cond R true x y i j = i
 watch-cond R false x y i j = j
 
-checked-in : (R : ByteName → Type 0) (now : ℕ) (m : List Block) (ws : List (Watch (List Addressed))) → Each (WatchIn R) ws → Each (WatchIn R) (watches_after_tick m now ws)
+checked-in : (R : ByteName → Type 0) (now : ℕ) (m : List Block) (ws : List (Watch (List Addressed)))
+    → Each (WatchIn R) ws → Each (WatchIn R) (watches_after_tick m now ws)
 unfolding watches_after_tick
 checked-in R now m [] e = tt
 checked-in R now m (x ∷ xs) e =
@@ -53,17 +55,23 @@ outcome-client o k = produce_all-client o.frames (with_client o.client k)
 abbrev outcome_with : Client → List Produced → ClientOutcome Client
 outcome_with c fs = record { client = c; frames = fs }
 
-pub tick-agree : (table : AnswerTable) (reading : DescriptionReading) (R : ByteName → Type 0) (now : ℕ) (w : World) (m : List Block) (k : Connection Client) → Agree R w.memory m → WatchesIn R k.client
-    → connection_after_tick (ads_device table reading) now w k ≡ connection_after_tick (ads_device table reading) now (with_memory m w) k
+pub tick-agree : (reading : DescriptionReading) (R : ByteName → Type 0) (now : ℕ) (w : World) (m : List Block) (k : Connection Client)
+    → Agree R w.memory m → WatchesIn R k.client
+    → connection_after_tick (ads_device reading) now w k ≡ connection_after_tick (ads_device reading) now (with_memory m w) k
 unfolding connection_after_tick client_after_tick
-tick-agree table reading R now w m k g e =
+tick-agree reading R now w m k g e =
     let c = k.client in
-    ap (λ ss. cond (is_deaf k) k (after_client_outcome (outcome_with (record c { watches = watches_after_tick w.memory now c.watches }) (frames_of_samples w.plant.net now ss)) k)) (samples-agree R now w.memory m c.watches e g)
-    ∙ ap (λ ws. cond (is_deaf k) k (after_client_outcome (outcome_with (record c { watches = ws }) (frames_of_samples w.plant.net now (samples_at m now c.watches))) k)) (checked-agree R now w.memory m c.watches e g)
+    ap (λ ss. cond (is_deaf k) k
+    (after_client_outcome (outcome_with (record c { watches = watches_after_tick w.memory now c.watches }) (frames_of_samples w.plant.net now ss)) k))
+    (samples-agree R now w.memory m c.watches e g)
+    ∙ ap (λ ws. cond (is_deaf k) k
+    (after_client_outcome (outcome_with (record c { watches = ws }) (frames_of_samples w.plant.net now (samples_at m now c.watches))) k))
+    (checked-agree R now w.memory m c.watches e g)
 
-pub tick-watches : (table : AnswerTable) (reading : DescriptionReading) (R : ByteName → Type 0) (now : ℕ) (w : World) (k : Connection Client) → WatchesIn R k.client → WatchesIn R (connection_after_tick (ads_device table reading) now w k).client
+pub tick-watches : (reading : DescriptionReading) (R : ByteName → Type 0) (now : ℕ) (w : World) (k : Connection Client)
+    → WatchesIn R k.client → WatchesIn R (connection_after_tick (ads_device reading) now w k).client
 unfolding connection_after_tick client_after_tick
-tick-watches table reading R now w k e = go (is_deaf k)
+tick-watches reading R now w k e = go (is_deaf k)
   where
     o : ClientOutcome Client
     o = client_after_tick now w k.client
@@ -73,23 +81,26 @@ tick-watches table reading R now w k e = go (is_deaf k)
     go false = subst (WatchesIn R) (sym (outcome-client o k)) (checked-in R now w.memory k.client.watches e)
 
 -- a reload of a client looks at no byte
-pub reload-agree : (table : AnswerTable) (reading : DescriptionReading) (now : ℕ) (old new : World) (m n : List Block) (k : Connection Client)
-    → connection_after_reload (ads_device table reading) now old new k ≡ connection_after_reload (ads_device table reading) now (with_memory m old) (with_memory n new) k
+pub reload-agree : (reading : DescriptionReading) (now : ℕ) (old new : World) (m n : List Block) (k : Connection Client)
+    → connection_after_reload (ads_device reading) now old new k ≡ connection_after_reload (ads_device reading) now (with_memory m old) (with_memory n new) k
 unfolding connection_after_reload client_reloaded
-reload-agree table reading now old new m n k = refl
+reload-agree reading now old new m n k = refl
 
-kept-in : (R : ByteName → Type 0) (kept : Kept) (ws : List (Watch (List Addressed))) → Each (WatchIn R) ws → Each (WatchIn R) (filter_map (watch_after_reload (kept_bytes kept)) ws)
+kept-in : (R : ByteName → Type 0) (kept : Kept) (ws : List (Watch (List Addressed)))
+    → Each (WatchIn R) ws → Each (WatchIn R) (filter_map (watch_after_reload (kept_bytes kept)) ws)
 kept-in R kept [] e = tt
 kept-in R kept (x ∷ xs) e = go (are_kept kept x.watched) (kept-in R kept xs (e.1))
   where
     go : (b : Bool) → Each (WatchIn R) (filter_map (watch_after_reload (kept_bytes kept)) xs)
-        → Each (WatchIn R) (cons_option (option_map (λ watched. record x { watched = watched }) (if b then Some x.watched else None)) (filter_map (watch_after_reload (kept_bytes kept)) xs))
+        → Each (WatchIn R) (cons_option (option_map (λ watched. record x { watched = watched }) (if b then Some x.watched else None))
+        (filter_map (watch_after_reload (kept_bytes kept)) xs))
     go true rest = (e.0, rest)
     go false rest = rest
 
-pub reload-watches : (table : AnswerTable) (reading : DescriptionReading) (R : ByteName → Type 0) (now : ℕ) (old new : World) (k : Connection Client) → WatchesIn R k.client → WatchesIn R (connection_after_reload (ads_device table reading) now old new k).client
+pub reload-watches : (reading : DescriptionReading) (R : ByteName → Type 0) (now : ℕ) (old new : World) (k : Connection Client)
+    → WatchesIn R k.client → WatchesIn R (connection_after_reload (ads_device reading) now old new k).client
 unfolding connection_after_reload client_reloaded client_after_reload watches_after_reload
-reload-watches table reading R now old new k e = go (is_deaf k)
+reload-watches reading R now old new k e = go (is_deaf k)
   where
     o : ClientOutcome Client
     o = client_reloaded now old new k.client
@@ -116,7 +127,8 @@ block-is kept m n b =
       | inr t ↦ rw t refl
     ]
 
-reloaded-at : (kept : Kept) (m w : List Block) (n : ByteName) → byte_at m n ≡ byte_at w n → (new : List Block) → byte_at (memory_after_reload kept m new) n ≡ byte_at (memory_after_reload kept w new) n
+reloaded-at : (kept : Kept) (m w : List Block) (n : ByteName) → byte_at m n ≡ byte_at w n → (new : List Block)
+    → byte_at (memory_after_reload kept m new) n ≡ byte_at (memory_after_reload kept w new) n
 unfolding byte_at memory_after_reload
 reloaded-at kept m w n e [] = refl
 reloaded-at kept m w n e (b ∷ bs) =
@@ -127,5 +139,6 @@ reloaded-at kept m w n e (b ∷ bs) =
       | inr t ↦ let u = p ∙ t in let v = q ∙ t in rw (u, v) (reloaded-at kept m w n e bs)
     ]
 
-pub reload_memory-agree : (R : ByteName → Type 0) (kept : Kept) (m w new : List Block) → Agree R m w → Agree R (memory_after_reload kept m new) (memory_after_reload kept w new)
+pub reload_memory-agree : (R : ByteName → Type 0) (kept : Kept) (m w new : List Block)
+    → Agree R m w → Agree R (memory_after_reload kept m new) (memory_after_reload kept w new)
 reload_memory-agree R kept m w new g = record { same = λ n r. reloaded-at kept m w n (g.same n r) new }

@@ -11,7 +11,6 @@ use Rattle.spec_machine.specs.Moves.{with_gone, with_took}
 use Rattle.spec_machine.specs.World.{World}
 use Rattle.spec_machine.specs.Client.{Client, new_client}
 use Rattle.spec_machine.specs.Acts.{reads_of_acts, writes_of_acts}
-use Rattle.spec_machine.specs.Answers.{AnswerTable}
 use Rattle.spec_machine.specs.AdsDevice.{DescriptionReading, ads_device}
 use Rattle.spec_machine.specs.Projection.{acts_at}
 use Rattle.spec_machine.proofs.Find.{or_else, test_other, connection_of-append, connection_of-map}
@@ -37,13 +36,16 @@ pub record SameForClient (R : ByteName → Type 0) (c : ℕ) (a s : MachineState
 -- a move of one connection
 
 -- what two changes make of one connection in the two worlds
-abbrev SameChange : (ByteName → Type 0) → (Exchange World Client → Exchange World Client) → (Exchange World Client → Exchange World Client) → MachineState World Client → MachineState World Client → Connection Client → Type 0
+abbrev SameChange : (ByteName → Type 0) → (Exchange World Client → Exchange World Client)
+    → (Exchange World Client → Exchange World Client) → MachineState World Client → MachineState World Client → Connection Client → Type 0
 SameChange R f g a s k = WatchesIn R k.client → Same R (f (exchange_of a k)) (g (exchange_of s k))
 
-abbrev SeenBoth : (ByteName → Type 0) → ℕ → (Exchange World Client → Exchange World Client) → (Exchange World Client → Exchange World Client) → MachineState World Client → MachineState World Client → Type 0
+abbrev SeenBoth : (ByteName → Type 0) → ℕ → (Exchange World Client → Exchange World Client)
+    → (Exchange World Client → Exchange World Client) → MachineState World Client → MachineState World Client → Type 0
 SeenBoth R c f g a s = SameForClient R c (after_exchange (connection_of c a.connections) f a) (after_exchange (connection_of c s.connections) g s)
 
-at-same : (R : ByteName → Type 0) (c : ℕ) (f g : Exchange World Client → Exchange World Client) → KeepsNumber f → KeepsNumber g → (a s : MachineState World Client) → SameForClient R c a s
+at-same : (R : ByteName → Type 0) (c : ℕ) (f g : Exchange World Client → Exchange World Client)
+    → KeepsNumber f → KeepsNumber g → (a s : MachineState World Client) → SameForClient R c a s
     → ((k : Connection Client) → connection_of c a.connections ≡ Some k → SameChange R f g a s k) → SeenBoth R c f g a s
 at-same R c f g p q a s e h = go (connection_of c a.connections) refl
   where
@@ -62,7 +64,8 @@ at-same R c f g p q a s e h = go (connection_of c a.connections) refl
         let fa = exchange_own c f p a k is in
         let gs = exchange_own c g q s k is_too in
         let la = subst (λ (o : Option (Connection Client)). connection_of c (after_exchange o f a).connections ≡ Some (f (exchange_of a k)).connection) is fa in
-        let ls = subst (λ (o : Option (Connection Client)). connection_of c (after_exchange o g s).connections ≡ Some (g (exchange_of s k)).connection) is_too gs in
+        let ls = subst (λ (o : Option (Connection Client)). connection_of c (after_exchange o g s).connections ≡ Some (g (exchange_of s k)).connection)
+        is_too gs in
         subst (λ o. P o (connection_of c s.connections)) (sym is) (subst (P (Some k)) (sym is_too) (record {
           world = x.world;
           moment = e.moment;
@@ -71,20 +74,25 @@ at-same R c f g p q a s e h = go (connection_of c a.connections) refl
           watches = subst (MaybeIn R) (sym la) x.watches;
         }))
 
-pub at-own : (R : ByteName → Type 0) (c n : ℕ) (f g : Exchange World Client → Exchange World Client) → KeepsNumber f → KeepsNumber g → n ≡ c → (a s : MachineState World Client) → SameForClient R c a s
+pub at-own : (R : ByteName → Type 0) (c n : ℕ) (f g : Exchange World Client → Exchange World Client)
+    → KeepsNumber f → KeepsNumber g → n ≡ c → (a s : MachineState World Client) → SameForClient R c a s
     → ((k : Connection Client) → connection_of n a.connections ≡ Some k → SameChange R f g a s k)
     → SameForClient R c (after_exchange (connection_of n a.connections) f a) (after_exchange (connection_of n s.connections) g s)
 at-own R c n f g p q same a s e =
     let H : ℕ → Type 0 = λ m. (k : Connection Client) → connection_of m a.connections ≡ Some k → SameChange R f g a s k in
-    let P : ℕ → Type 0 = λ m. H m → SameForClient R c (after_exchange (connection_of m a.connections) f a) (after_exchange (connection_of m s.connections) g s) in
+    let P : ℕ → Type 0 = λ m. H m
+    → SameForClient R c (after_exchange (connection_of m a.connections) f a) (after_exchange (connection_of m s.connections) g s) in
     subst P (sym same) (λ h. at-same R c f g p q a s e h)
 
 -- what a change of another connection leaves of the world
-abbrev PassesChange : (ByteName → Type 0) → (Exchange World Client → Exchange World Client) → MachineState World Client → MachineState World Client → Connection Client → Type 0
+abbrev PassesChange : (ByteName → Type 0) → (Exchange World Client → Exchange World Client)
+    → MachineState World Client → MachineState World Client → Connection Client → Type 0
 PassesChange R f a s k = Passes R s.world (f (exchange_of s k)).world a.world.memory
 
-pub at-other : (R : ByteName → Type 0) (c n : ℕ) (f : Exchange World Client → Exchange World Client) → KeepsNumber f → n ≢ c → (a s : MachineState World Client) → SameForClient R c a s
-    → ((k : Connection Client) → connection_of n s.connections ≡ Some k → PassesChange R f a s k) → SameForClient R c a (after_exchange (connection_of n s.connections) f s)
+pub at-other : (R : ByteName → Type 0) (c n : ℕ) (f : Exchange World Client → Exchange World Client)
+    → KeepsNumber f → n ≢ c → (a s : MachineState World Client) → SameForClient R c a s
+    → ((k : Connection Client) → connection_of n s.connections ≡ Some k → PassesChange R f a s k)
+    → SameForClient R c a (after_exchange (connection_of n s.connections) f s)
 at-other R c n f p ne a s e h = go (connection_of n s.connections) refl
   where
     found : connection_of c a.connections ≡ connection_of c (after_exchange (connection_of n s.connections) f s).connections
@@ -95,7 +103,8 @@ at-other R c n f p ne a s e h = go (connection_of n s.connections) refl
     go (Some k) is =
         let x = h k is in
         let m = (f (exchange_of s k)).world.memory in
-        let P : Option (Connection Client) → Type 0 = λ o. connection_of c a.connections ≡ connection_of c (after_exchange o f s).connections → SameForClient R c a (after_exchange o f s) in
+        let P : Option (Connection Client) → Type 0 = λ o. connection_of c a.connections ≡ connection_of c (after_exchange o f s).connections
+        → SameForClient R c a (after_exchange o f s) in
         subst P (sym is) (λ seen. record {
           world = x.world ∙ ap (with_memory m) e.world;
           moment = e.moment;
@@ -105,52 +114,62 @@ at-other R c n f p ne a s e h = go (connection_of n s.connections) refl
         }) found
 
 -- two exchanges of the states are over one another
-over_world : (a s : MachineState World Client) → s.world ≡ with_memory s.world.memory a.world → (k : Connection Client) → over s.world.memory (exchange_of a k) ≡ exchange_of s k
+over_world : (a s : MachineState World Client) → s.world ≡ with_memory s.world.memory a.world
+    → (k : Connection Client) → over s.world.memory (exchange_of a k) ≡ exchange_of s k
 over_world a s e k = ap (λ (w : World). let x : Exchange World Client = record { world = w; connection = k } in x) (sym e)
 
-pub gone-same : (R : ByteName → Type 0) (c : ℕ) (a s : MachineState World Client) → SameForClient R c a s → (k : Connection Client) → SameChange R with_gone with_gone a s k
+pub gone-same : (R : ByteName → Type 0) (c : ℕ) (a s : MachineState World Client)
+    → SameForClient R c a s → (k : Connection Client) → SameChange R with_gone with_gone a s k
 gone-same R c a s e k w = record { connection = refl; world = e.world; memory = e.memory; watches = w }
 
-pub took-same : (R : ByteName → Type 0) (c n : ℕ) (a s : MachineState World Client) → SameForClient R c a s → (k : Connection Client) → SameChange R (with_took n) (with_took n) a s k
+pub took-same : (R : ByteName → Type 0) (c n : ℕ) (a s : MachineState World Client)
+    → SameForClient R c a s → (k : Connection Client) → SameChange R (with_took n) (with_took n) a s k
 took-same R c n a s e k w =
     elim (cases_Bool k.gone) [
       | inl b ↦ rw b (record { connection = refl; world = e.world; memory = e.memory; watches = w })
       | inr b ↦ rw b (record { connection = refl; world = e.world; memory = e.memory; watches = w })
     ]
 
-pub took-passes : (R : ByteName → Type 0) (c n : ℕ) (a s : MachineState World Client) → SameForClient R c a s → (k : Connection Client) → PassesChange R (with_took n) a s k
+pub took-passes : (R : ByteName → Type 0) (c n : ℕ) (a s : MachineState World Client)
+    → SameForClient R c a s → (k : Connection Client) → PassesChange R (with_took n) a s k
 took-passes R c n a s e k =
     elim (cases_Bool k.gone) [
       | inl b ↦ rw b (record { world = refl; memory = agree-back R a.world.memory s.world.memory e.memory })
       | inr b ↦ rw b (record { world = refl; memory = agree-back R a.world.memory s.world.memory e.memory })
     ]
 
-pub piece-own : (table : AnswerTable) (reading : DescriptionReading) (R : ByteName → Type 0) (c n : ℕ) (bytes : List ℕ) → n ≡ c → (a s : MachineState World Client) → SameForClient R c a s
-    → Each R (reads_of_acts (acts_at table reading a bytes (connection_of n a.connections)))
-    → SameForClient R c (after_exchange (connection_of n a.connections) (after_piece (ads_device table reading) bytes) a) (after_exchange (connection_of n s.connections) (after_piece (ads_device table reading) bytes) s)
-piece-own table reading R c n bytes same a s e i =
-    let f = after_piece (ads_device table reading) bytes in
-    let number : KeepsNumber f = λ x. (after_piece-grows (ads_device table reading) bytes x).number in
-    let Q : Option (Connection Client) → Type 0 = λ o. Each R (reads_of_acts (acts_at table reading a bytes o)) in
+pub piece-own : (reading : DescriptionReading) (R : ByteName → Type 0) (c n : ℕ) (bytes : List ℕ)
+    → n ≡ c → (a s : MachineState World Client) → SameForClient R c a s
+    → Each R (reads_of_acts (acts_at reading a bytes (connection_of n a.connections)))
+    → SameForClient R c (after_exchange (connection_of n a.connections) (after_piece (ads_device reading) bytes) a)
+    (after_exchange (connection_of n s.connections) (after_piece (ads_device reading) bytes) s)
+piece-own reading R c n bytes same a s e i =
+    let f = after_piece (ads_device reading) bytes in
+    let number : KeepsNumber f = λ x. (after_piece-grows (ads_device reading) bytes x).number in
+    let Q : Option (Connection Client) → Type 0 = λ o. Each R (reads_of_acts (acts_at reading a bytes o)) in
     at-own R c n f f number number same a s e
     (λ k is w. subst (λ (y : Exchange World Client). Same R (f (exchange_of a k)) (f y)) (over_world a s e.world k)
-    (piece-same table reading R bytes (exchange_of a k) s.world.memory e.memory w (subst Q is i)))
+    (piece-same reading R bytes (exchange_of a k) s.world.memory e.memory w (subst Q is i)))
 
-pub piece-other : (table : AnswerTable) (reading : DescriptionReading) (R : ByteName → Type 0) (c n : ℕ) (bytes : List ℕ) → n ≢ c → (a s : MachineState World Client) → SameForClient R c a s
-    → Each (Not R) (writes_of_acts (acts_at table reading s bytes (connection_of n s.connections)))
-    → SameForClient R c a (after_exchange (connection_of n s.connections) (after_piece (ads_device table reading) bytes) s)
-piece-other table reading R c n bytes ne a s e i =
-    let f = after_piece (ads_device table reading) bytes in
-    let Q : Option (Connection Client) → Type 0 = λ o. Each (Not R) (writes_of_acts (acts_at table reading s bytes o)) in
-    at-other R c n f (λ x. (after_piece-grows (ads_device table reading) bytes x).number) ne a s e
-    (λ k is. piece-outside table reading R bytes (exchange_of s k) a.world.memory (agree-back R a.world.memory s.world.memory e.memory) (subst Q is i))
+pub piece-other : (reading : DescriptionReading) (R : ByteName → Type 0) (c n : ℕ) (bytes : List ℕ)
+    → n ≢ c → (a s : MachineState World Client) → SameForClient R c a s
+    → Each (Not R) (writes_of_acts (acts_at reading s bytes (connection_of n s.connections)))
+    → SameForClient R c a (after_exchange (connection_of n s.connections) (after_piece (ads_device reading) bytes) s)
+piece-other reading R c n bytes ne a s e i =
+    let f = after_piece (ads_device reading) bytes in
+    let Q : Option (Connection Client) → Type 0 = λ o. Each (Not R) (writes_of_acts (acts_at reading s bytes o)) in
+    at-other R c n f (λ x. (after_piece-grows (ads_device reading) bytes x).number) ne a s e
+    (λ k is. piece-outside reading R bytes (exchange_of s k) a.world.memory (agree-back R a.world.memory s.world.memory e.memory) (subst Q is i))
 
-opened-in : (R : ByteName → Type 0) (c n : ℕ) (o : Option (Connection Client)) → MaybeIn R o → MaybeIn R (or_else o (connection_of c (fresh_connection new_client n ∷ [])))
+opened-in : (R : ByteName → Type 0) (c n : ℕ) (o : Option (Connection Client))
+    → MaybeIn R o → MaybeIn R (or_else o (connection_of c (fresh_connection new_client n ∷ [])))
 unfolding connection_of
 opened-in R c n (Some k) w = w
 opened-in R c n None w = elim (cases_Bool (n == c)) [ inl b ↦ rw b tt | inr b ↦ rw b tt ]
 
-pub opened-own : (R : ByteName → Type 0) (c n : ℕ) (a s : MachineState World Client) → SameForClient R c a s → SameForClient R c (record a { connections = a.connections ++ fresh_connection new_client n ∷ [] }) (record s { connections = s.connections ++ fresh_connection new_client n ∷ [] })
+pub opened-own : (R : ByteName → Type 0) (c n : ℕ) (a s : MachineState World Client) → SameForClient R c a s
+    → SameForClient R c (record a { connections = a.connections ++ fresh_connection new_client n ∷ [] })
+    (record s { connections = s.connections ++ fresh_connection new_client n ∷ [] })
 opened-own R c n a s e =
     let new = fresh_connection new_client n in
     let fa = connection_of-append c a.connections (new ∷ []) in
@@ -166,7 +185,8 @@ or_else-none : (o : Option (Connection Client)) → or_else o None ≡ o
 or_else-none None = refl
 or_else-none (Some k) = refl
 
-pub opened-other : (R : ByteName → Type 0) (c n : ℕ) → n ≢ c → (a s : MachineState World Client) → SameForClient R c a s → SameForClient R c a (record s { connections = s.connections ++ fresh_connection new_client n ∷ [] })
+pub opened-other : (R : ByteName → Type 0) (c n : ℕ) → n ≢ c → (a s : MachineState World Client) → SameForClient R c a s
+    → SameForClient R c a (record s { connections = s.connections ++ fresh_connection new_client n ∷ [] })
 unfolding connection_of
 opened-other R c n ne a s e =
     let new : Connection Client = fresh_connection new_client n in
@@ -176,20 +196,25 @@ opened-other R c n ne a s e =
       world = e.world;
       moment = e.moment;
       memory = e.memory;
-      connection = e.connection ∙ sym (connection_of-append c s.connections (new ∷ []) ∙ ap (λ o. or_else (connection_of c s.connections) o) nobody ∙ or_else-none (connection_of c s.connections));
+      connection = e.connection
+          ∙ sym (connection_of-append c s.connections (new ∷ [])
+          ∙ ap (λ o. or_else (connection_of c s.connections) o) nobody ∙ or_else-none (connection_of c s.connections));
       watches = e.watches;
     }
 
 -- a change of every connection
-pub mapped : (R : ByteName → Type 0) (c : ℕ) (f g : Connection Client → Connection Client) (ks ls : List (Connection Client)) → ((k : Connection Client) → (f k).number ≡ k.number) → ((k : Connection Client) → (g k).number ≡ k.number)
-    → ((k : Connection Client) → WatchesIn R k.client → f k ≡ g k) → connection_of c ks ≡ connection_of c ls → MaybeIn R (connection_of c ks) → connection_of c (map f ks) ≡ connection_of c (map g ls)
+pub mapped : (R : ByteName → Type 0) (c : ℕ) (f g : Connection Client → Connection Client) (ks ls : List (Connection Client))
+    → ((k : Connection Client) → (f k).number ≡ k.number) → ((k : Connection Client) → (g k).number ≡ k.number)
+    → ((k : Connection Client) → WatchesIn R k.client → f k ≡ g k) → connection_of c ks ≡ connection_of c ls
+    → MaybeIn R (connection_of c ks) → connection_of c (map f ks) ≡ connection_of c (map g ls)
 mapped R c f g ks ls p q same e w = connection_of-map c f p ks ∙ one (connection_of c ks) w ∙ ap (option_map g) e ∙ sym (connection_of-map c g q ls)
   where
     one : (o : Option (Connection Client)) → MaybeIn R o → option_map f o ≡ option_map g o
     one None w = refl
     one (Some k) w = ap (λ l. Some l) (same k w)
 
-pub mapped-in : (R : ByteName → Type 0) (c : ℕ) (f : Connection Client → Connection Client) (ks : List (Connection Client)) → ((k : Connection Client) → (f k).number ≡ k.number) → ((k : Connection Client) → WatchesIn R k.client → WatchesIn R (f k).client)
+pub mapped-in : (R : ByteName → Type 0) (c : ℕ) (f : Connection Client → Connection Client) (ks : List (Connection Client))
+    → ((k : Connection Client) → (f k).number ≡ k.number) → ((k : Connection Client) → WatchesIn R k.client → WatchesIn R (f k).client)
     → MaybeIn R (connection_of c ks) → MaybeIn R (connection_of c (map f ks))
 mapped-in R c f ks p h w = subst (MaybeIn R) (sym (connection_of-map c f p ks)) (one (connection_of c ks) w)
   where

@@ -20,7 +20,6 @@ use Rattle.spec_machine.specs.Access.{memory_after_put, memory_after_puts}
 use Rattle.spec_machine.specs.Handles.{Live, kept_status}
 use Rattle.spec_machine.specs.Client.{Place, names_of_place, Client}
 use Rattle.spec_machine.specs.Acts.{Access, Allowed, writes_of_acts}
-use Rattle.spec_machine.specs.Answers.{AnswerTable}
 use Rattle.spec_machine.specs.Writes.{Asker}
 use Rattle.spec_machine.specs.Requests.{act_of}
 use Rattle.spec_machine.specs.Ticks.{signal_puts}
@@ -33,23 +32,23 @@ abbrev pub names_of_puts : List Put → List ByteName
 names_of_puts puts = map (λ (p : Put). addressed_name p.place) puts
 
 -- the names that an event writes: by accepted requests, or by the signals of a tick
-abbrev pub writes_of_event : AnswerTable → DescriptionReading → MachineState World Client → Event
+abbrev pub writes_of_event : DescriptionReading → MachineState World Client → Event
     → List ByteName
-writes_of_event table reading s (event.Opened c) = []
-writes_of_event table reading s (event.Piece c bytes) =
-    writes_of_acts (acts_of_move table reading s (move.Event (event.Piece c bytes)))
-writes_of_event table reading s (event.Closed c) = []
-writes_of_event table reading s (event.Tick t) =
+writes_of_event reading s (event.Opened c) = []
+writes_of_event reading s (event.Piece c bytes) =
+    writes_of_acts (acts_of_move reading s (move.Event (event.Piece c bytes)))
+writes_of_event reading s (event.Closed c) = []
+writes_of_event reading s (event.Tick t) =
     names_of_puts (signal_puts s.world.plant.ports 0 s.world.signals)
-writes_of_event table reading s (event.Reload bytes) = []
-writes_of_event table reading s (event.Writable c) = []
+writes_of_event reading s (event.Reload bytes) = []
+writes_of_event reading s (event.Writable c) = []
 
-abbrev pub writes_of_move : AnswerTable → DescriptionReading → MachineState World Client → Move
+abbrev pub writes_of_move : DescriptionReading → MachineState World Client → Move
     → List ByteName
-writes_of_move table reading s (move.Event e) = writes_of_event table reading s e
-writes_of_move table reading s (move.Took c offered bytes) = []
-writes_of_move table reading s (move.Lost c) = []
-writes_of_move table reading s (move.Shut c) = []
+writes_of_move reading s (move.Event e) = writes_of_event reading s e
+writes_of_move reading s (move.Took c offered bytes) = []
+writes_of_move reading s (move.Lost c) = []
+writes_of_move reading s (move.Shut c) = []
 
 abbrev pub is_accepted : Result Description DescriptionFault → Bool
 is_accepted (Ok d) = true
@@ -63,11 +62,11 @@ is_accepted_reload reading s m = false
 -- What stands under a name changes between two moves only where an accepted write or control, or a
 -- signal, writes it, or by an accepted reload.
 abbrev pub ChangesOnlyByWrites : Type 0
-ChangesOnlyByWrites = (table : AnswerTable) (reading : DescriptionReading)
+ChangesOnlyByWrites = (reading : DescriptionReading)
     (s : MachineState World Client) (m : Move) (n : ByteName)
     → is_accepted_reload reading s m ≡ false
-    → (IsAmong n (writes_of_move table reading s m) → ⊥)
-    → byte_at (state_after_move (server_step table reading) s m).world.memory n
+    → (IsAmong n (writes_of_move reading s m) → ⊥)
+    → byte_at (state_after_move (server_step reading) s m).world.memory n
     ≡ byte_at s.world.memory n
 
 -- what one put leaves: that byte, or that bit of it, and all else as it was
@@ -104,8 +103,8 @@ pub record WritesPlace (port : ℕ) (place : Place) (bytes : List ℕ) (old new 
 
 -- An accepted write by a live handle writes the first bytes of its place.
 abbrev pub WritesByHandle : Type 0
-WritesByHandle = (table : AnswerTable) (d : Setup) (c : Client) (k : Asker) (handle : ℕ) (place : Place)
+WritesByHandle = (d : Setup) (c : Client) (k : Asker) (handle : ℕ) (place : Place)
     (bytes : List ℕ) (access : Access) (memory : List Block)
     → kept_status c.handles handle k.port.number ≡ Live place
-    → act_of table d c k (Write value_by_handle handle bytes) ≡ Allowed access
+    → act_of d c k (Write value_by_handle handle bytes) ≡ Allowed access
     → WritesPlace k.port.number place bytes memory (memory_after_puts memory access.writes)

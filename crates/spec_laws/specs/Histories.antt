@@ -16,7 +16,6 @@ use Rattle.spec_machine.specs.World.{World}
 use Rattle.spec_machine.specs.Handles.{HandleEvent, Grant, Release, Reload, kept_status, status_of}
 use Rattle.spec_machine.specs.Client.{Place, Client, Effect, NoEffect, Grants, Releases, Adds, Deletes, kept_place}
 use Rattle.spec_machine.specs.Acts.{Act, effect_of}
-use Rattle.spec_machine.specs.Answers.{AnswerTable}
 use Rattle.spec_machine.specs.Reloads.{is_kept}
 use Rattle.spec_machine.specs.AdsDevice.{DescriptionReading, server_step}
 use Rattle.spec_machine.specs.Projection.{acts_at}
@@ -44,32 +43,32 @@ is_heard None = false
 is_heard (Some k) = not (is_deaf k)
 
 -- what an event brings to the handles of a connection: its own accepted requests, and accepted reloads
-unfoldable pub handle_events_of_event : AnswerTable → DescriptionReading → ℕ → MachineState World Client → Event
+unfoldable pub handle_events_of_event : DescriptionReading → ℕ → MachineState World Client → Event
     → List (HandleEvent Place)
-handle_events_of_event table reading c s (event.Piece n bytes) =
-    if n == c then handle_events_of_acts (acts_at table reading s bytes (connection_of n s.connections)) else []
-handle_events_of_event table reading c s (event.Reload bytes) =
+handle_events_of_event reading c s (event.Piece n bytes) =
+    if n == c then handle_events_of_acts (acts_at reading s bytes (connection_of n s.connections)) else []
+handle_events_of_event reading c s (event.Reload bytes) =
     if is_heard (connection_of c s.connections)
     then handle_events_of_reload s.world (reading bytes (length s.world.signals)) else []
-handle_events_of_event table reading c s e = []
+handle_events_of_event reading c s e = []
 
-abbrev pub handle_events_of_move : AnswerTable → DescriptionReading → ℕ → MachineState World Client → Move
+abbrev pub handle_events_of_move : DescriptionReading → ℕ → MachineState World Client → Move
     → List (HandleEvent Place)
-handle_events_of_move table reading c s (move.Event e) = handle_events_of_event table reading c s e
-handle_events_of_move table reading c s m = []
+handle_events_of_move reading c s (move.Event e) = handle_events_of_event reading c s e
+handle_events_of_move reading c s m = []
 
 -- the history of a connection's handles in a log
-unfoldable pub handle_history : AnswerTable → DescriptionReading → ℕ → MachineState World Client → List Move
+unfoldable pub handle_history : DescriptionReading → ℕ → MachineState World Client → List Move
     → List (HandleEvent Place)
-handle_history table reading c s [] = []
-handle_history table reading c s (m ∷ ms) =
-    handle_events_of_move table reading c s m
-    ++ handle_history table reading c (state_after_move (server_step table reading) s m) ms
+handle_history reading c s [] = []
+handle_history reading c s (m ∷ ms) =
+    handle_events_of_move reading c s m
+    ++ handle_history reading c (state_after_move (server_step reading) s m) ms
 
 -- In every state a handle has the status that this history gives it.
 abbrev pub HandlesAreHistory : Type 0
-HandlesAreHistory = (table : AnswerTable) (reading : DescriptionReading) (d : Description)
+HandlesAreHistory = (reading : DescriptionReading) (d : Description)
     (signals : List Wave) (log : List Move) (c : ℕ) (k : Connection Client)
-    → connection_of c (state_after (server_step table reading) (start d signals) log).connections ≡ Some k
+    → connection_of c (state_after (server_step reading) (start d signals) log).connections ≡ Some k
     → (handle port : ℕ) → kept_status k.client.handles handle port
-    ≡ status_of (handle_history table reading c (start d signals) log) handle port
+    ≡ status_of (handle_history reading c (start d signals) log) handle port

@@ -14,7 +14,6 @@ use Rattle.spec_machine.specs.Access.{Addressed, addressed_name}
 use Rattle.spec_machine.specs.Handles.{HandleStatus, Never, Released, Outdated, Live, Handle}
 use Rattle.spec_machine.specs.Watches.{Watch}
 use Rattle.spec_machine.specs.Client.{Place, Client}
-use Rattle.spec_machine.specs.Answers.{AnswerTable}
 use Rattle.spec_machine.specs.Writes.{symbol_named}
 use Rattle.spec_machine.specs.AdsDevice.{DescriptionReading, server_step}
 use Rattle.spec_laws.specs.Isolation.{start}
@@ -66,6 +65,6 @@ pub record AllFits (s : MachineState World Client) : Type 0 where
 -- This holds after every log, where the first description is accepted and the reading gives accepted
 -- ones alone.
 abbrev pub EveryStateFits : Type 0
-EveryStateFits = (table : AnswerTable) (reading : DescriptionReading) → ReadsAccepted reading
+EveryStateFits = (reading : DescriptionReading) → ReadsAccepted reading
     → (d : Description) (signals : List Wave) → IsAccepted d (length signals) → (log : List Move)
-    → AllFits (state_after (server_step table reading) (start d signals) log)
+    → AllFits (state_after (server_step reading) (start d signals) log)

@@ -18,7 +18,7 @@ use Rattle.spec_machine.specs.Handles.{HandleStatus, Never, Released, Outdated, 
 use Rattle.spec_machine.specs.Watches.{Mode}
 use Rattle.spec_machine.specs.Client.{Place, Client, client_after}
 use Rattle.spec_machine.specs.Acts.{Act, Refusal, outcome_of, outcomes_of, memory_after, effect_of}
-use Rattle.spec_machine.specs.Answers.{AnswerTable, answered_group, READ, WRITE}
+use Rattle.spec_machine.specs.Answers.{answered_group, READ, WRITE}
 use Rattle.spec_machine.specs.Answers.{ADD_DEVICE_NOTIFICATION}
 use Rattle.spec_machine.specs.Writes.{Asker, may_write}
 use Rattle.spec_machine.specs.Requests.{MAX_WATCHED, mode_of, act_of}
@@ -46,25 +46,25 @@ abbrev pub result_told : Decision → List Block → ℕ
 result_told (Perform acts form) memory = (outcome_in_all form (outcomes_of memory acts)).code
 result_told decision memory = no_error
 
-pub record LeavesAll (table : AnswerTable) (w : World) (c : Client) (packet : List ℕ) : Type 0 where
-  pub world_stays : (performed (decide table (setup_of w) c packet) packet w c).world ≡ w
-  pub client_stays : (performed (decide table (setup_of w) c packet) packet w c).client ≡ c
+pub record LeavesAll (w : World) (c : Client) (packet : List ℕ) : Type 0 where
+  pub world_stays : (performed (decide (setup_of w) c packet) packet w c).world ≡ w
+  pub client_stays : (performed (decide (setup_of w) c packet) packet w c).client ≡ c
 
 abbrev pub TurnedAwayChangesNothing : Type 0
-TurnedAwayChangesNothing = (table : AnswerTable) (w : World) (c : Client) (packet : List ℕ)
-    → IsTurnedAway (decide table (setup_of w) c packet) → LeavesAll table w c packet
+TurnedAwayChangesNothing = (w : World) (c : Client) (packet : List ℕ)
+    → IsTurnedAway (decide (setup_of w) c packet) → LeavesAll w c packet
 
 -- A packet whose reply tells a result other than 0 leaves the world and its client.
 abbrev pub ResultChangesNothing : Type 0
-ResultChangesNothing = (table : AnswerTable) (w : World) (c : Client) (packet : List ℕ)
-    → result_told (decide table (setup_of w) c packet) w.memory ≢ no_error → LeavesAll table w c packet
+ResultChangesNothing = (w : World) (c : Client) (packet : List ℕ)
+    → result_told (decide (setup_of w) c packet) w.memory ≢ no_error → LeavesAll w c packet
 
 -- A reload whose description is refused leaves all but its count.
 abbrev pub RefusedReloadCounts : Type 0
-RefusedReloadCounts = (table : AnswerTable) (reading : DescriptionReading)
+RefusedReloadCounts = (reading : DescriptionReading)
     (s : MachineState World Client) (bytes : List ℕ) (fault : DescriptionFault)
     → reading bytes (length s.world.signals) ≡ Err fault
-    → state_after_move (server_step table reading) s (move.Event (event.Reload bytes))
+    → state_after_move (server_step reading) s (move.Event (event.Reload bytes))
     ≡ record s { refused = s.refused + 1 }
 
 -- the code of a handle that is not live
@@ -76,20 +76,20 @@ dead_code (Live place) = None
 
 -- a Read, a Write and an addition by such a handle: they are refused with its code, unless a check
 -- that comes before refuses them with another
-pub record RefusesHandle (table : AnswerTable) (d : Setup) (c : Client) (k : Asker) (handle code : ℕ) : Type 0 where
-  pub read : (len : ℕ) → answered_group table READ value_by_handle ≡ Some ValueByHandle
-      → act_of table d c k (Read value_by_handle handle len) ≡ Refusal code
-  pub write : (bytes : List ℕ) → answered_group table WRITE value_by_handle ≡ Some ValueByHandle
+pub record RefusesHandle (d : Setup) (c : Client) (k : Asker) (handle code : ℕ) : Type 0 where
+  pub read : (len : ℕ) → answered_group READ value_by_handle ≡ Some ValueByHandle
+      → act_of d c k (Read value_by_handle handle len) ≡ Refusal code
+  pub write : (bytes : List ℕ) → answered_group WRITE value_by_handle ≡ Some ValueByHandle
       → may_write k.rights ≡ true
-      → act_of table d c k (Write value_by_handle handle bytes) ≡ Refusal code
+      → act_of d c k (Write value_by_handle handle bytes) ≡ Refusal code
   pub write_without_right : (bytes : List ℕ)
-      → answered_group table WRITE value_by_handle ≡ Some ValueByHandle
+      → answered_group WRITE value_by_handle ≡ Some ValueByHandle
       → may_write k.rights ≡ false
-      → act_of table d c k (Write value_by_handle handle bytes) ≡ Refusal not_permitted
+      → act_of d c k (Write value_by_handle handle bytes) ≡ Refusal not_permitted
   pub add : (len number delay cycle : ℕ) (mode : Mode)
-      → answered_group table ADD_DEVICE_NOTIFICATION value_by_handle ≡ Some ValueByHandle
+      → answered_group ADD_DEVICE_NOTIFICATION value_by_handle ≡ Some ValueByHandle
       → mode_of number ≡ Some mode → len ≤ MAX_WATCHED
-      → act_of table d c k (AddDeviceNotification value_by_handle handle len number delay cycle)
+      → act_of d c k (AddDeviceNotification value_by_handle handle len number delay cycle)
       ≡ Refusal code
 
 -- it is refused, so it reads, writes and changes nothing
@@ -97,30 +97,30 @@ abbrev pub IsRefused : Act → Type 0
 IsRefused a = (code : ℕ) × (a ≡ Refusal code)
 
 -- an addition of an unknown mode, of too many bytes or of none, or of a group that additions do not have
-abbrev pub IsBadAddition : AnswerTable → ℕ → ℕ → ℕ → Type 0
-IsBadAddition table group len number =
+abbrev pub IsBadAddition : ℕ → ℕ → ℕ → Type 0
+IsBadAddition group len number =
     (mode_of number ≡ None) ⊎ ((MAX_WATCHED < len) ⊎ ((len ≡ 0)
-    ⊎ (answered_group table ADD_DEVICE_NOTIFICATION group ≡ None)))
+    ⊎ (answered_group ADD_DEVICE_NOTIFICATION group ≡ None)))
 
 -- Such an addition is refused, and so touches no name.
 abbrev pub BadAdditionsAreRefused : Type 0
-BadAdditionsAreRefused = (table : AnswerTable) (d : Setup) (c : Client) (k : Asker)
-    (group offset len number delay cycle : ℕ) → IsBadAddition table group len number
-    → IsRefused (act_of table d c k (AddDeviceNotification group offset len number delay cycle))
+BadAdditionsAreRefused = (d : Setup) (c : Client) (k : Asker)
+    (group offset len number delay cycle : ℕ) → IsBadAddition group len number
+    → IsRefused (act_of d c k (AddDeviceNotification group offset len number delay cycle))
 
 -- any access by such a handle, whatever is asked and whatever the table answers
-pub record RefusesAnyForm (table : AnswerTable) (d : Setup) (c : Client) (k : Asker) (handle : ℕ) : Type 0 where
-  pub read : (len : ℕ) → IsRefused (act_of table d c k (Read value_by_handle handle len))
-  pub write : (bytes : List ℕ) → IsRefused (act_of table d c k (Write value_by_handle handle bytes))
+pub record RefusesAnyForm (d : Setup) (c : Client) (k : Asker) (handle : ℕ) : Type 0 where
+  pub read : (len : ℕ) → IsRefused (act_of d c k (Read value_by_handle handle len))
+  pub write : (bytes : List ℕ) → IsRefused (act_of d c k (Write value_by_handle handle bytes))
   pub add : (len mode delay cycle : ℕ)
-      → IsRefused (act_of table d c k (AddDeviceNotification value_by_handle handle len mode delay cycle))
+      → IsRefused (act_of d c k (AddDeviceNotification value_by_handle handle len mode delay cycle))
   pub read_write : (len : ℕ) (bytes : List ℕ)
-      → IsRefused (act_of table d c k (ReadWrite value_by_handle handle len bytes))
+      → IsRefused (act_of d c k (ReadWrite value_by_handle handle len bytes))
 
 abbrev pub DeadHandleTouchesNothing : Type 0
-DeadHandleTouchesNothing = (table : AnswerTable) (d : Setup) (c : Client) (k : Asker)
+DeadHandleTouchesNothing = (d : Setup) (c : Client) (k : Asker)
     (handle code : ℕ) → dead_code (kept_status c.handles handle k.port.number) ≡ Some code
-    → RefusesHandle table d c k handle code × RefusesAnyForm table d c k handle
+    → RefusesHandle d c k handle code × RefusesAnyForm d c k handle
 
 -- what a connection was granted and added only grows, and the next number is one more than that
 pub record NumbersGrow (k l : Connection Client) : Type 0 where
@@ -129,9 +129,9 @@ pub record NumbersGrow (k l : Connection Client) : Type 0 where
 
 -- So no number of a handle or a notification is given twice.
 abbrev pub NumbersNeverFall : Type 0
-NumbersNeverFall = (table : AnswerTable) (reading : DescriptionReading)
+NumbersNeverFall = (reading : DescriptionReading)
     (s : MachineState World Client) (c : ℕ) (log : List Move) (k : Connection Client)
     → connection_of c s.connections ≡ Some k
     → (l : Connection Client)
-    × (connection_of c (state_after (server_step table reading) s log).connections ≡ Some l)
+    × (connection_of c (state_after (server_step reading) s log).connections ≡ Some l)
     × NumbersGrow k l

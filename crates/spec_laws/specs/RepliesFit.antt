@@ -15,7 +15,6 @@ use Rattle.spec_machine.specs.Moves.{state_after}
 use Rattle.spec_machine.specs.World.{World, Setup}
 use Rattle.spec_machine.specs.Client.{Client}
 use Rattle.spec_machine.specs.Acts.{outcome_of}
-use Rattle.spec_machine.specs.Answers.{AnswerTable}
 use Rattle.spec_machine.specs.Writes.{Asker}
 use Rattle.spec_machine.specs.Requests.{act_of}
 use Rattle.spec_machine.specs.AdsDevice.{DescriptionReading, ads_device, server_step}
@@ -24,15 +23,15 @@ use Rattle.spec_laws.specs.Soundness.{Each, ReadsAccepted}
 
 -- A Read and a ReadWrite, and each such part of a sum, is given at most as many bytes as it asks: in
 -- every state, for every group and table.
-pub record GivesAtMostAsked (table : AnswerTable) (d : Setup) (c : Client) (k : Asker) (memory : List Block) : Type 0 where
+pub record GivesAtMostAsked (d : Setup) (c : Client) (k : Asker) (memory : List Block) : Type 0 where
   pub read : (group offset len : ℕ)
-      → length (outcome_of memory (act_of table d c k (Read group offset len))).bytes ≤ len
+      → length (outcome_of memory (act_of d c k (Read group offset len))).bytes ≤ len
   pub read_write : (group offset len : ℕ) (bytes : List ℕ)
-      → length (outcome_of memory (act_of table d c k (ReadWrite group offset len bytes))).bytes ≤ len
+      → length (outcome_of memory (act_of d c k (ReadWrite group offset len bytes))).bytes ≤ len
 
 abbrev pub NoMoreThanAsked : Type 0
-NoMoreThanAsked = (table : AnswerTable) (d : Setup) (c : Client) (k : Asker) (memory : List Block)
-    → GivesAtMostAsked table d c k memory
+NoMoreThanAsked = (d : Setup) (c : Client) (k : Asker) (memory : List Block)
+    → GivesAtMostAsked d c k memory
 
 -- AMS header 32, result 4, length 4, and at most 2,000,000 bytes of data
 abbrev pub AnswerFits : Answer → Type 0
@@ -51,7 +50,7 @@ AllAnswersFit device s = Each (AnswersFit device s.world) s.connections
 -- This holds after every log, where the first description is accepted and the reading gives accepted
 -- ones alone.
 abbrev pub RepliesFit : Type 0
-RepliesFit = (table : AnswerTable) (reading : DescriptionReading) → ReadsAccepted reading
+RepliesFit = (reading : DescriptionReading) → ReadsAccepted reading
     → (d : Description) (signals : List Wave) → IsAccepted d (length signals) → (log : List Move)
-    → AllAnswersFit (ads_device table reading)
-    (state_after (server_step table reading) (start d signals) log)
+    → AllAnswersFit (ads_device reading)
+    (state_after (server_step reading) (start d signals) log)

@@ -10,7 +10,6 @@ use Rattle.spec_machine.specs.Moves.{state_after}
 use Rattle.spec_machine.specs.Access.{Addressed}
 use Rattle.spec_machine.specs.Watches.{Watch}
 use Rattle.spec_machine.specs.Client.{Client}
-use Rattle.spec_machine.specs.Answers.{AnswerTable}
 use Rattle.spec_machine.specs.Stamps.{SampleGroup, grouped, samples_at}
 use Rattle.spec_machine.specs.AdsDevice.{DescriptionReading, server_step}
 use Rattle.spec_laws.specs.Isolation.{start}
@@ -42,7 +41,7 @@ pub record RisesInOrder (c : Client) : Type 0 where
       → Each IsRisingGroup (grouped [] (samples_at memory now c.watches))
 
 abbrev pub HandlesRise : Type 0
-HandlesRise = (table : AnswerTable) (reading : DescriptionReading) (d : Description)
+HandlesRise = (reading : DescriptionReading) (d : Description)
     (signals : List Wave) (log : List Move) (c : ℕ) (k : Connection Client)
-    → connection_of c (state_after (server_step table reading) (start d signals) log).connections ≡ Some k
+    → connection_of c (state_after (server_step reading) (start d signals) log).connections ≡ Some k
     → RisesInOrder k.client

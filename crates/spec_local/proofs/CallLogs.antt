@@ -1,5 +1,6 @@
 -- The log that a call leaves on a link to a machine leads through the scenes of the local call.
-use Rattle.std.proofs.Common.{◌≡◌, ◌≢◌, ℕ, zero, suc, ◌+◌, ◌<◌, ◌==◌, ◌⊎◌, inl, inr, List, [], ◌∷◌, length, drop, Bool, true, false, refl, sym, ap, ◌∙◌, subst, arith}
+use Rattle.std.proofs.Common.{◌≡◌, ◌≢◌, ℕ, zero, suc, ◌+◌, ◌<◌, ◌==◌, ◌⊎◌, inl, inr, List, [], ◌∷◌, length}
+use Rattle.std.proofs.Common.{drop, Bool, true, false, refl, sym, ap, ◌∙◌, subst, arith}
 use Rattle.std.specs.Prelude.{is_some, Option, Some, None, ◌||◌}
 use Rattle.std.proofs.lemmas.Bool.{cond-true}
 use Rattle.ads_outside.specs.declared.event.Event.TheVariants as event
@@ -12,7 +13,10 @@ use Rattle.spec_machine.proofs.Find.{test_same}
 use Rattle.spec_formats.specs.Header.{AmsAddress}
 use Rattle.spec_client.specs.Calls.{Call}
 use Rattle.spec_client.specs.Runner.{turns}
-use Rattle.spec_client.specs.Conversation.{LinkAnswer, Bytes, Quiet, Closed, Sent, LoopEnd, Budget, Conversation, MAX_ANSWERS, MAX_QUIET, moment_of, conversation_begun, conversation_after, conversation_after_turns, conversation_going_on, with_answer, unless_ended, end_by_answer, end_by_count}
+use Rattle.spec_client.specs.Conversation.{LinkAnswer, Bytes, Quiet, Closed, Sent, LoopEnd, Budget}
+use Rattle.spec_client.specs.Conversation.{Conversation, MAX_ANSWERS, MAX_QUIET, moment_of, conversation_begun}
+use Rattle.spec_client.specs.Conversation.{conversation_after, conversation_after_turns, conversation_going_on}
+use Rattle.spec_client.specs.Conversation.{with_answer, unless_ended, end_by_answer, end_by_count}
 use Rattle.spec_client.specs.CallOver.{conversation_after_all, call_over}
 use Rattle.spec_client.specs.CallLog.{event_of, sent_behind, log_up_to}
 use Rattle.spec_local.specs.Laws.{CallsAreLocal}
@@ -50,7 +54,8 @@ answered_out d (Bytes bytes now) none = counted_out d none
 answered_out d (Quiet now) none = counted_out d none
 answered_out d (Closed now) none = absurd cc
 
-unless_out : (d : Conversation) (a : LinkAnswer) (end : Option LoopEnd) → d.end ≡ end → (unless_ended d a end).end ≡ None → (unless_ended d a end).answers ≢ MAX_ANSWERS + 1
+unless_out : (d : Conversation) (a : LinkAnswer) (end : Option LoopEnd) → d.end ≡ end
+    → (unless_ended d a end).end ≡ None → (unless_ended d a end).answers ≢ MAX_ANSWERS + 1
 unless_out d a None is none = answered_out d a none
 unless_out d a (Some e) is none = absurd (none_some d.end e none is)
 
@@ -84,7 +89,8 @@ scene_step {W} {C} step cutting s pending c a n at cut is =
     ap (λ m. scene_after step c (local_answer step m t)) (ap cutting at ∙ cut ∙ ap most_of (sym same)) ∙ ap scene (is ∙ same)
 
 -- so far as the answers came
-walk : {W C : Type 0} (step : EventStep W C) (cutting : Cutting) (answers : List LinkAnswer) (s : MachineState W C) (pending : List Sent) (c : Conversation) (n : ℕ)
+walk : {W C : Type 0} (step : EventStep W C) (cutting : Cutting) (answers : List LinkAnswer)
+    (s : MachineState W C) (pending : List Sent) (c : Conversation) (n : ℕ)
     → c.answers ≡ n → IsLogOf step s (log_up_to pending c answers) → CutsAs cutting n answers
     → (scene_after_answers step cutting (length answers) (scene_of step s pending c)).conversation ≡ conversation_after_all c answers
 unfolding scene_after_answers conversation_after_all IsLogOf log_up_to
@@ -115,7 +121,8 @@ fits_less c a n m at on fits none =
     let other : n + 1 ≢ MAX_ANSWERS + 1 = λ e. differs (count ∙ ap (λ k. k + 1) at ∙ e) in
     (omega (arith, sum, other), omega (arith, sum))
 
-whole : {W C : Type 0} (step : EventStep W C) (cutting : Cutting) (m : ℕ) (answers : List LinkAnswer) (s : MachineState W C) (pending : List Sent) (c : Conversation) (n : ℕ) (e : LoopEnd)
+whole : {W C : Type 0} (step : EventStep W C) (cutting : Cutting) (m : ℕ) (answers : List LinkAnswer)
+    (s : MachineState W C) (pending : List Sent) (c : Conversation) (n : ℕ) (e : LoopEnd)
     → c.answers ≡ n → Fits c n m → IsLogOf step s (log_up_to pending c answers) → CutsAs cutting n answers → (conversation_after_all c answers).end ≡ Some e
     → (scene_after_answers step cutting m (scene_of step s pending c)).conversation ≡ conversation_after_all c answers
 unfolding conversation_after_all IsLogOf log_up_to

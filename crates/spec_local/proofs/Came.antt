@@ -27,13 +27,15 @@ pub came_waiting : {W C : Type 0} (step : EventStep W C) (s : MachineState W C) 
 unfolding local_answer
 came_waiting step s bytes now some first = taken step s _ bytes (waiting_bytes s) some first
 
-nothing : {W C : Type 0} (step : EventStep W C) (most : ℕ) (s : MachineState W C) (other : Answered W C) (ws : List ℕ) → ws ≡ [] → waiting_or step most s other ws ≡ other
+nothing : {W C : Type 0} (step : EventStep W C) (most : ℕ) (s : MachineState W C) (other : Answered W C) (ws : List ℕ)
+    → ws ≡ [] → waiting_or step most s other ws ≡ other
 nothing step most s other ws none = ap (waiting_or step most s other) none
 
 pub came_closed : {W C : Type 0} (step : EventStep W C) (s : MachineState W C) (now : ℕ)
     → waiting_bytes s ≡ [] → is_to_be_shut (connection_of 1 s.connections) ≡ true → answered_like step s (Closed now) ≡ answered (Closed s.moment) s
 unfolding local_answer
-came_closed step s now none shut = nothing step (most_of (Closed now)) s _ (waiting_bytes s) none ∙ cond-true (is_to_be_shut (connection_of 1 s.connections)) _ _ shut
+came_closed step s now none shut =
+    nothing step (most_of (Closed now)) s _ (waiting_bytes s) none ∙ cond-true (is_to_be_shut (connection_of 1 s.connections)) _ _ shut
 
 later : {W C : Type 0} (step : EventStep W C) (most : ℕ) (s : MachineState W C)
     → waiting_bytes s ≡ [] → is_to_be_shut (connection_of 1 s.connections) ≡ false → local_answer step most s ≡ answer_after_tick step most (ticked step s)
@@ -42,7 +44,8 @@ later step most s none stays = nothing step most s _ (waiting_bytes s) none ∙ 
 
 pub came_later : {W C : Type 0} (step : EventStep W C) (s : MachineState W C) (bytes : List ℕ) (now : ℕ)
     → waiting_bytes s ≡ [] → is_to_be_shut (connection_of 1 s.connections) ≡ false
-    → 0 < length bytes → take (length bytes) (waiting_bytes (ticked step s)) ≡ bytes → answered_like step s (Bytes bytes now) ≡ bytes_taken step (ticked step s) bytes
+    → 0 < length bytes → take (length bytes) (waiting_bytes (ticked step s)) ≡ bytes
+    → answered_like step s (Bytes bytes now) ≡ bytes_taken step (ticked step s) bytes
 unfolding answer_after_tick
 came_later step s bytes now none stays some first =
     later step _ s none stays ∙ taken step (ticked step s) _ bytes (waiting_bytes (ticked step s)) some first

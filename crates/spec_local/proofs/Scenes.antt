@@ -34,7 +34,8 @@ unfolding conversation_going_on conversation_after_turns
 one_more c a on = ap (λ (d : Conversation). d.answers) (going_on c a on) ∙ unless_same _ a _
 
 -- a scene that is over stays
-pub scene_stays : {W C : Type 0} (step : EventStep W C) (cutting : Cutting) (n : ℕ) (x : LocalScene W C) (e : LoopEnd) → x.conversation.end ≡ Some e → scene_after_answers step cutting n x ≡ x
+pub scene_stays : {W C : Type 0} (step : EventStep W C) (cutting : Cutting) (n : ℕ) (x : LocalScene W C) (e : LoopEnd)
+    → x.conversation.end ≡ Some e → scene_after_answers step cutting n x ≡ x
 unfolding scene_after_answers
 scene_stays step cutting zero x e over = refl
 scene_stays step cutting (suc n) x e over = cond-true (is_some x.conversation.end) _ _ (ap is_some over)

@@ -7,7 +7,6 @@ use Rattle.spec_machine.specs.MachineState.{MachineState, start_of}
 use Rattle.spec_machine.specs.Moves.{EventStep}
 use Rattle.spec_machine.specs.World.{World, world_of}
 use Rattle.spec_machine.specs.Client as served
-use Rattle.spec_machine.specs.Answers.{all_answered}
 use Rattle.spec_machine.specs.AdsDevice.{DescriptionReading, server_step}
 use Rattle.spec_client.specs.Calls.{Call}
 use Rattle.spec_client.specs.Conversation.{Conversation}
@@ -20,7 +19,7 @@ abbrev reading : DescriptionReading
 reading bytes signals = Err NoDocument
 
 abbrev step : EventStep World served.Client
-step = server_step all_answered reading
+step = server_step reading
 
 abbrev waves : List Wave
 waves =

@@ -84,9 +84,11 @@ record WatchRows : Type 0 where
   -- three samples on change
   watch : told (Watch (codes "Main.wave") (on_change 3)) ≡ 0 ∷ flat_map line (codes "100000 3" ∷ codes "200000 1" ∷ codes "300000 4" ∷ [])
   -- two samples every second tick
-  cyclic : told (Watch (codes "Main.count") (record { mode = SERVER_CYCLE; cycle = 200000; count = 2 })) ≡ 0 ∷ flat_map line (codes "100000 42" ∷ codes "300000 42" ∷ [])
+  cyclic : told (Watch (codes "Main.count") (record { mode = SERVER_CYCLE; cycle = 200000; count = 2 })) ≡ 0
+      ∷ flat_map line (codes "100000 42" ∷ codes "300000 42" ∷ [])
   -- the leaves of an element of an array of structures
-  show : told (Show (codes "Main.axis[2]")) ≡ 0 ∷ flat_map line (codes "Main.axis[2].active FALSE" ∷ codes "Main.axis[2].pos 0" ∷ codes "Main.axis[2].label ''" ∷ [])
+  show : told (Show (codes "Main.axis[2]")) ≡ 0
+      ∷ flat_map line (codes "Main.axis[2].active FALSE" ∷ codes "Main.axis[2].pos 0" ∷ codes "Main.axis[2].label ''" ∷ [])
   -- the rows of a recording, in the order of their coming
   kept : recorded.kept ≡ row 1 (codes "Main.wave") 100000 (codes "0300") ∷ row 2 (codes "Main.count") 100000 (codes "2a000000")
       ∷ row 3 (codes "Main.wave") 200000 (codes "0100") ∷ row 4 (codes "Main.wave") 300000 (codes "0400") ∷ []

@@ -18,7 +18,8 @@ LocalIsOver W C = (step : EventStep W C) (cutting : Cutting) (s : MachineState W
     → local_call step cutting s me peer call ≡ call_over me peer call s.moment (local_answers step cutting s me peer call)
 
 -- a call over these answers is the local one, cut as the answers were
-pub record IsLocalCall {W C : Type 0} (step : EventStep W C) (s : MachineState W C) (me peer : AmsAddress) (call : Call) (now : ℕ) (answers : List LinkAnswer) : Type 0 where
+pub record IsLocalCall {W C : Type 0} (step : EventStep W C) (s : MachineState W C)
+    (me peer : AmsAddress) (call : Call) (now : ℕ) (answers : List LinkAnswer) : Type 0 where
   -- it began at the machine's moment
   pub moment : now ≡ s.moment
   -- so far as the answers came

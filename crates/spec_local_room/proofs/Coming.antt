@@ -151,7 +151,8 @@ heard_still c bytes all none still =
     }
 
 -- a frame is whole, and it is taken
-pub heard_frame : (c : Client) (bytes p : List ℕ) → HasHeardAll c → frames_of (rest_of c.received ++ bytes) ≡ p ∷ [] → rest_of (rest_of c.received ++ bytes) ≡ []
+pub heard_frame : (c : Client) (bytes p : List ℕ) → HasHeardAll c
+    → frames_of (rest_of c.received ++ bytes) ≡ p ∷ [] → rest_of (rest_of c.received ++ bytes) ≡ []
     → says_something p ≡ true → HasHeardAll (record c { received = c.received ++ bytes; taken = c.taken + 1 })
 heard_frame c bytes p all is none says =
     let old = filter says_something (frames_of c.received) in

@@ -19,7 +19,7 @@ use Rattle.spec_formats.specs.Request.{Request, request_of, request_in, request_
 use Rattle.spec_formats.specs.SymbolEntry.{entry_bytes}
 use Rattle.spec_machine.specs.Access.{Addressed}
 use Rattle.spec_machine.specs.Acts.{Act, Refusal, Allowed, changing, effect_of, client_after_acts}
-use Rattle.spec_machine.specs.Answers.{all_answered, answered_group}
+use Rattle.spec_machine.specs.Answers.{answered_group}
 use Rattle.spec_machine.specs.ByName.{MAX_NUMBER, if_found, read_write_group}
 use Rattle.spec_machine.specs.Client.{Client, client_after, Adds, NoEffect}
 use Rattle.spec_machine.specs.Decisions.{Decision, NoAnswer, EndConnection, AmsError, Perform, Single, refuse, acts_in}
@@ -58,12 +58,12 @@ IsReplied EndConnection = Unit {0}
 IsReplied (AmsError code) = code < 2 ^ 32
 IsReplied (Perform acts form) = Unit {0}
 
-replied_parts : (d : Setup) (c : Client) (k : Asker) (s : SumRequest) (o : Option ℕ) → IsReplied (decide_parts all_answered d c k s o)
+replied_parts : (d : Setup) (c : Client) (k : Asker) (s : SumRequest) (o : Option ℕ) → IsReplied (decide_parts d c k s o)
 replied_parts d c k s None = tt
 replied_parts d c k s (Some code) = tt
 
 replied_read_write : (d : Setup) (c : Client) (k : Asker) (g : Option Group) (r : Request) (n len : ℕ) (bytes : List ℕ)
-    → IsReplied (decide_read_write all_answered d c k g r n len bytes)
+    → IsReplied (decide_read_write d c k g r n len bytes)
 replied_read_write d c k (Some SumRead) r n len bytes =
     let s = sum_of_reads n bytes in replied_parts d c k s (sum_refusal n s.data_len (length bytes) s.reply_len len)
 replied_read_write d c k (Some SumWrite) r n len bytes =
@@ -72,16 +72,16 @@ replied_read_write d c k (Some SumReadWrite) r n len bytes =
     let s = sum_of_read_writes n bytes in replied_parts d c k s (sum_refusal n s.data_len (length bytes) s.reply_len len)
 replied_read_write d c k g r n len bytes = tt
 
-replied_request : (d : Setup) (c : Client) (k : Asker) (r : Request) → IsReplied (decide_request all_answered d c k r)
+replied_request : (d : Setup) (c : Client) (k : Asker) (r : Request) → IsReplied (decide_request d c k r)
 unfolding decide_request
 replied_request d c k (request.ReadWrite group offset len bytes) =
-    replied_read_write d c k (answered_group all_answered READ_WRITE group) (request.ReadWrite group offset len bytes) offset len bytes
+    replied_read_write d c k (answered_group READ_WRITE group) (request.ReadWrite group offset len bytes) offset len bytes
 replied_request d c k r = tt
 
 -- who is answered: none where a check fails
 record Passes (plant : Plant) (h : AmsHeader) (payload : List ℕ) (P : Decision → Type 0) (d : Setup) (c : Client) : Type 0 where
   holds : (k : Asker) (r : Request) → k.address ≡ h.source → k.port.number ≡ h.target.port → h.target.net ≡ plant.net → request_of h.command payload ≡ Some r
-      → P (decide_request all_answered d c k r)
+      → P (decide_request d c k r)
 
 not_true : (b : Bool) → not b ≡ false → b ≡ true
 not_true true e = refl
@@ -98,9 +98,10 @@ found_number number (q ∷ ports) p e = elim (cases_Bool (q.number == number)) [
 ]
 
 passed_so : (P : Decision → Type 0) (d : Setup) (c : Client) (h : AmsHeader) (payload : List ℕ) → Passes d.plant h payload P d c
-    → (rights : Option Rights) (port : Option PlantPort) (r : Option Request) → port_numbered h.target.port d.plant.ports ≡ port → request_of h.command payload ≡ r
+    → (rights : Option Rights) (port : Option PlantPort) (r : Option Request)
+    → port_numbered h.target.port d.plant.ports ≡ port → request_of h.command payload ≡ r
     → is_none rights ≡ false → h.target.net ≡ d.plant.net → is_none port ≡ false → is_none r ≡ false
-    → P (decide_passed all_answered d c h.source rights port r)
+    → P (decide_passed d c h.source rights port r)
 passed_so P d c h payload by None port r p q e net f g = absurd (true_false e)
 passed_so P d c h payload by (Some rights) None r p q e net f g = absurd (true_false f)
 passed_so P d c h payload by (Some rights) (Some port) None p q e net f g = absurd (true_false g)
@@ -109,14 +110,15 @@ passed_so P d c h payload by (Some rights) (Some port) (Some r) p q e net f g =
 
 -- what holds of the refusals and of each request that passes holds of what is decided
 decided : (P : Decision → Type 0) (d : Setup) (c : Client) (h : AmsHeader) (payload : List ℕ)
-    → ((code : ℕ) → code < 2 ^ 32 → P (AmsError code)) → P EndConnection → ((code : ℕ) → P (refuse code)) → h.flags ≡ request_flags → (h.command == DEVICE_NOTIFICATION) ≡ false
-    → Passes d.plant h payload P d c → P (decide_header all_answered d c payload (Some h))
+    → ((code : ℕ) → code < 2 ^ 32 → P (AmsError code)) → P EndConnection → ((code : ℕ) → P (refuse code))
+    → h.flags ≡ request_flags → (h.command == DEVICE_NOTIFICATION) ≡ false
+    → Passes d.plant h payload P d c → P (decide_header d c payload (Some h))
 decided P d c h payload error ends refused flags other by =
     let port = port_numbered h.target.port d.plant.ports in
     let r = request_of h.command payload in
     let rights = rights_of h.source.net d.plant.routes in
     let response : (h.flags % 2 == 1) ≡ false = rw flags refl in
-    checked_holds P (checks_of all_answered d.plant h payload) (decide_passed all_answered d c h.source rights port r) (
+    checked_holds P (checks_of d.plant h payload) (decide_passed d c h.source rights port r) (
       (λ e. error invalid_ams_length (omega arith)),
       (
         (λ e. absurd (true_false (sym e ∙ response))),
@@ -140,7 +142,7 @@ decided P d c h payload error ends refused flags other by =
     ((bytes_eq-Decides h.target.net d.plant.net).0 (not_true (bytes_eq h.target.net d.plant.net) none.1.1.1.1.0)) none.1.1.1.1.1.0 none.1.1.1.1.1.1.1.1.0)
 
 pub replied : (d : Setup) (c : Client) (h : AmsHeader) (payload : List ℕ) → h.flags ≡ request_flags → (h.command == DEVICE_NOTIFICATION) ≡ false
-    → IsReplied (decide_header all_answered d c payload (Some h))
+    → IsReplied (decide_header d c payload (Some h))
 replied d c h payload flags other =
     decided IsReplied d c h payload (λ code small. small) tt (λ code. tt) flags other
     (record { holds = λ k r address port net is. replied_request d c k r })
@@ -158,7 +160,7 @@ one_act : (c : Client) (a : Act) → effect_of a ≡ NoEffect → client_after_a
 unfolding client_after_acts client_after
 one_act c a none = rw none refl
 
-one_acts : (d : Setup) (c : Client) (k : Asker) (r : Request) → acts_of all_answered d c k (r ∷ []) ≡ act_of all_answered d c k r ∷ []
+one_acts : (d : Setup) (c : Client) (k : Asker) (r : Request) → acts_of d c k (r ∷ []) ≡ act_of d c k r ∷ []
 unfolding acts_of given_in_turn
 one_acts d c k r = refl
 
@@ -173,23 +175,24 @@ found_keeps : (len : ℕ) (o : Option Found) → effect_of (if_found o (λ f. fi
 found_keeps len None = refl
 found_keeps len (Some f) = fixed_keeps len (entry_bytes (entry_of_part f))
 
-entry_group : answered_group all_answered READ_WRITE 0xF009 ≡ Some ExtendedInfoByName
+entry_group : answered_group READ_WRITE 0xF009 ≡ Some ExtendedInfoByName
 unfolding answered_group group_of group_in
 entry_group = refl
 
 entry_act : (d : Setup) (c : Client) (k : Asker) (offset len : ℕ) (name : List ℕ)
-    → effect_of (act_of all_answered d c k (request.ReadWrite 0xF009 offset len name)) ≡ NoEffect
+    → effect_of (act_of d c k (request.ReadWrite 0xF009 offset len name)) ≡ NoEffect
 unfolding act_of read_write_group
 entry_act d c k offset len name =
     ap (λ g. effect_of (read_write_group c k.port g len name)) entry_group ∙ found_keeps len (found_of k.port.symbols name)
 
-entry_decided : (d : Setup) (c : Client) (k : Asker) (offset len : ℕ) (name : List ℕ) → Keeps c (decide_request all_answered d c k (request.ReadWrite 0xF009 offset len name))
+entry_decided : (d : Setup) (c : Client) (k : Asker) (offset len : ℕ) (name : List ℕ)
+    → Keeps c (decide_request d c k (request.ReadWrite 0xF009 offset len name))
 unfolding decide_request
 entry_decided d c k offset len name =
     let r = request.ReadWrite 0xF009 offset len name in
-    ap (λ g. client_after_acts c (acts_in (decide_read_write all_answered d c k g r offset len name))) entry_group
+    ap (λ g. client_after_acts c (acts_in (decide_read_write d c k g r offset len name))) entry_group
     ∙ ap (client_after_acts c) (one_acts d c k r)
-    ∙ one_act c (act_of all_answered d c k r) (entry_act d c k offset len name)
+    ∙ one_act c (act_of d c k r) (entry_act d c k offset len name)
 
 -- what the payload is read as, where it is read
 read_write_read : (p : List ℕ) (r : Request) → request_of READ_WRITE p ≡ Some r → r ≡ request.ReadWrite (number32 0 p) (number32 4 p) (number32 8 p) (drop 16 p)
@@ -217,7 +220,7 @@ entry_number : (name : List ℕ) → number32 0 (request_bytes (entry_request na
 entry_number name = from_le_bytes-to_le_bytes_4 0xF009 (omega arith)
 
 pub entry_keeps : (d : Setup) (c : Client) (h : AmsHeader) (name : List ℕ) → h.flags ≡ request_flags → h.command ≡ READ_WRITE
-    → Keeps c (decide_header all_answered d c (request_bytes (entry_request name)) (Some h))
+    → Keeps c (decide_header d c (request_bytes (entry_request name)) (Some h))
 entry_keeps d c h name flags command =
     let p = request_bytes (entry_request name) in
     decided (Keeps c) d c h p (λ code small. no_acts c) (no_acts c) (λ code. one_act c (Refusal code) refl) flags (ap (λ n. n == DEVICE_NOTIFICATION) command)
@@ -226,7 +229,7 @@ entry_keeps d c h name flags command =
           let read = read_write_read p r (sym (ap (λ n. request_of n p) command) ∙ is) in
           let same : r ≡ request.ReadWrite 0xF009 (number32 4 p) (number32 8 p) (drop 16 p)
           = read ∙ ap (λ g. request.ReadWrite g (number32 4 p) (number32 8 p) (drop 16 p)) (entry_number name) in
-          subst (λ x. Keeps c (decide_request all_answered d c k x)) (sym same) (entry_decided d c k (number32 4 p) (number32 8 p) (drop 16 p));
+          subst (λ x. Keeps c (decide_request d c k x)) (sym same) (entry_decided d c k (number32 4 p) (number32 8 p) (drop 16 p));
     })
 
 -- an addition gives one notification more, or nothing changes
@@ -295,22 +298,23 @@ single_case : (h : AmsHeader) (plant : Plant) (c : Client) (a : Act) → ActCase
 single_case h plant c a (inl keeps) = inl (one_act c a keeps)
 single_case h plant c a (inr adds) = inr (record { w = adds.w; is = ap (λ x. Perform (x ∷ []) Single) adds.is; watch = adds.watch })
 
-addition_decided : (d : Setup) (c : Client) (h : AmsHeader) (k : Asker) (g o l m y z : ℕ) → k.address ≡ h.source → k.port.number ≡ h.target.port → h.target.net ≡ d.plant.net
-    → AddsOrKeeps c h d.plant (decide_request all_answered d c k (request.AddDeviceNotification g o l m y z))
+addition_decided : (d : Setup) (c : Client) (h : AmsHeader) (k : Asker) (g o l m y z : ℕ)
+    → k.address ≡ h.source → k.port.number ≡ h.target.port → h.target.net ≡ d.plant.net
+    → AddsOrKeeps c h d.plant (decide_request d c k (request.AddDeviceNotification g o l m y z))
 unfolding decide_request act_of
 addition_decided d c h k g o l m y z address port net =
     let r = request.AddDeviceNotification g o l m y z in
     subst (λ acts. AddsOrKeeps c h d.plant (Perform acts Single)) (sym (one_acts d c k r))
-    (single_case h d.plant c (act_of all_answered d c k r) (add_case h d.plant c k _ o l z (mode_of m) address port net))
+    (single_case h d.plant c (act_of d c k r) (add_case h d.plant c k _ o l z (mode_of m) address port net))
 
 pub addition_adds : (d : Setup) (c : Client) (h : AmsHeader) (payload : List ℕ) → h.flags ≡ request_flags → h.command ≡ ADD_DEVICE_NOTIFICATION
-    → AddsOrKeeps c h d.plant (decide_header all_answered d c payload (Some h))
+    → AddsOrKeeps c h d.plant (decide_header d c payload (Some h))
 addition_adds d c h p flags command =
     decided (AddsOrKeeps c h d.plant) d c h p (λ code small. inl (no_acts c)) (inl (no_acts c)) (λ code. inl (one_act c (Refusal code) refl)) flags
     (ap (λ n. n == DEVICE_NOTIFICATION) command)
     (record {
       holds = λ k r address port net is.
           let read = addition_read p r (sym (ap (λ n. request_of n p) command) ∙ is) in
-          subst (λ x. AddsOrKeeps c h d.plant (decide_request all_answered d c k x)) (sym read)
+          subst (λ x. AddsOrKeeps c h d.plant (decide_request d c k x)) (sym read)
           (addition_decided d c h k (number32 0 p) (number32 4 p) (number32 8 p) (number32 12 p) (number32 16 p) (number32 20 p) address port net);
     })

@@ -1,6 +1,7 @@
 -- What a client hears behind an answer of a link: nothing while a frame is not whole; then the answer to its only request, or the only
 -- sample of a notification; or that the peer is broken.
-use Rattle.std.proofs.Common.{◌≡◌, ◌⊎◌, ℕ, ◌+◌, ◌-◌, ◌<◌, ◌^◌, List, [], ◌∷◌, ◌++◌, length, take, drop, map, Bool, true, false, refl, sym, ap, ◌∙◌, inl, inr, arith}
+use Rattle.std.proofs.Common.{◌≡◌, ◌⊎◌, ℕ, ◌+◌, ◌-◌, ◌<◌, ◌^◌, List, [], ◌∷◌, ◌++◌, length, take, drop, map}
+use Rattle.std.proofs.Common.{Bool, true, false, refl, sym, ap, ◌∙◌, inl, inr, arith}
 use Rattle.std.specs.Prelude.{Some, None, filter, unwrap_or, nat_le, ◌==◌, if◌then◌else◌}
 use Rattle.std.proofs.lemmas.Bool.{cond-false}
 use Rattle.std.proofs.lemmas.Bool.Decides.{nat_tests}
@@ -19,7 +20,10 @@ use Rattle.spec_client.specs.Heard as spec
 use Rattle.spec_client.specs.PassedOver.{is_response, says_something}
 use Rattle.spec_client.specs.Unanswered.{Unanswered, TIMEOUT, is_overdue, is_outstanding_at, next_timeout, least_id, without_first, after_tick_of}
 use Rattle.spec_client.specs.Client.{Client, client_after_feed, client_after_tick, packets_left}
-use Rattle.spec_client.specs.Hearing.{Hearing, hearing, broken_hearing, is_answer, is_off_its_text, answer_hearing, header_hearing, packet_hearing, rest_hearing, with_one_taken, packets_hearing, hearing_of_samples, hearing_unless_broken, hearing_of_timeout, next_hearing}
+use Rattle.spec_client.specs.Hearing.{Hearing, hearing, broken_hearing, is_answer, is_off_its_text}
+use Rattle.spec_client.specs.Hearing.{answer_hearing, header_hearing, packet_hearing, rest_hearing}
+use Rattle.spec_client.specs.Hearing.{with_one_taken, packets_hearing, hearing_of_samples}
+use Rattle.spec_client.specs.Hearing.{hearing_unless_broken, hearing_of_timeout, next_hearing}
 use Rattle.spec_client.specs.Runner.{is_not_yet}
 use Rattle.spec_local_room.proofs.Coming.{HasHeardAll, comes, packets_come, heard_still, heard_frame}
 
@@ -117,7 +121,20 @@ same_address a = rw ((bytes_eq-Decides a.net a.net).1 refl, test_same a.port a.p
 answers_one : (c : Client) (u : Unanswered) (me peer : AmsAddress) (p : List ℕ) (a : IsAnswerTo u me peer p) → c.unanswered ≡ u ∷ [] → u.timed_out ≡ None
     → c.me ≡ me → c.peer ≡ peer → is_answer c a.header ≡ true
 answers_one c u me peer p a one on own other =
-    rw (one, on, a.id, a.command, a.source, a.target, own, other, test_same u.id u.id refl, test_same u.command u.command refl, same_address peer, same_address me) refl
+    rw (
+      one,
+      on,
+      a.id,
+      a.command,
+      a.source,
+      a.target,
+      own,
+      other,
+      test_same u.id u.id refl,
+      test_same u.command u.command refl,
+      same_address peer,
+      same_address me,
+    ) refl
 
 -- the answer is heard, or it is off its text
 pub record HearsAnswer (c : Client) (p : List ℕ) (h : AmsHeader) (x : Hearing) : Type 0 where
@@ -158,7 +175,8 @@ answer_heard c u me peer p a one on own other =
     }
 
 pub sample_heard : (c : Client) (handle : ℕ) (p : List ℕ) (a : IsSampleOf handle p) → c.samples ≡ []
-    → packet_hearing c p ≡ Some (hearing (heard_of_sample (record { time = a.time; sample = record { handle = handle; bytes = a.bytes } })) (record c { samples = [] }))
+    → packet_hearing c p ≡ Some
+    (hearing (heard_of_sample (record { time = a.time; sample = record { handle = handle; bytes = a.bytes } })) (record c { samples = [] }))
 unfolding packet_hearing
 sample_heard c handle p a none =
     let h = a.header in

@@ -1,6 +1,7 @@
 -- What an answer or a sample leads a bounded call to: it is over, or one request is sent, or it listens to one notification. At each
 -- it has less before it.
-use Rattle.std.proofs.Common.{◌≡◌, ◌⊎◌, ℕ, zero, suc, ◌+◌, ◌<◌, ◌≤◌, ◌^◌, List, [], ◌∷◌, ◌++◌, length, Bool, true, false, cond, refl, sym, ap, ◌∙◌, subst, inl, inr, arith}
+use Rattle.std.proofs.Common.{◌≡◌, ◌⊎◌, ℕ, zero, suc, ◌+◌, ◌<◌, ◌≤◌, ◌^◌, List, [], ◌∷◌, ◌++◌, length, Bool}
+use Rattle.std.proofs.Common.{true, false, cond, refl, sym, ap, ◌∙◌, subst, inl, inr, arith}
 use Rattle.std.specs.Prelude.{Option, Some, None, option_map, ◌==◌, ◌&&◌, if◌then◌else◌}
 use Rattle.std.specs.Int.{w32, to_le_bytes}
 use Rattle.std.specs.Option.{option_and_then}
@@ -16,15 +17,24 @@ use Rattle.spec_formats.specs.TypeEntry.{TypeEntry}
 use Rattle.spec_formats.specs.ValueText.{value_text}
 use Rattle.spec_plant.specs.TypeTexts.{type_text_of}
 use Rattle.spec_machine.proofs.Find.{test_same}
-use Rattle.spec_client.specs.Calls.{Call, Info, State, Control, Get, Set, Symbols, Watch, Show, Record, Watching, MAX_SIZE, entry_request, value_request, handle_request, write_request, release_request, upload_info_request, upload_request, type_info_request, type_upload_request, addition_request}
+use Rattle.spec_client.specs.Calls.{Call, Info, State, Control, Get, Set, Symbols, Watch, Show, Record}
+use Rattle.spec_client.specs.Calls.{Watching, MAX_SIZE, entry_request, value_request, handle_request}
+use Rattle.spec_client.specs.Calls.{write_request, release_request, upload_info_request, upload_request}
+use Rattle.spec_client.specs.Calls.{type_info_request, type_upload_request, addition_request}
 use Rattle.spec_client.specs.Conversation.{LoopEnd, CallEnded, end_of_stage}
 use Rattle.spec_client.specs.Entries.{is_taken, entries_in, types_in, first_of, one_entry_in}
 use Rattle.spec_client.specs.Heard.{Heard, heard_of_sample, Sampled, Ended}
 use Rattle.spec_client.specs.LeafTypes.{is_sound_text}
 use Rattle.spec_client.specs.Printed.{sample_line}
-use Rattle.spec_client.specs.Replies.{bytes_given, handle_given, after_value_read, after_entry, after_entry_read, after_upload, after_types, after_reply, after_answer}
+use Rattle.spec_client.specs.Replies.{bytes_given, handle_given, after_value_read, after_entry}
+use Rattle.spec_client.specs.Replies.{after_entry_read, after_upload, after_types, after_reply, after_answer}
 use Rattle.spec_client.specs.Runner.{is_over}
-use Rattle.spec_client.specs.Stages.{CallEnd, Refused, BadValue, Output, ToSend, ToPrint, Purpose, ToGet, ToSet, ToWatch, ToShow, Stage, AwaitsFacts, AwaitsState, AwaitsLast, AwaitsEntry, AwaitsValue, AwaitsHandle, AwaitsWrite, AwaitsUploadInfo, AwaitsUpload, AwaitsNotification, Watches, AwaitsTypeInfo, AwaitsTypes, AwaitsLeaves, Records, Finished, FinishedRecording, Progress, progress, stay, ended_at, bad_text}
+use Rattle.spec_client.specs.Stages.{CallEnd, Refused, BadValue, Output, ToSend, ToPrint, Purpose, ToGet}
+use Rattle.spec_client.specs.Stages.{ToSet, ToWatch, ToShow, Stage, AwaitsFacts, AwaitsState, AwaitsLast}
+use Rattle.spec_client.specs.Stages.{AwaitsEntry, AwaitsValue, AwaitsHandle, AwaitsWrite, AwaitsUploadInfo}
+use Rattle.spec_client.specs.Stages.{AwaitsUpload, AwaitsNotification, Watches, AwaitsTypeInfo, AwaitsTypes}
+use Rattle.spec_client.specs.Stages.{AwaitsLeaves, Records, Finished, FinishedRecording, Progress, progress}
+use Rattle.spec_client.specs.Stages.{stay, ended_at, bad_text}
 use Rattle.spec_client.specs.Steps.{after_heard, after_sample, after_end, with_samples_left, begun}
 use Rattle.spec_client.specs.ValueReading.{made_value, is_value, are_bytes, is_text_of, value_of_text}
 use Rattle.spec_machine.specs.Access.{Addressed}
@@ -156,7 +166,8 @@ over_at sets stage end answered =
 
 -- the lengths of requests
 
-length-name : (name : List ℕ) (r : Request) → request_bytes r ≡ request_fields r ++ [] → length (request_fields r) ≡ 16 + length name → length name ≤ 1048576 → length (request_bytes r) < 2 ^ 31
+length-name : (name : List ℕ) (r : Request) → request_bytes r ≡ request_fields r ++ []
+    → length (request_fields r) ≡ 16 + length name → length name ≤ 1048576 → length (request_bytes r) < 2 ^ 31
 length-name name r is sum few =
     let e = ap (λ l. length l) is in
     let f = length-append (request_fields r) [] in
@@ -186,7 +197,8 @@ short_addition e w =
 
 pub short_deletion : (handle : ℕ) → IsShort (request.DeleteDeviceNotification handle)
 short_deletion handle =
-    let l : length (request_bytes (request.DeleteDeviceNotification handle)) ≡ 4 = refl in record { len = omega (arith, l); command = omega arith; other = refl }
+    let l : length (request_bytes (request.DeleteDeviceNotification handle)) ≡ 4 = refl in
+    record { len = omega (arith, l); command = omega arith; other = refl }
 
 short_info : IsShort request.ReadDeviceInfo
 short_info = let l : length (request_bytes request.ReadDeviceInfo) ≡ 0 = refl in record { len = omega (arith, l); command = omega arith; other = refl }
@@ -209,7 +221,8 @@ value_size id size text value e = go (is_value id size text (made_value id size 
         let parts = and_parts (are_bytes made && (length made == size)) t is in
         eqb-true (length made) size (and_parts (are_bytes made) (length made == size) parts.0).1
 
-    go : (b : Bool) → is_value id size text (made_value id size text) ≡ b → (if b then Some (made_value id size text) else None) ≡ Some value → length value ≡ size
+    go : (b : Bool) → is_value id size text (made_value id size text) ≡ b
+        → (if b then Some (made_value id size text) else None) ≡ Some value → length value ≡ size
     go true is e =
         let same : made_value id size text ≡ value = cc in
         ap (λ l. length l) (sym same) ∙ sized (made_value id size text) (is_text_of id size text (made_value id size text)) is
@@ -226,7 +239,8 @@ unfolding entries_in
 entry_small bytes e is = go (entry_of bytes) is
   where
     go : (o : Option (SymbolEntry × List ℕ)) → option_and_then first_of (option_and_then
-        (λ (first : SymbolEntry × List ℕ). if is_taken first.0 then option_map (λ (es : List SymbolEntry). first.0 ∷ es) (entries_in 0 first.1) else None) o) ≡ Some e
+        (λ (first : SymbolEntry × List ℕ). if is_taken first.0 then option_map
+        (λ (es : List SymbolEntry). first.0 ∷ es) (entries_in 0 first.1) else None) o) ≡ Some e
         → e.size ≤ MAX_SIZE
     go None is = absurd cc
     go (Some (f, rest)) is =
@@ -235,7 +249,8 @@ entry_small bytes e is = go (entry_of bytes) is
 
 -- the stages, one by one
 
-leads_value : (sets : Bool) (stage : Stage) (o : Option Reply) (name : List ℕ) (v : Option (List ℕ)) → sets ≡ true → length name ≤ MAX_NAME → 4 ≤ frames_left stage
+leads_value : (sets : Bool) (stage : Stage) (o : Option Reply) (name : List ℕ) (v : Option (List ℕ))
+    → sets ≡ true → length name ≤ MAX_NAME → 4 ≤ frames_left stage
     → ((value : List ℕ) → v ≡ Some value → length value ≤ MAX_SIZE) → Leads sets stage o (after_value_read name v)
 leads_value sets stage o name None is few left size = inl (over_now sets BadValue [] is)
 leads_value sets stage o name (Some value) is few left size = inr (inl (record {
@@ -248,7 +263,8 @@ leads_value sets stage o name (Some value) is few left size = inr (inl (record {
   none = λ ws had. tt;
 }))
 
-leads_entry : (sets : Bool) (purpose : Purpose) (name : List ℕ) (o : Option Reply) (e : SymbolEntry) → Awaits sets (AwaitsEntry purpose name) → e.size ≤ MAX_SIZE
+leads_entry : (sets : Bool) (purpose : Purpose) (name : List ℕ) (o : Option Reply) (e : SymbolEntry)
+    → Awaits sets (AwaitsEntry purpose name) → e.size ≤ MAX_SIZE
     → Leads sets (AwaitsEntry purpose name) o (after_entry purpose name e)
 leads_entry sets ToGet name o e few size = inr (inl (record {
   request = value_request name e.size;
@@ -283,16 +299,19 @@ leads_entry sets ToShow name o e few size = inr (inl (record {
   none = λ ws had. tt;
 }))
 
-leads_entry_read : (sets : Bool) (purpose : Purpose) (name : List ℕ) (o : Option Reply) (bytes payload : List ℕ) (e : Option SymbolEntry) → one_entry_in bytes ≡ e
+leads_entry_read : (sets : Bool) (purpose : Purpose) (name : List ℕ) (o : Option Reply) (bytes payload : List ℕ) (e : Option SymbolEntry)
+    → one_entry_in bytes ≡ e
     → Awaits sets (AwaitsEntry purpose name) → Leads sets (AwaitsEntry purpose name) o (after_entry_read purpose name e payload)
 leads_entry_read sets purpose name o bytes payload None is awaits = inl (over_now sets _ [] tt)
 leads_entry_read sets purpose name o bytes payload (Some e) is awaits = leads_entry sets purpose name o e awaits (entry_small bytes e is)
 
-leads_upload : (sets : Bool) (stage : Stage) (o : Option Reply) (es : Option (List SymbolEntry)) (payload : List ℕ) → Leads sets stage o (after_upload es payload)
+leads_upload : (sets : Bool) (stage : Stage) (o : Option Reply) (es : Option (List SymbolEntry)) (payload : List ℕ)
+    → Leads sets stage o (after_upload es payload)
 leads_upload sets stage o None payload = inl (over_now sets _ [] tt)
 leads_upload sets stage o (Some es) payload = inl (over_now sets _ _ tt)
 
-leads_types : (sets : Bool) (name : List ℕ) (e : SymbolEntry) (count : ℕ) (o : Option Reply) (ts : Option (List TypeEntry)) (payload : List ℕ) → length name ≤ MAX_NAME
+leads_types : (sets : Bool) (name : List ℕ) (e : SymbolEntry) (count : ℕ) (o : Option Reply) (ts : Option (List TypeEntry)) (payload : List ℕ)
+    → length name ≤ MAX_NAME
     → Leads sets (AwaitsTypes name e count) o (after_types name e ts payload)
 leads_types sets name e count o None payload few = inl (over_now sets _ [] tt)
 leads_types sets name e count o (Some ts) payload few =
@@ -308,12 +327,14 @@ leads_types sets name e count o (Some ts) payload few =
     })))
     (λ unsound. inl (over_now sets _ [] tt))
 
-leads_last : (sets : Bool) (text : List ℕ) (o : Option Reply) (reply : Reply) (payload : List ℕ) → Leads sets (AwaitsLast text) o (after_reply (AwaitsLast text) reply payload)
+leads_last : (sets : Bool) (text : List ℕ) (o : Option Reply) (reply : Reply) (payload : List ℕ)
+    → Leads sets (AwaitsLast text) o (after_reply (AwaitsLast text) reply payload)
 unfolding after_reply
 leads_last sets [] o reply payload = inl (over_now sets _ [] tt)
 leads_last sets (c ∷ cs) o reply payload = inl (over_now sets _ _ tt)
 
-leads_reply : (sets : Bool) (stage : Stage) (reply : Reply) (payload : List ℕ) → Awaits sets stage → Leads sets stage (Some reply) (after_reply stage reply payload)
+leads_reply : (sets : Bool) (stage : Stage) (reply : Reply) (payload : List ℕ)
+    → Awaits sets stage → Leads sets stage (Some reply) (after_reply stage reply payload)
 unfolding after_reply
 leads_reply sets AwaitsFacts reply payload awaits = inl (over_now sets _ _ tt)
 leads_reply sets AwaitsState reply payload awaits = inl (over_now sets _ _ tt)
@@ -321,7 +342,8 @@ leads_reply sets (AwaitsLast text) reply payload awaits = leads_last sets text (
 leads_reply sets (AwaitsEntry purpose name) reply payload awaits =
     leads_entry_read sets purpose name (Some reply) (bytes_given reply) payload (one_entry_in (bytes_given reply)) refl awaits
 leads_reply sets (AwaitsValue e) reply payload awaits =
-    if_both (Leads sets (AwaitsValue e) (Some reply)) (length (bytes_given reply) == e.size) _ _ (λ t. inl (over_now sets _ _ tt)) (λ t. inl (over_now sets _ [] tt))
+    if_both (Leads sets (AwaitsValue e) (Some reply)) (length (bytes_given reply) == e.size) _ _
+    (λ t. inl (over_now sets _ _ tt)) (λ t. inl (over_now sets _ [] tt))
 leads_reply sets (AwaitsHandle value) reply payload awaits =
     if_both (Leads sets (AwaitsHandle value) (Some reply)) (length (bytes_given reply) == 4) _ _
     (λ t. inr (inl (record {
@@ -377,12 +399,15 @@ leads_reply sets (AwaitsTypeInfo name e) reply payload awaits =
       none = λ ws had. tt;
     })))
     (λ t. inl (over_now sets _ [] tt))
-leads_reply sets (AwaitsTypes name e count) reply payload awaits = leads_types sets name e count (Some reply) (types_in count (bytes_given reply)) payload awaits
+leads_reply sets (AwaitsTypes name e count) reply payload awaits =
+    leads_types sets name e count (Some reply) (types_in count (bytes_given reply)) payload awaits
 leads_reply sets (AwaitsLeaves size leaves) reply payload awaits =
-    if_both (Leads sets (AwaitsLeaves size leaves) (Some reply)) (length (bytes_given reply) == size) _ _ (λ t. inl (over_now sets _ _ tt)) (λ t. inl (over_now sets _ [] tt))
+    if_both (Leads sets (AwaitsLeaves size leaves) (Some reply)) (length (bytes_given reply) == size) _ _
+    (λ t. inl (over_now sets _ _ tt)) (λ t. inl (over_now sets _ [] tt))
 leads_reply sets stage reply payload awaits = absurd awaits
 
-pub leads : (sets : Bool) (stage : Stage) (error : ℕ) (o : Option Reply) (payload : List ℕ) → Awaits sets stage → Leads sets stage o (after_answer stage error o payload)
+pub leads : (sets : Bool) (stage : Stage) (error : ℕ) (o : Option Reply) (payload : List ℕ)
+    → Awaits sets stage → Leads sets stage o (after_answer stage error o payload)
 unfolding after_answer
 leads sets stage error None payload awaits =
     if_both (Leads sets stage None) (error == 0) _ _ (λ t. inl (over_at sets stage (bad_text payload) tt)) (λ t. inl (over_at sets stage (Refused error) tt))
@@ -413,14 +438,16 @@ with_left sets e handle zero text = inr (inl (record { text = text; handle = han
 with_left sets e handle (suc less) text = inr (inr (record { text = text; less = less; left_is = refl; is = refl }))
 
 pub sample_leads : (sets : Bool) (e : SymbolEntry) (handle left time : ℕ) (bytes : List ℕ)
-    → SampleLeads sets e handle left (after_heard (Watches e handle (suc left)) (heard_of_sample (record { time = time; sample = record { handle = handle; bytes = bytes } })))
+    → SampleLeads sets e handle left
+    (after_heard (Watches e handle (suc left)) (heard_of_sample (record { time = time; sample = record { handle = handle; bytes = bytes } })))
 unfolding after_heard after_sample after_end
 sample_leads sets e handle left time bytes =
     let same = test_same handle handle refl in
     let P : Heard → Type 0 = λ h. SampleLeads sets e handle left (after_heard (Watches e handle (suc left)) h) in
     if_both P (length bytes == 0) (Ended handle) (Sampled handle time bytes)
     (λ none. subst (SampleLeads sets e handle left) (sym (cond-true (handle == handle) _ _ same)) (inl (over_now sets _ _ tt)))
-    (λ some. subst (SampleLeads sets e handle left) (sym (cond-true (handle == handle) _ _ same)) (with_left sets e handle left (sample_line time (value_text e.type_id bytes))))
+    (λ some. subst (SampleLeads sets e handle left) (sym (cond-true (handle == handle) _ _ same))
+    (with_left sets e handle left (sample_line time (value_text e.type_id bytes))))
 
 -- how a bounded call begins
 

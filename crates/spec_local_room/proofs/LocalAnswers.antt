@@ -1,5 +1,7 @@
 -- Each answer of the machine to a bounded call, and so all of them.
-use Rattle.std.proofs.Common.{◌≡◌, ◌⊎◌, ℕ, zero, suc, ◌+◌, ◌-◌, ◌*◌, ◌<◌, ◌≤◌, ◌^◌, List, [], ◌∷◌, ◌++◌, length, take, drop, max, Bool, true, false, refl, sym, ap, ◌∙◌, subst, inl, inr, arith}
+use Rattle.std.proofs.Common.{◌≡◌, ◌⊎◌, ℕ, zero, suc, ◌+◌, ◌-◌, ◌*◌, ◌<◌, ◌≤◌, ◌^◌, List, [], ◌∷◌, ◌++◌}
+use Rattle.std.proofs.Common.{length, take, drop, max, Bool, true, false, refl, sym, ap, ◌∙◌, subst, inl, inr}
+use Rattle.std.proofs.Common.{arith}
 use Rattle.std.specs.Prelude.{Some, None, option_map, ◌==◌, ◌||◌, if◌then◌else◌, filter}
 use Rattle.std.proofs.lemmas.Bool.{cases_eq, cond-true, cond-false}
 use Rattle.std.proofs.lemmas.List.{append-nil, take-append-drop}
@@ -24,13 +26,18 @@ use Rattle.spec_machine.specs.Ticks.{world_after_tick}
 use Rattle.spec_machine.specs.World.{World}
 use Rattle.spec_client.specs.Calls.{Call}
 use Rattle.spec_client.specs.Client.{Client, new_client, next_id, request_frame, client_after_feed, client_after_issue}
-use Rattle.spec_client.specs.Conversation.{LinkAnswer, Bytes, Quiet, Closed, LoopEnd, CallEnded, Budget, Conversation, MAX_QUIET, MAX_ANSWERS, runner_after_answer, conversation_after_turns, conversation_after, moment_of}
+use Rattle.spec_client.specs.Conversation.{LinkAnswer, Bytes, Quiet, Closed, LoopEnd, CallEnded, Budget}
+use Rattle.spec_client.specs.Conversation.{Conversation, MAX_QUIET, MAX_ANSWERS, runner_after_answer}
+use Rattle.spec_client.specs.Conversation.{conversation_after_turns, conversation_after, moment_of}
 use Rattle.spec_client.specs.Hearing.{Hearing, next_hearing}
 use Rattle.spec_client.specs.Runner.{Send, Turns, turns, is_not_yet, new_runner}
 use Rattle.spec_client.specs.Stages.{BadPeer, Stage}
 use Rattle.spec_client.specs.Steps.{begun}
 use Rattle.spec_client.proofs.TurnsUnfolded.{at}
-use Rattle.spec_local.specs.LocalCall.{Cutting, LocalScene, LOCAL_TICK, LAST_MOMENT, next_tick, answered, waiting_or, waiting_bytes, bytes_taken, answer_after_tick, local_answer, machine_after_pieces, scene_after, answer_in, scene_behind, scene_after_answers, scene_begun}
+use Rattle.spec_local.specs.LocalCall.{Cutting, LocalScene, LOCAL_TICK, LAST_MOMENT, next_tick, answered}
+use Rattle.spec_local.specs.LocalCall.{waiting_or, waiting_bytes, bytes_taken, answer_after_tick, local_answer}
+use Rattle.spec_local.specs.LocalCall.{machine_after_pieces, scene_after, answer_in, scene_behind}
+use Rattle.spec_local.specs.LocalCall.{scene_after_answers, scene_begun}
 use Rattle.spec_local.proofs.Scenes.{over_stays, one_more, scene_stays, scene_goes_on}
 use Rattle.spec_cutting.specs.Laws.{ClosesAlone, byte_by_byte}
 use Rattle.spec_cutting.proofs.FedTurns.{still, turns_wait}
@@ -43,7 +50,8 @@ use Rattle.spec_local_room.proofs.Hearing.{IsSilent, tick_keeps, silent_hears}
 use Rattle.spec_local_room.proofs.Turning.{sends_one, IsBehind, is_behind, end_so}
 use Rattle.spec_local_room.proofs.Ticking.{KeepsFew, Ticked, ticked}
 use Rattle.spec_local_room.proofs.Leading.{frames_left, awaits_on, begins}
-use Rattle.spec_local_room.proofs.Scenes.{Machine, Link, Stands, Talks, Listening, FRAME, Waits, Rests, Good, issued_is, issued, issued_silent, device, asked, one_more_out}
+use Rattle.spec_local_room.proofs.Scenes.{Machine, Link, Stands, Talks, Listening, FRAME, Waits, Rests, Good}
+use Rattle.spec_local_room.proofs.Scenes.{issued_is, issued, issued_silent, device, asked, one_more_out}
 use Rattle.spec_local_room.proofs.Running.{Given, waits_so, StepsTo, step_still, take_step, no_end}
 use Rattle.spec_client.specs.PassedOver.{says_something}
 
@@ -63,7 +71,8 @@ cut_parts : (most b : ℕ) (bs : List ℕ) → b ∷ bs ≡ (b ∷ take most bs)
 cut_parts most b bs = ap (λ l. b ∷ l) (sym (take-append-drop most bs))
 
 -- the first bytes of what waits
-taken_step : (reading : DescriptionReading) (sets : Bool) (me peer : AmsAddress) (most : ℕ) (s : Machine) (c : Conversation) (other : Given) → IsAddress me → IsAddress peer → (x : Waits sets me peer s c)
+taken_step : (reading : DescriptionReading) (sets : Bool) (me peer : AmsAddress) (most : ℕ) (s : Machine) (c : Conversation) (other : Given)
+    → IsAddress me → IsAddress peer → (x : Waits sets me peer s c)
     → StepsTo reading sets me peer c (waiting_or (state_after_event (device reading)) most s other (waiting_bytes s))
 taken_step reading sets me peer most s c other mine theirs x = go x.w refl
   where
@@ -74,7 +83,8 @@ taken_step reading sets me peer most s c other mine theirs x = go x.w refl
         let waits : waiting_bytes s ≡ b ∷ bs = waits_so x.net x.now s x.k x.cl.received x.w x.stands ∙ is in
         let answer = first_answer reading most s other b bs waits ∙ ap (λ n. answered (Bytes bytes n) (taken_by (length bytes) s)) x.stands.moment in
         subst (StepsTo reading sets me peer c) (sym answer)
-        (take_step reading sets me peer s c x bytes (drop most bs) mine theirs (is ∙ cut_parts most b bs) (λ e. let l = ap (λ y. length y) e in omega (arith, l)))
+        (take_step reading sets me peer s c x bytes (drop most bs) mine theirs
+        (is ∙ cut_parts most b bs) (λ e. let l = ap (λ y. length y) e in omega (arith, l)))
 
 -- nothing comes
 
@@ -87,12 +97,14 @@ silent_behind me peer now c cl stage a t is =
     let waits : is_not_yet (next_hearing cl).heard ≡ true = ap (λ (h : Hearing). is_not_yet h.heard) (silent_hears now cl t.silent) in
     is_behind c a (still cl stage) t.on (ap (turns (moment_of a)) is ∙ turns_wait (moment_of a) cl stage t.going waits)
 
-quiet_runner : (me peer : AmsAddress) (now : ℕ) (c : Conversation) (cl : Client) (stage : Stage) → Talks me peer now c cl stage → runner_after_answer c.runner (Quiet now) ≡ at cl stage []
+quiet_runner : (me peer : AmsAddress) (now : ℕ) (c : Conversation) (cl : Client) (stage : Stage)
+    → Talks me peer now c cl stage → runner_after_answer c.runner (Quiet now) ≡ at cl stage []
 quiet_runner me peer now c cl stage t =
     ap (λ r. runner_after_answer r (Quiet now)) t.runner ∙ ap (λ (d : Client). at (client_after_feed d []) stage []) (tick_keeps now cl t.silent.few)
     ∙ ap (λ (d : Client). at d stage []) (same_client cl)
 
-closed_runner : (me peer : AmsAddress) (now : ℕ) (c : Conversation) (cl : Client) (stage : Stage) → Talks me peer now c cl stage → runner_after_answer c.runner (Closed now) ≡ at cl stage []
+closed_runner : (me peer : AmsAddress) (now : ℕ) (c : Conversation) (cl : Client) (stage : Stage)
+    → Talks me peer now c cl stage → runner_after_answer c.runner (Closed now) ≡ at cl stage []
 closed_runner me peer now c cl stage t =
     ap (λ r. runner_after_answer r (Closed now)) t.runner ∙ ap (λ (d : Client). at (client_after_feed d []) stage []) (tick_keeps now cl t.silent.few)
     ∙ ap (λ (d : Client). at d stage []) (same_client cl)
@@ -105,7 +117,8 @@ quiet_end q n few some = elim (cases_eq (q + 1) MAX_QUIET) [
   | inr other ↦ inr (rw (test_other (q + 1) MAX_QUIET other, test_other n (MAX_ANSWERS + 1) (λ e. omega (arith, e, some))) refl, omega (arith, other, few))
 ]
 
-quiet_step : (reading : DescriptionReading) (sets : Bool) (me peer : AmsAddress) (net : List ℕ) (now : ℕ) (s : Machine) (k : Link) (c : Conversation) (cl : Client) (stage : Stage)
+quiet_step : (reading : DescriptionReading) (sets : Bool) (me peer : AmsAddress) (net : List ℕ)
+    (now : ℕ) (s : Machine) (k : Link) (c : Conversation) (cl : Client) (stage : Stage)
     → Stands net now s k cl.received [] → Talks me peer now c cl stage → Listening me peer net k cl stage ⊎ (k.closing ≡ true)
     → c.answers + frames_left stage * FRAME + (MAX_QUEUED + 1 + (MAX_QUIET - c.quiet)) ≤ MAX_ANSWERS → StepsTo reading sets me peer c (answered (Quiet now) s)
 quiet_step reading sets me peer net now s k c cl stage stands talks mode room =
@@ -207,7 +220,8 @@ stands_ticked reading net now s k received w x out taken = record {
   taken = taken ∙ x.taken;
 }
 
-talks_later : (me peer : AmsAddress) (now later : ℕ) (c : Conversation) (cl : Client) (stage : Stage) → cl.unanswered ≡ [] → Talks me peer now c cl stage → Talks me peer later c cl stage
+talks_later : (me peer : AmsAddress) (now later : ℕ) (c : Conversation) (cl : Client) (stage : Stage)
+    → cl.unanswered ≡ [] → Talks me peer now c cl stage → Talks me peer later c cl stage
 talks_later me peer now later c cl stage none t = record {
   on = t.on;
   runner = t.runner;
@@ -223,8 +237,10 @@ tick_frame_not_nil : (p : List ℕ) → frame_bytes p ≡ [] → ⊥
 tick_frame_not_nil p e = let n = ap (λ l. length l) e in let f = length-frame_bytes p in omega (arith, n, f)
 
 -- what a tick brings, or Quiet
-tick_step : (reading : DescriptionReading) (sets : Bool) (me peer : AmsAddress) (most : ℕ) (s : Machine) (c : Conversation) → IsAddress me → IsAddress peer → (x : Rests sets me peer s c)
-    → Listening me peer x.net x.k x.cl x.stage → StepsTo reading sets me peer c (answer_after_tick (state_after_event (device reading)) most (tick_of reading s))
+tick_step : (reading : DescriptionReading) (sets : Bool) (me peer : AmsAddress) (most : ℕ) (s : Machine) (c : Conversation)
+    → IsAddress me → IsAddress peer → (x : Rests sets me peer s c)
+    → Listening me peer x.net x.k x.cl x.stage
+    → StepsTo reading sets me peer c (answer_after_tick (state_after_event (device reading)) most (tick_of reading s))
 unfolding answer_after_tick
 tick_step reading sets me peer most s c mine theirs x m =
     let now = x.now in
@@ -236,7 +252,8 @@ tick_step reading sets me peer most s c mine theirs x m =
     let net : x.net ≡ world.plant.net = sym (ap (λ (p : Plant). p.net) (same_plant s.world) ∙ x.stands.net_is) in
     let time : max s.moment (next_tick s.moment) < 2 ^ 64 = moment_small s.moment (subst (λ n. n < 2 ^ 64) (sym x.stands.moment) x.stands.time) in
     let becomes : Ticked me peer x.net m.handle x.k l
-    = subst (λ n. Ticked me peer n m.handle x.k l) (sym net) (ticked reading me peer m.handle (max s.moment (next_tick s.moment)) world x.k mine theirs time m.closing x.stands.one.there m.whole
+    = subst (λ n. Ticked me peer n m.handle x.k l) (sym net)
+    (ticked reading me peer m.handle (max s.moment (next_tick s.moment)) world x.k mine theirs time m.closing x.stands.one.there m.whole
     (subst (λ n. KeepsFew me peer n m.handle x.k.client.watches) net m.keeps)) in
     let talks = talks_later me peer now later c x.cl x.stage m.none x.talks in
     let quiet = answered (Quiet t.moment) t in
@@ -247,7 +264,9 @@ tick_step reading sets me peer most s c mine theirs x m =
     (sym (other_answer reading most t quiet (waits_so x.net later t l x.cl.received [] stands) ∙ ap (λ n. answered (Quiet n) t) moment))
     (quiet_step reading sets me peer x.net later t l c x.cl x.stage stands talks mode x.room) in
     elim becomes.becomes [
-      | inl closes ↦ quietly (stands_ticked reading x.net now s x.k x.cl.received [] x.stands (ap bytes_of_all closes.produced ∙ x.stands.out) closes.bytes_taken) (inr closes.closing)
+      | inl closes ↦ quietly
+          (stands_ticked reading x.net now s x.k x.cl.received [] x.stands (ap bytes_of_all closes.produced ∙ x.stands.out) closes.bytes_taken)
+          (inr closes.closing)
       | inr (inl quiets) ↦
           quietly (stands_ticked reading x.net now s x.k x.cl.received [] x.stands (ap bytes_of_all quiets.produced ∙ x.stands.out) quiets.bytes_taken)
           (inl (record {
@@ -264,7 +283,8 @@ tick_step reading sets me peer most s c mine theirs x m =
       | inr (inr samples) ↦
           let p = samples.packet in
           let stands = stands_ticked reading x.net now s x.k x.cl.received (frame_bytes p) x.stands
-          (ap bytes_of_all samples.produced ∙ one_more_out x.k.produced samples.frame x.cl.received (frame_bytes p) samples.bytes x.stands.out) samples.bytes_taken in
+          (ap bytes_of_all samples.produced ∙ one_more_out x.k.produced samples.frame x.cl.received (frame_bytes p) samples.bytes x.stands.out)
+          samples.bytes_taken in
           let fits = samples.room in
           let sum = length-frame_bytes p in
           let room = x.room in
@@ -300,7 +320,8 @@ tick_step reading sets me peer most s c mine theirs x m =
 shut_so : (s : Machine) (k : Link) → HasOne s k → is_to_be_shut (connection_of 1 s.connections) ≡ k.closing
 shut_so s k one = ap is_to_be_shut one.is ∙ rw one.there refl
 
-rest_step : (reading : DescriptionReading) (sets : Bool) (me peer : AmsAddress) (most : ℕ) (s : Machine) (c : Conversation) → IsAddress me → IsAddress peer → (x : Rests sets me peer s c)
+rest_step : (reading : DescriptionReading) (sets : Bool) (me peer : AmsAddress) (most : ℕ) (s : Machine) (c : Conversation)
+    → IsAddress me → IsAddress peer → (x : Rests sets me peer s c)
     → StepsTo reading sets me peer c (local_answer (state_after_event (device reading)) most s)
 unfolding local_answer
 rest_step reading sets me peer most s c mine theirs x =
@@ -341,14 +362,17 @@ goes_on_so sets me peer s c (inr x) = x.talks.on
 good_behind : (reading : DescriptionReading) (sets : Bool) (me peer : AmsAddress) (cutting : Cutting) (x : Scene) → IsAddress me → IsAddress peer
     → Waits sets me peer x.machine x.conversation ⊎ Rests sets me peer x.machine x.conversation
     → StepsTo reading sets me peer x.conversation (answer_in (closed_step reading) cutting x)
-good_behind reading sets me peer cutting x mine theirs going = good_step reading sets me peer (cutting x.conversation.answers) x.machine x.conversation mine theirs going
+good_behind reading sets me peer cutting x mine theirs going =
+    good_step reading sets me peer (cutting x.conversation.answers) x.machine x.conversation mine theirs going
 
-scene_good : (reading : DescriptionReading) (sets : Bool) (me peer : AmsAddress) (cutting : Cutting) (x : Scene) → StepsTo reading sets me peer x.conversation (answer_in (closed_step reading) cutting x)
+scene_good : (reading : DescriptionReading) (sets : Bool) (me peer : AmsAddress) (cutting : Cutting) (x : Scene)
+    → StepsTo reading sets me peer x.conversation (answer_in (closed_step reading) cutting x)
     → IsGood sets me peer (scene_behind (closed_step reading) cutting x)
 unfolding scene_after
 scene_good reading sets me peer cutting x steps = steps.good
 
-all_good : (reading : DescriptionReading) (sets : Bool) (me peer : AmsAddress) (cutting : Cutting) (n : ℕ) (x : Scene) → IsAddress me → IsAddress peer → IsGood sets me peer x
+all_good : (reading : DescriptionReading) (sets : Bool) (me peer : AmsAddress) (cutting : Cutting) (n : ℕ) (x : Scene)
+    → IsAddress me → IsAddress peer → IsGood sets me peer x
     → IsGood sets me peer (scene_after_answers (closed_step reading) cutting n x)
 unfolding scene_after_answers
 all_good reading sets me peer cutting zero x mine theirs good = good
@@ -371,11 +395,14 @@ same_machine reading cutting x e over =
     ap (λ (d : Conversation). machine_after_pieces (closed_step reading) a.machine (drop (length c.sent) d.sent)) (over_stays c e a.answer over)
     ∙ ap (machine_after_pieces (closed_step reading) a.machine) (ap (λ l. drop (length c.sent) l) (sym (append-nil c.sent)) ∙ drop-append_seam c.sent [])
 
-alone_if : (reading : DescriptionReading) (cutting : Cutting) (x : Scene) → (scene_behind (closed_step reading) cutting x).machine ≡ (answer_in (closed_step reading) cutting x).machine
-    → is_closing_at 1 (answer_in (closed_step reading) cutting x).machine ≡ false → is_closing_at 1 (scene_behind (closed_step reading) cutting x).machine ≡ true → ⊥
+alone_if : (reading : DescriptionReading) (cutting : Cutting) (x : Scene)
+    → (scene_behind (closed_step reading) cutting x).machine ≡ (answer_in (closed_step reading) cutting x).machine
+    → is_closing_at 1 (answer_in (closed_step reading) cutting x).machine ≡ false
+    → is_closing_at 1 (scene_behind (closed_step reading) cutting x).machine ≡ true → ⊥
 alone_if reading cutting x same is_open closes = let e : false ≡ true = sym is_open ∙ sym (ap (λ s. is_closing_at 1 s) same) ∙ closes in cc
 
-closes_alone : (reading : DescriptionReading) (sets : Bool) (me peer : AmsAddress) (x : Scene) → IsAddress me → IsAddress peer → IsGood sets me peer x → ClosesAlone (closed_step reading) x
+closes_alone : (reading : DescriptionReading) (sets : Bool) (me peer : AmsAddress) (x : Scene)
+    → IsAddress me → IsAddress peer → IsGood sets me peer x → ClosesAlone (closed_step reading) x
 closes_alone reading sets me peer x mine theirs (inl going) is_open closes =
     elim (good_behind reading sets me peer byte_by_byte x mine theirs going).alone [
       | inl none ↦ none
@@ -406,7 +433,8 @@ fresh_one : (reading : DescriptionReading) (s : Machine) → connection_of 1 s.c
     → HasOne (state_after_event (device reading) s (event.Opened 1)) (fresh_connection served.new_client 1)
 unfolding state_after_event connection_of
 fresh_one reading s none = record {
-  is = connection_of-append 1 s.connections (fresh_connection served.new_client 1 ∷ []) ∙ ap (λ o. or_else o (Some (fresh_connection served.new_client 1))) none;
+  is = connection_of-append 1 s.connections (fresh_connection served.new_client 1 ∷ [])
+      ∙ ap (λ o. or_else o (Some (fresh_connection served.new_client 1))) none;
   there = refl;
 }
 
@@ -428,7 +456,8 @@ begun_good reading s me peer call x =
     let m = state_after_event (device reading) s (event.Opened 1) in
     let silent = new_silent me peer now in
     let waits : is_not_yet (next_hearing (client_after_issue cl r now)).heard ≡ true
-    = ap (λ (e : Client). is_not_yet (next_hearing e).heard) (issued_is cl r now refl) ∙ ap (λ (y : Hearing). is_not_yet y.heard) (silent_hears now (issued cl r now) (issued_silent cl r now silent)) in
+    = ap (λ (e : Client). is_not_yet (next_hearing e).heard) (issued_is cl r now refl)
+    ∙ ap (λ (y : Hearing). is_not_yet y.heard) (silent_hears now (issued cl r now) (issued_silent cl r now silent)) in
     let on = awaits_on sets p.stage b.awaits in
     let ts : Turns = record { steps = Send (request_frame cl (next_id cl) r) ∷ []; runner = at (client_after_issue cl r now) p.stage [] } in
     let is : turns now (new_runner me peer call) ≡ ts = ap (λ os. turns now (at cl p.stage os)) b.outputs ∙ sends_one now cl p.stage r on waits in
@@ -494,7 +523,8 @@ local_links_are_one reading cutting s me peer call to now answers x logs over =
 
 -- and it ends
 
-counted : (reading : DescriptionReading) (cutting : Cutting) (n : ℕ) (x : Scene) → (scene_after_answers (closed_step reading) cutting n x).conversation.end ≡ None
+counted : (reading : DescriptionReading) (cutting : Cutting) (n : ℕ) (x : Scene)
+    → (scene_after_answers (closed_step reading) cutting n x).conversation.end ≡ None
     → (scene_after_answers (closed_step reading) cutting n x).conversation.answers ≡ x.conversation.answers + n
 unfolding scene_after_answers scene_after
 counted reading cutting zero x on = omega arith
@@ -507,7 +537,8 @@ counted reading cutting (suc n) x on = elim (end_cases x.conversation.end) [
       let here = ap (λ (z : Scene). z.conversation.answers) same in
       omega (arith, sum, one, here)
   | inr over ↦
-      absurd (let e : Some over.0 ≡ None = sym over.1 ∙ sym (ap (λ (z : Scene). z.conversation.end) (scene_stays (closed_step reading) cutting (suc n) x over.0 over.1)) ∙ on in cc)
+      absurd (let e : Some over.0 ≡ None = sym over.1
+      ∙ sym (ap (λ (z : Scene). z.conversation.end) (scene_stays (closed_step reading) cutting (suc n) x over.0 over.1)) ∙ on in cc)
 ]
 
 going_few : (sets : Bool) (me peer : AmsAddress) (s : Machine) (c : Conversation) → Waits sets me peer s c ⊎ Rests sets me peer s c → c.answers ≤ MAX_ANSWERS
@@ -516,7 +547,8 @@ going_few sets me peer s c going = few_so sets me peer s c (inl going)
 too_many : (n m : ℕ) → n ≡ 1 + m → n ≤ m → ⊥
 too_many n m is few = omega (arith, is, few)
 
-begun_one : (reading : DescriptionReading) (s : Machine) (me peer : AmsAddress) (call : Call) → (scene_begun (closed_step reading) s me peer call).conversation.answers ≡ 1
+begun_one : (reading : DescriptionReading) (s : Machine) (me peer : AmsAddress) (call : Call)
+    → (scene_begun (closed_step reading) s me peer call).conversation.answers ≡ 1
 unfolding conversation_after_turns
 begun_one reading s me peer call = refl
 
@@ -533,4 +565,5 @@ ends_so reading cutting n s me peer call all (inl going) =
     absurd (too_many y.conversation.answers n count (subst (λ k. y.conversation.answers ≤ k) (sym all) few))
 
 pub local_calls_end : LocalCallsEnd
-local_calls_end reading cutting s me peer call x = ends_so reading cutting MAX_ANSWERS s me peer call refl (scenes_good reading cutting MAX_ANSWERS s me peer call x)
+local_calls_end reading cutting s me peer call x =
+    ends_so reading cutting MAX_ANSWERS s me peer call refl (scenes_good reading cutting MAX_ANSWERS s me peer call x)

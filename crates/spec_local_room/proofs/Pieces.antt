@@ -11,7 +11,9 @@ use Rattle.spec_frames.proofs.DivisionLemmas.{frames_of-append, rest_of-append}
 use Rattle.spec_machine.specs.Connection.{Connection, with_closing, with_frame, fits, produce}
 use Rattle.spec_machine.specs.Device.{Device, Answer, Answered, Silent, Closing, FrameOutcome, Reply}
 use Rattle.spec_machine.specs.MachineState.{Exchange}
-use Rattle.spec_machine.specs.Piece.{with_received, packets_left, with_one_taken, with_client, after_answer, after_outcome, after_packet, after_packets, after_rest, with_piece, end_of_piece, after_piece}
+use Rattle.spec_machine.specs.Piece.{with_received, packets_left, with_one_taken, with_client, after_answer}
+use Rattle.spec_machine.specs.Piece.{after_outcome, after_packet, after_packets, after_rest, with_piece}
+use Rattle.spec_machine.specs.Piece.{end_of_piece, after_piece}
 use Rattle.spec_local_room.proofs.Coming.{AllCame, ComesBroken, comes}
 
 -- all that a connection received are frames, and all are taken
@@ -59,7 +61,8 @@ pub record Served {W C : Type 0} (o : FrameOutcome W C) (k l : Connection C) : T
 abbrev pub Taken : {W C : Type 0} → FrameOutcome W C → Connection C → Connection C → Type 0
 Taken o k l = Closes k l ⊎ Served o k l
 
-closes_rest : {C : Type 0} (k l : Connection C) → l.closing ≡ true → l.produced ≡ k.produced → l.bytes_taken ≡ k.bytes_taken → l.gone ≡ k.gone → rest_of l.received ≡ []
+closes_rest : {C : Type 0} (k l : Connection C) → l.closing ≡ true → l.produced ≡ k.produced
+    → l.bytes_taken ≡ k.bytes_taken → l.gone ≡ k.gone → rest_of l.received ≡ []
     → Closes k (after_rest l)
 closes_rest {C} k l closing produced taken gone none =
     subst (λ (m : Connection C). Closes k m) (sym (rest_fine l none)) (record { closing = closing; produced = produced; bytes_taken = taken; gone = gone })
@@ -73,7 +76,8 @@ record OneMore {C : Type 0} (client : C) (k l : Connection C) : Type 0 where
   whole : TakesWhole l
   client_is : l.client ≡ client
 
-same_room : {C : Type 0} (packet : List ℕ) (k l : Connection C) → l.produced ≡ k.produced → l.bytes_taken ≡ k.bytes_taken → fits (Reply (frame_bytes packet)) l ≡ fits (Reply (frame_bytes packet)) k
+same_room : {C : Type 0} (packet : List ℕ) (k l : Connection C) → l.produced ≡ k.produced
+    → l.bytes_taken ≡ k.bytes_taken → fits (Reply (frame_bytes packet)) l ≡ fits (Reply (frame_bytes packet)) k
 same_room packet k l produced taken = rw (produced, taken) refl
 
 produced_so : {W C : Type 0} (o : FrameOutcome W C) (packet : List ℕ) (k l : Connection C) → o.answer ≡ Answered packet → OneMore o.client k l
@@ -112,7 +116,8 @@ taken_so o Silent k l is replies m = absurd replies
 taken_so o Closing k l is replies m = inl (closes_rest k (with_closing l) refl m.produced m.bytes_taken m.gone m.whole.rest)
 
 -- the piece, in its steps
-piece_opens : {W C : Type 0} (device : Device W C) (piece : List ℕ) (x : Exchange W C) (packets : List (List ℕ)) → x.connection.closing ≡ false → x.connection.gone ≡ false
+piece_opens : {W C : Type 0} (device : Device W C) (piece : List ℕ) (x : Exchange W C) (packets : List (List ℕ))
+    → x.connection.closing ≡ false → x.connection.gone ≡ false
     → packets_left (with_received piece x.connection) ≡ packets
     → after_piece device piece x ≡ end_of_piece (after_packets device packets (with_piece piece x))
 unfolding after_piece
@@ -148,7 +153,8 @@ new_packets piece k packets whole is =
 new_rest : {C : Type 0} (piece : List ℕ) (k : Connection C) → TakesWhole k → rest_of (k.received ++ piece) ≡ rest_of piece
 new_rest piece k whole = rest_of-append piece k.received ∙ ap (λ r. rest_of (r ++ piece)) whole.rest
 
-whole_piece : {W C : Type 0} (device : Device W C) (p piece : List ℕ) (x : Exchange W C) → AllCame piece [] p → x.connection.closing ≡ false → x.connection.gone ≡ false
+whole_piece : {W C : Type 0} (device : Device W C) (p piece : List ℕ) (x : Exchange W C)
+    → AllCame piece [] p → x.connection.closing ≡ false → x.connection.gone ≡ false
     → TakesWhole x.connection → Replies (device.take x.world x.connection.client p).answer → PieceTaken device p x (after_piece device piece x)
 whole_piece {W} {C} device p piece x all is_open there whole replies =
     let k = x.connection in
@@ -159,7 +165,8 @@ whole_piece {W} {C} device p piece x all is_open there whole replies =
     let is : after_piece device piece x ≡ end_of_piece (after_outcome o k1)
     = piece_opens device piece x (p ∷ []) is_open there left ∙ ap (λ (y : Exchange W C). end_of_piece y) (one_packet device p (with_piece piece x) is_open) in
     let frames : frames_of (k.received ++ piece) ≡ frames_of k.received ++ p ∷ []
-    = frames_of-append piece k.received ∙ ap (λ r. frames_of k.received ++ frames_of (r ++ piece)) whole.rest ∙ ap (λ f. frames_of k.received ++ f) all.frames in
+    = frames_of-append piece k.received ∙ ap (λ r. frames_of k.received ++ frames_of (r ++ piece)) whole.rest
+    ∙ ap (λ f. frames_of k.received ++ f) all.frames in
     let count : length (frames_of (k.received ++ piece)) ≡ length (frames_of k.received) + 1
     = ap (λ f. length f) frames ∙ length-append (frames_of k.received) (p ∷ []) in
     let more : OneMore o.client k l = record {
@@ -175,13 +182,15 @@ whole_piece {W} {C} device p piece x all is_open there whole replies =
       world = λ open_yet. refl;
     })
 
-broken_piece : {W C : Type 0} (device : Device W C) (p piece : List ℕ) (x : Exchange W C) → ComesBroken piece → x.connection.closing ≡ false → x.connection.gone ≡ false
+broken_piece : {W C : Type 0} (device : Device W C) (p piece : List ℕ) (x : Exchange W C)
+    → ComesBroken piece → x.connection.closing ≡ false → x.connection.gone ≡ false
     → TakesWhole x.connection → PieceTaken device p x (after_piece device piece x)
 broken_piece {W} {C} device p piece x broken is_open there whole =
     let k = x.connection in
     let k1 : Connection C = with_received piece k in
     let is : after_piece device piece x ≡ end_of_piece (with_piece piece x)
-    = piece_opens device piece x [] is_open there (new_packets piece k [] whole broken.frames) ∙ ap (λ (y : Exchange W C). end_of_piece y) (no_packet device (with_piece piece x)) in
+    = piece_opens device piece x [] is_open there (new_packets piece k [] whole broken.frames)
+    ∙ ap (λ (y : Exchange W C). end_of_piece y) (no_packet device (with_piece piece x)) in
     let front : front_of (rest_of k1.received) ≡ Broken = ap front_of (new_rest piece k whole ∙ broken.rest) ∙ broken.front in
     let closes : Closes k (after_rest k1)
     = subst (λ (m : Connection C). Closes k m) (sym (rest_closes k1 front)) (record { closing = refl; produced = refl; bytes_taken = refl; gone = refl }) in
@@ -191,7 +200,8 @@ broken_piece {W} {C} device p piece x broken is_open there whole =
     })
 
 -- one whole request
-pub piece_taken : {W C : Type 0} (device : Device W C) (p : List ℕ) (x : Exchange W C) → length p < 2 ^ 32 → x.connection.closing ≡ false → x.connection.gone ≡ false
+pub piece_taken : {W C : Type 0} (device : Device W C) (p : List ℕ) (x : Exchange W C)
+    → length p < 2 ^ 32 → x.connection.closing ≡ false → x.connection.gone ≡ false
     → TakesWhole x.connection → Replies (device.take x.world x.connection.client p).answer → PieceTaken device p x (after_piece device (frame_bytes p) x)
 piece_taken device p x small is_open there whole replies =
     elim (comes (frame_bytes p) [] p (append-nil (frame_bytes p)) small) [

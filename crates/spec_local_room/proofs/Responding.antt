@@ -17,7 +17,6 @@ use Rattle.spec_formats.proofs.ReplyLemmas.{reply_of-of_text, written_bytes-done
 use Rattle.spec_machine.specs.Access.{Addressed}
 use Rattle.spec_machine.specs.Acts.{changing, outcomes_of, client_after_acts}
 use Rattle.spec_machine.specs.AdsDevice.{DescriptionReading, ads_device}
-use Rattle.spec_machine.specs.Answers.{all_answered}
 use Rattle.spec_machine.specs.Client.{Client, client_after, Adds}
 use Rattle.spec_machine.specs.Decisions.{Decision, NoAnswer, EndConnection, AmsError, Perform, Single, acts_in}
 use Rattle.spec_machine.specs.Device.{Answered}
@@ -62,7 +61,8 @@ asked_header me peer id r a = record {
   id = a.small;
 }
 
-pub header_of-asked : (me peer : AmsAddress) (id : ℕ) (r : Request) → IsAsked me peer id r → header_of (request_packet me peer id r) ≡ Some (asking me peer id r)
+pub header_of-asked : (me peer : AmsAddress) (id : ℕ) (r : Request) → IsAsked me peer id r
+    → header_of (request_packet me peer id r) ≡ Some (asking me peer id r)
 header_of-asked me peer id r a = header_of-header_bytes (asking me peer id r) (request_bytes r) (asked_header me peer id r a)
 
 payload_of-asked : (me peer : AmsAddress) (id : ℕ) (r : Request) → IsAsked me peer id r → payload_of (request_packet me peer id r) ≡ request_bytes r
@@ -78,29 +78,30 @@ length-asked me peer id r a =
 
 -- what is decided of it
 abbrev pub decision : World → Client → AmsAddress → AmsAddress → ℕ → Request → Decision
-decision w c me peer id r = decide_header all_answered (setup_of w) c (request_bytes r) (Some (asking me peer id r))
+decision w c me peer id r = decide_header (setup_of w) c (request_bytes r) (Some (asking me peer id r))
 
 pub decided_so : (w : World) (c : Client) (me peer : AmsAddress) (id : ℕ) (r : Request) → IsAsked me peer id r
-    → decide all_answered (setup_of w) c (request_packet me peer id r) ≡ decision w c me peer id r
+    → decide (setup_of w) c (request_packet me peer id r) ≡ decision w c me peer id r
 unfolding decide
 decided_so w c me peer id r a =
     let q = request_packet me peer id r in
-    ap (λ p. decide_header all_answered (setup_of w) c p (header_of q)) (payload_of-asked me peer id r a)
-    ∙ ap (decide_header all_answered (setup_of w) c (request_bytes r)) (header_of-asked me peer id r a)
+    ap (λ p. decide_header (setup_of w) c p (header_of q)) (payload_of-asked me peer id r a)
+    ∙ ap (decide_header (setup_of w) c (request_bytes r)) (header_of-asked me peer id r a)
 
 -- what is done
 pub record Does (reading : DescriptionReading) (w : World) (c : Client) (me peer : AmsAddress) (id : ℕ) (r : Request) : Type 0 where
-  pub answer : ((ads_device all_answered reading).take w c (request_packet me peer id r)).answer ≡ answer_to (asking me peer id r) (decision w c me peer id r) w.memory
-  pub client : ((ads_device all_answered reading).take w c (request_packet me peer id r)).client ≡ client_after_acts c (acts_in (decision w c me peer id r))
-  pub plant : ((ads_device all_answered reading).take w c (request_packet me peer id r)).world.plant ≡ w.plant
+  pub answer : ((ads_device reading).take w c (request_packet me peer id r)).answer ≡ answer_to (asking me peer id r) (decision w c me peer id r) w.memory
+  pub client : ((ads_device reading).take w c (request_packet me peer id r)).client ≡ client_after_acts c (acts_in (decision w c me peer id r))
+  pub plant : ((ads_device reading).take w c (request_packet me peer id r)).world.plant ≡ w.plant
 
-pub does : (reading : DescriptionReading) (w : World) (c : Client) (me peer : AmsAddress) (id : ℕ) (r : Request) → IsAsked me peer id r → Does reading w c me peer id r
+pub does : (reading : DescriptionReading) (w : World) (c : Client) (me peer : AmsAddress) (id : ℕ) (r : Request)
+    → IsAsked me peer id r → Does reading w c me peer id r
 unfolding performed
 does reading w c me peer id r a =
     let q = request_packet me peer id r in
     let is = decided_so w c me peer id r a in
     record {
-      answer = ap (λ o. answer_of o (decide all_answered (setup_of w) c q) w.memory) (header_of-asked me peer id r a)
+      answer = ap (λ o. answer_of o (decide (setup_of w) c q) w.memory) (header_of-asked me peer id r a)
           ∙ ap (λ d. answer_to (asking me peer id r) d w.memory) is;
       client = ap (λ d. client_after_acts c (acts_in d)) is;
       plant = refl;
@@ -122,11 +123,18 @@ pub record IsResponseTo (h : AmsHeader) (packet : List ℕ) : Type 0 where
 packet_same : (p q : List ℕ) → Answered p ≡ Answered q → q ≡ p
 packet_same p q e = cc
 
-pub response_so : (h : AmsHeader) (d : Decision) (memory : List Block) (packet : List ℕ) → IsReplied d → answer_to h d memory ≡ Answered packet → IsResponseTo h packet
+pub response_so : (h : AmsHeader) (d : Decision) (memory : List Block) (packet : List ℕ)
+    → IsReplied d → answer_to h d memory ≡ Answered packet → IsResponseTo h packet
 response_so h NoAnswer memory packet is e = absurd is
 response_so h EndConnection memory packet is e = absurd cc
 response_so h (AmsError code) memory packet is e = record { code = code; payload = []; is = packet_same _ packet e; small = is }
-response_so h (Perform acts form) memory packet is e = record { code = no_error; payload = reply_payload h.command (outcome_in_all form (outcomes_of memory acts)); is = packet_same _ packet e; small = omega arith }
+response_so h (Perform acts form) memory packet is e =
+    record {
+      code = no_error;
+      payload = reply_payload h.command (outcome_in_all form (outcomes_of memory acts));
+      is = packet_same _ packet e;
+      small = omega arith;
+    }
 
 -- the header of a response fits, where it was produced
 abbrev pub answering : AmsHeader → ℕ → List ℕ → AmsHeader
@@ -148,13 +156,15 @@ payload_small : (h : AmsHeader) (code : ℕ) (payload : List ℕ) → length (re
 unfolding response_packet
 payload_small h code payload small = let sum = length-append (header_bytes (answering h code payload)) payload in omega (arith, sum, small)
 
-header_of-response : (me peer : AmsAddress) (id : ℕ) (r : Request) → IsAsked me peer id r → (code : ℕ) (payload : List ℕ) → code < 2 ^ 32 → length payload < 2 ^ 32
+header_of-response : (me peer : AmsAddress) (id : ℕ) (r : Request) → IsAsked me peer id r
+    → (code : ℕ) (payload : List ℕ) → code < 2 ^ 32 → length payload < 2 ^ 32
     → header_of (response_packet (asking me peer id r) code payload) ≡ Some (answering (asking me peer id r) code payload)
 unfolding response_packet
 header_of-response me peer id r a code payload small len =
     header_of-header_bytes (answering (asking me peer id r) code payload) payload (answering_fits me peer id r a code payload small len)
 
-payload_of-response : (me peer : AmsAddress) (id : ℕ) (r : Request) → IsAsked me peer id r → (code : ℕ) (payload : List ℕ) → code < 2 ^ 32 → length payload < 2 ^ 32
+payload_of-response : (me peer : AmsAddress) (id : ℕ) (r : Request) → IsAsked me peer id r
+    → (code : ℕ) (payload : List ℕ) → code < 2 ^ 32 → length payload < 2 ^ 32
     → payload_of (response_packet (asking me peer id r) code payload) ≡ payload
 unfolding response_packet
 payload_of-response me peer id r a code payload small len =
@@ -174,7 +184,8 @@ length-response me peer id r a code payload small len =
 abbrev pub asked_one : ℕ → Request → ℕ → Unanswered
 asked_one id r now = record { id = id; command = command_of r; sent = now; timed_out = None }
 
-pub response_answers : (me peer : AmsAddress) (id : ℕ) (r : Request) (now : ℕ) (packet : List ℕ) → IsAsked me peer id r → IsResponseTo (asking me peer id r) packet
+pub response_answers : (me peer : AmsAddress) (id : ℕ) (r : Request) (now : ℕ) (packet : List ℕ)
+    → IsAsked me peer id r → IsResponseTo (asking me peer id r) packet
     → length packet < 2 ^ 32 → IsAnswerTo (asked_one id r now) me peer packet
 response_answers me peer id r now packet a is small =
     let h = asking me peer id r in
@@ -203,19 +214,22 @@ added_payload memory w small =
     written_bytes-done (reply.AddDeviceNotification 0 (number32 0 (to_le_bytes w32 w.handle ++ []))) refl
     ∙ ap (λ k. reply_bytes (reply.AddDeviceNotification 0 k)) n
 
-added_read : (handle : ℕ) → handle < 2 ^ 32 → reply_of ADD_DEVICE_NOTIFICATION (reply_bytes (reply.AddDeviceNotification 0 handle)) ≡ Some (reply.AddDeviceNotification 0 handle)
+added_read : (handle : ℕ) → handle < 2 ^ 32
+    → reply_of ADD_DEVICE_NOTIFICATION (reply_bytes (reply.AddDeviceNotification 0 handle)) ≡ Some (reply.AddDeviceNotification 0 handle)
 added_read handle small =
     reply_of-of_text ADD_DEVICE_NOTIFICATION (reply_bytes (reply.AddDeviceNotification 0 handle)) (reply.AddDeviceNotification 0 handle)
     (record { command_is = refl; result_fits = omega arith; fields_fit = small; whole = refl })
 
-handle_so : (handle : ℕ) (p : List ℕ) (r : Reply) → reply_of ADD_DEVICE_NOTIFICATION p ≡ Some (reply.AddDeviceNotification 0 handle) → reply_of ADD_DEVICE_NOTIFICATION p ≡ Some r
+handle_so : (handle : ℕ) (p : List ℕ) (r : Reply)
+    → reply_of ADD_DEVICE_NOTIFICATION p ≡ Some (reply.AddDeviceNotification 0 handle) → reply_of ADD_DEVICE_NOTIFICATION p ≡ Some r
     → handle_given r ≡ handle
 handle_so handle p r is e = let same : reply.AddDeviceNotification 0 handle ≡ r = cc in ap handle_given (sym same)
 
 header_same : (packet : List ℕ) (h k : AmsHeader) → header_of packet ≡ Some h → header_of packet ≡ Some k → k ≡ h
 header_same packet h k e f = cc
 
-pub addition_gives : (w : World) (c : Client) (me peer : AmsAddress) (id : ℕ) (r : Request) (packet : List ℕ) (added : Adding (asking me peer id r) w.plant (decision w c me peer id r))
+pub addition_gives : (w : World) (c : Client) (me peer : AmsAddress) (id : ℕ) (r : Request)
+    (packet : List ℕ) (added : Adding (asking me peer id r) w.plant (decision w c me peer id r))
     → IsAsked me peer id r → command_of r ≡ ADD_DEVICE_NOTIFICATION → length packet < 2 ^ 32
     → answer_to (asking me peer id r) (decision w c me peer id r) w.memory ≡ Answered packet → GivesHandle added.w.handle packet
 addition_gives w c me peer id r packet added a command small e h x read got =
@@ -225,7 +239,8 @@ addition_gives w c me peer id r packet added a command small e h x read got =
     let payload = reply_payload (command_of r) outcome in
     let is : packet ≡ response_packet g no_error payload = packet_same _ packet (sym (ap (λ d. answer_to g d w.memory) added.is) ∙ e) in
     let len = payload_small g no_error payload (subst (λ p. length p < 2 ^ 32) is small) in
-    let head : header_of packet ≡ Some (answering g no_error payload) = ap header_of is ∙ header_of-response me peer id r a no_error payload (omega arith) len in
+    let head : header_of packet ≡ Some (answering g no_error payload) =
+    ap header_of is ∙ header_of-response me peer id r a no_error payload (omega arith) len in
     let body : payload_of packet ≡ reply_bytes (reply.AddDeviceNotification 0 handle)
     = ap payload_of is ∙ payload_of-response me peer id r a no_error payload (omega arith) len ∙ ap (λ n. reply_payload n outcome) command
     ∙ added_payload w.memory added.w added.watch.handle in
@@ -236,7 +251,8 @@ addition_gives w c me peer id r packet added a command small e h x read got =
     handle_so handle (reply_bytes (reply.AddDeviceNotification 0 handle)) x (added_read handle added.watch.handle) got_so
 
 -- the notifications behind it
-pub added_watches : (c : Client) (w : Watch (List Addressed)) (d : Decision) → c.watches ≡ [] → d ≡ Perform (changing (to_le_bytes w32 w.handle) (Adds w) ∷ []) Single
+pub added_watches : (c : Client) (w : Watch (List Addressed)) (d : Decision)
+    → c.watches ≡ [] → d ≡ Perform (changing (to_le_bytes w32 w.handle) (Adds w) ∷ []) Single
     → (client_after_acts c (acts_in d)).watches ≡ w ∷ []
 unfolding client_after_acts client_after
 added_watches c w d none is =

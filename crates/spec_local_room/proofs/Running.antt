@@ -1,5 +1,7 @@
 -- A bounded call goes on well at each answer of the machine, so it is well behind all of them.
-use Rattle.std.proofs.Common.{◌≡◌, ◌⊎◌, ℕ, zero, suc, ◌+◌, ◌-◌, ◌*◌, ◌<◌, ◌≤◌, ◌^◌, List, [], ◌∷◌, ◌++◌, length, drop, Bool, true, false, refl, sym, ap, ◌∙◌, subst, inl, inr, arith, append_assoc}
+use Rattle.std.proofs.Common.{◌≡◌, ◌⊎◌, ℕ, zero, suc, ◌+◌, ◌-◌, ◌*◌, ◌<◌, ◌≤◌, ◌^◌, List, [], ◌∷◌, ◌++◌}
+use Rattle.std.proofs.Common.{length, drop, Bool, true, false, refl, sym, ap, ◌∙◌, subst, inl, inr, arith}
+use Rattle.std.proofs.Common.{append_assoc}
 use Rattle.std.specs.Prelude.{Option, Some, None, ◌==◌, ◌||◌, if◌then◌else◌}
 use Rattle.std.proofs.lemmas.List.{length-append}
 use Rattle.std.proofs.Math.Seq.{drop-append_seam}
@@ -21,24 +23,33 @@ use Rattle.spec_machine.specs.Moves.{with_took}
 use Rattle.spec_machine.specs.Watches.{Watch}
 use Rattle.spec_machine.specs.World.{World}
 use Rattle.spec_client.specs.Client.{Client, next_id, request_frame, client_after_feed, client_after_issue}
-use Rattle.spec_client.specs.Conversation.{LinkAnswer, Bytes, Sent, LoopEnd, CallEnded, Budget, Conversation, MAX_QUIET, MAX_ANSWERS, sent_by, end_of_stage, runner_after_answer, conversation_after, quiet_after}
+use Rattle.spec_client.specs.Conversation.{LinkAnswer, Bytes, Sent, LoopEnd, CallEnded, Budget, Conversation}
+use Rattle.spec_client.specs.Conversation.{MAX_QUIET, MAX_ANSWERS, sent_by, end_of_stage, runner_after_answer}
+use Rattle.spec_client.specs.Conversation.{conversation_after, quiet_after}
 use Rattle.spec_client.specs.Heard.{heard_of_sample}
 use Rattle.spec_client.specs.Hearing.{Hearing, hearing, broken_hearing, next_hearing, with_one_taken}
 use Rattle.spec_client.specs.Replies.{handle_given, after_answer}
 use Rattle.spec_client.specs.Runner.{Runner, Turns, turns, is_over, is_not_yet, Print, Send}
-use Rattle.spec_client.specs.Stages.{BadPeer, Stage, Finished, FinishedRecording, Watches, AwaitsNotification, Progress, AwaitsEntry, AwaitsLast, ToPrint, ToSend, ToWatch, ended_at, progress, stay}
+use Rattle.spec_client.specs.Stages.{BadPeer, Stage, Finished, FinishedRecording, Watches, AwaitsNotification}
+use Rattle.spec_client.specs.Stages.{Progress, AwaitsEntry, AwaitsLast, ToPrint, ToSend, ToWatch, ended_at}
+use Rattle.spec_client.specs.Stages.{progress, stay}
 use Rattle.spec_client.specs.Steps.{after_heard}
 use Rattle.spec_client.proofs.TurnsUnfolded.{at}
 use Rattle.spec_local.specs.LocalCall.{Answered, answered, waiting_bytes, machine_after_pieces, scene_after}
 use Rattle.spec_cutting.proofs.FedTurns.{still, turns_over, turns_wait}
 use Rattle.spec_cutting.proofs.Takes.{taken_by, one_behind_take, taken_moment, waiting_is}
 use Rattle.spec_local_room.specs.Laws.{IsAnswered}
-use Rattle.spec_local_room.proofs.Hearing.{IsSilent, FedStill, FedBroken, FedWhole, fed_cases, tick_keeps, silent_hears, answer_heard, sample_heard, answer_says, sample_says, sample_told}
+use Rattle.spec_local_room.proofs.Hearing.{IsSilent, FedStill, FedBroken, FedWhole, fed_cases, tick_keeps}
+use Rattle.spec_local_room.proofs.Hearing.{silent_hears, answer_heard, sample_heard, answer_says, sample_says}
+use Rattle.spec_local_room.proofs.Hearing.{sample_told}
 use Rattle.spec_local_room.proofs.Turning.{over_stays_over, sends_one, prints_one, prints_and_sends, hears_so, IsBehind, is_behind, end_so}
 use Rattle.spec_local_room.proofs.Pieces.{TakesWhole}
 use Rattle.spec_local_room.proofs.Ticking.{KeepsFew}
-use Rattle.spec_local_room.proofs.Leading.{Awaits, awaits_on, frames_left, HasNone, IsOver, at_end, leads, sample_leads, short_deletion, Asks, HadNone, IsShort, Leads, SampleLeads}
-use Rattle.spec_local_room.proofs.Scenes.{Machine, Link, Stands, Talks, Knows, Answering, Sampling, FRAME, Waits, EndsSo, Good, issued, issued_is, issued_silent, device, asked}
+use Rattle.spec_local_room.proofs.Leading.{Awaits, awaits_on, frames_left, HasNone, IsOver, at_end, leads}
+use Rattle.spec_local_room.proofs.Leading.{sample_leads, short_deletion, Asks, HadNone, IsShort, Leads}
+use Rattle.spec_local_room.proofs.Leading.{SampleLeads}
+use Rattle.spec_local_room.proofs.Scenes.{Machine, Link, Stands, Talks, Knows, Answering, Sampling, FRAME}
+use Rattle.spec_local_room.proofs.Scenes.{Waits, EndsSo, Good, issued, issued_is, issued_silent, device, asked}
 use Rattle.spec_client.specs.Unanswered.{MAX_ID}
 use Rattle.spec_formats.specs.SymbolEntry.{SymbolEntry}
 use Rattle.spec_client.specs.Calls.{Watching}
@@ -49,7 +60,8 @@ Given = Answered World served.Client
 
 -- bytes are taken
 
-took_world : (n : ℕ) (x : Exchange World served.Client) (gone : Bool) → (if gone then x else record x { connection = record x.connection { bytes_taken = x.connection.bytes_taken + n } }).world ≡ x.world
+took_world : (n : ℕ) (x : Exchange World served.Client) (gone : Bool)
+    → (if gone then x else record x { connection = record x.connection { bytes_taken = x.connection.bytes_taken + n } }).world ≡ x.world
 took_world n x true = refl
 took_world n x false = refl
 
@@ -100,7 +112,8 @@ unfolding machine_after_pieces
 one_piece reading s x = refl
 
 pub step_still : (reading : DescriptionReading) (sets : Bool) (me peer : AmsAddress) (c : Conversation) (a : Given) (ts : Turns)
-    → IsBehind c a.answer ts (conversation_after c a.answer) → sent_by (c.answers + 1) ts.steps ≡ [] → Good sets me peer a.machine (conversation_after c a.answer)
+    → IsBehind c a.answer ts (conversation_after c a.answer) → sent_by (c.answers + 1) ts.steps ≡ []
+    → Good sets me peer a.machine (conversation_after c a.answer)
     → StepsTo reading sets me peer c a
 step_still reading sets me peer c a ts b none good =
     let same = scene_machine reading c a [] (b.sent ∙ none) ∙ no_pieces reading a.machine in
@@ -108,13 +121,15 @@ step_still reading sets me peer c a ts b none good =
 
 step_sends : (reading : DescriptionReading) (sets : Bool) (me peer : AmsAddress) (c : Conversation) (a : Given) (ts : Turns) (x : Sent)
     → IsBehind c a.answer ts (conversation_after c a.answer) → sent_by (c.answers + 1) ts.steps ≡ x ∷ [] → waiting_bytes a.machine ≡ []
-    → Good sets me peer (state_after_event (device reading) a.machine (event.Piece 1 x.bytes)) (conversation_after c a.answer) → StepsTo reading sets me peer c a
+    → Good sets me peer (state_after_event (device reading) a.machine (event.Piece 1 x.bytes)) (conversation_after c a.answer)
+    → StepsTo reading sets me peer c a
 step_sends reading sets me peer c a ts x b one none good =
     let same = scene_machine reading c a (x ∷ []) (b.sent ∙ one) ∙ one_piece reading a.machine x in
     record { good = subst (λ s. Good sets me peer s (conversation_after c a.answer)) (sym same) good; alone = inl none }
 
 -- an end by count does not come
-not_counted : (quiet answers : ℕ) → quiet < MAX_QUIET → answers ≤ MAX_ANSWERS → (if (quiet == MAX_QUIET) || (answers == MAX_ANSWERS + 1) then Some Budget else None) ≡ None
+not_counted : (quiet answers : ℕ) → quiet < MAX_QUIET → answers ≤ MAX_ANSWERS
+    → (if (quiet == MAX_QUIET) || (answers == MAX_ANSWERS + 1) then Some Budget else None) ≡ None
 not_counted quiet answers few some =
     let first = test_other quiet MAX_QUIET (λ e. omega (arith, e, few)) in
     let second = test_other answers (MAX_ANSWERS + 1) (λ e. omega (arith, e, some)) in
@@ -126,12 +141,15 @@ no_end (FinishedRecording end entries) on = absurd (let e : true ≡ false = on 
 no_end stage on = refl
 
 -- an answer of bytes behind which it goes on
-on_behind : (c : Conversation) (bytes : List ℕ) (now : ℕ) (ts : Turns) (d : Conversation) → IsBehind c (Bytes bytes now) ts d → is_over ts.runner.stage ≡ false → c.answers < MAX_ANSWERS → d.end ≡ None
+on_behind : (c : Conversation) (bytes : List ℕ) (now : ℕ) (ts : Turns) (d : Conversation)
+    → IsBehind c (Bytes bytes now) ts d → is_over ts.runner.stage ≡ false → c.answers < MAX_ANSWERS → d.end ≡ None
 on_behind c bytes now ts d b on few =
-    b.end ∙ ap (λ o. end_so o 0 (c.answers + 1) (Bytes bytes now)) (no_end ts.runner.stage on) ∙ not_counted 0 (c.answers + 1) (omega arith) (omega (arith, few))
+    b.end ∙ ap (λ o. end_so o 0 (c.answers + 1) (Bytes bytes now)) (no_end ts.runner.stage on)
+    ∙ not_counted 0 (c.answers + 1) (omega arith) (omega (arith, few))
 
 -- the call is over behind it
-over_behind : (sets : Bool) (c : Conversation) (a : LinkAnswer) (ts : Turns) (d : Conversation) (stage : Stage) (end : LoopEnd) → IsBehind c a ts d → ts.runner.stage ≡ stage
+over_behind : (sets : Bool) (c : Conversation) (a : LinkAnswer) (ts : Turns) (d : Conversation) (stage : Stage) (end : LoopEnd)
+    → IsBehind c a ts d → ts.runner.stage ≡ stage
     → end_of_stage stage ≡ Some end → IsAnswered sets end → c.answers < MAX_ANSWERS → EndsSo sets d
 over_behind sets c a ts d stage end b same is answered few =
     let more = b.answers in
@@ -165,7 +183,8 @@ some_length [] some = absurd (some refl)
 some_length (b ∷ bs) some = omega arith
 
 -- a part of it: nothing is heard
-part_step : (reading : DescriptionReading) (sets : Bool) (me peer : AmsAddress) (s : Machine) (c : Conversation) (x : Waits sets me peer s c) (bytes w : List ℕ) → Takes sets me peer s c x bytes w
+part_step : (reading : DescriptionReading) (sets : Bool) (me peer : AmsAddress) (s : Machine)
+    (c : Conversation) (x : Waits sets me peer s c) (bytes w : List ℕ) → Takes sets me peer s c x bytes w
     → FedStill x.now x.cl bytes w → StepsTo reading sets me peer c (answered (Bytes bytes x.now) (taken_by (length bytes) s))
 part_step reading sets me peer s c x bytes w t fed =
     let now = x.now in
@@ -285,7 +304,8 @@ whole_none : (reading : DescriptionReading) (sets : Bool) (me peer : AmsAddress)
 whole_none reading sets me peer net now c a k cl stage p x = waits_so net now a.machine k cl.received [] x.stands
 
 whole_behind : (reading : DescriptionReading) (sets : Bool) (me peer : AmsAddress) (net : List ℕ) (now : ℕ) (c : Conversation) (a : Given)
-    (k : Link) (cl : Client) (stage : Stage) (p : Progress) (x : WholeTaken reading sets me peer net now c a k cl stage p) (ts : Turns) → turns now (at cl p.stage p.outputs) ≡ ts
+    (k : Link) (cl : Client) (stage : Stage) (p : Progress) (x : WholeTaken reading sets me peer net now c a k cl stage p) (ts : Turns)
+    → turns now (at cl p.stage p.outputs) ≡ ts
     → IsBehind c (Bytes x.bytes now) ts (conversation_after c a.answer)
 whole_behind reading sets me peer net now c a k cl stage p x ts is =
     subst (λ l. IsBehind c (Bytes x.bytes now) ts (conversation_after c l)) (sym x.answer) (is_behind c (Bytes x.bytes now) ts x.on (x.turned ∙ is))
@@ -298,13 +318,15 @@ any_pieces : (reading : DescriptionReading) (sets : Bool) (me peer : AmsAddress)
 any_pieces reading sets me peer c a none ends = record { good = inr ends; alone = inl none }
 
 whole_over : (reading : DescriptionReading) (sets : Bool) (me peer : AmsAddress) (net : List ℕ) (now : ℕ) (c : Conversation) (a : Given)
-    (k : Link) (cl : Client) (stage : Stage) (p : Progress) → WholeTaken reading sets me peer net now c a k cl stage p → IsOver sets p → StepsTo reading sets me peer c a
+    (k : Link) (cl : Client) (stage : Stage) (p : Progress)
+    → WholeTaken reading sets me peer net now c a k cl stage p → IsOver sets p → StepsTo reading sets me peer c a
 whole_over reading sets me peer net now c a k cl stage p x over =
     let ts = turns now (at cl p.stage p.outputs) in
     let b = whole_behind reading sets me peer net now c a k cl stage p x ts refl in
     let room = x.room in
     any_pieces reading sets me peer c a (whole_none reading sets me peer net now c a k cl stage p x)
-    (over_behind sets c (Bytes x.bytes now) ts (conversation_after c a.answer) p.stage over.end b (over_stays_over now cl p.stage p.outputs over.over) over.is over.answered (omega (arith, room)))
+    (over_behind sets c (Bytes x.bytes now) ts (conversation_after c a.answer) p.stage over.end b
+    (over_stays_over now cl p.stage p.outputs over.over) over.is over.answered (omega (arith, room)))
 
 -- a request is sent behind the frame
 record NewRequest (now : ℕ) (c : Conversation) (cl : Client) (stage next : Stage) (r : Request) (ts : Turns) : Type 0 where
@@ -326,7 +348,8 @@ whole_sends reading sets me peer net now c a k cl stage p r ts x is new awaits s
     let quiet = b.quiet in
     let more = b.answers in
     let going = ap (λ (v : Runner). is_over v.stage) new.runner ∙ awaits_on sets p.stage awaits in
-    step_sends reading sets me peer c a ts sent (behind_answer c a.answer (Bytes x.bytes now) ts d x.answer b) new.sends (whole_none reading sets me peer net now c a k cl stage p x)
+    step_sends reading sets me peer c a ts sent (behind_answer c a.answer (Bytes x.bytes now) ts d x.answer b) new.sends
+    (whole_none reading sets me peer net now c a k cl stage p x)
     (asked sets me peer net now reading a.machine k cl p.stage r d (record {
       stands = x.stands;
       closing = x.closing;
@@ -380,13 +403,24 @@ whole_listens reading sets me peer net now c a k cl stage p ts entry handle left
         ids = x.ids;
         quiet = omega (arith, quiet);
       };
-      mode = inl (record { closing = x.closing; whole = x.whole; entry = entry; handle = handle; left = left; stage_is = refl; none = x.none; rest = x.rest; keeps = keeps });
+      mode = inl (record {
+        closing = x.closing;
+        whole = x.whole;
+        entry = entry;
+        handle = handle;
+        left = left;
+        stage_is = refl;
+        none = x.none;
+        rest = x.rest;
+        keeps = keeps;
+      });
       room = omega (arith, room, less, more);
     })))
 
 -- an answer is whole
 
-knows_none : (me peer : AmsAddress) (net : List ℕ) (stage : Stage) (ws : List (Watch (List Addressed))) (p : List ℕ) → Knows me peer net stage ws p → HasNone stage ws
+knows_none : (me peer : AmsAddress) (net : List ℕ) (stage : Stage) (ws : List (Watch (List Addressed))) (p : List ℕ)
+    → Knows me peer net stage ws p → HasNone stage ws
 knows_none me peer net (AwaitsEntry (ToWatch w) name) ws p knows = knows
 knows_none me peer net stage ws p knows = tt
 
@@ -397,7 +431,13 @@ handle_kept me peer net entry watching ws p h r (inl none) read got = inl none
 handle_kept me peer net entry watching ws p h r (inr one) read got = inr (record {
   w = one.w;
   is = one.is;
-  kept = record { handle_is = sym (one.gives h r read got); small = one.kept.small; port = one.kept.port; address = one.kept.address; net_is = one.kept.net_is };
+  kept = record {
+    handle_is = sym (one.gives h r read got);
+    small = one.kept.small;
+    port = one.kept.port;
+    address = one.kept.address;
+    net_is = one.kept.net_is;
+  };
 })
 
 count_is : (n : ℕ) → 1 ≤ n → n ≡ suc (n - 1)
@@ -406,7 +446,8 @@ count_is (suc n) least = omega arith
 
 -- what was answered leads on
 answer_leads : (reading : DescriptionReading) (sets : Bool) (me peer : AmsAddress) (net : List ℕ) (now : ℕ) (c : Conversation) (a : Given)
-    (k : Link) (cl : Client) (stage : Stage) (q : List ℕ) (h : AmsHeader) (pr : Progress) → WholeTaken reading sets me peer net now c a k cl stage pr → Knows me peer net stage k.client.watches q
+    (k : Link) (cl : Client) (stage : Stage) (q : List ℕ) (h : AmsHeader) (pr : Progress)
+    → WholeTaken reading sets me peer net now c a k cl stage pr → Knows me peer net stage k.client.watches q
     → header_of q ≡ Some h
     → Leads sets stage (reply_of h.command (payload_of q)) pr → StepsTo reading sets me peer c a
 answer_leads reading sets me peer net now c a k cl stage q h pr x knows read (inl over) = whole_over reading sets me peer net now c a k cl stage pr x over
@@ -415,10 +456,13 @@ answer_leads reading sets me peer net now c a k cl stage q h pr x knows read (in
     let next = pr.stage in
     let after = client_after_issue cl r now in
     let waits : is_not_yet (next_hearing after).heard ≡ true
-    = ap (λ (e : Client). is_not_yet (next_hearing e).heard) (issued_is cl r now x.none) ∙ ap (λ (y : Hearing). is_not_yet y.heard) (silent_hears now (issued cl r now) (issued_silent cl r now x.silent)) in
+    = ap (λ (e : Client). is_not_yet (next_hearing e).heard) (issued_is cl r now x.none)
+    ∙ ap (λ (y : Hearing). is_not_yet y.heard) (silent_hears now (issued cl r now) (issued_silent cl r now x.silent)) in
     let ts : Turns = record { steps = Send (request_frame cl (next_id cl) r) ∷ []; runner = at after next [] } in
-    let is : turns now (at cl next pr.outputs) ≡ ts = ap (λ os. turns now (at cl next os)) sends.outputs ∙ sends_one now cl next r (awaits_on sets next sends.awaits) waits in
-    whole_sends reading sets me peer net now c a k cl stage pr r ts x is (record { sends = refl; runner = refl; less = sends.less }) sends.awaits sends.short sends.asks
+    let is : turns now (at cl next pr.outputs) ≡ ts =
+    ap (λ os. turns now (at cl next os)) sends.outputs ∙ sends_one now cl next r (awaits_on sets next sends.awaits) waits in
+    whole_sends reading sets me peer net now c a k cl stage pr r ts x is
+    (record { sends = refl; runner = refl; less = sends.less }) sends.awaits sends.short sends.asks
     (sends.none k.client.watches (knows_none me peer net stage k.client.watches q knows))
 answer_leads reading sets me peer net now c a k cl stage q h pr x knows read (inr (inr listens)) =
     let handle = handle_given listens.reply in
@@ -436,7 +480,8 @@ answer_leads reading sets me peer net now c a k cl stage q h pr x knows read (in
     (handle_kept me peer net entry listens.watching k.client.watches q h listens.reply
     (subst (λ st. Knows me peer net st k.client.watches q) listens.stage_is knows) read listens.reply_is)
 
-whole_step : (reading : DescriptionReading) (sets : Bool) (me peer : AmsAddress) (s : Machine) (c : Conversation) (x : Waits sets me peer s c) (bytes w : List ℕ) → Takes sets me peer s c x bytes w
+whole_step : (reading : DescriptionReading) (sets : Bool) (me peer : AmsAddress) (s : Machine)
+    (c : Conversation) (x : Waits sets me peer s c) (bytes w : List ℕ) → Takes sets me peer s c x bytes w
     → IsAddress me → IsAddress peer → (m : Answering sets me peer x.net x.now x.k x.cl x.stage x.w) → FedWhole x.cl bytes w m.p
     → StepsTo reading sets me peer c (answered (Bytes bytes x.now) (taken_by (length bytes) s))
 unfolding after_heard
@@ -463,7 +508,8 @@ whole_step reading sets me peer s c x bytes w t mine other m fed =
           let pr = after_answer stage h.error (reply_of h.command (payload_of m.p)) (payload_of m.p) in
           let heard_is : after_heard stage got.x.heard ≡ pr = ap (after_heard stage) answer.heard in
           let some : is_not_yet got.x.heard ≡ false = ap is_not_yet answer.heard in
-          let turned = ap (turns now) fed_so ∙ hears_so now cl after stage got.x talks.going hears some answer.client ∙ ap (λ (p : Progress). turns now (at after p.stage p.outputs)) heard_is in
+          let turned = ap (turns now) fed_so ∙ hears_so now cl after stage got.x talks.going hears some answer.client
+          ∙ ap (λ (p : Progress). turns now (at after p.stage p.outputs)) heard_is in
           answer_leads reading sets me peer x.net now c a (later (length bytes) x.k) after stage m.p h pr (record {
             stands = stands;
             closing = m.closing;
@@ -517,12 +563,14 @@ sample_step reading sets me peer net now c a k cl entry handle left pr x keeps (
     let next : Stage = AwaitsLast [] in
     let after = client_after_issue cl r now in
     let waits : is_not_yet (next_hearing after).heard ≡ true
-    = ap (λ (e : Client). is_not_yet (next_hearing e).heard) (issued_is cl r now x.none) ∙ ap (λ (y : Hearing). is_not_yet y.heard) (silent_hears now (issued cl r now) (issued_silent cl r now x.silent)) in
+    = ap (λ (e : Client). is_not_yet (next_hearing e).heard) (issued_is cl r now x.none)
+    ∙ ap (λ (y : Hearing). is_not_yet y.heard) (silent_hears now (issued cl r now) (issued_silent cl r now x.silent)) in
     let ts : Turns = record { steps = Print last.text ∷ Send (request_frame cl (next_id cl) r) ∷ []; runner = at after next [] } in
     let wanted = progress next (ToPrint last.text ∷ ToSend r ∷ []) in
     let is : turns now (at cl next wanted.outputs) ≡ ts = prints_and_sends now cl next last.text r refl waits in
     let y = subst (λ p. WholeTaken reading sets me peer net now c a k cl stage p) last.is x in
-    whole_sends reading sets me peer net now c a k cl stage wanted r ts y is (record { sends = refl; runner = refl; less = omega arith }) tt (short_deletion last.handle) tt tt
+    whole_sends reading sets me peer net now c a k cl stage wanted r ts y is
+    (record { sends = refl; runner = refl; less = omega arith }) tt (short_deletion last.handle) tt tt
 sample_step reading sets me peer net now c a k cl entry handle left pr x keeps (inr (inr goes)) =
     let stage : Stage = Watches entry handle (suc left) in
     let next : Stage = Watches entry handle (suc goes.less) in
@@ -534,7 +582,8 @@ sample_step reading sets me peer net now c a k cl entry handle left pr x keeps (
     let y = subst (λ p. WholeTaken reading sets me peer net now c a k cl stage p) goes.is x in
     whole_listens reading sets me peer net now c a k cl stage wanted ts entry handle goes.less y is refl refl (omega (arith, left_is)) keeps
 
-whole_sample : (reading : DescriptionReading) (sets : Bool) (me peer : AmsAddress) (s : Machine) (c : Conversation) (x : Waits sets me peer s c) (bytes w : List ℕ) → Takes sets me peer s c x bytes w
+whole_sample : (reading : DescriptionReading) (sets : Bool) (me peer : AmsAddress) (s : Machine)
+    (c : Conversation) (x : Waits sets me peer s c) (bytes w : List ℕ) → Takes sets me peer s c x bytes w
     → IsAddress me → IsAddress peer → (m : Sampling me peer x.net x.k x.cl x.stage x.w) → FedWhole x.cl bytes w m.p
     → StepsTo reading sets me peer c (answered (Bytes bytes x.now) (taken_by (length bytes) s))
 whole_sample reading sets me peer s c x bytes w t mine other m fed =
@@ -590,7 +639,8 @@ whole_frame t bytes w x p parts is = append_assoc t bytes w ∙ ap (λ l. t ++ l
 small_packet : (p : List ℕ) → 6 + length p ≤ MAX_QUEUED → length p < 2 ^ 32
 small_packet p size = omega (arith, size)
 
-pub take_step : (reading : DescriptionReading) (sets : Bool) (me peer : AmsAddress) (s : Machine) (c : Conversation) (x : Waits sets me peer s c) (bytes w : List ℕ) → IsAddress me → IsAddress peer
+pub take_step : (reading : DescriptionReading) (sets : Bool) (me peer : AmsAddress) (s : Machine)
+    (c : Conversation) (x : Waits sets me peer s c) (bytes w : List ℕ) → IsAddress me → IsAddress peer
     → x.w ≡ bytes ++ w → (bytes ≡ [] → ⊥) → StepsTo reading sets me peer c (answered (Bytes bytes x.now) (taken_by (length bytes) s))
 take_step reading sets me peer s c x bytes w mine other parts some =
     let t : Takes sets me peer s c x bytes w = record { parts = parts; some = some } in

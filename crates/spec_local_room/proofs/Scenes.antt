@@ -1,6 +1,7 @@
 -- What stands between a bounded call and its connection: a frame waits, or nothing does. A request that is sent where nothing waits is
 -- answered by one frame, or the connection closes.
-use Rattle.std.proofs.Common.{◌≡◌, ◌⊎◌, ℕ, ◌+◌, ◌-◌, ◌*◌, ◌<◌, ◌≤◌, ◌^◌, List, [], ◌∷◌, ◌++◌, length, Bool, true, false, refl, sym, ap, ◌∙◌, subst, inl, inr, arith}
+use Rattle.std.proofs.Common.{◌≡◌, ◌⊎◌, ℕ, ◌+◌, ◌-◌, ◌*◌, ◌<◌, ◌≤◌, ◌^◌, List, [], ◌∷◌, ◌++◌, length, Bool}
+use Rattle.std.proofs.Common.{true, false, refl, sym, ap, ◌∙◌, subst, inl, inr, arith}
 use Rattle.std.specs.Prelude.{Some, None, ◌==◌, nat_le, suc}
 use Rattle.std.proofs.lemmas.Bool.{cases_eq, cond-true, cond-false, leb-true}
 use Rattle.std.proofs.lemmas.Grind.{flat_map-append}
@@ -16,7 +17,6 @@ use Rattle.spec_machine.proofs.Find.{test_same, test_other}
 use Rattle.spec_machine.specs.Access.{Addressed}
 use Rattle.spec_machine.specs.Acts.{client_after_acts}
 use Rattle.spec_machine.specs.AdsDevice.{DescriptionReading, ads_device}
-use Rattle.spec_machine.specs.Answers.{all_answered}
 use Rattle.spec_machine.specs.Client as served
 use Rattle.spec_machine.specs.Connection.{Connection, MAX_QUEUED, connection_of, bytes_of, bytes_of_all, queued_of}
 use Rattle.spec_machine.specs.Decisions.{acts_in}
@@ -40,7 +40,9 @@ use Rattle.spec_local_room.proofs.Coming.{length-frame_bytes}
 use Rattle.spec_local_room.proofs.Hearing.{IsSilent, IsAnswerTo, IsSampleOf}
 use Rattle.spec_local_room.proofs.Pieces.{TakesWhole, Closes, Served, piece_taken, Replies}
 use Rattle.spec_local_room.proofs.Deciding.{replied, entry_keeps, addition_adds}
-use Rattle.spec_local_room.proofs.Responding.{asking, IsAsked, length-asked, decision, does, replies_so, response_so, asked_one, response_answers, GivesHandle, addition_gives, added_watches}
+use Rattle.spec_local_room.proofs.Responding.{asking, IsAsked, length-asked, decision, does, replies_so}
+use Rattle.spec_local_room.proofs.Responding.{response_so, asked_one, response_answers, GivesHandle}
+use Rattle.spec_local_room.proofs.Responding.{addition_gives, added_watches}
 use Rattle.spec_local_room.proofs.Ticking.{IsKept}
 use Rattle.spec_local_room.proofs.Leading.{Awaits, frames_left, awaits_on, IsShort, Asks, HadNone}
 use Rattle.spec_local_room.proofs.Ticking.{KeepsFew}
@@ -197,7 +199,8 @@ issued_silent cl r now silent = record {
 -- what the server then knows
 
 -- the notifications behind a request
-knows_behind : (reading : DescriptionReading) (me peer : AmsAddress) (world : World) (c : served.Client) (id : ℕ) (r : Request) (stage : Stage) (packet : List ℕ) → IsAsked me peer id r
+knows_behind : (reading : DescriptionReading) (me peer : AmsAddress) (world : World)
+    (c : served.Client) (id : ℕ) (r : Request) (stage : Stage) (packet : List ℕ) → IsAsked me peer id r
     → Asks stage r → HadNone stage c.watches → length packet < 2 ^ 32
     → answer_to (asking me peer id r) (decision world c me peer id r) world.memory ≡ Answered packet
     → Knows me peer world.plant.net stage (client_after_acts c (acts_in (decision world c me peer id r))).watches packet
@@ -219,7 +222,7 @@ knows_behind reading me peer world c id r (AwaitsNotification e w) packet a asks
 knows_behind reading me peer world c id r stage packet a asks had small answer = tt
 
 abbrev pub device : DescriptionReading → Device World served.Client
-device reading = ads_device all_answered reading
+device reading = ads_device reading
 
 -- the machine behind a piece
 abbrev piece_behind : DescriptionReading → List ℕ → Machine → Link → Exchange World served.Client
@@ -239,7 +242,8 @@ has_one_behind reading f m k one gone = record {
 }
 
 -- what is asked, and by whom
-pub record Asking (sets : Bool) (me peer : AmsAddress) (net : List ℕ) (now : ℕ) (m : Machine) (k : Link) (cl : Client) (stage : Stage) (r : Request) : Type 0 where
+pub record Asking (sets : Bool) (me peer : AmsAddress) (net : List ℕ) (now : ℕ)
+    (m : Machine) (k : Link) (cl : Client) (stage : Stage) (r : Request) : Type 0 where
   pub stands : Stands net now m k cl.received []
   pub closing : k.closing ≡ false
   pub whole : TakesWhole k
@@ -263,7 +267,8 @@ pub record AsksIn (now : ℕ) (cl : Client) (stage : Stage) (r : Request) (d : C
   pub quiet : d.quiet < MAX_QUIET
   pub room : d.answers + frames_left stage * FRAME + 5194305 ≤ MAX_ANSWERS
 
-asks_talks : (sets : Bool) (me peer : AmsAddress) (net : List ℕ) (now : ℕ) (m : Machine) (k : Link) (cl : Client) (stage : Stage) (r : Request) (d : Conversation)
+asks_talks : (sets : Bool) (me peer : AmsAddress) (net : List ℕ) (now : ℕ)
+    (m : Machine) (k : Link) (cl : Client) (stage : Stage) (r : Request) (d : Conversation)
     → Asking sets me peer net now m k cl stage r → AsksIn now cl stage r d → Talks me peer now d (issued cl r now) stage
 asks_talks sets me peer net now m k cl stage r d x y = record {
   on = y.on;
@@ -277,7 +282,8 @@ asks_talks sets me peer net now m k cl stage r d x y = record {
 }
 
 -- the connection closes
-shuts : (sets : Bool) (me peer : AmsAddress) (net : List ℕ) (now : ℕ) (reading : DescriptionReading) (m : Machine) (k : Link) (cl : Client) (stage : Stage) (r : Request) (d : Conversation) (f : List ℕ)
+shuts : (sets : Bool) (me peer : AmsAddress) (net : List ℕ) (now : ℕ) (reading : DescriptionReading)
+    (m : Machine) (k : Link) (cl : Client) (stage : Stage) (r : Request) (d : Conversation) (f : List ℕ)
     → Asking sets me peer net now m k cl stage r → AsksIn now cl stage r d → Closes k (piece_behind reading f m k).connection
     → Good sets me peer (with_exchange (piece_behind reading f m k) m) d
 shuts sets me peer net now reading m k cl stage r d f x y closes =
@@ -311,14 +317,16 @@ one_more_out produced frame received bytes is out =
     flat_map-append bytes_of produced (frame ∷ []) ∙ ap (λ l. l ++ (bytes_of frame ++ [])) (out ∙ append-nil received)
     ∙ ap (λ l. received ++ l) (append-nil (bytes_of frame) ∙ is)
 
-answer_size : {C : Type 0} (k : Connection C) (packet : List ℕ) → nat_le (queued_of k + length (frame_bytes packet)) MAX_QUEUED ≡ true → 6 + length packet ≤ MAX_QUEUED
+answer_size : {C : Type 0} (k : Connection C) (packet : List ℕ)
+    → nat_le (queued_of k + length (frame_bytes packet)) MAX_QUEUED ≡ true → 6 + length packet ≤ MAX_QUEUED
 answer_size k packet room =
     let le = leb-true (queued_of k + length (frame_bytes packet)) MAX_QUEUED room in
     let sum = length-frame_bytes packet in
     omega (arith, le, sum)
 
 -- a frame answers
-answers : (sets : Bool) (me peer : AmsAddress) (net : List ℕ) (now : ℕ) (reading : DescriptionReading) (m : Machine) (k : Link) (cl : Client) (stage : Stage) (r : Request) (d : Conversation)
+answers : (sets : Bool) (me peer : AmsAddress) (net : List ℕ) (now : ℕ) (reading : DescriptionReading)
+    (m : Machine) (k : Link) (cl : Client) (stage : Stage) (r : Request) (d : Conversation)
     (f : List ℕ) → (let q = request_packet me peer (next_id cl) r in let o = (device reading).take m.world k.client q in let e = piece_behind reading f m k in
     Asking sets me peer net now m k cl stage r → AsksIn now cl stage r d → IsAsked me peer (next_id cl) r → Served o k e.connection → e.world ≡ o.world
     → Good sets me peer (with_exchange e m) d)
@@ -372,16 +380,20 @@ answers sets me peer net now reading m k cl stage r d f x y asked gave world =
       room = omega (arith, room, size, sum);
     }))
 
-pub asked : (sets : Bool) (me peer : AmsAddress) (net : List ℕ) (now : ℕ) (reading : DescriptionReading) (m : Machine) (k : Link) (cl : Client) (stage : Stage) (r : Request) (d : Conversation)
+pub asked : (sets : Bool) (me peer : AmsAddress) (net : List ℕ) (now : ℕ) (reading : DescriptionReading)
+    (m : Machine) (k : Link) (cl : Client) (stage : Stage) (r : Request) (d : Conversation)
     → Asking sets me peer net now m k cl stage r → AsksIn now cl stage r d
     → Good sets me peer (state_after_event (device reading) m (event.Piece 1 (request_frame cl (next_id cl) r))) d
 asked sets me peer net now reading m k cl stage r d x y =
     let id = next_id cl in
     let q = request_packet me peer id r in
     let f = frame_bytes q in
-    let same : request_frame cl id r ≡ f = ap (λ (a : AmsAddress). frame_bytes (request_packet a cl.peer id r)) x.me_is ∙ ap (λ (a : AmsAddress). frame_bytes (request_packet me a id r)) x.peer_is in
+    let same : request_frame cl id r ≡ f =
+    ap (λ (a : AmsAddress). frame_bytes (request_packet a cl.peer id r)) x.me_is
+    ∙ ap (λ (a : AmsAddress). frame_bytes (request_packet me a id r)) x.peer_is in
     let few : id ≤ MAX_ID = subst (λ n. n ≤ MAX_ID) (sym (next_is cl x.none)) (id_small cl.last_id x.ids) in
-    let is_asked : IsAsked me peer id r = record { from = x.me_fits; to = x.peer_fits; small = omega (arith, few); len = x.short.len; command = x.short.command } in
+    let is_asked : IsAsked me peer id r =
+    record { from = x.me_fits; to = x.peer_fits; small = omega (arith, few); len = x.short.len; command = x.short.command } in
     let did = does reading m.world k.client me peer id r is_asked in
     let replies = subst Replies (sym did.answer) (replies_so (asking me peer id r) (decision m.world k.client me peer id r) m.world.memory
     (replied (setup_of m.world) k.client (asking me peer id r) _ refl x.short.other)) in

@@ -15,13 +15,13 @@ use Rattle.spec_formats.proofs.HeaderLemmas.{header_of-header_bytes, length-head
 use Rattle.spec_formats.proofs.NotificationLemmas.{notification_of-of_text}
 use Rattle.spec_machine.specs.Access.{Addressed, values_at}
 use Rattle.spec_machine.specs.AdsDevice.{DescriptionReading, ads_device}
-use Rattle.spec_machine.specs.Answers.{all_answered}
 use Rattle.spec_machine.specs.Client.{Client}
 use Rattle.spec_machine.specs.Connection.{Connection, MAX_QUEUED, with_closing, with_frame, bytes_of, queued_of, fits, produce, produce_all}
 use Rattle.spec_machine.specs.Device.{Produced}
 use Rattle.spec_machine.specs.Events.{connection_after_tick}
 use Rattle.spec_machine.specs.Piece.{with_client}
-use Rattle.spec_machine.specs.Stamps.{group_of_sample, grouped, stamp_payload, notification_packet, notification_frame, frames_of_samples, samples_at, watches_after_tick}
+use Rattle.spec_machine.specs.Stamps.{group_of_sample, grouped, stamp_payload, notification_packet}
+use Rattle.spec_machine.specs.Stamps.{notification_frame, frames_of_samples, samples_at, watches_after_tick}
 use Rattle.spec_machine.specs.Ticks.{client_after_tick}
 use Rattle.spec_machine.specs.Watches.{Watch, is_due, is_sent, checked_watch, addressed_sample}
 use Rattle.spec_machine.specs.World.{World}
@@ -58,7 +58,8 @@ checked_same now bytes w true true = record { handle = refl; port = refl; addres
 checked_same now bytes w true false = record { handle = refl; port = refl; address = refl }
 checked_same now bytes w false sent = record { handle = refl; port = refl; address = refl }
 
-still_kept : (me peer : AmsAddress) (net : List ℕ) (handle : ℕ) (v w : Watch (List Addressed)) → SameWatch v w → IsKept me peer net handle w → IsKept me peer net handle v
+still_kept : (me peer : AmsAddress) (net : List ℕ) (handle : ℕ) (v w : Watch (List Addressed))
+    → SameWatch v w → IsKept me peer net handle w → IsKept me peer net handle v
 still_kept me peer net handle v w same kept = record {
   handle_is = same.handle ∙ kept.handle_is;
   small = subst (λ n. n < 2 ^ 32) (sym same.handle) kept.small;
@@ -67,7 +68,8 @@ still_kept me peer net handle v w same kept = record {
   net_is = kept.net_is;
 }
 
-watches_kept : (me peer : AmsAddress) (net : List ℕ) (handle : ℕ) (memory : List Block) (now : ℕ) (ws : List (Watch (List Addressed))) → KeepsFew me peer net handle ws
+watches_kept : (me peer : AmsAddress) (net : List ℕ) (handle : ℕ) (memory : List Block) (now : ℕ) (ws : List (Watch (List Addressed)))
+    → KeepsFew me peer net handle ws
     → KeepsFew me peer net handle (watches_after_tick memory now ws)
 unfolding watches_after_tick
 watches_kept me peer net handle memory now ws (inl none) = inl (ap (watches_after_tick memory now) none)
@@ -97,7 +99,8 @@ record OneFrame (me peer : AmsAddress) (net : List ℕ) (handle now : ℕ) (fram
   is : frames ≡ sample_frame net now w bytes ∷ []
   kept : IsKept me peer net handle w
 
-frames_few : (me peer : AmsAddress) (net : List ℕ) (handle : ℕ) (memory : List Block) (now : ℕ) (ws : List (Watch (List Addressed))) → KeepsFew me peer net handle ws
+frames_few : (me peer : AmsAddress) (net : List ℕ) (handle : ℕ) (memory : List Block) (now : ℕ) (ws : List (Watch (List Addressed)))
+    → KeepsFew me peer net handle ws
     → (frames_of_samples net now (samples_at memory now ws) ≡ []) ⊎ OneFrame me peer net handle now (frames_of_samples net now (samples_at memory now ws))
 unfolding samples_at frames_of_samples grouped
 frames_few me peer net handle memory now ws (inl none) = inl (ap (λ l. frames_of_samples net now (samples_at memory now l)) none)
@@ -155,7 +158,8 @@ bytes_small net now w bytes small =
     let l = length-payload now w bytes in
     omega (arith, sum, l, small)
 
-header_fits : (me peer : AmsAddress) (net : List ℕ) (handle now : ℕ) (w : Watch (List Addressed)) (bytes : List ℕ) → IsAddress me → IsAddress peer → IsKept me peer net handle w
+header_fits : (me peer : AmsAddress) (net : List ℕ) (handle now : ℕ) (w : Watch (List Addressed)) (bytes : List ℕ)
+    → IsAddress me → IsAddress peer → IsKept me peer net handle w
     → length bytes < 2 ^ 31 → IsHeader (header_for net now w bytes)
 header_fits me peer net handle now w bytes mine other kept small =
     let l = length-payload now w bytes in
@@ -182,7 +186,8 @@ stamps_read now w bytes time handle small =
       whole = refl;
     })
 
-sample_read : (me peer : AmsAddress) (net : List ℕ) (handle now : ℕ) (w : Watch (List Addressed)) (bytes : List ℕ) → IsAddress me → IsAddress peer → IsKept me peer net handle w
+sample_read : (me peer : AmsAddress) (net : List ℕ) (handle now : ℕ) (w : Watch (List Addressed)) (bytes : List ℕ)
+    → IsAddress me → IsAddress peer → IsKept me peer net handle w
     → now < 2 ^ 64 → length (packet_for net now w bytes) < 2 ^ 31 → IsSampleOf handle (packet_for net now w bytes)
 sample_read me peer net handle now w bytes mine other kept time small =
     let few = bytes_small net now w bytes small in
@@ -229,14 +234,16 @@ pub record Ticked (me peer : AmsAddress) (net : List ℕ) (handle : ℕ) (k l : 
   pub becomes : Closes k l ⊎ (Quiets k l ⊎ Samples handle k l)
   pub keeps : l.closing ≡ false → KeepsFew me peer net handle l.client.watches
 
-produced_tick : (me peer : AmsAddress) (net : List ℕ) (handle now : ℕ) (w : Watch (List Addressed)) (bytes : List ℕ) (k m : Connection Client) → IsAddress me → IsAddress peer
+produced_tick : (me peer : AmsAddress) (net : List ℕ) (handle now : ℕ) (w : Watch (List Addressed)) (bytes : List ℕ) (k m : Connection Client)
+    → IsAddress me → IsAddress peer
     → IsKept me peer net handle w → now < 2 ^ 64 → k.closing ≡ false → TakesWhole k → (client : Client) → m ≡ with_client client k
     → KeepsFew me peer net handle client.watches → Ticked me peer net handle k (produce (sample_frame net now w bytes) m)
 unfolding produce
 produced_tick me peer net handle now w bytes k m mine other kept time is_open whole client is few =
     let frame = sample_frame net now w bytes in
     let l = with_client client k in
-    subst (λ (x : Connection Client). Ticked me peer net handle k (if x.closing then x else if fits frame x then with_frame frame x else with_closing x)) (sym is)
+    subst (λ (x : Connection Client). Ticked me peer net handle k
+    (if x.closing then x else if fits frame x then with_frame frame x else with_closing x)) (sym is)
     (elim (cases_Bool (fits frame l)) [
       | inl room ↦
           let same : (if l.closing then l else if fits frame l then with_frame frame l else with_closing l) ≡ with_frame frame l = rw (is_open, room) refl in
@@ -265,22 +272,25 @@ produced_tick me peer net handle now w bytes k m mine other kept time is_open wh
           })
     ])
 
-outcome_tick : (me peer : AmsAddress) (net : List ℕ) (handle now : ℕ) (k : Connection Client) (client : Client) (frames : List Produced) → IsAddress me → IsAddress peer → now < 2 ^ 64
+outcome_tick : (me peer : AmsAddress) (net : List ℕ) (handle now : ℕ) (k : Connection Client) (client : Client) (frames : List Produced)
+    → IsAddress me → IsAddress peer → now < 2 ^ 64
     → k.closing ≡ false → TakesWhole k → KeepsFew me peer net handle client.watches → (frames ≡ []) ⊎ OneFrame me peer net handle now frames
     → Ticked me peer net handle k (produce_all frames (with_client client k))
 unfolding produce_all
 outcome_tick me peer net handle now k client frames mine other time is_open whole few (inl none) =
     subst (λ (fs : List Produced). Ticked me peer net handle k (produce_all fs (with_client client k))) (sym none) (record {
-      becomes = inr (inl (record { closing = is_open; produced = refl; bytes_taken = refl; gone = refl; whole = record { rest = whole.rest; taken = whole.taken } }));
+      becomes = inr (inl (record
+          { closing = is_open; produced = refl; bytes_taken = refl; gone = refl; whole = record { rest = whole.rest; taken = whole.taken } }));
       keeps = λ still. few;
     })
 outcome_tick me peer net handle now k client frames mine other time is_open whole few (inr one) =
     subst (λ (fs : List Produced). Ticked me peer net handle k (produce_all fs (with_client client k))) (sym one.is)
     (produced_tick me peer net handle now one.w one.bytes k (with_client client k) mine other one.kept time is_open whole client refl few)
 
-pub ticked : (reading : DescriptionReading) (me peer : AmsAddress) (handle now : ℕ) (world : World) (k : Connection Client) → IsAddress me → IsAddress peer → now < 2 ^ 64
+pub ticked : (reading : DescriptionReading) (me peer : AmsAddress) (handle now : ℕ) (world : World) (k : Connection Client)
+    → IsAddress me → IsAddress peer → now < 2 ^ 64
     → k.closing ≡ false → k.gone ≡ false → TakesWhole k → KeepsFew me peer world.plant.net handle k.client.watches
-    → Ticked me peer world.plant.net handle k (connection_after_tick (ads_device all_answered reading) now world k)
+    → Ticked me peer world.plant.net handle k (connection_after_tick (ads_device reading) now world k)
 unfolding connection_after_tick client_after_tick
 ticked reading me peer handle now world k mine other time is_open there whole few =
     let deaf : (k.closing || k.gone) ≡ false = rw (is_open, there) refl in

@@ -9,7 +9,11 @@ use Rattle.spec_client.specs.Hearing.{Hearing, next_hearing}
 use Rattle.spec_client.specs.Stages.{BadPeer, Output, ToSend, ToPrint, ToKeep, Stage}
 use Rattle.spec_client.specs.Steps.{after_heard}
 use Rattle.spec_client.specs.Runner.{Runner, Send, Print, Turns, turns, given, is_over, is_not_yet, after_step, runner_after_hearing}
-use Rattle.spec_client.specs.Conversation.{LinkAnswer, Bytes, Quiet, Closed, LoopEnd, CallEnded, Budget, MAX_QUIET, MAX_ANSWERS, Conversation, moment_of, quiet_after, sent_by, end_of_stage, runner_after_answer, with_answer, conversation_after_turns, conversation_going_on, conversation_after, unless_ended, ended_by, end_by_answer}
+use Rattle.spec_client.specs.Conversation.{LinkAnswer, Bytes, Quiet, Closed, LoopEnd, CallEnded, Budget}
+use Rattle.spec_client.specs.Conversation.{MAX_QUIET, MAX_ANSWERS, Conversation, moment_of, quiet_after}
+use Rattle.spec_client.specs.Conversation.{sent_by, end_of_stage, runner_after_answer, with_answer}
+use Rattle.spec_client.specs.Conversation.{conversation_after_turns, conversation_going_on, conversation_after}
+use Rattle.spec_client.specs.Conversation.{unless_ended, ended_by, end_by_answer}
 use Rattle.spec_client.proofs.TurnsUnfolded.{at}
 use Rattle.spec_cutting.proofs.FedTurns.{turns_given, turns_over, turns_wait, turns_hear}
 use Rattle.spec_local.proofs.Scenes.{going_on}
@@ -36,10 +40,12 @@ over_stays_over now c stage [] over = ap (λ (ts : Turns). ts.runner.stage) (tur
 over_stays_over now c stage (o ∷ os) over =
     let t = given now o (at c stage os) in
     let r : t.runner ≡ at t.runner.client stage os = runner_is t.runner stage os (given_stage now o (at c stage os)) (given_rest now o (at c stage os)) in
-    ap (λ (ts : Turns). ts.runner.stage) (turns_given now c stage o os) ∙ ap (λ (s : Runner). (turns now s).runner.stage) r ∙ over_stays_over now t.runner.client stage os over
+    ap (λ (ts : Turns). ts.runner.stage) (turns_given now c stage o os)
+    ∙ ap (λ (s : Runner). (turns now s).runner.stage) r ∙ over_stays_over now t.runner.client stage os over
 
 -- a request is sent, and then it waits
-pub sends_one : (now : ℕ) (c : Client) (stage : Stage) (r : Request) → is_over stage ≡ false → is_not_yet (next_hearing (client_after_issue c r now)).heard ≡ true
+pub sends_one : (now : ℕ) (c : Client) (stage : Stage) (r : Request) → is_over stage ≡ false
+    → is_not_yet (next_hearing (client_after_issue c r now)).heard ≡ true
     → turns now (at c stage (ToSend r ∷ [])) ≡ record { steps = Send (request_frame c (next_id c) r) ∷ []; runner = at (client_after_issue c r now) stage [] }
 unfolding given
 sends_one now c stage r on waits =
@@ -53,12 +59,14 @@ prints_one now c stage text on waits =
     turns_given now c stage (ToPrint text) [] ∙ ap (after_step (given now (ToPrint text) (at c stage []))) (turns_wait now c stage on waits)
 
 -- a text is printed, a request is sent, and then it waits
-pub prints_and_sends : (now : ℕ) (c : Client) (stage : Stage) (text : List ℕ) (r : Request) → is_over stage ≡ false → is_not_yet (next_hearing (client_after_issue c r now)).heard ≡ true
+pub prints_and_sends : (now : ℕ) (c : Client) (stage : Stage) (text : List ℕ) (r : Request)
+    → is_over stage ≡ false → is_not_yet (next_hearing (client_after_issue c r now)).heard ≡ true
     → turns now (at c stage (ToPrint text ∷ ToSend r ∷ []))
     ≡ record { steps = Print text ∷ Send (request_frame c (next_id c) r) ∷ []; runner = at (client_after_issue c r now) stage [] }
 unfolding given
 prints_and_sends now c stage text r on waits =
-    turns_given now c stage (ToPrint text) (ToSend r ∷ []) ∙ ap (after_step (given now (ToPrint text) (at c stage (ToSend r ∷ [])))) (sends_one now c stage r on waits)
+    turns_given now c stage (ToPrint text) (ToSend r ∷ [])
+    ∙ ap (after_step (given now (ToPrint text) (at c stage (ToSend r ∷ [])))) (sends_one now c stage r on waits)
 
 -- what is heard is taken in
 pub hears_so : (now : ℕ) (c d : Client) (stage : Stage) (x : Hearing) → is_over stage ≡ false → next_hearing c ≡ x → is_not_yet x.heard ≡ false → x.client ≡ d
@@ -108,10 +116,13 @@ behind_so c a ts (Some e) is = record {
   end = is ∙ ap (λ o. end_so o (quiet_after c.quiet a) (c.answers + 1) a) (sym is);
 }
 
-goes_so : (c : Conversation) (a : LinkAnswer) (ts : Turns) → turns (moment_of a) (runner_after_answer c.runner a) ≡ ts → IsBehind c a ts (conversation_going_on c a)
+goes_so : (c : Conversation) (a : LinkAnswer) (ts : Turns)
+    → turns (moment_of a) (runner_after_answer c.runner a) ≡ ts → IsBehind c a ts (conversation_going_on c a)
 unfolding conversation_going_on conversation_after_turns
 goes_so c a ts is =
-    subst (λ (u : Turns). IsBehind c a ts (ended_by a (conversation_after_turns (with_answer c a) u))) (sym is) (behind_so c a ts (end_of_stage ts.runner.stage) refl)
+    subst (λ (u : Turns). IsBehind c a ts (ended_by a (conversation_after_turns (with_answer c a) u)))
+    (sym is) (behind_so c a ts (end_of_stage ts.runner.stage) refl)
 
-pub is_behind : (c : Conversation) (a : LinkAnswer) (ts : Turns) → c.end ≡ None → turns (moment_of a) (runner_after_answer c.runner a) ≡ ts → IsBehind c a ts (conversation_after c a)
+pub is_behind : (c : Conversation) (a : LinkAnswer) (ts : Turns) → c.end ≡ None
+    → turns (moment_of a) (runner_after_answer c.runner a) ≡ ts → IsBehind c a ts (conversation_after c a)
 is_behind c a ts on is = subst (IsBehind c a ts) (sym (going_on c a on)) (goes_so c a ts is)

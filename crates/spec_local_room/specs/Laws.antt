@@ -3,7 +3,6 @@
 use Rattle.std.specs.Prelude.{◌≡◌, ℕ, ◌≤◌, ◌<◌, ◌^◌, List, length, Bool, true, false, is_some, Some, None}
 use Rattle.spec_formats.specs.Header.{AmsAddress, IsAddress}
 use Rattle.spec_machine.specs.AdsDevice.{DescriptionReading, server_step}
-use Rattle.spec_machine.specs.Answers.{all_answered}
 use Rattle.spec_machine.specs.Client as served
 use Rattle.spec_machine.specs.Connection.{connection_of}
 use Rattle.spec_machine.specs.MachineState.{MachineState}
@@ -40,7 +39,7 @@ IsBounded (Record names watching first) = ⊥
 
 -- the server's machine, over any reading of descriptions
 abbrev pub closed_step : DescriptionReading → EventStep World served.Client
-closed_step reading = server_step all_answered reading
+closed_step reading = server_step reading
 
 -- a bounded call over this machine, between two addresses, where number 1 is free
 pub record IsLocal (s : MachineState World served.Client) (me peer : AmsAddress) (call : Call) : Type 0 where

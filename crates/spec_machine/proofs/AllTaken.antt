@@ -20,7 +20,8 @@ use Rattle.spec_machine.proofs.TurnsKept.{offers_kept, gave_offers}
 use Rattle.spec_machine.proofs.Emptied.{not_taken_at, Settled, Marked, SettledAfter}
 use Rattle.spec_machine.proofs.EmptiedTurns.{IsIn, WillSettle, each-settled, settled-append, cut_off-append}
 
-present-in : {C : Type 0} (c : ℕ) (ks : List (Connection C)) (k : Connection C) → connection_of c ks ≡ Some k → k.gone ≡ false → IsIn c (map (λ (x : Connection C). x.number) (filter (λ (x : Connection C). not x.gone) ks))
+present-in : {C : Type 0} (c : ℕ) (ks : List (Connection C)) (k : Connection C) → connection_of c ks ≡ Some k
+    → k.gone ≡ false → IsIn c (map (λ (x : Connection C). x.number) (filter (λ (x : Connection C). not x.gone) ks))
 unfolding connection_of
 present-in c [] k e g = cc
 present-in {C} c (l ∷ ls) k e g =
@@ -38,7 +39,8 @@ present-in {C} c (l ∷ ls) k e g =
           ]
     ]
 
-passes-settles : {W C : Type 0} (c : ℕ) (short : Bool) (s u : MachineState W C) → PassesOn (connection_of c s.connections) (connection_of c u.connections) → Settled c short s → WillSettle c short (present_numbers u) u
+passes-settles : {W C : Type 0} (c : ℕ) (short : Bool) (s u : MachineState W C)
+    → PassesOn (connection_of c s.connections) (connection_of c u.connections) → Settled c short s → WillSettle c short (present_numbers u) u
 passes-settles c short s u p (inl e) = inl (inl e)
 passes-settles c short s u (inl e) (inr h) = inl (inr (e ∙ h))
 passes-settles c short s u (inr (l, e, g)) (inr h) = inr (present-in c u.connections l e g, ap is_gone e ∙ g)
@@ -62,7 +64,8 @@ event-marked c short (event.Tick t) blocked m = m
 event-marked c short (event.Reload bytes) blocked m = m
 event-marked c short (event.Writable n) blocked m = λ b. m (filtered c n blocked b)
 
-turns-settled : {W C : Type 0} (step : EventStep W C) → KeepsThere step → (c : ℕ) (ts : List LogTurn) (short : Bool) (blocked : List ℕ) (s : MachineState W C) → AreTurns step blocked s ts → is_cut_off c (flat_map moves_of_turn ts) ≡ false
+turns-settled : {W C : Type 0} (step : EventStep W C) → KeepsThere step → (c : ℕ) (ts : List LogTurn) (short : Bool) (blocked : List ℕ) (s : MachineState W C)
+    → AreTurns step blocked s ts → is_cut_off c (flat_map moves_of_turn ts) ≡ false
     → Marked c short blocked → Settled c short s → SettledAfter step c short blocked s (flat_map moves_of_turn ts)
 unfolding AreTurns state_after state_after_move blocked_after is_short_from
 turns-settled step keeps c [] short blocked s h cut m o = (o, m)
@@ -74,7 +77,8 @@ turns-settled {W} {C} step keeps c (t ∷ ts) short blocked s h cut m o =
     let will = passes-settles c short s u (keeps s t.event c (event_cuts.0)) o in
     let a = each-settled step c (present_numbers u) t.served short bs u (h.0) (event_cuts.1) (event-marked c short t.event blocked m) will in
     settled-append step c short blocked (moves_of_turn t) (flat_map moves_of_turn ts) s
-    (turns-settled step keeps c ts (is_short_from c short (moves_of_turn t)) (blocked_after blocked (moves_of_turn t)) (state_after step s (moves_of_turn t)) (h.1) (cuts.1) (a.1) (a.0))
+    (turns-settled step keeps c ts (is_short_from c short (moves_of_turn t))
+    (blocked_after blocked (moves_of_turn t)) (state_after step s (moves_of_turn t)) (h.1) (cuts.1) (a.1) (a.0))
 
 all_of_it : {C : Type 0} (t : List ℕ) (o : Option (Connection C)) → MaybeGave t o → not_taken o ≡ [] → t ≡ output_of_connection o
 all_of_it t None g l = g

@@ -5,7 +5,8 @@ use Rattle.std.specs.Prelude.{Option, Some, None, slice_get, option_map, unwrap_
 use Rattle.std.proofs.lemmas.List.{map-append, length-map, take_at, drop_at}
 use Rattle.std.proofs.lemmas.Option.{unwrap_or-slice_get}
 use Rattle.spec_plant.specs.Description.{Area, size_in}
-use Rattle.spec_plant.specs.World.{ByteName, Block, Part, SymbolPart, AreaPart, PlantSymbol, PlantPort, lower_name, symbol_size, block_of, byte_at, byte_or_zero}
+use Rattle.spec_plant.specs.World.{ByteName, Block, Part, SymbolPart, AreaPart, PlantSymbol, PlantPort}
+use Rattle.spec_plant.specs.World.{lower_name, symbol_size, block_of, byte_at, byte_or_zero}
 use Rattle.spec_plant.specs.Sound.{AreApart}
 use Rattle.spec_plant.proofs.BlockLemmas.{byte_at-same, byte_at-other}
 use Rattle.spec_machine.specs.World.{numbers_from, name_at, names_at, symbol_names, content_of}

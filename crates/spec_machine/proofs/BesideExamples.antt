@@ -46,7 +46,6 @@ use Rattle.ads_outside.specs.declared.moves.Move.{Move}
 use Rattle.spec_machine.specs.MachineState.{output_of}
 use Rattle.spec_plant.specs.World.{ByteName}
 use Rattle.spec_machine.specs.World.{symbol_names}
-use Rattle.spec_machine.specs.Answers.{all_answered}
 use Rattle.spec_machine.specs.Projection.{reads_of, writes_by_others}
 use Rattle.spec_machine.proofs.Plant.{q, named, added, piece, opened, tick, reload, reading, step, start}
 use Rattle.spec_frames.proofs.Hex.{hex}
@@ -58,7 +57,8 @@ busy =
     opened 1 ∷ opened 2
     ∷ piece 1 (q 2 1 (codes "40400000 00000000 04000000")) ∷ piece 2 (named 1 0xF003 4 (codes "Main.count") ++ named 2 0xF003 4 (codes "Main.axis"))
     ∷ piece 1 (named 2 0xF003 4 (codes "Main.count")) ∷ piece 2 (q 3 3 (codes "40400000 08000000 02000000 0102"))
-    ∷ piece 1 (added 3 (codes "20400000 00000000 01000000 04000000 00000000 00000000")) ∷ piece 2 (added 4 (codes "40400000 08000000 02000000 03000000 00000000 00000000"))
+    ∷ piece 1 (added 3 (codes "20400000 00000000 01000000 04000000 00000000 00000000"))
+    ∷ piece 2 (added 4 (codes "40400000 08000000 02000000 03000000 00000000 00000000"))
     ∷ tick 1000 ∷ piece 2 (q 3 5 (codes "40400000 48000000 01000000 41"))
     ∷ piece 1 (q 3 5 (codes "20400000 00000000 01000000 05"))
     ∷ reload (codes "plant2") ∷ piece 2 (hex (codes "0100200000ff")) ∷ tick 2000
@@ -70,9 +70,9 @@ named_bytes symbol len = symbol_names 851 symbol 0 len
 
 record BesideRows : Type 0 where
   -- what connection 1 reads, were it alone: Main.count, Flags.bits, and Main.count by its handle
-  reads : reads_of all_answered reading 1 start busy ≡ named_bytes (codes "main.count") 4 ++ named_bytes (codes "flags.bits") 1 ++ named_bytes (codes "main.count") 4
+  reads : reads_of reading 1 start busy ≡ named_bytes (codes "main.count") 4 ++ named_bytes (codes "flags.bits") 1 ++ named_bytes (codes "main.count") 4
   -- what connection 2 writes: two bytes of Main.axis, one of Main.title
-  writes : writes_by_others all_answered reading 1 start busy ≡ named_bytes (codes "main.axis") 2 ++ named_bytes (codes "main.title") 1
+  writes : writes_by_others reading 1 start busy ≡ named_bytes (codes "main.axis") 2 ++ named_bytes (codes "main.title") 1
   alone : output_of 1 (state_after step start busy) ≡ output_of 1 (state_after step start (projection_of 1 busy))
 
 beside_rows : BesideRows

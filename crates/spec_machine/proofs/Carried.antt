@@ -34,7 +34,8 @@ pub record Carries {W C : Type 0} (device : Device W C) (P : Option (Connection 
   pub events : EventsCarry device P
   pub took : (n : ℕ) (x : Exchange W C) → P (Some x.connection) → P (Some (with_took n x).connection)
 
-local-carried : {W C : Type 0} (P : Option (Connection C) → Type 0) (c n : ℕ) (f : Exchange W C → Exchange W C) → KeepsNumber f → ((x : Exchange W C) → P (Some x.connection) → P (Some (f x).connection)) → (s : MachineState W C)
+local-carried : {W C : Type 0} (P : Option (Connection C) → Type 0) (c n : ℕ) (f : Exchange W C → Exchange W C)
+    → KeepsNumber f → ((x : Exchange W C) → P (Some x.connection) → P (Some (f x).connection)) → (s : MachineState W C)
     → P (connection_of c s.connections) → P (connection_of c (after_exchange (connection_of n s.connections) f s).connections)
 local-carried {W} {C} P c n f same keeps s g =
     elim (cases_eq n c) [
@@ -48,59 +49,78 @@ local-carried {W} {C} P c n f same keeps s g =
     own None e = subst (λ (u : MachineState W C). P (connection_of c u.connections)) (sym (exchange_none c f s e)) g
     own (Some k) e = subst P (sym (exchange_own c f same s k e)) (keeps (exchange_of s k) (subst P e g))
 
-mapped-carried : {C : Type 0} (P : Option (Connection C) → Type 0) (c : ℕ) (f : Connection C → Connection C) → ((k : Connection C) → (f k).number ≡ k.number) → ((k : Connection C) → P (Some k) → P (Some (f k))) → (ks : List (Connection C)) → P (connection_of c ks) → P (connection_of c (map f ks))
+mapped-carried : {C : Type 0} (P : Option (Connection C) → Type 0) (c : ℕ) (f : Connection C → Connection C)
+    → ((k : Connection C) → (f k).number ≡ k.number) → ((k : Connection C) → P (Some k) → P (Some (f k)))
+    → (ks : List (Connection C)) → P (connection_of c ks) → P (connection_of c (map f ks))
 mapped-carried {C} P c f same keeps ks g = subst P (sym (connection_of-map c f same ks)) (one (connection_of c ks) g)
   where
     one : (o : Option (Connection C)) → P o → P (option_map f o)
     one None h = h
     one (Some k) h = keeps k h
 
-opened-carried : {W C : Type 0} (device : Device W C) (P : Option (Connection C) → Type 0) → EventsCarry device P → (c n : ℕ) (ks : List (Connection C)) → P (connection_of c ks) → P (connection_of c (ks ++ fresh_connection device.new_client n ∷ []))
+opened-carried : {W C : Type 0} (device : Device W C) (P : Option (Connection C) → Type 0) → EventsCarry device P
+    → (c n : ℕ) (ks : List (Connection C)) → P (connection_of c ks) → P (connection_of c (ks ++ fresh_connection device.new_client n ∷ []))
 unfolding connection_of
-opened-carried {W} {C} device P keeps c n ks g = subst P (sym (connection_of-append c ks (fresh_connection device.new_client n ∷ []))) (one (connection_of c ks) g)
+opened-carried {W} {C} device P keeps c n ks g =
+    subst P (sym (connection_of-append c ks (fresh_connection device.new_client n ∷ []))) (one (connection_of c ks) g)
   where
     one : (o : Option (Connection C)) → P o → P (or_else o (connection_of c (fresh_connection device.new_client n ∷ [])))
     one (Some k) h = h
     one None h = elim (cases_Bool (n == c)) [ inl b ↦ rw b (keeps.fresh n h) | inr b ↦ rw b h ]
 
-reload-carried : {W C : Type 0} (device : Device W C) (P : Option (Connection C) → Type 0) → EventsCarry device P → (c : ℕ) (r : Reloading W) (s : MachineState W C) → P (connection_of c s.connections) → P (connection_of c (after_reload device r s).connections)
+reload-carried : {W C : Type 0} (device : Device W C) (P : Option (Connection C) → Type 0) → EventsCarry device P
+    → (c : ℕ) (r : Reloading W) (s : MachineState W C) → P (connection_of c s.connections) → P (connection_of c (after_reload device r s).connections)
 reload-carried device P keeps c (Refused fault) s g = g
 reload-carried device P keeps c (Accepted version world) s g =
-    mapped-carried P c (connection_after_reload device s.moment s.world world) (λ k. (connection_after_reload-grows device s.moment s.world world k).number) (keeps.reload s.moment s.world world) s.connections g
+    mapped-carried P c (connection_after_reload device s.moment s.world world)
+    (λ k. (connection_after_reload-grows device s.moment s.world world k).number) (keeps.reload s.moment s.world world) s.connections g
 
-pub event-carried : {W C : Type 0} (device : Device W C) (P : Option (Connection C) → Type 0) → EventsCarry device P → (c : ℕ) (e : Event) (s : MachineState W C) → P (connection_of c s.connections) → P (connection_of c (state_after_event device s e).connections)
+pub event-carried : {W C : Type 0} (device : Device W C) (P : Option (Connection C) → Type 0) → EventsCarry device P
+    → (c : ℕ) (e : Event) (s : MachineState W C) → P (connection_of c s.connections) → P (connection_of c (state_after_event device s e).connections)
 unfolding state_after_event
 event-carried device P keeps c (event.Opened n) s g = opened-carried device P keeps c n s.connections g
-event-carried device P keeps c (event.Piece n bytes) s g = local-carried P c n (after_piece device bytes) (λ x. (after_piece-grows device bytes x).number) (keeps.piece bytes) s g
+event-carried device P keeps c (event.Piece n bytes) s g =
+    local-carried P c n (after_piece device bytes) (λ x. (after_piece-grows device bytes x).number) (keeps.piece bytes) s g
 event-carried device P keeps c (event.Closed n) s g = local-carried P c n with_gone with_gone-number keeps.gone s g
 event-carried device P keeps c (event.Tick now) s g =
     let world = device.world_after_tick s.world in
     let moment = moment_of_tick now s in
-    mapped-carried P c (connection_after_tick device moment world) (λ k. (connection_after_tick-grows device moment world k).number) (keeps.tick moment world) s.connections g
+    mapped-carried P c (connection_after_tick device moment world)
+    (λ k. (connection_after_tick-grows device moment world k).number) (keeps.tick moment world) s.connections g
 event-carried device P keeps c (event.Reload bytes) s g = reload-carried device P keeps c (device.reload bytes s.world) s g
 event-carried device P keeps c (event.Writable n) s g = g
 
-pub move-carried : {W C : Type 0} (device : Device W C) (P : Option (Connection C) → Type 0) → Carries device P → (c : ℕ) (m : Move) (s : MachineState W C) → P (connection_of c s.connections) → P (connection_of c (state_after_move (state_after_event device) s m).connections)
+pub move-carried : {W C : Type 0} (device : Device W C) (P : Option (Connection C) → Type 0) → Carries device P
+    → (c : ℕ) (m : Move) (s : MachineState W C) → P (connection_of c s.connections)
+    → P (connection_of c (state_after_move (state_after_event device) s m).connections)
 unfolding state_after_move
 move-carried device P keeps c (move.Event e) s g = event-carried device P keeps.events c e s g
-move-carried device P keeps c (move.Took n offered bytes) s g = local-carried P c n (with_took (length bytes)) (with_took-number (length bytes)) (keeps.took (length bytes)) s g
+move-carried device P keeps c (move.Took n offered bytes) s g =
+    local-carried P c n (with_took (length bytes)) (with_took-number (length bytes)) (keeps.took (length bytes)) s g
 move-carried device P keeps c (move.Lost n) s g = local-carried P c n with_gone with_gone-number keeps.events.gone s g
 move-carried device P keeps c (move.Shut n) s g = local-carried P c n with_gone with_gone-number keeps.events.gone s g
 
-pub log-carried : {W C : Type 0} (device : Device W C) (P : Option (Connection C) → Type 0) → Carries device P → (c : ℕ) (log : List Move) (s : MachineState W C) → P (connection_of c s.connections) → P (connection_of c (state_after (state_after_event device) s log).connections)
+pub log-carried : {W C : Type 0} (device : Device W C) (P : Option (Connection C) → Type 0) → Carries device P
+    → (c : ℕ) (log : List Move) (s : MachineState W C) → P (connection_of c s.connections)
+    → P (connection_of c (state_after (state_after_event device) s log).connections)
 unfolding state_after
 log-carried device P keeps c [] s g = g
-log-carried device P keeps c (m ∷ ms) s g = log-carried device P keeps c ms (state_after_move (state_after_event device) s m) (move-carried device P keeps c m s g)
+log-carried device P keeps c (m ∷ ms) s g =
+    log-carried device P keeps c ms (state_after_move (state_after_event device) s m) (move-carried device P keeps c m s g)
 
 -- with_took changes one count, or nothing
-pub took-cases : {W C : Type 0} (P : Connection C → Type 0) (n : ℕ) (x : Exchange W C) → P x.connection → P (record x.connection { bytes_taken = x.connection.bytes_taken + n }) → P (with_took n x).connection
+pub took-cases : {W C : Type 0} (P : Connection C → Type 0) (n : ℕ) (x : Exchange W C) → P x.connection
+    → P (record x.connection { bytes_taken = x.connection.bytes_taken + n }) → P (with_took n x).connection
 took-cases {W} {C} P n x same more = elim (cases_Bool x.connection.gone) [
-  | inl b ↦ let Q : Bool → Type 0 = λ t. P (cond t x (record x { connection = record x.connection { bytes_taken = x.connection.bytes_taken + n } })).connection in subst Q (sym b) same
-  | inr b ↦ let Q : Bool → Type 0 = λ t. P (cond t x (record x { connection = record x.connection { bytes_taken = x.connection.bytes_taken + n } })).connection in subst Q (sym b) more
+  | inl b ↦ let Q : Bool → Type 0 =
+      λ t. P (cond t x (record x { connection = record x.connection { bytes_taken = x.connection.bytes_taken + n } })).connection in subst Q (sym b) same
+  | inr b ↦ let Q : Bool → Type 0 =
+      λ t. P (cond t x (record x { connection = record x.connection { bytes_taken = x.connection.bytes_taken + n } })).connection in subst Q (sym b) more
 ]
 
 prefix-grows : {C : Type 0} (t : List ℕ) (k l : Connection C) → Grows k l → IsPrefix t (bytes_of_all k.produced) → IsPrefix t (bytes_of_all l.produced)
-prefix-grows t k l g (rest, e) = (rest ++ bytes_of_all g.more, bytes_of_grown k l g ∙ ap (λ xs. xs ++ bytes_of_all g.more) e ∙ append_assoc t rest (bytes_of_all g.more))
+prefix-grows t k l g (rest, e) =
+    (rest ++ bytes_of_all g.more, bytes_of_grown k l g ∙ ap (λ xs. xs ++ bytes_of_all g.more) e ∙ append_assoc t rest (bytes_of_all g.more))
 
 output-carries : {W C : Type 0} (device : Device W C) (t : List ℕ) → Carries device (λ o. IsPrefix t (output_of_connection o))
 output-carries {W} {C} device t = record {
@@ -136,11 +156,13 @@ deaf-piece : {W C : Type 0} (device : Device W C) (bytes : List ℕ) (x : Exchan
 unfolding after_piece
 deaf-piece device bytes x d = rw d refl
 
-deaf-tick : {W C : Type 0} (device : Device W C) (moment : ℕ) (world : W) (k : Connection C) → is_deaf k ≡ true → connection_after_tick device moment world k ≡ k
+deaf-tick : {W C : Type 0} (device : Device W C) (moment : ℕ) (world : W) (k : Connection C)
+    → is_deaf k ≡ true → connection_after_tick device moment world k ≡ k
 unfolding connection_after_tick
 deaf-tick device moment world k d = rw d refl
 
-deaf-reload : {W C : Type 0} (device : Device W C) (moment : ℕ) (old new : W) (k : Connection C) → is_deaf k ≡ true → connection_after_reload device moment old new k ≡ k
+deaf-reload : {W C : Type 0} (device : Device W C) (moment : ℕ) (old new : W) (k : Connection C)
+    → is_deaf k ≡ true → connection_after_reload device moment old new k ≡ k
 unfolding connection_after_reload
 deaf-reload device moment old new k d = rw d refl
 
@@ -152,8 +174,12 @@ rest-carries {W} {C} device k = record {
     tick = λ moment world l h. subst (λ (m : Connection C). Rests k (Some m)) (sym (deaf-tick device moment world l (rests-deaf k l h))) h;
     reload = λ moment old new l h. subst (λ (m : Connection C). Rests k (Some m)) (sym (deaf-reload device moment old new l (rests-deaf k l h))) h;
     gone = λ x h.
-        let r = rests-rest k x.connection h in
-        ((with_gone x).connection, refl, record { received = r.received; frames_taken = r.frames_taken; client = r.client; produced = r.produced }, or_right x.connection.closing true refl);
+        let r = rests-rest k x.connection h in (
+          (with_gone x).connection,
+          refl,
+          record { received = r.received; frames_taken = r.frames_taken; client = r.client; produced = r.produced },
+          or_right x.connection.closing true refl,
+        );
   };
   took = λ n x h. took-cases (λ (l : Connection C). Rests k (Some l)) n x h (more n x h);
 }
@@ -163,12 +189,17 @@ rest-carries {W} {C} device k = record {
 
     more : (n : ℕ) (x : Exchange W C) → Rests k (Some x.connection) → Rests k (Some (record x.connection { bytes_taken = x.connection.bytes_taken + n }))
     more n x h =
-        let r = rests-rest k x.connection h in
-        (record x.connection { bytes_taken = x.connection.bytes_taken + n }, refl, record { received = r.received; frames_taken = r.frames_taken; client = r.client; produced = r.produced }, rests-deaf k x.connection h)
+        let r = rests-rest k x.connection h in (
+          record x.connection { bytes_taken = x.connection.bytes_taken + n },
+          refl,
+          record { received = r.received; frames_taken = r.frames_taken; client = r.client; produced = r.produced },
+          rests-deaf k x.connection h,
+        )
 
 pub closing_ends : (W C : Type 0) → ClosingEnds W C
 closing_ends W C device s c log k e d =
-    let r = log-carried device (Rests k) (rest-carries device k) c log s (k, e, record { received = refl; frames_taken = refl; client = refl; produced = refl }, d) in
+    let r = log-carried device (Rests k) (rest-carries device k) c log s
+    (k, e, record { received = refl; frames_taken = refl; client = refl; produced = refl }, d) in
     (r.0, r.1, r.2)
 
 pub limits_queue : (C : Type 0) → LimitsQueue C

@@ -12,13 +12,16 @@ abbrev pub KeepsNumber : {W C : Type 0} → (Exchange W C → Exchange W C) → 
 KeepsNumber {W} {C} f = (x : Exchange W C) → (f x).connection.number ≡ x.connection.number
 
 -- the connection of a number after an exchange with it
-pub exchange_own : {W C : Type 0} (c : ℕ) (f : Exchange W C → Exchange W C) → KeepsNumber f → (s : MachineState W C) (k : Connection C) → connection_of c s.connections ≡ Some k → connection_of c (after_exchange (connection_of c s.connections) f s).connections ≡ Some (f (exchange_of s k)).connection
+pub exchange_own : {W C : Type 0} (c : ℕ) (f : Exchange W C → Exchange W C) → KeepsNumber f → (s : MachineState W C) (k : Connection C)
+    → connection_of c s.connections ≡ Some k
+    → connection_of c (after_exchange (connection_of c s.connections) f s).connections ≡ Some (f (exchange_of s k)).connection
 exchange_own {W} {C} c f same s k e =
     let P : Option (Connection C) → Type 0 = λ o. connection_of c (after_exchange o f s).connections ≡ Some (f (exchange_of s k)).connection in
     subst P (sym e) (connection_of-put_same c (f (exchange_of s k)).connection k s.connections e (same (exchange_of s k) ∙ number_of_found c k s.connections e))
 
 -- after an exchange with another
-pub exchange_other : {W C : Type 0} (c n : ℕ) (f : Exchange W C → Exchange W C) → KeepsNumber f → n ≢ c → (s : MachineState W C) → connection_of c (after_exchange (connection_of n s.connections) f s).connections ≡ connection_of c s.connections
+pub exchange_other : {W C : Type 0} (c n : ℕ) (f : Exchange W C → Exchange W C) → KeepsNumber f → n ≢ c → (s : MachineState W C)
+    → connection_of c (after_exchange (connection_of n s.connections) f s).connections ≡ connection_of c s.connections
 exchange_other {W} {C} c n f same ne s = go (connection_of n s.connections) refl
   where
     go : (o : Option (Connection C)) → connection_of n s.connections ≡ o → connection_of c (after_exchange o f s).connections ≡ connection_of c s.connections
@@ -28,7 +31,8 @@ exchange_other {W} {C} c n f same ne s = go (connection_of n s.connections) refl
         connection_of-put_other c (f (exchange_of s k)).connection s.connections (λ x. ne (sym m ∙ sym (same (exchange_of s k)) ∙ x))
 
 -- no connection of that number is there
-pub exchange_none : {W C : Type 0} (n : ℕ) (f : Exchange W C → Exchange W C) (s : MachineState W C) → connection_of n s.connections ≡ None → after_exchange (connection_of n s.connections) f s ≡ s
+pub exchange_none : {W C : Type 0} (n : ℕ) (f : Exchange W C → Exchange W C) (s : MachineState W C)
+    → connection_of n s.connections ≡ None → after_exchange (connection_of n s.connections) f s ≡ s
 exchange_none {W} {C} n f s e =
     let P : Option (Connection C) → Type 0 = λ o. after_exchange o f s ≡ s in
     subst P (sym e) refl
@@ -39,11 +43,13 @@ with_gone-number x = refl
 pub with_took-number : {W C : Type 0} (n : ℕ) → KeepsNumber {W = W} {C = C} (with_took n)
 with_took-number {W} {C} n x = go x.connection.gone
   where
-    go : (b : _) → (cond b x (record x { connection = record x.connection { bytes_taken = x.connection.bytes_taken + n } })).connection.number ≡ x.connection.number
+    go : (b : _) → (cond b x (record x { connection = record x.connection { bytes_taken = x.connection.bytes_taken + n } })).connection.number
+        ≡ x.connection.number
     go true = refl
     go false = refl
 
-pub state_after-append : {W C : Type 0} (step : EventStep W C) (ms ns : List Move) (s : MachineState W C) → state_after step s (ms ++ ns) ≡ state_after step (state_after step s ms) ns
+pub state_after-append : {W C : Type 0} (step : EventStep W C) (ms ns : List Move) (s : MachineState W C)
+    → state_after step s (ms ++ ns) ≡ state_after step (state_after step s ms) ns
 unfolding state_after
 state_after-append step [] ns s = refl
 state_after-append step (m ∷ ms) ns s = state_after-append step ms ns (state_after_move step s m)

@@ -7,10 +7,12 @@ use Rattle.spec_plant.specs.World.{PlantPort}
 use Rattle.spec_formats.specs.Codes.{target_port_not_found, target_machine_not_found, unknown_command_id, unknown_ams_command, invalid_ams_length, invalid_size}
 use Rattle.spec_formats.specs.Groups.{Group, SumRead, SumWrite, SumReadWrite}
 use Rattle.spec_formats.specs.Header.{AmsAddress, AmsHeader, header_of, payload_of}
-use Rattle.spec_formats.specs.Request.{Request, ReadDeviceInfo, Read, Write, ReadState, WriteControl, AddDeviceNotification, DeleteDeviceNotification, DeviceNotification, ReadWrite, request_of}
+use Rattle.spec_formats.specs.Request.{Request, ReadDeviceInfo, Read, Write, ReadState, WriteControl}
+use Rattle.spec_formats.specs.Request.{AddDeviceNotification, DeleteDeviceNotification, DeviceNotification}
+use Rattle.spec_formats.specs.Request.{ReadWrite, request_of}
 use Rattle.spec_machine.specs.World.{Setup, port_numbered}
 use Rattle.spec_machine.specs.Client.{Client}
-use Rattle.spec_machine.specs.Answers.{AnswerTable, answered_group, READ_WRITE}
+use Rattle.spec_machine.specs.Answers.{answered_group, READ_WRITE}
 use Rattle.spec_machine.specs.Writes.{Asker}
 use Rattle.spec_machine.specs.Sums.{sum_of_reads, sum_of_writes, sum_of_read_writes}
 use Rattle.spec_machine.specs.Decisions.{Decision, NoAnswer, EndConnection, AmsError, refuse}
@@ -18,43 +20,49 @@ use Rattle.spec_machine.specs.SumPackets.{decide_single, decide_sum, decide_read
 use Rattle.spec_machine.specs.Packets.{Check, checks_of, checked, decide_passed, decide_header, decide}
 
 -- it holds of each; requests are asked of a port that is there
-pub record EachCase (table : AnswerTable) (d : Setup) (c : Client) (P : Decision → Type 0) : Type 0 where
+pub record EachCase (d : Setup) (c : Client) (P : Decision → Type 0) : Type 0 where
   pub silent : P NoAnswer
   pub ends : P EndConnection
   pub error : (code : ℕ) → P (AmsError code)
   pub refused : (code : ℕ) → P (refuse code)
-  pub single : (k : Asker) (number : ℕ) → port_numbered number d.plant.ports ≡ Some k.port → (r : Request) → P (decide_single table d c k r)
-  pub reads : (k : Asker) (number : ℕ) → port_numbered number d.plant.ports ≡ Some k.port → (n len : ℕ) (bytes : List ℕ) → P (decide_sum table d c k n (length bytes) len (sum_of_reads n bytes))
-  pub writes : (k : Asker) (number : ℕ) → port_numbered number d.plant.ports ≡ Some k.port → (n len : ℕ) (bytes : List ℕ) → P (decide_sum table d c k n (length bytes) len (sum_of_writes n bytes))
-  pub read_writes : (k : Asker) (number : ℕ) → port_numbered number d.plant.ports ≡ Some k.port → (n len : ℕ) (bytes : List ℕ) → P (decide_sum table d c k n (length bytes) len (sum_of_read_writes n bytes))
+  pub single : (k : Asker) (number : ℕ) → port_numbered number d.plant.ports ≡ Some k.port → (r : Request) → P (decide_single d c k r)
+  pub reads : (k : Asker) (number : ℕ) → port_numbered number d.plant.ports ≡ Some k.port
+      → (n len : ℕ) (bytes : List ℕ) → P (decide_sum d c k n (length bytes) len (sum_of_reads n bytes))
+  pub writes : (k : Asker) (number : ℕ) → port_numbered number d.plant.ports ≡ Some k.port
+      → (n len : ℕ) (bytes : List ℕ) → P (decide_sum d c k n (length bytes) len (sum_of_writes n bytes))
+  pub read_writes : (k : Asker) (number : ℕ) → port_numbered number d.plant.ports ≡ Some k.port
+      → (n len : ℕ) (bytes : List ℕ) → P (decide_sum d c k n (length bytes) len (sum_of_read_writes n bytes))
 
-read_write-case : (table : AnswerTable) (d : Setup) (c : Client) (P : Decision → Type 0) → EachCase table d c P → (k : Asker) (number : ℕ) → port_numbered number d.plant.ports ≡ Some k.port
-    → (g : Option Group) (r : Request) (n len : ℕ) (bytes : List ℕ) → P (decide_read_write table d c k g r n len bytes)
-read_write-case table d c P law k number e (Some SumRead) r n len bytes = law.reads k number e n len bytes
-read_write-case table d c P law k number e (Some SumWrite) r n len bytes = law.writes k number e n len bytes
-read_write-case table d c P law k number e (Some SumReadWrite) r n len bytes = law.read_writes k number e n len bytes
-read_write-case table d c P law k number e g r n len bytes = law.single k number e r
+read_write-case : (d : Setup) (c : Client) (P : Decision → Type 0) → EachCase d c P
+    → (k : Asker) (number : ℕ) → port_numbered number d.plant.ports ≡ Some k.port
+    → (g : Option Group) (r : Request) (n len : ℕ) (bytes : List ℕ) → P (decide_read_write d c k g r n len bytes)
+read_write-case d c P law k number e (Some SumRead) r n len bytes = law.reads k number e n len bytes
+read_write-case d c P law k number e (Some SumWrite) r n len bytes = law.writes k number e n len bytes
+read_write-case d c P law k number e (Some SumReadWrite) r n len bytes = law.read_writes k number e n len bytes
+read_write-case d c P law k number e g r n len bytes = law.single k number e r
 
-request-case : (table : AnswerTable) (d : Setup) (c : Client) (P : Decision → Type 0) → EachCase table d c P → (k : Asker) (number : ℕ) → port_numbered number d.plant.ports ≡ Some k.port
-    → (r : Request) → P (decide_request table d c k r)
+request-case : (d : Setup) (c : Client) (P : Decision → Type 0) → EachCase d c P → (k : Asker) (number : ℕ) → port_numbered number d.plant.ports ≡ Some k.port
+    → (r : Request) → P (decide_request d c k r)
 unfolding decide_request
-request-case table d c P law k number e (ReadWrite group offset len bytes) =
-    read_write-case table d c P law k number e (answered_group table READ_WRITE group) (ReadWrite group offset len bytes) offset len bytes
-request-case table d c P law k number e ReadDeviceInfo = law.single k number e ReadDeviceInfo
-request-case table d c P law k number e (Read g o l) = law.single k number e (Read g o l)
-request-case table d c P law k number e (Write g o b) = law.single k number e (Write g o b)
-request-case table d c P law k number e ReadState = law.single k number e ReadState
-request-case table d c P law k number e (WriteControl a s b) = law.single k number e (WriteControl a s b)
-request-case table d c P law k number e (AddDeviceNotification g o l m y t) = law.single k number e (AddDeviceNotification g o l m y t)
-request-case table d c P law k number e (DeleteDeviceNotification h) = law.single k number e (DeleteDeviceNotification h)
-request-case table d c P law k number e (DeviceNotification b) = law.single k number e (DeviceNotification b)
+request-case d c P law k number e (ReadWrite group offset len bytes) =
+    read_write-case d c P law k number e (answered_group READ_WRITE group) (ReadWrite group offset len bytes) offset len bytes
+request-case d c P law k number e ReadDeviceInfo = law.single k number e ReadDeviceInfo
+request-case d c P law k number e (Read g o l) = law.single k number e (Read g o l)
+request-case d c P law k number e (Write g o b) = law.single k number e (Write g o b)
+request-case d c P law k number e ReadState = law.single k number e ReadState
+request-case d c P law k number e (WriteControl a s b) = law.single k number e (WriteControl a s b)
+request-case d c P law k number e (AddDeviceNotification g o l m y t) = law.single k number e (AddDeviceNotification g o l m y t)
+request-case d c P law k number e (DeleteDeviceNotification h) = law.single k number e (DeleteDeviceNotification h)
+request-case d c P law k number e (DeviceNotification b) = law.single k number e (DeviceNotification b)
 
-passed-case : (table : AnswerTable) (d : Setup) (c : Client) (P : Decision → Type 0) → EachCase table d c P → (source : AmsAddress) (number : ℕ) (rights : Option Rights) (port : Option PlantPort)
-    → port_numbered number d.plant.ports ≡ port → (request : Option Request) → P (decide_passed table d c source rights port request)
-passed-case table d c P law source number (Some rights) (Some port) e (Some request) = request-case table d c P law (record { port = port; address = source; rights = rights }) number e request
-passed-case table d c P law source number (Some rights) (Some port) e None = law.silent
-passed-case table d c P law source number (Some rights) None e request = law.silent
-passed-case table d c P law source number None port e request = law.silent
+passed-case : (d : Setup) (c : Client) (P : Decision → Type 0) → EachCase d c P
+    → (source : AmsAddress) (number : ℕ) (rights : Option Rights) (port : Option PlantPort)
+    → port_numbered number d.plant.ports ≡ port → (request : Option Request) → P (decide_passed d c source rights port request)
+passed-case d c P law source number (Some rights) (Some port) e (Some request) =
+    request-case d c P law (record { port = port; address = source; rights = rights }) number e request
+passed-case d c P law source number (Some rights) (Some port) e None = law.silent
+passed-case d c P law source number (Some rights) None e request = law.silent
+passed-case d c P law source number None port e request = law.silent
 
 -- it holds of what each of these checks leads to
 EachStop : (Decision → Type 0) → List Check → Type 0
@@ -70,16 +78,25 @@ unfolding EachStop
 checked-case P [] x e p = p
 checked-case P (c ∷ cs) x e p = if_case P c.stops c.leads_to (checked cs x) (e.0) (checked-case P cs x (e.1) p)
 
-header-case : (table : AnswerTable) (d : Setup) (c : Client) (P : Decision → Type 0) → EachCase table d c P → (payload : List ℕ) (o : Option AmsHeader) → P (decide_header table d c payload o)
+header-case : (d : Setup) (c : Client) (P : Decision → Type 0) → EachCase d c P → (payload : List ℕ) (o : Option AmsHeader) → P (decide_header d c payload o)
 unfolding EachStop
-header-case table d c P law payload None = law.silent
-header-case table d c P law payload (Some h) =
+header-case d c P law payload None = law.silent
+header-case d c P law payload (Some h) =
     let E = law.error in
-    let stops : EachStop P (checks_of table d.plant h payload) =
-    (E invalid_ams_length, (law.silent, (E unknown_ams_command, (law.ends, (E target_machine_not_found, (E target_port_not_found, (law.silent, (E unknown_command_id, (law.refused invalid_size, tt))))))))) in
-    checked-case P (checks_of table d.plant h payload) _ stops
-    (passed-case table d c P law h.source h.target.port (rights_of h.source.net d.plant.routes) (port_numbered h.target.port d.plant.ports) refl (request_of h.command payload))
+    let stops : EachStop P (checks_of d.plant h payload) = (
+      E invalid_ams_length,
+      (
+        law.silent,
+        (
+          E unknown_ams_command,
+          (law.ends, (E target_machine_not_found, (E target_port_not_found, (law.silent, (E unknown_command_id, (law.refused invalid_size, tt)))))),
+        ),
+      ),
+    ) in
+    checked-case P (checks_of d.plant h payload) _ stops
+    (passed-case d c P law h.source h.target.port (rights_of h.source.net d.plant.routes)
+    (port_numbered h.target.port d.plant.ports) refl (request_of h.command payload))
 
-pub decide-cases : (table : AnswerTable) (d : Setup) (c : Client) (P : Decision → Type 0) → EachCase table d c P → (packet : List ℕ) → P (decide table d c packet)
+pub decide-cases : (d : Setup) (c : Client) (P : Decision → Type 0) → EachCase d c P → (packet : List ℕ) → P (decide d c packet)
 unfolding decide
-decide-cases table d c P law packet = header-case table d c P law (payload_of packet) (header_of packet)
+decide-cases d c P law packet = header-case d c P law (payload_of packet) (header_of packet)

@@ -28,14 +28,16 @@ blocked-other c n offered bytes blocked ne =
       | inr b ↦ rw b refl
     ]
 
-other-same : {W C : Type 0} (step : EventStep W C) (c d : ℕ) → d ≢ c → (ms : List Move) (short : Bool) (blocked bs : List ℕ) (s : MachineState W C) → Serves step d bs s ms → SameAfter step c short blocked s ms
+other-same : {W C : Type 0} (step : EventStep W C) (c d : ℕ) → d ≢ c
+    → (ms : List Move) (short : Bool) (blocked bs : List ℕ) (s : MachineState W C) → Serves step d bs s ms → SameAfter step c short blocked s ms
 unfolding Serves state_after state_after_move blocked_after is_short_from
 other-same step c d ne [] short blocked bs s h = record { found = refl; short_ = refl; blocked_ = refl }
 other-same {W} {C} step c d ne (move.Took n offered bytes ∷ ms) short blocked bs s h =
     let n_ne : n ≢ c = λ e. ne (sym (h.0) ∙ e) in
     let u : MachineState W C = state_after_move step s (move.Took n offered bytes) in
     let t = ne_eqb n c n_ne in
-    let after = other-same step c d ne ms (is_short_after c short (move.Took n offered bytes)) (blocked_after_move blocked (move.Took n offered bytes)) (blocked_after_move bs (move.Took n offered bytes)) u (h.3) in
+    let after = other-same step c d ne ms (is_short_after c short (move.Took n offered bytes))
+    (blocked_after_move blocked (move.Took n offered bytes)) (blocked_after_move bs (move.Took n offered bytes)) u (h.3) in
     record {
       found = after.found ∙ exchange_other c n (with_took (length bytes)) (with_took-number (length bytes)) n_ne s;
       short_ = after.short_ ∙ ap (λ b. cond b (nat_lt (length bytes) offered) short) t;
@@ -84,7 +86,8 @@ unfolding blocked_after
 blocked_after-append [] ns blocked = refl
 blocked_after-append (m ∷ ms) ns blocked = blocked_after-append ms ns (blocked_after_move blocked m)
 
-pub settled-append : {W C : Type 0} (step : EventStep W C) (c : ℕ) (short : Bool) (blocked : List ℕ) (ms ns : List Move) (s : MachineState W C) → SettledAfter step c (is_short_from c short ms) (blocked_after blocked ms) (state_after step s ms) ns
+pub settled-append : {W C : Type 0} (step : EventStep W C) (c : ℕ) (short : Bool) (blocked : List ℕ) (ms ns : List Move) (s : MachineState W C)
+    → SettledAfter step c (is_short_from c short ms) (blocked_after blocked ms) (state_after step s ms) ns
     → SettledAfter step c short blocked s (ms ++ ns)
 settled-append step c short blocked ms ns s h = rw (state_after-append step ms ns s, short_from-append c ms ns short, blocked_after-append ms ns blocked) h
 
@@ -103,7 +106,8 @@ will_be_ready : {W C : Type 0} (c : ℕ) (short : Bool) (cs : List ℕ) (s : Mac
 will_be_ready c short cs s (inl h) = ready c short s h
 will_be_ready c short cs s (inr h) = inl (h.1)
 
-pub each-settled : {W C : Type 0} (step : EventStep W C) (c : ℕ) (cs : List ℕ) (mss : List (List Move)) (short : Bool) (blocked : List ℕ) (s : MachineState W C) → ServesEach step cs blocked s mss → is_cut_off c (flat_map (λ ms. ms) mss) ≡ false
+pub each-settled : {W C : Type 0} (step : EventStep W C) (c : ℕ) (cs : List ℕ) (mss : List (List Move)) (short : Bool)
+    (blocked : List ℕ) (s : MachineState W C) → ServesEach step cs blocked s mss → is_cut_off c (flat_map (λ ms. ms) mss) ≡ false
     → Marked c short blocked → WillSettle c short cs s → SettledAfter step c short blocked s (flat_map (λ ms. ms) mss)
 unfolding ServesEach state_after blocked_after is_short_from
 each-settled step c [] [] short blocked s h cut m (inl o) = (o, m)
@@ -118,7 +122,8 @@ each-settled {W} {C} step c (d ∷ ds) (ms ∷ mss) short blocked s h cut m w =
     cuts : (is_cut_off c ms ≡ false) × (is_cut_off c (flat_map (λ xs. xs) mss) ≡ false)
     cuts = cut_off-append c ms (flat_map (λ xs. xs) mss) cut
 
-    passed : d ≢ c → WillSettle c short (d ∷ ds) s → SameAfter step c short blocked s ms → WillSettle c (is_short_from c short ms) ds (state_after step s ms) × Marked c (is_short_from c short ms) (blocked_after blocked ms)
+    passed : d ≢ c → WillSettle c short (d ∷ ds) s → SameAfter step c short blocked s ms
+        → WillSettle c (is_short_from c short ms) ds (state_after step s ms) × Marked c (is_short_from c short ms) (blocked_after blocked ms)
     passed ne x a = (still x, λ b. a.short_ ∙ m (sym (a.blocked_) ∙ b))
       where
         still : WillSettle c short (d ∷ ds) s → WillSettle c (is_short_from c short ms) ds (state_after step s ms)
@@ -127,7 +132,8 @@ each-settled {W} {C} step c (d ∷ ds) (ms ∷ mss) short blocked s h cut m w =
         still (inr (inl e, g)) = absurd (ne e)
         still (inr (inr i, g)) = inr (i, ap is_gone a.found ∙ g)
 
-    next : (d ≡ c) ⊎ (d ≢ c) → WillSettle c (is_short_from c short ms) ds (state_after step s ms) × Marked c (is_short_from c short ms) (blocked_after blocked ms)
+    next : (d ≡ c) ⊎ (d ≢ c)
+        → WillSettle c (is_short_from c short ms) ds (state_after step s ms) × Marked c (is_short_from c short ms) (blocked_after blocked ms)
     next (inl e) =
         let P : ℕ → Type 0 = λ n. Serves step n blocked s ms in
         let a = serves-settled step c ms short blocked s (subst P e (h.0)) (cuts.0) m (will_be_ready c short (d ∷ ds) s w) in

@@ -57,7 +57,9 @@ persistent_axis = description_with (
 
 record EntryRows : Type 0 where
   -- the entry and the info of a symbol
-  of_a_symbol : given (piece 1 (named 1 0xF009 64 (codes "Main.count") ++ named 2 0xF007 12 (codes "Main.count") ++ named 3 0xF009 46 (codes "Main.count") ++ named 4 0xF007 11 (codes "no")) ∷ [])
+  of_a_symbol : given (piece 1
+      (named 1 0xF009 64 (codes "Main.count") ++ named 2 0xF007 12 (codes "Main.count")
+      ++ named 3 0xF009 46 (codes "Main.count") ++ named 4 0xF007 11 (codes "no")) ∷ [])
       ≡ a 9 1 (codes "00000000 2f000000 2f000000 40400000 00000000 04000000 03000000 00000000 0a00 0400 0000 4d61696e2e636f756e7400 44494e5400 00")
       ++ a 9 2 (codes "00000000 0c000000 40400000 00000000 04000000") ++ a 9 3 (codes "05070000 00000000") ++ a 9 4 (codes "05070000 00000000")
   -- the entry of a part: declared names, the index as it was asked
@@ -65,10 +67,13 @@ record EntryRows : Type 0 where
       ≡ a 9 1 (codes "00000000 35000000 35000000 40400000 1c000000 04000000 03000000 00000000 1000 0400 0000 4d61696e2e617869735b325d2e706f7300 44494e5400 00")
       ++ a 9 2 (codes "00000000 0c000000 40400000 1c000000 04000000")
   -- a part of a persistent symbol has the flag of its symbol
-  of_a_persistent_part : output_of 1 (state_after step (start_of (world_of persistent_axis [])) (opened 1 ∷ piece 1 (named 1 0xF009 64 (codes "Main.axis[2].pos")) ∷ []))
+  of_a_persistent_part : output_of 1
+      (state_after step (start_of (world_of persistent_axis [])) (opened 1 ∷ piece 1 (named 1 0xF009 64 (codes "Main.axis[2].pos")) ∷ []))
       ≡ a 9 1 (codes "00000000 35000000 35000000 40400000 1c000000 04000000 03000000 01000000 1000 0400 0000 4d61696e2e617869735b325d2e706f7300 44494e5400 00")
   -- upload infos, and an upload into too small a buffer
-  infos : given (piece 1 (q 2 1 (codes "0cf00000 00000000 08000000") ++ q 2 2 (codes "0ff00000 00000000 18000000") ++ q 2 3 (codes "0bf00000 00000000 2b010000") ++ q 2 4 (codes "0ef00000 00000000 d6000000")) ∷ [])
+  infos : given (piece 1
+      (q 2 1 (codes "0cf00000 00000000 08000000") ++ q 2 2 (codes "0ff00000 00000000 18000000")
+      ++ q 2 3 (codes "0bf00000 00000000 2b010000") ++ q 2 4 (codes "0ef00000 00000000 d6000000")) ∷ [])
       ≡ a 2 1 (codes "00000000 08000000 06000000 2c010000") ++ a 2 2 (codes "00000000 18000000 06000000 2c010000 01000000 d7000000 00000000 00000000")
       ++ a 2 3 (codes "05070000 00000000") ++ a 2 4 (codes "05070000 00000000")
   -- the first member in the type upload

@@ -51,7 +51,8 @@ use Rattle.spec_plant.specs.SameTypes.{is_same_type}
 use Rattle.spec_frames.specs.Frame.{frame_bytes}
 use Rattle.spec_machine.specs.MachineState.{start_of, output_of}
 use Rattle.spec_machine.specs.World.{world_of}
-use Rattle.spec_machine.proofs.Plant.{NET, ENGINEER, VIEWER, plain_symbol, count_symbol, description_with, q, a, q_viewer, a_viewer, named, stamp_to, piece, opened, tick, given, step}
+use Rattle.spec_machine.proofs.Plant.{NET, ENGINEER, VIEWER, plain_symbol, count_symbol, description_with, q}
+use Rattle.spec_machine.proofs.Plant.{a, q_viewer, a_viewer, named, stamp_to, piece, opened, tick, given, step}
 use Rattle.ads_outside.specs.declared.moves.Move.{Move}
 
 -- an enumeration over INT whose first value is 2, and Main.count that one machine may write
@@ -89,7 +90,8 @@ record EnumerationRows : Type 0 where
   -- a symbol with writers is written by these alone, also by handle
   writers : given_here (
       piece 1 (q 3 1 (codes "40400000 04000000 04000000 05000000") ++ q_viewer 3 2 (codes "40400000 04000000 04000000 05000000"))
-      ∷ piece 1 (named 3 0xF003 4 (codes "Main.count") ++ q 3 4 (codes "05f00000 01000000 01000000 01") ++ q_viewer 3 5 (codes "05f00000 01000000 01000000 01")) ∷ [])
+      ∷ piece 1 (named 3 0xF003 4 (codes "Main.count") ++ q 3 4 (codes "05f00000 01000000 01000000 01")
+      ++ q_viewer 3 5 (codes "05f00000 01000000 01000000 01")) ∷ [])
       ≡ a 3 1 (codes "04070000") ++ a_viewer 3 2 (codes "00000000") ++ a 9 3 (codes "00000000 04000000 01000000")
       ++ a 3 4 (codes "04070000") ++ a_viewer 3 5 (codes "00000000")
   -- one frame for each client address, in the order of the least handle in it
@@ -99,7 +101,8 @@ record EnumerationRows : Type 0 where
   -- another base, or other bounds with as many elements, are another type
   other_base : is_same_type (EnumTree (codes "Mode") INT) (EnumTree (codes "Mode") UINT) ≡ false
   same_base : is_same_type (EnumTree (codes "Mode") INT) (EnumTree (codes "Mode") INT) ≡ true
-  other_bounds : is_same_type (ArrayTree (record { low = pos 0; count = 2 } ∷ []) (PlainTree BYTE)) (ArrayTree (record { low = pos 1; count = 2 } ∷ []) (PlainTree BYTE)) ≡ false
+  other_bounds : is_same_type (ArrayTree (record { low = pos 0; count = 2 } ∷ []) (PlainTree BYTE))
+      (ArrayTree (record { low = pos 1; count = 2 } ∷ []) (PlainTree BYTE)) ≡ false
 
 enumeration_rows : EnumerationRows
 unfolding ams_length_of is_header front_of packet_of behind_frame frames_from frames_of left_behind rest_of has_same_parts has_same_members part_behind type_align greatest_align type_size members_end type_depth greatest_depth found_of byte_at with_byte trees_behind trees_of type_text group_in group_of request_in request_of byte_range bit_range size_range range_in header_of written_bytes reply_in notes_of connection_after_tick connection_after_reload state_after_event state_after_move state_after given_in_turn left_in_turn sum_refusal packed handles_after_all memory_after_puts world_after_tick client_after_tick read_write_group act_of produce produce_all connection_of put_back grant_in is_released_in place_after handle_in with_released handles_after write_group control_act client_after client_after_reload ended_of watches_after_reload ended_watches name_behind comment_behind entry_of_part numbers_from name_at names_at content_of projection_of acts_of_packets acts_of_move acts_of_log acts_by_others reply_in_forms outcome_in_all response_packet performed grouped frames_of_samples samples_at watches_after_tick reach_of outcomes_of memory_after_acts client_after_acts is_kept memory_after_reload world_after_reload client_reloaded answered_group after_packet after_packets after_piece read_group acts_of decide_request decide digits

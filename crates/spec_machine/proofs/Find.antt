@@ -34,7 +34,8 @@ number_of_found {C} n k (l ∷ ls) e =
       | inr q ↦ let t = test_other l.number n q in number_of_found n k ls (rw t at e)
     ]
 
-pub connection_of-put_same : {C : Type 0} (n : ℕ) (new k : Connection C) (ks : List (Connection C)) → connection_of n ks ≡ Some k → new.number ≡ n → connection_of n (put_back new ks) ≡ Some new
+pub connection_of-put_same : {C : Type 0} (n : ℕ) (new k : Connection C) (ks : List (Connection C))
+    → connection_of n ks ≡ Some k → new.number ≡ n → connection_of n (put_back new ks) ≡ Some new
 unfolding connection_of put_back
 connection_of-put_same n new k [] e same = cc
 connection_of-put_same n new k (l ∷ ls) e same =
@@ -49,7 +50,8 @@ connection_of-put_same n new k (l ∷ ls) e same =
           rw (t, u) (connection_of-put_same n new k ls (rw u at e) same)
     ]
 
-pub connection_of-put_other : {C : Type 0} (c : ℕ) (new : Connection C) (ks : List (Connection C)) → new.number ≢ c → connection_of c (put_back new ks) ≡ connection_of c ks
+pub connection_of-put_other : {C : Type 0} (c : ℕ) (new : Connection C) (ks : List (Connection C))
+    → new.number ≢ c → connection_of c (put_back new ks) ≡ connection_of c ks
 unfolding connection_of put_back
 connection_of-put_other c new [] ne = refl
 connection_of-put_other c new (l ∷ ls) ne =
@@ -64,7 +66,8 @@ connection_of-put_other c new (l ∷ ls) ne =
           rw t (ap (λ o. cond (l.number == c) (Some l) o) (connection_of-put_other c new ls ne))
     ]
 
-pub connection_of-map : {C : Type 0} (c : ℕ) (f : Connection C → Connection C) → ((k : Connection C) → (f k).number ≡ k.number) → (ks : List (Connection C)) → connection_of c (map f ks) ≡ option_map f (connection_of c ks)
+pub connection_of-map : {C : Type 0} (c : ℕ) (f : Connection C → Connection C) → ((k : Connection C) → (f k).number ≡ k.number)
+    → (ks : List (Connection C)) → connection_of c (map f ks) ≡ option_map f (connection_of c ks)
 unfolding connection_of
 connection_of-map c f h [] = refl
 connection_of-map c f h (l ∷ ls) =

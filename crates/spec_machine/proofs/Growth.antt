@@ -8,7 +8,9 @@ use Rattle.spec_frames.specs.Division.{rest_of, front_of, is_broken}
 use Rattle.spec_machine.specs.Device.{Device, Produced, Answer, Answered, Silent, Closing, FrameOutcome, ClientOutcome}
 use Rattle.spec_machine.specs.Connection.{Connection, bytes_of, bytes_of_all, is_deaf, fits, with_closing, with_frame, produce, produce_all}
 use Rattle.spec_machine.specs.MachineState.{Exchange}
-use Rattle.spec_machine.specs.Piece.{with_received, packets_left, with_one_taken, with_client, after_answer, after_outcome, after_packet, after_packets, after_rest, with_piece, after_piece}
+use Rattle.spec_machine.specs.Piece.{with_received, packets_left, with_one_taken, with_client, after_answer}
+use Rattle.spec_machine.specs.Piece.{after_outcome, after_packet, after_packets, after_rest, with_piece}
+use Rattle.spec_machine.specs.Piece.{after_piece}
 use Rattle.spec_machine.specs.Events.{after_client_outcome, connection_after_tick, connection_after_reload}
 
 pub record Grows {C : Type 0} (k l : Connection C) : Type 0 where
@@ -42,7 +44,8 @@ grows_cond : {C : Type 0} (k : Connection C) (b : Bool) (x y : Connection C) →
 grows_cond k true x y p q = p
 grows_cond k false x y p q = q
 
-grows_cond_exchange : {W C : Type 0} (k : Connection C) (b : Bool) (x y : Exchange W C) → Grows k x.connection → Grows k y.connection → Grows k (cond b x y).connection
+grows_cond_exchange : {W C : Type 0} (k : Connection C) (b : Bool) (x y : Exchange W C)
+    → Grows k x.connection → Grows k y.connection → Grows k (cond b x y).connection
 grows_cond_exchange k true x y p q = p
 grows_cond_exchange k false x y p q = q
 
@@ -75,7 +78,8 @@ after_outcome-grows {W} {C} o k =
 after_packet-grows : {W C : Type 0} (device : Device W C) (p : List ℕ) (x : Exchange W C) → Grows x.connection (after_packet device p x).connection
 unfolding after_packet
 after_packet-grows device p x =
-    grows_cond_exchange x.connection x.connection.closing x _ (grows_same x.connection) (after_outcome-grows (device.take x.world x.connection.client p) x.connection)
+    grows_cond_exchange x.connection x.connection.closing x _ (grows_same x.connection)
+    (after_outcome-grows (device.take x.world x.connection.client p) x.connection)
 
 after_packets-grows : {W C : Type 0} (device : Device W C) (ps : List (List ℕ)) (x : Exchange W C) → Grows x.connection (after_packets device ps x).connection
 unfolding after_packets
@@ -84,7 +88,8 @@ after_packets-grows device (p ∷ ps) x =
     grows_then x.connection (after_packet device p x).connection _ (after_packet-grows device p x) (after_packets-grows device ps (after_packet device p x))
 
 after_rest-grows : {C : Type 0} (k : Connection C) → Grows k (after_rest k)
-after_rest-grows k = grows_cond k (is_broken (front_of (rest_of k.received))) (with_closing k) k (grows_none k (with_closing k) refl refl refl refl) (grows_same k)
+after_rest-grows k = grows_cond k (is_broken (front_of (rest_of k.received)))
+    (with_closing k) k (grows_none k (with_closing k) refl refl refl refl) (grows_same k)
 
 pub after_piece-grows : {W C : Type 0} (device : Device W C) (piece : List ℕ) (x : Exchange W C) → Grows x.connection (after_piece device piece x).connection
 unfolding after_piece
@@ -95,7 +100,8 @@ after_piece-grows {W} {C} device piece x =
           let k : Connection C = with_received piece x.connection in
           let y : Exchange W C = after_packets device (packets_left k) (with_piece piece x) in
           rw b (grows_then x.connection k (after_rest y.connection) (grows_none x.connection k refl refl refl refl)
-          (grows_then k y.connection (after_rest y.connection) (after_packets-grows device (packets_left k) (with_piece piece x)) (after_rest-grows y.connection)))
+          (grows_then k y.connection (after_rest y.connection)
+          (after_packets-grows device (packets_left k) (with_piece piece x)) (after_rest-grows y.connection)))
     ]
 
 after_client_outcome-grows : {C : Type 0} (o : ClientOutcome C) (k : Connection C) → Grows k (after_client_outcome o k)
@@ -103,12 +109,14 @@ after_client_outcome-grows {C} o k =
     let l : Connection C = with_client o.client k in
     grows_then k l _ (grows_none k l refl refl refl refl) (produce_all-grows o.frames l)
 
-pub connection_after_tick-grows : {W C : Type 0} (device : Device W C) (moment : ℕ) (world : W) (k : Connection C) → Grows k (connection_after_tick device moment world k)
+pub connection_after_tick-grows : {W C : Type 0} (device : Device W C) (moment : ℕ) (world : W) (k : Connection C)
+    → Grows k (connection_after_tick device moment world k)
 unfolding connection_after_tick
 connection_after_tick-grows device moment world k =
     grows_cond k (is_deaf k) k _ (grows_same k) (after_client_outcome-grows (device.client_after_tick moment world k.client) k)
 
-pub connection_after_reload-grows : {W C : Type 0} (device : Device W C) (moment : ℕ) (old new : W) (k : Connection C) → Grows k (connection_after_reload device moment old new k)
+pub connection_after_reload-grows : {W C : Type 0} (device : Device W C) (moment : ℕ) (old new : W) (k : Connection C)
+    → Grows k (connection_after_reload device moment old new k)
 unfolding connection_after_reload
 connection_after_reload-grows device moment old new k =
     grows_cond k (is_deaf k) k _ (grows_same k) (after_client_outcome-grows (device.client_after_reload moment old new k.client) k)
@@ -124,15 +132,18 @@ deaf_stays k l g =
       | inr b ↦ inr (ap (λ (t : Bool). (cond t k l).gone) b ∙ g ∙ not_gone k.closing k.gone b)
     ]
 
-pub after_tick-stays : {W C : Type 0} (device : Device W C) (moment : ℕ) (world : W) (k : Connection C) → StaysOrIsThere k (connection_after_tick device moment world k)
+pub after_tick-stays : {W C : Type 0} (device : Device W C) (moment : ℕ) (world : W) (k : Connection C)
+    → StaysOrIsThere k (connection_after_tick device moment world k)
 unfolding connection_after_tick
 after_tick-stays device moment world k = deaf_stays k _ (after_client_outcome-grows (device.client_after_tick moment world k.client) k).gone
 
-pub after_reload-stays : {W C : Type 0} (device : Device W C) (moment : ℕ) (old new : W) (k : Connection C) → StaysOrIsThere k (connection_after_reload device moment old new k)
+pub after_reload-stays : {W C : Type 0} (device : Device W C) (moment : ℕ) (old new : W) (k : Connection C)
+    → StaysOrIsThere k (connection_after_reload device moment old new k)
 unfolding connection_after_reload
 after_reload-stays device moment old new k = deaf_stays k _ (after_client_outcome-grows (device.client_after_reload moment old new k.client) k).gone
 
-pub after_piece-stays : {W C : Type 0} (device : Device W C) (piece : List ℕ) (x : Exchange W C) → StaysOrIsThere x.connection (after_piece device piece x).connection
+pub after_piece-stays : {W C : Type 0} (device : Device W C) (piece : List ℕ) (x : Exchange W C)
+    → StaysOrIsThere x.connection (after_piece device piece x).connection
 unfolding after_piece
 after_piece-stays {W} {C} device piece x =
     elim (cases_Bool (is_deaf x.connection)) [

@@ -75,19 +75,25 @@ record HandleRows : Type 0 where
       ∷ piece 1 (q 3 5 (codes "06f00000 00000000 04000000 03000000") ++ q 3 6 (codes "06f00000 00000000 04000000 03000000"))
       ∷ piece 1 (q 2 7 (codes "05f00000 03000000 04000000"))
       ∷ reload (codes "plant2")
-      ∷ piece 1 (q 2 8 (codes "05f00000 01000000 04000000") ++ q 3 9 (codes "05f00000 01000000 04000000 07000000") ++ q 2 10 (codes "40400000 64000000 04000000"))
-      ∷ piece 1 (q 2 11 (codes "05f00000 02000000 01000000") ++ q 3 12 (codes "06f00000 00000000 04000000 02000000") ++ q 2 13 (codes "05f00000 02000000 01000000"))
+      ∷ piece 1 (q 2 8 (codes "05f00000 01000000 04000000")
+      ++ q 3 9 (codes "05f00000 01000000 04000000 07000000") ++ q 2 10 (codes "40400000 64000000 04000000"))
+      ∷ piece 1 (q 2 11 (codes "05f00000 02000000 01000000")
+      ++ q 3 12 (codes "06f00000 00000000 04000000 02000000") ++ q 2 13 (codes "05f00000 02000000 01000000"))
       ∷ reload (codes "plant")
-      ∷ piece 1 (q 2 14 (codes "05f00000 01000000 04000000") ++ q 2 15 (codes "40400000 00000000 04000000") ++ q 2 16 (codes "05f00000 04000000 01000000")) ∷ [])
-      ≡ a 9 1 (codes "00000000 04000000 01000000") ++ a 9 2 (codes "00000000 04000000 02000000") ++ a 9 3 (codes "00000000 04000000 03000000") ++ a 9 4 (codes "00000000 04000000 04000000")
+      ∷ piece 1 (q 2 14 (codes "05f00000 01000000 04000000")
+      ++ q 2 15 (codes "40400000 00000000 04000000") ++ q 2 16 (codes "05f00000 04000000 01000000")) ∷ [])
+      ≡ a 9 1 (codes "00000000 04000000 01000000") ++ a 9 2 (codes "00000000 04000000 02000000")
+      ++ a 9 3 (codes "00000000 04000000 03000000") ++ a 9 4 (codes "00000000 04000000 04000000")
       ++ a 3 5 (codes "00000000") ++ a 3 6 (codes "10070000") ++ a 2 7 (codes "10070000 00000000")
       ++ a 2 8 (codes "00000000 04000000 2a000000") ++ a 3 9 (codes "00000000") ++ a 2 10 (codes "00000000 04000000 07000000")
       ++ a 2 11 (codes "11070000 00000000") ++ a 3 12 (codes "00000000") ++ a 2 13 (codes "10070000 00000000")
       ++ a 2 14 (codes "00000000 04000000 07000000") ++ a 2 15 (codes "00000000 04000000 07000000") ++ a 2 16 (codes "11070000 00000000")
   -- a value by its name, whole and its first bytes; a longer read is refused after the name
   by_name : given (
-      piece 1 (named 1 0xF004 4 (codes "Main.count") ++ named 2 0xF004 1 (codes "Main.count") ++ named 3 0xF004 5 (codes "Main.count") ++ named 4 0xF004 5 (codes "Main.no")) ∷ [])
-      ≡ a 9 1 (codes "00000000 04000000 2a000000") ++ a 9 2 (codes "00000000 01000000 2a") ++ a 9 3 (codes "05070000 00000000") ++ a 9 4 (codes "10070000 00000000")
+      piece 1 (named 1 0xF004 4 (codes "Main.count") ++ named 2 0xF004 1 (codes "Main.count")
+      ++ named 3 0xF004 5 (codes "Main.count") ++ named 4 0xF004 5 (codes "Main.no")) ∷ [])
+      ≡ a 9 1 (codes "00000000 04000000 2a000000") ++ a 9 2 (codes "00000000 01000000 2a")
+      ++ a 9 3 (codes "05070000 00000000") ++ a 9 4 (codes "10070000 00000000")
 
 handle_rows : HandleRows
 unfolding ams_length_of is_header front_of packet_of behind_frame frames_from frames_of left_behind rest_of has_same_parts has_same_members part_behind type_align greatest_align type_size members_end type_depth greatest_depth found_of byte_at with_byte trees_behind trees_of type_text group_in group_of request_in request_of byte_range bit_range size_range range_in header_of written_bytes reply_in notes_of connection_after_tick connection_after_reload state_after_event state_after_move state_after given_in_turn left_in_turn sum_refusal packed handles_after_all memory_after_puts world_after_tick client_after_tick read_write_group act_of produce produce_all connection_of put_back grant_in is_released_in place_after handle_in with_released handles_after write_group control_act client_after client_after_reload ended_of watches_after_reload ended_watches name_behind comment_behind entry_of_part numbers_from name_at names_at content_of projection_of acts_of_packets acts_of_move acts_of_log acts_by_others reply_in_forms outcome_in_all response_packet performed grouped frames_of_samples samples_at watches_after_tick reach_of outcomes_of memory_after_acts client_after_acts is_kept memory_after_reload world_after_reload client_reloaded answered_group after_packet after_packets after_piece read_group acts_of decide_request decide digits

@@ -3,7 +3,10 @@ use Rattle.std.proofs.Common.{◌≡◌, ℕ, ◌+◌, ◌-◌, List, [], ◌∷
 use Rattle.std.specs.Prelude.{Option, Some, None, ◌==◌, option_map, option_and_then}
 use Rattle.std.proofs.lemmas.Bool.{cases_Bool, eqb-true, eqb-false}
 use Rattle.std.proofs.lemmas.Bool.Decides.{nat_tests}
-use Rattle.spec_machine.specs.Handles.{HandleStatus, Released, Outdated, Live, HandleEvent, Grant, Release, Reload, GrantInHistory, grant_in, is_released_in, place_after, live_or_outdated, status_of_grant, Handle, handle_in, status_of_handle, with_released, status_after_reload, handle_after_reload, handles_after}
+use Rattle.spec_machine.specs.Handles.{HandleStatus, Released, Outdated, Live, HandleEvent, Grant, Release}
+use Rattle.spec_machine.specs.Handles.{Reload, GrantInHistory, grant_in, is_released_in, place_after}
+use Rattle.spec_machine.specs.Handles.{live_or_outdated, status_of_grant, Handle, handle_in, status_of_handle}
+use Rattle.spec_machine.specs.Handles.{with_released, status_after_reload, handle_after_reload, handles_after}
 use Rattle.spec_machine.specs.HandleLaws.{handles_after_all, StatusIsHistory}
 
 -- what becomes of one handle's status by further events
@@ -34,7 +37,8 @@ through-outdated (Release handle ∷ es) n port =
     ]
 through-outdated (Reload moves ∷ es) n port = through-outdated es n port
 
-through-live : {P : Type 0} (es : List (HandleEvent P)) (n port : ℕ) (p : P) → status_through es n port (Live p) ≡ cond (is_released_in es n) Released (live_or_outdated (place_after es port p))
+through-live : {P : Type 0} (es : List (HandleEvent P)) (n port : ℕ) (p : P)
+    → status_through es n port (Live p) ≡ cond (is_released_in es n) Released (live_or_outdated (place_after es port p))
 unfolding is_released_in place_after
 through-live [] n port p = refl
 through-live (Grant other place ∷ es) n port p = through-live es n port p
@@ -46,7 +50,8 @@ through-live (Release handle ∷ es) n port p =
 through-live {P} (Reload moves ∷ es) n port p = go (λ q. through-live es n port q) (moves port p)
   where
     go : ((q : P) → status_through es n port (Live q) ≡ cond (is_released_in es n) Released (live_or_outdated (place_after es port q)))
-        → (o : Option P) → status_through es n port (live_or_outdated o) ≡ cond (is_released_in es n) Released (live_or_outdated (option_and_then (place_after es port) o))
+        → (o : Option P) → status_through es n port (live_or_outdated o) ≡ cond
+        (is_released_in es n) Released (live_or_outdated (option_and_then (place_after es port) o))
     go again None = through-outdated es n port
     go again (Some q) = again q
 
@@ -83,7 +88,8 @@ length_released [] m = refl
 length_released {P} (h ∷ hs) m =
     elim (cases_Bool (m == 1)) [
       | inl b ↦ rw b (let c = length_cons (record h { status = Released }) hs in let d = length_cons h hs in omega (arith, c, d))
-      | inr b ↦ rw b (let a = length_released hs (m - 1) in let c = length_cons h (with_released hs (m - 1)) in let d = length_cons h hs in omega (arith, a, c, d))
+      | inr b ↦ rw b (let a = length_released hs (m - 1) in
+          let c = length_cons h (with_released hs (m - 1)) in let d = length_cons h hs in omega (arith, a, c, d))
     ]
 
 handle_in-map : {P : Type 0} (f : Handle P → Handle P) (hs : List (Handle P)) (n : ℕ) → handle_in (map f hs) n ≡ option_map f (handle_in hs n)
@@ -128,7 +134,8 @@ handle_in-released {P} (h ∷ hs) m n =
         ap (λ (b : Bool). option_map (λ (h : Handle P). record h { status = cond b Released h.status }) (handle_in hs (n - 1))) t
 
 -- a grant stands behind all others
-handle_in-granted : {P : Type 0} (hs : List (Handle P)) (g : Handle P) (n : ℕ) → handle_in (hs ++ g ∷ []) n ≡ first_or (handle_in hs n) (handle_in (g ∷ []) (n - length hs))
+handle_in-granted : {P : Type 0} (hs : List (Handle P)) (g : Handle P) (n : ℕ)
+    → handle_in (hs ++ g ∷ []) n ≡ first_or (handle_in hs n) (handle_in (g ∷ []) (n - length hs))
 unfolding handle_in
 handle_in-granted {P} [] g n = let e : n ≡ n - 0 = omega arith in ap (λ i. handle_in (g ∷ []) i) e
 handle_in-granted {P} (h ∷ hs) g n =
@@ -165,17 +172,21 @@ found-after {P} hs (Grant port place) es n =
 found-after {P} hs (Release m) es n =
     rw (handle_in-released hs m n) (go (handle_in hs n))
   where
-    go : (o : Option (Handle P)) → found_through es n (length (with_released hs m)) (option_map (releasing m n) o) ≡ found_through (Release m ∷ es) n (length hs) o
+    go : (o : Option (Handle P))
+        → found_through es n (length (with_released hs m)) (option_map (releasing m n) o) ≡ found_through (Release m ∷ es) n (length hs) o
     go (Some h) = refl
     go None = ap (λ i. granted_through n (grant_in es (n - i))) (length_released hs m)
 found-after {P} hs (Reload moves) es n =
     rw (handle_in-map (handle_after_reload moves) hs n) (go (handle_in hs n))
   where
-    go : (o : Option (Handle P)) → found_through es n (length (map (handle_after_reload moves) hs)) (option_map (handle_after_reload moves) o) ≡ found_through (Reload moves ∷ es) n (length hs) o
+    go : (o : Option (Handle P))
+        → found_through es n (length (map (handle_after_reload moves) hs))
+        (option_map (handle_after_reload moves) o) ≡ found_through (Reload moves ∷ es) n (length hs) o
     go (Some h) = refl
     go None = ap (λ i. granted_through n (grant_in es (n - i))) (length_mapped (handle_after_reload moves) hs)
 
-found-all : {P : Type 0} (es : List (HandleEvent P)) (hs : List (Handle P)) (n : ℕ) → handle_in (handles_after_all hs es) n ≡ found_through es n (length hs) (handle_in hs n)
+found-all : {P : Type 0} (es : List (HandleEvent P)) (hs : List (Handle P)) (n : ℕ)
+    → handle_in (handles_after_all hs es) n ≡ found_through es n (length hs) (handle_in hs n)
 unfolding handles_after_all grant_in
 found-all {P} [] hs n = go (handle_in hs n)
   where

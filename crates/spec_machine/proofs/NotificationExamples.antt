@@ -71,29 +71,35 @@ record NotificationRows : Type 0 where
       ++ a 3 2 (codes "00000000") ++ stamp 2000 1 (codes "01000000 04000000 05000000")
   -- a reload keeps one notification and ends another, and one over a symbol and a gap
   over_a_reload : given (
-      piece 1 (added 1 (codes "40400000 00000000 04000000 04000000 00000000 00000000") ++ added 2 (codes "40400000 48000000 08000000 04000000 00000000 00000000")
+      piece 1 (added 1 (codes "40400000 00000000 04000000 04000000 00000000 00000000")
+      ++ added 2 (codes "40400000 48000000 08000000 04000000 00000000 00000000")
       ++ added 3 (codes "40400000 00000000 08000000 04000000 00000000 00000000")) ∷ tick 1000
       ∷ piece 1 (q 3 4 (codes "40400000 00000000 04000000 09000000")) ∷ reload (codes "plant2") ∷ tick 2000
-      ∷ piece 1 (q 2 5 (codes "40400000 64000000 04000000") ++ q 2 6 (codes "40400000 48000000 09000000") ++ q 2 7 (codes "08f00000 00000000 01000000")) ∷ reload (codes "no description")
+      ∷ piece 1 (q 2 5 (codes "40400000 64000000 04000000") ++ q 2 6 (codes "40400000 48000000 09000000") ++ q 2 7 (codes "08f00000 00000000 01000000"))
+      ∷ reload (codes "no description")
       ∷ piece 1 (q 2 8 (codes "08f00000 00000000 01000000")) ∷ [])
       ≡ a 6 1 (codes "00000000 01000000") ++ a 6 2 (codes "00000000 02000000") ++ a 6 3 (codes "00000000 03000000")
       ++ stamp 1000 3 (codes "01000000 04000000 2a000000 02000000 08000000 4d69780000000000 03000000 08000000 2a00000000000000")
       ++ a 3 4 (codes "00000000") ++ stamp 1000 2 (codes "02000000 00000000 03000000 00000000") ++ stamp 2000 1 (codes "01000000 04000000 09000000")
-      ++ a 2 5 (codes "00000000 04000000 09000000") ++ a 2 6 (codes "00000000 09000000 000000000000000000") ++ a 2 7 (codes "00000000 01000000 02") ++ a 2 8 (codes "00000000 01000000 02")
+      ++ a 2 5 (codes "00000000 04000000 09000000") ++ a 2 6 (codes "00000000 09000000 000000000000000000")
+      ++ a 2 7 (codes "00000000 01000000 02") ++ a 2 8 (codes "00000000 01000000 02")
   -- an ended notification is told so by the old NetId, at the last moment
   old_net : given (piece 1 (added 1 (codes "40400000 48000000 08000000 04000000 00000000 00000000")) ∷ tick 9 ∷ reload (codes "plant3") ∷ [])
       ≡ a 6 1 (codes "00000000 01000000") ++ stamp 9 1 (codes "01000000 08000000 4d69780000000000") ++ stamp 9 1 (codes "01000000 00000000")
   -- a notification over two symbols that one reload keeps ends; one over the first of them goes on
   two_kept : output_of 1 (state_after step (start_of (world_of pair [])) (opened 1
-      ∷ piece 1 (added 1 (codes "40400000 00000000 08000000 04000000 00000000 00000000") ++ added 2 (codes "40400000 00000000 04000000 04000000 00000000 00000000")) ∷ tick 9
+      ∷ piece 1 (added 1 (codes "40400000 00000000 08000000 04000000 00000000 00000000")
+      ++ added 2 (codes "40400000 00000000 04000000 04000000 00000000 00000000")) ∷ tick 9
       ∷ reload (codes "pair") ∷ piece 1 (q 3 3 (codes "40400000 00000000 04000000 05000000")) ∷ tick 10 ∷ []))
-      ≡ a 6 1 (codes "00000000 01000000") ++ a 6 2 (codes "00000000 02000000") ++ stamp 9 2 (codes "01000000 08000000 2a0000002b000000 02000000 04000000 2a000000")
+      ≡ a 6 1 (codes "00000000 01000000") ++ a 6 2 (codes "00000000 02000000")
+      ++ stamp 9 2 (codes "01000000 08000000 2a0000002b000000 02000000 04000000 2a000000")
       ++ stamp 9 1 (codes "01000000 00000000") ++ a 3 3 (codes "00000000") ++ stamp 10 1 (codes "02000000 04000000 05000000")
   -- the version wraps behind 255
   version : (world_after_reload (record (world_of plant []) { version = 255 }) plant2).version ≡ 0
   -- refused additions, in their order; a notification is deleted once
   refused : given (
-      piece 1 (added 1 (codes "99990000 00000000 01080000 05000000 00000000 00000000") ++ added 2 (codes "99990000 00000000 01080000 04000000 00000000 00000000")
+      piece 1 (added 1 (codes "99990000 00000000 01080000 05000000 00000000 00000000")
+      ++ added 2 (codes "99990000 00000000 01080000 04000000 00000000 00000000")
       ++ added 3 (codes "99990000 00000000 00000000 04000000 00000000 00000000") ++ added 4 (codes "40400000 81000000 00000000 04000000 00000000 00000000")
       ++ added 5 (codes "40400000 80000000 00000000 04000000 00000000 00000000") ++ added 6 (codes "05f00000 01000000 00000000 04000000 00000000 00000000"))
       ∷ piece 1 (added 7 (codes "21400000 03000000 01000000 03000000 00000000 00000000") ++ q 7 8 (codes "01000000") ++ q 7 9 (codes "01000000")) ∷ [])
@@ -109,4 +115,5 @@ record NotificationRows : Type 0 where
 
 notification_rows : NotificationRows
 unfolding ams_length_of is_header front_of packet_of behind_frame frames_from frames_of left_behind rest_of has_same_parts has_same_members part_behind type_align greatest_align type_size members_end type_depth greatest_depth found_of byte_at with_byte trees_behind trees_of type_text group_in group_of request_in request_of byte_range bit_range size_range range_in header_of written_bytes reply_in notes_of connection_after_tick connection_after_reload state_after_event state_after_move state_after given_in_turn left_in_turn sum_refusal packed handles_after_all memory_after_puts world_after_tick client_after_tick read_write_group act_of produce produce_all connection_of put_back grant_in is_released_in place_after handle_in with_released handles_after write_group control_act client_after client_after_reload ended_of watches_after_reload ended_watches name_behind comment_behind entry_of_part numbers_from name_at names_at content_of projection_of acts_of_packets acts_of_move acts_of_log acts_by_others reply_in_forms outcome_in_all response_packet performed grouped frames_of_samples samples_at watches_after_tick reach_of outcomes_of memory_after_acts client_after_acts is_kept memory_after_reload world_after_reload client_reloaded answered_group after_packet after_packets after_piece read_group acts_of decide_request decide digits
-notification_rows = record { on_change = refl; cyclic = refl; not_due = refl; over_a_reload = refl; old_net = refl; two_kept = refl; version = refl; refused = refl; signal = refl }
+notification_rows = record
+    { on_change = refl; cyclic = refl; not_due = refl; over_a_reload = refl; old_net = refl; two_kept = refl; version = refl; refused = refl; signal = refl }

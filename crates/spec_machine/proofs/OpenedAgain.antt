@@ -20,7 +20,8 @@ none-among c (k ∷ ks) e =
     let t = p.0 in
     rw t (none-among c ks (p.1))
 
-there-stays : {C : Type 0} (c : ℕ) (ks : List (Connection C)) (k : Connection C) → connection_of c ks ≡ Some k → k.gone ≡ false → connection_of c (filter (λ (x : Connection C). not x.gone) ks) ≡ Some k
+there-stays : {C : Type 0} (c : ℕ) (ks : List (Connection C)) (k : Connection C) → connection_of c ks ≡ Some k
+    → k.gone ≡ false → connection_of c (filter (λ (x : Connection C). not x.gone) ks) ≡ Some k
 unfolding connection_of
 there-stays c [] k e g = cc
 there-stays {C} c (l ∷ ls) k e g =

@@ -15,7 +15,6 @@ use Rattle.spec_machine.specs.MachineState.{MachineState, start_of, output_of}
 use Rattle.spec_machine.specs.Moves.{EventStep, state_after}
 use Rattle.spec_machine.specs.World.{World, world_of}
 use Rattle.spec_machine.specs.Client.{Client}
-use Rattle.spec_machine.specs.Answers.{all_answered}
 use Rattle.spec_machine.specs.AdsDevice.{DescriptionReading, ads_device, server_step}
 pub use Rattle.spec_plant.proofs.Plant.{NET, ENGINEER, VIEWER, plain_symbol, count_symbol, description_with, plant, plant2, plant3}
 use Rattle.spec_frames.proofs.Hex.{hex}
@@ -27,14 +26,15 @@ pair = description_with (
 
 -- the examples name a description instead of writing its text; any other text breaks rule 2
 abbrev pub reading : DescriptionReading
-reading bytes signals = if bytes_eq bytes (codes "plant") then Ok plant else if bytes_eq bytes (codes "plant2") then Ok plant2 else if bytes_eq bytes (codes "plant3") then Ok plant3 else if bytes_eq bytes (codes "pair") then Ok pair else Err (BreaksRule 2 0)
+reading bytes signals = if bytes_eq bytes (codes "plant") then Ok plant else if bytes_eq bytes (codes "plant2") then Ok plant2 else if bytes_eq bytes
+    (codes "plant3") then Ok plant3 else if bytes_eq bytes (codes "pair") then Ok pair else Err (BreaksRule 2 0)
 
 abbrev pub device : Device World Client
-device = ads_device all_answered reading
+device = ads_device reading
 
 -- an event of the server's machine
 abbrev pub step : EventStep World Client
-step = server_step all_answered reading
+step = server_step reading
 
 abbrev pub waves : List Wave
 waves =

@@ -68,17 +68,20 @@ out_line bytes = codes "out 1 " ++ encode_lower bytes ++ 10 ∷ []
 record RunRows : Type 0 where
   -- a frame taken in two offers: three bytes, and the rest once there is room
   two_offers : text_of_play device start (line_opened 1 ∷ TakesAtMost 1 3 ∷ line_state 1 1 ∷ TakesAtMost 1 100 ∷ [])
-      ≡ codes "out 1 000028\nout 1 000000c0a8000901018980050102030101530304000500080000000000000001000000" ++ codes "0000000005000000\nconnections 1 requests 1 replies 1 samples 0 reloads 0 0\n"
+      ≡ codes "out 1 000028\nout 1 000000c0a8000901018980050102030101530304000500080000000000000001000000"
+      ++ codes "0000000005000000\nconnections 1 requests 1 replies 1 samples 0 reloads 0 0\n"
   -- a failed offer loses one connection alone
   failed_offer : text_of_play device start (line_opened 1 ∷ line_opened 2 ∷ FailsNext 1 ∷ line_state 1 1 ∷ line_state 2 1 ∷ line_state 1 1 ∷ [])
       ≡ codes "lost 1\nout 2 " ++ reply_text ++ codes "connections 2 requests 2 replies 2 samples 0 reloads 0 0\n"
   -- a connection that is blocked at a reload: the end of its notification waits until there is room
-  blocked_reload : text_of_play device start (line_opened 1 ∷ Happens (event.Piece 1 (added 1 (codes "40400000 48000000 08000000 04000000 00000000 00000000"))) ∷ Happens (event.Tick 9)
+  blocked_reload : text_of_play device start
+      (line_opened 1 ∷ Happens (event.Piece 1 (added 1 (codes "40400000 48000000 08000000 04000000 00000000 00000000"))) ∷ Happens (event.Tick 9)
       ∷ TakesAtMost 1 0 ∷ Happens (event.Reload (codes "plant2")) ∷ Happens (event.Tick 10) ∷ TakesAtMost 1 1000 ∷ [])
       ≡ out_line (a 6 1 (codes "00000000 01000000")) ++ out_line (stamp 9 1 (codes "01000000 08000000 4d69780000000000")) ++ codes "reload ok 2\n"
       ++ out_line (stamp 9 1 (codes "01000000 00000000")) ++ codes "connections 1 requests 1 replies 1 samples 2 reloads 1 0\n"
   -- accepted and refused reloads
-  reloads : text_of_play device start (Happens (event.Reload (codes "plant2")) ∷ Happens (event.Reload (codes "no")) ∷ Happens (event.Reload (codes "plant")) ∷ [])
+  reloads : text_of_play device start
+      (Happens (event.Reload (codes "plant2")) ∷ Happens (event.Reload (codes "no")) ∷ Happens (event.Reload (codes "plant")) ∷ [])
       ≡ codes "reload ok 2\nreload refused 2\nreload ok 3\nconnections 0 requests 0 replies 0 samples 0 reloads 2 1\n"
 
 run_rows : RunRows

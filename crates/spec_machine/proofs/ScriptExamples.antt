@@ -45,7 +45,8 @@ unfolding read first_lines is_first_line lines_of script_after
 empty_script = refl
 
 -- hex digits in either case, one word or more
-two_lines : read (lf (codes "open 4294967295") ++ codes "bytes 4294967295 00fF A0b1C2 9e") ≡ Ok (Happens (event.Opened 4294967295) ∷ Happens (event.Piece 4294967295 (0 ∷ 255 ∷ 160 ∷ 177 ∷ 194 ∷ 158 ∷ [])) ∷ [])
+two_lines : read (lf (codes "open 4294967295") ++ codes "bytes 4294967295 00fF A0b1C2 9e") ≡ Ok
+    (Happens (event.Opened 4294967295) ∷ Happens (event.Piece 4294967295 (0 ∷ 255 ∷ 160 ∷ 177 ∷ 194 ∷ 158 ∷ [])) ∷ [])
 unfolding read first_lines is_first_line lf lines_of script_after kind_of bytes_of_words hex_on_literals
 two_lines = refl
 
@@ -99,7 +100,11 @@ unfolding read first_lines is_first_line lines_of script_after kind_of bytes_of_
 empty_line = refl
 
 -- all lines of the grammar, with a reload of two lines of text
-all_lines : read_whole (lf (codes "# a comment") ++ lf [] ++ lf (codes "open 7") ++ lf (codes "tick 18446744073709551615") ++ lf (codes "reload") ++ crlf (codes "a") ++ lf [] ++ crlf (codes ".") ++ lf (codes "room 7 0") ++ lf (codes "fail 7") ++ codes "close 7") ≡ Ok (Happens (event.Opened 7) ∷ Happens (event.Tick 18446744073709551615) ∷ Happens (event.Reload (97 ∷ 13 ∷ 10 ∷ 10 ∷ [])) ∷ TakesAtMost 7 0 ∷ FailsNext 7 ∷ Happens (event.Closed 7) ∷ [])
+all_lines : read_whole
+    (lf (codes "# a comment") ++ lf [] ++ lf (codes "open 7") ++ lf (codes "tick 18446744073709551615") ++ lf (codes "reload")
+    ++ crlf (codes "a") ++ lf [] ++ crlf (codes ".") ++ lf (codes "room 7 0") ++ lf (codes "fail 7") ++ codes "close 7") ≡ Ok
+    (Happens (event.Opened 7) ∷ Happens (event.Tick 18446744073709551615)
+    ∷ Happens (event.Reload (97 ∷ 13 ∷ 10 ∷ 10 ∷ [])) ∷ TakesAtMost 7 0 ∷ FailsNext 7 ∷ Happens (event.Closed 7) ∷ [])
 unfolding read_whole whole lf crlf lines_of script_after kind_of bytes_of_words hex_on_literals
 all_lines = refl
 
@@ -114,7 +119,9 @@ unfolding read_whole whole lf lines_of script_after kind_of bytes_of_words hex_o
 no_full_stop = refl
 
 -- the second reload has no note, and so no line; nothing is printed of an offer that took nothing
-log_lines : log_text_of (note.Ok 255 ∷ []) (move.Event (event.Reload []) ∷ move.Took 1 3 (0 ∷ 254 ∷ []) ∷ move.Took 1 1 [] ∷ move.Event (event.Reload []) ∷ move.Lost 1 ∷ move.Shut 20 ∷ []) ≡ lf (codes "reload ok 255") ++ lf (codes "out 1 00fe") ++ lf (codes "lost 1") ++ lf (codes "shut 20")
+log_lines : log_text_of (note.Ok 255 ∷ [])
+    (move.Event (event.Reload []) ∷ move.Took 1 3 (0 ∷ 254 ∷ []) ∷ move.Took 1 1 [] ∷ move.Event (event.Reload []) ∷ move.Lost 1 ∷ move.Shut 20 ∷ []) ≡ lf
+    (codes "reload ok 255") ++ lf (codes "out 1 00fe") ++ lf (codes "lost 1") ++ lf (codes "shut 20")
 unfolding lf log_text_of hex_on_literals digits
 log_lines = refl
 
@@ -122,6 +129,7 @@ refused_note : log_text_of (note.Refused 0 ∷ []) (move.Event (event.Reload [])
 unfolding lf log_text_of digits
 refused_note = refl
 
-summary_line : summary_text_of (record { connections = 1; requests = 1; replies = 1; samples = 0; accepted = 0; refused = 0 }) ≡ lf (codes "connections 1 requests 1 replies 1 samples 0 reloads 0 0")
+summary_line : summary_text_of (record { connections = 1; requests = 1; replies = 1; samples = 0; accepted = 0; refused = 0 }) ≡ lf
+    (codes "connections 1 requests 1 replies 1 samples 0 reloads 0 0")
 unfolding lf digits
 summary_line = refl

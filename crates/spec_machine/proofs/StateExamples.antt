@@ -110,11 +110,13 @@ unfolding ams_length_of is_header front_of packet_of behind_frame frames_from fr
 summary_of_nothing = refl
 
 -- ReadDeviceInfo, invoke id 7, is an unknown command
-device_info : answers_to (pieces (hex (codes "000020000000 0501020301015303 c0a8000901018980 0100040000000000 0000000007000000") ∷ [])) ≡ move.Took 1 38 (hex (codes "000020000000 c0a8000901018980 0501020301015303 0100050000000000 0800000007000000")) ∷ []
+device_info : answers_to (pieces (hex (codes "000020000000 0501020301015303 c0a8000901018980 0100040000000000 0000000007000000") ∷ []))
+    ≡ move.Took 1 38 (hex (codes "000020000000 c0a8000901018980 0501020301015303 0100050000000000 0800000007000000")) ∷ []
 unfolding ams_length_of is_header front_of packet_of behind_frame frames_from frames_of left_behind rest_of produce produce_all connection_of put_back after_packet after_packets after_piece state_after_event state_after_move state_after left_after offers_to peers_after moves_of_each turns_of
 device_info = refl
 
 -- a state request with an error field is answered all the same; one with data is not
-error_field : answers_to (pieces (hex (codes "000020000000 0501020301015303 c0a8000901018980 0400040000000000 ffffffff01000000") ∷ [])) ≡ move.Took 1 46 reply ∷ []
+error_field : answers_to
+    (pieces (hex (codes "000020000000 0501020301015303 c0a8000901018980 0400040000000000 ffffffff01000000") ∷ [])) ≡ move.Took 1 46 reply ∷ []
 unfolding ams_length_of is_header front_of packet_of behind_frame frames_from frames_of left_behind rest_of produce produce_all connection_of put_back after_packet after_packets after_piece state_after_event state_after_move state_after left_after offers_to peers_after moves_of_each turns_of
 error_field = refl

@@ -11,30 +11,37 @@ use Rattle.spec_machine.specs.Delivery.{AreOffers, OffersWhole, OnlyAdds, TakesO
 use Rattle.spec_machine.specs.Connection.{connection_of}
 use Rattle.spec_machine.proofs.Delivered.{MaybeGave, gave_log, prefix_of_gave}
 
-offers-append : {W C : Type 0} (step : EventStep W C) (ms ns : List Move) (s : MachineState W C) → AreOffers step s ms → AreOffers step (state_after step s ms) ns → AreOffers step s (ms ++ ns)
+offers-append : {W C : Type 0} (step : EventStep W C) (ms ns : List Move) (s : MachineState W C)
+    → AreOffers step s ms → AreOffers step (state_after step s ms) ns → AreOffers step s (ms ++ ns)
 unfolding state_after AreOffers
 offers-append step [] ns s h k = k
 offers-append step (m ∷ ms) ns s h k = (h.0, offers-append step ms ns (state_after_move step s m) (h.1) k)
 
-serves-offers : {W C : Type 0} (step : EventStep W C) (c : ℕ) (ms : List Move) (blocked : List ℕ) (s : MachineState W C) → Serves step c blocked s ms → AreOffers step s ms
+serves-offers : {W C : Type 0} (step : EventStep W C) (c : ℕ) (ms : List Move) (blocked : List ℕ) (s : MachineState W C)
+    → Serves step c blocked s ms → AreOffers step s ms
 unfolding Serves AreOffers
 serves-offers step c [] blocked s h = tt
 serves-offers step c (move.Took n offered bytes ∷ ms) blocked s h =
-    let P : ℕ → Type 0 = λ x. IsOffer (waiting_at x s) offered bytes in
-    (subst P (sym (h.0)) (h.2), serves-offers step c ms (blocked_after_move blocked (move.Took n offered bytes)) (state_after_move step s (move.Took n offered bytes)) (h.3))
+    let P : ℕ → Type 0 = λ x. IsOffer (waiting_at x s) offered bytes in (
+      subst P (sym (h.0)) (h.2),
+      serves-offers step c ms (blocked_after_move blocked (move.Took n offered bytes)) (state_after_move step s (move.Took n offered bytes)) (h.3),
+    )
 serves-offers step c (move.Lost n ∷ ms) blocked s h = let e = h.2 in (tt, subst (AreOffers step (state_after_move step s (move.Lost n))) (sym e) tt)
 serves-offers step c (move.Shut n ∷ ms) blocked s h = let e = h.3 in (tt, subst (AreOffers step (state_after_move step s (move.Shut n))) (sym e) tt)
 serves-offers step c (move.Event e ∷ ms) blocked s h = absurd h
 
-each-offers : {W C : Type 0} (step : EventStep W C) (cs : List ℕ) (mss : List (List Move)) (blocked : List ℕ) (s : MachineState W C) → ServesEach step cs blocked s mss → AreOffers step s (flat_map (λ ms. ms) mss)
+each-offers : {W C : Type 0} (step : EventStep W C) (cs : List ℕ) (mss : List (List Move)) (blocked : List ℕ) (s : MachineState W C)
+    → ServesEach step cs blocked s mss → AreOffers step s (flat_map (λ ms. ms) mss)
 unfolding ServesEach AreOffers
 each-offers step [] [] blocked s h = tt
 each-offers step (c ∷ cs) (ms ∷ mss) blocked s h =
-    offers-append step ms (flat_map (λ xs. xs) mss) s (serves-offers step c ms blocked s (h.0)) (each-offers step cs mss (blocked_after blocked ms) (state_after step s ms) (h.1))
+    offers-append step ms (flat_map (λ xs. xs) mss) s (serves-offers step c ms blocked s (h.0))
+    (each-offers step cs mss (blocked_after blocked ms) (state_after step s ms) (h.1))
 each-offers step [] (ms ∷ mss) blocked s h = absurd h
 each-offers step (c ∷ cs) [] blocked s h = absurd h
 
-turns-offers : {W C : Type 0} (step : EventStep W C) (ts : List LogTurn) (blocked : List ℕ) (s : MachineState W C) → AreTurns step blocked s ts → AreOffers step s (flat_map moves_of_turn ts)
+turns-offers : {W C : Type 0} (step : EventStep W C) (ts : List LogTurn) (blocked : List ℕ) (s : MachineState W C)
+    → AreTurns step blocked s ts → AreOffers step s (flat_map moves_of_turn ts)
 unfolding AreTurns AreOffers state_after_move
 turns-offers step [] blocked s h = tt
 turns-offers step (t ∷ ts) blocked s h =

@@ -18,7 +18,8 @@ joined_bytes [] = refl
 joined_bytes (f ∷ fs) = ap (λ xs. bytes_of f ++ xs) (joined_bytes fs)
 
 -- what is offered is what comes next
-pub offer_next : (fs : List (List ℕ)) (n offered : ℕ) (bytes : List ℕ) → IsOffer (left_after n fs) offered bytes → (bytes ≡ take (length bytes) (drop n (joined fs))) × (n + length bytes ≤ length (joined fs))
+pub offer_next : (fs : List (List ℕ)) (n offered : ℕ) (bytes : List ℕ) → IsOffer (left_after n fs) offered bytes
+    → (bytes ≡ take (length bytes) (drop n (joined fs))) × (n + length bytes ≤ length (joined fs))
 unfolding left_after
 offer_next [] n offered bytes h = absurd h
 offer_next (f ∷ fs) n offered bytes h =
@@ -29,8 +30,10 @@ offer_next (f ∷ fs) n offered bytes h =
           let m : n ≤ length f = omega (arith, l) in
           let d = length-drop n f in
           let k : length bytes ≤ length (drop n f) = o.1 in
-          let all = length-append f (joined fs) in
-          (o.2 ∙ sym (ap (take (length bytes)) (drop-append-le n f (joined fs) m) ∙ take-append-le (length bytes) (drop n f) (joined fs) k), omega (arith, k, d, all, m))
+          let all = length-append f (joined fs) in (
+            o.2 ∙ sym (ap (take (length bytes)) (drop-append-le n f (joined fs) m) ∙ take-append-le (length bytes) (drop n f) (joined fs) k),
+            omega (arith, k, d, all, m),
+          )
       | inl t ↦
           let o = rw t at h in
           let l = leb-true (length f) n t in
@@ -38,7 +41,8 @@ offer_next (f ∷ fs) n offered bytes h =
           let s = r.1 in
           let all = length-append f (joined fs) in
           let e : n ≡ length f + (n - length f) = omega (arith, l) in
-          let d : drop n (f ++ joined fs) ≡ drop (n - length f) (joined fs) = ap (λ i. drop i (f ++ joined fs)) e ∙ drop-append-add f (joined fs) (n - length f) in
+          let d : drop n (f ++ joined fs) ≡ drop (n - length f) (joined fs) =
+          ap (λ i. drop i (f ++ joined fs)) e ∙ drop-append-add f (joined fs) (n - length f) in
           (r.0 ∙ ap (take (length bytes)) (sym d), omega (arith, s, all, l))
     ]
 

@@ -46,10 +46,12 @@ use Rattle.spec_machine.proofs.Plant.{q, a, piece, given}
 
 record WriteRows : Type 0 where
   -- exact write at the end of an area
-  exact_write : given (piece 1 (q 3 1 (codes "40400000 7c000000 04000000 11223344")) ∷ piece 1 (q 3 2 (codes "40400000 7f000000 01000000 aa")) ∷ piece 1 (q 2 3 (codes "40400000 7c000000 04000000")) ∷ [])
+  exact_write : given (piece 1 (q 3 1 (codes "40400000 7c000000 04000000 11223344"))
+      ∷ piece 1 (q 3 2 (codes "40400000 7f000000 01000000 aa")) ∷ piece 1 (q 2 3 (codes "40400000 7c000000 04000000")) ∷ [])
       ≡ a 3 1 (codes "00000000") ++ a 3 2 (codes "00000000") ++ a 2 3 (codes "00000000 04000000 112233aa")
   -- the edges of the offset: 128 with one byte, with none, 129 with none
-  edges : given (piece 1 (q 3 1 (codes "40400000 80000000 01000000 11")) ∷ piece 1 (q 3 2 (codes "40400000 80000000 00000000")) ∷ piece 1 (q 3 3 (codes "40400000 81000000 00000000")) ∷ [])
+  edges : given (piece 1 (q 3 1 (codes "40400000 80000000 01000000 11"))
+      ∷ piece 1 (q 3 2 (codes "40400000 80000000 00000000")) ∷ piece 1 (q 3 3 (codes "40400000 81000000 00000000")) ∷ [])
       ≡ a 3 1 (codes "05070000") ++ a 3 2 (codes "00000000") ++ a 3 3 (codes "03070000")
   -- five bytes from 56 cover a gap and the first byte of the read-only Main.limit
   over_a_gap : given (piece 1 (q 3 1 (codes "40400000 38000000 05000000 0102030405")) ∷ piece 1 (q 2 2 (codes "40400000 38000000 05000000")) ∷ [])

@@ -6,7 +6,6 @@ use Rattle.spec_machine.specs.Moves.{EventStep}
 use Rattle.spec_machine.specs.Events.{state_after_event}
 use Rattle.spec_machine.specs.World.{World, setup_of}
 use Rattle.spec_machine.specs.Client.{Client, new_client}
-use Rattle.spec_machine.specs.Answers.{AnswerTable}
 use Rattle.spec_machine.specs.Packets.{decide}
 use Rattle.spec_machine.specs.Replies.{performed}
 use Rattle.spec_machine.specs.Ticks.{world_after_tick, client_after_tick}
@@ -21,10 +20,10 @@ reloading w (Err fault) = Refused fault
 reloading w (Ok d) = Accepted (world_after_reload w d).version (world_after_reload w d)
 
 -- the device that answers by this table and reads descriptions so
-abbrev pub ads_device : AnswerTable → DescriptionReading → Device World Client
-ads_device table reading = record {
+abbrev pub ads_device : DescriptionReading → Device World Client
+ads_device reading = record {
   new_client = new_client;
-  take = λ w c packet. performed (decide table (setup_of w) c packet) packet w c;
+  take = λ w c packet. performed (decide (setup_of w) c packet) packet w c;
   world_after_tick = world_after_tick;
   client_after_tick = client_after_tick;
   reload = λ bytes w. reloading w (reading bytes (length w.signals));
@@ -32,5 +31,5 @@ ads_device table reading = record {
 }
 
 -- the server's machine over it, an event at a time
-abbrev pub server_step : AnswerTable → DescriptionReading → EventStep World Client
-server_step table reading = state_after_event (ads_device table reading)
+abbrev pub server_step : DescriptionReading → EventStep World Client
+server_step reading = state_after_event (ads_device reading)

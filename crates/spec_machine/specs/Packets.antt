@@ -13,7 +13,7 @@ use Rattle.spec_formats.specs.Header.{AmsAddress, AmsHeader, header_of, payload_
 use Rattle.spec_formats.specs.Request.{Request, request_of}
 use Rattle.spec_machine.specs.World.{Setup, port_numbered}
 use Rattle.spec_machine.specs.Client.{Client}
-use Rattle.spec_machine.specs.Answers.{AnswerTable, DEVICE_NOTIFICATION}
+use Rattle.spec_machine.specs.Answers.{is_answered, DEVICE_NOTIFICATION}
 use Rattle.spec_machine.specs.Decisions.{Decision, NoAnswer, EndConnection, AmsError, refuse}
 use Rattle.spec_machine.specs.SumPackets.{decide_request}
 
@@ -28,8 +28,8 @@ stop_if stops decision = record { stops = stops; leads_to = decision }
 -- The data length is the AMS length less 32; it is no response; its flags are those of a request; its source has
 -- a route; its target is this NetId, and a port that is there; it is no notification; its command is answered;
 -- and its payload is a text of its command.
-abbrev pub checks_of : AnswerTable → Plant → AmsHeader → List ℕ → List Check
-checks_of table plant h payload =
+abbrev pub checks_of : Plant → AmsHeader → List ℕ → List Check
+checks_of plant h payload =
     stop_if (not (h.len == length payload)) (AmsError invalid_ams_length)
     ∷ stop_if (h.flags % 2 == 1) NoAnswer
     ∷ stop_if (not (h.flags == request_flags)) (AmsError unknown_ams_command)
@@ -37,7 +37,7 @@ checks_of table plant h payload =
     ∷ stop_if (not (bytes_eq h.target.net plant.net)) (AmsError target_machine_not_found)
     ∷ stop_if (is_none (port_numbered h.target.port plant.ports)) (AmsError target_port_not_found)
     ∷ stop_if (h.command == DEVICE_NOTIFICATION) NoAnswer
-    ∷ stop_if (not (table.is_answered h.command)) (AmsError unknown_command_id)
+    ∷ stop_if (not (is_answered h.command)) (AmsError unknown_command_id)
     ∷ stop_if (is_none (request_of h.command payload)) (refuse invalid_size)
     ∷ []
 
@@ -47,19 +47,19 @@ checked [] decision = decision
 checked (c ∷ cs) decision = if c.stops then c.leads_to else checked cs decision
 
 -- the request of a packet that none stops, from a source with these rights to this port
-abbrev pub decide_passed : AnswerTable → Setup → Client → AmsAddress → Option Rights → Option PlantPort
+abbrev pub decide_passed : Setup → Client → AmsAddress → Option Rights → Option PlantPort
     → Option Request → Decision
-decide_passed table d c source (Some rights) (Some port) (Some request) =
-    decide_request table d c (record { port = port; address = source; rights = rights }) request
-decide_passed table d c source rights port request = NoAnswer
+decide_passed d c source (Some rights) (Some port) (Some request) =
+    decide_request d c (record { port = port; address = source; rights = rights }) request
+decide_passed d c source rights port request = NoAnswer
 
 -- the packet of a frame has a header
-abbrev pub decide_header : AnswerTable → Setup → Client → List ℕ → Option AmsHeader → Decision
-decide_header table d c payload None = NoAnswer
-decide_header table d c payload (Some h) =
-    checked (checks_of table d.plant h payload)
-    (decide_passed table d c h.source (rights_of h.source.net d.plant.routes)
+abbrev pub decide_header : Setup → Client → List ℕ → Option AmsHeader → Decision
+decide_header d c payload None = NoAnswer
+decide_header d c payload (Some h) =
+    checked (checks_of d.plant h payload)
+    (decide_passed d c h.source (rights_of h.source.net d.plant.routes)
     (port_numbered h.target.port d.plant.ports) (request_of h.command payload))
 
-unfoldable pub decide : AnswerTable → Setup → Client → List ℕ → Decision
-decide table d c packet = decide_header table d c (payload_of packet) (header_of packet)
+unfoldable pub decide : Setup → Client → List ℕ → Decision
+decide d c packet = decide_header d c (payload_of packet) (header_of packet)

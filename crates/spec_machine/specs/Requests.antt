@@ -19,7 +19,7 @@ use Rattle.spec_machine.specs.Access.{Addressed, WholeByte}
 use Rattle.spec_machine.specs.Watches.{Watch, Mode, Cyclic, OnChange}
 use Rattle.spec_machine.specs.Client.{Client, Adds, Deletes}
 use Rattle.spec_machine.specs.Acts.{Act, Refusal, fixed_data, reading, changing}
-use Rattle.spec_machine.specs.Answers.{AnswerTable, answered_group, READ, WRITE, READ_WRITE}
+use Rattle.spec_machine.specs.Answers.{answered_group, READ, WRITE, READ_WRITE}
 use Rattle.spec_machine.specs.Answers.{ADD_DEVICE_NOTIFICATION}
 use Rattle.spec_machine.specs.Reach.{reach_of}
 use Rattle.spec_machine.specs.Reads.{read_group}
@@ -79,17 +79,17 @@ delete_act c k handle =
     else Refusal notification_handle_invalid
 
 -- A notification is no request; the checks of a frame do not let it come here.
-unfoldable pub act_of : AnswerTable → Setup → Client → Asker → Request → Act
-act_of table d c k ReadDeviceInfo = fixed_data (facts_bytes k.port.facts)
-act_of table d c k (Read group offset len) =
-    read_group d c k.port (answered_group table READ group) offset len
-act_of table d c k (Write group offset bytes) =
-    write_group c k (answered_group table WRITE group) offset bytes
-act_of table d c k ReadState = reading (map WholeByte (state_names k.port))
-act_of table d c k (WriteControl ads device bytes) = control_act k ads device
-act_of table d c k (AddDeviceNotification group offset len mode delay cycle) =
-    add_act c k (answered_group table ADD_DEVICE_NOTIFICATION group) offset len cycle (mode_of mode)
-act_of table d c k (DeleteDeviceNotification handle) = delete_act c k handle
-act_of table d c k (DeviceNotification bytes) = fixed_data []
-act_of table d c k (ReadWrite group offset read_len bytes) =
-    read_write_group c k.port (answered_group table READ_WRITE group) read_len bytes
+unfoldable pub act_of : Setup → Client → Asker → Request → Act
+act_of d c k ReadDeviceInfo = fixed_data (facts_bytes k.port.facts)
+act_of d c k (Read group offset len) =
+    read_group d c k.port (answered_group READ group) offset len
+act_of d c k (Write group offset bytes) =
+    write_group c k (answered_group WRITE group) offset bytes
+act_of d c k ReadState = reading (map WholeByte (state_names k.port))
+act_of d c k (WriteControl ads device bytes) = control_act k ads device
+act_of d c k (AddDeviceNotification group offset len mode delay cycle) =
+    add_act c k (answered_group ADD_DEVICE_NOTIFICATION group) offset len cycle (mode_of mode)
+act_of d c k (DeleteDeviceNotification handle) = delete_act c k handle
+act_of d c k (DeviceNotification bytes) = fixed_data []
+act_of d c k (ReadWrite group offset read_len bytes) =
+    read_write_group c k.port (answered_group READ_WRITE group) read_len bytes

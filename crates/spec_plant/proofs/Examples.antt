@@ -35,7 +35,8 @@ axes_tree : TypeTree
 axes_tree = tree_of (axis ∷ []) axes
 
 places : List (Option ℕ)
-places = map (λ name. option_map (λ (m : TypePart). m.first) (part_of axis_tree (name_step name))) (codes "active" ∷ codes "pos" ∷ codes "label" ∷ codes "LABEL" ∷ codes "lab" ∷ [])
+places = map (λ name. option_map (λ (m : TypePart). m.first) (part_of axis_tree (name_step name)))
+    (codes "active" ∷ codes "pos" ∷ codes "label" ∷ codes "LABEL" ∷ codes "lab" ∷ [])
 
 members_at : places ≡ Some 0 ∷ Some 4 ∷ Some 8 ∷ Some 8 ∷ None ∷ []
 unfolding places axis_tree axis one member trees_of trees_behind type_size members_end type_align greatest_align
@@ -50,7 +51,8 @@ unfolding axis_tree axis one member trees_of trees_behind type_align greatest_al
 axis_align = refl
 
 -- `Main.axis[2].pos`, where `Main.axis` begins at 8
-pos_of_second : option_map (λ (p : TypePart). 8 + p.first) (part_behind (record { first = 0; type = axes_tree }) (index_step (pos 2 ∷ []) ∷ name_step (codes "pos") ∷ [])) ≡ Some 28
+pos_of_second : option_map (λ (p : TypePart). 8 + p.first)
+    (part_behind (record { first = 0; type = axes_tree }) (index_step (pos 2 ∷ []) ∷ name_step (codes "pos") ∷ [])) ≡ Some 28
 unfolding part_behind axes_tree axes axis one member trees_of trees_behind type_size members_end type_align greatest_align
 pos_of_second = refl
 
@@ -63,7 +65,9 @@ unfolding axes_tree axes axis one member trees_of trees_behind
 above_the_greatest = refl
 
 -- ARRAY [-1..0,0..2] OF INT: the last index moves fastest
-last_fastest : option_map (λ (p : TypePart). p.first) (part_of (ArrayTree (record { low = negsuc 0; count = 2 } ∷ record { low = pos 0; count = 3 } ∷ []) (PlainTree INT)) (index_step (pos 0 ∷ pos 1 ∷ []))) ≡ Some 8
+last_fastest : option_map (λ (p : TypePart). p.first)
+    (part_of (ArrayTree (record { low = negsuc 0; count = 2 } ∷ record { low = pos 0; count = 3 } ∷ []) (PlainTree INT))
+    (index_step (pos 0 ∷ pos 1 ∷ []))) ≡ Some 8
 unfolding type_size
 last_fastest = refl
 
@@ -75,7 +79,8 @@ array_text : type_text axes_tree ≡ codes "ARRAY [1..3] OF Axis"
 unfolding type_text axes_tree axes axis one member trees_of trees_behind digits
 array_text = refl
 
-plane_text : type_text (ArrayTree (record { low = negsuc 0; count = 2 } ∷ record { low = pos 0; count = 10 } ∷ []) (PlainTree LREAL)) ≡ codes "ARRAY [-1..0,0..9] OF LREAL"
+plane_text : type_text (ArrayTree (record { low = negsuc 0; count = 2 } ∷ record { low = pos 0; count = 10 } ∷ []) (PlainTree LREAL))
+    ≡ codes "ARRAY [-1..0,0..9] OF LREAL"
 unfolding type_text digits
 plane_text = refl
 
@@ -85,7 +90,8 @@ unfolding type_size members_end type_align greatest_align
 filled = refl
 
 symbol : List ℕ → Shape → Symbol
-symbol name shape = record { name = name; shape = shape; area = Process; offset = 0; comment = []; persistent = false; read_only = false; initial = []; signal = None; writers = [] }
+symbol name shape = record
+    { name = name; shape = shape; area = Process; offset = 0; comment = []; persistent = false; read_only = false; initial = []; signal = None; writers = [] }
 
 symbols : List Symbol
 symbols =
@@ -117,7 +123,8 @@ unfolding mode trees_of trees_behind
 mode_id = refl
 
 -- as many elements under other bounds are another type
-other_bounds : is_same_type (ArrayTree (record { low = pos 0; count = 2 } ∷ []) (PlainTree BYTE)) (ArrayTree (record { low = pos 1; count = 2 } ∷ []) (PlainTree BYTE)) ≡ false
+other_bounds : is_same_type (ArrayTree (record { low = pos 0; count = 2 } ∷ []) (PlainTree BYTE))
+    (ArrayTree (record { low = pos 1; count = 2 } ∷ []) (PlainTree BYTE)) ≡ false
 unfolding type_text digits has_same_parts
 other_bounds = refl
 

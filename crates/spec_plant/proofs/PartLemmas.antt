@@ -29,7 +29,8 @@ pub within-lt : (b : Bound) (i : ℤ) (k : ℕ) → within b i ≡ Some k → k 
 within-lt b i k e = below-lt b.count (i -ℤ b.low) k e
 
 -- the elements before come first
-pub element_from-before : (n : ℕ) (bs : List Bound) (indexes : List ℤ) → element_from n bs indexes ≡ option_map (λ r. n * element_count bs + r) (element_from 0 bs indexes)
+pub element_from-before : (n : ℕ) (bs : List Bound) (indexes : List ℤ)
+    → element_from n bs indexes ≡ option_map (λ r. n * element_count bs + r) (element_from 0 bs indexes)
 element_from-before n [] [] = ap Some (omega arith)
 element_from-before n [] (i ∷ others) = refl
 element_from-before n (b ∷ bs) [] = refl
@@ -38,7 +39,8 @@ element_from-before n (b ∷ bs) (i ∷ others) = go (within b i) (λ m. element
     E : ℕ
     E = element_count bs
 
-    deeper : (k : ℕ) (o : Option ℕ) → option_map (λ r. (n * b.count + k) * E + r) o ≡ option_map (λ r. n * (b.count * E) + r) (option_map (λ r. (0 * b.count + k) * E + r) o)
+    deeper : (k : ℕ) (o : Option ℕ)
+        → option_map (λ r. (n * b.count + k) * E + r) o ≡ option_map (λ r. n * (b.count * E) + r) (option_map (λ r. (0 * b.count + k) * E + r) o)
     deeper k None = refl
     deeper k (Some r) = ap Some (products n b.count k E r)
       where
@@ -46,7 +48,8 @@ element_from-before n (b ∷ bs) (i ∷ others) = go (within b i) (λ m. element
         products n c k e r = grind arith
 
     go : (o : Option ℕ) → ((m : ℕ) → element_from m bs others ≡ option_map (λ r. m * E + r) (element_from 0 bs others))
-        → option_and_then (λ k. element_from (n * b.count + k) bs others) o ≡ option_map (λ r. n * (b.count * E) + r) (option_and_then (λ k. element_from (0 * b.count + k) bs others) o)
+        → option_and_then (λ k. element_from (n * b.count + k) bs others) o ≡ option_map
+        (λ r. n * (b.count * E) + r) (option_and_then (λ k. element_from (0 * b.count + k) bs others) o)
     go None rest = refl
     go (Some k) rest =
         let left = rest (n * b.count + k) in
@@ -76,7 +79,8 @@ element_from-le n (b ∷ bs) (i ∷ others) e h = go (within b i) refl h (λ m f
 pub element_from-lt : (bs : List Bound) (indexes : List ℤ) (e : ℕ) → element_from 0 bs indexes ≡ Some e → e < element_count bs
 element_from-lt bs indexes e h = let most = element_from-le 0 bs indexes e h in omega (arith, most)
 
-member_from-end : (at : ℕ) (ms : MemberTrees) (name : List ℕ) (m : MemberPart) → member_from at ms name ≡ Some m → m.first + type_size m.type ≤ members_end at ms
+member_from-end : (at : ℕ) (ms : MemberTrees) (name : List ℕ) (m : MemberPart)
+    → member_from at ms name ≡ Some m → m.first + type_size m.type ≤ members_end at ms
 unfolding members_end
 member_from-end at NoMember name m e = cc
 member_from-end at (MemberTree n type comment ms) name m e =
@@ -139,7 +143,8 @@ part_of-end t (name_step name) p e = go (member_of t name) refl e
         subst P same (member_of-end t name m q)
 
 -- where steps lead lies within the whole
-pub part_behind-end : (p : TypePart) (steps : List Step) (q : TypePart) → part_behind p steps ≡ Some q → (p.first ≤ q.first) × (q.first + type_size q.type ≤ p.first + type_size p.type)
+pub part_behind-end : (p : TypePart) (steps : List Step) (q : TypePart) → part_behind p steps ≡ Some q
+    → (p.first ≤ q.first) × (q.first + type_size q.type ≤ p.first + type_size p.type)
 unfolding part_behind
 part_behind-end p [] q e =
     let same : p ≡ q = cc in
@@ -148,9 +153,11 @@ part_behind-end p [] q e =
 part_behind-end p (step ∷ steps) q e = go (part_of p.type step) refl e (λ v f. part_behind-end (within_part p v) steps q f)
   where
     Rest : Type 0
-    Rest = (v : TypePart) → part_behind (within_part p v) steps ≡ Some q → (p.first + v.first ≤ q.first) × (q.first + type_size q.type ≤ p.first + v.first + type_size v.type)
+    Rest = (v : TypePart) → part_behind (within_part p v) steps ≡ Some q
+        → (p.first + v.first ≤ q.first) × (q.first + type_size q.type ≤ p.first + v.first + type_size v.type)
 
-    go : (o : Option TypePart) → part_of p.type step ≡ o → option_and_then (λ z. part_behind (within_part p z) steps) o ≡ Some q → Rest → (p.first ≤ q.first) × (q.first + type_size q.type ≤ p.first + type_size p.type)
+    go : (o : Option TypePart) → part_of p.type step ≡ o → option_and_then (λ z. part_behind (within_part p z) steps) o ≡ Some q
+        → Rest → (p.first ≤ q.first) × (q.first + type_size q.type ≤ p.first + type_size p.type)
     go None s f rest = cc
     go (Some v) s f rest =
         let ends = part_of-end p.type step v s in

@@ -1,5 +1,7 @@
 -- The canonical text of an accepted type is read back.
-use Rattle.std.proofs.Common.{◌≡◌, ℕ, zero, suc, ◌+◌, ◌-◌, ◌^◌, ◌<◌, ◌≤◌, Bool, true, false, List, [], ◌∷◌, ◌++◌, length, map, take, refl, sym, ◌∙◌, ap, arith, append_assoc, inl, inr, length-append}
+use Rattle.std.proofs.Common.{◌≡◌, ℕ, zero, suc, ◌+◌, ◌-◌, ◌^◌, ◌<◌, ◌≤◌, Bool, true, false, List, [], ◌∷◌}
+use Rattle.std.proofs.Common.{◌++◌, length, map, take, refl, sym, ◌∙◌, ap, arith, append_assoc, inl, inr}
+use Rattle.std.proofs.Common.{length-append}
 use Rattle.std.specs.Prelude.{Option, Some, None, ◌==◌, ◌&&◌, ◌||◌, not, nat_le, nat_lt, find, codes, slice_get, slice_index}
 use Rattle.std.specs.Option.{option_map_or}
 use Rattle.std.specs.List.{list_all}
@@ -10,11 +12,14 @@ use Rattle.std.proofs.lemmas.Bool.{cases_Bool, and_parts, leb-true, le-leb, ltb-
 use Rattle.std.proofs.lemmas.List.Folds.{list_all-append}
 use Rattle.std.proofs.lemmas.Slice.Eq.{bytes_eq-Decides}
 use Rattle.name_paths.specs.Identifier.{is_identifier, is_identifier_byte, is_identifier_start, lower}
-use Rattle.spec_plant.specs.Plain.{Kind, BOOL, SINT, USINT, BYTE, INT, UINT, WORD, DINT, UDINT, DWORD, TIME, LINT, ULINT, LWORD, REAL, LREAL, kind_name, all_kinds}
+use Rattle.spec_plant.specs.Plain.{Kind, BOOL, SINT, USINT, BYTE, INT, UINT, WORD, DINT, UDINT, DWORD, TIME}
+use Rattle.spec_plant.specs.Plain.{LINT, ULINT, LWORD, REAL, LREAL, kind_name, all_kinds}
 use Rattle.spec_plant.specs.Listed.{Bound, Elem, Plain, Text, Struct, Enum, One, Array, NamedType, type_name, is_structure, is_enumeration}
 use Rattle.spec_plant.specs.Trees.{trees_of, tree_at, elem_tree}
 use Rattle.spec_plant.specs.Spelling.{type_text, bound_text, joined_by_comma}
-use Rattle.spec_plant.specs.TypeTexts.{PlainText, StringText, NamedText, TypeText, is_same_word, is_closing, kind_named, string_length_of, named_text_of, other_elem_of, elem_text_of, array_elem_of, array_text_of, type_text_of}
+use Rattle.spec_plant.specs.TypeTexts.{PlainText, StringText, NamedText, TypeText, is_same_word, is_closing}
+use Rattle.spec_plant.specs.TypeTexts.{kind_named, string_length_of, named_text_of, other_elem_of}
+use Rattle.spec_plant.specs.TypeTexts.{elem_text_of, array_elem_of, array_text_of, type_text_of}
 use Rattle.spec_plant.specs.AcceptedTypes.{AreTypes, is_elem, are_bounds, is_type_name, differ}
 use Rattle.spec_plant.specs.WrittenTypes.{name_at, written_elem, ends_of_bound, IsReadBack}
 use Rattle.spec_plant.proofs.NumberTexts.{decimal-digits, is_decimal-decimal}
@@ -77,7 +82,8 @@ identifier_byte-lower c h =
         | inl s ↦
             let low = ltb-false c 65 t in
             let high = ltb-true c 91 s in
-            let in_range : (nat_le 97 (c + 32) && nat_le (c + 32) 122) ≡ true = rw (le-leb 97 (c + 32) (omega (arith, low)), le-leb (c + 32) 122 (omega (arith, high))) refl in
+            let in_range : (nat_le 97 (c + 32) && nat_le (c + 32) 122) ≡ true =
+            rw (le-leb 97 (c + 32) (omega (arith, low)), le-leb (c + 32) 122 (omega (arith, high))) refl in
             rw (t, s) (third_of (is_in_range 48 57 (c + 32)) (is_in_range 65 90 (c + 32)) (is_in_range 97 122 (c + 32)) ((c + 32) == 95) in_range)
         | inr s ↦ rw (t, s) h
       ]
@@ -157,7 +163,8 @@ named_text name h =
     let identifier = (and_parts (is_identifier name) (nat_le (length name) 255) (outer.0)).0 in
     let bytes = identifier-bytes name identifier in
     let split = list_all-append (differ name) (map kind_name all_kinds) (codes "STRING" ∷ codes "ARRAY" ∷ codes "OF" ∷ []) in
-    let words : (list_all (differ name) (map kind_name all_kinds) && list_all (differ name) (codes "STRING" ∷ codes "ARRAY" ∷ codes "OF" ∷ [])) ≡ true = sym split ∙ outer.1 in
+    let words : (list_all (differ name) (map kind_name all_kinds) && list_all (differ name) (codes "STRING" ∷ codes "ARRAY" ∷ codes "OF" ∷ [])) ≡ true =
+    sym split ∙ outer.1 in
     let both = and_parts _ _ words in
     let none : kind_named name ≡ None = no_kind name all_kinds (both.0) in
     let string = and_parts (differ name (codes "STRING")) (list_all (differ name) (codes "ARRAY" ∷ codes "OF" ∷ [])) (both.1) in
@@ -178,14 +185,16 @@ named_at : (P : NamedType → Bool) (types : List NamedType) (place : ℕ) → A
     → IsElemText (type_text (tree_at (trees_of types) place)) (NamedText (name_at types place))
 named_at P types place a h = go (slice_get types place) refl h
   where
-    go : (o : Option NamedType) → slice_get types place ≡ o → option_map_or P o false ≡ true → IsElemText (type_text (tree_at (trees_of types) place)) (NamedText (option_map_or type_name o []))
+    go : (o : Option NamedType) → slice_get types place ≡ o → option_map_or P o false ≡ true
+        → IsElemText (type_text (tree_at (trees_of types) place)) (NamedText (option_map_or type_name o []))
     go None e f = cc
     go (Some t) e f =
         let there = stands_at types place t a e in
         let text = type_text-named types place t e in
         rw text (named_text (type_name t) there.name)
 
-elem_text : (types : List NamedType) (e : Elem) → AreTypes types → is_elem types e ≡ true → IsElemText (type_text (elem_tree (trees_of types) e)) (written_elem types e)
+elem_text : (types : List NamedType) (e : Elem) → AreTypes types → is_elem types e ≡ true
+    → IsElemText (type_text (elem_tree (trees_of types) e)) (written_elem types e)
 unfolding type_text
 elem_text types (Plain k) a h = plain_text k
 elem_text types (Text n) a h = string_text n (leb-true n 65534 h)

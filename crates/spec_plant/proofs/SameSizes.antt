@@ -59,7 +59,8 @@ mutual
       let front = (bytes_eq (lower m) (lower n) && (member_start at t == member_start by u)) && (bytes_eq (type_text t) (type_text u) && has_same_parts t u) in
       let rest = has_same_members (member_start at t + type_size t) ms (member_start by u + type_size u) ns in
       let p = and_parts front rest e in
-      let texts = and_parts (bytes_eq (lower m) (lower n) && (member_start at t == member_start by u)) (bytes_eq (type_text t) (type_text u) && has_same_parts t u) (p.0) in
+      let texts = and_parts (bytes_eq (lower m) (lower n) && (member_start at t == member_start by u))
+      (bytes_eq (type_text t) (type_text u) && has_same_parts t u) (p.0) in
       let parts = and_parts (bytes_eq (type_text t) (type_text u)) (has_same_parts t u) (texts.1) in
       let x = same_parts-size t u (parts.1) in
       let y = same_members-size (member_start at t + type_size t) ms (member_start by u + type_size u) ns (p.1) in

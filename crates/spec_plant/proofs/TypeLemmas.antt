@@ -1,15 +1,20 @@
 -- What stands at a place of an accepted list of types: its tree in terms of all trees, what its parts name, its size.
-use Rattle.std.proofs.Common.{◌≡◌, ℕ, zero, suc, ◌+◌, ◌<◌, ◌≤◌, List, [], ◌∷◌, ◌++◌, length, take, drop, true, false, refl, sym, ◌∙◌, ap, subst, arith, length-append, Bool, add-zero, append-nil, append_assoc, zero-add}
+use Rattle.std.proofs.Common.{◌≡◌, ℕ, zero, suc, ◌+◌, ◌<◌, ◌≤◌, List, [], ◌∷◌, ◌++◌, length, take, drop, true}
+use Rattle.std.proofs.Common.{false, refl, sym, ◌∙◌, ap, subst, arith, length-append, Bool, add-zero}
+use Rattle.std.proofs.Common.{append-nil, append_assoc, zero-add}
 use Rattle.std.specs.Prelude.{Option, Some, None, slice_get, nat_le}
 use Rattle.std.specs.Option.{option_map_or}
 use Rattle.std.specs.List.{list_all}
 use Rattle.std.proofs.lemmas.Bool.{and_parts, leb-true}
 use Rattle.std.proofs.lemmas.Option.{slice_get_within}
-use Rattle.spec_plant.specs.Listed.{Elem, Plain, Text, Struct, Enum, Shape, One, Array, Member, NamedType, Structure, Enumeration, type_name, is_structure, is_enumeration}
+use Rattle.spec_plant.specs.Listed.{Elem, Plain, Text, Struct, Enum, Shape, One, Array, Member, NamedType}
+use Rattle.spec_plant.specs.Listed.{Structure, Enumeration, type_name, is_structure, is_enumeration}
 use Rattle.spec_plant.specs.Trees.{TypeTree, tree_at, elem_tree, shape_tree, member_trees, named_tree, trees_behind, trees_of}
 use Rattle.spec_plant.specs.Sizes.{type_size}
 use Rattle.spec_plant.specs.Spelling.{type_text}
-use Rattle.spec_plant.specs.AcceptedTypes.{AreTypes, are_types_behind, is_next_type, has_parts, is_member, is_shape, is_elem, are_bounds, is_small_type, is_type_name, is_small_shape, LIMIT, elem_within}
+use Rattle.spec_plant.specs.AcceptedTypes.{AreTypes, are_types_behind, is_next_type, has_parts, is_member}
+use Rattle.spec_plant.specs.AcceptedTypes.{is_shape, is_elem, are_bounds, is_small_type, is_type_name}
+use Rattle.spec_plant.specs.AcceptedTypes.{is_small_shape, LIMIT, elem_within}
 
 -- a longer list has the same at a place
 slice_get-append : {X : Type 0} (xs ys : List X) (p : ℕ) (x : X) → slice_get xs p ≡ Some x → slice_get (xs ++ ys) p ≡ Some x
@@ -53,13 +58,15 @@ named_there P types place h = go (slice_get types place) refl h
 record Agree (before : List NamedType) (known more : List TypeTree) : Type 0 where
   same : (p : ℕ) → p < length before → tree_at known p ≡ tree_at more p
 
-elem_tree-agree : (before : List NamedType) (known more : List TypeTree) → Agree before known more → (e : Elem) → is_elem before e ≡ true → elem_tree known e ≡ elem_tree more e
+elem_tree-agree : (before : List NamedType) (known more : List TypeTree) → Agree before known more
+    → (e : Elem) → is_elem before e ≡ true → elem_tree known e ≡ elem_tree more e
 elem_tree-agree before known more a (Plain k) h = refl
 elem_tree-agree before known more a (Text n) h = refl
 elem_tree-agree before known more a (Struct p) h = a.same p (at-below is_structure before p h)
 elem_tree-agree before known more a (Enum p) h = a.same p (at-below is_enumeration before p h)
 
-shape_tree-agree : (before : List NamedType) (known more : List TypeTree) → Agree before known more → (s : Shape) → is_shape before s ≡ true → shape_tree known s ≡ shape_tree more s
+shape_tree-agree : (before : List NamedType) (known more : List TypeTree) → Agree before known more
+    → (s : Shape) → is_shape before s ≡ true → shape_tree known s ≡ shape_tree more s
 shape_tree-agree before known more a (One e) h = elem_tree-agree before known more a e h
 shape_tree-agree before known more a (Array bs e) h =
     let parts = and_parts (are_bounds bs) (is_elem before e) h in
@@ -73,7 +80,8 @@ member-shape before m h =
     let inner = and_parts _ _ (outer.0) in
     inner.1
 
-member_trees-agree : (before : List NamedType) (known more : List TypeTree) → Agree before known more → (ms : List Member) → list_all (is_member before) ms ≡ true → member_trees known ms ≡ member_trees more ms
+member_trees-agree : (before : List NamedType) (known more : List TypeTree) → Agree before known more
+    → (ms : List Member) → list_all (is_member before) ms ≡ true → member_trees known ms ≡ member_trees more ms
 member_trees-agree before known more a [] h = refl
 member_trees-agree before known more a (m ∷ ms) h =
     let parts = and_parts (is_member before m) (list_all (is_member before) ms) h in
@@ -82,13 +90,15 @@ member_trees-agree before known more a (m ∷ ms) h =
     cc
 
 -- the members of an accepted structure
-has_parts-members : (before : List NamedType) (name : List ℕ) (ms : List Member) → has_parts before (Structure name ms) ≡ true → list_all (is_member before) ms ≡ true
+has_parts-members : (before : List NamedType) (name : List ℕ) (ms : List Member)
+    → has_parts before (Structure name ms) ≡ true → list_all (is_member before) ms ≡ true
 has_parts-members before name ms h =
     let outer = and_parts _ _ h in
     let inner = and_parts _ _ (outer.0) in
     inner.1
 
-named_tree-agree : (before : List NamedType) (known more : List TypeTree) → Agree before known more → (t : NamedType) → has_parts before t ≡ true → named_tree known t ≡ named_tree more t
+named_tree-agree : (before : List NamedType) (known more : List TypeTree) → Agree before known more
+    → (t : NamedType) → has_parts before t ≡ true → named_tree known t ≡ named_tree more t
 named_tree-agree before known more a (Structure name ms) h =
     let same = member_trees-agree before known more a ms (has_parts-members before name ms h) in
     cc
@@ -104,7 +114,8 @@ next-small : (before : List NamedType) (t : NamedType) → is_next_type before t
 next-small before t h = (and_parts _ _ h).1
 
 -- the tree at a place, in terms of all trees
-tree_at-behind : (before : List NamedType) (known : List TypeTree) (ts : List NamedType) (i : ℕ) (t : NamedType) → length known ≡ length before → are_types_behind before ts ≡ true → slice_get ts i ≡ Some t
+tree_at-behind : (before : List NamedType) (known : List TypeTree) (ts : List NamedType) (i : ℕ) (t : NamedType)
+    → length known ≡ length before → are_types_behind before ts ≡ true → slice_get ts i ≡ Some t
     → tree_at (trees_behind known ts) (length before + i) ≡ named_tree (trees_behind known ts) t
 unfolding trees_behind
 tree_at-behind before known [] i t l h e = cc
@@ -113,7 +124,8 @@ tree_at-behind before known (u ∷ ts) zero t l h e =
     let longer = known ++ named_tree known u ∷ [] in
     let behind = trees_behind longer ts in
     let less : length known < length longer = simp length-append (omega arith) in
-    let there : tree_at behind (length known) ≡ named_tree known u = tree_at-trees_behind longer ts (length known) less ∙ tree_at-end known (named_tree known u) in
+    let there : tree_at behind (length known) ≡ named_tree known u =
+    tree_at-trees_behind longer ts (length known) less ∙ tree_at-end known (named_tree known u) in
     let agree : Agree before known behind = record {
       same = λ p below.
           let fits : p < length known = omega arith in
@@ -132,7 +144,8 @@ tree_at-behind before known (u ∷ ts) (suc i) t l h e =
     rw place rest
 
 -- an accepted type is accepted after those before it
-next-behind : (before ts : List NamedType) (i : ℕ) (t : NamedType) → are_types_behind before ts ≡ true → slice_get ts i ≡ Some t → is_next_type (before ++ take i ts) t ≡ true
+next-behind : (before ts : List NamedType) (i : ℕ) (t : NamedType) → are_types_behind before ts ≡ true
+    → slice_get ts i ≡ Some t → is_next_type (before ++ take i ts) t ≡ true
 next-behind before [] i t h e = cc
 next-behind before (u ∷ ts) zero t h e =
     let parts = and_parts (is_next_type before u) (are_types_behind (before ++ u ∷ []) ts) h in
@@ -172,7 +185,8 @@ stands_at types place t a e =
     let next = next-behind [] types place t a.each e in
     let earlier = take place types in
     let there : tree_at (trees_behind [] types) (0 + place) ≡ named_tree (trees_behind [] types) t = tree_at-behind [] [] types place t refl a.each e in
-    let same : named_tree (trees_of earlier) t ≡ named_tree (trees_of types) t = named_tree-agree earlier (trees_of earlier) (trees_of types) agree t (next-parts earlier t next) in
+    let same : named_tree (trees_of earlier) t ≡ named_tree (trees_of types) t =
+    named_tree-agree earlier (trees_of earlier) (trees_of types) agree t (next-parts earlier t next) in
     let small : nat_le (type_size (named_tree (trees_of earlier) t)) LIMIT ≡ true = (and_parts _ _ (next-small earlier t next)).0 in
     let little : nat_le (type_size (named_tree (trees_of types) t)) LIMIT ≡ true = rw same at small in
     record {
@@ -192,7 +206,8 @@ stands_at types place t a e =
     }
 
 -- a part of the list has nothing that the list has not
-is_there-take : (P : NamedType → Bool) (ts : List NamedType) (n p : ℕ) → option_map_or P (slice_get (take n ts) p) false ≡ true → (option_map_or P (slice_get ts p) false ≡ true) × (p < n)
+is_there-take : (P : NamedType → Bool) (ts : List NamedType) (n p : ℕ)
+    → option_map_or P (slice_get (take n ts) p) false ≡ true → (option_map_or P (slice_get ts p) false ≡ true) × (p < n)
 is_there-take P ts zero p h = cc
 is_there-take P [] (suc n) p h = cc
 is_there-take P (t ∷ ts) (suc n) zero h = (h, omega arith)
@@ -261,7 +276,8 @@ list_all-get {X} P (y ∷ ys) zero x h e =
 list_all-get P (y ∷ ys) (suc i) x h e = list_all-get P ys i x ((and_parts (P y) (list_all P ys) h).1) e
 
 -- each member of an accepted structure is such a one
-pub good_members : (types : List NamedType) (place : ℕ) (name : List ℕ) (ms : List Member) (i : ℕ) (m : Member) → has_parts (take place types) (Structure name ms) ≡ true → slice_get ms i ≡ Some m
+pub good_members : (types : List NamedType) (place : ℕ) (name : List ℕ) (ms : List Member) (i : ℕ) (m : Member)
+    → has_parts (take place types) (Structure name ms) ≡ true → slice_get ms i ≡ Some m
     → IsGoodMember types place m
 good_members types place name ms i m h e =
     good_member types place m (list_all-get (is_member (take place types)) ms i m (has_parts-members (take place types) name ms h) e)
@@ -274,7 +290,8 @@ trees_behind-name known before [] i t l e = cc
 trees_behind-name known before (u ∷ ts) zero t l e =
     let longer = known ++ named_tree known u ∷ [] in
     let less : length known < length longer = simp length-append (omega arith) in
-    let there : tree_at (trees_behind longer ts) (length known) ≡ named_tree known u = tree_at-trees_behind longer ts (length known) less ∙ tree_at-end known (named_tree known u) in
+    let there : tree_at (trees_behind longer ts) (length known) ≡ named_tree known u =
+    tree_at-trees_behind longer ts (length known) less ∙ tree_at-end known (named_tree known u) in
     let place : length before + 0 ≡ length known = omega (arith, l) in
     let is_it : u ≡ t = cc in
     rw place (rw there (named u ∙ ap type_name is_it))
@@ -288,7 +305,8 @@ trees_behind-name known before (u ∷ ts) (suc i) t l e =
     let place : length before + suc i ≡ length (before ++ u ∷ []) + i = simp length-append (omega arith) in
     rw place rest
 
-pub type_text-named : (types : List NamedType) (place : ℕ) (t : NamedType) → slice_get types place ≡ Some t → type_text (tree_at (trees_of types) place) ≡ type_name t
+pub type_text-named : (types : List NamedType) (place : ℕ) (t : NamedType)
+    → slice_get types place ≡ Some t → type_text (tree_at (trees_of types) place) ≡ type_name t
 unfolding trees_of
 type_text-named types place t e =
     let there : type_text (tree_at (trees_behind [] types) (0 + place)) ≡ type_name t = trees_behind-name [] [] types place t refl e in

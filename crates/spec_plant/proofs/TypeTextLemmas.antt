@@ -1,5 +1,6 @@
 -- A canonical text is read back as the type that it was written for.
-use Rattle.std.proofs.Common.{◌≡◌, ℕ, zero, suc, Bool, true, false, List, [], ◌∷◌, ◌++◌, length, map, take, drop, refl, ◌∙◌, ap, arith, append_assoc, append-nil, inl, inr}
+use Rattle.std.proofs.Common.{◌≡◌, ℕ, zero, suc, Bool, true, false, List, [], ◌∷◌, ◌++◌, length, map, take}
+use Rattle.std.proofs.Common.{drop, refl, ◌∙◌, ap, arith, append_assoc, append-nil, inl, inr}
 use Rattle.std.specs.Prelude.{Some, ◌==◌, not, nat_le, ℤ, pos, int_le, ◌+ℤ◌, ◌-ℤ◌, ◌≤ℤ◌, nat_lt}
 use Rattle.std.specs.List.{list_all, before_first, position_or_len, slice_split, onto_first}
 use Rattle.std.specs.Char.{is_ascii_digit}
@@ -129,7 +130,8 @@ bound_text-free p s dot b h =
     rw (bound_text-parts b, split, low, dot, high) refl
 
 -- bounds joined by commas
-split_bounds : (b : Bound) (bs : List Bound) → list_all is_bound (b ∷ bs) ≡ true → slice_split is_comma (joined_by_comma (map bound_text (b ∷ bs))) ≡ map bound_text (b ∷ bs)
+split_bounds : (b : Bound) (bs : List Bound) → list_all is_bound (b ∷ bs) ≡ true
+    → slice_split is_comma (joined_by_comma (map bound_text (b ∷ bs))) ≡ map bound_text (b ∷ bs)
 split_bounds b [] h =
     let good = (and_parts (is_bound b) true h).0 in
     rw append-nil (split-free is_comma (bound_text b) (bound_text-free is_comma comma refl b good))

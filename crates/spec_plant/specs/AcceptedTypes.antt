@@ -1,10 +1,14 @@
 -- Which lists of types are accepted: description rules 6, 7 and 8, said over the value.
-use Rattle.std.specs.Prelude.{ℕ, slice_get, ◌-◌, ◌*◌, ◌^◌, ◌≤◌, List, [], ◌∷◌, ◌++◌, length, map, Bool, true, false, ◌&&◌, not, ◌==◌, nat_le, nat_lt, if◌then◌else◌, IsTrue, bytes_eq, codes, ℤ, pos, negsuc}
+use Rattle.std.specs.Prelude.{ℕ, slice_get, ◌-◌, ◌*◌, ◌^◌, ◌≤◌, List, [], ◌∷◌, ◌++◌, length, map, Bool, true}
+use Rattle.std.specs.Prelude.{false, ◌&&◌, not, ◌==◌, nat_le, nat_lt, if◌then◌else◌, IsTrue, bytes_eq, codes}
+use Rattle.std.specs.Prelude.{ℤ, pos, negsuc}
 use Rattle.std.specs.List.{list_all}
 use Rattle.std.specs.Option.{option_map_or}
 use Rattle.name_paths.specs.Identifier.{is_identifier, lower}
 use Rattle.spec_plant.specs.Plain.{Kind, all_kinds, kind_name, kind_size, is_base, is_signed}
-use Rattle.spec_plant.specs.Listed.{Bound, Elem, Plain, Text, Struct, Enum, Shape, One, Array, Member, EnumValue, NamedType, Structure, Enumeration, type_name, is_structure, is_enumeration}
+use Rattle.spec_plant.specs.Listed.{Bound, Elem, Plain, Text, Struct, Enum, Shape, One, Array, Member}
+use Rattle.spec_plant.specs.Listed.{EnumValue, NamedType, Structure, Enumeration, type_name, is_structure}
+use Rattle.spec_plant.specs.Listed.{is_enumeration}
 use Rattle.spec_plant.specs.Trees.{TypeTree, trees_of, named_tree, tree_of}
 use Rattle.spec_plant.specs.Sizes.{element_count, type_size, type_depth}
 use Rattle.spec_plant.specs.Spelling.{high_of}

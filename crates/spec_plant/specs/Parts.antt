@@ -1,5 +1,6 @@
 -- Parts of a type: the members of structures and the elements of arrays, and where steps lead.
-use Rattle.std.specs.Prelude.{ℕ, ◌+◌, ◌*◌, List, [], ◌∷◌, nat_lt, if◌then◌else◌, Option, Some, None, option_map, option_and_then, bytes_eq, ℤ, pos, negsuc, ◌-ℤ◌}
+use Rattle.std.specs.Prelude.{ℕ, ◌+◌, ◌*◌, List, [], ◌∷◌, nat_lt, if◌then◌else◌, Option, Some, None}
+use Rattle.std.specs.Prelude.{option_map, option_and_then, bytes_eq, ℤ, pos, negsuc, ◌-ℤ◌}
 use Rattle.name_paths.specs.Identifier.{lower}
 use Rattle.name_paths.specs.Path.{Step, name_step, index_step}
 use Rattle.spec_plant.specs.Listed.{Bound}

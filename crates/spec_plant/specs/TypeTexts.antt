@@ -1,6 +1,8 @@
 -- Type texts as a description writes them, in any case of letters: a plain type, `STRING(n)`, `STRING`, which is
 -- `STRING(80)`, the name of a type, or `ARRAY [l..u] OF` one of these, with one to three dimensions.
-use Rattle.std.specs.Prelude.{ℕ, ◌-◌, List, [], ◌∷◌, length, take, drop, slice_index, Bool, not, ◌&&◌, ◌==◌, nat_le, if◌then◌else◌, find, Option, Some, None, is_some, option_map, option_and_then, bytes_eq, codes, ℤ, int_le}
+use Rattle.std.specs.Prelude.{ℕ, ◌-◌, List, [], ◌∷◌, length, take, drop, slice_index, Bool, not, ◌&&◌, ◌==◌}
+use Rattle.std.specs.Prelude.{nat_le, if◌then◌else◌, find, Option, Some, None, is_some, option_map}
+use Rattle.std.specs.Prelude.{option_and_then, bytes_eq, codes, ℤ, int_le}
 use Rattle.std.specs.List.{list_all, slice_split, before_first}
 use Rattle.name_paths.specs.Identifier.{is_identifier, lower}
 use Rattle.name_paths.specs.Name.{is_full_stop}

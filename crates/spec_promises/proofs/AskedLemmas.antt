@@ -21,7 +21,7 @@ use Rattle.spec_machine.specs.Piece.{after_outcome, after_packet, after_packets,
 use Rattle.spec_machine.specs.World.{World, Setup, setup_of, port_numbered}
 use Rattle.spec_machine.specs.Client.{Client, client_after}
 use Rattle.spec_machine.specs.Acts.{Act, memory_after_acts, client_after_acts, writes_of_act, writes_of_acts}
-use Rattle.spec_machine.specs.Answers.{AnswerTable, answered_group, READ_WRITE}
+use Rattle.spec_machine.specs.Answers.{answered_group, READ_WRITE}
 use Rattle.spec_machine.specs.Writes.{Asker}
 use Rattle.spec_machine.specs.Requests.{act_of}
 use Rattle.spec_machine.specs.Sums.{SumRequest, sum_of_reads, sum_of_writes, sum_of_read_writes, given_in_turn}
@@ -30,79 +30,79 @@ use Rattle.spec_machine.specs.Decisions.{Decision, NoAnswer, EndConnection, AmsE
 use Rattle.spec_machine.specs.SumPackets.{acts_of, decide_parts, decide_read_write, decide_request}
 use Rattle.spec_machine.specs.Packets.{Check, checks_of, checked, decide_passed, decide_header, decide}
 use Rattle.spec_machine.specs.Replies.{performed}
-use Rattle.spec_machine.specs.AdsDevice.{DescriptionReading, ads_device}
 use Rattle.spec_machine.specs.Projection.{acts_of_packet, acts_of_packets, acts_of_piece, acts_at}
 use Rattle.spec_laws.proofs.Exchanges.{answer-client, rest-client}
 use Rattle.spec_promises.specs.Asked.{Asked, act_of_asked, after_asked, asked_in_turn, question, question_in}
 use Rattle.spec_promises.specs.Asked.{question_of, parts_unless, requests_in, requests_of}
 use Rattle.spec_promises.specs.Asked.{asked_of_question, party_of, asked_of_packet, asked_of_packets, asked_of_piece, asked_at, names_written, Leads}
+use Rattle.spec_server.specs.Server.{read_description, server_device}
 
-leads-append : (table : AnswerTable) (as_ bs : List Asked) (x y z : List Block) → Leads table x as_ y → Leads table y bs z → Leads table x (as_ ++ bs) z
-leads-append table [] bs x y z p q = subst (λ m. Leads table m bs z) (sym p) q
-leads-append table (a ∷ as_) bs x y z p q = (p.0, leads-append table as_ bs (after_asked table a).memory y z (p.1) q)
+leads-append : (as_ bs : List Asked) (x y z : List Block) → Leads x as_ y → Leads y bs z → Leads x (as_ ++ bs) z
+leads-append [] bs x y z p q = subst (λ m. Leads m bs z) (sym p) q
+leads-append (a ∷ as_) bs x y z p q = (p.0, leads-append as_ bs (after_asked a).memory y z (p.1) q)
 
 -- each finds the client that the one before it left
-abbrev pub LeadsClient : AnswerTable → Client → List Asked → Client → Type 0
-LeadsClient table first [] last = first ≡ last
-LeadsClient table first (a ∷ as_) last = (a.before.client ≡ first) × LeadsClient table (after_asked table a).client as_ last
+abbrev pub LeadsClient : Client → List Asked → Client → Type 0
+LeadsClient first [] last = first ≡ last
+LeadsClient first (a ∷ as_) last = (a.before.client ≡ first) × LeadsClient (after_asked a).client as_ last
 
-clients-append : (table : AnswerTable) (as_ bs : List Asked) (x y z : Client) → LeadsClient table x as_ y → LeadsClient table y bs z
-    → LeadsClient table x (as_ ++ bs) z
-clients-append table [] bs x y z p q = subst (λ c. LeadsClient table c bs z) (sym p) q
-clients-append table (a ∷ as_) bs x y z p q = (p.0, clients-append table as_ bs (after_asked table a).client y z (p.1) q)
+clients-append : (as_ bs : List Asked) (x y z : Client) → LeadsClient x as_ y → LeadsClient y bs z
+    → LeadsClient x (as_ ++ bs) z
+clients-append [] bs x y z p q = subst (λ c. LeadsClient c bs z) (sym p) q
+clients-append (a ∷ as_) bs x y z p q = (p.0, clients-append as_ bs (after_asked a).client y z (p.1) q)
 
 -- requests lead as these acts do, and write the names that they write
-record Matches (table : AnswerTable) (first : Party) (acts : List Act) (asked : List Asked) : Type 0 where
-  leads : Leads table first.memory asked (memory_after_acts first.memory acts)
-  clients : LeadsClient table first.client asked (client_after_acts first.client acts)
-  names : names_written table asked ≡ writes_of_acts acts
+record Matches (first : Party) (acts : List Act) (asked : List Asked) : Type 0 where
+  leads : Leads first.memory asked (memory_after_acts first.memory acts)
+  clients : LeadsClient first.client asked (client_after_acts first.client acts)
+  names : names_written asked ≡ writes_of_acts acts
 
-in_turn-leads : (table : AnswerTable) (d : Setup) (k : Asker) (rs : List Request) (p : Party)
-    → Leads table p.memory (asked_in_turn table d k p rs) (memory_after_acts p.memory (acts_of table d p.client k rs))
+in_turn-leads : (d : Setup) (k : Asker) (rs : List Request) (p : Party)
+    → Leads p.memory (asked_in_turn d k p rs) (memory_after_acts p.memory (acts_of d p.client k rs))
 unfolding asked_in_turn acts_of given_in_turn memory_after_acts
-in_turn-leads table d k [] p = refl
-in_turn-leads table d k (r ∷ rs) p = (refl, in_turn-leads table d k rs (party_after table d k p r))
+in_turn-leads d k [] p = refl
+in_turn-leads d k (r ∷ rs) p = (refl, in_turn-leads d k rs (party_after d k p r))
 
-in_turn-clients : (table : AnswerTable) (d : Setup) (k : Asker) (rs : List Request) (p : Party)
-    → LeadsClient table p.client (asked_in_turn table d k p rs) (client_after_acts p.client (acts_of table d p.client k rs))
+in_turn-clients : (d : Setup) (k : Asker) (rs : List Request) (p : Party)
+    → LeadsClient p.client (asked_in_turn d k p rs) (client_after_acts p.client (acts_of d p.client k rs))
 unfolding asked_in_turn acts_of given_in_turn client_after_acts
-in_turn-clients table d k [] p = refl
-in_turn-clients table d k (r ∷ rs) p = (refl, in_turn-clients table d k rs (party_after table d k p r))
+in_turn-clients d k [] p = refl
+in_turn-clients d k (r ∷ rs) p = (refl, in_turn-clients d k rs (party_after d k p r))
 
-in_turn-names : (table : AnswerTable) (d : Setup) (k : Asker) (rs : List Request) (p : Party)
-    → names_written table (asked_in_turn table d k p rs) ≡ writes_of_acts (acts_of table d p.client k rs)
+in_turn-names : (d : Setup) (k : Asker) (rs : List Request) (p : Party)
+    → names_written (asked_in_turn d k p rs) ≡ writes_of_acts (acts_of d p.client k rs)
 unfolding asked_in_turn acts_of given_in_turn
-in_turn-names table d k [] p = refl
-in_turn-names table d k (r ∷ rs) p = ap (λ ns. writes_of_act (act_of table d p.client k r) ++ ns) (in_turn-names table d k rs (party_after table d k p r))
+in_turn-names d k [] p = refl
+in_turn-names d k (r ∷ rs) p = ap (λ ns. writes_of_act (act_of d p.client k r) ++ ns) (in_turn-names d k rs (party_after d k p r))
 
-in_turn : (table : AnswerTable) (d : Setup) (k : Asker) (rs : List Request) (p : Party)
-    → Matches table p (acts_of table d p.client k rs) (asked_in_turn table d k p rs)
-in_turn table d k rs p = record { leads = in_turn-leads table d k rs p; clients = in_turn-clients table d k rs p; names = in_turn-names table d k rs p }
+in_turn : (d : Setup) (k : Asker) (rs : List Request) (p : Party)
+    → Matches p (acts_of d p.client k rs) (asked_in_turn d k p rs)
+in_turn d k rs p = record { leads = in_turn-leads d k rs p; clients = in_turn-clients d k rs p; names = in_turn-names d k rs p }
 
 -- what turns a packet away does nothing
-record Quiet (table : AnswerTable) (x : Decision) : Type 0 where
-  matches : (p : Party) → Matches table p (acts_in x) []
+record Quiet (x : Decision) : Type 0 where
+  matches : (p : Party) → Matches p (acts_in x) []
 
-no_acts : (table : AnswerTable) (x : Decision) → acts_in x ≡ [] → Quiet table x
+no_acts : (x : Decision) → acts_in x ≡ [] → Quiet x
 unfolding memory_after_acts client_after_acts
-no_acts table x e = record { matches = λ p. subst (λ acts. Matches table p acts []) (sym e) (record { leads = refl; clients = refl; names = refl }) }
+no_acts x e = record { matches = λ p. subst (λ acts. Matches p acts []) (sym e) (record { leads = refl; clients = refl; names = refl }) }
 
-refused : (table : AnswerTable) (code : ℕ) → Quiet table (refuse code)
+refused : (code : ℕ) → Quiet (refuse code)
 unfolding memory_after_acts client_after_acts client_after
-refused table code = record { matches = λ p. record { leads = refl; clients = refl; names = refl } }
+refused code = record { matches = λ p. record { leads = refl; clients = refl; names = refl } }
 
-AllQuiet : AnswerTable → List Check → Type 0
-AllQuiet table [] = Unit {0}
-AllQuiet table (c ∷ cs) = Quiet table c.leads_to × AllQuiet table cs
+AllQuiet : List Check → Type 0
+AllQuiet [] = Unit {0}
+AllQuiet (c ∷ cs) = Quiet c.leads_to × AllQuiet cs
 
 -- the first check that stops it is one of them
-stopped : (table : AnswerTable) (cs : List Check) (x : Decision) → AllQuiet table cs → list_any (λ (c : Check). c.stops) cs ≡ true → Quiet table (checked cs x)
+stopped : (cs : List Check) (x : Decision) → AllQuiet cs → list_any (λ (c : Check). c.stops) cs ≡ true → Quiet (checked cs x)
 unfolding AllQuiet
-stopped table [] x q e = cc
-stopped table (c ∷ cs) x q e =
+stopped [] x q e = cc
+stopped (c ∷ cs) x q e =
     elim (cases_Bool c.stops) [
       | inl t ↦ rw t (q.0)
-      | inr t ↦ let f : list_any (λ (c : Check). c.stops) cs ≡ true = rw t at e in rw t (stopped table cs x (q.1) f)
+      | inr t ↦ let f : list_any (λ (c : Check). c.stops) cs ≡ true = rw t at e in rw t (stopped cs x (q.1) f)
     ]
 
 passed : (cs : List Check) (x : Decision) → list_any (λ (c : Check). c.stops) cs ≡ false → checked cs x ≡ x
@@ -112,48 +112,48 @@ passed (c ∷ cs) x e =
     let here = parts.0 in
     rw here (passed cs x (parts.1))
 
-parts : (table : AnswerTable) (d : Setup) (k : Asker) (p : Party) (s : SumRequest) (o : Option ℕ)
-    → Matches table p (acts_in (decide_parts table d p.client k s o)) (asked_in_turn table d k p (parts_unless o s.parts))
+parts : (d : Setup) (k : Asker) (p : Party) (s : SumRequest) (o : Option ℕ)
+    → Matches p (acts_in (decide_parts d p.client k s o)) (asked_in_turn d k p (parts_unless o s.parts))
 unfolding asked_in_turn
-parts table d k p s (Some code) = (refused table code).matches p
-parts table d k p s None = in_turn table d k s.parts p
+parts d k p s (Some code) = (refused code).matches p
+parts d k p s None = in_turn d k s.parts p
 
-read_write : (table : AnswerTable) (d : Setup) (k : Asker) (p : Party) (g : Option Group) (r : Request) (n len : ℕ) (bytes : List ℕ)
-    → Matches table p (acts_in (decide_read_write table d p.client k g r n len bytes)) (asked_in_turn table d k p (requests_in g r n len bytes))
-read_write table d k p (Some SumRead) r n len bytes = parts table d k p (sum_of_reads n bytes) _
-read_write table d k p (Some SumWrite) r n len bytes = parts table d k p (sum_of_writes n bytes) _
-read_write table d k p (Some SumReadWrite) r n len bytes = parts table d k p (sum_of_read_writes n bytes) _
-read_write table d k p g r n len bytes = in_turn table d k (r ∷ []) p
+read_write : (d : Setup) (k : Asker) (p : Party) (g : Option Group) (r : Request) (n len : ℕ) (bytes : List ℕ)
+    → Matches p (acts_in (decide_read_write d p.client k g r n len bytes)) (asked_in_turn d k p (requests_in g r n len bytes))
+read_write d k p (Some SumRead) r n len bytes = parts d k p (sum_of_reads n bytes) _
+read_write d k p (Some SumWrite) r n len bytes = parts d k p (sum_of_writes n bytes) _
+read_write d k p (Some SumReadWrite) r n len bytes = parts d k p (sum_of_read_writes n bytes) _
+read_write d k p g r n len bytes = in_turn d k (r ∷ []) p
 
-requests : (table : AnswerTable) (d : Setup) (k : Asker) (p : Party) (r : Request)
-    → Matches table p (acts_in (decide_request table d p.client k r)) (asked_in_turn table d k p (requests_of table r))
+requests : (d : Setup) (k : Asker) (p : Party) (r : Request)
+    → Matches p (acts_in (decide_request d p.client k r)) (asked_in_turn d k p (requests_of r))
 unfolding decide_request requests_of
-requests table d k p (ReadWrite group offset len bytes) =
-    read_write table d k p (answered_group table READ_WRITE group) (ReadWrite group offset len bytes) offset len bytes
-requests table d k p ReadDeviceInfo = in_turn table d k (ReadDeviceInfo ∷ []) p
-requests table d k p (Read g o l) = in_turn table d k (Read g o l ∷ []) p
-requests table d k p (Write g o b) = in_turn table d k (Write g o b ∷ []) p
-requests table d k p ReadState = in_turn table d k (ReadState ∷ []) p
-requests table d k p (WriteControl a s b) = in_turn table d k (WriteControl a s b ∷ []) p
-requests table d k p (AddDeviceNotification g o l m y t) = in_turn table d k (AddDeviceNotification g o l m y t ∷ []) p
-requests table d k p (DeleteDeviceNotification h) = in_turn table d k (DeleteDeviceNotification h ∷ []) p
-requests table d k p (DeviceNotification b) = in_turn table d k (DeviceNotification b ∷ []) p
+requests d k p (ReadWrite group offset len bytes) =
+    read_write d k p (answered_group READ_WRITE group) (ReadWrite group offset len bytes) offset len bytes
+requests d k p ReadDeviceInfo = in_turn d k (ReadDeviceInfo ∷ []) p
+requests d k p (Read g o l) = in_turn d k (Read g o l ∷ []) p
+requests d k p (Write g o b) = in_turn d k (Write g o b ∷ []) p
+requests d k p ReadState = in_turn d k (ReadState ∷ []) p
+requests d k p (WriteControl a s b) = in_turn d k (WriteControl a s b ∷ []) p
+requests d k p (AddDeviceNotification g o l m y t) = in_turn d k (AddDeviceNotification g o l m y t ∷ []) p
+requests d k p (DeleteDeviceNotification h) = in_turn d k (DeleteDeviceNotification h ∷ []) p
+requests d k p (DeviceNotification b) = in_turn d k (DeviceNotification b ∷ []) p
 
-passed_on : (table : AnswerTable) (d : Setup) (p : Party) (source : AmsAddress) (rights : Option Rights) (port : Option PlantPort) (request : Option Request)
-    → Matches table p (acts_in (decide_passed table d p.client source rights port request)) (asked_of_question table d p (question source rights port request))
-passed_on table d p source (Some rights) (Some port) (Some request) = requests table d (record { port = port; address = source; rights = rights }) p request
-passed_on table d p source (Some rights) (Some port) None = (no_acts table NoAnswer refl).matches p
-passed_on table d p source (Some rights) None request = (no_acts table NoAnswer refl).matches p
-passed_on table d p source None port request = (no_acts table NoAnswer refl).matches p
+passed_on : (d : Setup) (p : Party) (source : AmsAddress) (rights : Option Rights) (port : Option PlantPort) (request : Option Request)
+    → Matches p (acts_in (decide_passed d p.client source rights port request)) (asked_of_question d p (question source rights port request))
+passed_on d p source (Some rights) (Some port) (Some request) = requests d (record { port = port; address = source; rights = rights }) p request
+passed_on d p source (Some rights) (Some port) None = (no_acts NoAnswer refl).matches p
+passed_on d p source (Some rights) None request = (no_acts NoAnswer refl).matches p
+passed_on d p source None port request = (no_acts NoAnswer refl).matches p
 
-header : (table : AnswerTable) (d : Setup) (p : Party) (payload : List ℕ) (o : Option AmsHeader)
-    → Matches table p (acts_in (decide_header table d p.client payload o)) (asked_of_question table d p (question_in table d.plant payload o))
+header : (d : Setup) (p : Party) (payload : List ℕ) (o : Option AmsHeader)
+    → Matches p (acts_in (decide_header d p.client payload o)) (asked_of_question d p (question_in d.plant payload o))
 unfolding AllQuiet
-header table d p payload None = (no_acts table NoAnswer refl).matches p
-header table d p payload (Some h) = go (list_any (λ (c : Check). c.stops) (checks_of table d.plant h payload)) refl
+header d p payload None = (no_acts NoAnswer refl).matches p
+header d p payload (Some h) = go (list_any (λ (c : Check). c.stops) (checks_of d.plant h payload)) refl
   where
     checks : List Check
-    checks = checks_of table d.plant h payload
+    checks = checks_of d.plant h payload
 
     rights : Option Rights
     rights = rights_of h.source.net d.plant.routes
@@ -162,15 +162,15 @@ header table d p payload (Some h) = go (list_any (λ (c : Check). c.stops) (chec
     port = port_numbered h.target.port d.plant.ports
 
     decision : Decision
-    decision = decide_passed table d p.client h.source rights port (request_of h.command payload)
+    decision = decide_passed d p.client h.source rights port (request_of h.command payload)
 
-    error : (code : ℕ) → Quiet table (AmsError code)
-    error code = no_acts table (AmsError code) refl
+    error : (code : ℕ) → Quiet (AmsError code)
+    error code = no_acts (AmsError code) refl
 
-    silent : Quiet table NoAnswer
-    silent = no_acts table NoAnswer refl
+    silent : Quiet NoAnswer
+    silent = no_acts NoAnswer refl
 
-    quiet : AllQuiet table (checks_of table d.plant h payload)
+    quiet : AllQuiet (checks_of d.plant h payload)
     quiet = (
       error invalid_ams_length,
       (
@@ -178,110 +178,110 @@ header table d p payload (Some h) = go (list_any (λ (c : Check). c.stops) (chec
         (
           error unknown_ams_command,
           (
-            no_acts table EndConnection refl,
+            no_acts EndConnection refl,
             (
               error target_machine_not_found,
-              (error target_port_not_found, (silent, (error unknown_command_id, (refused table invalid_size, tt)))),
+              (error target_port_not_found, (silent, (error unknown_command_id, (refused invalid_size, tt)))),
             ),
           ),
         ),
       ),
     )
 
-    go : (b : Bool) → list_any (λ (c : Check). c.stops) (checks_of table d.plant h payload) ≡ b
-        → Matches table p (acts_in (checked (checks_of table d.plant h payload) decision))
-        (asked_of_question table d p (cond b None (question h.source rights port (request_of h.command payload))))
-    go true e = (stopped table (checks_of table d.plant h payload) decision quiet e).matches p
+    go : (b : Bool) → list_any (λ (c : Check). c.stops) (checks_of d.plant h payload) ≡ b
+        → Matches p (acts_in (checked (checks_of d.plant h payload) decision))
+        (asked_of_question d p (cond b None (question h.source rights port (request_of h.command payload))))
+    go true e = (stopped (checks_of d.plant h payload) decision quiet e).matches p
     go false e =
-        subst (λ x. Matches table p (acts_in x) (asked_of_question table d p (question h.source rights port (request_of h.command payload))))
-        (sym (passed (checks_of table d.plant h payload) decision e)) (passed_on table d p h.source rights port (request_of h.command payload))
+        subst (λ x. Matches p (acts_in x) (asked_of_question d p (question h.source rights port (request_of h.command payload))))
+        (sym (passed (checks_of d.plant h payload) decision e)) (passed_on d p h.source rights port (request_of h.command payload))
 
-decision-matches : (table : AnswerTable) (d : Setup) (p : Party) (packet : List ℕ)
-    → Matches table p (acts_in (decide table d p.client packet)) (asked_of_question table d p (question_of table d.plant packet))
+decision-matches : (d : Setup) (p : Party) (packet : List ℕ)
+    → Matches p (acts_in (decide d p.client packet)) (asked_of_question d p (question_of d.plant packet))
 unfolding decide question_of
-decision-matches table d p packet = header table d p (payload_of packet) (header_of packet)
+decision-matches d p packet = header d p (payload_of packet) (header_of packet)
 
 -- requests lead from one exchange to another, and write the names that these acts write
-pub record Takes (table : AnswerTable) (x y : Exchange World Client) (acts : List Act) (asked : List Asked) : Type 0 where
-  pub leads : Leads table x.world.memory asked y.world.memory
-  pub clients : LeadsClient table x.connection.client asked y.connection.client
-  pub names : names_written table asked ≡ writes_of_acts acts
+pub record Takes (x y : Exchange World Client) (acts : List Act) (asked : List Asked) : Type 0 where
+  pub leads : Leads x.world.memory asked y.world.memory
+  pub clients : LeadsClient x.connection.client asked y.connection.client
+  pub names : names_written asked ≡ writes_of_acts acts
 
-packet-takes : (table : AnswerTable) (reading : DescriptionReading) (packet : List ℕ) (x : Exchange World Client)
-    → Takes table x (after_packet (ads_device table reading) packet x) (acts_of_packet table packet x) (asked_of_packet table packet x)
+packet-takes : (packet : List ℕ) (x : Exchange World Client)
+    → Takes x (after_packet server_device packet x) (acts_of_packet packet x) (asked_of_packet packet x)
 unfolding after_packet performed
-packet-takes table reading packet x = go x.connection.closing
+packet-takes packet x = go x.connection.closing
   where
     decision : Decision
-    decision = decide table (setup_of x.world) x.connection.client packet
+    decision = decide (setup_of x.world) x.connection.client packet
 
     o : FrameOutcome World Client
     o = performed decision packet x.world x.connection.client
 
     asked : List Asked
-    asked = asked_of_question table (setup_of x.world) (party_of x) (question_of table x.world.plant packet)
+    asked = asked_of_question (setup_of x.world) (party_of x) (question_of x.world.plant packet)
 
-    go : (b : Bool) → Takes table x (cond b x (after_outcome (performed decision packet x.world x.connection.client) x.connection))
+    go : (b : Bool) → Takes x (cond b x (after_outcome (performed decision packet x.world x.connection.client) x.connection))
         (cond b [] (acts_in decision))
-        (cond b [] (asked_of_question table (setup_of x.world) (party_of x) (question_of table x.world.plant packet)))
+        (cond b [] (asked_of_question (setup_of x.world) (party_of x) (question_of x.world.plant packet)))
     go true = record { leads = refl; clients = refl; names = refl }
     go false =
-        let m = decision-matches table (setup_of x.world) (party_of x) packet in
+        let m = decision-matches (setup_of x.world) (party_of x) packet in
         record {
           leads = m.leads;
-          clients = subst (LeadsClient table x.connection.client asked) (sym (answer-client o.answer (with_client o.client (with_one_taken x.connection))))
+          clients = subst (LeadsClient x.connection.client asked) (sym (answer-client o.answer (with_client o.client (with_one_taken x.connection))))
               m.clients;
           names = m.names;
         }
 
-packets-take : (table : AnswerTable) (reading : DescriptionReading) (ps : List (List ℕ)) (x : Exchange World Client)
-    → Takes table x (after_packets (ads_device table reading) ps x) (acts_of_packets table reading ps x) (asked_of_packets table reading ps x)
+packets-take : (ps : List (List ℕ)) (x : Exchange World Client)
+    → Takes x (after_packets server_device ps x) (acts_of_packets read_description ps x) (asked_of_packets ps x)
 unfolding after_packets acts_of_packets asked_of_packets
-packets-take table reading [] x = record { leads = refl; clients = refl; names = refl }
-packets-take table reading (p ∷ ps) x =
-    let y = after_packet (ads_device table reading) p x in
-    let first = packet-takes table reading p x in
-    let rest = packets-take table reading ps y in
-    let here = asked_of_packet table p x in
-    let later = asked_of_packets table reading ps y in
+packets-take [] x = record { leads = refl; clients = refl; names = refl }
+packets-take (p ∷ ps) x =
+    let y = after_packet server_device p x in
+    let first = packet-takes p x in
+    let rest = packets-take ps y in
+    let here = asked_of_packet p x in
+    let later = asked_of_packets ps y in
     record {
-      leads = leads-append table here later x.world.memory y.world.memory (after_packets (ads_device table reading) ps y).world.memory first.leads rest.leads;
-      clients = clients-append table here later x.connection.client y.connection.client (after_packets (ads_device table reading) ps y).connection.client
+      leads = leads-append here later x.world.memory y.world.memory (after_packets server_device ps y).world.memory first.leads rest.leads;
+      clients = clients-append here later x.connection.client y.connection.client (after_packets server_device ps y).connection.client
           first.clients rest.clients;
-      names = flat_map-append (λ (a : Asked). writes_of_act (act_of_asked table a)) here later
-          ∙ ap (λ ns. ns ++ names_written table later) first.names ∙ ap (λ ns. writes_of_acts (acts_of_packet table p x) ++ ns) rest.names
-          ∙ sym (flat_map-append writes_of_act (acts_of_packet table p x) (acts_of_packets table reading ps y));
+      names = flat_map-append (λ (a : Asked). writes_of_act (act_of_asked a)) here later
+          ∙ ap (λ ns. ns ++ names_written later) first.names ∙ ap (λ ns. writes_of_acts (acts_of_packet p x) ++ ns) rest.names
+          ∙ sym (flat_map-append writes_of_act (acts_of_packet p x) (acts_of_packets read_description ps y));
     }
 
-pub piece-takes : (table : AnswerTable) (reading : DescriptionReading) (bytes : List ℕ) (x : Exchange World Client)
-    → Takes table x (after_piece (ads_device table reading) bytes x) (acts_of_piece table reading bytes x) (asked_of_piece table reading bytes x)
+pub piece-takes : (bytes : List ℕ) (x : Exchange World Client)
+    → Takes x (after_piece server_device bytes x) (acts_of_piece read_description bytes x) (asked_of_piece bytes x)
 unfolding after_piece
-piece-takes table reading bytes x = go (is_deaf x.connection)
+piece-takes bytes x = go (is_deaf x.connection)
   where
     ps : List (List ℕ)
     ps = packets_left (with_received bytes x.connection)
 
     y : Exchange World Client
-    y = after_packets (ads_device table reading) ps (with_piece bytes x)
+    y = after_packets server_device ps (with_piece bytes x)
 
-    go : (b : Bool) → Takes table x (cond b x (end_of_piece y)) (cond b [] (acts_of_packets table reading ps (with_piece bytes x)))
-        (cond b [] (asked_of_packets table reading ps (with_piece bytes x)))
+    go : (b : Bool) → Takes x (cond b x (end_of_piece y)) (cond b [] (acts_of_packets read_description ps (with_piece bytes x)))
+        (cond b [] (asked_of_packets ps (with_piece bytes x)))
     go true = record { leads = refl; clients = refl; names = refl }
     go false =
-        let t = packets-take table reading ps (with_piece bytes x) in
+        let t = packets-take ps (with_piece bytes x) in
         record {
           leads = t.leads;
-          clients = subst (LeadsClient table x.connection.client (asked_of_packets table reading ps (with_piece bytes x))) (sym (rest-client y.connection))
+          clients = subst (LeadsClient x.connection.client (asked_of_packets ps (with_piece bytes x))) (sym (rest-client y.connection))
               t.clients;
           names = t.names;
         }
 
 -- what a piece makes of a state
-pub record TakesAt (table : AnswerTable) (s t : MachineState World Client) (acts : List Act) (asked : List Asked) : Type 0 where
-  pub leads : Leads table s.world.memory asked t.world.memory
-  pub names : names_written table asked ≡ writes_of_acts acts
+pub record TakesAt (s t : MachineState World Client) (acts : List Act) (asked : List Asked) : Type 0 where
+  pub leads : Leads s.world.memory asked t.world.memory
+  pub names : names_written asked ≡ writes_of_acts acts
 
-pub piece-takes_at : (table : AnswerTable) (reading : DescriptionReading) (s : MachineState World Client) (bytes : List ℕ) (o : Option (Connection Client))
-    → TakesAt table s (after_exchange o (after_piece (ads_device table reading) bytes) s) (acts_at table reading s bytes o) (asked_at table reading s bytes o)
-piece-takes_at table reading s bytes None = record { leads = refl; names = refl }
-piece-takes_at table reading s bytes (Some k) = let t = piece-takes table reading bytes (exchange_of s k) in record { leads = t.leads; names = t.names }
+pub piece-takes_at : (s : MachineState World Client) (bytes : List ℕ) (o : Option (Connection Client))
+    → TakesAt s (after_exchange o (after_piece server_device bytes) s) (acts_at read_description s bytes o) (asked_at s bytes o)
+piece-takes_at s bytes None = record { leads = refl; names = refl }
+piece-takes_at s bytes (Some k) = let t = piece-takes bytes (exchange_of s k) in record { leads = t.leads; names = t.names }

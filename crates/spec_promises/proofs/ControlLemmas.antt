@@ -8,7 +8,6 @@ use Rattle.spec_formats.specs.Request.{Request, WriteControl}
 use Rattle.spec_machine.specs.World.{Setup, RUN, STOP, state_names, state_bytes}
 use Rattle.spec_machine.specs.Access.{WholeByte, values_at, Put, puts_of, memory_after_put, memory_after_puts}
 use Rattle.spec_machine.specs.Acts.{Act, Refusal, Outcome, writing, outcome_of, memory_after}
-use Rattle.spec_machine.specs.Answers.{all_answered}
 use Rattle.spec_machine.specs.PortBytes.{state_name}
 use Rattle.spec_machine.specs.Requests.{act_of}
 use Rattle.spec_machine.specs.SumLaws.{Party, single_outcome}
@@ -82,7 +81,7 @@ control-case k ads device m =
     (case_if k ads device m ((ads == RUN) || (ads == STOP)) _ _ (record { done = λ e. refl }) (refused k ads device m invalid_value (λ e. cc)))
 
 control-done : (d : Setup) (k : Asker) (p : Party) → ((i : ℕ) → i < 4 → byte_at p.memory (state_name k.port i) ≢ None) → (ads device : ℕ) (bytes : List ℕ)
-    → (single_outcome all_answered d k p (WriteControl ads device bytes)).code ≡ no_error
+    → (single_outcome d k p (WriteControl ads device bytes)).code ≡ no_error
     → StatesAreSet (record { setup = d; asker = k; before = p; request = WriteControl ads device bytes }) ads device
 unfolding act_of
 control-done d k p there ads device bytes h =
@@ -103,5 +102,5 @@ control_is_done a s ads device bytes e h =
     let long = first-states a.asker.port.number a.asker.port a.setup.plant.ports s.asked.found in
     there_by_length a.before.memory n (omega (arith, same, long, l)) in
     let asked : Request → Asked = λ r. record { setup = a.setup; asker = a.asker; before = a.before; request = r } in
-    subst (λ r. (single_outcome all_answered a.setup a.asker a.before r).code ≡ no_error → StatesAreSet (asked r) ads device) (sym e)
+    subst (λ r. (single_outcome a.setup a.asker a.before r).code ≡ no_error → StatesAreSet (asked r) ads device) (sym e)
     (control-done a.setup a.asker a.before there ads device bytes) h

@@ -10,7 +10,6 @@ use Rattle.spec_machine.specs.Access.{Addressed, values_at}
 use Rattle.spec_machine.specs.Watches.{Watch, is_due, is_sent, checked_watch, AddressedSample, addressed_sample, samples_of, watch_after_reload}
 use Rattle.spec_machine.specs.Client.{Client, Effect, NoEffect, Grants, Releases, Adds, Deletes, Kept, are_kept, kept_bytes, client_after}
 use Rattle.spec_machine.specs.Acts.{Act, Refusal, Allowed, effect_of}
-use Rattle.spec_machine.specs.Answers.{AnswerTable}
 use Rattle.spec_machine.specs.Requests.{act_of}
 use Rattle.spec_machine.specs.Stamps.{samples_at, watches_after_tick}
 use Rattle.spec_machine.proofs.Find.{test_other}
@@ -92,13 +91,13 @@ act-keeps h w c (Refusal code) s n = effect-keeps h w c NoEffect s tt
 act-keeps h w c (Allowed a) s n = effect-keeps h w c a.effect s n.next
 
 -- requests one after another
-pub requests-keep : (table : AnswerTable) (h : ℕ) (w : Watch (List Addressed)) (as_ : List Asked) (first last : Client) → LeadsClient table first as_ last
+pub requests-keep : (h : ℕ) (w : Watch (List Addressed)) (as_ : List Asked) (first last : Client) → LeadsClient first as_ last
     → StillOrEnded h w first → StillOrEnded h w last
-requests-keep table h w [] first last e s = subst (StillOrEnded h w) e s
-requests-keep table h w (a ∷ as_) first last e s =
+requests-keep h w [] first last e s = subst (StillOrEnded h w) e s
+requests-keep h w (a ∷ as_) first last e s =
     let here = subst (StillOrEnded h w) (sym (e.0)) s in
-    requests-keep table h w as_ (after_asked table a).client last (e.1)
-    (act-keeps h w a.before.client (act_of table a.setup a.before.client a.asker a.request) here (act-next table a.setup a.before.client a.asker a.request))
+    requests-keep h w as_ (after_asked a).client last (e.1)
+    (act-keeps h w a.before.client (act_of a.setup a.before.client a.asker a.request) here (act-next a.setup a.before.client a.asker a.request))
 
 -- a tick
 

@@ -22,14 +22,14 @@ use Rattle.spec_machine.specs.Handles.{HandleStatus, Never, Released, Outdated, 
 use Rattle.spec_machine.specs.Handles.{is_live, status_after_reload, handle_after_reload, handles_after}
 use Rattle.spec_machine.specs.Client.{Place, Client, Kept, kept_place, client_after_reload}
 use Rattle.spec_machine.specs.Acts.{Outcome, outcome_of}
-use Rattle.spec_machine.specs.Answers.{all_answered, answered_group}
+use Rattle.spec_machine.specs.Answers.{answered_group}
 use Rattle.spec_machine.specs.Reach.{addressed_in_place, addressed_by_status, reach_of}
 use Rattle.spec_machine.specs.Reads.{read_act, read_group}
 use Rattle.spec_machine.specs.Requests.{act_of}
 use Rattle.spec_machine.specs.SumLaws.{Party, single_outcome}
 use Rattle.spec_machine.specs.Writes.{Asker}
 use Rattle.spec_machine.specs.Reloads.{is_kept, memory_after_reload, world_after_reload, client_reloaded}
-use Rattle.spec_machine.specs.AdsDevice.{reloading, ads_device}
+use Rattle.spec_machine.specs.AdsDevice.{reloading}
 use Rattle.spec_machine.proofs.Find.{connection_of-map}
 use Rattle.spec_machine.proofs.Growth.{connection_after_reload-grows}
 use Rattle.spec_laws.specs.Soundness.{Each, IsSoundPlant}
@@ -39,7 +39,7 @@ use Rattle.spec_laws.proofs.EveryState.{every_state_fits}
 use Rattle.spec_laws.proofs.Exchanges.{produce_all-client}
 use Rattle.spec_laws.proofs.FineActs.{kept-placed}
 use Rattle.spec_laws.proofs.FirstMemory.{symbol-named}
-use Rattle.spec_server.specs.Server.{read_description, server_after}
+use Rattle.spec_server.specs.Server.{read_description, server_device, server_after}
 use Rattle.spec_server.proofs.ServerProofs.{reads_descriptions}
 use Rattle.spec_promises.specs.KeptHandles.{ReadsAsBefore, ServerKeepsHandles}
 use Rattle.spec_promises.proofs.Seen.{Whole, every_state_whole, found_among}
@@ -119,7 +119,7 @@ abbrev read_of_place : List Block → ℕ → Place → ℕ → Outcome
 read_of_place memory port place len = outcome_of memory (read_act (addressed_in_place port place len))
 
 reads-place : (d : Setup) (k : Asker) (p : Party) (handle len : ℕ) (place : Place) → kept_status p.client.handles handle k.port.number ≡ Live place
-    → single_outcome all_answered d k p (Read value_by_handle handle len) ≡ read_of_place p.memory k.port.number place len
+    → single_outcome d k p (Read value_by_handle handle len) ≡ read_of_place p.memory k.port.number place len
 unfolding act_of answered_group group_of group_in read_group reach_of
 reads-place d k p handle len place live = ap (λ s. outcome_of p.memory (read_act (addressed_by_status k.port.number s len))) live
 
@@ -144,7 +144,7 @@ place-kept old new m so sn port place i t len =
 
 -- a connection after a reload
 handles-after : (moment : ℕ) (old new : World) (k : Connection Client) → is_deaf k ≡ false
-    → (connection_after_reload (ads_device all_answered read_description) moment old new k).client.handles ≡ map
+    → (connection_after_reload server_device moment old new k).client.handles ≡ map
     (handle_after_reload (kept_place (is_kept old.plant new.plant))) k.client.handles
 unfolding connection_after_reload client_reloaded client_after_reload handles_after
 handles-after moment old new k heard =
@@ -156,13 +156,13 @@ same-reading : (ds dt : Setup) (ms mt : List Block) (k l : Client) (asker later 
     → later.port.number ≡ asker.port.number
     → kept_status k.handles handle asker.port.number ≡ Live place → kept_status l.handles handle later.port.number ≡ Live place
     → read_of_place mt asker.port.number place len ≡ read_of_place ms asker.port.number place len
-    → single_outcome all_answered dt later (record { client = l; memory = mt }) (Read value_by_handle handle len) ≡ single_outcome all_answered ds asker
+    → single_outcome dt later (record { client = l; memory = mt }) (Read value_by_handle handle len) ≡ single_outcome ds asker
     (record { client = k; memory = ms }) (Read value_by_handle handle len)
 same-reading ds dt ms mt k l asker later handle len place port before after same =
-    let new : single_outcome all_answered dt later (record { client = l; memory = mt }) (Read value_by_handle handle len) ≡ read_of_place mt later.port.number
+    let new : single_outcome dt later (record { client = l; memory = mt }) (Read value_by_handle handle len) ≡ read_of_place mt later.port.number
     place len =
     reads-place dt later (record { client = l; memory = mt }) handle len place after in
-    let old : single_outcome all_answered ds asker (record { client = k; memory = ms }) (Read value_by_handle handle len) ≡ read_of_place ms asker.port.number
+    let old : single_outcome ds asker (record { client = k; memory = ms }) (Read value_by_handle handle len) ≡ read_of_place ms asker.port.number
     place len =
     reads-place ds asker (record { client = k; memory = ms }) handle len place before in
     let there : read_of_place mt later.port.number place len ≡ read_of_place mt asker.port.number place len = ap (λ n. read_of_place mt n place len) port in
@@ -178,7 +178,7 @@ live_place (Live place) e = (place, refl)
 -- a reload of a state
 reads-as-before : (s : MachineState World Client) (r : Result Description DescriptionFault) → ((d : Description) → r ≡ Ok d → IsSoundPlant (plant_of d))
     → Whole s.world → Each (ConnectionFits s.world) s.connections
-    → ReadsAsBefore s (after_reload (ads_device all_answered read_description) (reloading s.world r) s)
+    → ReadsAsBefore s (after_reload server_device (reloading s.world r) s)
 unfolding world_after_reload
 reads-as-before s (Err fault) sound w fits c k l asker later h handle live live_later len =
     let some : Some k ≡ Some l = sym h.before ∙ h.after in
@@ -190,7 +190,7 @@ reads-as-before s (Err fault) sound w fits c k l asker later h handle live live_
     same-reading (setup_of s.world) (setup_of s.world) s.world.memory s.world.memory k.client l.client asker later handle len place.0 h.same_port place.1
     after refl
 reads-as-before s (Ok d) sound w fits c k l asker later h handle live live_later len =
-    let device = ads_device all_answered read_description in
+    let device = server_device in
     let new = world_after_reload s.world d in
     let f = connection_after_reload device s.moment s.world new in
     let kept = is_kept s.world.plant (plant_of d) in
@@ -218,5 +218,5 @@ server_keeps_handles d waves accepted before bytes =
     subst (ReadsAsBefore s) (sym (after_one d waves before (move.Event (event.Reload bytes))))
     (reads-as-before s (read_description bytes (length s.world.signals))
     (λ new e. accepted_are_sound new (length s.world.signals) (reads_descriptions bytes (length s.world.signals) new e))
-    (every_state_whole all_answered read_description reads_descriptions d waves accepted before)
-    (every_state_fits all_answered read_description reads_descriptions d waves accepted before).connections)
+    (every_state_whole d waves accepted before)
+    (every_state_fits read_description reads_descriptions d waves accepted before).connections)

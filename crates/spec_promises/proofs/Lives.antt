@@ -20,10 +20,9 @@ use Rattle.spec_machine.specs.World.{World}
 use Rattle.spec_machine.specs.Access.{Addressed, values_at}
 use Rattle.spec_machine.specs.Watches.{Watch, Mode, Cyclic, OnChange, checked_watch, AddressedSample, addressed_sample, samples_of, watches_after_reload}
 use Rattle.spec_machine.specs.Client.{Client, new_client, client_after_reload}
-use Rattle.spec_machine.specs.Answers.{all_answered}
 use Rattle.spec_machine.specs.Ticks.{world_after_tick, client_after_tick}
 use Rattle.spec_machine.specs.Reloads.{is_kept, world_after_reload, client_reloaded}
-use Rattle.spec_machine.specs.AdsDevice.{reloading, ads_device}
+use Rattle.spec_machine.specs.AdsDevice.{reloading}
 use Rattle.spec_machine.proofs.Find.{or_else, connection_of-append, connection_of-map}
 use Rattle.spec_machine.proofs.Growth.{after_piece-grows, connection_after_tick-grows, connection_after_reload-grows}
 use Rattle.spec_machine.proofs.Changes.{KeepsNumber, exchange_own, exchange_other, with_gone-number, with_took-number, state_after-append}
@@ -31,7 +30,7 @@ use Rattle.spec_machine.proofs.Carried.{took-cases}
 use Rattle.spec_laws.specs.Rising.{AreRising, WatchesRise}
 use Rattle.spec_laws.proofs.Exchanges.{produce_all-client}
 use Rattle.spec_laws.proofs.Risen.{handles_rise}
-use Rattle.spec_server.specs.Server.{read_description, server, server_start, server_after}
+use Rattle.spec_server.specs.Server.{read_description, server_device, server, server_start, server_after}
 use Rattle.spec_promises.specs.Notified.{watch_numbered, watch_of, watch_at, given_to, TickSeen, seen_at, life_of}
 use Rattle.spec_promises.specs.Notified.{GivesByCycle, IsByCycle, GivesOnChange, IsOnChange, ServerNotifies}
 use Rattle.spec_promises.specs.Asked.{asked_of_piece}
@@ -65,11 +64,11 @@ of_client h w k e = go (is_deaf k) e
 
 piece-next : (h : ℕ) (w : Watch (List Addressed)) (bytes : List ℕ) (x : Exchange World Client) → watch_of h (Some x.connection) ≡ Some w
     → h ≤ x.connection.client.additions
-    → Next h w (Some (after_piece (ads_device all_answered read_description) bytes x).connection)
+    → Next h w (Some (after_piece server_device bytes x).connection)
 piece-next h w bytes x e l =
-    let y = after_piece (ads_device all_answered read_description) bytes x in
-    let t = piece-takes all_answered read_description bytes x in
-    let still = requests-keep all_answered h w (asked_of_piece all_answered read_description bytes x) x.connection.client y.connection.client t.clients
+    let y = after_piece server_device bytes x in
+    let t = piece-takes bytes x in
+    let still = requests-keep h w (asked_of_piece bytes x) x.connection.client y.connection.client t.clients
     (record { there = inl (lives h w x.connection e).found; known = l }) in
     of_client h w y.connection still.there
 
@@ -78,7 +77,7 @@ gone-next h w x = let t = or_right x.connection.closing true refl in inr (rw t r
 
 -- a tick
 tick-next : (h : ℕ) (w : Watch (List Addressed)) (now : ℕ) (v : World) (k : Connection Client) → watch_of h (Some k) ≡ Some w
-    → Next h (checked_watch now (values_at v.memory w.watched) w) (Some (connection_after_tick (ads_device all_answered read_description) now v k))
+    → Next h (checked_watch now (values_at v.memory w.watched) w) (Some (connection_after_tick server_device now v k))
 unfolding connection_after_tick client_after_tick
 tick-next h w now v k e =
     let alive = lives h w k e in
@@ -93,7 +92,7 @@ tick-next h w now v k e =
 
 -- a reload
 reload-next : (h : ℕ) (w : Watch (List Addressed)) (moment : ℕ) (old new : World) (k : Connection Client) → watch_of h (Some k) ≡ Some w → WatchesRise k.client
-    → Next h w (Some (connection_after_reload (ads_device all_answered read_description) moment old new k))
+    → Next h w (Some (connection_after_reload server_device moment old new k))
 unfolding connection_after_reload client_reloaded client_after_reload watches_after_reload
 reload-next h w moment old new k e r =
     let alive = lives h w k e in
@@ -126,10 +125,10 @@ watch_after_move s m w = w
 
 reloaded-next : (h : ℕ) (w : Watch (List Addressed)) (c : ℕ) (s : MachineState World Client) (k : Connection Client) (r : Result Description DescriptionFault)
     → connection_of c s.connections ≡ Some k → watch_of h (Some k) ≡ Some w → WatchesRise k.client
-    → Next h w (connection_of c (after_reload (ads_device all_answered read_description) (reloading s.world r) s).connections)
+    → Next h w (connection_of c (after_reload server_device (reloading s.world r) s).connections)
 reloaded-next h w c s k (Err fault) e there rise = subst (Next h w) (sym e) (inl there)
 reloaded-next h w c s k (Ok d) e there rise =
-    let device = ads_device all_answered read_description in
+    let device = server_device in
     let new = world_after_reload s.world d in
     let f = connection_after_reload device s.moment s.world new in
     subst (Next h w) (sym (connection_of-map c f (λ l. (connection_after_reload-grows device s.moment s.world new l).number) s.connections
@@ -144,13 +143,13 @@ move-next h w c s k (move.Event (event.Opened n)) e there rise l =
     subst (Next h w) (sym (connection_of-append c s.connections (fresh_connection new_client n ∷ [])
     ∙ ap (λ o. or_else o (connection_of c (fresh_connection new_client n ∷ []))) e)) (inl there)
 move-next h w c s k (move.Event (event.Piece n bytes)) e there rise l =
-    let device = ads_device all_answered read_description in
+    let device = server_device in
     local-next (Next h w) c n (after_piece device bytes) (λ x. (after_piece-grows device bytes x).number) s k e (inl there)
     (piece-next h w bytes (exchange_of s k) there l)
 move-next h w c s k (move.Event (event.Closed n)) e there rise l =
     local-next (Next h w) c n with_gone with_gone-number s k e (inl there) (gone-next h w (exchange_of s k))
 move-next h w c s k (move.Event (event.Tick t)) e there rise l =
-    let device = ads_device all_answered read_description in
+    let device = server_device in
     let now = moment_of_tick t s in
     let v = world_after_tick s.world in
     let f = connection_after_tick device now v in
@@ -306,7 +305,7 @@ life-follows d waves (m ∷ ms) log c h w e =
         → Follows w (option_map_or (λ (v : Watch (List Addressed)). seen_at c h s m v ++ life_of c h t ms) (watch_at c h s) [])
     go rest None q there = cc
     go rest (Some k) q there =
-        let rise = (handles_rise all_answered read_description d waves log c k q).watches in
+        let rise = (handles_rise read_description d waves log c k q).watches in
         let l = known h 0 k.client.watches k.client.additions w rise (lives h w k there).found in
         let next = later rest (watch_after_move s m w) (move-next h w c s k m q there rise l) in
         let is : watch_at c h s ≡ Some w = ap (watch_of h) q ∙ there in

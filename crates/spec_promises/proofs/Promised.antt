@@ -12,11 +12,9 @@ use Rattle.spec_machine.specs.Events.{state_after_event}
 use Rattle.spec_machine.specs.World.{World}
 use Rattle.spec_machine.specs.Client.{Client}
 use Rattle.spec_machine.specs.Acts.{writes_of_acts}
-use Rattle.spec_machine.specs.Answers.{all_answered}
 use Rattle.spec_machine.specs.Projection.{acts_of_move}
 use Rattle.spec_laws.specs.Soundness.{Each}
 use Rattle.spec_server.specs.Server.{read_description, server_after}
-use Rattle.spec_server.proofs.ServerProofs.{reads_descriptions}
 use Rattle.spec_promises.specs.Asked.{Asked, asked_of_move, names_written, Leads}
 use Rattle.spec_promises.specs.Written.{IsDone, IsControlled, asked_at_move, ChangesByRequests, ServerHoldsWrites}
 use Rattle.spec_promises.proofs.AskedLemmas.{piece-takes_at}
@@ -30,15 +28,15 @@ unfolding state_after_move state_after_event asked_of_move
 changes d waves before (move.Event (event.Piece c bytes)) =
     let s = server_after d waves before in
     let m : Move = move.Event (event.Piece c bytes) in
-    let t = piece-takes_at all_answered read_description s bytes (connection_of c s.connections) in
-    let P : MachineState World Client → Type 0 = λ x. Leads all_answered s.world.memory (asked_at_move d waves before m) x.world.memory in
+    let t = piece-takes_at s bytes (connection_of c s.connections) in
+    let P : MachineState World Client → Type 0 = λ x. Leads s.world.memory (asked_at_move d waves before m) x.world.memory in
     subst P (sym (after_one d waves before m)) t.leads
 changes d waves before m = tt
 
 names : (s : MachineState World Client) (m : Move)
-    → names_written all_answered (asked_of_move all_answered read_description s m) ≡ writes_of_acts (acts_of_move all_answered read_description s m)
+    → names_written (asked_of_move s m) ≡ writes_of_acts (acts_of_move read_description s m)
 unfolding asked_of_move acts_of_move
-names s (move.Event (event.Piece c bytes)) = (piece-takes_at all_answered read_description s bytes (connection_of c s.connections)).names
+names s (move.Event (event.Piece c bytes)) = (piece-takes_at s bytes (connection_of c s.connections)).names
 names s m = refl
 
 each_done : (as_ : List Asked) → Each Sees as_ → Each IsDone as_
@@ -53,6 +51,6 @@ pub server_holds_writes : ServerHoldsWrites
 server_holds_writes d waves accepted before m = record {
   requests = changes d waves before m;
   names = names (server_after d waves before) m;
-  writes = each_done (asked_at_move d waves before m) (every_request_sees all_answered read_description reads_descriptions d waves accepted before m);
-  controls = each_controlled (asked_at_move d waves before m) (every_request_sees all_answered read_description reads_descriptions d waves accepted before m);
+  writes = each_done (asked_at_move d waves before m) (every_request_sees d waves accepted before m);
+  controls = each_controlled (asked_at_move d waves before m) (every_request_sees d waves accepted before m);
 }

@@ -27,7 +27,6 @@ use Rattle.spec_machine.specs.Access.{Addressed, addressed_name}
 use Rattle.spec_machine.specs.Watches.{Watch}
 use Rattle.spec_machine.specs.Client.{Client}
 use Rattle.spec_machine.specs.Acts.{Act, memory_after, memory_after_acts, client_after_acts}
-use Rattle.spec_machine.specs.Answers.{AnswerTable}
 use Rattle.spec_machine.specs.Writes.{Asker}
 use Rattle.spec_machine.specs.Requests.{act_of}
 use Rattle.spec_machine.specs.SumLaws.{Party, party_after}
@@ -36,9 +35,9 @@ use Rattle.spec_machine.specs.Packets.{Check, checks_of, decide}
 use Rattle.spec_machine.specs.Replies.{performed}
 use Rattle.spec_machine.specs.Ticks.{signal_puts, world_after_tick}
 use Rattle.spec_machine.specs.Reloads.{world_after_reload}
-use Rattle.spec_machine.specs.AdsDevice.{DescriptionReading, reloading, ads_device, server_step}
+use Rattle.spec_machine.specs.AdsDevice.{reloading}
 use Rattle.spec_laws.specs.Isolation.{start}
-use Rattle.spec_laws.specs.Soundness.{Each, IsSoundPlant, ReadsAccepted}
+use Rattle.spec_laws.specs.Soundness.{Each, IsSoundPlant}
 use Rattle.spec_laws.specs.Reachable.{IsThereAt, IsWatchThere, ConnectionFits}
 use Rattle.spec_laws.proofs.Alike.{Alike, alike_itself, alike_then, puts-alike, acts-alike, reload-alike}
 use Rattle.spec_laws.proofs.Exchanges.{WatchIn, answer-client}
@@ -50,6 +49,8 @@ use Rattle.spec_laws.proofs.Footprints.{each_both}
 use Rattle.spec_promises.specs.Asked.{Asked, asked_in_turn, question, question_in, question_of, requests_of}
 use Rattle.spec_promises.specs.Asked.{asked_of_question, party_of, asked_of_packet, asked_of_packets, asked_of_piece}
 use Rattle.spec_promises.specs.Asked.{asked_at, asked_of_move}
+use Rattle.spec_server.specs.Server.{read_description, server_device, server}
+use Rattle.spec_server.proofs.ServerProofs.{reads_descriptions}
 
 -- in every state the plant is sound, and its parts have their bytes
 pub record Whole (w : World) : Type 0 where
@@ -69,53 +70,53 @@ exchange-whole f goes s (Some k) w =
       memory = alike_then (f x).world.memory s.world.memory _ g.memory (subst (λ q. Alike s.world.memory (first_memory q)) back w.memory);
     }
 
-reload-whole : (table : AnswerTable) (reading : DescriptionReading) (r : Result Description DescriptionFault)
+reload-whole : (r : Result Description DescriptionFault)
     → ((d : Description) → r ≡ Ok d → IsSoundPlant (plant_of d)) → (s : MachineState World Client)
-    → Whole s.world → Whole (after_reload (ads_device table reading) (reloading s.world r) s).world
+    → Whole s.world → Whole (after_reload server_device (reloading s.world r) s).world
 unfolding world_after_reload
-reload-whole table reading (Err fault) h s w = w
-reload-whole table reading (Ok d) h s w =
+reload-whole (Err fault) h s w = w
+reload-whole (Ok d) h s w =
     let sound = h d refl in
     record { sound = sound; memory = reload-alike s.world.plant (plant_of d) w.sound sound s.world.memory w.memory }
 
-event-whole : (table : AnswerTable) (reading : DescriptionReading) → ReadsAccepted reading → (s : MachineState World Client) (e : Event) → Whole s.world
-    → Whole (state_after_event (ads_device table reading) s e).world
+event-whole : (s : MachineState World Client) (e : Event) → Whole s.world
+    → Whole (state_after_event server_device s e).world
 unfolding state_after_event world_after_tick
-event-whole table reading h s (event.Opened n) w = w
-event-whole table reading h s (event.Piece n bytes) w =
-    exchange-whole (after_piece (ads_device table reading) bytes) (piece-goes table reading bytes) s (connection_of n s.connections) w
-event-whole table reading h s (event.Closed n) w = exchange-whole with_gone gone-goes s (connection_of n s.connections) w
-event-whole table reading h s (event.Tick t) w =
+event-whole s (event.Opened n) w = w
+event-whole s (event.Piece n bytes) w =
+    exchange-whole (after_piece server_device bytes) (piece-goes read_description bytes) s (connection_of n s.connections) w
+event-whole s (event.Closed n) w = exchange-whole with_gone gone-goes s (connection_of n s.connections) w
+event-whole s (event.Tick t) w =
     record {
       sound = w.sound;
       memory = alike_then (world_after_tick s.world).memory s.world.memory _
           (puts-alike (signal_puts s.world.plant.ports 0 s.world.signals) s.world.memory) w.memory;
     }
-event-whole table reading h s (event.Reload bytes) w =
-    reload-whole table reading (reading bytes (length s.world.signals))
-    (λ d e. accepted_are_sound d (length s.world.signals) (h bytes (length s.world.signals) d e)) s w
-event-whole table reading h s (event.Writable n) w = w
+event-whole s (event.Reload bytes) w =
+    reload-whole (read_description bytes (length s.world.signals))
+    (λ d e. accepted_are_sound d (length s.world.signals) (reads_descriptions bytes (length s.world.signals) d e)) s w
+event-whole s (event.Writable n) w = w
 
-move-whole : (table : AnswerTable) (reading : DescriptionReading) → ReadsAccepted reading → (s : MachineState World Client) (m : Move) → Whole s.world
-    → Whole (state_after_move (server_step table reading) s m).world
+move-whole : (s : MachineState World Client) (m : Move) → Whole s.world
+    → Whole (state_after_move server s m).world
 unfolding state_after_move
-move-whole table reading h s (move.Event e) w = event-whole table reading h s e w
-move-whole table reading h s (move.Took n offered bytes) w =
+move-whole s (move.Event e) w = event-whole s e w
+move-whole s (move.Took n offered bytes) w =
     exchange-whole (with_took (length bytes)) (took-goes (length bytes)) s (connection_of n s.connections) w
-move-whole table reading h s (move.Lost n) w = exchange-whole with_gone gone-goes s (connection_of n s.connections) w
-move-whole table reading h s (move.Shut n) w = exchange-whole with_gone gone-goes s (connection_of n s.connections) w
+move-whole s (move.Lost n) w = exchange-whole with_gone gone-goes s (connection_of n s.connections) w
+move-whole s (move.Shut n) w = exchange-whole with_gone gone-goes s (connection_of n s.connections) w
 
-log-whole : (table : AnswerTable) (reading : DescriptionReading) → ReadsAccepted reading → (log : List Move) (s : MachineState World Client) → Whole s.world
-    → Whole (state_after (server_step table reading) s log).world
+log-whole : (log : List Move) (s : MachineState World Client) → Whole s.world
+    → Whole (state_after server s log).world
 unfolding state_after
-log-whole table reading h [] s w = w
-log-whole table reading h (m ∷ ms) s w = log-whole table reading h ms (state_after_move (server_step table reading) s m) (move-whole table reading h s m w)
+log-whole [] s w = w
+log-whole (m ∷ ms) s w = log-whole ms (state_after_move server s m) (move-whole s m w)
 
-pub every_state_whole : (table : AnswerTable) (reading : DescriptionReading) → ReadsAccepted reading → (d : Description) (waves : List Wave)
+pub every_state_whole : (d : Description) (waves : List Wave)
     → IsAccepted d (length waves) → (log : List Move)
-    → Whole (state_after (server_step table reading) (start d waves) log).world
-every_state_whole table reading h d waves accepted log =
-    log-whole table reading h log (start d waves)
+    → Whole (state_after server (start d waves) log).world
+every_state_whole d waves accepted log =
+    log-whole log (start d waves)
     (record { sound = accepted_are_sound d (length waves) accepted; memory = alike_itself (first_memory (plant_of d)) })
 
 -- what a request finds
@@ -128,41 +129,41 @@ one-alike : (a : Act) (m : List Block) → Alike (memory_after m a) m
 unfolding memory_after_acts
 one-alike a m = acts-alike (a ∷ []) m
 
-in_turn-sees : (table : AnswerTable) (d : Setup) (k : Asker) → IsAsked d.plant k.port → (rs : List Request) (p : Party)
+in_turn-sees : (d : Setup) (k : Asker) → IsAsked d.plant k.port → (rs : List Request) (p : Party)
     → Alike p.memory (first_memory d.plant) → FitsPlant d.plant p.client
-    → Each Sees (asked_in_turn table d k p rs)
+    → Each Sees (asked_in_turn d k p rs)
 unfolding asked_in_turn client_after_acts
-in_turn-sees table d k i [] p m f = tt
-in_turn-sees table d k i (r ∷ rs) p m f =
-    let a = act_of table d p.client k r in
-    let next = party_after table d k p r in
-    let fits : FitsPlant d.plant next.client = acts-fit d.plant (a ∷ []) p.client f (act-fine table d.plant d p.client k i f.handles r, tt) in (
+in_turn-sees d k i [] p m f = tt
+in_turn-sees d k i (r ∷ rs) p m f =
+    let a = act_of d p.client k r in
+    let next = party_after d k p r in
+    let fits : FitsPlant d.plant next.client = acts-fit d.plant (a ∷ []) p.client f (act-fine d.plant d p.client k i f.handles r, tt) in (
       record { asked = i; memory = m; client = f },
-      in_turn-sees table d k i rs next
+      in_turn-sees d k i rs next
           (alike_then next.memory p.memory (first_memory d.plant) (one-alike a p.memory) m) fits,
     )
 
-passed-sees : (table : AnswerTable) (d : Setup) (p : Party) → IsSoundPlant d.plant → Alike p.memory (first_memory d.plant) → FitsPlant d.plant p.client
+passed-sees : (d : Setup) (p : Party) → IsSoundPlant d.plant → Alike p.memory (first_memory d.plant) → FitsPlant d.plant p.client
     → (source : AmsAddress) (rights : Option Rights) (number : ℕ) (port : Option PlantPort) → port_numbered number d.plant.ports ≡ port
     → (request : Option Request)
-    → Each Sees (asked_of_question table d p (question source rights port request))
-passed-sees table d p sound m f source (Some rights) number (Some port) e (Some request) =
+    → Each Sees (asked_of_question d p (question source rights port request))
+passed-sees d p sound m f source (Some rights) number (Some port) e (Some request) =
     let P : ℕ → Type 0 = λ n. port_numbered n d.plant.ports ≡ Some port in
     let i : IsAsked d.plant port = record { sound = sound; found = subst P (sym (port_number number d.plant.ports port e)) e } in
-    in_turn-sees table d (record { port = port; address = source; rights = rights }) i (requests_of table request) p m f
-passed-sees table d p sound m f source (Some rights) number (Some port) e None = tt
-passed-sees table d p sound m f source (Some rights) number None e request = tt
-passed-sees table d p sound m f source None number port e request = tt
+    in_turn-sees d (record { port = port; address = source; rights = rights }) i (requests_of request) p m f
+passed-sees d p sound m f source (Some rights) number (Some port) e None = tt
+passed-sees d p sound m f source (Some rights) number None e request = tt
+passed-sees d p sound m f source None number port e request = tt
 
-header-sees : (table : AnswerTable) (d : Setup) (p : Party) → IsSoundPlant d.plant → Alike p.memory (first_memory d.plant) → FitsPlant d.plant p.client
-    → (payload : List ℕ) (o : Option AmsHeader) → Each Sees (asked_of_question table d p (question_in table d.plant payload o))
-header-sees table d p sound m f payload None = tt
-header-sees table d p sound m f payload (Some h) = go (list_any (λ (c : Check). c.stops) (checks_of table d.plant h payload))
+header-sees : (d : Setup) (p : Party) → IsSoundPlant d.plant → Alike p.memory (first_memory d.plant) → FitsPlant d.plant p.client
+    → (payload : List ℕ) (o : Option AmsHeader) → Each Sees (asked_of_question d p (question_in d.plant payload o))
+header-sees d p sound m f payload None = tt
+header-sees d p sound m f payload (Some h) = go (list_any (λ (c : Check). c.stops) (checks_of d.plant h payload))
   where
-    go : (b : Bool) → Each Sees (asked_of_question table d p
+    go : (b : Bool) → Each Sees (asked_of_question d p
         (cond b None (question h.source (rights_of h.source.net d.plant.routes) (port_numbered h.target.port d.plant.ports) (request_of h.command payload))))
     go true = tt
-    go false = passed-sees table d p sound m f h.source (rights_of h.source.net d.plant.routes) h.target.port (port_numbered h.target.port d.plant.ports) refl
+    go false = passed-sees d p sound m f h.source (rights_of h.source.net d.plant.routes) h.target.port (port_numbered h.target.port d.plant.ports) refl
         (request_of h.command payload)
 
 -- what a packet finds
@@ -171,21 +172,21 @@ record Fine (x : Exchange World Client) : Type 0 where
   memory : Alike x.world.memory (first_memory x.world.plant)
   client : FitsPlant x.world.plant x.connection.client
 
-packet-sees : (table : AnswerTable) (packet : List ℕ) (x : Exchange World Client) → Fine x → Each Sees (asked_of_packet table packet x)
+packet-sees : (packet : List ℕ) (x : Exchange World Client) → Fine x → Each Sees (asked_of_packet packet x)
 unfolding question_of
-packet-sees table packet x f = go x.connection.closing
+packet-sees packet x f = go x.connection.closing
   where
-    go : (b : Bool) → Each Sees (cond b [] (asked_of_question table (setup_of x.world) (party_of x) (question_of table x.world.plant packet)))
+    go : (b : Bool) → Each Sees (cond b [] (asked_of_question (setup_of x.world) (party_of x) (question_of x.world.plant packet)))
     go true = tt
-    go false = header-sees table (setup_of x.world) (party_of x) f.sound f.memory f.client (payload_of packet) (header_of packet)
+    go false = header-sees (setup_of x.world) (party_of x) f.sound f.memory f.client (payload_of packet) (header_of packet)
 
-packet-fine : (table : AnswerTable) (reading : DescriptionReading) (packet : List ℕ) (x : Exchange World Client) → Fine x
-    → Fine (after_packet (ads_device table reading) packet x)
+packet-fine : (packet : List ℕ) (x : Exchange World Client) → Fine x
+    → Fine (after_packet server_device packet x)
 unfolding after_packet performed
-packet-fine table reading packet x f = go x.connection.closing
+packet-fine packet x f = go x.connection.closing
   where
     decision : Decision
-    decision = decide table (setup_of x.world) x.connection.client packet
+    decision = decide (setup_of x.world) x.connection.client packet
 
     o : FrameOutcome World Client
     o = performed decision packet x.world x.connection.client
@@ -197,17 +198,17 @@ packet-fine table reading packet x f = go x.connection.closing
       memory = alike_then o.world.memory x.world.memory (first_memory x.world.plant) (acts-alike (acts_in decision) x.world.memory) f.memory;
       client = subst (FitsPlant x.world.plant) (sym (answer-client o.answer (with_client o.client (with_one_taken x.connection))))
           (acts-fit x.world.plant (acts_in decision) x.connection.client f.client
-          (decide-fine table (setup_of x.world) x.connection.client packet f.sound f.client).acts);
+          (decide-fine (setup_of x.world) x.connection.client packet f.sound f.client).acts);
     }
 
-packets-see : (table : AnswerTable) (reading : DescriptionReading) (ps : List (List ℕ)) (x : Exchange World Client) → Fine x
-    → Each Sees (asked_of_packets table reading ps x)
+packets-see : (ps : List (List ℕ)) (x : Exchange World Client) → Fine x
+    → Each Sees (asked_of_packets ps x)
 unfolding asked_of_packets
-packets-see table reading [] x f = tt
-packets-see table reading (p ∷ ps) x f =
-    let y = after_packet (ads_device table reading) p x in
-    each_both Sees (asked_of_packet table p x) (asked_of_packets table reading ps y) (packet-sees table p x f)
-    (packets-see table reading ps y (packet-fine table reading p x f))
+packets-see [] x f = tt
+packets-see (p ∷ ps) x f =
+    let y = after_packet server_device p x in
+    each_both Sees (asked_of_packet p x) (asked_of_packets ps y) (packet-sees p x f)
+    (packets-see ps y (packet-fine p x f))
 
 -- what is there has a name of the plant
 bytes-named : (plant : Plant) (m : List Block) → Alike m (first_memory plant) → (as_ : List Addressed) → Each (IsThereAt m) as_
@@ -236,35 +237,35 @@ found_among P c (l ∷ ls) k e f =
       | inr t ↦ let g : connection_of c ls ≡ Some k = rw t at f in found_among P c ls k (e.1) g
     ]
 
-piece-sees : (table : AnswerTable) (reading : DescriptionReading) (bytes : List ℕ) (x : Exchange World Client) → Whole x.world
-    → ConnectionFits x.world x.connection → Each Sees (asked_of_piece table reading bytes x)
-piece-sees table reading bytes x w f = go (is_deaf x.connection) refl
+piece-sees : (bytes : List ℕ) (x : Exchange World Client) → Whole x.world
+    → ConnectionFits x.world x.connection → Each Sees (asked_of_piece bytes x)
+piece-sees bytes x w f = go (is_deaf x.connection) refl
   where
     go : (b : Bool) → is_deaf x.connection ≡ b
-        → Each Sees (cond b [] (asked_of_packets table reading (packets_left (with_received bytes x.connection)) (with_piece bytes x)))
+        → Each Sees (cond b [] (asked_of_packets (packets_left (with_received bytes x.connection)) (with_piece bytes x)))
     go true e = tt
-    go false e = packets-see table reading (packets_left (with_received bytes x.connection)) (with_piece bytes x) (record {
+    go false e = packets-see (packets_left (with_received bytes x.connection)) (with_piece bytes x) (record {
       sound = w.sound;
       memory = w.memory;
       client = record { handles = (f e).handles; watches = watches-named x.world.plant x.world.memory w.memory x.connection.client.watches (f e).watches };
     })
 
-at-sees : (table : AnswerTable) (reading : DescriptionReading) (s : MachineState World Client) (bytes : List ℕ) → Whole s.world
+at-sees : (s : MachineState World Client) (bytes : List ℕ) → Whole s.world
     → Each (ConnectionFits s.world) s.connections
-    → (c : ℕ) (o : Option (Connection Client)) → connection_of c s.connections ≡ o → Each Sees (asked_at table reading s bytes o)
-at-sees table reading s bytes w f c None e = tt
-at-sees table reading s bytes w f c (Some k) e = piece-sees table reading bytes (exchange_of s k) w (found_among (ConnectionFits s.world) c s.connections k f e)
+    → (c : ℕ) (o : Option (Connection Client)) → connection_of c s.connections ≡ o → Each Sees (asked_at s bytes o)
+at-sees s bytes w f c None e = tt
+at-sees s bytes w f c (Some k) e = piece-sees bytes (exchange_of s k) w (found_among (ConnectionFits s.world) c s.connections k f e)
 
-move-sees : (table : AnswerTable) (reading : DescriptionReading) (s : MachineState World Client) (m : Move) → Whole s.world
-    → Each (ConnectionFits s.world) s.connections → Each Sees (asked_of_move table reading s m)
+move-sees : (s : MachineState World Client) (m : Move) → Whole s.world
+    → Each (ConnectionFits s.world) s.connections → Each Sees (asked_of_move s m)
 unfolding asked_of_move
-move-sees table reading s (move.Event (event.Piece n bytes)) w f = at-sees table reading s bytes w f n (connection_of n s.connections) refl
-move-sees table reading s m w f = tt
+move-sees s (move.Event (event.Piece n bytes)) w f = at-sees s bytes w f n (connection_of n s.connections) refl
+move-sees s m w f = tt
 
 -- each request of every log
-pub every_request_sees : (table : AnswerTable) (reading : DescriptionReading) → ReadsAccepted reading → (d : Description) (waves : List Wave)
+pub every_request_sees : (d : Description) (waves : List Wave)
     → IsAccepted d (length waves) → (log : List Move) (m : Move)
-    → Each Sees (asked_of_move table reading (state_after (server_step table reading) (start d waves) log) m)
-every_request_sees table reading h d waves accepted log m =
-    move-sees table reading (state_after (server_step table reading) (start d waves) log) m (every_state_whole table reading h d waves accepted log)
-    (every_state_fits table reading h d waves accepted log).connections
+    → Each Sees (asked_of_move (state_after server (start d waves) log) m)
+every_request_sees d waves accepted log m =
+    move-sees (state_after server (start d waves) log) m (every_state_whole d waves accepted log)
+    (every_state_fits read_description reads_descriptions d waves accepted log).connections

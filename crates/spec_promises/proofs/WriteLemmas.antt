@@ -20,7 +20,7 @@ use Rattle.spec_machine.specs.AreaContent.{IsThere}
 use Rattle.spec_machine.specs.Handles.{HandleStatus, Never, Released, Outdated, Live, kept_status}
 use Rattle.spec_machine.specs.Client.{Place, names_of_place, Client, client_after}
 use Rattle.spec_machine.specs.Acts.{Act, Refusal, Outcome, writing, outcome_of, memory_after, effect_of}
-use Rattle.spec_machine.specs.Answers.{all_answered, answered_group, if_answered, READ, WRITE}
+use Rattle.spec_machine.specs.Answers.{answered_group, if_answered, READ, WRITE}
 use Rattle.spec_machine.specs.Reach.{addressed_by_range, addressed_by_status, reach_of}
 use Rattle.spec_machine.specs.Reads.{read_act, read_group}
 use Rattle.spec_machine.specs.Writes.{Asker, may_write, are_writable, write_act, is_releasable, release_act, write_group}
@@ -328,13 +328,13 @@ group-done d c k m i there placed (Some ValueByHandle) offset bytes h =
 group-done d c k m i there placed g offset bytes h = absurd (no_group h)
 
 -- a group whose bytes a write may reach is answered by a read
-read_answers : (number : ℕ) → option_map_or is_value_group (answered_group all_answered WRITE number) false ≡ true
-    → answered_group all_answered READ number ≡ answered_group all_answered WRITE number
+read_answers : (number : ℕ) → option_map_or is_value_group (answered_group WRITE number) false ≡ true
+    → answered_group READ number ≡ answered_group WRITE number
 unfolding answered_group
 read_answers number h = go (group_of number) h
   where
-    go : (o : Option Group) → option_map_or is_value_group (option_and_then (if_answered all_answered WRITE) o) false ≡ true
-        → option_and_then (if_answered all_answered READ) o ≡ option_and_then (if_answered all_answered WRITE) o
+    go : (o : Option Group) → option_map_or is_value_group (option_and_then (if_answered WRITE) o) false ≡ true
+        → option_and_then (if_answered READ) o ≡ option_and_then (if_answered WRITE) o
     go None h = refl
     go (Some (AreaBytes area)) h = refl
     go (Some (AreaBit area)) h = refl
@@ -343,7 +343,7 @@ read_answers number h = go (group_of number) h
 
 write-done : (d : Setup) (k : Asker) (p : Party) → IsAsked d.plant k.port → ((area : Area) → IsThere p.memory k.port area)
     → Each (IsPlacedHandle d.plant) p.client.handles
-    → (group offset : ℕ) (bytes : List ℕ) → (single_outcome all_answered d k p (Write group offset bytes)).code ≡ no_error
+    → (group offset : ℕ) (bytes : List ℕ) → (single_outcome d k p (Write group offset bytes)).code ≡ no_error
     → IsWritten (record { setup = d; asker = k; before = p; request = Write group offset bytes }) group offset bytes
 unfolding act_of
 write-done d k p i there placed group offset bytes h =
@@ -365,5 +365,5 @@ write_is_done a s group offset bytes e h =
     let named = area-named a.setup.plant s.asked.sound a.asker.port s.asked.found area j l in
     there_by_length a.before.memory n (omega (arith, same, named)) in
     let asked : Request → Asked = λ r. record { setup = a.setup; asker = a.asker; before = a.before; request = r } in
-    subst (λ r. (single_outcome all_answered a.setup a.asker a.before r).code ≡ no_error → IsWritten (asked r) group offset bytes) (sym e)
+    subst (λ r. (single_outcome a.setup a.asker a.before r).code ≡ no_error → IsWritten (asked r) group offset bytes) (sym e)
     (write-done a.setup a.asker a.before s.asked there s.client.handles group offset bytes) h

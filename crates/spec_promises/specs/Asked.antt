@@ -17,13 +17,13 @@ use Rattle.spec_machine.specs.Piece.{packets_left, with_received, with_piece, af
 use Rattle.spec_machine.specs.World.{World, Setup, setup_of, port_numbered}
 use Rattle.spec_machine.specs.Client.{Client}
 use Rattle.spec_machine.specs.Acts.{Act, Outcome, writes_of_act}
-use Rattle.spec_machine.specs.Answers.{AnswerTable, answered_group, READ_WRITE}
+use Rattle.spec_machine.specs.Answers.{answered_group, READ_WRITE}
 use Rattle.spec_machine.specs.Writes.{Asker}
 use Rattle.spec_machine.specs.Requests.{act_of}
 use Rattle.spec_machine.specs.Sums.{SumRequest, sum_of_reads, sum_of_writes, sum_of_read_writes, sum_refusal}
 use Rattle.spec_machine.specs.SumLaws.{Party, single_outcome, party_after}
 use Rattle.spec_machine.specs.Packets.{Check, checks_of}
-use Rattle.spec_machine.specs.AdsDevice.{DescriptionReading, ads_device}
+use Rattle.spec_server.specs.Server.{server_device}
 
 -- one request: of what plant, by whom, and the client and the bytes that it finds
 pub record Asked : Type 0 where
@@ -33,20 +33,20 @@ pub record Asked : Type 0 where
   pub request : Request
 
 -- what it does, how it ends, and the client and the bytes that it leaves
-abbrev pub act_of_asked : AnswerTable → Asked → Act
-act_of_asked table a = act_of table a.setup a.before.client a.asker a.request
+abbrev pub act_of_asked : Asked → Act
+act_of_asked a = act_of a.setup a.before.client a.asker a.request
 
-abbrev pub outcome_of_asked : AnswerTable → Asked → Outcome
-outcome_of_asked table a = single_outcome table a.setup a.asker a.before a.request
+abbrev pub outcome_of_asked : Asked → Outcome
+outcome_of_asked a = single_outcome a.setup a.asker a.before a.request
 
-abbrev pub after_asked : AnswerTable → Asked → Party
-after_asked table a = party_after table a.setup a.asker a.before a.request
+abbrev pub after_asked : Asked → Party
+after_asked a = party_after a.setup a.asker a.before a.request
 
 -- requests one after another, the first of which finds this
-unfoldable pub asked_in_turn : AnswerTable → Setup → Asker → Party → List Request → List Asked
-asked_in_turn table d k p [] = []
-asked_in_turn table d k p (r ∷ rs) =
-    record { setup = d; asker = k; before = p; request = r } ∷ asked_in_turn table d k (party_after table d k p r) rs
+unfoldable pub asked_in_turn : Setup → Asker → Party → List Request → List Asked
+asked_in_turn d k p [] = []
+asked_in_turn d k p (r ∷ rs) =
+    record { setup = d; asker = k; before = p; request = r } ∷ asked_in_turn d k (party_after d k p r) rs
 
 -- what a packet asks that none of the nine checks stops
 pub record Question : Type 0 where
@@ -58,15 +58,15 @@ question source (Some rights) (Some port) (Some request) =
     Some (record { asker = record { port = port; address = source; rights = rights }; request = request })
 question source rights port request = None
 
-abbrev pub question_in : AnswerTable → Plant → List ℕ → Option AmsHeader → Option Question
-question_in table plant payload None = None
-question_in table plant payload (Some h) =
-    if list_any (λ (c : Check). c.stops) (checks_of table plant h payload) then None
+abbrev pub question_in : Plant → List ℕ → Option AmsHeader → Option Question
+question_in plant payload None = None
+question_in plant payload (Some h) =
+    if list_any (λ (c : Check). c.stops) (checks_of plant h payload) then None
     else question h.source (rights_of h.source.net plant.routes) (port_numbered h.target.port plant.ports)
     (request_of h.command payload)
 
-unfoldable pub question_of : AnswerTable → Plant → List ℕ → Option Question
-question_of table plant packet = question_in table plant (payload_of packet) (header_of packet)
+unfoldable pub question_of : Plant → List ℕ → Option Question
+question_of plant packet = question_in plant (payload_of packet) (header_of packet)
 
 -- the parts of a sum; none of one that is refused whole
 abbrev pub parts_unless : Option ℕ → List Request → List Request
@@ -83,53 +83,53 @@ requests_in (Some SumReadWrite) r n read_len bytes = parts_of n (length bytes) r
 requests_in group r n read_len bytes = r ∷ []
 
 -- a request by itself, or the parts of a sum, whose offset is their number
-unfoldable pub requests_of : AnswerTable → Request → List Request
-requests_of table (ReadWrite group offset read_len bytes) =
-    requests_in (answered_group table READ_WRITE group) (ReadWrite group offset read_len bytes) offset read_len bytes
-requests_of table r = r ∷ []
+unfoldable pub requests_of : Request → List Request
+requests_of (ReadWrite group offset read_len bytes) =
+    requests_in (answered_group READ_WRITE group) (ReadWrite group offset read_len bytes) offset read_len bytes
+requests_of r = r ∷ []
 
-abbrev pub asked_of_question : AnswerTable → Setup → Party → Option Question → List Asked
-asked_of_question table d p None = []
-asked_of_question table d p (Some q) = asked_in_turn table d q.asker p (requests_of table q.request)
+abbrev pub asked_of_question : Setup → Party → Option Question → List Asked
+asked_of_question d p None = []
+asked_of_question d p (Some q) = asked_in_turn d q.asker p (requests_of q.request)
 
 -- what a connection and the world are to a request
 abbrev pub party_of : Exchange World Client → Party
 party_of x = record { client = x.connection.client; memory = x.world.memory }
 
 -- the requests of a packet; none where the connection is closing by then
-abbrev pub asked_of_packet : AnswerTable → List ℕ → Exchange World Client → List Asked
-asked_of_packet table packet x =
+abbrev pub asked_of_packet : List ℕ → Exchange World Client → List Asked
+asked_of_packet packet x =
     if x.connection.closing then []
-    else asked_of_question table (setup_of x.world) (party_of x) (question_of table x.world.plant packet)
+    else asked_of_question (setup_of x.world) (party_of x) (question_of x.world.plant packet)
 
-unfoldable pub asked_of_packets : AnswerTable → DescriptionReading → List (List ℕ) → Exchange World Client → List Asked
-asked_of_packets table reading [] x = []
-asked_of_packets table reading (packet ∷ packets) x =
-    asked_of_packet table packet x
-    ++ asked_of_packets table reading packets (after_packet (ads_device table reading) packet x)
+unfoldable pub asked_of_packets : List (List ℕ) → Exchange World Client → List Asked
+asked_of_packets [] x = []
+asked_of_packets (packet ∷ packets) x =
+    asked_of_packet packet x
+    ++ asked_of_packets packets (after_packet server_device packet x)
 
 -- the requests of the frames that a piece completes
-abbrev pub asked_of_piece : AnswerTable → DescriptionReading → List ℕ → Exchange World Client → List Asked
-asked_of_piece table reading piece x =
+abbrev pub asked_of_piece : List ℕ → Exchange World Client → List Asked
+asked_of_piece piece x =
     if is_deaf x.connection then []
-    else asked_of_packets table reading (packets_left (with_received piece x.connection)) (with_piece piece x)
+    else asked_of_packets (packets_left (with_received piece x.connection)) (with_piece piece x)
 
-abbrev pub asked_at : AnswerTable → DescriptionReading → MachineState World Client → List ℕ → Option (Connection Client)
+abbrev pub asked_at : MachineState World Client → List ℕ → Option (Connection Client)
     → List Asked
-asked_at table reading s piece None = []
-asked_at table reading s piece (Some k) = asked_of_piece table reading piece (exchange_of s k)
+asked_at s piece None = []
+asked_at s piece (Some k) = asked_of_piece piece (exchange_of s k)
 
 -- the requests of a move
-unfoldable pub asked_of_move : AnswerTable → DescriptionReading → MachineState World Client → Move → List Asked
-asked_of_move table reading s (move.Event (event.Piece n piece)) =
-    asked_at table reading s piece (connection_of n s.connections)
-asked_of_move table reading s m = []
+unfoldable pub asked_of_move : MachineState World Client → Move → List Asked
+asked_of_move s (move.Event (event.Piece n piece)) =
+    asked_at s piece (connection_of n s.connections)
+asked_of_move s m = []
 
 -- the names that requests write
-abbrev pub names_written : AnswerTable → List Asked → List ByteName
-names_written table asked = flat_map (λ (a : Asked). writes_of_act (act_of_asked table a)) asked
+abbrev pub names_written : List Asked → List ByteName
+names_written asked = flat_map (λ (a : Asked). writes_of_act (act_of_asked a)) asked
 
 -- each finds the bytes that the one before it left; the first finds these, and the last leaves those
-abbrev pub Leads : AnswerTable → List Block → List Asked → List Block → Type 0
-Leads table first [] last = first ≡ last
-Leads table first (a ∷ as_) last = (a.before.memory ≡ first) × Leads table (after_asked table a).memory as_ last
+abbrev pub Leads : List Block → List Asked → List Block → Type 0
+Leads first [] last = first ≡ last
+Leads first (a ∷ as_) last = (a.before.memory ≡ first) × Leads (after_asked a).memory as_ last

@@ -14,7 +14,6 @@ use Rattle.spec_machine.specs.World.{World, setup_of}
 use Rattle.spec_machine.specs.Handles.{is_live, kept_status}
 use Rattle.spec_machine.specs.Client.{Client}
 use Rattle.spec_machine.specs.Acts.{Outcome}
-use Rattle.spec_machine.specs.Answers.{all_answered}
 use Rattle.spec_machine.specs.SumLaws.{single_outcome}
 use Rattle.spec_machine.specs.Writes.{Asker}
 use Rattle.spec_server.specs.Server.{server_after}
@@ -22,7 +21,7 @@ use Rattle.spec_server.specs.Server.{server_after}
 -- what a connection reads by a handle, so many bytes
 abbrev pub read_by_handle : MachineState World Client → Connection Client → Asker → ℕ → ℕ → Outcome
 read_by_handle s k asker handle len =
-    single_outcome all_answered (setup_of s.world) asker (record { client = k.client; memory = s.world.memory })
+    single_outcome (setup_of s.world) asker (record { client = k.client; memory = s.world.memory })
     (Read value_by_handle handle len)
 
 -- a connection that is heard before and after; and one who asks the same port, as it was and as it is

@@ -18,7 +18,7 @@ use Rattle.spec_machine.specs.Access.{WholeByte, values_at}
 use Rattle.spec_machine.specs.Handles.{Live, kept_status}
 use Rattle.spec_machine.specs.Client.{Place, names_of_place, Client}
 use Rattle.spec_machine.specs.Acts.{writes_of_acts}
-use Rattle.spec_machine.specs.Answers.{all_answered, answered_group, WRITE}
+use Rattle.spec_machine.specs.Answers.{answered_group, WRITE}
 use Rattle.spec_machine.specs.SumLaws.{single_outcome}
 use Rattle.spec_machine.specs.Projection.{acts_of_move}
 use Rattle.spec_laws.specs.ExactWrites.{IsBitPut}
@@ -65,39 +65,39 @@ read_back group bytes = bytes
 
 -- the group that a write names
 abbrev pub written_group : ℕ → Option Group
-written_group number = answered_group all_answered WRITE number
+written_group number = answered_group WRITE number
 
 abbrev pub IsReadBack : Asked → ℕ → ℕ → List ℕ → Type 0
 IsReadBack a group offset bytes =
-    single_outcome all_answered a.setup a.asker (after_asked all_answered a) (Read group offset (length bytes))
+    single_outcome a.setup a.asker (after_asked a) (Read group offset (length bytes))
     ≡ record { code = no_error; bytes = read_back (written_group group) bytes }
 
 -- what an accepted write leaves, and what the same client reads there with its next request
 pub record IsWritten (a : Asked) (group offset : ℕ) (bytes : List ℕ) : Type 0 where
-  pub holds : HoldsAt (written_group group) a.before.memory (after_asked all_answered a).memory a.before.client
+  pub holds : HoldsAt (written_group group) a.before.memory (after_asked a).memory a.before.client
       a.asker.port offset bytes
   pub read : option_map_or is_value_group (written_group group) false ≡ true → IsReadBack a group offset bytes
 
 -- a write that is accepted is done
 abbrev pub IsDone : Asked → Type 0
 IsDone a = (group offset : ℕ) (bytes : List ℕ) → a.request ≡ Write group offset bytes
-    → (outcome_of_asked all_answered a).code ≡ no_error → IsWritten a group offset bytes
+    → (outcome_of_asked a).code ≡ no_error → IsWritten a group offset bytes
 
 -- what an accepted control leaves: the two state words of the port that was asked, which the next ReadState answers
 pub record StatesAreSet (a : Asked) (ads device : ℕ) : Type 0 where
-  pub holds : values_at (after_asked all_answered a).memory (map WholeByte (state_names a.asker.port))
+  pub holds : values_at (after_asked a).memory (map WholeByte (state_names a.asker.port))
       ≡ state_bytes ads device
-  pub read : single_outcome all_answered a.setup a.asker (after_asked all_answered a) ReadState
+  pub read : single_outcome a.setup a.asker (after_asked a) ReadState
       ≡ record { code = no_error; bytes = state_bytes ads device }
 
 -- a control that is accepted is done
 abbrev pub IsControlled : Asked → Type 0
 IsControlled a = (ads device : ℕ) (bytes : List ℕ) → a.request ≡ WriteControl ads device bytes
-    → (outcome_of_asked all_answered a).code ≡ no_error → StatesAreSet a ads device
+    → (outcome_of_asked a).code ≡ no_error → StatesAreSet a ads device
 
 -- the requests of a move of the log, and what they make of it
 abbrev pub asked_at_move : Description → List Wave → List Move → Move → List Asked
-asked_at_move d waves before m = asked_of_move all_answered read_description (server_after d waves before) m
+asked_at_move d waves before m = asked_of_move (server_after d waves before) m
 
 abbrev pub memory_at : Description → List Wave → List Move → List Block
 memory_at d waves log = (server_after d waves log).world.memory
@@ -105,7 +105,7 @@ memory_at d waves log = (server_after d waves log).world.memory
 -- a piece changes the bytes by its requests, one after another
 abbrev pub ChangesByRequests : Description → List Wave → List Move → Move → Type 0
 ChangesByRequests d waves before (move.Event (event.Piece c bytes)) =
-    Leads all_answered (memory_at d waves before) (asked_at_move d waves before (move.Event (event.Piece c bytes)))
+    Leads (memory_at d waves before) (asked_at_move d waves before (move.Event (event.Piece c bytes)))
     (memory_at d waves (before ++ move.Event (event.Piece c bytes) ∷ []))
 ChangesByRequests d waves before m = Unit {0}
 
@@ -114,8 +114,8 @@ pub record HoldsWrites (d : Description) (waves : List Wave) (before : List Move
   -- its requests are all that it does, one after another
   pub requests : ChangesByRequests d waves before m
   -- the names that they write are those that the move may change
-  pub names : names_written all_answered (asked_at_move d waves before m)
-      ≡ writes_of_acts (acts_of_move all_answered read_description (server_after d waves before) m)
+  pub names : names_written (asked_at_move d waves before m)
+      ≡ writes_of_acts (acts_of_move read_description (server_after d waves before) m)
   -- and each write among them that is accepted is done, as is each control
   pub writes : Each IsDone (asked_at_move d waves before m)
   pub controls : Each IsControlled (asked_at_move d waves before m)

@@ -18,10 +18,14 @@ use Rattle.spec_machine.specs.MachineState.{Exchange}
 use Rattle.spec_relay.specs.RelayState.{Request, RelayWorld, Owned, RelayConnection, RelayState, relay_start, owner_of, is_heard_among}
 use Rattle.spec_relay.specs.Requests.{is_answered_by, request_answered, without_first, is_asked_by, with_request, MAX_REQUESTS}
 use Rattle.spec_relay.specs.Ways.{Way, Closes, Answers, Stray, Asks, Unknown, is_closed_by, way_of_request, way_of_response, way_of_owned}
-use Rattle.spec_relay.specs.Routing.{framed, has_room, delivered, at_connection, given_to, after_unknown, request_from, with_request_of, after_way, with_owner, with_frame_taken, after_header, after_frame_of, after_frame}
+use Rattle.spec_relay.specs.Routing.{framed, has_room, delivered, at_connection, given_to, after_unknown}
+use Rattle.spec_relay.specs.Routing.{request_from, with_request_of, after_way, with_owner, with_frame_taken}
+use Rattle.spec_relay.specs.Routing.{after_header, after_frame_of, after_frame}
 use Rattle.spec_relay.specs.RelayMoves.{after_frames, after_piece_of, relay_after_event}
 use Rattle.spec_machine.specs.Moves.{state_after_move, state_after}
-use Rattle.spec_relay.specs.Passages.{Fate, Dropped, Passage, fate_on_way, fate_by_header, passages_of_frame_at, passages_of_frame, passages_of_frames, passages_of_piece, passages_of_event, passages_of_move, passages_of}
+use Rattle.spec_relay.specs.Passages.{Fate, Dropped, Passage, fate_on_way, fate_by_header}
+use Rattle.spec_relay.specs.Passages.{passages_of_frame_at, passages_of_frame, passages_of_frames}
+use Rattle.spec_relay.specs.Passages.{passages_of_piece, passages_of_event, passages_of_move, passages_of}
 use Rattle.spec_relay.specs.PassedOn.{asked_by_header, asked_in, request_to, answered_by_header, answered_in, all_asked, all_answered}
 use Rattle.spec_relay.specs.RelayLaws.{AnswersEachOnce}
 use Rattle.spec_relay.proofs.ChangeLemmas.{world-exchange, world-change}
@@ -50,7 +54,8 @@ count-without test first (r ∷ rs) = elim (cases_Bool (first r)) [
 ]
 
 -- without the one that is found there is one less
-count-spent : (test first : Request → Bool) (rs : List Request) (r : Request) → find first rs ≡ Some r → count_by test (without_first first rs) + count_by test (r ∷ []) ≤ count_by test rs
+count-spent : (test first : Request → Bool) (rs : List Request) (r : Request) → find first rs ≡ Some r
+    → count_by test (without_first first rs) + count_by test (r ∷ []) ≤ count_by test rs
 unfolding without_first
 count-spent test first [] r e = absurd (let x : None ≡ Some r = e in cc)
 count-spent test first (x ∷ rs) r e = elim (cases_Bool (first x)) [
@@ -140,7 +145,8 @@ IsFound c h (Answers r) s = request_answered c h s.world.requests ≡ Some r
 IsFound c h way s = Unit {0}
 
 way-spends : (test : Request → Bool) (c : ℕ) (h : AmsHeader) (packet : List ℕ) (fate : Fate) (way : Way) (s : RelayState) → IsFound c h way s
-    → Spends test (requests_of s) (requests_of (after_way c h packet way s)) (asked_by_header (passage c packet fate) (fate_on_way c h packet way s) (Some h)) (answered_by_header (passage c packet fate) (fate_on_way c h packet way s) (Some h))
+    → Spends test (requests_of s) (requests_of (after_way c h packet way s)) (asked_by_header (passage c packet fate) (fate_on_way c h packet way s) (Some h))
+    (answered_by_header (passage c packet fate) (fate_on_way c h packet way s) (Some h))
 unfolding after_way fate_on_way
 way-spends test c h packet fate Closes s found =
     let e = ap (λ (w : RelayWorld). count_by test w.requests) (world-change c with_closing s) in omega (arith, e)
@@ -162,7 +168,8 @@ way-spends test c h packet fate (Asks d) s found = elim (cases_Bool (has_room (f
       rw t (omega (arith, e))
 ]
   where
-    asks : (u : RelayState) → requests_of u ≡ requests_of s → Spends test (requests_of s) (requests_of (with_request_of c d h u)) (cond (h.command == DEVICE_NOTIFICATION) [] (request_from c d h ∷ [])) []
+    asks : (u : RelayState) → requests_of u ≡ requests_of s
+        → Spends test (requests_of s) (requests_of (with_request_of c d h u)) (cond (h.command == DEVICE_NOTIFICATION) [] (request_from c d h ∷ [])) []
     asks u e = elim (cases_Bool (h.command == DEVICE_NOTIFICATION)) [
       | inl n ↦ let f = ap (λ l. count_by test l) e in rw n (omega (arith, f))
       | inr n ↦ let f = ap (λ l. count_by test l) e in rw n (omega (arith, f, count-with test (request_from c d h) (requests_of u)))
@@ -189,11 +196,14 @@ unfolding fate_on_way
 dropped c h packet s = refl
 
 header-spends : (test : Request → Bool) (c : ℕ) (packet : List ℕ) (k : RelayConnection) (fate : Fate) (s : RelayState) (o : Option AmsHeader)
-    → Spends test (requests_of s) (requests_of (after_header c packet k s o)) (asked_by_header (passage c packet fate) (fate_by_header c packet k s o) o) (answered_by_header (passage c packet fate) (fate_by_header c packet k s o) o)
+    → Spends test (requests_of s) (requests_of (after_header c packet k s o)) (asked_by_header (passage c packet fate) (fate_by_header c packet k s o) o)
+    (answered_by_header (passage c packet fate) (fate_by_header c packet k s o) o)
 header-spends test c packet k fate s None = omega arith
 header-spends test c packet k fate s (Some h) = elim (cases_Bool (is_closed_by (payload_of packet) h k s)) [
   | inl t ↦
-      let P : Fate → Type 0 = λ f. Spends test (requests_of s) (requests_of (after_way c h packet Closes s)) (asked_by_header (passage c packet fate) f (Some h)) (answered_by_header (passage c packet fate) f (Some h)) in
+      let P : Fate → Type 0 =
+      λ f. Spends test (requests_of s) (requests_of (after_way c h packet Closes s))
+      (asked_by_header (passage c packet fate) f (Some h)) (answered_by_header (passage c packet fate) f (Some h)) in
       rw t (subst P (dropped c h packet s) (way-spends test c h packet fate Closes s tt))
   | inr t ↦
       let owned = with_owner c h.source.net s in
@@ -202,11 +212,15 @@ header-spends test c packet k fate s (Some h) = elim (cases_Bool (is_closed_by (
       rw t (omega (arith, e, g))
 ]
 
-frame-spends : (test : Request → Bool) (c : ℕ) (packet : List ℕ) (s : RelayState) → Spends test (requests_of s) (requests_of (after_frame c packet s)) (all_asked (passages_of_frame c packet s)) (all_answered (passages_of_frame c packet s))
+frame-spends : (test : Request → Bool) (c : ℕ) (packet : List ℕ) (s : RelayState)
+    → Spends test (requests_of s) (requests_of (after_frame c packet s))
+    (all_asked (passages_of_frame c packet s)) (all_answered (passages_of_frame c packet s))
 unfolding after_frame passages_of_frame
 frame-spends test c packet s = go (connection_of c s.connections)
   where
-    go : (o : Option RelayConnection) → Spends test (requests_of s) (requests_of (after_frame_of c packet s o)) (all_asked (passages_of_frame_at c packet s o)) (all_answered (passages_of_frame_at c packet s o))
+    go : (o : Option RelayConnection)
+        → Spends test (requests_of s) (requests_of (after_frame_of c packet s o))
+        (all_asked (passages_of_frame_at c packet s o)) (all_answered (passages_of_frame_at c packet s o))
     go None = omega arith
     go (Some k) = elim (cases_Bool k.closing) [
       | inl t ↦ rw t (omega arith)
@@ -224,26 +238,33 @@ frame-spends test c packet s = go (connection_of c s.connections)
     ]
 
 -- one part of a run after another
-spends-then : (test : Request → Bool) (old mid new : List Request) (ps qs : List Passage) → Spends test old mid (all_asked ps) (all_answered ps) → Spends test mid new (all_asked qs) (all_answered qs)
+spends-then : (test : Request → Bool) (old mid new : List Request) (ps qs : List Passage)
+    → Spends test old mid (all_asked ps) (all_answered ps) → Spends test mid new (all_asked qs) (all_answered qs)
     → Spends test old new (all_asked (ps ++ qs)) (all_answered (ps ++ qs))
 spends-then test old mid new ps qs first second =
     let asked = ap (λ l. count_by test l) (flat_map-append asked_in ps qs) ∙ count-append test (all_asked ps) (all_asked qs) in
     let answered = ap (λ l. count_by test l) (flat_map-append answered_in ps qs) ∙ count-append test (all_answered ps) (all_answered qs) in
     omega (arith, asked, answered, first, second)
 
-frames-spend : (test : Request → Bool) (c : ℕ) (packets : List (List ℕ)) (s : RelayState) → Spends test (requests_of s) (requests_of (after_frames c packets s)) (all_asked (passages_of_frames c packets s)) (all_answered (passages_of_frames c packets s))
+frames-spend : (test : Request → Bool) (c : ℕ) (packets : List (List ℕ)) (s : RelayState)
+    → Spends test (requests_of s) (requests_of (after_frames c packets s))
+    (all_asked (passages_of_frames c packets s)) (all_answered (passages_of_frames c packets s))
 unfolding after_frames passages_of_frames
 frames-spend test c [] s = omega arith
 frames-spend test c (packet ∷ packets) s =
     let u = after_frame c packet s in
-    spends-then test (requests_of s) (requests_of u) (requests_of (after_frames c packets u)) (passages_of_frame c packet s) (passages_of_frames c packets u) (frame-spends test c packet s) (frames-spend test c packets u)
+    spends-then test (requests_of s) (requests_of u) (requests_of (after_frames c packets u)) (passages_of_frame c packet s)
+    (passages_of_frames c packets u) (frame-spends test c packet s) (frames-spend test c packets u)
 
-event-spends : (test : Request → Bool) (e : Event) (s : RelayState) → Spends test (requests_of s) (requests_of (relay_after_event s e)) (all_asked (passages_of_event s e)) (all_answered (passages_of_event s e))
+event-spends : (test : Request → Bool) (e : Event) (s : RelayState)
+    → Spends test (requests_of s) (requests_of (relay_after_event s e)) (all_asked (passages_of_event s e)) (all_answered (passages_of_event s e))
 unfolding relay_after_event
 event-spends test (event.Opened n) s = omega arith
 event-spends test (event.Piece n piece) s = go (connection_of n s.connections)
   where
-    go : (o : Option RelayConnection) → Spends test (requests_of s) (requests_of (after_piece_of n piece s o)) (all_asked (passages_of_piece n piece s o)) (all_answered (passages_of_piece n piece s o))
+    go : (o : Option RelayConnection)
+        → Spends test (requests_of s) (requests_of (after_piece_of n piece s o))
+        (all_asked (passages_of_piece n piece s o)) (all_answered (passages_of_piece n piece s o))
     go None = omega arith
     go (Some k) = elim (cases_Bool (is_deaf k)) [
       | inl t ↦ rw t (omega arith)
@@ -263,19 +284,24 @@ event-spends test (event.Writable n) s = omega arith
 took-world : (n : ℕ) (x : Exchange RelayWorld Owned) → (with_took n x).world ≡ x.world
 took-world n x = elim (cases_Bool x.connection.gone) [ inl t ↦ rw t refl | inr t ↦ rw t refl ]
 
-move-spends : (test : Request → Bool) (m : Move) (s : RelayState) → Spends test (requests_of s) (requests_of (state_after_move relay_after_event s m)) (all_asked (passages_of_move s m)) (all_answered (passages_of_move s m))
+move-spends : (test : Request → Bool) (m : Move) (s : RelayState)
+    → Spends test (requests_of s) (requests_of (state_after_move relay_after_event s m))
+    (all_asked (passages_of_move s m)) (all_answered (passages_of_move s m))
 unfolding state_after_move
 move-spends test (move.Event e) s = event-spends test e s
-move-spends test (move.Took n offered bytes) s = let e = ap (λ (w : RelayWorld). count_by test w.requests) (world-exchange n (with_took (length bytes)) (took-world (length bytes)) s) in omega (arith, e)
+move-spends test (move.Took n offered bytes) s = let e =
+    ap (λ (w : RelayWorld). count_by test w.requests) (world-exchange n (with_took (length bytes)) (took-world (length bytes)) s) in omega (arith, e)
 move-spends test (move.Lost n) s = let e = ap (λ (w : RelayWorld). count_by test w.requests) (world-exchange n with_gone (λ x. refl) s) in omega (arith, e)
 move-spends test (move.Shut n) s = let e = ap (λ (w : RelayWorld). count_by test w.requests) (world-exchange n with_gone (λ x. refl) s) in omega (arith, e)
 
-log-spends : (test : Request → Bool) (log : List Move) (s : RelayState) → Spends test (requests_of s) (requests_of (state_after relay_after_event s log)) (all_asked (passages_of s log)) (all_answered (passages_of s log))
+log-spends : (test : Request → Bool) (log : List Move) (s : RelayState)
+    → Spends test (requests_of s) (requests_of (state_after relay_after_event s log)) (all_asked (passages_of s log)) (all_answered (passages_of s log))
 unfolding state_after passages_of
 log-spends test [] s = omega arith
 log-spends test (m ∷ ms) s =
     let u = state_after_move relay_after_event s m in
-    spends-then test (requests_of s) (requests_of u) (requests_of (state_after relay_after_event u ms)) (passages_of_move s m) (passages_of u ms) (move-spends test m s) (log-spends test ms u)
+    spends-then test (requests_of s) (requests_of u) (requests_of (state_after relay_after_event u ms))
+    (passages_of_move s m) (passages_of u ms) (move-spends test m s) (log-spends test ms u)
 
 pub answers_each_once : AnswersEachOnce
 answers_each_once description log test = let g = log-spends test log (relay_start description) in omega (arith, g)

@@ -16,11 +16,13 @@ pub exchange-keeps : {V : Type 0} (view : Option RelayConnection → V) (n d : �
 exchange-keeps {V} view n d f same keeps s = elim (cases_eq n d) [
   | inr ne ↦ ap view (exchange_other d n f same ne s)
   | inl q ↦
-      let P : ℕ → Type 0 = λ i. view (connection_of d (after_exchange (connection_of i s.connections) f s).connections) ≡ view (connection_of d s.connections) in
+      let P : ℕ → Type 0 = λ i. view (connection_of d (after_exchange (connection_of i s.connections) f s).connections)
+      ≡ view (connection_of d s.connections) in
       subst P (sym q) (own (connection_of d s.connections) refl)
 ]
   where
-    own : (o : Option RelayConnection) → connection_of d s.connections ≡ o → view (connection_of d (after_exchange (connection_of d s.connections) f s).connections) ≡ view (connection_of d s.connections)
+    own : (o : Option RelayConnection) → connection_of d s.connections ≡ o
+        → view (connection_of d (after_exchange (connection_of d s.connections) f s).connections) ≡ view (connection_of d s.connections)
     own None e = ap (λ (u : RelayState). view (connection_of d u.connections)) (exchange_none d f s e)
     own (Some k) e = ap view (exchange_own d f same s k e) ∙ keeps (record { world = s.world; connection = k }) ∙ ap view (sym e)
 
@@ -41,14 +43,20 @@ changed-own d change same s = own (connection_of d s.connections) refl
 
 pub changed-other : (n d : ℕ) (change : RelayConnection → RelayConnection) → ((k : RelayConnection) → (change k).number ≡ k.number) → n ≢ d → (s : RelayState)
     → connection_of d (at_connection n change s).connections ≡ connection_of d s.connections
-changed-other n d change same ne s = exchange_other d n (λ (x : Exchange RelayWorld Owned). record x { connection = change x.connection }) (λ x. same x.connection) ne s
+changed-other n d change same ne s =
+    exchange_other d n (λ (x : Exchange RelayWorld Owned). record x { connection = change x.connection }) (λ x. same x.connection) ne s
 
-pub change-keeps : {V : Type 0} (view : Option RelayConnection → V) (n d : ℕ) (change : RelayConnection → RelayConnection) → ((k : RelayConnection) → (change k).number ≡ k.number)
-    → ((k : RelayConnection) → view (Some (change k)) ≡ view (Some k)) → (s : RelayState) → view (connection_of d (at_connection n change s).connections) ≡ view (connection_of d s.connections)
-change-keeps view n d change same keeps s = exchange-keeps view n d (λ (x : Exchange RelayWorld Owned). record x { connection = change x.connection }) (λ x. same x.connection) (λ x. keeps x.connection) s
+pub change-keeps : {V : Type 0} (view : Option RelayConnection → V) (n d : ℕ) (change : RelayConnection → RelayConnection)
+    → ((k : RelayConnection) → (change k).number ≡ k.number)
+    → ((k : RelayConnection) → view (Some (change k)) ≡ view (Some k)) → (s : RelayState)
+    → view (connection_of d (at_connection n change s).connections) ≡ view (connection_of d s.connections)
+change-keeps view n d change same keeps s =
+    exchange-keeps view n d (λ (x : Exchange RelayWorld Owned). record x { connection = change x.connection })
+    (λ x. same x.connection) (λ x. keeps x.connection) s
 
 -- a change of a connection is none of the world
-pub world-exchange : (n : ℕ) (f : Exchange RelayWorld Owned → Exchange RelayWorld Owned) → ((x : Exchange RelayWorld Owned) → (f x).world ≡ x.world) → (s : RelayState) → (after_exchange (connection_of n s.connections) f s).world ≡ s.world
+pub world-exchange : (n : ℕ) (f : Exchange RelayWorld Owned → Exchange RelayWorld Owned) → ((x : Exchange RelayWorld Owned) → (f x).world ≡ x.world)
+    → (s : RelayState) → (after_exchange (connection_of n s.connections) f s).world ≡ s.world
 world-exchange n f same s = go (connection_of n s.connections)
   where
     go : (o : Option RelayConnection) → (after_exchange o f s).world ≡ s.world
@@ -59,7 +67,8 @@ pub world-change : (n : ℕ) (change : RelayConnection → RelayConnection) (s :
 world-change n change s = world-exchange n (λ (x : Exchange RelayWorld Owned). record x { connection = change x.connection }) (λ x. refl) s
 
 -- a view that a fresh connection shares with none
-pub opened-keeps : {V : Type 0} (view : Option RelayConnection → V) (d : ℕ) (ks : List RelayConnection) (fresh : RelayConnection) → view (Some fresh) ≡ view None → view (connection_of d (ks ++ fresh ∷ [])) ≡ view (connection_of d ks)
+pub opened-keeps : {V : Type 0} (view : Option RelayConnection → V) (d : ℕ) (ks : List RelayConnection) (fresh : RelayConnection)
+    → view (Some fresh) ≡ view None → view (connection_of d (ks ++ fresh ∷ [])) ≡ view (connection_of d ks)
 unfolding connection_of
 opened-keeps {V} view d ks fresh same = ap view (connection_of-append d ks (fresh ∷ [])) ∙ go (connection_of d ks)
   where

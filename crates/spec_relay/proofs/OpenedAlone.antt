@@ -34,7 +34,8 @@ among_same n c e same = grind (arith, nat_tests)
 pub relay_opens_alone : OpensAlone relay_after_event
 unfolding relay_after_event
 relay_opens_alone s (event.Opened c) n other none =
-    connection_of-append n s.connections (fresh_connection None c ∷ []) ∙ ap (λ o. or_else o (connection_of n (fresh_connection None c ∷ []))) none ∙ fresh-none n c (among_same n c other)
+    connection_of-append n s.connections (fresh_connection None c ∷ [])
+    ∙ ap (λ o. or_else o (connection_of n (fresh_connection None c ∷ []))) none ∙ fresh-none n c (among_same n c other)
 relay_opens_alone s (event.Piece c piece) n other none =
     none_of (connection_of n (after_piece_of c piece s (connection_of c s.connections)).connections)
     (piece-seen there there-kept n c piece s (connection_of c s.connections) ∙ ap there none)

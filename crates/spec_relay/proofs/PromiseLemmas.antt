@@ -37,4 +37,5 @@ offers_keep_promises d log offers = record {
 }
 
 pub relay_play_keeps_promises : (d : Description) (lines : List ScriptLine) → RelayPlayKeepsPromises d lines
-relay_play_keeps_promises d lines = turns_keep_promises d (relay_play (relay_start d) lines) (play_keeps_turns RelayWorld Owned relay_after_event (relay_start d) lines)
+relay_play_keeps_promises d lines =
+    turns_keep_promises d (relay_play (relay_start d) lines) (play_keeps_turns RelayWorld Owned relay_after_event (relay_start d) lines)

@@ -17,7 +17,9 @@ use Rattle.spec_machine.proofs.Changes.{with_gone-number}
 use Rattle.spec_machine.proofs.Find.{or_else, connection_of-append}
 use Rattle.spec_relay.specs.RelayState.{RelayWorld, Owned, RelayConnection, RelayState, relay_start}
 use Rattle.spec_relay.specs.Ways.{Way, Closes, Answers, Stray, Asks, Unknown, is_closed_by, way_of_owned}
-use Rattle.spec_relay.specs.Routing.{framed, has_room, delivered, at_connection, given_to, after_unknown, with_request_of, after_way, with_owner, with_frame_taken, after_header, after_frame_of, after_frame}
+use Rattle.spec_relay.specs.Routing.{framed, has_room, delivered, at_connection, given_to, after_unknown}
+use Rattle.spec_relay.specs.Routing.{with_request_of, after_way, with_owner, with_frame_taken, after_header}
+use Rattle.spec_relay.specs.Routing.{after_frame_of, after_frame}
 use Rattle.spec_relay.specs.RelayMoves.{after_frames, after_piece_of, relay_after_event}
 use Rattle.spec_relay.specs.Passages.{passages_of_event}
 use Rattle.spec_relay.specs.PassedOn.{all_frames_to}
@@ -76,7 +78,8 @@ module _ {V : Type 0} (view : Option RelayConnection → V) (kept : IsKept view)
     | inl t ↦ rw t (way-seen c h packet Closes s)
     | inr t ↦
         let owned = with_owner c h.source.net s in
-        rw t (way-seen c h packet (way_of_owned c h owned) owned ∙ change-keeps view c d (with_client (Some h.source.net)) (λ k. refl) (kept.client (Some h.source.net)) s)
+        rw t (way-seen c h packet (way_of_owned c h owned) owned
+        ∙ change-keeps view c d (with_client (Some h.source.net)) (λ k. refl) (kept.client (Some h.source.net)) s)
   ]
 
   frame_of-seen : (c : ℕ) (packet : List ℕ) (s : RelayState) (o : Option RelayConnection) → seen (after_frame_of c packet s o) ≡ seen s
@@ -120,24 +123,41 @@ took_at d s = took_of (connection_of d s.connections)
 abbrev pub gone_of : Option RelayConnection → Option Bool
 gone_of o = option_map (λ (k : RelayConnection). k.gone) o
 
-produce-both : (frame : Produced) (k : RelayConnection) → (took_of (Some (produce frame k)) ≡ took_of (Some k)) × (gone_of (Some (produce frame k)) ≡ gone_of (Some k))
+produce-both : (frame : Produced) (k : RelayConnection)
+    → (took_of (Some (produce frame k)) ≡ took_of (Some k)) × (gone_of (Some (produce frame k)) ≡ gone_of (Some k))
 unfolding produce
 produce-both frame k = elim (cases_Bool k.closing) [
   | inl c ↦ rw c (refl, refl)
   | inr c ↦ rw c (elim (cases_Bool (fits frame k)) [ inl f ↦ rw f (refl, refl) | inr f ↦ rw f (refl, refl) ])
 ]
 
-delivered-both : (frame : Produced) (k : RelayConnection) → (took_of (Some (delivered frame k)) ≡ took_of (Some k)) × (gone_of (Some (delivered frame k)) ≡ gone_of (Some k))
-delivered-both frame k = cond_both k.gone k (produce frame k) (λ (l : RelayConnection). (took_of (Some l) ≡ took_of (Some k)) × (gone_of (Some l) ≡ gone_of (Some k))) (λ g. (refl, refl)) (λ g. produce-both frame k)
+delivered-both : (frame : Produced) (k : RelayConnection)
+    → (took_of (Some (delivered frame k)) ≡ took_of (Some k)) × (gone_of (Some (delivered frame k)) ≡ gone_of (Some k))
+delivered-both frame k = cond_both k.gone k (produce frame k)
+    (λ (l : RelayConnection). (took_of (Some l) ≡ took_of (Some k)) × (gone_of (Some l) ≡ gone_of (Some k))) (λ g. (refl, refl)) (λ g. produce-both frame k)
 
 rest-both : (k : RelayConnection) → (took_of (Some (after_rest k)) ≡ took_of (Some k)) × (gone_of (Some (after_rest k)) ≡ gone_of (Some k))
 rest-both k = elim (cases_Bool (is_broken (front_of (rest_of k.received)))) [ inl t ↦ rw t (refl, refl) | inr t ↦ rw t (refl, refl) ]
 
 took-kept : IsKept took_of
-took-kept = record { given = λ frame k. (delivered-both frame k).0; closed = λ k. refl; taken = λ k. refl; client = λ client k. refl; received = λ piece k. refl; rest = λ k. (rest-both k).0 }
+took-kept = record {
+  given = λ frame k. (delivered-both frame k).0;
+  closed = λ k. refl;
+  taken = λ k. refl;
+  client = λ client k. refl;
+  received = λ piece k. refl;
+  rest = λ k. (rest-both k).0;
+}
 
 pub gone-kept : IsKept gone_of
-gone-kept = record { given = λ frame k. (delivered-both frame k).1; closed = λ k. refl; taken = λ k. refl; client = λ client k. refl; received = λ piece k. refl; rest = λ k. (rest-both k).1 }
+gone-kept = record {
+  given = λ frame k. (delivered-both frame k).1;
+  closed = λ k. refl;
+  taken = λ k. refl;
+  client = λ client k. refl;
+  received = λ piece k. refl;
+  rest = λ k. (rest-both k).1;
+}
 
 -- an event leaves what a connection took; a connection that comes took nothing
 abbrev Stays : Option ℕ → Option ℕ → Type 0
@@ -151,7 +171,8 @@ stays-same (Some m) p e = e
 
 opened-took : (d n : ℕ) (s : RelayState) → Stays (took_at d s) (took_of (connection_of d (s.connections ++ fresh_connection None n ∷ [])))
 unfolding connection_of
-opened-took d n s = subst (λ o. Stays (took_at d s) (took_of o)) (sym (connection_of-append d s.connections (fresh_connection None n ∷ []))) (go (connection_of d s.connections))
+opened-took d n s = subst (λ o. Stays (took_at d s) (took_of o))
+    (sym (connection_of-append d s.connections (fresh_connection None n ∷ []))) (go (connection_of d s.connections))
   where
     go : (o : Option RelayConnection) → Stays (took_of o) (took_of (or_else o (connection_of d (fresh_connection None n ∷ []))))
     go (Some k) = refl
@@ -160,7 +181,9 @@ opened-took d n s = subst (λ o. Stays (took_at d s) (took_of o)) (sym (connecti
 event-took : (d : ℕ) (e : Event) (s : RelayState) → Stays (took_at d s) (took_at d (relay_after_event s e))
 unfolding relay_after_event
 event-took d (event.Opened n) s = opened-took d n s
-event-took d (event.Piece n piece) s = stays-same (took_at d s) (took_at d (after_piece_of n piece s (connection_of n s.connections))) (piece-seen took_of took-kept d n piece s (connection_of n s.connections))
+event-took d (event.Piece n piece) s =
+    stays-same (took_at d s) (took_at d (after_piece_of n piece s (connection_of n s.connections)))
+    (piece-seen took_of took-kept d n piece s (connection_of n s.connections))
 event-took d (event.Closed n) s = stays-same (took_at d s) _ (exchange-keeps took_of n d with_gone with_gone-number (λ x. refl) s)
 event-took d (event.Tick t) s = stays-same (took_at d s) (took_at d s) refl
 event-took d (event.Reload text) s = stays-same (took_at d s) (took_at d s) refl
@@ -177,16 +200,20 @@ all_of-bytes (f ∷ fs) = ap (λ (l : List ℕ). bytes_of f ++ l) (all_of-bytes 
 adds-there : (c : ℕ) (e : Event) (s : RelayState) (k : RelayConnection) → connection_of c s.connections ≡ Some k → (o : Option RelayConnection)
     → connection_of c (relay_after_event s e).connections ≡ o → AddsTo (Some k) o
 adds-there c e s k is None now =
-    let bytes_taken : Stays (Some k.bytes_taken) None = subst (λ p. Stays (Some k.bytes_taken) (took_of p)) now (subst (λ p. Stays (took_of p) (took_at c (relay_after_event s e))) is (event-took c e s)) in
+    let bytes_taken : Stays (Some k.bytes_taken) None =
+    subst (λ p. Stays (Some k.bytes_taken) (took_of p)) now (subst (λ p. Stays (took_of p) (took_at c (relay_after_event s e))) is (event-took c e s)) in
     absurd (let x : None ≡ Some k.bytes_taken = bytes_taken in cc)
 adds-there c e s k is (Some l) now =
-    let bytes_taken : Stays (Some k.bytes_taken) (Some l.bytes_taken) = subst (λ p. Stays (Some k.bytes_taken) (took_of p)) now (subst (λ p. Stays (took_of p) (took_at c (relay_after_event s e))) is (event-took c e s)) in
+    let bytes_taken : Stays (Some k.bytes_taken) (Some l.bytes_taken) =
+    subst (λ p. Stays (Some k.bytes_taken) (took_of p)) now (subst (λ p. Stays (took_of p) (took_at c (relay_after_event s e))) is (event-took c e s)) in
     let same : l.bytes_taken ≡ k.bytes_taken = (let x : Some l.bytes_taken ≡ Some k.bytes_taken = bytes_taken in cc) in
     let more = all_frames_to c (passages_of_event s e) in
-    let frames : map bytes_of l.produced ≡ map bytes_of k.produced ++ more = sym (ap frames_given now) ∙ event-frames c e s ∙ ap (λ o. frames_given o ++ more) is in
+    let frames : map bytes_of l.produced ≡ map bytes_of k.produced ++ more =
+    sym (ap frames_given now) ∙ event-frames c e s ∙ ap (λ o. frames_given o ++ more) is in
     record {
       more = all_of more;
-      given = sym (all_of-bytes l.produced) ∙ ap all_of frames ∙ flat_map-append (λ (f : List ℕ). f) (map bytes_of k.produced) more ∙ ap (λ (x : List ℕ). x ++ all_of more) (all_of-bytes k.produced);
+      given = sym (all_of-bytes l.produced) ∙ ap all_of frames ∙ flat_map-append (λ (f : List ℕ). f) (map bytes_of k.produced) more
+          ∙ ap (λ (x : List ℕ). x ++ all_of more) (all_of-bytes k.produced);
       bytes_taken = same;
     }
 
@@ -245,7 +272,8 @@ opened-passes c n ks = subst (PassesOn (connection_of c ks)) (sym (connection_of
     one (Some k) = inl refl
     one None = elim (cases_Bool (n == c)) [ inl b ↦ rw b (inl refl) | inr b ↦ rw b (inl refl) ]
 
-event-passes : (s : RelayState) (e : Event) (c : ℕ) → is_cut_off c (move.Event e ∷ []) ≡ false → PassesOn (connection_of c s.connections) (connection_of c (relay_after_event s e).connections)
+event-passes : (s : RelayState) (e : Event) (c : ℕ) → is_cut_off c (move.Event e ∷ []) ≡ false
+    → PassesOn (connection_of c s.connections) (connection_of c (relay_after_event s e).connections)
 unfolding relay_after_event is_cut_off
 event-passes s (event.Opened n) c cut = opened-passes c n s.connections
 event-passes s (event.Piece n piece) c cut =

@@ -1,5 +1,6 @@
 -- The passages of one sender are its frames that were taken, in their order.
-use Rattle.std.proofs.Common.{◌≡◌, ◌≢◌, ℕ, ◌+◌, ◌≤◌, List, [], ◌∷◌, ◌++◌, length, take, drop, true, false, refl, sym, subst, ◌∙◌, ap, inl, inr, arith, append_assoc, length-append}
+use Rattle.std.proofs.Common.{◌≡◌, ◌≢◌, ℕ, ◌+◌, ◌≤◌, List, [], ◌∷◌, ◌++◌, length, take, drop, true, false}
+use Rattle.std.proofs.Common.{refl, sym, subst, ◌∙◌, ap, inl, inr, arith, append_assoc, length-append}
 use Rattle.std.specs.Prelude.{Option, Some, None, option_map, ◌==◌}
 use Rattle.std.proofs.lemmas.Bool.{cases_Bool, cond_both, cases_eq, eq-eqb, ne_eqb}
 use Rattle.std.proofs.lemmas.List.{append-nil, length-drop, drop-drop, take-append-le}
@@ -21,10 +22,13 @@ use Rattle.spec_machine.proofs.Changes.{with_took-number, with_gone-number}
 use Rattle.spec_machine.proofs.Find.{or_else, connection_of-append}
 use Rattle.spec_relay.specs.RelayState.{RelayWorld, Owned, RelayConnection, RelayState, relay_start}
 use Rattle.spec_relay.specs.Ways.{Way, Closes, Answers, Stray, Asks, Unknown, is_closed_by, way_of_owned}
-use Rattle.spec_relay.specs.Routing.{framed, has_room, delivered, at_connection, given_to, after_unknown, with_request_of, after_way, with_owner, with_frame_taken, after_header, after_frame_of, after_frame}
+use Rattle.spec_relay.specs.Routing.{framed, has_room, delivered, at_connection, given_to, after_unknown}
+use Rattle.spec_relay.specs.Routing.{with_request_of, after_way, with_owner, with_frame_taken, after_header}
+use Rattle.spec_relay.specs.Routing.{after_frame_of, after_frame}
 use Rattle.spec_relay.specs.RelayMoves.{after_frames, after_piece_of, relay_after_event}
 use Rattle.spec_machine.specs.Moves.{state_after_move, state_after}
-use Rattle.spec_relay.specs.Passages.{Passage, passages_of_frame_at, passages_of_frame, passages_of_frames, passages_of_piece, passages_of_event, passages_of_move, passages_of}
+use Rattle.spec_relay.specs.Passages.{Passage, passages_of_frame_at, passages_of_frame, passages_of_frames}
+use Rattle.spec_relay.specs.Passages.{passages_of_piece, passages_of_event, passages_of_move, passages_of}
 use Rattle.spec_relay.specs.PassedOn.{packets_from}
 use Rattle.spec_relay.specs.RelayLaws.{packets_taken, TakesInOrder}
 use Rattle.spec_relay.proofs.ChangeLemmas.{exchange-keeps, changed-own, changed-other, change-keeps}
@@ -54,7 +58,8 @@ produce-progress frame k = elim (cases_Bool k.closing) [
 ]
 
 delivered-progress : (frame : Produced) (k : RelayConnection) → progress (Some (delivered frame k)) ≡ progress (Some k)
-delivered-progress frame k = cond_both k.gone k (produce frame k) (λ (l : RelayConnection). progress (Some l) ≡ progress (Some k)) (λ g. refl) (λ g. produce-progress frame k)
+delivered-progress frame k =
+    cond_both k.gone k (produce frame k) (λ (l : RelayConnection). progress (Some l) ≡ progress (Some k)) (λ g. refl) (λ g. produce-progress frame k)
 
 given-progress : (n d : ℕ) (packet : List ℕ) (s : RelayState) → progress_at d (given_to n packet s) ≡ progress_at d s
 given-progress n d packet s = change-keeps progress n d (delivered (framed packet)) (delivered-number (framed packet)) (delivered-progress (framed packet)) s
@@ -82,7 +87,8 @@ way-progress c d h packet (Asks n) s = elim (cases_Bool (has_room (framed packet
 ]
 way-progress c d h packet Unknown s = unknown-progress c d h s
 
-header-progress : (c d : ℕ) (packet : List ℕ) (k : RelayConnection) (s : RelayState) (o : Option AmsHeader) → progress_at d (after_header c packet k s o) ≡ progress_at d s
+header-progress : (c d : ℕ) (packet : List ℕ) (k : RelayConnection) (s : RelayState) (o : Option AmsHeader)
+    → progress_at d (after_header c packet k s o) ≡ progress_at d s
 header-progress c d packet k s None = refl
 header-progress c d packet k s (Some h) = elim (cases_Bool (is_closed_by (payload_of packet) h k s)) [
   | inl t ↦ rw t (way-progress c d h packet Closes s)
@@ -104,26 +110,31 @@ frame-other n d packet s ne = go (connection_of n s.connections)
     ]
 
 -- a frame of one's own
-pub frame-own : (c : ℕ) (packet : List ℕ) (s : RelayState) (k : RelayConnection) → connection_of c s.connections ≡ Some k → k.closing ≡ false → progress_at c (after_frame c packet s) ≡ Some (k.received, k.frames_taken + 1)
+pub frame-own : (c : ℕ) (packet : List ℕ) (s : RelayState) (k : RelayConnection) → connection_of c s.connections ≡ Some k
+    → k.closing ≡ false → progress_at c (after_frame c packet s) ≡ Some (k.received, k.frames_taken + 1)
 unfolding after_frame
 frame-own c packet s k e t =
     let P : Option RelayConnection → Type 0 = λ o. progress_at c (after_frame_of c packet s o) ≡ Some (k.received, k.frames_taken + 1) in
-    let taken : connection_of c (with_frame_taken c s).connections ≡ Some (with_one_taken k) = changed-own c with_one_taken (λ k. refl) s ∙ ap (option_map with_one_taken) e in
+    let taken : connection_of c (with_frame_taken c s).connections ≡ Some (with_one_taken k) =
+    changed-own c with_one_taken (λ k. refl) s ∙ ap (option_map with_one_taken) e in
     subst P (sym e) (rw t (header-progress c c packet k (with_frame_taken c s) (header_of packet) ∙ ap progress taken))
 
-frame-closed : (c : ℕ) (packet : List ℕ) (s : RelayState) (k : RelayConnection) → connection_of c s.connections ≡ Some k → k.closing ≡ true → after_frame c packet s ≡ s
+frame-closed : (c : ℕ) (packet : List ℕ) (s : RelayState) (k : RelayConnection)
+    → connection_of c s.connections ≡ Some k → k.closing ≡ true → after_frame c packet s ≡ s
 unfolding after_frame
 frame-closed c packet s k e t =
     let P : Option RelayConnection → Type 0 = λ o. after_frame_of c packet s o ≡ s in
     subst P (sym e) (rw t refl)
 
-passages-closed : (c : ℕ) (packet : List ℕ) (s : RelayState) (k : RelayConnection) → connection_of c s.connections ≡ Some k → k.closing ≡ true → passages_of_frame c packet s ≡ []
+passages-closed : (c : ℕ) (packet : List ℕ) (s : RelayState) (k : RelayConnection)
+    → connection_of c s.connections ≡ Some k → k.closing ≡ true → passages_of_frame c packet s ≡ []
 unfolding passages_of_frame
 passages-closed c packet s k e t =
     let P : Option RelayConnection → Type 0 = λ o. passages_of_frame_at c packet s o ≡ [] in
     subst P (sym e) (rw t refl)
 
-packets-own : (c : ℕ) (packet : List ℕ) (s : RelayState) (k : RelayConnection) → connection_of c s.connections ≡ Some k → k.closing ≡ false → packets_from c (passages_of_frame c packet s) ≡ packet ∷ []
+packets-own : (c : ℕ) (packet : List ℕ) (s : RelayState) (k : RelayConnection) → connection_of c s.connections ≡ Some k
+    → k.closing ≡ false → packets_from c (passages_of_frame c packet s) ≡ packet ∷ []
 unfolding passages_of_frame
 packets-own c packet s k e t =
     let P : Option RelayConnection → Type 0 = λ o. packets_from c (passages_of_frame_at c packet s o) ≡ packet ∷ [] in
@@ -153,15 +164,18 @@ record Takes (c : ℕ) (s u : RelayState) (ps : List Passage) : Type 0 where
   packets : packets_in (progress_at c u) ≡ packets_in (progress_at c s) ++ packets_from c ps
   fits : Fits (progress_at c u)
 
-takes-same : (c : ℕ) (s u : RelayState) (ps : List Passage) → progress_at c u ≡ progress_at c s → packets_from c ps ≡ [] → Fits (progress_at c s) → Takes c s u ps
+takes-same : (c : ℕ) (s u : RelayState) (ps : List Passage) → progress_at c u ≡ progress_at c s
+    → packets_from c ps ≡ [] → Fits (progress_at c s) → Takes c s u ps
 takes-same c s u ps same none f = record {
   packets = ap packets_in same ∙ sym (append-nil (packets_in (progress_at c s))) ∙ ap (λ (l : List (List ℕ)). packets_in (progress_at c s) ++ l) (sym none);
   fits = subst Fits (sym same) f;
 }
 
-takes-then : (c : ℕ) (s u v : RelayState) (ps qs : List Passage) → packets_in (progress_at c u) ≡ packets_in (progress_at c s) ++ packets_from c ps → Takes c u v qs → Takes c s v (ps ++ qs)
+takes-then : (c : ℕ) (s u v : RelayState) (ps qs : List Passage)
+    → packets_in (progress_at c u) ≡ packets_in (progress_at c s) ++ packets_from c ps → Takes c u v qs → Takes c s v (ps ++ qs)
 takes-then c s u v ps qs first second = record {
-  packets = second.packets ∙ ap (λ (l : List (List ℕ)). l ++ packets_from c qs) first ∙ append_assoc (packets_in (progress_at c s)) (packets_from c ps) (packets_from c qs)
+  packets = second.packets ∙ ap (λ (l : List (List ℕ)). l ++ packets_from c qs) first
+      ∙ append_assoc (packets_in (progress_at c s)) (packets_from c ps) (packets_from c qs)
       ∙ ap (λ (l : List (List ℕ)). packets_in (progress_at c s) ++ l) (sym (packets_from-append c ps qs));
   fits = second.fits;
 }
@@ -196,10 +210,12 @@ frames-closed c (packet ∷ packets) s k e t =
     let others = frames-closed c packets s k e t in
     let none = passages-closed c packet s k e t in (
       ap (λ (u : RelayState). after_frames c packets u) same ∙ others.0,
-      ap (λ (l : List Passage). l ++ passages_of_frames c packets (after_frame c packet s)) none ∙ ap (λ (u : RelayState). passages_of_frames c packets u) same ∙ others.1,
+      ap (λ (l : List Passage). l ++ passages_of_frames c packets (after_frame c packet s)) none
+          ∙ ap (λ (u : RelayState). passages_of_frames c packets u) same ∙ others.1,
     )
 
-frames-own : (c : ℕ) (packets : List (List ℕ)) (s : RelayState) (k : RelayConnection) → connection_of c s.connections ≡ Some k → k.frames_taken ≤ length (frames_of k.received) → drop k.frames_taken (frames_of k.received) ≡ packets
+frames-own : (c : ℕ) (packets : List (List ℕ)) (s : RelayState) (k : RelayConnection) → connection_of c s.connections ≡ Some k
+    → k.frames_taken ≤ length (frames_of k.received) → drop k.frames_taken (frames_of k.received) ≡ packets
     → Takes c s (after_frames c packets s) (passages_of_frames c packets s)
 unfolding after_frames passages_of_frames
 frames-own c [] s k e f left = takes-same c s s [] refl refl (subst (λ (o : Option RelayConnection). Fits (progress o)) (sym e) f)
@@ -207,7 +223,8 @@ frames-own c (packet ∷ packets) s k e f left = elim (cases_Bool k.closing) [
   | inl t ↦
       let all = frames-closed c (packet ∷ packets) s k e t in
       let P : RelayState → List Passage → Type 0 = λ u ps. Takes c s u ps in
-      subst (λ (u : RelayState). P u (passages_of_frames c (packet ∷ packets) s)) (sym (all.0)) (subst (P s) (sym (all.1)) (takes-same c s s [] refl refl (subst (λ (o : Option RelayConnection). Fits (progress o)) (sym e) f)))
+      subst (λ (u : RelayState). P u (passages_of_frames c (packet ∷ packets) s)) (sym (all.0))
+      (subst (P s) (sym (all.1)) (takes-same c s s [] refl refl (subst (λ (o : Option RelayConnection). Fits (progress o)) (sym e) f)))
   | inr t ↦
       let u = after_frame c packet s in
       let now = frame-own c packet s k e t in
@@ -215,25 +232,30 @@ frames-own c (packet ∷ packets) s k e f left = elim (cases_Bool k.closing) [
       let frames = frames_of k.received in
       let longer : k.frames_taken + 1 ≤ length frames = omega (arith, length-drop k.frames_taken frames, ap (λ (l : List (List ℕ)). length l) left) in
       let behind : drop (k.frames_taken + 1) frames ≡ packets = sym (drop-drop 1 k.frames_taken frames) ∙ ap (λ (l : List (List ℕ)). drop 1 l) left in
-      let one : take (k.frames_taken + 1) frames ≡ take k.frames_taken frames ++ packet ∷ [] = take-add k.frames_taken 1 frames ∙ ap (λ (l : List (List ℕ)). take k.frames_taken frames ++ take 1 l) left in
+      let one : take (k.frames_taken + 1) frames ≡ take k.frames_taken frames ++ packet ∷ [] =
+      take-add k.frames_taken 1 frames ∙ ap (λ (l : List (List ℕ)). take k.frames_taken frames ++ take 1 l) left in
       let before : packets_in (progress_at c s) ≡ take k.frames_taken frames = ap (λ o. packets_in (progress o)) e in
       let first : packets_in (progress_at c u) ≡ packets_in (progress_at c s) ++ packets_from c (passages_of_frame c packet s) =
-      ap packets_in now ∙ one ∙ ap (λ (x : List (List ℕ)). x ++ packet ∷ []) (sym before) ∙ ap (λ (x : List (List ℕ)). packets_in (progress_at c s) ++ x) (sym (packets-own c packet s k e t)) in
-      let fits_l : l.connection.frames_taken ≤ length (frames_of l.connection.received) = subst (λ (r : List ℕ). l.connection.frames_taken ≤ length (frames_of r)) (sym l.received_is) (omega (arith, l.taken_is, longer)) in
+      ap packets_in now ∙ one ∙ ap (λ (x : List (List ℕ)). x ++ packet ∷ []) (sym before)
+      ∙ ap (λ (x : List (List ℕ)). packets_in (progress_at c s) ++ x) (sym (packets-own c packet s k e t)) in
+      let fits_l : l.connection.frames_taken ≤ length (frames_of l.connection.received) =
+      subst (λ (r : List ℕ). l.connection.frames_taken ≤ length (frames_of r)) (sym l.received_is) (omega (arith, l.taken_is, longer)) in
       let left_l : drop l.connection.frames_taken (frames_of l.connection.received) ≡ packets =
       ap (λ (r : List ℕ). drop l.connection.frames_taken (frames_of r)) l.received_is ∙ ap (λ (n : ℕ). drop n frames) l.taken_is ∙ behind in
       takes-then c s u (after_frames c packets u) (passages_of_frame c packet s) (passages_of_frames c packets u) first
       (frames-own c packets u l.connection l.is fits_l left_l)
 ]
 
-frames-other : (n c : ℕ) (packets : List (List ℕ)) (s : RelayState) → n ≢ c → (progress_at c (after_frames n packets s) ≡ progress_at c s) × (packets_from c (passages_of_frames n packets s) ≡ [])
+frames-other : (n c : ℕ) (packets : List (List ℕ)) (s : RelayState) → n ≢ c
+    → (progress_at c (after_frames n packets s) ≡ progress_at c s) × (packets_from c (passages_of_frames n packets s) ≡ [])
 unfolding after_frames passages_of_frames
 frames-other n c [] s ne = (refl, refl)
 frames-other n c (packet ∷ packets) s ne =
     let u = after_frame n packet s in
     let others = frames-other n c packets u ne in (
       others.0 ∙ frame-other n c packet s ne,
-      packets_from-append c (passages_of_frame n packet s) (passages_of_frames n packets u) ∙ ap (λ (l : List (List ℕ)). l ++ packets_from c (passages_of_frames n packets u)) (packets-other n c packet s ne) ∙ others.1,
+      packets_from-append c (passages_of_frame n packet s) (passages_of_frames n packets u)
+          ∙ ap (λ (l : List (List ℕ)). l ++ packets_from c (passages_of_frames n packets u)) (packets-other n c packet s ne) ∙ others.1,
     )
 
 rest-number : (k : RelayConnection) → (after_rest k).number ≡ k.number
@@ -242,7 +264,8 @@ rest-number k = elim (cases_Bool (is_broken (front_of (rest_of k.received)))) [ 
 rest-progress : (k : RelayConnection) → progress (Some (after_rest k)) ≡ progress (Some k)
 rest-progress k = elim (cases_Bool (is_broken (front_of (rest_of k.received)))) [ inl t ↦ rw t refl | inr t ↦ rw t refl ]
 
-piece-own : (c : ℕ) (piece : List ℕ) (s : RelayState) → Fits (progress_at c s) → Takes c s (after_piece_of c piece s (connection_of c s.connections)) (passages_of_piece c piece s (connection_of c s.connections))
+piece-own : (c : ℕ) (piece : List ℕ) (s : RelayState) → Fits (progress_at c s)
+    → Takes c s (after_piece_of c piece s (connection_of c s.connections)) (passages_of_piece c piece s (connection_of c s.connections))
 piece-own c piece s f = go (connection_of c s.connections) refl
   where
     go : (o : Option RelayConnection) → connection_of c s.connections ≡ o → Takes c s (after_piece_of c piece s o) (passages_of_piece c piece s o)
@@ -258,9 +281,11 @@ piece-own c piece s f = go (connection_of c s.connections) refl
           let g : k.frames_taken ≤ length (frames_of k.received) = subst (λ (o : Option RelayConnection). Fits (progress o)) e f in
           let grown = frames_of-append piece k.received in
           let more = frames_of (rest_of k.received ++ piece) in
-          let fits_l : k.frames_taken ≤ length (frames_of (k.received ++ piece)) = omega (arith, g, ap (λ (x : List (List ℕ)). length x) grown, length-append (frames_of k.received) more) in
+          let fits_l : k.frames_taken ≤ length (frames_of (k.received ++ piece)) =
+          omega (arith, g, ap (λ (x : List (List ℕ)). length x) grown, length-append (frames_of k.received) more) in
           let kept : packets_in (progress_at c u) ≡ packets_in (progress_at c s) =
-          ap (λ o. packets_in (progress o)) there ∙ ap (λ (x : List (List ℕ)). take k.frames_taken x) grown ∙ take-append-le k.frames_taken (frames_of k.received) more g ∙ sym (ap (λ o. packets_in (progress o)) e) in
+          ap (λ o. packets_in (progress o)) there ∙ ap (λ (x : List (List ℕ)). take k.frames_taken x) grown
+          ∙ take-append-le k.frames_taken (frames_of k.received) more g ∙ sym (ap (λ o. packets_in (progress o)) e) in
           let own = frames-own c packets u l there fits_l refl in
           let rest : progress_at c (at_connection c after_rest v) ≡ progress_at c v = change-keeps progress c c after_rest rest-number rest-progress v in
           rw t (record {
@@ -269,7 +294,8 @@ piece-own c piece s f = go (connection_of c s.connections) refl
           })
     ]
 
-piece-other : (n c : ℕ) (piece : List ℕ) (s : RelayState) → n ≢ c → Fits (progress_at c s) → Takes c s (after_piece_of n piece s (connection_of n s.connections)) (passages_of_piece n piece s (connection_of n s.connections))
+piece-other : (n c : ℕ) (piece : List ℕ) (s : RelayState) → n ≢ c → Fits (progress_at c s)
+    → Takes c s (after_piece_of n piece s (connection_of n s.connections)) (passages_of_piece n piece s (connection_of n s.connections))
 piece-other n c piece s ne f = go (connection_of n s.connections)
   where
     go : (o : Option RelayConnection) → Takes c s (after_piece_of n piece s o) (passages_of_piece n piece s o)
@@ -282,7 +308,8 @@ piece-other n c piece s ne f = go (connection_of n s.connections)
           let v = after_frames n packets u in
           let others = frames-other n c packets u ne in
           rw t (takes-same c s (at_connection n after_rest v) (passages_of_frames n packets u)
-          (change-keeps progress n c after_rest rest-number rest-progress v ∙ others.0 ∙ ap progress (changed-other n c (with_received piece) (λ k. refl) ne s)) (others.1) f)
+          (change-keeps progress n c after_rest rest-number rest-progress v ∙ others.0
+          ∙ ap progress (changed-other n c (with_received piece) (λ k. refl) ne s)) (others.1) f)
     ]
 
 opened-takes : (c n : ℕ) (s : RelayState) → Fits (progress_at c s) → Takes c s (record s { connections = s.connections ++ fresh_connection None n ∷ [] }) []
@@ -292,7 +319,9 @@ opened-takes c n s f =
     let r = subst P (sym (connection_of-append c s.connections (fresh_connection None n ∷ []))) (go (connection_of c s.connections) f) in
     record { packets = r.0; fits = r.1 }
   where
-    go : (o : Option RelayConnection) → Fits (progress o) → (packets_in (progress (or_else o (connection_of c (fresh_connection None n ∷ [])))) ≡ packets_in (progress o) ++ []) × Fits (progress (or_else o (connection_of c (fresh_connection None n ∷ []))))
+    go : (o : Option RelayConnection) → Fits (progress o)
+        → (packets_in (progress (or_else o (connection_of c (fresh_connection None n ∷ [])))) ≡ packets_in (progress o) ++ [])
+        × Fits (progress (or_else o (connection_of c (fresh_connection None n ∷ []))))
     go (Some k) f = (sym (append-nil (packets_in (progress (Some k)))), f)
     go None f = elim (cases_Bool (n == c)) [ inl t ↦ rw t (refl, omega arith) | inr t ↦ rw t (refl, tt) ]
 
@@ -301,7 +330,8 @@ unfolding relay_after_event
 event-takes c (event.Opened n) s f = opened-takes c n s f
 event-takes c (event.Piece n piece) s f = elim (cases_eq n c) [
   | inl q ↦
-      let P : ℕ → Type 0 = λ i. Takes c s (after_piece_of i piece s (connection_of i s.connections)) (passages_of_piece i piece s (connection_of i s.connections)) in
+      let P : ℕ → Type 0 = λ i. Takes c s (after_piece_of i piece s (connection_of i s.connections))
+      (passages_of_piece i piece s (connection_of i s.connections)) in
       subst P (sym q) (piece-own c piece s f)
   | inr ne ↦ piece-other n c piece s ne f
 ]
@@ -316,7 +346,8 @@ took-progress n x = elim (cases_Bool x.connection.gone) [ inl t ↦ rw t refl | 
 move-takes : (c : ℕ) (m : Move) (s : RelayState) → Fits (progress_at c s) → Takes c s (state_after_move relay_after_event s m) (passages_of_move s m)
 unfolding state_after_move
 move-takes c (move.Event e) s f = event-takes c e s f
-move-takes c (move.Took n offered bytes) s f = takes-same c s _ [] (exchange-keeps progress n c (with_took (length bytes)) (with_took-number (length bytes)) (took-progress (length bytes)) s) refl f
+move-takes c (move.Took n offered bytes) s f =
+    takes-same c s _ [] (exchange-keeps progress n c (with_took (length bytes)) (with_took-number (length bytes)) (took-progress (length bytes)) s) refl f
 move-takes c (move.Lost n) s f = takes-same c s _ [] (exchange-keeps progress n c with_gone with_gone-number (λ x. refl) s) refl f
 move-takes c (move.Shut n) s f = takes-same c s _ [] (exchange-keeps progress n c with_gone with_gone-number (λ x. refl) s) refl f
 

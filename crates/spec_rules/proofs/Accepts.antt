@@ -19,7 +19,9 @@ use Rattle.spec_rules.specs.Described.{symbol_described, port_described, route_d
 use Rattle.spec_rules.specs.Tables.{is_two, document_in}
 use Rattle.spec_rules.specs.RouteRules.{wrong_net, is_right_route}
 use Rattle.spec_rules.specs.PortRules.{image_limit, is_between, is_port_name, has_right_sizes, is_right_port, wrong_port, has_right_upload, wrong_upload}
-use Rattle.spec_rules.specs.SymbolRules.{is_right_name, wrong_name, is_small, wrong_type, is_right_place, wrong_place, is_right_content, wrong_content, is_signal, has_other_signal, is_right_signal, wrong_signal}
+use Rattle.spec_rules.specs.SymbolRules.{is_right_name, wrong_name, is_small, wrong_type, is_right_place}
+use Rattle.spec_rules.specs.SymbolRules.{wrong_place, is_right_content, wrong_content, is_signal}
+use Rattle.spec_rules.specs.SymbolRules.{has_other_signal, is_right_signal, wrong_signal}
 use Rattle.spec_rules.specs.Verdict.{BrokenRule, first_broken, rules_of, judged, verdict_behind, table_verdict}
 use Rattle.spec_rules.proofs.FirstWrong.{both_true, option_map-none, first_right, first_through-none, AreRight, are_right, all_pairs-mapped}
 use Rattle.spec_rules.proofs.TypesAccepted.{lesser-none, when_all, accepted_types}
@@ -27,14 +29,17 @@ use Rattle.spec_rules.proofs.SymbolsAccepted.{two_nets, all_pairs-described, sig
 use Rattle.spec_rules.proofs.PortsAccepted.{facts_good, port_good, two_numbers}
 
 -- routes
-routes_good : (net : List ℕ) (routes : List WrittenRoute) → wrong_net net routes ≡ None → all_pairs are_two_nets (map (λ (r : Route). r.net) (map route_described routes)) ≡ true
+routes_good : (net : List ℕ) (routes : List WrittenRoute) → wrong_net net routes ≡ None
+    → all_pairs are_two_nets (map (λ (r : Route). r.net) (map route_described routes)) ≡ true
 unfolding wrong_net
 routes_good net routes h =
     let none = (when_all (is_some (net_of net)) (option_map suc (first_wrong is_right_route [] routes)) h).1 in
     let wrong = option_map-none suc (first_wrong is_right_route [] routes) none in
-    let right = are_right is_right_route (λ (r : WrittenRoute). is_some (net_of r.net)) (λ (e r : WrittenRoute). not (bytes_eq e.net r.net)) (λ before r g. and_parts _ _ g) [] routes wrong in
+    let right = are_right is_right_route (λ (r : WrittenRoute). is_some (net_of r.net))
+    (λ (e r : WrittenRoute). not (bytes_eq e.net r.net)) (λ before r g. and_parts _ _ g) [] routes wrong in
     all_pairs-mapped (λ (r : Route). r.net) are_two_nets (map route_described routes)
-    (all_pairs-described (λ (r : WrittenRoute). is_some (net_of r.net)) (λ (e r : WrittenRoute). not (bytes_eq e.net r.net)) (λ (x y : Route). are_two_nets x.net y.net) route_described
+    (all_pairs-described (λ (r : WrittenRoute). is_some (net_of r.net))
+    (λ (e r : WrittenRoute). not (bytes_eq e.net r.net)) (λ (x y : Route). are_two_nets x.net y.net) route_described
     (λ x y f g e. two_nets x.net y.net f g e) routes right.each right.pairs)
 
 -- signals
@@ -48,7 +53,8 @@ no_signal_before (x ∷ xs) s None e h = no_signal_before xs s None e h
 no_signal_before (x ∷ xs) s (Some n) e h = h
 
 -- a signal is there, and no earlier symbol has it
-signal_parts : (signals : ℕ) (before : List WrittenSymbol) (b : Bool) (o : Option ℤ) → option_map_or (λ n. is_signal signals n && list_all (has_other_signal n) before && b) o true ≡ true
+signal_parts : (signals : ℕ) (before : List WrittenSymbol) (b : Bool) (o : Option ℤ)
+    → option_map_or (λ n. is_signal signals n && list_all (has_other_signal n) before && b) o true ≡ true
     → (option_map_or (is_signal signals) o true ≡ true) × (option_map_or (λ n. list_all (has_other_signal n) before) o true ≡ true)
 signal_parts signals before b None h = (refl, refl)
 signal_parts signals before b (Some n) h =
@@ -57,7 +63,8 @@ signal_parts signals before b (Some n) h =
 
 right_signals : (types : List NamedType) (signals : ℕ) (ss : List WrittenSymbol) → first_wrong (is_right_signal types signals) [] ss ≡ None
     → AreRight (λ (s : WrittenSymbol). option_map_or (is_signal signals) s.signal true) other_signals [] ss
-right_signals types signals ss h = are_right (is_right_signal types signals) (λ (s : WrittenSymbol). option_map_or (is_signal signals) s.signal true) other_signals says [] ss h
+right_signals types signals ss h =
+    are_right (is_right_signal types signals) (λ (s : WrittenSymbol). option_map_or (is_signal signals) s.signal true) other_signals says [] ss h
   where
     says : (before : List WrittenSymbol) (s : WrittenSymbol) → is_right_signal types signals before s ≡ true
         → (option_map_or (is_signal signals) s.signal true ≡ true) × (list_all (λ e. other_signals e s) before ≡ true)
@@ -73,7 +80,8 @@ each_signal types signals before (s ∷ ss) h =
     both_true (is_signal_right signals (shape_described types s.type) (option_map natural_of s.signal)) _
     (signal_good types signals (shape_described types s.type) before s.signal (first.0)) (each_signal types signals (before ++ s ∷ []) ss (first.1))
 
-list_all-flat : {X Y : Type 0} (test : Y → Bool) (f : X → List Y) (xs : List X) → list_all test (flat_map f xs) ≡ true → list_all (λ x. list_all test (f x)) xs ≡ true
+list_all-flat : {X Y : Type 0} (test : Y → Bool) (f : X → List Y) (xs : List X)
+    → list_all test (flat_map f xs) ≡ true → list_all (λ x. list_all test (f x)) xs ≡ true
 list_all-flat test f [] h = refl
 list_all-flat test f (x ∷ xs) h =
     let parts = and_parts (list_all test (f x)) (list_all test (flat_map f xs)) (sym (list_all-append test (f x) (flat_map f xs)) ∙ h) in
@@ -83,16 +91,19 @@ map-append : {X Y : Type 0} (f : X → Y) (xs ys : List X) → map f (xs ++ ys) 
 map-append f [] ys = refl
 map-append f (x ∷ xs) ys = ap (λ rest. f x ∷ rest) (map-append f xs ys)
 
-symbols_described : (types : List NamedType) (ports : List WrittenPort) → flat_map (λ (p : Port). p.symbols) (map (port_described types) ports) ≡ map (symbol_described types) (flat_map (λ (p : WrittenPort). p.symbols) ports)
+symbols_described : (types : List NamedType) (ports : List WrittenPort)
+    → flat_map (λ (p : Port). p.symbols) (map (port_described types) ports) ≡ map (symbol_described types) (flat_map (λ (p : WrittenPort). p.symbols) ports)
 symbols_described types [] = refl
 symbols_described types (p ∷ ps) =
-    ap (λ rest. map (symbol_described types) p.symbols ++ rest) (symbols_described types ps) ∙ sym (map-append (symbol_described types) p.symbols (flat_map (λ (q : WrittenPort). q.symbols) ps))
+    ap (λ rest. map (symbol_described types) p.symbols ++ rest) (symbols_described types ps)
+    ∙ sym (map-append (symbol_described types) p.symbols (flat_map (λ (q : WrittenPort). q.symbols) ps))
 
 -- the numbers of signals of symbols
 abbrev ne : ℕ → ℕ → Bool
 ne m n = not (m == n)
 
-two_signals : (signals : ℕ) (y z : ℤ) → is_signal signals y ≡ true → is_signal signals z ≡ true → not (is_same_number y z) ≡ true → ne (natural_of y) (natural_of z) ≡ true
+two_signals : (signals : ℕ) (y z : ℤ) → is_signal signals y ≡ true → is_signal signals z ≡ true
+    → not (is_same_number y z) ≡ true → ne (natural_of y) (natural_of z) ≡ true
 two_signals signals (pos m) (pos n) f g h = h
 two_signals signals (pos m) (negsuc n) f g h = cc
 two_signals signals (negsuc m) z f g h = cc
@@ -109,13 +120,15 @@ beside_signal types signals x z (s ∷ ss) e f h g =
   where
     go : (o : Option ℤ) → option_map_or (is_signal signals) o true ≡ true → option_map_or (λ n. has_other_signal n x) o true ≡ true
         → list_all (ne (natural_of z)) (filter_map (λ (t : Symbol). t.signal) (map (symbol_described types) ss)) ≡ true
-        → list_all (ne (natural_of z)) (Rattle.std.specs.List.cons_option (option_map natural_of o) (filter_map (λ (t : Symbol). t.signal) (map (symbol_described types) ss))) ≡ true
+        → list_all (ne (natural_of z))
+        (Rattle.std.specs.List.cons_option (option_map natural_of o) (filter_map (λ (t : Symbol). t.signal) (map (symbol_described types) ss))) ≡ true
     go None p q r = r
     go (Some w) p q r =
         let other : not (is_same_number z w) ≡ true = rw e at q in
         both_true (ne (natural_of z) (natural_of w)) _ (two_signals signals z w f p other) r
 
-signals_once : (types : List NamedType) (signals : ℕ) (ss : List WrittenSymbol) → list_all (λ (s : WrittenSymbol). option_map_or (is_signal signals) s.signal true) ss ≡ true → all_pairs other_signals ss ≡ true
+signals_once : (types : List NamedType) (signals : ℕ) (ss : List WrittenSymbol)
+    → list_all (λ (s : WrittenSymbol). option_map_or (is_signal signals) s.signal true) ss ≡ true → all_pairs other_signals ss ≡ true
     → all_pairs ne (filter_map (λ (s : Symbol). s.signal) (map (symbol_described types) ss)) ≡ true
 signals_once types signals [] h g = refl
 signals_once types signals (s ∷ ss) h g =
@@ -126,14 +139,17 @@ signals_once types signals (s ∷ ss) h g =
   where
     go : (o : Option ℤ) → s.signal ≡ o → option_map_or (is_signal signals) o true ≡ true
         → all_pairs ne (filter_map (λ (t : Symbol). t.signal) (map (symbol_described types) ss)) ≡ true
-        → ((z : ℤ) → s.signal ≡ Some z → is_signal signals z ≡ true → list_all (ne (natural_of z)) (filter_map (λ (t : Symbol). t.signal) (map (symbol_described types) ss)) ≡ true)
-        → all_pairs ne (Rattle.std.specs.List.cons_option (option_map natural_of o) (filter_map (λ (t : Symbol). t.signal) (map (symbol_described types) ss))) ≡ true
+        → ((z : ℤ) → s.signal ≡ Some z → is_signal signals z ≡ true
+        → list_all (ne (natural_of z)) (filter_map (λ (t : Symbol). t.signal) (map (symbol_described types) ss)) ≡ true)
+        → all_pairs ne (Rattle.std.specs.List.cons_option (option_map natural_of o)
+        (filter_map (λ (t : Symbol). t.signal) (map (symbol_described types) ss))) ≡ true
     go None e p r beside = r
     go (Some z) e p r beside = both_true _ (all_pairs ne (filter_map (λ (t : Symbol). t.signal) (map (symbol_described types) ss))) (beside z e p) r
 
 -- ports
 abbrev no_wrong : (WrittenPort → List WrittenSymbol → WrittenSymbol → Bool) → List WrittenPort → List WrittenPort → Option ℕ
-no_wrong is_right before ports = first_through (λ (p : WrittenPort). length p.symbols) (λ b (p : WrittenPort). first_wrong (is_right p) [] p.symbols) before ports
+no_wrong is_right before ports =
+    first_through (λ (p : WrittenPort). length p.symbols) (λ b (p : WrittenPort). first_wrong (is_right p) [] p.symbols) before ports
 
 -- what the rules say of ports behind some others
 record AreRightPorts (types : List NamedType) (signals limit : ℕ) (before ports : List WrittenPort) : Type 0 where
@@ -142,15 +158,18 @@ record AreRightPorts (types : List NamedType) (signals limit : ℕ) (before port
   types_ : no_wrong (λ p b (s : WrittenSymbol). option_map_or (is_small types) (shape_of_text types s.type) false) before ports ≡ None
   places : no_wrong (is_right_place types) before ports ≡ None
   contents : no_wrong (λ p b (s : WrittenSymbol). is_right_content types s) before ports ≡ None
-  signals_ : list_all (λ (p : WrittenPort). list_all (λ (s : WrittenSymbol). is_signal_right signals (shape_described types s.type) (option_map natural_of s.signal)) p.symbols) ports ≡ true
+  signals_ : list_all (λ (p : WrittenPort). list_all
+      (λ (s : WrittenSymbol). is_signal_right signals (shape_described types s.type) (option_map natural_of s.signal)) p.symbols) ports ≡ true
   uploads : first_wrong (λ b p. has_right_upload types p) before ports ≡ None
 
-through : (is_right : WrittenPort → List WrittenSymbol → WrittenSymbol → Bool) (before : List WrittenPort) (p : WrittenPort) (ps : List WrittenPort) → no_wrong is_right before (p ∷ ps) ≡ None
+through : (is_right : WrittenPort → List WrittenSymbol → WrittenSymbol → Bool) (before : List WrittenPort) (p : WrittenPort) (ps : List WrittenPort)
+    → no_wrong is_right before (p ∷ ps) ≡ None
     → (first_wrong (is_right p) [] p.symbols ≡ None) × (no_wrong is_right (before ++ p ∷ []) ps ≡ None)
 through is_right before p ps h =
     first_through-none (λ (q : WrittenPort). length q.symbols) (λ b (q : WrittenPort). first_wrong (is_right q) [] q.symbols) before p ps h
 
-ports_good : (types : List NamedType) (signals limit : ℕ) (before ps : List WrittenPort) → AreTypes types → limit ≤ IMAGE_LIMIT → AreRightPorts types signals limit before ps
+ports_good : (types : List NamedType) (signals limit : ℕ) (before ps : List WrittenPort)
+    → AreTypes types → limit ≤ IMAGE_LIMIT → AreRightPorts types signals limit before ps
     → list_all (is_port types signals) (map (port_described types) ps) ≡ true
 ports_good types signals limit before [] a most r = refl
 ports_good types signals limit before (p ∷ ps) a most r =
@@ -162,7 +181,8 @@ ports_good types signals limit before (p ∷ ps) a most r =
     let signal = and_parts _ _ r.signals_ in
     let upload = first_right (λ b q. has_right_upload types q) before p ps r.uploads in
     let good = facts_good limit before p (fact.0) most in
-    let here = port_good types signals p a good (record { names = name.0; types_ = type.0; places = place.0; contents = content.0; signals_ = signal.0 }) (upload.0) in
+    let here = port_good types signals p a good
+    (record { names = name.0; types_ = type.0; places = place.0; contents = content.0; signals_ = signal.0 }) (upload.0) in
     let rest = ports_good types signals limit (before ++ p ∷ []) ps a most (record {
       facts = fact.1;
       names = name.1;
@@ -181,7 +201,9 @@ limit_most schema =
 -- the numbers of ports
 right_numbers : (limit : ℕ) (ps : List WrittenPort) → first_wrong (is_right_port limit) [] ps ≡ None
     → AreRight (λ (p : WrittenPort). is_between 1 65535 p.number) (λ (e p : WrittenPort). not (is_same_number e.number p.number)) [] ps
-right_numbers limit ps h = are_right (is_right_port limit) (λ (p : WrittenPort). is_between 1 65535 p.number) (λ (e p : WrittenPort). not (is_same_number e.number p.number)) says [] ps h
+right_numbers limit ps h =
+    are_right (is_right_port limit) (λ (p : WrittenPort). is_between 1 65535 p.number)
+    (λ (e p : WrittenPort). not (is_same_number e.number p.number)) says [] ps h
   where
     says : (before : List WrittenPort) (p : WrittenPort) → is_right_port limit before p ≡ true
         → (is_between 1 65535 p.number ≡ true) × (list_all (λ (e : WrittenPort). not (is_same_number e.number p.number)) before ≡ true)
@@ -195,11 +217,13 @@ right_numbers limit ps h = are_right (is_right_port limit) (λ (p : WrittenPort)
         let d = and_parts (numbered && apart) (is_port_name p.name) (c.0) in
         and_parts numbered apart (d.0)
 
-numbers_good : (types : List NamedType) (limit : ℕ) (ps : List WrittenPort) → first_wrong (is_right_port limit) [] ps ≡ None → all_pairs ne (map (λ (p : Port). p.number) (map (port_described types) ps)) ≡ true
+numbers_good : (types : List NamedType) (limit : ℕ) (ps : List WrittenPort) → first_wrong (is_right_port limit) [] ps ≡ None
+    → all_pairs ne (map (λ (p : Port). p.number) (map (port_described types) ps)) ≡ true
 numbers_good types limit ps h =
     let right = right_numbers limit ps h in
     all_pairs-mapped (λ (p : Port). p.number) ne (map (port_described types) ps)
-    (all_pairs-described (λ (p : WrittenPort). is_between 1 65535 p.number) (λ (e p : WrittenPort). not (is_same_number e.number p.number)) (λ (x y : Port). ne x.number y.number) (port_described types)
+    (all_pairs-described (λ (p : WrittenPort). is_between 1 65535 p.number)
+    (λ (e p : WrittenPort). not (is_same_number e.number p.number)) (λ (x y : Port). ne x.number y.number) (port_described types)
     (λ x y f g e. two_numbers x.number y.number f g e) ps right.each right.pairs)
 
 -- 1 to 16 ports
@@ -248,7 +272,8 @@ description_accepted signals d h =
     let high = some.1 in
     let same_length = length-map d.ports (port_described types) in
     let signal = each_signal types signals [] flat (from_14.0) in
-    let in_ports = list_all-flat (λ (s : WrittenSymbol). is_signal_right signals (shape_described types s.type) (option_map natural_of s.signal)) (λ (p : WrittenPort). p.symbols) d.ports signal in
+    let in_ports = list_all-flat (λ (s : WrittenSymbol). is_signal_right signals (shape_described types s.type) (option_map natural_of s.signal))
+    (λ (p : WrittenPort). p.symbols) d.ports signal in
     let good = ports_good types signals limit [] d.ports a (limit_most d.schema) (record {
       facts = port.0;
       names = from_9.1.0;

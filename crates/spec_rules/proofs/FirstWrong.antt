@@ -30,7 +30,8 @@ or_else-none : (a b : Option ℕ) → or_else a b ≡ None → (a ≡ None) × (
 or_else-none None b e = (refl, e)
 or_else-none (Some i) b e = cc
 
-pub first_through-none : {G : Type 0} (count : G → ℕ) (wrong : List G → G → Option ℕ) (before : List G) (g : G) (gs : List G) → first_through count wrong before (g ∷ gs) ≡ None
+pub first_through-none : {G : Type 0} (count : G → ℕ) (wrong : List G → G → Option ℕ) (before : List G) (g : G) (gs : List G)
+    → first_through count wrong before (g ∷ gs) ≡ None
     → (wrong before g ≡ None) × (first_through count wrong (before ++ g ∷ []) gs ≡ None)
 first_through-none count wrong before g gs h =
     let both = or_else-none _ _ h in

@@ -38,19 +38,25 @@ yes : {X : Type 0} (xs : List X) → list_all (λ x. true) xs ≡ true
 yes [] = refl
 yes (x ∷ xs) = yes xs
 
-right_names : (ss : List WrittenSymbol) → first_wrong is_right_name [] ss ≡ None → AreRight (λ (s : WrittenSymbol). is_symbol_name s.name) (λ (e s : WrittenSymbol). neither_begins e.name s.name) [] ss
-right_names ss h = are_right is_right_name (λ (s : WrittenSymbol). is_symbol_name s.name) (λ (e s : WrittenSymbol). neither_begins e.name s.name) (λ before s g. and_parts _ _ g) [] ss h
+right_names : (ss : List WrittenSymbol) → first_wrong is_right_name [] ss ≡ None
+    → AreRight (λ (s : WrittenSymbol). is_symbol_name s.name) (λ (e s : WrittenSymbol). neither_begins e.name s.name) [] ss
+right_names ss h = are_right is_right_name (λ (s : WrittenSymbol). is_symbol_name s.name)
+    (λ (e s : WrittenSymbol). neither_begins e.name s.name) (λ before s g. and_parts _ _ g) [] ss h
 
 right_places : (types : List NamedType) (p : WrittenPort) (ss : List WrittenSymbol) → first_wrong (is_right_place types p) [] ss ≡ None
-    → AreRight (λ s. fits_area types (sizes_described p) (symbol_described types s)) (λ e s. are_apart types (symbol_described types e) (symbol_described types s)) [] ss
+    → AreRight (λ s. fits_area types (sizes_described p) (symbol_described types s))
+    (λ e s. are_apart types (symbol_described types e) (symbol_described types s)) [] ss
 right_places types p ss h =
-    are_right (is_right_place types p) (λ s. fits_area types (sizes_described p) (symbol_described types s)) (λ e s. are_apart types (symbol_described types e) (symbol_described types s)) says [] ss h
+    are_right (is_right_place types p) (λ s. fits_area types (sizes_described p) (symbol_described types s))
+    (λ e s. are_apart types (symbol_described types e) (symbol_described types s)) says [] ss h
   where
     says : (before : List WrittenSymbol) (s : WrittenSymbol) → is_right_place types p before s ≡ true
-        → (fits_area types (sizes_described p) (symbol_described types s) ≡ true) × (list_all (λ e. are_apart types (symbol_described types e) (symbol_described types s)) before ≡ true)
+        → (fits_area types (sizes_described p) (symbol_described types s) ≡ true)
+        × (list_all (λ e. are_apart types (symbol_described types e) (symbol_described types s)) before ≡ true)
     says before s g =
         let fits = fits_area types (sizes_described p) (symbol_described types s) in
-        let a = and_parts (is_some (area_of s.area) && is_natural s.offset && fits) (list_all (λ e. are_apart types (symbol_described types e) (symbol_described types s)) before) g in
+        let a = and_parts (is_some (area_of s.area) && is_natural s.offset && fits)
+        (list_all (λ e. are_apart types (symbol_described types e) (symbol_described types s)) before) g in
         let b = and_parts (is_some (area_of s.area) && is_natural s.offset) fits (a.0) in
         (b.1, a.1)
 
@@ -119,7 +125,8 @@ facts_good limit before p h most =
     let major = (between_most 0 255 p.major (w.0)).1 in
     let minor = (between_most 0 255 p.minor (w.1)).1 in
     let build = (between_most 0 65535 p.build (v.1)).1 in
-    let sizes = (and_parts (is_natural p.inputs && is_natural p.outputs && is_natural p.memory && is_natural p.process) (nat_le (image_size (sizes_described p)) limit) (b.1)).1 in
+    let sizes = (and_parts (is_natural p.inputs && is_natural p.outputs && is_natural p.memory && is_natural p.process)
+    (nat_le (image_size (sizes_described p)) limit) (b.1)).1 in
     let image = leb-true (image_size (sizes_described p)) limit sizes in
     let short = leb-true (length p.name) 16 (n.0) in
     let filled = p.name ++ replicate (16 - length p.name) 0 in
@@ -127,7 +134,8 @@ facts_good limit before p h most =
     let named = device_name p.name (16 - length p.name) (n.1) in
     record {
       number = both_true (nat_lt 0 (natural_of p.number)) (nat_le (natural_of p.number) 65535) (number.0) (number.1);
-      facts = both_true (nat_le (natural_of p.major) 255 && nat_le (natural_of p.minor) 255 && nat_le (natural_of p.build) 65535) ((length filled == 16) && is_device_name filled)
+      facts = both_true (nat_le (natural_of p.major) 255 && nat_le (natural_of p.minor) 255 && nat_le (natural_of p.build) 65535)
+          ((length filled == 16) && is_device_name filled)
           (both_true (nat_le (natural_of p.major) 255 && nat_le (natural_of p.minor) 255) (nat_le (natural_of p.build) 65535)
           (both_true (nat_le (natural_of p.major) 255) (nat_le (natural_of p.minor) 255) major minor) build)
           (both_true (length filled == 16) (is_device_name filled) sixteen named);
@@ -136,20 +144,23 @@ facts_good limit before p h most =
     }
 
 -- a port
-pub port_good : (types : List NamedType) (signals : ℕ) (p : WrittenPort) → AreTypes types → IsGoodPort p → AreRightSymbols types signals p → has_right_upload types p ≡ true → is_port types signals (port_described types p) ≡ true
+pub port_good : (types : List NamedType) (signals : ℕ) (p : WrittenPort) → AreTypes types → IsGoodPort p
+    → AreRightSymbols types signals p → has_right_upload types p ≡ true → is_port types signals (port_described types p) ≡ true
 port_good types signals p a g r upload =
     let ss = p.symbols in
     let sizes = sizes_described p in
     let described = map (symbol_described types) ss in
     let names = right_names ss r.names in
     let places = right_places types p ss r.places in
-    let each = symbols_good types sizes signals ss a names.each (each_of (λ (s : WrittenSymbol). option_map_or (is_small types) (shape_of_text types s.type) false) [] ss r.types_)
+    let each = symbols_good types sizes signals ss a names.each
+    (each_of (λ (s : WrittenSymbol). option_map_or (is_small types) (shape_of_text types s.type) false) [] ss r.types_)
     places.each (each_of (λ (s : WrittenSymbol). is_right_content types s) [] ss r.contents) r.signals_ in
     let two = all_pairs-mapped (symbol_described types) are_two_names ss names.pairs in
     let apart = all_pairs-mapped (symbol_described types) (are_apart types) ss places.pairs in
     let count : nat_le (length described) 10000 ≡ true = rw (length-map ss (symbol_described types)) g.count in
     and6 (nat_lt 0 (natural_of p.number) && nat_le (natural_of p.number) 65535) (are_facts (facts_described p)) (nat_le (image_size sizes) IMAGE_LIMIT)
-    (nat_le (length described) 10000 && list_all (is_symbol types sizes signals) described) (all_pairs are_two_names described && all_pairs (are_apart types) described) (nat_le (upload_size types described) 2000000)
+    (nat_le (length described) 10000 && list_all (is_symbol types sizes signals) described)
+    (all_pairs are_two_names described && all_pairs (are_apart types) described) (nat_le (upload_size types described) 2000000)
     g.number g.facts g.sizes (both_true (nat_le (length described) 10000) (list_all (is_symbol types sizes signals) described) count each)
     (both_true (all_pairs are_two_names described) (all_pairs (are_apart types) described) two apart) upload
   where
@@ -157,7 +168,8 @@ port_good types signals p a g r upload =
     and6 a b c d e f p q r s t u = rw (p, q, r, s, t, u) refl
 
 -- two ports have two numbers
-pub two_numbers : (m n : ℤ) → is_between 1 65535 m ≡ true → is_between 1 65535 n ≡ true → not (is_same_number m n) ≡ true → not (natural_of m == natural_of n) ≡ true
+pub two_numbers : (m n : ℤ) → is_between 1 65535 m ≡ true → is_between 1 65535 n ≡ true
+    → not (is_same_number m n) ≡ true → not (natural_of m == natural_of n) ≡ true
 two_numbers (pos m) (pos n) f g h = h
 two_numbers (pos m) (negsuc n) f g h = cc
 two_numbers (negsuc m) n f g h = cc

@@ -1,6 +1,7 @@
 -- A type that is read from a text is one that a description may have.
 use Rattle.std.proofs.Common.{◌≡◌, ℕ, zero, suc, ◌+◌, ◌≤◌, Bool, true, List, [], ◌∷◌, length, map, take, drop, refl, ap, subst, arith, inl, inr}
-use Rattle.std.specs.Prelude.{Option, Some, None, option_map, option_and_then, ◌&&◌, ◌==◌, nat_le, nat_lt, ℤ, pos, int_le, neg_ℤ, nat_abs, bytes_eq, codes, ◌+ℤ◌, ◌-ℤ◌, ◌≤ℤ◌}
+use Rattle.std.specs.Prelude.{Option, Some, None, option_map, option_and_then, ◌&&◌, ◌==◌, nat_le, nat_lt, ℤ}
+use Rattle.std.specs.Prelude.{pos, int_le, neg_ℤ, nat_abs, bytes_eq, codes, ◌+ℤ◌, ◌-ℤ◌, ◌≤ℤ◌}
 use Rattle.std.specs.List.{list_all, slice_split, before_first}
 use Rattle.std.proofs.lemmas.Bool.{cases_Bool, and_parts, lt-ltb, leb-true}
 use Rattle.std.proofs.lemmas.Int.{ints}
@@ -35,7 +36,8 @@ negated_of-index text z h =
           let f : Some (neg_ℤ (pos (number_of_digits text))) ≡ Some z = rw t at h in
           let same : neg_ℤ (pos (number_of_digits text)) ≡ z = cc in
           let inner = (and_parts (is_decimal text) (nat_lt 0 (number_of_digits text) && nat_le (number_of_digits text) 2147483648) t).1 in
-          let small = leb-true (number_of_digits text) 2147483648 ((and_parts (nat_lt 0 (number_of_digits text)) (nat_le (number_of_digits text) 2147483648) inner).1) in
+          let small = leb-true (number_of_digits text) 2147483648
+          ((and_parts (nat_lt 0 (number_of_digits text)) (nat_le (number_of_digits text) 2147483648) inner).1) in
           let P : ℤ → Type 0 = λ y. is_index y ≡ true in
           subst P same (negated-index (number_of_digits text) small)
       | inr t ↦ let f = rw t at h in cc
@@ -84,7 +86,8 @@ ends_of-good text e h = lows (number_of front) refl h
     highs low None a q f = cc
     highs low (Some high) a q f = ends_in_order-good low high e a (high_text_of-index rest high q) f
 
-    lows : (o : Option ℤ) → number_of front ≡ o → option_and_then (λ low. option_and_then (ends_in_order low) (high_text_of rest)) o ≡ Some e → good_ends e ≡ true
+    lows : (o : Option ℤ) → number_of front ≡ o
+        → option_and_then (λ low. option_and_then (ends_in_order low) (high_text_of rest)) o ≡ Some e → good_ends e ≡ true
     lows None q f = cc
     lows (Some low) q f = highs low (high_text_of rest) (number_of-index front low q) refl f
 
@@ -103,7 +106,8 @@ all_ends_of-good (text ∷ texts) es h = heads (ends_of text) refl h (λ ds q. a
     Rest : Type 0
     Rest = (ds : List Ends) → all_ends_of texts ≡ Some ds → AreGoodEnds (length texts) ds
 
-    tails : (d : Ends) (o : Option (List Ends)) → good_ends d ≡ true → all_ends_of texts ≡ o → option_map (λ ds. d ∷ ds) o ≡ Some es → Rest → AreGoodEnds (suc (length texts)) es
+    tails : (d : Ends) (o : Option (List Ends)) → good_ends d ≡ true → all_ends_of texts ≡ o
+        → option_map (λ ds. d ∷ ds) o ≡ Some es → Rest → AreGoodEnds (suc (length texts)) es
     tails d None a q f rest = cc
     tails d (Some ds) a q f rest =
         let r = rest ds q in
@@ -111,7 +115,8 @@ all_ends_of-good (text ∷ texts) es h = heads (ends_of text) refl h (λ ds q. a
         let P : List Ends → Type 0 = λ x. AreGoodEnds (suc (length texts)) x in
         subst P same (record { each = both_true (good_ends d) (list_all good_ends ds) a r.each; count = ap suc r.count })
 
-    heads : (o : Option Ends) → ends_of text ≡ o → option_and_then (λ d. option_map (λ ds. d ∷ ds) (all_ends_of texts)) o ≡ Some es → Rest → AreGoodEnds (suc (length texts)) es
+    heads : (o : Option Ends) → ends_of text ≡ o → option_and_then (λ d. option_map (λ ds. d ∷ ds) (all_ends_of texts)) o ≡ Some es
+        → Rest → AreGoodEnds (suc (length texts)) es
     heads None q f rest = cc
     heads (Some d) q f rest = tails d (all_ends_of texts) (ends_of-good text d q) refl f rest
 

@@ -21,7 +21,9 @@ use Rattle.spec_rules.specs.Places.{first_wrong}
 use Rattle.spec_rules.specs.Nets.{net_of, is_net, numbers_in}
 use Rattle.spec_rules.specs.Shapes.{shape_of_text}
 use Rattle.spec_rules.specs.Described.{shape_described, symbol_described, nets_described, initial_described, default_bytes, bytes_of_hex, natural_of}
-use Rattle.spec_rules.specs.SymbolRules.{is_small, fits_area, are_right_bytes, is_right_initial, is_right_writer, are_right_writers, is_right_content, is_signal, has_other_signal}
+use Rattle.spec_rules.specs.SymbolRules.{is_small, fits_area, are_right_bytes, is_right_initial}
+use Rattle.spec_rules.specs.SymbolRules.{is_right_writer, are_right_writers, is_right_content, is_signal}
+use Rattle.spec_rules.specs.SymbolRules.{has_other_signal}
 use Rattle.spec_rules.proofs.FirstWrong.{both_true, none_of, are_right}
 use Rattle.spec_rules.proofs.TextsRead.{shape_of_text-good}
 
@@ -48,7 +50,8 @@ some_of : {X : Type 0} (o : Option X) → is_some o ≡ true → (x : X) × (o �
 some_of None e = cc
 some_of (Some x) e = (x, refl)
 
-pub two_nets : (a b : List ℕ) → is_some (net_of a) ≡ true → is_some (net_of b) ≡ true → not (bytes_eq a b) ≡ true → are_two_nets (net_described a) (net_described b) ≡ true
+pub two_nets : (a b : List ℕ) → is_some (net_of a) ≡ true → is_some (net_of b) ≡ true
+    → not (bytes_eq a b) ≡ true → are_two_nets (net_described a) (net_described b) ≡ true
 two_nets a b f g h =
     let x = some_of (net_of a) f in
     let y = some_of (net_of b) g in
@@ -65,7 +68,8 @@ two_nets a b f g h =
     ]
 
 -- pairs of what is right are pairs of what it is described as
-pub all_pairs-described : {X Y : Type 0} (p : X → Bool) (r : X → X → Bool) (q : Y → Y → Bool) (f : X → Y) → ((x y : X) → p x ≡ true → p y ≡ true → r x y ≡ true → q (f x) (f y) ≡ true)
+pub all_pairs-described : {X Y : Type 0} (p : X → Bool) (r : X → X → Bool) (q : Y → Y → Bool) (f : X → Y)
+    → ((x y : X) → p x ≡ true → p y ≡ true → r x y ≡ true → q (f x) (f y) ≡ true)
     → (xs : List X) → list_all p xs ≡ true → all_pairs r xs ≡ true → all_pairs q (map f xs) ≡ true
 all_pairs-described p r q f says [] h g = refl
 all_pairs-described {X} p r q f says (x ∷ xs) h g =
@@ -81,7 +85,8 @@ all_pairs-described {X} p r q f says (x ∷ xs) h g =
         both_true (q (f x) (f y)) (list_all (q (f x)) (map f ys)) (says x y e (a.0) (b.0)) (beside ys (a.1) (b.1) e)
 
 -- writers
-writers_good : (o : Option (List (List ℕ))) → are_right_writers o ≡ true → (nat_le (length (nets_described o)) 64 && all_pairs are_two_nets (nets_described o)) ≡ true
+writers_good : (o : Option (List (List ℕ))) → are_right_writers o ≡ true
+    → (nat_le (length (nets_described o)) 64 && all_pairs are_two_nets (nets_described o)) ≡ true
 writers_good None h = refl
 writers_good (Some texts) h =
     let outer = and_parts _ _ h in
@@ -136,11 +141,13 @@ length-number_bytes REAL (negsuc n) = refl
 length-number_bytes LREAL (negsuc n) = refl
 
 -- an enumeration has a first value
-default_enum : (types : List NamedType) (place : ℕ) → AreTypes types → is_enumeration_at types place ≡ true → IsGoodInitial types (One (Enum place)) (default_bytes types (One (Enum place)))
+default_enum : (types : List NamedType) (place : ℕ) → AreTypes types → is_enumeration_at types place ≡ true
+    → IsGoodInitial types (One (Enum place)) (default_bytes types (One (Enum place)))
 unfolding type_size
 default_enum types place a h = go (slice_get types place) refl h
   where
-    go : (o : Option NamedType) → slice_get types place ≡ o → option_map_or is_enumeration o false ≡ true → IsGoodInitial types (One (Enum place)) (default_bytes types (One (Enum place)))
+    go : (o : Option NamedType) → slice_get types place ≡ o → option_map_or is_enumeration o false ≡ true
+        → IsGoodInitial types (One (Enum place)) (default_bytes types (One (Enum place)))
     go None e f = cc
     go (Some (Structure name ms)) e f = cc
     go (Some (Enumeration name base [])) e f =
@@ -148,7 +155,8 @@ default_enum types place a h = go (slice_get types place) refl h
         cc
     go (Some (Enumeration name base (v ∷ vs))) e f =
         let there = (stands_at types place (Enumeration name base (v ∷ vs)) a e).tree in
-        let same : bytes_eq (number_bytes base v.number) (number_bytes base v.number) ≡ true = (bytes_eq-Decides (number_bytes base v.number) (number_bytes base v.number)).1 refl in
+        let same : bytes_eq (number_bytes base v.number) (number_bytes base v.number) ≡ true =
+        (bytes_eq-Decides (number_bytes base v.number) (number_bytes base v.number)).1 refl in
         record {
           size = rw (there, e) (length-number_bytes base v.number);
           value = rw e (rw same refl);
@@ -161,7 +169,8 @@ default_good types (One (Struct p)) a h = record { size = length-replicate_zeros
 default_good types (One (Enum p)) a h = default_enum types p a h
 default_good types (Array bs e) a h = record { size = length-replicate_zeros (type_size (tree_of types (Array bs e))); value = refl }
 
-initial_good : (types : List NamedType) (shape : Shape) (o : Option (List ℕ)) → AreTypes types → is_shape types shape ≡ true → is_right_initial types shape o ≡ true → IsGoodInitial types shape (initial_described types shape o)
+initial_good : (types : List NamedType) (shape : Shape) (o : Option (List ℕ)) → AreTypes types → is_shape types shape ≡ true
+    → is_right_initial types shape o ≡ true → IsGoodInitial types shape (initial_described types shape o)
 initial_good types shape None a s h = default_good types shape a s
 initial_good types shape (Some text) a s h = go (bytes_of_hex text) h
   where
@@ -173,7 +182,8 @@ initial_good types shape (Some text) a s h = go (bytes_of_hex text) h
 
 -- a symbol's signal
 pub signal_good : (types : List NamedType) (signals : ℕ) (shape : Shape) (before : List WrittenSymbol) (o : Option ℤ)
-    → option_map_or (λ n. is_signal signals n && list_all (has_other_signal n) before && may_have_signal shape) o true ≡ true → is_signal_right signals shape (option_map natural_of o) ≡ true
+    → option_map_or (λ n. is_signal signals n && list_all (has_other_signal n) before && may_have_signal shape) o true ≡ true
+    → is_signal_right signals shape (option_map natural_of o) ≡ true
 signal_good types signals shape before None h = refl
 signal_good types signals shape before (Some (pos n)) h =
     let outer = and_parts (nat_lt n signals && list_all (has_other_signal (pos n)) before) (may_have_signal shape) h in
@@ -187,7 +197,8 @@ record IsGoodShape (types : List NamedType) (shape : Shape) : Type 0 where
   elements : is_small_shape shape ≡ true
   bytes : nat_le (type_size (tree_of types shape)) LIMIT ≡ true
 
-symbol_shape : (types : List NamedType) (text : List ℕ) → option_map_or (is_small types) (shape_of_text types text) false ≡ true → IsGoodShape types (shape_described types text)
+symbol_shape : (types : List NamedType) (text : List ℕ)
+    → option_map_or (is_small types) (shape_of_text types text) false ≡ true → IsGoodShape types (shape_described types text)
 symbol_shape types text h = go (shape_of_text types text) refl h
   where
     go : (o : Option Shape) → shape_of_text types text ≡ o → option_map_or (is_small types) o false ≡ true → IsGoodShape types (unwrap_or o (One (Plain BOOL)))
@@ -204,7 +215,8 @@ pub record IsRightSymbol (types : List NamedType) (sizes : Sizes) (signals : ℕ
   pub content : is_right_content types s ≡ true
   pub signal_ : is_signal_right signals (shape_described types s.type) (option_map natural_of s.signal) ≡ true
 
-pub symbol_good : (types : List NamedType) (sizes : Sizes) (signals : ℕ) (s : WrittenSymbol) → AreTypes types → IsRightSymbol types sizes signals s → is_symbol types sizes signals (symbol_described types s) ≡ true
+pub symbol_good : (types : List NamedType) (sizes : Sizes) (signals : ℕ) (s : WrittenSymbol) → AreTypes types
+    → IsRightSymbol types sizes signals s → is_symbol types sizes signals (symbol_described types s) ≡ true
 symbol_good types sizes signals s a r =
     let shape = shape_described types s.type in
     let bytes = initial_described types shape s.initial in
@@ -214,10 +226,13 @@ symbol_good types sizes signals s a r =
     let good = initial_good types shape s.initial a typed.shape_ (inner.0) in
     let size_is : (length bytes == type_size (tree_of types shape)) ≡ true = eq-eqb (length bytes) (type_size (tree_of types shape)) good.size in
     let writers = writers_good s.writers (outer.1) in
-    and7 (is_symbol_name s.name) (is_shape types shape && is_small_shape shape && nat_le (type_size (tree_of types shape)) LIMIT) (fits_area types sizes (symbol_described types s))
+    and7 (is_symbol_name s.name) (is_shape types shape && is_small_shape shape && nat_le (type_size (tree_of types shape)) LIMIT)
+    (fits_area types sizes (symbol_described types s))
     ((length bytes == type_size (tree_of types shape)) && begins_with_value types shape bytes) (is_comment s.comment)
-    (nat_le (length (nets_described s.writers)) 64 && all_pairs are_two_nets (nets_described s.writers)) (is_signal_right signals shape (option_map natural_of s.signal))
-    r.name (both_true (is_shape types shape && is_small_shape shape) (nat_le (type_size (tree_of types shape)) LIMIT) (both_true (is_shape types shape) (is_small_shape shape) typed.shape_ typed.elements) typed.bytes)
+    (nat_le (length (nets_described s.writers)) 64 && all_pairs are_two_nets (nets_described s.writers))
+    (is_signal_right signals shape (option_map natural_of s.signal))
+    r.name (both_true (is_shape types shape && is_small_shape shape) (nat_le (type_size (tree_of types shape)) LIMIT)
+    (both_true (is_shape types shape) (is_small_shape shape) typed.shape_ typed.elements) typed.bytes)
     r.place (both_true (length bytes == type_size (tree_of types shape)) (begins_with_value types shape bytes) size_is good.value) (inner.1) writers r.signal_
   where
     and7 : (a b c d e f g : Bool) → a ≡ true → b ≡ true → c ≡ true → d ≡ true → e ≡ true → f ≡ true → g ≡ true → (a && b && c && d && e && f && g) ≡ true

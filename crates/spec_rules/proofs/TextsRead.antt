@@ -1,12 +1,16 @@
 -- The shape that a type text names is one that a description may have.
 use Rattle.std.proofs.Common.{◌≡◌, ℕ, zero, suc, ◌-◌, ◌<◌, Bool, true, List, [], ◌∷◌, length, map, take, drop, refl, subst, arith, inl, inr}
-use Rattle.std.specs.Prelude.{Option, Some, None, is_some, option_map, option_and_then, if◌then◌else◌, ◌&&◌, ◌==◌, not, nat_le, nat_lt, codes, slice_get, slice_index}
+use Rattle.std.specs.Prelude.{Option, Some, None, is_some, option_map, option_and_then, if◌then◌else◌, ◌&&◌}
+use Rattle.std.specs.Prelude.{◌==◌, not, nat_le, nat_lt, codes, slice_get, slice_index}
 use Rattle.std.specs.List.{list_all, before_first, position_or_len}
 use Rattle.std.proofs.lemmas.Bool.{cases_Bool, and_parts, ltb-true, lt-ltb}
 use Rattle.std.proofs.lemmas.List.{length-map}
 use Rattle.name_paths.specs.Number.{is_decimal, number_of_digits}
 use Rattle.spec_plant.specs.Listed.{Elem, Plain, Text, Shape, NamedType, Structure, Enumeration, type_name}
-use Rattle.spec_plant.specs.TypeTexts.{Ends, ElemText, PlainText, StringText, NamedText, TypeText, type_text_of, array_text_of, array_elem_of, elem_text_of, other_elem_of, string_length_of, named_text_of, kind_named, is_same_word, is_closing, dimensions_of}
+use Rattle.spec_plant.specs.TypeTexts.{Ends, ElemText, PlainText, StringText, NamedText, TypeText}
+use Rattle.spec_plant.specs.TypeTexts.{type_text_of, array_text_of, array_elem_of, elem_text_of, other_elem_of}
+use Rattle.spec_plant.specs.TypeTexts.{string_length_of, named_text_of, kind_named, is_same_word, is_closing}
+use Rattle.spec_plant.specs.TypeTexts.{dimensions_of}
 use Rattle.spec_plant.specs.AcceptedTypes.{is_shape, is_elem, is_bound, are_bounds}
 use Rattle.spec_rules.specs.Shapes.{place_named, elem_at, elem_named, shape_with, shape_named, shape_of_text, bound_between}
 use Rattle.spec_rules.proofs.FirstWrong.{both_true}
@@ -34,7 +38,8 @@ string_length_of-good text n h =
 
 named_text_of-good : (text : List ℕ) (e : ElemText) → named_text_of text ≡ Some e → good_elem e ≡ true
 named_text_of-good text e h =
-    elim (cases_Bool (Rattle.name_paths.specs.Identifier.is_identifier text && list_all (λ word. not (is_same_word word text)) (codes "ARRAY" ∷ codes "OF" ∷ []))) [
+    elim (cases_Bool (Rattle.name_paths.specs.Identifier.is_identifier text
+    && list_all (λ word. not (is_same_word word text)) (codes "ARRAY" ∷ codes "OF" ∷ []))) [
       | inl t ↦
           let f : Some (NamedText text) ≡ Some e = rw t at h in
           let same : NamedText text ≡ e = cc in
@@ -68,7 +73,8 @@ other_elem_of-good text e h =
 elem_text_of-good : (text : List ℕ) (e : ElemText) → elem_text_of text ≡ Some e → good_elem e ≡ true
 elem_text_of-good text e h = kinds (kind_named text) refl h
   where
-    kinds : (o : Option Rattle.spec_plant.specs.Plain.Kind) → kind_named text ≡ o → (if is_some o then option_map PlainText o else other_elem_of text) ≡ Some e → good_elem e ≡ true
+    kinds : (o : Option Rattle.spec_plant.specs.Plain.Kind) → kind_named text ≡ o
+        → (if is_some o then option_map PlainText o else other_elem_of text) ≡ Some e → good_elem e ≡ true
     kinds None q f = other_elem_of-good text e f
     kinds (Some k) q f =
         let same : PlainText k ≡ e = cc in
@@ -96,7 +102,8 @@ array_text_of-good text t h = dims (dimensions_of inside) refl h
     behind : List ℕ
     behind = drop (length inside) text
 
-    elems : (es : List Ends) (o : Option ElemText) → AreDimensions es → array_elem_of behind ≡ o → option_map (λ e. record { ends = es; elem = e }) o ≡ Some t → IsGoodText t
+    elems : (es : List Ends) (o : Option ElemText) → AreDimensions es → array_elem_of behind ≡ o
+        → option_map (λ e. record { ends = es; elem = e }) o ≡ Some t → IsGoodText t
     elems es None a q f = cc
     elems es (Some e) a q f =
         let whole : TypeText = record { ends = es; elem = e } in
@@ -104,7 +111,8 @@ array_text_of-good text t h = dims (dimensions_of inside) refl h
         let P : TypeText → Type 0 = λ x. IsGoodText x in
         subst P same (record { ends = a; elem_ = array_elem_of-good behind e q })
 
-    dims : (o : Option (List Ends)) → dimensions_of inside ≡ o → option_and_then (λ es. option_map (λ e. record { ends = es; elem = e }) (array_elem_of behind)) o ≡ Some t → IsGoodText t
+    dims : (o : Option (List Ends)) → dimensions_of inside ≡ o
+        → option_and_then (λ es. option_map (λ e. record { ends = es; elem = e }) (array_elem_of behind)) o ≡ Some t → IsGoodText t
     dims None q f = cc
     dims (Some es) q f = elems es (array_elem_of behind) (dimensions_of-good inside es q) refl f
 
@@ -173,7 +181,8 @@ shape_with-good types (e ∷ es) x d h =
     let few : nat_le (length (map bound_between (e ∷ es))) 3 ≡ true = rw (length-map (e ∷ es) bound_between) d.few in
     let bounds = bounds_between-good (e ∷ es) d.each in
     both_true (are_bounds (map bound_between (e ∷ es))) (is_elem types x)
-    (both_true (nat_lt 0 (length (map bound_between (e ∷ es))) && nat_le (length (map bound_between (e ∷ es))) 3) (list_all is_bound (map bound_between (e ∷ es)))
+    (both_true (nat_lt 0 (length (map bound_between (e ∷ es))) && nat_le (length (map bound_between (e ∷ es))) 3)
+    (list_all is_bound (map bound_between (e ∷ es)))
     (both_true (nat_lt 0 (length (map bound_between (e ∷ es)))) (nat_le (length (map bound_between (e ∷ es))) 3) some few) bounds)
     h
 

@@ -1,5 +1,6 @@
 -- Where rules 6 to 8 hold, the types of a document are accepted.
-use Rattle.std.proofs.Common.{◌≡◌, ℕ, suc, ◌≤◌, Bool, true, false, List, [], ◌∷◌, ◌++◌, length, map, refl, sym, ◌∙◌, ap, subst, arith, inl, inr, append_assoc, append-nil}
+use Rattle.std.proofs.Common.{◌≡◌, ℕ, suc, ◌≤◌, Bool, true, false, List, [], ◌∷◌, ◌++◌, length, map, refl, sym}
+use Rattle.std.proofs.Common.{◌∙◌, ap, subst, arith, inl, inr, append_assoc, append-nil}
 use Rattle.std.specs.Prelude.{Option, Some, None, is_some, unwrap_or, option_and_then, ◌&&◌, not, nat_lt, if◌then◌else◌}
 use Rattle.std.specs.Option.{option_map_or}
 use Rattle.std.specs.List.{list_all}
@@ -9,12 +10,16 @@ use Rattle.spec_plant.specs.Plain.{Kind, SINT, is_base}
 use Rattle.spec_plant.specs.TypeTexts.{kind_named}
 use Rattle.spec_plant.specs.Listed.{Shape, One, Plain, Member, EnumValue, NamedType, Enumeration, type_name}
 use Rattle.spec_plant.specs.Trees.{trees_of, named_tree}
-use Rattle.spec_plant.specs.AcceptedTypes.{AreTypes, are_types_behind, is_next_type, is_type_name, has_parts, is_member, is_short_identifier, is_comment, is_shape, is_small_shape, is_small_type, is_in_range, is_same_number, are_two_values, is_count, differ, all_pairs}
+use Rattle.spec_plant.specs.AcceptedTypes.{AreTypes, are_types_behind, is_next_type, is_type_name, has_parts}
+use Rattle.spec_plant.specs.AcceptedTypes.{is_member, is_short_identifier, is_comment, is_shape}
+use Rattle.spec_plant.specs.AcceptedTypes.{is_small_shape, is_small_type, is_in_range, is_same_number}
+use Rattle.spec_plant.specs.AcceptedTypes.{are_two_values, is_count, differ, all_pairs}
 use Rattle.spec_rules.specs.Written.{WrittenMember, WrittenValue, WrittenType, WrittenStructure, WrittenEnumeration, written_name, written_members}
 use Rattle.spec_rules.specs.Places.{first_wrong, first_through, lesser}
 use Rattle.spec_rules.specs.Shapes.{shape_of_text}
 use Rattle.spec_rules.specs.Described.{shape_described, member_described, value_described, base_of, type_described, types_behind, types_described}
-use Rattle.spec_rules.specs.TypeRules.{is_right_type_name, wrong_type_name, is_right_value, are_right_values, has_right_parts, is_right_member, wrong_member_of, wrong_part}
+use Rattle.spec_rules.specs.TypeRules.{is_right_type_name, wrong_type_name, is_right_value, are_right_values}
+use Rattle.spec_rules.specs.TypeRules.{has_right_parts, is_right_member, wrong_member_of, wrong_part}
 use Rattle.spec_rules.specs.SizeRules.{members_of, is_right_size, wrong_size}
 use Rattle.spec_rules.proofs.FirstWrong.{both_true, none_of, first_right, first_through-none, AreRight, are_right, list_all-mapped, all_pairs-mapped}
 use Rattle.spec_rules.proofs.TextsRead.{shape_of_text-good}
@@ -23,7 +28,8 @@ use Rattle.spec_rules.proofs.TextsRead.{shape_of_text-good}
 shape_described-good : (known : List NamedType) (text : List ℕ) → is_some (shape_of_text known text) ≡ true → is_shape known (shape_described known text) ≡ true
 shape_described-good known text h = go (shape_of_text known text) refl h
   where
-    go : (o : Option Shape) → shape_of_text known text ≡ o → is_some o ≡ true → is_shape known (unwrap_or o (One (Plain Rattle.spec_plant.specs.Plain.BOOL))) ≡ true
+    go : (o : Option Shape) → shape_of_text known text ≡ o → is_some o ≡ true
+        → is_shape known (unwrap_or o (One (Plain Rattle.spec_plant.specs.Plain.BOOL))) ≡ true
     go None q f = cc
     go (Some s) q f = shape_of_text-good known text s q
 
@@ -47,7 +53,8 @@ right_members known ms h = are_right (is_right_member known) (right_member known
         )
 
 members_good : (known : List NamedType) (ms : List WrittenMember) → list_all (right_member known) ms ≡ true
-    → list_all (λ (m : Member). is_small_shape m.shape) (map (member_described known) ms) ≡ true → list_all (is_member known) (map (member_described known) ms) ≡ true
+    → list_all (λ (m : Member). is_small_shape m.shape) (map (member_described known) ms) ≡ true
+    → list_all (is_member known) (map (member_described known) ms) ≡ true
 members_good known [] h g = refl
 members_good known (m ∷ ms) h g =
     let a = and_parts (right_member known m) (list_all (right_member known) ms) h in
@@ -55,13 +62,15 @@ members_good known (m ∷ ms) h g =
     let c = and_parts (is_short_identifier m.name && is_comment m.comment) (is_some (shape_of_text known m.type)) (a.0) in
     let shape = shape_described-good known m.type (c.1) in
     both_true (is_member known (member_described known m)) (list_all (is_member known) (map (member_described known) ms))
-    (both_true (is_short_identifier m.name && is_comment m.comment && is_shape known (shape_described known m.type)) (is_small_shape (shape_described known m.type))
+    (both_true (is_short_identifier m.name && is_comment m.comment && is_shape known (shape_described known m.type))
+    (is_small_shape (shape_described known m.type))
     (both_true (is_short_identifier m.name && is_comment m.comment) (is_shape known (shape_described known m.type)) (c.0) shape) (b.0))
     (members_good known ms (a.1) (b.1))
 
 -- values
 right_values : (base : Kind) (vs : List WrittenValue) → first_wrong (is_right_value base) [] vs ≡ None
-    → AreRight (λ (v : WrittenValue). is_short_identifier v.name && is_in_range base v.number) (λ (e v : WrittenValue). differ e.name v.name && not (is_same_number e.number v.number)) [] vs
+    → AreRight (λ (v : WrittenValue). is_short_identifier v.name && is_in_range base v.number)
+    (λ (e v : WrittenValue). differ e.name v.name && not (is_same_number e.number v.number)) [] vs
 right_values base vs h =
     are_right (is_right_value base) (λ (v : WrittenValue). is_short_identifier v.name && is_in_range base v.number)
     (λ (e v : WrittenValue). differ e.name v.name && not (is_same_number e.number v.number)) (λ before v g. and_parts _ _ g) [] vs h
@@ -89,21 +98,26 @@ parts_good known (WrittenStructure name ms) count members small =
     let counted : is_count (length (map (member_described known) ms)) ≡ true = rw (length-map ms (member_described known)) count in
     let each = members_good known ms right.each small in
     let pairs = all_pairs-mapped (member_described known) (λ (m n : Member). differ m.name n.name) ms right.pairs in
-    both_true (is_count (length (map (member_described known) ms)) && list_all (is_member known) (map (member_described known) ms)) (all_pairs (λ (m n : Member). differ m.name n.name) (map (member_described known) ms))
+    both_true (is_count (length (map (member_described known) ms)) && list_all (is_member known) (map (member_described known) ms))
+    (all_pairs (λ (m n : Member). differ m.name n.name) (map (member_described known) ms))
     (both_true (is_count (length (map (member_described known) ms))) (list_all (is_member known) (map (member_described known) ms)) counted each) pairs
 parts_good known (WrittenEnumeration name base vs) right members small = bases (base_of base) refl ((and_parts _ _ right).1)
   where
     counted : is_count (length (map value_described vs)) ≡ true
     counted = rw (length-map vs value_described) ((and_parts _ _ right).0)
 
-    bases : (o : Option Kind) → base_of base ≡ o → option_map_or (are_right_values vs) o false ≡ true → has_parts known (Enumeration name (unwrap_or o SINT) (map value_described vs)) ≡ true
+    bases : (o : Option Kind) → base_of base ≡ o → option_map_or (are_right_values vs) o false ≡ true
+        → has_parts known (Enumeration name (unwrap_or o SINT) (map value_described vs)) ≡ true
     bases None q f = cc
     bases (Some k) q f =
         let good = right_values k vs (none_of (first_wrong (is_right_value k) [] vs) f) in
         let each = list_all-mapped value_described (λ (v : EnumValue). is_short_identifier v.name && is_in_range k v.number) vs good.each in
         let pairs = all_pairs-mapped value_described are_two_values vs good.pairs in
-        both_true (is_count (length (map value_described vs)) && is_base k && list_all (λ (v : EnumValue). is_short_identifier v.name && is_in_range k v.number) (map value_described vs)) (all_pairs are_two_values (map value_described vs))
-        (both_true (is_count (length (map value_described vs)) && is_base k) (list_all (λ (v : EnumValue). is_short_identifier v.name && is_in_range k v.number) (map value_described vs))
+        both_true (is_count (length (map value_described vs)) && is_base k
+        && list_all (λ (v : EnumValue). is_short_identifier v.name && is_in_range k v.number) (map value_described vs))
+        (all_pairs are_two_values (map value_described vs))
+        (both_true (is_count (length (map value_described vs)) && is_base k)
+        (list_all (λ (v : EnumValue). is_short_identifier v.name && is_in_range k v.number) (map value_described vs))
         (both_true (is_count (length (map value_described vs))) (is_base k) counted (base_of-base base k q)) each) pairs
 
 name-described : (known : List NamedType) (t : WrittenType) → type_name (type_described known t) ≡ written_name t
@@ -119,9 +133,11 @@ types_behind-rest : (known : List NamedType) (ts : List WrittenType) → types_b
 unfolding types_behind rest_of
 types_behind-rest known [] = sym (append-nil known)
 types_behind-rest known (t ∷ ts) =
-    types_behind-rest (known ++ type_described known t ∷ []) ts ∙ append_assoc known (type_described known t ∷ []) (rest_of (known ++ type_described known t ∷ []) ts)
+    types_behind-rest (known ++ type_described known t ∷ []) ts
+    ∙ append_assoc known (type_described known t ∷ []) (rest_of (known ++ type_described known t ∷ []) ts)
 
-types_behind-last : (known : List NamedType) (ts : List WrittenType) (t : WrittenType) → types_behind known (ts ++ t ∷ []) ≡ types_behind known ts ++ type_described (types_behind known ts) t ∷ []
+types_behind-last : (known : List NamedType) (ts : List WrittenType) (t : WrittenType)
+    → types_behind known (ts ++ t ∷ []) ≡ types_behind known ts ++ type_described (types_behind known ts) t ∷ []
 unfolding types_behind
 types_behind-last known [] t = refl
 types_behind-last known (u ∷ us) t = types_behind-last (known ++ type_described known u ∷ []) us t
@@ -143,8 +159,10 @@ record IsSoFar (before : List WrittenType) (known : List NamedType) : Type 0 whe
   names : map type_name known ≡ map written_name before
   described : types_described before ≡ known
 
-types_accepted : (before : List WrittenType) (known : List NamedType) (ts : List WrittenType) → IsSoFar before known → first_wrong is_right_type_name before ts ≡ None → list_all has_right_parts ts ≡ true
-    → first_through (λ t. length (written_members t)) wrong_member_of before ts ≡ None → first_wrong is_right_size known (rest_of known ts) ≡ None → are_types_behind known (rest_of known ts) ≡ true
+types_accepted : (before : List WrittenType) (known : List NamedType) (ts : List WrittenType)
+    → IsSoFar before known → first_wrong is_right_type_name before ts ≡ None → list_all has_right_parts ts ≡ true
+    → first_through (λ t. length (written_members t)) wrong_member_of before ts ≡ None
+    → first_wrong is_right_size known (rest_of known ts) ≡ None → are_types_behind known (rest_of known ts) ≡ true
 unfolding rest_of
 types_accepted before known [] s names parts members sizes = refl
 types_accepted before known (t ∷ ts) s names parts members sizes =
@@ -158,10 +176,12 @@ types_accepted before known (t ∷ ts) s names parts members sizes =
     let P : List NamedType → Type 0 = λ k. first_wrong (is_right_member k) [] (written_members t) ≡ None in
     let right = subst P s.described (member.0) in
     let is_name : is_type_name (type_name next) ≡ true = rw (name-described known t) (name_is.0) in
-    let apart : list_all (λ u. differ (type_name u) (type_name next)) known ≡ true = rw (name-described known t) (names_differ (written_name t) known before s.names (name_is.1)) in
+    let apart : list_all (λ u. differ (type_name u) (type_name next)) known ≡ true =
+    rw (name-described known t) (names_differ (written_name t) known before s.names (name_is.1)) in
     let has = parts_good known t (part.0) right (size_is.0) in
     let accepted : is_next_type known next ≡ true =
-    both_true (is_type_name (type_name next) && list_all (λ u. differ (type_name u) (type_name next)) known && has_parts known next) (is_small_type (named_tree (trees_of known) next))
+    both_true (is_type_name (type_name next) && list_all (λ u. differ (type_name u) (type_name next)) known && has_parts known next)
+    (is_small_type (named_tree (trees_of known) next))
     (both_true (is_type_name (type_name next) && list_all (λ u. differ (type_name u) (type_name next)) known) (has_parts known next)
     (both_true (is_type_name (type_name next)) (list_all (λ u. differ (type_name u) (type_name next)) known) is_name apart) has) (size_is.1) in
     let so_far : IsSoFar (before ++ t ∷ []) (known ++ next ∷ []) = further before known t s in
@@ -172,7 +192,8 @@ types_accepted before known (t ∷ ts) s names parts members sizes =
     map-last f [] x = refl
     map-last f (y ∷ ys) x = ap (λ rest. f y ∷ rest) (map-last f ys x)
 
-    further : (before : List WrittenType) (known : List NamedType) (t : WrittenType) → IsSoFar before known → IsSoFar (before ++ t ∷ []) (known ++ type_described known t ∷ [])
+    further : (before : List WrittenType) (known : List NamedType) (t : WrittenType)
+        → IsSoFar before known → IsSoFar (before ++ t ∷ []) (known ++ type_described known t ∷ [])
     further before known t s = record {
       names = map-last type_name known (type_described known t) ∙ rw (s.names, name-described known t) (sym (map-last written_name before t));
       described = types_behind-last [] before t ∙ ap (λ k. k ++ type_described k t ∷ []) s.described;
@@ -203,7 +224,8 @@ when_all true o h = (refl, h)
 when_all false o h = cc
 
 -- rules 6 to 8 make the types of a document accepted ones
-pub accepted_types : (ts : List WrittenType) → wrong_type_name ts ≡ None → wrong_part ts ≡ None → wrong_size (types_described ts) ≡ None → AreTypes (types_described ts)
+pub accepted_types : (ts : List WrittenType) → wrong_type_name ts ≡ None → wrong_part ts ≡ None
+    → wrong_size (types_described ts) ≡ None → AreTypes (types_described ts)
 unfolding wrong_type_name wrong_part wrong_size rest_of
 accepted_types ts names parts sizes =
     let name = lesser-none (first_wrong is_right_type_name [] ts) (too_many (length ts)) names in

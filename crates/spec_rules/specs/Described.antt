@@ -1,6 +1,8 @@
 -- The description that a document writes. It is looked at only where the rules hold, so what a broken rule leaves open
 -- has some value here.
-use Rattle.std.specs.Prelude.{ℕ, ◌-◌, List, [], ◌∷◌, ◌++◌, length, map, replicate, slice_get, Option, Some, None, option_map, option_and_then, unwrap_or, ℤ, pos, negsuc, find, codes, bytes_eq}
+use Rattle.std.specs.Prelude.{ℕ, ◌-◌, List, [], ◌∷◌, ◌++◌, length, map, replicate, slice_get, Option, Some}
+use Rattle.std.specs.Prelude.{None, option_map, option_and_then, unwrap_or, ℤ, pos, negsuc, find, codes}
+use Rattle.std.specs.Prelude.{bytes_eq}
 use Rattle.std.specs.Option.{option_map_or}
 use Rattle.std.specs.Result.{result_ok}
 use Rattle.hex.specs.Hex.{decode_of}
@@ -11,7 +13,8 @@ use Rattle.spec_plant.specs.Description.{Rights, Read, Write, Control, Route, Ar
 use Rattle.spec_plant.specs.Accepted.{number_bytes}
 use Rattle.spec_plant.specs.Trees.{tree_of}
 use Rattle.spec_plant.specs.Sizes.{type_size}
-use Rattle.spec_rules.specs.Written.{WrittenRoute, WrittenMember, WrittenValue, WrittenType, WrittenStructure, WrittenEnumeration, WrittenSymbol, WrittenPort, Document}
+use Rattle.spec_rules.specs.Written.{WrittenRoute, WrittenMember, WrittenValue, WrittenType, WrittenStructure}
+use Rattle.spec_rules.specs.Written.{WrittenEnumeration, WrittenSymbol, WrittenPort, Document}
 use Rattle.spec_rules.specs.Fields.{if_so}
 use Rattle.spec_rules.specs.Nets.{net_of}
 use Rattle.spec_rules.specs.Shapes.{shape_of_text}

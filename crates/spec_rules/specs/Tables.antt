@@ -3,7 +3,8 @@
 use Rattle.std.specs.Prelude.{ℕ, List, [], ◌∷◌, Bool, false, ◌&&◌, ◌==◌, Option, Some, is_some, if◌then◌else◌, codes, ℤ, pos, negsuc}
 use Rattle.toml.specs.Data.{Members, get_member, as_str, as_integer, as_bool}
 use Rattle.spec_rules.specs.Fields.{◌>>=◌, only_keys, required, optional, maybe, array_of, tables_of, if_so}
-use Rattle.spec_rules.specs.Written.{WrittenRoute, WrittenMember, WrittenValue, WrittenType, WrittenStructure, WrittenEnumeration, WrittenSymbol, WrittenPort, Document}
+use Rattle.spec_rules.specs.Written.{WrittenRoute, WrittenMember, WrittenValue, WrittenType, WrittenStructure}
+use Rattle.spec_rules.specs.Written.{WrittenEnumeration, WrittenSymbol, WrittenPort, Document}
 
 unfoldable pub route_in : Members → Option WrittenRoute
 route_in t = if_so (only_keys (codes "net" ∷ codes "rights" ∷ []) t) (do

@@ -58,7 +58,8 @@ unfolding AreCountedFrom
 rows_are_counted puts are = counted_after puts [] tt are
 
 -- the total of a name with one row more
-named-last : (name : List ℕ) (rows : List Row) (put : Row) → rows_named name (rows ++ put ∷ []) ≡ rows_named name rows ++ cond (bytes_eq put.name name) (put ∷ []) []
+named-last : (name : List ℕ) (rows : List Row) (put : Row)
+    → rows_named name (rows ++ put ∷ []) ≡ rows_named name rows ++ cond (bytes_eq put.name name) (put ∷ []) []
 named-last name [] put = elim (cases_Bool (bytes_eq put.name name)) [ inl b ↦ rw b refl | inr b ↦ rw b refl ]
 named-last name (r ∷ rs) put = elim (cases_Bool (bytes_eq r.name name)) [
   | inl b ↦ rw b (ap (λ (l : List Row). r ∷ l) (named-last name rs put))
@@ -71,7 +72,9 @@ last-last [] put = refl
 last-last (r ∷ []) put = refl
 last-last (r ∷ (s ∷ rs)) put = last-last (s ∷ rs) put
 
-counts_one_more : (rows : List Row) (put : Row) → option_map (total_with_last (length (rows ++ put ∷ []))) (Some put) ≡ Some (total_after_row (option_map (total_with_last (length rows)) (last_row rows)) put)
+counts_one_more : (rows : List Row) (put : Row)
+    → option_map (total_with_last (length (rows ++ put ∷ []))) (Some put) ≡ Some
+    (total_after_row (option_map (total_with_last (length rows)) (last_row rows)) put)
 unfolding last_row
 counts_one_more [] put = refl
 counts_one_more (r ∷ rs) put =
@@ -82,18 +85,23 @@ counts_one_more (r ∷ rs) put =
     has_last r [] = (r, refl)
     has_last r (s ∷ ss) = has_last s ss
 
-    one : (o : Option Row) → (x : Row) × (o ≡ Some x) → Some (total_with_last (length (r ∷ rs) + 1) put) ≡ Some (total_after_row (option_map (total_with_last (length (r ∷ rs))) o) put)
+    one : (o : Option Row) → (x : Row) × (o ≡ Some x)
+        → Some (total_with_last (length (r ∷ rs) + 1) put) ≡ Some (total_after_row (option_map (total_with_last (length (r ∷ rs))) o) put)
     one None there = absurd (let e = there.1 in cc)
     one (Some x) there = refl
 
-total-last : (name : List ℕ) (rows : List Row) (put : Row) → total_of name (rows ++ put ∷ []) ≡ cond (bytes_eq put.name name) (Some (total_after_row (total_of name rows) put)) (total_of name rows)
+total-last : (name : List ℕ) (rows : List Row) (put : Row)
+    → total_of name (rows ++ put ∷ []) ≡ cond (bytes_eq put.name name) (Some (total_after_row (total_of name rows) put)) (total_of name rows)
 unfolding total_of
 total-last name rows put = elim (cases_Bool (bytes_eq put.name name)) [
   | inl b ↦
-      let named : rows_named name (rows ++ put ∷ []) ≡ rows_named name rows ++ put ∷ [] = named-last name rows put ∙ ap (λ (t : Bool). rows_named name rows ++ cond t (put ∷ []) []) b in
-      rw (named, b) (ap (option_map (total_with_last (length (rows_named name rows ++ put ∷ [])))) (last-last (rows_named name rows) put) ∙ counts_one_more (rows_named name rows) put)
+      let named : rows_named name (rows ++ put ∷ []) ≡ rows_named name rows ++ put ∷ [] =
+      named-last name rows put ∙ ap (λ (t : Bool). rows_named name rows ++ cond t (put ∷ []) []) b in
+      rw (named, b) (ap (option_map (total_with_last (length (rows_named name rows ++ put ∷ [])))) (last-last (rows_named name rows) put)
+      ∙ counts_one_more (rows_named name rows) put)
   | inr b ↦
-      let named : rows_named name (rows ++ put ∷ []) ≡ rows_named name rows = named-last name rows put ∙ ap (λ (t : Bool). rows_named name rows ++ cond t (put ∷ []) []) b ∙ append-nil (rows_named name rows) in
+      let named : rows_named name (rows ++ put ∷ []) ≡ rows_named name rows =
+      named-last name rows put ∙ ap (λ (t : Bool). rows_named name rows ++ cond t (put ∷ []) []) b ∙ append-nil (rows_named name rows) in
       rw (named, b) refl
 ]
 

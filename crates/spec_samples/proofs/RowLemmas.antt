@@ -50,7 +50,8 @@ unfolding RiseFrom
 rows_rise puts = puts_rise puts [] tt
 
 -- after a put, a number has the row that it had, or else the put
-pub numbered-put : (n low : ℕ) (rows : List Row) (put : Row) → RiseFrom low rows → row_numbered n (rows_after_put rows put) ≡ or_else (row_numbered n rows) (if_numbered n put)
+pub numbered-put : (n low : ℕ) (rows : List Row) (put : Row) → RiseFrom low rows
+    → row_numbered n (rows_after_put rows put) ≡ or_else (row_numbered n rows) (if_numbered n put)
 unfolding RiseFrom rows_after_put
 numbered-put n low [] put rise = refl
 numbered-put n low (r ∷ rs) put rise = elim (cases_lt r.number put.number) [
@@ -94,7 +95,8 @@ or_else-or_else (Some r) p q = refl
 numbered-first : (n : ℕ) (put : Row) (puts : List Row) → or_else (if_numbered n put) (row_numbered n puts) ≡ row_numbered n (put ∷ puts)
 numbered-first n put puts = elim (cases_Bool (put.number == n)) [ inl b ↦ rw b refl | inr b ↦ rw b refl ]
 
-pub numbered-puts : (n : ℕ) (puts rows : List Row) → RiseFrom 0 rows → row_numbered n (rows_after rows puts) ≡ or_else (row_numbered n rows) (row_numbered n puts)
+pub numbered-puts : (n : ℕ) (puts rows : List Row) → RiseFrom 0 rows
+    → row_numbered n (rows_after rows puts) ≡ or_else (row_numbered n rows) (row_numbered n puts)
 unfolding rows_after
 numbered-puts n [] rows rise = sym (none_last (row_numbered n rows))
   where

@@ -14,7 +14,7 @@ use Rattle.spec_machine.specs.Device.{DescriptionFault, BreaksRule, NoDocument}
 use Rattle.spec_machine.specs.MachineState.{MachineState}
 use Rattle.spec_machine.specs.World.{World}
 use Rattle.spec_machine.specs.Client.{Client}
-use Rattle.spec_machine.specs.Answers.{all_answered, answered_group}
+use Rattle.spec_machine.specs.Answers.{answered_group}
 use Rattle.spec_machine.specs.Outcomes.{outcome_of_reload}
 use Rattle.spec_machine.specs.AdsDevice.{reloading}
 use Rattle.spec_machine.proofs.Played.{play_keeps_turns}
@@ -23,9 +23,12 @@ use Rattle.spec_laws.proofs.EveryState.{every_state_fits}
 use Rattle.spec_laws.proofs.RepliesFit.{replies_fit}
 use Rattle.spec_laws.proofs.Refused.{refused_reload_counts, dead_handle_touches_nothing}
 use Rattle.spec_server.specs.Server.{read_of_verdict, read_description, server, server_start}
-use Rattle.spec_server.specs.ServerLaws.{ReadsDescriptions, IsRefused, TellsReloads, ServerPlaysInTurns, ServerIsIsolated, ServerTakesAsAlone, ServerStateFits, ServerRepliesFit, ServerRefusesDeadHandles}
+use Rattle.spec_server.specs.ServerLaws.{ReadsDescriptions, IsRefused, TellsReloads, ServerPlaysInTurns}
+use Rattle.spec_server.specs.ServerLaws.{ServerIsIsolated, ServerTakesAsAlone, ServerStateFits}
+use Rattle.spec_server.specs.ServerLaws.{ServerRepliesFit, ServerRefusesDeadHandles}
 
-rules-accepted : (signals : ℕ) (table : Members) (x : Description) → read_of_verdict (verdict_of_rules (table_verdict signals table)) ≡ Ok x → IsAccepted x signals
+rules-accepted : (signals : ℕ) (table : Members) (x : Description)
+    → read_of_verdict (verdict_of_rules (table_verdict signals table)) ≡ Ok x → IsAccepted x signals
 rules-accepted signals table x h = go (table_verdict signals table) refl h
   where
     go : (r : Result Description BrokenRule) → table_verdict signals table ≡ r → read_of_verdict (verdict_of_rules r) ≡ Ok x → IsAccepted x signals
@@ -44,12 +47,13 @@ reads_descriptions bytes signals x h =
       | inr t ↦ document-accepted signals (document_of bytes) x (rw t at h)
     ]
 
-refused : (s : MachineState World Client) (bytes : List ℕ) (v : TextVerdict) (fault : DescriptionFault) → text_verdict (length s.world.signals) bytes ≡ v → read_of_verdict v ≡ Err fault → IsRefused s bytes fault
+refused : (s : MachineState World Client) (bytes : List ℕ) (v : TextVerdict) (fault : DescriptionFault)
+    → text_verdict (length s.world.signals) bytes ≡ v → read_of_verdict v ≡ Err fault → IsRefused s bytes fault
 refused s bytes v fault e r =
     let read : read_description bytes (length s.world.signals) ≡ Err fault = ap read_of_verdict e ∙ r in
     record {
       outcome = ap (λ (q : Result Description DescriptionFault). outcome_of_reload (reloading s.world q)) read;
-      state = refused_reload_counts all_answered read_description s bytes fault read;
+      state = refused_reload_counts read_description s bytes fault read;
     }
 
 pub tells_reloads : TellsReloads
@@ -62,24 +66,24 @@ pub server_plays_in_turns : ServerPlaysInTurns
 server_plays_in_turns description signals lines = play_keeps_turns World Client server (server_start description signals) lines
 
 pub server_is_isolated : ServerIsIsolated
-server_is_isolated description signals c log apart = isolated all_answered read_description description signals c log apart
+server_is_isolated description signals c log apart = isolated read_description description signals c log apart
 
 pub server_takes_as_alone : ServerTakesAsAlone
 server_takes_as_alone description signals c log apart = record {
-  begins = λ offers. takes_as_alone all_answered read_description description signals c log offers apart;
-  all = λ turns whole there. takes_all_as_alone all_answered read_description description signals c log turns whole there apart;
+  begins = λ offers. takes_as_alone read_description description signals c log offers apart;
+  all = λ turns whole there. takes_all_as_alone read_description description signals c log turns whole there apart;
 }
 
 pub server_state_fits : ServerStateFits
-server_state_fits description signals accepted log = every_state_fits all_answered read_description reads_descriptions description signals accepted log
+server_state_fits description signals accepted log = every_state_fits read_description reads_descriptions description signals accepted log
 
 pub server_replies_fit : ServerRepliesFit
-server_replies_fit description signals accepted log = replies_fit all_answered read_description reads_descriptions description signals accepted log
+server_replies_fit description signals accepted log = replies_fit read_description reads_descriptions description signals accepted log
 
 pub server_refuses_dead_handles : ServerRefusesDeadHandles
 unfolding answered_group group_of group_in
 server_refuses_dead_handles d c k handle code dead =
-    let refused = dead_handle_touches_nothing all_answered d c k handle code dead in
+    let refused = dead_handle_touches_nothing d c k handle code dead in
     record {
       read = λ len. refused.0.read len refl;
       write = λ bytes may. refused.0.write bytes refl may;

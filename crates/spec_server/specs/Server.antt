@@ -11,7 +11,6 @@ use Rattle.spec_machine.specs.MachineState.{MachineState, start_of, output_of}
 use Rattle.spec_machine.specs.Moves.{EventStep, state_after}
 use Rattle.spec_machine.specs.World.{World, world_of}
 use Rattle.spec_machine.specs.Client.{Client}
-use Rattle.spec_machine.specs.Answers.{all_answered}
 use Rattle.spec_machine.specs.BuiltLines.{all_lines}
 use Rattle.spec_machine.specs.ScriptLine.{ScriptLine}
 use Rattle.spec_machine.specs.Script.{script_of}
@@ -29,11 +28,11 @@ abbrev pub read_description : DescriptionReading
 read_description bytes signals = read_of_verdict (text_verdict signals bytes)
 
 abbrev pub server_device : Device World Client
-server_device = ads_device all_answered read_description
+server_device = ads_device read_description
 
 -- an event of its machine
 abbrev pub server : EventStep World Client
-server = server_step all_answered read_description
+server = server_step read_description
 
 -- the machine over a description and signals, before any move
 abbrev pub server_start : Description → List Wave → MachineState World Client

@@ -21,7 +21,6 @@ use Rattle.spec_machine.specs.World.{World, Setup}
 use Rattle.spec_machine.specs.Handles.{kept_status}
 use Rattle.spec_machine.specs.Watches.{Mode}
 use Rattle.spec_machine.specs.Client.{Client}
-use Rattle.spec_machine.specs.Answers.{all_answered}
 use Rattle.spec_machine.specs.Acts.{Refusal}
 use Rattle.spec_machine.specs.Writes.{Asker, may_write}
 use Rattle.spec_machine.specs.Requests.{MAX_WATCHED, mode_of, act_of}
@@ -60,7 +59,7 @@ ServerPlaysInTurns = (description : Description) (signals : List Wave) (lines : 
 
 -- none of the bytes that a connection reads, were it alone, is written by another
 abbrev pub IsUntouchedHere : Description → List Wave → ℕ → List Move → Type 0
-IsUntouchedHere description signals c log = IsUntouched all_answered read_description description signals c log
+IsUntouchedHere description signals c log = IsUntouched read_description description signals c log
 
 -- A client is given what it would be given alone, where no other writes what it reads.
 abbrev pub ServerIsIsolated : Type 0
@@ -93,14 +92,14 @@ ServerRepliesFit = (description : Description) (signals : List Wave) → IsAccep
 
 -- accesses by a handle that is not live: by its code, unless a check that comes before refuses with another
 pub record ServerRefuses (d : Setup) (c : Client) (k : Asker) (handle code : ℕ) : Type 0 where
-  pub read : (len : ℕ) → act_of all_answered d c k (Read value_by_handle handle len) ≡ Refusal code
+  pub read : (len : ℕ) → act_of d c k (Read value_by_handle handle len) ≡ Refusal code
   pub write : (bytes : List ℕ) → may_write k.rights ≡ true
-      → act_of all_answered d c k (Write value_by_handle handle bytes) ≡ Refusal code
+      → act_of d c k (Write value_by_handle handle bytes) ≡ Refusal code
   pub add : (len number delay cycle : ℕ) (mode : Mode) → mode_of number ≡ Some mode → len ≤ MAX_WATCHED
-      → act_of all_answered d c k (AddDeviceNotification value_by_handle handle len number delay cycle)
+      → act_of d c k (AddDeviceNotification value_by_handle handle len number delay cycle)
       ≡ Refusal code
   -- and nothing is touched in any form
-  pub any_form : RefusesAnyForm all_answered d c k handle
+  pub any_form : RefusesAnyForm d c k handle
 
 abbrev pub ServerRefusesDeadHandles : Type 0
 ServerRefusesDeadHandles = (d : Setup) (c : Client) (k : Asker) (handle code : ℕ)

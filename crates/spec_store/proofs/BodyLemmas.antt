@@ -6,7 +6,9 @@ use Rattle.std.proofs.lemmas.Bool.{le-ltb}
 use Rattle.std.proofs.lemmas.List.{take_at, drop_at}
 use Rattle.std.proofs.lemmas.Nat.{from_le_bytes-to_le_bytes_2, from_le_bytes-to_le_bytes_4, from_le_bytes-to_le_bytes_8}
 use Rattle.spec_formats.specs.Numbers.{number16, number32, number64}
-use Rattle.spec_store.specs.BodyText.{StoredEntry, entry_bytes, FitsEntry, Split, split_at, EntryRead, with_bytes_read, with_form_read, with_form_length_read, with_name_read, with_head_read, entry_of, entries_in, entries_of}
+use Rattle.spec_store.specs.BodyText.{StoredEntry, entry_bytes, FitsEntry, Split, split_at, EntryRead}
+use Rattle.spec_store.specs.BodyText.{with_bytes_read, with_form_read, with_form_length_read, with_name_read}
+use Rattle.spec_store.specs.BodyText.{with_head_read, entry_of, entries_in, entries_of}
 use Rattle.spec_store.specs.Laws.{BodyTextsAreRead}
 
 abbrev split : List ℕ → List ℕ → Split
@@ -15,7 +17,8 @@ split front behind = record { front = front; behind = behind }
 split_at-front : (n : ℕ) (front behind : List ℕ) → length front ≡ n → split_at n (front ++ behind) ≡ Some (split front behind)
 split_at-front n front behind e =
     let t = le-ltb (length (front ++ behind)) n (omega (arith, e, length-append front behind)) in
-    rw t (ap (λ (l : List ℕ). Some (split l (drop n (front ++ behind)))) (take_at front behind n e) ∙ ap (λ (l : List ℕ). Some (split front l)) (drop_at front behind n e))
+    rw t (ap (λ (l : List ℕ). Some (split l (drop n (front ++ behind)))) (take_at front behind n e)
+    ∙ ap (λ (l : List ℕ). Some (split front l)) (drop_at front behind n e))
 
 -- fields one behind another
 grouped : (a b c d e f rest : List ℕ) → a ++ b ++ c ++ d ++ e ++ f ++ rest ≡ a ++ (b ++ (c ++ (d ++ (e ++ (f ++ rest)))))
@@ -39,7 +42,8 @@ entry_of-bytes e rest fits =
     let form_is : number64 0 form_len ≡ length e.form = from_le_bytes-to_le_bytes_8 (length e.form) fits.form in
     let size_is : number32 0 size ≡ length e.bytes = from_le_bytes-to_le_bytes_4 (length e.bytes) fits.bytes in
     let whole : entry_bytes e ++ rest ≡ head ++ t1 = grouped head e.name form_len e.form size e.bytes rest in
-    let bytes_read : with_bytes_read (number16 0 head) e.name e.form (split size t5) ≡ Some (record { entry = record { port = number16 0 head; name = e.name; form = e.form; bytes = e.bytes }; behind = rest }) =
+    let bytes_read : with_bytes_read (number16 0 head) e.name e.form (split size t5) ≡ Some
+    (record { entry = record { port = number16 0 head; name = e.name; form = e.form; bytes = e.bytes }; behind = rest }) =
     ap (option_map (read_with (number16 0 head) e.name e.form)) (ap (λ (n : ℕ). split_at n t5) size_is ∙ split_at-front (length e.bytes) e.bytes rest refl) in
     let form_read : with_form_read (number16 0 head) e.name (split e.form t4) ≡ with_bytes_read (number16 0 head) e.name e.form (split size t5) =
     ap (option_and_then (with_bytes_read (number16 0 head) e.name e.form)) (split_at-front 4 size t5 refl) in

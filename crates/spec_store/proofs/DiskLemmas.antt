@@ -66,7 +66,8 @@ pub torn_behind : (at n m : ℕ) (f c : List ℕ) → at + n ≤ m → Torn at n
 torn_behind at n m f c le torn =
     let e : m ≡ at + n + (m - (at + n)) = omega (arith, le) in
     let k = m - (at + n) in
-    ap (λ (i : ℕ). drop i c) e ∙ sym (drop-drop k (at + n) c) ∙ ap (λ (l : List ℕ). drop k l) torn.after ∙ drop-drop k (at + n) f ∙ ap (λ (i : ℕ). drop i f) (sym e)
+    ap (λ (i : ℕ). drop i c) e ∙ sym (drop-drop k (at + n) c) ∙ ap (λ (l : List ℕ). drop k l) torn.after
+    ∙ drop-drop k (at + n) f ∙ ap (λ (i : ℕ). drop i f) (sym e)
 
 -- one byte within the file
 pub torn_byte : (at : ℕ) (f c : List ℕ) → at + 1 ≤ length f → Torn at 1 f c → drop at c ≡ get_or c at 0 ∷ drop (at + 1) f

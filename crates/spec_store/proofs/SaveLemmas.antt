@@ -5,7 +5,8 @@ use Rattle.std.proofs.lemmas.Bool.{cases_Bool}
 use Rattle.spec_store.specs.Disk.{written, Torn}
 use Rattle.spec_store.specs.Slots.{Slot, behind_gate, Standing, standing_of}
 use Rattle.spec_store.specs.Stops.{DiskCall, WriteAt, Sync, file_after, torn_from, LeavesAlways, LeavesBehind}
-use Rattle.spec_store.specs.Saves.{place_of, goes_second, next_place, next_sequence, next_slot, standing_after, has_closed_gate, calls_to_fill, calls_to_open, calls_of_save}
+use Rattle.spec_store.specs.Saves.{place_of, goes_second, next_place, next_sequence, next_slot, standing_after}
+use Rattle.spec_store.specs.Saves.{has_closed_gate, calls_to_fill, calls_to_open, calls_of_save}
 use Rattle.spec_store.specs.Laws.{MaySave, IsBeforeOrAfter, ClosesGate, IsFilled, FillsSlot, OpensGate, StepsSurvive, ClosedGateMayOpen, SaveSurvives}
 use Rattle.spec_store.proofs.StepLemmas.{closes_gate, fills_slot, opens_gate}
 use Rattle.spec_store.proofs.DiskLemmas.{torn-written}
@@ -29,14 +30,16 @@ record Goes (P : List ℕ → Type 0) (file : List ℕ) (calls : List DiskCall) 
   standing : standing_of (file_after file calls) ≡ after
 
 -- a write into a file of which nothing is pending
-torn_alone : (P : List ℕ → Type 0) (at : ℕ) (bytes file : List ℕ) → ((c : List ℕ) → Torn at (length bytes) file c → P c) → (c : List ℕ) → torn_from at bytes (λ old. old ≡ file) c → P c
+torn_alone : (P : List ℕ → Type 0) (at : ℕ) (bytes file : List ℕ)
+    → ((c : List ℕ) → Torn at (length bytes) file c → P c) → (c : List ℕ) → torn_from at bytes (λ old. old ≡ file) c → P c
 torn_alone P at bytes file h c (old, is, torn) =
     let Q : List ℕ → Type 0 = λ f. Torn at (length bytes) f c in
     h c (subst Q is torn)
 
 -- a file that stands for what another one does, and whose gate is closed
 goes_behind : (file body f : List ℕ) → MaySave file body → standing_of f ≡ standing_of file → has_closed_gate (next_place (standing_of file)) f ≡ true
-    → Goes (IsBeforeOrAfter file body) f (calls_behind (next_place (standing_of file)) (next_slot (standing_of file) body)) (Some (standing_after (standing_of file) body))
+    → Goes (IsBeforeOrAfter file body) f (calls_behind (next_place (standing_of file)) (next_slot (standing_of file) body))
+    (Some (standing_after (standing_of file) body))
 unfolding LeavesAlways LeavesBehind file_after
 goes_behind file body f m same closed =
     let b = goes_second (standing_of file) in
@@ -50,7 +53,8 @@ goes_behind file body f m same closed =
     let opens : OpensGate g body place = opens_gate b g body (ap goes_second same_g) m.is_text m.short number
     (subst (λ (s : Option Standing). IsFilled place (next_slot s body) g) (sym same_g) fills.filled) in
     let w : List ℕ = written place (1 ∷ []) g in
-    let new : standing_of w ≡ Some (standing_after (standing_of file) body) = opens.standing ∙ ap (λ (s : Option Standing). Some (standing_after s body)) same_g in
+    let new : standing_of w ≡ Some (standing_after (standing_of file) body) =
+    opens.standing ∙ ap (λ (s : Option Standing). Some (standing_after s body)) same_g in
     let either : (c : List ℕ) → Torn place 1 g c → P c = λ c torn. as_before c g (opens.stop c torn) same_g in
     let stays : (c : List ℕ) → Torn (place + 1) (length (behind_gate slot)) f c → P c = λ c torn. inl (fills.stop c torn ∙ same) in
     let at_f : (c : List ℕ) → c ≡ f → P c = λ c e. inl (ap standing_of e ∙ same) in
@@ -67,14 +71,17 @@ goes_behind file body f m same closed =
     as_before c g (inr e) same_g = inr (e ∙ ap (λ (s : Option Standing). Some (standing_after s body)) same_g)
 
 -- the calls of a save, by its gate
-calls-closed : (file body : List ℕ) → has_closed_gate (next_place (standing_of file)) file ≡ true → calls_of_save file body ≡ calls_behind (next_place (standing_of file)) (next_slot (standing_of file) body)
+calls-closed : (file body : List ℕ) → has_closed_gate (next_place (standing_of file)) file ≡ true
+    → calls_of_save file body ≡ calls_behind (next_place (standing_of file)) (next_slot (standing_of file) body)
 calls-closed file body h = rw h refl
 
 calls-open : (file body : List ℕ) → has_closed_gate (next_place (standing_of file)) file ≡ false
-    → calls_of_save file body ≡ WriteAt (next_place (standing_of file)) (0 ∷ []) ∷ Sync ∷ calls_behind (next_place (standing_of file)) (next_slot (standing_of file) body)
+    → calls_of_save file body ≡ WriteAt (next_place (standing_of file)) (0 ∷ []) ∷ Sync
+    ∷ calls_behind (next_place (standing_of file)) (next_slot (standing_of file) body)
 calls-open file body h = rw h refl
 
-goes : (file body : List ℕ) → MaySave file body → Goes (IsBeforeOrAfter file body) file (calls_of_save file body) (Some (standing_after (standing_of file) body))
+goes : (file body : List ℕ) → MaySave file body
+    → Goes (IsBeforeOrAfter file body) file (calls_of_save file body) (Some (standing_after (standing_of file) body))
 unfolding LeavesAlways LeavesBehind file_after
 goes file body m =
     let place = next_place (standing_of file) in

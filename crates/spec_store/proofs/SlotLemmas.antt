@@ -1,5 +1,6 @@
 -- The slot at the front of a text.
-use Rattle.std.proofs.Common.{◌≡◌, ◌≢◌, ℕ, ◌+◌, ◌-◌, ◌^◌, ◌<◌, ◌≤◌, List, ◌∷◌, ◌++◌, length, get_or, take, drop, true, false, refl, sym, ◌∙◌, ap, inl, inr, arith, length-append}
+use Rattle.std.proofs.Common.{◌≡◌, ◌≢◌, ℕ, ◌+◌, ◌-◌, ◌^◌, ◌<◌, ◌≤◌, List, ◌∷◌, ◌++◌, length, get_or, take}
+use Rattle.std.proofs.Common.{drop, true, false, refl, sym, ◌∙◌, ap, inl, inr, arith, length-append}
 use Rattle.std.specs.Prelude.{Some, None}
 use Rattle.std.specs.Int.{w32, w64, from_le_bytes}
 use Rattle.std.proofs.lemmas.Bool.{and_parts, and_from, and_left, leb-true, le-leb, eqb-true, eq-eqb, ne_eqb, cases_Bool}
@@ -68,7 +69,8 @@ field_same i k n t u le e = sym (field i k n u le) ∙ ap (λ (l : List ℕ). ta
 -- a slot that counts is told by its own bytes
 pub same_slot : (n : ℕ) (t u : List ℕ) → Counted t → 13 + body_length t ≤ n → take n u ≡ take n t → slot_of u ≡ slot_of t
 same_slot n t u c le e =
-    let gate : get_or u 0 0 ≡ get_or t 0 0 = sym (get_or-take n u 0 0 (omega (arith, le))) ∙ ap (λ (l : List ℕ). get_or l 0 0) e ∙ get_or-take n t 0 0 (omega (arith, le)) in
+    let gate : get_or u 0 0 ≡ get_or t 0 0 =
+    sym (get_or-take n u 0 0 (omega (arith, le))) ∙ ap (λ (l : List ℕ). get_or l 0 0) e ∙ get_or-take n t 0 0 (omega (arith, le)) in
     let len : body_length u ≡ body_length t = ap (λ (l : List ℕ). from_le_bytes w32 l) (field_same 9 4 n t u (omega (arith, le)) e) in
     let sequence : number64 1 u ≡ number64 1 t = ap (λ (l : List ℕ). from_le_bytes w64 l) (field_same 1 8 n t u (omega (arith, le)) e) in
     let body : body_at u ≡ body_at t = ap (λ (k : ℕ). take k (drop 13 u)) len ∙ field_same 13 (body_length t) n t u le e in
@@ -87,7 +89,8 @@ abbrev slot_with : ℕ → List ℕ → Slot
 slot_with sequence body = record { sequence = sequence; body = body }
 
 -- a slot that is written is read
-pub slot_of-written : (s : Slot) (rest : List ℕ) → s.sequence < 2 ^ 64 → length s.body ≤ MAX_BODY → is_body_text s.body ≡ true → slot_of (1 ∷ (behind_gate s ++ rest)) ≡ Some s
+pub slot_of-written : (s : Slot) (rest : List ℕ) → s.sequence < 2 ^ 64 → length s.body ≤ MAX_BODY
+    → is_body_text s.body ≡ true → slot_of (1 ∷ (behind_gate s ++ rest)) ≡ Some s
 slot_of-written s rest number short is_text =
     let t : List ℕ = 1 ∷ (behind_gate s ++ rest) in
     let sequence : number64 1 t ≡ s.sequence = from_le_bytes-to_le_bytes_8 s.sequence number in

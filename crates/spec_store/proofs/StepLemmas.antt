@@ -1,5 +1,6 @@
 -- The three steps of a save: what a stop in one of them leaves, and what stands behind it.
-use Rattle.std.proofs.Common.{◌≡◌, ◌≢◌, ◌⊎◌, ℕ, ◌+◌, ◌^◌, ◌<◌, ◌≤◌, min, List, [], ◌∷◌, ◌++◌, length, get_or, take, drop, Bool, true, false, refl, sym, ◌∙◌, ap, inl, inr, arith}
+use Rattle.std.proofs.Common.{◌≡◌, ◌≢◌, ◌⊎◌, ℕ, ◌+◌, ◌^◌, ◌<◌, ◌≤◌, min, List, [], ◌∷◌, ◌++◌, length, get_or}
+use Rattle.std.proofs.Common.{take, drop, Bool, true, false, refl, sym, ◌∙◌, ap, inl, inr, arith}
 use Rattle.std.specs.Prelude.{Option, Some, None, not, nat_lt, ◌==◌}
 use Rattle.std.proofs.lemmas.Bool.{and_cases, and_parts, and_from, cases_Bool, cases_lt, cases_eq, lt-ltb, ltb-true, eqb-true, not-true, false≢true, true≢false}
 use Rattle.std.proofs.lemmas.List.{length-drop, take-take, drop-drop, drop_more, get_or-take, get_or-drop}
@@ -22,7 +23,8 @@ SameOther false f c = slot_of (drop SECOND_SLOT c) ≡ slot_of (drop SECOND_SLOT
 SameOther true f c = slot_of c ≡ slot_of f
 
 -- a write into a slot leaves the other one
-pub torn_other : (b : Bool) (at n : ℕ) (f c : List ℕ) → goes_second (standing_of f) ≡ b → place_of b ≤ at → at + n ≤ place_of b + 1048589 → Torn at n f c → SameOther b f c
+pub torn_other : (b : Bool) (at n : ℕ) (f c : List ℕ) → goes_second (standing_of f) ≡ b
+    → place_of b ≤ at → at + n ≤ place_of b + 1048589 → Torn at n f c → SameOther b f c
 unfolding standing_of
 torn_other false at n f c e from to torn = ap slot_of (torn_behind at n SECOND_SLOT f c (omega (arith, to)) torn)
 torn_other true at n f c e from to torn =
@@ -34,7 +36,8 @@ torn_other true at n f c e from to torn =
     same_slot m f c k (omega (arith, k.short, k.whole)) (sym new_part ∙ ap (λ (l : List ℕ). take m l) torn.before ∙ old_part)
 
 -- where the own slot does not count, or is as it was, the file stands for what it stood for
-pub stands_on : (b : Bool) (f c : List ℕ) → goes_second (standing_of f) ≡ b → SameOther b f c → (own b c ≡ None) ⊎ (own b c ≡ own b f) → standing_of c ≡ standing_of f
+pub stands_on : (b : Bool) (f c : List ℕ) → goes_second (standing_of f) ≡ b
+    → SameOther b f c → (own b c ≡ None) ⊎ (own b c ≡ own b f) → standing_of c ≡ standing_of f
 unfolding standing_of
 stands_on false f c e other (inl none) = rw (none, other) (without_first (slot_of f) (slot_of (drop SECOND_SLOT f)) e)
 stands_on false f c e other (inr same) = rw (same, other) refl
@@ -42,7 +45,8 @@ stands_on true f c e other (inl none) = rw (none, other) (without_second (slot_o
 stands_on true f c e other (inr same) = rw (same, other) refl
 
 -- where the own slot is the new one, the file stands for it
-pub stands_new : (b : Bool) (f c body : List ℕ) → goes_second (standing_of f) ≡ b → SameOther b f c → own b c ≡ Some (next_slot (standing_of f) body) → standing_of c ≡ Some (standing_after (standing_of f) body)
+pub stands_new : (b : Bool) (f c body : List ℕ) → goes_second (standing_of f) ≡ b → SameOther b f c
+    → own b c ≡ Some (next_slot (standing_of f) body) → standing_of c ≡ Some (standing_after (standing_of f) body)
 unfolding standing_of
 stands_new false f c body e other new = rw (new, other) (with_first (slot_of f) (slot_of (drop SECOND_SLOT f)) body e)
 stands_new true f c body e other new = rw (new, other) (with_second (slot_of f) (slot_of (drop SECOND_SLOT f)) body e)
@@ -56,7 +60,8 @@ gate_open place f h lt =
       | inr t ↦
           elim (cases_Bool (is_open (drop place f))) [
             | inl o ↦
-                let is : get_or f place 0 ≡ 1 = ap (λ (i : ℕ). get_or f i 0) (omega arith) ∙ sym (get_or-drop place f 0 0) ∙ eqb-true (get_or (drop place f) 0 0) 1 o in
+                let is : get_or f place 0 ≡ 1 =
+                ap (λ (i : ℕ). get_or f i 0) (omega arith) ∙ sym (get_or-drop place f 0 0) ∙ eqb-true (get_or (drop place f) 0 0) 1 o in
                 gate ∙ ap (λ (g : ℕ). g ∷ drop (place + 1) f) is
             | inr o ↦ absurd (true≢false (rw o at t))
           ]
@@ -80,7 +85,8 @@ close_own b f c h torn = elim (cases_lt place (length f)) [
 pub closes_gate : (b : Bool) (f : List ℕ) → goes_second (standing_of f) ≡ b → has_closed_gate (place_of b) f ≡ false → ClosesGate f (place_of b)
 closes_gate b f e h =
     let place = place_of b in
-    let stop : (c : List ℕ) → Torn place 1 f c → standing_of c ≡ standing_of f = λ c torn. stands_on b f c e (torn_other b place 1 f c e (omega arith) (omega arith) torn) (close_own b f c h torn) in
+    let stop : (c : List ℕ) → Torn place 1 f c → standing_of c ≡ standing_of f =
+    λ c torn. stands_on b f c e (torn_other b place 1 f c e (omega arith) (omega arith) torn) (close_own b f c h torn) in
     record {
       stop = stop;
       standing = stop (written place (0 ∷ []) f) (torn-written place (0 ∷ []) f);
@@ -111,18 +117,21 @@ gate_shut place f h =
 fill_gate : (place n : ℕ) (f c : List ℕ) → GateShut place f → Torn (place + 1) n f c → get_or c place 0 ≢ 1
 fill_gate place n f c g torn one =
     let front = torn_front (place + 1) n f c (omega (arith, g.there)) torn in
-    g.shut (sym (get_or-take (place + 1) f place 0 (omega arith)) ∙ ap (λ (l : List ℕ). get_or l place 0) (sym front) ∙ get_or-take (place + 1) c place 0 (omega arith) ∙ one)
+    g.shut (sym (get_or-take (place + 1) f place 0 (omega arith))
+    ∙ ap (λ (l : List ℕ). get_or l place 0) (sym front) ∙ get_or-take (place + 1) c place 0 (omega arith) ∙ one)
 
 length-behind_gate : (s : Slot) → length (behind_gate s) ≡ 12 + length s.body
 length-behind_gate s = omega arith
 
-pub fills_slot : (b : Bool) (f : List ℕ) (slot : Slot) → goes_second (standing_of f) ≡ b → has_closed_gate (place_of b) f ≡ true → length slot.body ≤ MAX_BODY → FillsSlot f (place_of b) slot
+pub fills_slot : (b : Bool) (f : List ℕ) (slot : Slot) → goes_second (standing_of f) ≡ b
+    → has_closed_gate (place_of b) f ≡ true → length slot.body ≤ MAX_BODY → FillsSlot f (place_of b) slot
 fills_slot b f slot e h short =
     let place = place_of b in
     let n = length (behind_gate slot) in
     let g = gate_shut place f h in
     let shut : (c : List ℕ) → Torn (place + 1) n f c → own b c ≡ None = λ c torn.
-    ap slot_of (drop_more c place 0 (omega (arith, g.there, torn.no_shorter))) ∙ slot_of-closed (get_or c place 0) (drop (place + 1) c) (fill_gate place n f c g torn) in
+    ap slot_of (drop_more c place 0 (omega (arith, g.there, torn.no_shorter)))
+    ∙ slot_of-closed (get_or c place 0) (drop (place + 1) c) (fill_gate place n f c g torn) in
     let stop : (c : List ℕ) → Torn (place + 1) n f c → standing_of c ≡ standing_of f = λ c torn.
     stands_on b f c e (torn_other b (place + 1) n f c e (omega arith) (omega (arith, short, length-behind_gate slot)) torn) (inl (shut c torn)) in
     let w = written (place + 1) (behind_gate slot) f in
@@ -134,11 +143,13 @@ fills_slot b f slot e h short =
         gate = get_or w place 0;
         rest = drop (place + 1 + n) f;
         not_open = fill_gate place n f w g whole;
-        is = drop_more w place 0 (omega (arith, g.there, whole.no_shorter)) ∙ ap (λ (l : List ℕ). get_or w place 0 ∷ l) (drop-written (place + 1) (behind_gate slot) f);
+        is = drop_more w place 0 (omega (arith, g.there, whole.no_shorter))
+            ∙ ap (λ (l : List ℕ). get_or w place 0 ∷ l) (drop-written (place + 1) (behind_gate slot) f);
       };
     }
 
-pub opens_gate : (b : Bool) (f body : List ℕ) → goes_second (standing_of f) ≡ b → is_body_text body ≡ true → length body ≤ MAX_BODY → next_sequence (standing_of f) < 2 ^ 64
+pub opens_gate : (b : Bool) (f body : List ℕ) → goes_second (standing_of f) ≡ b
+    → is_body_text body ≡ true → length body ≤ MAX_BODY → next_sequence (standing_of f) < 2 ^ 64
     → IsFilled (place_of b) (next_slot (standing_of f) body) f → OpensGate f body (place_of b)
 opens_gate b f body e is_text short number filled =
     let place = place_of b in
@@ -158,5 +169,6 @@ opens_gate b f body e is_text short number filled =
     let w = written place (1 ∷ []) f in
     record {
       stop = stop;
-      standing = stands_new b f w body e (other w (torn-written place (1 ∷ []) f)) (ap slot_of (drop-written place (1 ∷ []) f ∙ ap (λ (l : List ℕ). 1 ∷ l) behind) ∙ new refl);
+      standing = stands_new b f w body e (other w (torn-written place (1 ∷ []) f))
+          (ap slot_of (drop-written place (1 ∷ []) f ∙ ap (λ (l : List ℕ). 1 ∷ l) behind) ∙ new refl);
     }

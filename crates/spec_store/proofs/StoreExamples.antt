@@ -45,7 +45,8 @@ unfolding slot_of entry_of entries_in entries_of
 open_slot = refl
 
 -- another gate, a missing byte, and a body that is no body text do not count
-closed_slots : map slot_of (text 0 7 body ∷ text 7 7 body ∷ hex (codes "01 0700000000000000 04000000 000000") ∷ text 1 7 (hex (codes "01000000")) ∷ [] ∷ []) ≡ None ∷ None ∷ None ∷ None ∷ None ∷ []
+closed_slots : map slot_of (text 0 7 body ∷ text 7 7 body ∷ hex (codes "01 0700000000000000 04000000 000000") ∷ text 1 7 (hex (codes "01000000")) ∷ [] ∷ [])
+    ≡ None ∷ None ∷ None ∷ None ∷ None ∷ []
 unfolding slot_of entry_of entries_in entries_of
 closed_slots = refl
 
@@ -65,12 +66,14 @@ unfolding slot_of entry_of entries_in entries_of
 one_counts = refl
 
 -- an empty file stands for nothing, and its first save goes to the first slot
-first_save : calls_of_save [] empty_body ≡ WriteAt 0 (0 ∷ []) ∷ Sync ∷ WriteAt 1 (hex (codes "0100000000000000 04000000 00000000")) ∷ Sync ∷ WriteAt 0 (1 ∷ []) ∷ Sync ∷ []
+first_save : calls_of_save [] empty_body ≡ WriteAt 0 (0 ∷ []) ∷ Sync
+    ∷ WriteAt 1 (hex (codes "0100000000000000 04000000 00000000")) ∷ Sync ∷ WriteAt 0 (1 ∷ []) ∷ Sync ∷ []
 unfolding standing_of slot_of entry_of entries_in entries_of
 first_save = refl
 
 -- the second save goes to the second slot, which the file does not reach
-second_save : calls_of_save (text 1 1 empty_body) empty_body ≡ WriteAt 1048592 (0 ∷ []) ∷ Sync ∷ WriteAt 1048593 (hex (codes "0200000000000000 04000000 00000000")) ∷ Sync ∷ WriteAt 1048592 (1 ∷ []) ∷ Sync ∷ []
+second_save : calls_of_save (text 1 1 empty_body) empty_body ≡ WriteAt 1048592 (0 ∷ []) ∷ Sync
+    ∷ WriteAt 1048593 (hex (codes "0200000000000000 04000000 00000000")) ∷ Sync ∷ WriteAt 1048592 (1 ∷ []) ∷ Sync ∷ []
 unfolding standing_of slot_of entry_of entries_in entries_of
 second_save = refl
 

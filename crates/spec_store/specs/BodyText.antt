@@ -1,6 +1,7 @@
 -- The body of a store: a number of entries, each with the bytes of one symbol. Every number is little-endian.
 -- This project's own format.
-use Rattle.std.specs.Prelude.{ℕ, zero, suc, ◌<◌, ◌^◌, List, [], ◌∷◌, ◌++◌, length, take, drop, flat_map, Bool, nat_lt, if◌then◌else◌, Option, Some, None, is_some, option_map, option_and_then}
+use Rattle.std.specs.Prelude.{ℕ, zero, suc, ◌<◌, ◌^◌, List, [], ◌∷◌, ◌++◌, length, take, drop, flat_map, Bool}
+use Rattle.std.specs.Prelude.{nat_lt, if◌then◌else◌, Option, Some, None, is_some, option_map, option_and_then}
 use Rattle.std.specs.Int.{w16, w32, w64, to_le_bytes}
 use Rattle.spec_formats.specs.Numbers.{number16, number32, number64}
 

@@ -1,5 +1,6 @@
 -- A save: which slot it goes to, its number, and its calls of the disk. This project's own choice.
-use Rattle.std.specs.Prelude.{ℕ, ◌+◌, ◌-◌, ◌^◌, List, [], ◌∷◌, ◌++◌, length, drop, Bool, false, ◌&&◌, ◌||◌, not, nat_lt, ◌==◌, if◌then◌else◌, Option, Some, None}
+use Rattle.std.specs.Prelude.{ℕ, ◌+◌, ◌-◌, ◌^◌, List, [], ◌∷◌, ◌++◌, length, drop, Bool, false, ◌&&◌, ◌||◌}
+use Rattle.std.specs.Prelude.{not, nat_lt, ◌==◌, if◌then◌else◌, Option, Some, None}
 use Rattle.std.specs.Option.{option_map_or}
 use Rattle.spec_store.specs.Slots.{MAX_BODY, SECOND_SLOT, Slot, behind_gate, is_open, Standing, standing_of}
 use Rattle.spec_store.specs.Stops.{DiskCall, WriteAt, Sync}

@@ -1,5 +1,6 @@
 -- The two slots of a store's file, and what the file stands for. This project's own format.
-use Rattle.std.specs.Prelude.{ℕ, ◌+◌, List, ◌++◌, length, take, drop, slice_index, Bool, true, false, ◌&&◌, ◌==◌, nat_le, if◌then◌else◌, Option, Some, None, option_map}
+use Rattle.std.specs.Prelude.{ℕ, ◌+◌, List, ◌++◌, length, take, drop, slice_index, Bool, true, false, ◌&&◌}
+use Rattle.std.specs.Prelude.{◌==◌, nat_le, if◌then◌else◌, Option, Some, None, option_map}
 use Rattle.std.specs.Int.{w32, w64, to_le_bytes}
 use Rattle.spec_formats.specs.Numbers.{number32, number64}
 use Rattle.spec_store.specs.BodyText.{is_body_text}

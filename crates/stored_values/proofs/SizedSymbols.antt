@@ -10,13 +10,15 @@ use Rattle.symbol_table.specs.Tables.{is_typed}
 use Rattle.symbol_table.proofs.PlacedSymbols.{typed_placed, typed-sized, port_is_placed}
 use Rattle.stored_values.specs.StoredBodies.{IsAcceptedForSome, AreSized, AreSizedPorts}
 
-symbols_sized : (types : List NamedType) (symbols : List Symbol) → list_all (is_typed types) symbols ≡ true → (k : ℕ) (d : Symbol) → k < length symbols → IsSized types (get_or symbols k d).shape
+symbols_sized : (types : List NamedType) (symbols : List Symbol) → list_all (is_typed types) symbols ≡ true
+    → (k : ℕ) (d : Symbol) → k < length symbols → IsSized types (get_or symbols k d).shape
 symbols_sized types [] h k d within = absurd (omega (arith, within))
 symbols_sized types (s ∷ symbols) h zero d within = typed-sized types s (and_parts (is_typed types s) (list_all (is_typed types) symbols) h).0
 symbols_sized types (s ∷ symbols) h (suc k) d within =
     symbols_sized types symbols (and_parts (is_typed types s) (list_all (is_typed types) symbols) h).1 k d (omega (arith, within))
 
-ports_sized : (types : List NamedType) (signals : ℕ) (ports : List Port) → AreTypes types → list_all (is_port types signals) ports ≡ true → (k : ℕ) (d : Port) → k < length ports → AreSized types (get_or ports k d).symbols
+ports_sized : (types : List NamedType) (signals : ℕ) (ports : List Port) → AreTypes types
+    → list_all (is_port types signals) ports ≡ true → (k : ℕ) (d : Port) → k < length ports → AreSized types (get_or ports k d).symbols
 ports_sized types signals [] are h k d within = absurd (omega (arith, within))
 ports_sized types signals (p ∷ ports) are h zero d within =
     let placed = port_is_placed types signals p are (and_parts (is_port types signals p) (list_all (is_port types signals) ports) h).0 in

@@ -190,9 +190,12 @@ runs-next stands_for given leaves form form' m k heads written heads' written' r
     subst (λ x. Adds stands_for given leaves x s v1 f f1 out out1) first one in
     let more' : RunsAll stands_for given leaves form' k heads' written' (leaves s (part_of form heads written)) v2 f1 f2 out1 out2 =
     subst (λ x. RunsAll stands_for given leaves form' k heads' written' (leaves s x) v2 f1 f2 out1 out2) first more in
-    let behind : RunsAll stands_for given leaves form k (drop (head_width form) heads) (drop (written_len form heads) written) (leaves s (part_of form heads written)) v2 f1 f2 out1 out2 =
-    subst (λ x. RunsAll stands_for given leaves x k (drop (head_width form) heads) (drop (written_len form heads) written) (leaves s (part_of form heads written)) v2 f1 f2 out1 out2) b.form_same
-    (subst (λ x. RunsAll stands_for given leaves form' k x (drop (written_len form heads) written) (leaves s (part_of form heads written)) v2 f1 f2 out1 out2) b.heads_left
+    let behind : RunsAll stands_for given leaves form k (drop (head_width form) heads)
+    (drop (written_len form heads) written) (leaves s (part_of form heads written)) v2 f1 f2 out1 out2 =
+    subst (λ x. RunsAll stands_for given leaves x k (drop (head_width form) heads)
+    (drop (written_len form heads) written) (leaves s (part_of form heads written)) v2 f1 f2 out1 out2) b.form_same
+    (subst (λ x. RunsAll stands_for given leaves form' k x (drop (written_len form heads) written) (leaves s (part_of form heads written)) v2 f1 f2 out1 out2)
+    b.heads_left
     (subst (λ x. RunsAll stands_for given leaves form' k heads' x (leaves s (part_of form heads written)) v2 f1 f2 out1 out2) b.written_left more')) in
     subst (λ x. RunsAll stands_for given leaves form x heads written s v2 f f2 out out2) (sym e)
     (runs-suc stands_for given leaves form k heads written s v1 v2 f f1 f2 out out1 out2 here behind)

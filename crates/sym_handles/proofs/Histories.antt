@@ -8,7 +8,8 @@ use Rattle.symbol_table.specs.declared.kept.KeptPlace.{KeptPlace}
 use Rattle.symbol_table.specs.declared.place.Place.{Place}
 use Rattle.symbol_table.specs.Moves.{moved_place}
 use Rattle.spec_machine.specs.ByName.{MAX_LIVE, MAX_NUMBER}
-use Rattle.spec_machine.specs.Handles.{HandleStatus, Never, Released, Outdated, Live, HandleEvent, Grant, Release, Reload, Handle, status_of, handles_after, handle_after_reload}
+use Rattle.spec_machine.specs.Handles.{HandleStatus, Never, Released, Outdated, Live, HandleEvent, Grant}
+use Rattle.spec_machine.specs.Handles.{Release, Reload, Handle, status_of, handles_after, handle_after_reload}
 use Rattle.spec_machine.specs.HandleLaws.{handles_after_all, handles_of}
 use Rattle.spec_machine.proofs.HandleStatuses.{status_is_history, length_granted, length_mapped, length_released}
 use Rattle.sym_handles.specs.Kept.{KeptHandle, Kept, moved_handle, without}
@@ -17,13 +18,15 @@ use Rattle.sym_handles.specs.Found.{kept_handle, place_or_code, look_among}
 use Rattle.sym_handles.specs.Records.{live_among, is_full}
 use Rattle.sym_handles.proofs.KeptHandles.{kept_from-granted, kept_from-moved, kept_from-released, live_count-kept, place_kept, place_found, place_found-kept}
 
-handles_after_all-push : (es : History) (hs : List (Handle Place)) (e : HandleEvent Place) → handles_after_all hs (es ++ e ∷ []) ≡ handles_after (handles_after_all hs es) e
+handles_after_all-push : (es : History) (hs : List (Handle Place)) (e : HandleEvent Place)
+    → handles_after_all hs (es ++ e ∷ []) ≡ handles_after (handles_after_all hs es) e
 unfolding handles_after_all
 handles_after_all-push [] hs e = refl
 handles_after_all-push (x ∷ es) hs e = handles_after_all-push es (handles_after hs x) e
 
 -- what is kept, by its parts
-pub kept_is : (kept : Kept) (granted : ℕ) (handles : List KeptHandle) → kept.granted ≡ granted → kept.handles ≡ handles → kept ≡ record { granted = granted; handles = handles }
+pub kept_is : (kept : Kept) (granted : ℕ) (handles : List KeptHandle) → kept.granted ≡ granted
+    → kept.handles ≡ handles → kept ≡ record { granted = granted; handles = handles }
 kept_is kept granted handles g h = ap (λ (n : ℕ). kept_of n kept.handles) g ∙ ap (kept_of granted) h
   where
     kept_of : ℕ → List KeptHandle → Kept
@@ -46,10 +49,12 @@ represents_granted kept new h port p r more last =
     record {
       granted = more ∙ (let e = r.granted in let c : kept.granted + 1 ≡ length (hs ++ g ∷ []) = omega (arith, e, count) in c) ∙ ap length (sym after);
       handles = last ∙ ap (λ (xs : List KeptHandle). xs ++ record { number = kept.granted + 1; port = port; place = Some p } ∷ []) r.handles
-          ∙ ap (λ (k : ℕ). kept_from 1 hs ++ record { number = k; port = port; place = Some p } ∷ []) n ∙ sym (kept_from-granted hs 1 port p) ∙ ap (kept_from 1) (sym after);
+          ∙ ap (λ (k : ℕ). kept_from 1 hs ++ record { number = k; port = port; place = Some p } ∷ []) n
+          ∙ sym (kept_from-granted hs 1 port p) ∙ ap (kept_from 1) (sym after);
     }
 
-pub represents_released : (kept new : Kept) (h : History) (handle : ℕ) → Represents kept h → new.granted ≡ kept.granted → new.handles ≡ without handle kept.handles → Represents new (h ++ Release handle ∷ [])
+pub represents_released : (kept new : Kept) (h : History) (handle : ℕ) → Represents kept h
+    → new.granted ≡ kept.granted → new.handles ≡ without handle kept.handles → Represents new (h ++ Release handle ∷ [])
 unfolding handles_after
 represents_released kept new h handle r same left =
     let hs = handles_of h in
@@ -59,7 +64,8 @@ represents_released kept new h handle r same left =
       handles = left ∙ ap (without handle) r.handles ∙ sym (kept_from-released hs handle) ∙ ap (kept_from 1) (sym after);
     }
 
-pub represents_moved : (kept new : Kept) (h : History) (places : List KeptPlace) → Represents kept h → new.granted ≡ kept.granted → new.handles ≡ map (moved_handle places) kept.handles
+pub represents_moved : (kept new : Kept) (h : History) (places : List KeptPlace) → Represents kept h
+    → new.granted ≡ kept.granted → new.handles ≡ map (moved_handle places) kept.handles
     → Represents new (h ++ Reload (moved_place places) ∷ [])
 unfolding handles_after
 represents_moved kept new h places r same moved =
@@ -91,7 +97,8 @@ release_of-on Outdated = refl
 release_of-on (Live p) = refl
 
 -- the place that is kept is that of the history's status
-found_in : (kept : Kept) (h : History) (handle port : ℕ) → Represents kept h → place_kept (status_of h handle port) ≡ place_found (kept_handle handle port kept.handles)
+found_in : (kept : Kept) (h : History) (handle port : ℕ) → Represents kept h
+    → place_kept (status_of h handle port) ≡ place_found (kept_handle handle port kept.handles)
 found_in kept h handle port r =
     ap place_kept (sym (status_is_history Place h handle port)) ∙ place_found-kept (handles_of h) handle port
     ∙ ap (λ (hs : List KeptHandle). place_found (kept_handle handle port hs)) (sym r.handles)
@@ -101,17 +108,20 @@ look_on-among None = refl
 look_on-among (Some h) = refl
 
 -- a look-up of the history is one among those that are kept
-pub look_in : (kept : Kept) (h : History) (handle port : ℕ) → Represents kept h → look_up (status_of h handle port) ≡ look_among (kept_handle handle port kept.handles)
+pub look_in : (kept : Kept) (h : History) (handle port : ℕ) → Represents kept h
+    → look_up (status_of h handle port) ≡ look_among (kept_handle handle port kept.handles)
 look_in kept h handle port r =
     look_up-on (status_of h handle port) ∙ ap look_on (found_in kept h handle port r) ∙ look_on-among (kept_handle handle port kept.handles)
 
 -- a handle that is not kept is refused
-pub release_none : (kept : Kept) (h : History) (handle port : ℕ) → Represents kept h → kept_handle handle port kept.handles ≡ None → release_of (status_of h handle port) ≡ Err C710
+pub release_none : (kept : Kept) (h : History) (handle port : ℕ) → Represents kept h
+    → kept_handle handle port kept.handles ≡ None → release_of (status_of h handle port) ≡ Err C710
 release_none kept h handle port r none =
     release_of-on (status_of h handle port) ∙ ap release_on (found_in kept h handle port r) ∙ ap (λ (o : Option KeptHandle). release_on (place_found o)) none
 
 -- a handle that is kept can be released
-pub release_some : (kept : Kept) (h : History) (handle port : ℕ) (k : KeptHandle) → Represents kept h → kept_handle handle port kept.handles ≡ Some k → release_of (status_of h handle port) ≡ Ok tt
+pub release_some : (kept : Kept) (h : History) (handle port : ℕ) (k : KeptHandle) → Represents kept h
+    → kept_handle handle port kept.handles ≡ Some k → release_of (status_of h handle port) ≡ Ok tt
 release_some kept h handle port k r some =
     release_of-on (status_of h handle port) ∙ ap release_on (found_in kept h handle port r) ∙ ap (λ (o : Option KeptHandle). release_on (place_found o)) some
 

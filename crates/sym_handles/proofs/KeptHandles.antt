@@ -1,11 +1,14 @@
 -- What is kept of a list of handles, after each event, and where a handle is found in it.
-use Rattle.std.proofs.Common.{◌≡◌, ◌≢◌, ℕ, ◌+◌, ◌-◌, ◌<◌, List, [], ◌∷◌, ◌++◌, map, length, true, false, cond, refl, sym, ◌∙◌, ap, subst, inl, inr, arith, ◌==◌, get_or}
+use Rattle.std.proofs.Common.{◌≡◌, ◌≢◌, ℕ, ◌+◌, ◌-◌, ◌<◌, List, [], ◌∷◌, ◌++◌, map, length, true, false, cond}
+use Rattle.std.proofs.Common.{refl, sym, ◌∙◌, ap, subst, inl, inr, arith, ◌==◌, get_or}
 use Rattle.std.specs.Prelude.{Result, IfOk, Contains, ok_or, Option, Some, None, filter, option_map}
 use Rattle.std.proofs.lemmas.Bool.{cases_Bool, cases_lt, eqb-true, eqb-false, eq-eqb, ne_eqb}
 use Rattle.symbol_table.specs.declared.kept.KeptPlace.{KeptPlace}
 use Rattle.symbol_table.specs.declared.place.Place.{Place}
 use Rattle.symbol_table.specs.Moves.{moved_place}
-use Rattle.spec_machine.specs.Handles.{HandleStatus, Never, Released, Outdated, Live, Handle, handle_in, status_of_handle, with_released, status_after_reload, live_or_outdated, handle_after_reload, is_live, live_count}
+use Rattle.spec_machine.specs.Handles.{HandleStatus, Never, Released, Outdated, Live, Handle, handle_in}
+use Rattle.spec_machine.specs.Handles.{status_of_handle, with_released, status_after_reload, live_or_outdated}
+use Rattle.spec_machine.specs.Handles.{handle_after_reload, is_live, live_count}
 use Rattle.sym_handles.specs.Kept.{KeptHandle, moved_handle, without}
 use Rattle.sym_handles.specs.History.{kept_before, kept_from}
 use Rattle.sym_handles.specs.Found.{kept_handle, IsHandleAt}
@@ -24,7 +27,8 @@ kept_before-append n port (Live p) xs ys = refl
 abbrev new_handle : ℕ → ℕ → Place → List KeptHandle
 new_handle n port p = record { number = n; port = port; place = Some p } ∷ []
 
-pub kept_from-granted : (hs : List (Handle Place)) (n port : ℕ) (p : Place) → kept_from n (hs ++ record { port = port; status = Live p } ∷ []) ≡ kept_from n hs ++ record { number = n + length hs; port = port; place = Some p } ∷ []
+pub kept_from-granted : (hs : List (Handle Place)) (n port : ℕ) (p : Place)
+    → kept_from n (hs ++ record { port = port; status = Live p } ∷ []) ≡ kept_from n hs ++ record { number = n + length hs; port = port; place = Some p } ∷ []
 kept_from-granted [] n port p = let e : n ≡ n + 0 = omega arith in ap (λ (k : ℕ). new_handle k port p) e
 kept_from-granted (h ∷ hs) n port p =
     let e : n + 1 + length hs ≡ n + length (h ∷ hs) = omega arith in
@@ -41,11 +45,13 @@ kept_before-moved kept n port Released xs = refl
 kept_before-moved kept n port Outdated xs = refl
 kept_before-moved kept n port (Live p) xs = go (moved_place kept port p)
   where
-    go : (o : Option Place) → kept_before n port (live_or_outdated o) (map (moved_handle kept) xs) ≡ record { number = n; port = port; place = o } ∷ map (moved_handle kept) xs
+    go : (o : Option Place)
+        → kept_before n port (live_or_outdated o) (map (moved_handle kept) xs) ≡ record { number = n; port = port; place = o } ∷ map (moved_handle kept) xs
     go None = refl
     go (Some q) = refl
 
-pub kept_from-moved : (kept : List KeptPlace) (hs : List (Handle Place)) (n : ℕ) → kept_from n (map (handle_after_reload (moved_place kept)) hs) ≡ map (moved_handle kept) (kept_from n hs)
+pub kept_from-moved : (kept : List KeptPlace) (hs : List (Handle Place)) (n : ℕ)
+    → kept_from n (map (handle_after_reload (moved_place kept)) hs) ≡ map (moved_handle kept) (kept_from n hs)
 kept_from-moved kept [] n = refl
 kept_from-moved kept (h ∷ hs) n =
     ap (kept_before n h.port (status_after_reload (moved_place kept h.port) h.status)) (kept_from-moved kept hs (n + 1))
@@ -59,7 +65,8 @@ without_this n port Released xs = refl
 without_this n port Outdated xs = let t = eq-eqb n n refl in rw t refl
 without_this n port (Live p) xs = let t = eq-eqb n n refl in rw t refl
 
-without_other : (k n port : ℕ) (s : HandleStatus Place) (xs : List KeptHandle) → n ≢ k → without k (kept_before n port s xs) ≡ kept_before n port s (without k xs)
+without_other : (k n port : ℕ) (s : HandleStatus Place) (xs : List KeptHandle)
+    → n ≢ k → without k (kept_before n port s xs) ≡ kept_before n port s (without k xs)
 without_other k n port Never xs ne = refl
 without_other k n port Released xs ne = refl
 without_other k n port Outdated xs ne = let t = ne_eqb n k ne in rw t refl
@@ -119,7 +126,8 @@ live_before n port (Live p) h xs ys e = omega (arith, e)
 
 pub live_count-kept : (hs : List (Handle Place)) (n : ℕ) → live_count hs ≡ live_among (kept_from n hs)
 live_count-kept [] n = refl
-live_count-kept (h ∷ hs) n = live_before n h.port h.status h (filter (λ (k : Handle Place). is_live k.status) hs) (kept_from (n + 1) hs) (live_count-kept hs (n + 1))
+live_count-kept (h ∷ hs) n =
+    live_before n h.port h.status h (filter (λ (k : Handle Place). is_live k.status) hs) (kept_from (n + 1) hs) (live_count-kept hs (n + 1))
 
 -- The place that is kept of a handle by its status: none where it is not kept, and no place where it is outdated.
 abbrev pub place_kept : HandleStatus Place → Option (Option Place)
@@ -131,7 +139,8 @@ place_kept (Live p) = Some (Some p)
 abbrev pub place_found : Option KeptHandle → Option (Option Place)
 place_found o = option_map (λ (h : KeptHandle). h.place) o
 
-found_other : (k port n other : ℕ) (s : HandleStatus Place) (xs : List KeptHandle) → n ≢ k → kept_handle k port (kept_before n other s xs) ≡ kept_handle k port xs
+found_other : (k port n other : ℕ) (s : HandleStatus Place) (xs : List KeptHandle)
+    → n ≢ k → kept_handle k port (kept_before n other s xs) ≡ kept_handle k port xs
 found_other k port n other Never xs ne = refl
 found_other k port n other Released xs ne = refl
 found_other k port n other Outdated xs ne = let t = ne_eqb n k ne in rw t refl
@@ -168,7 +177,8 @@ unfolding handle_in
 handle_in-zero [] = refl
 handle_in-zero (h ∷ hs) = handle_in-zero hs
 
-found_at : (hs : List (Handle Place)) (n m port : ℕ) → 0 < n → place_kept (status_of_handle port (handle_in hs n)) ≡ place_found (kept_handle (n + m) port (kept_from (m + 1) hs))
+found_at : (hs : List (Handle Place)) (n m port : ℕ) → 0 < n
+    → place_kept (status_of_handle port (handle_in hs n)) ≡ place_found (kept_handle (n + m) port (kept_from (m + 1) hs))
 unfolding handle_in
 found_at [] n m port some = refl
 found_at (h ∷ hs) n m port some =
@@ -188,7 +198,8 @@ found_at (h ∷ hs) n m port some =
     ]
 
 -- the handle that is found is that of the list
-pub place_found-kept : (hs : List (Handle Place)) (n port : ℕ) → place_kept (status_of_handle port (handle_in hs n)) ≡ place_found (kept_handle n port (kept_from 1 hs))
+pub place_found-kept : (hs : List (Handle Place)) (n port : ℕ)
+    → place_kept (status_of_handle port (handle_in hs n)) ≡ place_found (kept_handle n port (kept_from 1 hs))
 place_found-kept hs n port =
     elim (cases_lt 0 n) [
       | inl some ↦
@@ -204,7 +215,8 @@ abbrev new : ℕ → ℕ → Option Place → KeptHandle
 new number port place = record { number = number; port = port; place = place }
 
 -- a look-up that succeeds gives the place of a handle that is kept
-pub place_contained : (hs : List KeptHandle) (handle port i : ℕ) (o : Option Place) (answer : Result Place Code) → IsHandleAt hs handle port i → ((d : KeptHandle) → o ≡ (get_or hs i d).place)
+pub place_contained : (hs : List KeptHandle) (handle port i : ℕ) (o : Option Place) (answer : Result Place Code)
+    → IsHandleAt hs handle port i → ((d : KeptHandle) → o ≡ (get_or hs i d).place)
     → answer ≡ ok_or o C711 → IfOk answer (λ (p : Place). Contains hs (record { number = handle; port = port; place = Some p }))
 place_contained hs handle port i None answer is_at same e = rw e tt
 place_contained hs handle port i (Some p) answer is_at same e = rw e (i, is_at.inside, whole)
@@ -212,4 +224,5 @@ place_contained hs handle port i (Some p) answer is_at same e = rw e (i, is_at.i
     whole : get_or hs i (new handle port (Some p)) ≡ new handle port (Some p)
     whole =
         let h = new handle port (Some p) in
-        ap (λ (n : ℕ). new n (get_or hs i h).port (get_or hs i h).place) (is_at.number h) ∙ ap (λ (n : ℕ). new handle n (get_or hs i h).place) (is_at.port h) ∙ ap (new handle port) (sym (same h))
+        ap (λ (n : ℕ). new n (get_or hs i h).port (get_or hs i h).place) (is_at.number h)
+        ∙ ap (λ (n : ℕ). new handle n (get_or hs i h).place) (is_at.port h) ∙ ap (new handle port) (sym (same h))

@@ -1,5 +1,7 @@
 -- Records in a slab, and the list of the handles that they belong to. Private: no public clause cites this file.
-use Rattle.std.specs.Prelude.{◌≡◌, ◌≢◌, ℕ, ◌<◌, ◌≤◌, List, map, length, slice_index_or, Bool, IsSome, Option, None, is_some, unwrap_or, count_by, All, AllPairs, filter, ◌||◌, nat_le, if◌then◌else◌, option_and_then}
+use Rattle.std.specs.Prelude.{◌≡◌, ◌≢◌, ℕ, ◌<◌, ◌≤◌, List, map, length, slice_index_or, Bool, IsSome, Option}
+use Rattle.std.specs.Prelude.{None, is_some, unwrap_or, count_by, All, AllPairs, filter, ◌||◌, nat_le}
+use Rattle.std.specs.Prelude.{if◌then◌else◌, option_and_then}
 use Rattle.spec_machine.specs.ByName.{MAX_LIVE, MAX_NUMBER}
 use Rattle.symbol_table.specs.declared.kept.KeptPlace.{KeptPlace}
 use Rattle.symbol_table.specs.Moves.{moved_place}

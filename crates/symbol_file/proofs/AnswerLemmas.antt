@@ -23,7 +23,8 @@ described-accepted signals table x h = go (table_verdict signals table) refl h
     go (Ok y) is e = table_verdict-accepted signals table x (is ∙ ap Ok (let same : y ≡ x = cc in same))
     go (Err fault) is e = cc
 
-pub answer-accepted : (signals : ℕ) (table : Members) (answer : Result layout.Description DescFault) → answer_of answer ≡ verdict_of_rules (table_verdict signals table)
+pub answer-accepted : (signals : ℕ) (table : Members) (answer : Result layout.Description DescFault)
+    → answer_of answer ≡ verdict_of_rules (table_verdict signals table)
     → IfOk answer (λ d. IsAccepted (description_of d) signals)
 answer-accepted signals table (Ok d) e = described-accepted signals table (description_of d) (sym e)
 answer-accepted signals table (Err fault) e = tt
@@ -59,12 +60,14 @@ text_verdict-short signals bytes document short is =
       | inr t ↦ rw t (ap (verdict_of_document signals) is)
     ]
 
-pub verdict-behind : {E : Type 0} (signals : ℕ) (bytes : List ℕ) (table : Members) (r : Result (Result layout.Description DescFault) E) → length bytes ≤ DESCRIPTION_LIMIT
+pub verdict-behind : {E : Type 0} (signals : ℕ) (bytes : List ℕ) (table : Members) (r : Result (Result layout.Description DescFault) E)
+    → length bytes ≤ DESCRIPTION_LIMIT
     → Some table ≡ document_of bytes → IfOk r (λ answer. answer_of answer ≡ verdict_of_rules (table_verdict signals table)) → IfOk r (IsVerdict signals bytes)
 verdict-behind signals bytes table (Ok answer) short is e = e ∙ text_verdict-short signals bytes (Some table) short is
 verdict-behind signals bytes table (Err error) short is e = tt
 
 pub accepted-behind : {E : Type 0} (signals : ℕ) (table : Members) (r : Result (Result layout.Description DescFault) E)
-    → IfOk r (λ answer. answer_of answer ≡ verdict_of_rules (table_verdict signals table)) → IfOk r (λ answer. IfOk answer (λ d. IsAccepted (description_of d) signals))
+    → IfOk r (λ answer. answer_of answer ≡ verdict_of_rules (table_verdict signals table))
+    → IfOk r (λ answer. IfOk answer (λ d. IsAccepted (description_of d) signals))
 accepted-behind signals table (Ok answer) e = answer-accepted signals table answer e
 accepted-behind signals table (Err error) e = tt

@@ -1,5 +1,6 @@
 -- Where no rule is broken, the numbers and texts of a document fit the values of a description.
-use Rattle.std.proofs.Common.{◌≡◌, ℕ, ◌+◌, ◌-◌, ◌^◌, ◌<◌, ◌≤◌, Bool, true, List, [], ◌∷◌, ◌++◌, length, map, replicate, sym, ap, ◌∙◌, arith, length-append, Vec, Global, Bor}
+use Rattle.std.proofs.Common.{◌≡◌, ℕ, ◌+◌, ◌-◌, ◌^◌, ◌<◌, ◌≤◌, Bool, true, List, [], ◌∷◌, ◌++◌, length, map}
+use Rattle.std.proofs.Common.{replicate, sym, ap, ◌∙◌, arith, length-append, Vec, Global, Bor}
 use Rattle.std.specs.Prelude.{Option, Some, None, Ok, is_some, option_map, IfSome, ℤ}
 use Rattle.std.specs.List.{All, list_all}
 use Rattle.std.proofs.lemmas.Bool.{and_parts, leb-true, ltb-true, eqb-true}
@@ -28,7 +29,8 @@ use Rattle.symbol_file.specs.Judged.{fault_of}
 use Rattle.symbol_file.specs.Fitting.{IsNetText, SymbolFits, PortFits, DocumentFits}
 
 -- what holds of each that passes a test, where all pass
-All-passing : {X Y : Type 0} (test : Y → Bool) (f : X → Y) (P : X → Type 0) → ((x : X) → test (f x) ≡ true → P x) → (xs : List X) → list_all test (map f xs) ≡ true → All P xs
+All-passing : {X Y : Type 0} (test : Y → Bool) (f : X → Y) (P : X → Type 0)
+    → ((x : X) → test (f x) ≡ true → P x) → (xs : List X) → list_all test (map f xs) ≡ true → All P xs
 All-passing test f P says [] h = All-nil P
 All-passing test f P says (x ∷ xs) h =
     let parts = and_parts (test (f x)) (list_all test (map f xs)) h in
@@ -52,7 +54,8 @@ HasNets s = IfSome s.writers (λ v. All (λ t. IsNetText t.now) v.items)
 writers_fit : (types : List NamedType) (s : WrittenSymbol) → is_right_content types (symbol_view s) ≡ true → HasNets s
 writers_fit types s h = go s.writers (and_parts _ _ h).1
   where
-    go : (o : Option (Vec (Bor (List ℕ)) Global)) → are_right_writers (option_map (λ v. map text_view v.items) o) ≡ true → IfSome o (λ v. All (λ t. IsNetText t.now) v.items)
+    go : (o : Option (Vec (Bor (List ℕ)) Global)) → are_right_writers (option_map (λ v. map text_view v.items) o) ≡ true
+        → IfSome o (λ v. All (λ t. IsNetText t.now) v.items)
     go None e = tt
     go (Some v) e =
         let none = none_of (first_wrong is_right_writer [] (map text_view v.items)) (and_parts _ _ e).1 in
@@ -62,17 +65,21 @@ abbrev HaveNets : WrittenPort → Type 0
 HaveNets p = All HasNets p.symbols.items
 
 ports_have_nets : (types : List NamedType) (before : List rules.WrittenPort) (ports : List WrittenPort)
-    → first_through (λ (p : rules.WrittenPort). length p.symbols) (λ b (p : rules.WrittenPort). first_wrong (λ c (s : rules.WrittenSymbol). is_right_content types s) [] p.symbols) before (map port_view ports) ≡ None
+    → first_through (λ (p : rules.WrittenPort). length p.symbols)
+    (λ b (p : rules.WrittenPort). first_wrong (λ c (s : rules.WrittenSymbol). is_right_content types s) [] p.symbols) before (map port_view ports) ≡ None
     → All HaveNets ports
 ports_have_nets types before [] h = All-nil HaveNets
 ports_have_nets types before (p ∷ ps) h =
-    let first = first_through-none (λ (q : rules.WrittenPort). length q.symbols) (λ b (q : rules.WrittenPort). first_wrong (λ c (s : rules.WrittenSymbol). is_right_content types s) [] q.symbols) before (port_view p) (map port_view ps) h in
+    let first = first_through-none (λ (q : rules.WrittenPort). length q.symbols)
+    (λ b (q : rules.WrittenPort). first_wrong (λ c (s : rules.WrittenSymbol). is_right_content types s) [] q.symbols) before
+    (port_view p) (map port_view ps) h in
     All-cons HaveNets p ps
     (All-right (λ c s. is_right_content types s) symbol_view HasNets (λ b s g. writers_fit types s g) [] p.symbols.items first.0)
     (ports_have_nets types (before ++ port_view p ∷ []) ps first.1)
 
 -- symbols
-signal_fits : (signals : ℕ) (shape : Shape) (o : Option ℤ) → signals < 2 ^ 32 → is_signal_right signals shape (option_map natural_of o) ≡ true → IfSome o (λ n. natural_of n < 2 ^ 32)
+signal_fits : (signals : ℕ) (shape : Shape) (o : Option ℤ) → signals < 2 ^ 32
+    → is_signal_right signals shape (option_map natural_of o) ≡ true → IfSome o (λ n. natural_of n < 2 ^ 32)
 signal_fits signals shape None most h = tt
 signal_fits signals shape (Some n) most h =
     let below = ltb-true (natural_of n) signals (and_parts _ _ h).0 in
@@ -107,7 +114,8 @@ symbol_fits types sizes signals s most image h nets =
     }
 
 -- ports
-port_fits : (types : List NamedType) (signals : ℕ) (p : WrittenPort) → signals < 2 ^ 32 → is_port types signals (port_described types (port_view p)) ≡ true → HaveNets p
+port_fits : (types : List NamedType) (signals : ℕ) (p : WrittenPort) → signals < 2 ^ 32
+    → is_port types signals (port_described types (port_view p)) ≡ true → HaveNets p
     → PortFits types p
 port_fits types signals p most h nets =
     let sizes = sizes_described (port_view p) in
@@ -126,8 +134,10 @@ port_fits types signals p most h nets =
     let filled : length (p.name.now ++ replicate (16 - length p.name.now) 0) ≡ 16 = eqb-true _ _ (and_parts _ _ f.1).0 in
     let whole = length-append p.name.now (replicate (16 - length p.name.now) 0) in
     let image : image_size sizes ≤ 4194304 = leb-true _ _ d.1 in
-    let each = All-passing (is_symbol types sizes signals) (λ s. symbol_described types (symbol_view s)) (λ s. is_symbol types sizes signals (symbol_described types (symbol_view s)) ≡ true)
-    (λ s t. t) p.symbols.items (ap (list_all (is_symbol types sizes signals)) (sym (map-map (symbol_described types) symbol_view p.symbols.items)) ∙ (and_parts _ _ c.1).1) in
+    let each = All-passing (is_symbol types sizes signals) (λ s. symbol_described types (symbol_view s))
+    (λ s. is_symbol types sizes signals (symbol_described types (symbol_view s)) ≡ true)
+    (λ s t. t) p.symbols.items
+    (ap (list_all (is_symbol types sizes signals)) (sym (map-map (symbol_described types) symbol_view p.symbols.items)) ∙ (and_parts _ _ c.1).1) in
     record {
       number = omega arith;
       facts = record { major = omega arith; minor = omega arith; build = omega arith; name = omega arith };
@@ -152,7 +162,8 @@ document_fits signals table d most is none =
     let net = when_all (is_some (net_of document.net)) _ (from_4.0) in
     let routes = option_map-none _ (first_wrong is_right_route [] document.routes) net.1 in
     let accepted = table_verdict-accepted signals table (description_of document) (verdict-right signals table document is none) in
-    let each = All-passing (is_port types signals) (λ p. port_described types (port_view p)) (λ p. is_port types signals (port_described types (port_view p)) ≡ true)
+    let each = All-passing (is_port types signals) (λ p. port_described types (port_view p))
+    (λ p. is_port types signals (port_described types (port_view p)) ≡ true)
     (λ p t. t) d.ports.items (ap (list_all (is_port types signals)) (sym (map-map (port_described types) port_view d.ports.items)) ∙ accepted.each_port) in
     let nets = ports_have_nets types [] d.ports.items from_13.0 in
     record {

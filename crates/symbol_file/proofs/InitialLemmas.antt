@@ -20,5 +20,6 @@ pub first_value-found : {E : Type 0} (e : EnumType) (values : List EnumValue) (r
     → IfOk r (λ bytes. bytes ≡ option_map_or (λ v. number_bytes (kind_of e.base) v.number) (slice_get values 0) [])
     → IfOk r (λ bytes. bytes ≡ first_value_bytes (enumeration_of e))
 first_value-found e values (Ok bytes) same is =
-    is ∙ ap (λ vs. option_map_or (λ v. number_bytes (kind_of e.base) v.number) (slice_get vs 0) []) same ∙ sym (first_value_bytes-map e.name (kind_of e.base) e.values)
+    is ∙ ap (λ vs. option_map_or (λ v. number_bytes (kind_of e.base) v.number) (slice_get vs 0) []) same
+    ∙ sym (first_value_bytes-map e.name (kind_of e.base) e.values)
 first_value-found e values (Err error) same is = tt

@@ -18,14 +18,17 @@ declared-rows : (rows : List SymbolRow) → declared_by_rows rows ≡ map declar
 declared-rows [] = refl
 declared-rows (r ∷ rows) = ap (λ rest. declared (symbol_of_row r) ∷ rest) (declared-rows rows)
 
-pub rows_declared : (types : List NamedType) (port : Port) (table : SymbolTable) (rows : List SymbolRow) → symbols_of_rows rows ≡ table.symbols → IsTableOf types port table → declared_by_rows rows ≡ port.symbols
+pub rows_declared : (types : List NamedType) (port : Port) (table : SymbolTable) (rows : List SymbolRow)
+    → symbols_of_rows rows ≡ table.symbols → IsTableOf types port table → declared_by_rows rows ≡ port.symbols
 rows_declared types port table rows same is_of =
     declared-rows rows ∙ ap (map declared) (same ∙ ap (λ (t : SymbolTable). t.symbols) is_of.same) ∙ declared-table types port.symbols
 
-pub rows_sized : (types : List NamedType) (table : SymbolTable) (rows : List SymbolRow) → symbols_of_rows rows ≡ table.symbols → IsTableWith types table → All (IsSizedRow types) rows
+pub rows_sized : (types : List NamedType) (table : SymbolTable) (rows : List SymbolRow)
+    → symbols_of_rows rows ≡ table.symbols → IsTableWith types table → All (IsSizedRow types) rows
 rows_sized types table rows same with_ k d below =
     let row = get_or rows k d in
     let there : slice_get table.symbols k ≡ Some (symbol_of_row row)
-    = ap (λ (ss : List TableSymbol). slice_get ss k) (sym same) ∙ slice_get-map symbol_of_row rows k ∙ ap (option_map symbol_of_row) (slice_get-get_or rows k d below) in
+    = ap (λ (ss : List TableSymbol). slice_get ss k) (sym same) ∙ slice_get-map symbol_of_row rows k
+    ∙ ap (option_map symbol_of_row) (slice_get-get_or rows k d below) in
     let sound = sound_symbol types table k (symbol_of_row row) with_ there in
     record { sized = sound.sized; size = sound.size_is }

@@ -42,15 +42,18 @@ covers-means area k s h =
     let begins = and_parts (is_same_area s.area area) (nat_le s.offset k) parts.0 in
     record { same = begins.0; begins = leb-true s.offset k begins.1; ends = ltb-true k (s.offset + s.size) parts.1 }
 
-covered : (symbols : List TableSymbol) (area : Area) (k n : ℕ) (s : TableSymbol) → slice_get symbols n ≡ Some s → is_same_area s.area area ≡ true → s.offset ≤ k → k < s.offset + s.size → is_covered symbols area k ≡ true
+covered : (symbols : List TableSymbol) (area : Area) (k n : ℕ) (s : TableSymbol) → slice_get symbols n ≡ Some s
+    → is_same_area s.area area ≡ true → s.offset ≤ k → k < s.offset + s.size → is_covered symbols area k ≡ true
 covered symbols area k n s e same begins ends = any_passes_from_place (covers area k) symbols n s e (covers-is area k s same begins ends)
 
-pub covers_last : (symbols : List TableSymbol) (area : Area) (at : ℕ) (found : ℕ × ℕ) → EndsLast symbols area at found → at < found.1 → option_map_or (covers area at) (slice_get symbols found.0) false ≡ true
+pub covers_last : (symbols : List TableSymbol) (area : Area) (at : ℕ) (found : ℕ × ℕ) → EndsLast symbols area at found
+    → at < found.1 → option_map_or (covers area at) (slice_get symbols found.0) false ≡ true
 covers_last symbols area at found last below =
     let end = last.end in
     rw last.there (covers-is area at last.owner last.area_is last.begins (omega (arith, below, end)))
 
-pub starts_last : (symbols : List TableSymbol) (area : Area) (at : ℕ) (found : ℕ × ℕ) → list_all has_bytes symbols ≡ true → EndsLast symbols area at found → found.1 ≤ at → StartsGap symbols area at found.1
+pub starts_last : (symbols : List TableSymbol) (area : Area) (at : ℕ) (found : ℕ × ℕ)
+    → list_all has_bytes symbols ≡ true → EndsLast symbols area at found → found.1 ≤ at → StartsGap symbols area at found.1
 starts_last symbols area at found bytes last most =
     let end = last.end in
     let some = ltb-true 0 last.owner.size (list_all-get has_bytes symbols found.0 last.owner bytes last.there) in
@@ -60,7 +63,8 @@ starts_last symbols area at found bytes last most =
       before = λ above. covered symbols area (found.1 - 1) found.0 last.owner last.there last.area_is (omega (arith, end, some)) (omega (arith, end, some));
     }
 
-pub ends_first : (symbols : List TableSymbol) (area : Area) (at size start : ℕ) → list_all has_bytes symbols ≡ true → list_all (ends_by area size) symbols ≡ true → BeginsFirst symbols area at start → EndsGap symbols area at size start
+pub ends_first : (symbols : List TableSymbol) (area : Area) (at size start : ℕ) → list_all has_bytes symbols ≡ true
+    → list_all (ends_by area size) symbols ≡ true → BeginsFirst symbols area at start → EndsGap symbols area at size start
 ends_first symbols area at size start bytes within first =
     let begins = first.begins in
     let some = ltb-true 0 first.owner.size (list_all-get has_bytes symbols first.number first.owner bytes first.there) in
@@ -72,7 +76,8 @@ ends_first symbols area at size start bytes within first =
       behind = λ below. covered symbols area start first.number first.owner first.there first.area_is (omega (arith, begins)) (omega (arith, begins, some));
     }
 
-pub is_gap : (symbols : List TableSymbol) (area : Area) (size at first end : ℕ) → StartsGap symbols area at first → EndsGap symbols area at size end → IsGap symbols area size at first (end - first)
+pub is_gap : (symbols : List TableSymbol) (area : Area) (size at first end : ℕ) → StartsGap symbols area at first
+    → EndsGap symbols area at size end → IsGap symbols area size at first (end - first)
 is_gap symbols area size at first end starts ends =
     let begins = starts.begins in
     let over = ends.ends in
@@ -111,7 +116,8 @@ is_gap symbols area size at first end starts ends =
     free k from upto = list_any_none (covers area k) symbols (not_covered k from upto)
 
 -- in its area, so by the area's size
-pub all_end_by : (symbols : List TableSymbol) (sizes : Sizes) (area : Area) → list_all (is_within sizes) symbols ≡ true → list_all (ends_by area (size_in sizes area)) symbols ≡ true
+pub all_end_by : (symbols : List TableSymbol) (sizes : Sizes) (area : Area)
+    → list_all (is_within sizes) symbols ≡ true → list_all (ends_by area (size_in sizes area)) symbols ≡ true
 all_end_by [] sizes area h = refl
 all_end_by (s ∷ symbols) sizes area h =
     let parts = and_parts (is_within sizes s) (list_all (is_within sizes) symbols) h in

@@ -25,7 +25,8 @@ one_more old before now rises step =
     omega (arith, pow_mono e, power)
 
 -- at most one step more, after which at most half is left
-pub step_halves : (old before now k j n : ℕ) → old ≤ before → now ≤ before + 1 → 0 < k → 2 * j ≤ k → Costs (2 ^ (before - old)) k n → Costs (2 ^ (now - old)) j n
+pub step_halves : (old before now k j n : ℕ) → old ≤ before → now ≤ before + 1
+    → 0 < k → 2 * j ≤ k → Costs (2 ^ (before - old)) k n → Costs (2 ^ (now - old)) j n
 step_halves old before now k j n rises step some half h =
     let b = mul-le-mul_right (max 1 (2 * j)) (one_more old before now rises step) in
     omega (arith, b, halves (2 ^ (before - old)) k j n some half h)

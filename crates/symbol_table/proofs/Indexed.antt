@@ -1,5 +1,6 @@
 -- What an index of ranks says of the entries that pass a test.
-use Rattle.std.proofs.Common.{◌≡◌, ℕ, ◌+◌, ◌*◌, ◌^◌, ◌<◌, ◌≤◌, Bool, true, false, cond, List, [], ◌∷◌, ◌++◌, length, get_or, refl, lit<, sym, subst, inl, inr, arith, ◌==◌}
+use Rattle.std.proofs.Common.{◌≡◌, ℕ, ◌+◌, ◌*◌, ◌^◌, ◌<◌, ◌≤◌, Bool, true, false, cond, List, [], ◌∷◌, ◌++◌}
+use Rattle.std.proofs.Common.{length, get_or, refl, lit<, sym, subst, inl, inr, arith, ◌==◌}
 use Rattle.std.specs.Prelude.{Some, None, find, All, Contains, nat_le}
 use Rattle.std.specs.List.Sorted.{IsPermutation}
 use Rattle.std.proofs.lemmas.Bool.{both_ways, eqb-true, leb-true, ltb-true, and_parts, cases_eq, lt-ltb}
@@ -13,7 +14,8 @@ use Rattle.type_layout.specs.declared.port.Area.TheVariants.{Inputs, Outputs, Me
 use Rattle.symbol_table.specs.declared.kept.KeptPlace.{KeptPlace}
 use Rattle.symbol_table.specs.declared.ranks.Ranked.{Ranked}
 use Rattle.symbol_table.specs.Moves.{AreKept, IsSameSymbol, Overlap, is_symbol, has_bytes}
-use Rattle.symbol_table.specs.Ranks.{area_rank, symbol_rank, byte_rank, rank_by_symbol, rank_by_byte, is_any, has_any_byte, Ranks, RanksFirst, IsIndex, IsLastAtMost}
+use Rattle.symbol_table.specs.Ranks.{area_rank, symbol_rank, byte_rank, rank_by_symbol, rank_by_byte, is_any}
+use Rattle.symbol_table.specs.Ranks.{has_any_byte, Ranks, RanksFirst, IsIndex, IsLastAtMost}
 use Rattle.symbol_table.proofs.OnlyOne.{find-none, find-only, find-passes, one_place}
 
 -- nothing is ranked before the first entry
@@ -22,7 +24,8 @@ ranks_none rank is_in kept = record { sound = All-nil _; whole = λ k d h t. abs
 
 -- one entry more, which is in the index
 pub ranks_more : (rank : KeptPlace → ℕ) (is_in : KeptPlace → Bool) (kept : List KeptPlace) (i x : ℕ) (ranked : List Ranked)
-    → RanksFirst rank is_in kept i ranked → i < length kept → ((d : KeptPlace) → is_in (get_or kept i d) ≡ true) → ((d : KeptPlace) → x ≡ rank (get_or kept i d))
+    → RanksFirst rank is_in kept i ranked → i < length kept
+    → ((d : KeptPlace) → is_in (get_or kept i d) ≡ true) → ((d : KeptPlace) → x ≡ rank (get_or kept i d))
     → RanksFirst rank is_in kept (i + 1) (ranked ++ record { rank = x; entry = i } ∷ [])
 ranks_more rank is_in kept i x ranked before inside t by_rank = record {
   sound = All-push (Ranks rank is_in kept) ranked new before.sound (record { there = inside; by_rank = by_rank; in_index = t });
@@ -70,10 +73,12 @@ none_passes rank is_in kept ranked high test index above passing =
     omega (arith, over, p.1))
 
 -- the entry of the last rank that is at most this one, if it passes, where no other can
-pub last_passes : (rank : KeptPlace → ℕ) (is_in : KeptPlace → Bool) (kept : List KeptPlace) (ranked : List Ranked) (high : ℕ) (test : KeptPlace → Bool) (last : Ranked) (d : KeptPlace)
+pub last_passes : (rank : KeptPlace → ℕ) (is_in : KeptPlace → Bool) (kept : List KeptPlace)
+    (ranked : List Ranked) (high : ℕ) (test : KeptPlace → Bool) (last : Ranked) (d : KeptPlace)
     → IsIndex rank is_in kept ranked → IsLastAtMost ranked high last
     → ((e : KeptPlace) → test e ≡ true → (is_in e ≡ true) × (rank e ≤ high))
-    → ((k : ℕ) → k < length kept → test (get_or kept k d) ≡ true → rank (get_or kept k d) ≤ rank (get_or kept last.entry d) → rank (get_or kept last.entry d) ≤ high → k ≡ last.entry)
+    → ((k : ℕ) → k < length kept → test (get_or kept k d) ≡ true
+    → rank (get_or kept k d) ≤ rank (get_or kept last.entry d) → rank (get_or kept last.entry d) ≤ high → k ≡ last.entry)
     → find test kept ≡ cond (test (get_or kept last.entry d)) (Some (get_or kept last.entry d)) None
 last_passes rank is_in kept ranked high test last d index greatest passing one =
     find-only test kept last.entry d ranks.there (λ k e h t.
@@ -94,8 +99,11 @@ symbol_parts port symbol e t = let p = and_parts _ _ t in (eqb-true _ _ p.0, eqb
 pub symbol_passes : (port symbol : ℕ) (e : KeptPlace) → is_symbol port symbol e ≡ true → (is_any e ≡ true) × (rank_by_symbol e ≤ symbol_rank port symbol)
 symbol_passes port symbol e t = let p = symbol_parts port symbol e t in let a = p.0 in let b = p.1 in (refl, omega (arith, a, b))
 
-pub one_symbol : (port symbol : ℕ) (kept : List KeptPlace) (last : Ranked) (d : KeptPlace) → AreKept kept → last.entry < length kept → symbol < 2 ^ 32 → (get_or kept last.entry d).from.symbol < 2 ^ 32
-    → (k : ℕ) → k < length kept → is_symbol port symbol (get_or kept k d) ≡ true → rank_by_symbol (get_or kept k d) ≤ rank_by_symbol (get_or kept last.entry d) → rank_by_symbol (get_or kept last.entry d) ≤ symbol_rank port symbol → k ≡ last.entry
+pub one_symbol : (port symbol : ℕ) (kept : List KeptPlace) (last : Ranked) (d : KeptPlace) → AreKept kept
+    → last.entry < length kept → symbol < 2 ^ 32 → (get_or kept last.entry d).from.symbol < 2 ^ 32
+    → (k : ℕ) → k < length kept → is_symbol port symbol (get_or kept k d) ≡ true
+    → rank_by_symbol (get_or kept k d) ≤ rank_by_symbol (get_or kept last.entry d)
+    → rank_by_symbol (get_or kept last.entry d) ≤ symbol_rank port symbol → k ≡ last.entry
 one_symbol port symbol kept last d are inside small small' k h t low high =
     let p = symbol_parts port symbol (get_or kept k d) t in
     let a = p.0 in
@@ -119,7 +127,8 @@ bytes_parts port area first len e t =
     record { port_is = eqb-true _ _ r.0; area_is = eqb-true _ _ r.1; begins = leb-true _ _ q.1; ends = leb-true _ _ p.1 }
 
 -- a symbol that has bytes begins at most at the first of them
-pub bytes_pass : (port : ℕ) (area : Area) (first len : ℕ) → 0 < len → (e : KeptPlace) → has_bytes port area first len e ≡ true → (has_any_byte e ≡ true) × (rank_by_byte e ≤ byte_rank port area first)
+pub bytes_pass : (port : ℕ) (area : Area) (first len : ℕ) → 0 < len → (e : KeptPlace)
+    → has_bytes port area first len e ≡ true → (has_any_byte e ≡ true) × (rank_by_byte e ≤ byte_rank port area first)
 bytes_pass port area first len some e t =
     let b = bytes_parts port area first len e t in
     let p = b.port_is in
@@ -152,9 +161,12 @@ same_area Process Outputs e = cc
 same_area Process Memory e = cc
 same_area Process Process e = refl
 
-pub one_with_bytes : (port : ℕ) (area : Area) (first len : ℕ) (kept : List KeptPlace) (last : Ranked) (d : KeptPlace) → AreKept kept → last.entry < length kept → 0 < len → first < 2 ^ 32
+pub one_with_bytes : (port : ℕ) (area : Area) (first len : ℕ) (kept : List KeptPlace) (last : Ranked) (d : KeptPlace)
+    → AreKept kept → last.entry < length kept → 0 < len → first < 2 ^ 32
     → (get_or kept last.entry d).from.at < 2 ^ 32 → has_any_byte (get_or kept last.entry d) ≡ true
-    → (k : ℕ) → k < length kept → has_bytes port area first len (get_or kept k d) ≡ true → rank_by_byte (get_or kept k d) ≤ rank_by_byte (get_or kept last.entry d) → rank_by_byte (get_or kept last.entry d) ≤ byte_rank port area first → k ≡ last.entry
+    → (k : ℕ) → k < length kept → has_bytes port area first len (get_or kept k d) ≡ true
+    → rank_by_byte (get_or kept k d) ≤ rank_by_byte (get_or kept last.entry d)
+    → rank_by_byte (get_or kept last.entry d) ≤ byte_rank port area first → k ≡ last.entry
 one_with_bytes port area first len kept last d are inside some small small' any k h t low high =
     let e = get_or kept k d in
     let f = get_or kept last.entry d in
@@ -175,17 +187,21 @@ one_with_bytes port area first len kept last d are inside some small small' any 
     one_place Overlap kept (λ x y r. (sym r.0, sym r.1, r.2, r.4, r.3)) are.bytes k last.entry d h inside overlap
 
 -- where all ranks are above that of a symbol, it has no entry
-pub no_symbol : (port symbol : ℕ) (kept : List KeptPlace) (ranked : List Ranked) → IsIndex rank_by_symbol is_any kept ranked → All (λ (r : Ranked). symbol_rank port symbol < r.rank) ranked
+pub no_symbol : (port symbol : ℕ) (kept : List KeptPlace) (ranked : List Ranked)
+    → IsIndex rank_by_symbol is_any kept ranked → All (λ (r : Ranked). symbol_rank port symbol < r.rank) ranked
     → find (is_symbol port symbol) kept ≡ None
-no_symbol port symbol kept ranked index above = none_passes rank_by_symbol is_any kept ranked (symbol_rank port symbol) (is_symbol port symbol) index above (symbol_passes port symbol)
+no_symbol port symbol kept ranked index above =
+    none_passes rank_by_symbol is_any kept ranked (symbol_rank port symbol) (is_symbol port symbol) index above (symbol_passes port symbol)
 
 -- else it has this one or none
-pub this_symbol : (port symbol : ℕ) (kept : List KeptPlace) (ranked : List Ranked) (last : Ranked) (e : KeptPlace) → AreKept kept → IsIndex rank_by_symbol is_any kept ranked
+pub this_symbol : (port symbol : ℕ) (kept : List KeptPlace) (ranked : List Ranked) (last : Ranked) (e : KeptPlace)
+    → AreKept kept → IsIndex rank_by_symbol is_any kept ranked
     → IsLastAtMost ranked (symbol_rank port symbol) last → symbol < 2 ^ 32 → e ≡ get_or kept last.entry e → e.from.symbol < 2 ^ 32
     → find (is_symbol port symbol) kept ≡ cond (is_symbol port symbol e) (Some e) None
 this_symbol port symbol kept ranked last e are index greatest small here small' =
     let small'' = subst (λ (v : KeptPlace). v.from.symbol < 2 ^ 32) here small' in
-    let found = last_passes rank_by_symbol is_any kept ranked (symbol_rank port symbol) (is_symbol port symbol) last e index greatest (symbol_passes port symbol) (one_symbol port symbol kept last e are inside small small'') in
+    let found = last_passes rank_by_symbol is_any kept ranked (symbol_rank port symbol) (is_symbol port symbol) last e index greatest
+    (symbol_passes port symbol) (one_symbol port symbol kept last e are inside small small'') in
     subst (λ (v : KeptPlace). find (is_symbol port symbol) kept ≡ cond (is_symbol port symbol v) (Some v) None) (sym here) found
   where
     inside : last.entry < length kept
@@ -195,14 +211,17 @@ this_symbol port symbol kept ranked last e are index greatest small here small' 
 pub no_bytes : (port : ℕ) (area : Area) (first len : ℕ) (kept : List KeptPlace) (ranked : List Ranked) → IsIndex rank_by_byte has_any_byte kept ranked → 0 < len
     → All (λ (r : Ranked). byte_rank port area first < r.rank) ranked → find (has_bytes port area first len) kept ≡ None
 no_bytes port area first len kept ranked index some above =
-    none_passes rank_by_byte has_any_byte kept ranked (byte_rank port area first) (has_bytes port area first len) index above (bytes_pass port area first len some)
+    none_passes rank_by_byte has_any_byte kept ranked (byte_rank port area first)
+    (has_bytes port area first len) index above (bytes_pass port area first len some)
 
 -- else this one has it, or none
-pub these_bytes : (port : ℕ) (area : Area) (first len : ℕ) (kept : List KeptPlace) (ranked : List Ranked) (last : Ranked) (e : KeptPlace) → AreKept kept → IsIndex rank_by_byte has_any_byte kept ranked
+pub these_bytes : (port : ℕ) (area : Area) (first len : ℕ) (kept : List KeptPlace) (ranked : List Ranked) (last : Ranked) (e : KeptPlace)
+    → AreKept kept → IsIndex rank_by_byte has_any_byte kept ranked
     → IsLastAtMost ranked (byte_rank port area first) last → 0 < len → first < 2 ^ 32 → e ≡ get_or kept last.entry e
     → find (has_bytes port area first len) kept ≡ cond (has_bytes port area first len e) (Some e) None
 these_bytes port area first len kept ranked last e are index greatest some small here =
-    let found = last_passes rank_by_byte has_any_byte kept ranked (byte_rank port area first) (has_bytes port area first len) last e index greatest (bytes_pass port area first len some)
+    let found = last_passes rank_by_byte has_any_byte kept ranked (byte_rank port area first)
+    (has_bytes port area first len) last e index greatest (bytes_pass port area first len some)
     (one_with_bytes port area first len kept last e are ranks.there some small small' (ranks.in_index e)) in
     subst (λ (v : KeptPlace). find (has_bytes port area first len) kept ≡ cond (has_bytes port area first len v) (Some v) None) (sym here) found
   where
@@ -213,5 +232,6 @@ these_bytes port area first len kept ranked last e are index greatest some small
     small' = let old_end = (are.each last.entry e ranks.there).old_end in omega (arith, old_end)
 
 -- what is found has the bytes
-pub kept_bytes-parts : (port : ℕ) (area : Area) (first len : ℕ) (kept : List KeptPlace) (e : KeptPlace) → find (has_bytes port area first len) kept ≡ Some e → Bytes port area first len e
+pub kept_bytes-parts : (port : ℕ) (area : Area) (first len : ℕ) (kept : List KeptPlace) (e : KeptPlace)
+    → find (has_bytes port area first len) kept ≡ Some e → Bytes port area first len e
 kept_bytes-parts port area first len kept e found = bytes_parts port area first len e (find-passes (has_bytes port area first len) kept e found)

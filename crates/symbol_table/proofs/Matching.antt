@@ -46,7 +46,8 @@ starts-equal (i ∷ is) (n ∷ ns) e =
     rw (head, starts-equal is ns both.1) refl
 
 -- of two names that a path begins with, one begins with the other
-pub one_begins : (k l names : List (List ℕ)) → starts_with bytes_eq names k ≡ true → starts_with bytes_eq names l ≡ true → (starts_with bytes_eq l k ≡ true) ⊎ (starts_with bytes_eq k l ≡ true)
+pub one_begins : (k l names : List (List ℕ)) → starts_with bytes_eq names k ≡ true
+    → starts_with bytes_eq names l ≡ true → (starts_with bytes_eq l k ≡ true) ⊎ (starts_with bytes_eq k l ≡ true)
 one_begins [] l names e f = inl refl
 one_begins (i ∷ is) [] names e f = inr refl
 one_begins (i ∷ is) (j ∷ js) [] e f = cc
@@ -64,7 +65,8 @@ one_begins (i ∷ is) (j ∷ js) (n ∷ ns) e f =
 
 -- searches
 
-pub find_unique : {X : Type 0} (p : X → Bool) (xs : List X) (n : ℕ) (x : X) → slice_get xs n ≡ Some x → p x ≡ true → ((i : ℕ) (y : X) → slice_get xs i ≡ Some y → p y ≡ true → i ≡ n) → find p xs ≡ Some x
+pub find_unique : {X : Type 0} (p : X → Bool) (xs : List X) (n : ℕ) (x : X) → slice_get xs n ≡ Some x
+    → p x ≡ true → ((i : ℕ) (y : X) → slice_get xs i ≡ Some y → p y ≡ true → i ≡ n) → find p xs ≡ Some x
 find_unique p [] n x e h only = cc
 find_unique p (y ∷ ys) zero x e h only = let same : y ≡ x = cc in rw (ap p same ∙ h) e
 find_unique p (y ∷ ys) (suc n) x e h only =
@@ -82,15 +84,19 @@ find_none p (y ∷ ys) none =
     ]
 
 -- two symbols at different numbers, by rule that no name begins with another
-two_names : (symbols : List Symbol) (m n : ℕ) (s t : Symbol) → all_pairs are_two_names symbols ≡ true → nat_eq m n ≡ false → slice_get symbols m ≡ Some s → slice_get symbols n ≡ Some t
-    → (starts_with bytes_eq (lower_identifiers s.name) (lower_identifiers t.name) ≡ false) × (starts_with bytes_eq (lower_identifiers t.name) (lower_identifiers s.name) ≡ false)
+two_names : (symbols : List Symbol) (m n : ℕ) (s t : Symbol) → all_pairs are_two_names symbols ≡ true
+    → nat_eq m n ≡ false → slice_get symbols m ≡ Some s → slice_get symbols n ≡ Some t
+    → (starts_with bytes_eq (lower_identifiers s.name) (lower_identifiers t.name) ≡ false)
+    × (starts_with bytes_eq (lower_identifiers t.name) (lower_identifiers s.name) ≡ false)
 two_names symbols m n s t names other e f =
     elim (cases_Bool (nat_lt m n)) [
-      | inl less ↦ apart (starts_with bytes_eq (lower_identifiers s.name) (lower_identifiers t.name)) (starts_with bytes_eq (lower_identifiers t.name) (lower_identifiers s.name))
+      | inl less ↦ apart (starts_with bytes_eq (lower_identifiers s.name) (lower_identifiers t.name))
+          (starts_with bytes_eq (lower_identifiers t.name) (lower_identifiers s.name))
           (pair_at are_two_names symbols m n s t names (ltb-true m n less) e f)
       | inr most ↦
           let more : n < m = grind (arith, nat_tests) in
-          let both = apart (starts_with bytes_eq (lower_identifiers t.name) (lower_identifiers s.name)) (starts_with bytes_eq (lower_identifiers s.name) (lower_identifiers t.name))
+          let both = apart (starts_with bytes_eq (lower_identifiers t.name) (lower_identifiers s.name))
+          (starts_with bytes_eq (lower_identifiers s.name) (lower_identifiers t.name))
           (pair_at are_two_names symbols n m t s names more f e) in
           (both.1, both.0)
     ]
@@ -108,7 +114,8 @@ record IsOwned (symbols : List Symbol) (keys : List NameKey) (i : ℕ) : Type 0 
   pub there : slice_get symbols number ≡ Some owner
   pub name : identifiers_at keys i ≡ lower_identifiers owner.name
 
-module _ (types : List NamedType) (symbols : List Symbol) (keys : List NameKey) (are : AreKeysOf (map (table_symbol types) symbols) keys) (names : all_pairs are_two_names symbols ≡ true) where
+module _ (types : List NamedType) (symbols : List Symbol) (keys : List NameKey)
+    (are : AreKeysOf (map (table_symbol types) symbols) keys) (names : all_pairs are_two_names symbols ≡ true) where
   owned : (i : ℕ) → i < length keys → IsOwned symbols keys i
   owned i below =
       let among = are.each i (record { identifiers = []; symbol = 0 }) below in
@@ -125,7 +132,8 @@ module _ (types : List NamedType) (symbols : List Symbol) (keys : List NameKey) 
   prefix_free i j below_i below_j begins =
       let one = owned i below_i in
       let other = owned j below_j in
-      let begins_names : starts_with bytes_eq (lower_identifiers other.owner.name) (lower_identifiers one.owner.name) ≡ true = rw (one.name, other.name) at begins in
+      let begins_names : starts_with bytes_eq (lower_identifiers other.owner.name) (lower_identifiers one.owner.name) ≡ true =
+      rw (one.name, other.name) at begins in
       elim (cases_Bool (nat_eq one.number other.number)) [
         | inl same ↦
             let number : one.number ≡ other.number = eqb-true one.number other.number same in
@@ -140,7 +148,8 @@ module _ (types : List NamedType) (symbols : List Symbol) (keys : List NameKey) 
 
   -- at most one symbol is one that the path begins with
   only_one : (path : List Step) (m n : ℕ) (s t : Symbol) → slice_get symbols m ≡ Some s → slice_get symbols n ≡ Some t
-      → starts_with bytes_eq (map lower (first_names path)) (lower_identifiers s.name) ≡ true → starts_with bytes_eq (map lower (first_names path)) (lower_identifiers t.name) ≡ true → m ≡ n
+      → starts_with bytes_eq (map lower (first_names path)) (lower_identifiers s.name) ≡ true
+      → starts_with bytes_eq (map lower (first_names path)) (lower_identifiers t.name) ≡ true → m ≡ n
   only_one path m n s t e f one other =
       elim (cases_Bool (nat_eq m n)) [
         | inl same ↦ eqb-true m n same
@@ -153,21 +162,32 @@ module _ (types : List NamedType) (symbols : List Symbol) (keys : List NameKey) 
       ]
 
   pub match_found : (path : List Step) (found : ℕ × ℕ) → IsMatch keys (map lower (first_names path)) found
-      → (s : Symbol) × (slice_get symbols found.0 ≡ Some s) × (found.1 ≡ length (identifiers_of s.name)) × (find (is_named_by path) (map (plant_symbol types) symbols) ≡ Some (plant_symbol types s))
+      → (s : Symbol) × (slice_get symbols found.0 ≡ Some s) × (found.1 ≡ length (identifiers_of s.name))
+      × (find (is_named_by path) (map (plant_symbol types) symbols) ≡ Some (plant_symbol types s))
   match_found path found m =
       let own = owned m.place m.there in
       let there : slice_get symbols found.0 ≡ Some own.owner = ap (slice_get symbols) (m.symbol ∙ sym own.number_is) ∙ own.there in
-      let count : found.1 ≡ length (identifiers_of own.owner.name) = m.count ∙ ap (λ (k : List (List ℕ)). length k) own.name ∙ length-map (identifiers_of own.owner.name) lower in
+      let count : found.1 ≡ length (identifiers_of own.owner.name) =
+      m.count ∙ ap (λ (k : List (List ℕ)). length k) own.name ∙ length-map (identifiers_of own.owner.name) lower in
       let named : starts_with bytes_eq (map lower (first_names path)) (lower_identifiers own.owner.name) ≡ true
-      = ap (starts_with bytes_eq (map lower (first_names path))) (sym own.name) ∙ equal-starts (identifiers_at keys m.place) (map lower (first_names path)) m.is_match in
-      let seen : slice_get (map (plant_symbol types) symbols) found.0 ≡ Some (plant_symbol types own.owner) = slice_get-map (plant_symbol types) symbols found.0 ∙ ap (option_map (plant_symbol types)) there in
-      (own.owner, there, count, find_unique (is_named_by path) (map (plant_symbol types) symbols) found.0 (plant_symbol types own.owner) seen named (λ i y e h. only i y own.owner there named e h))
+      = ap (starts_with bytes_eq (map lower (first_names path))) (sym own.name)
+      ∙ equal-starts (identifiers_at keys m.place) (map lower (first_names path)) m.is_match in
+      let seen : slice_get (map (plant_symbol types) symbols) found.0 ≡ Some (plant_symbol types own.owner) =
+      slice_get-map (plant_symbol types) symbols found.0 ∙ ap (option_map (plant_symbol types)) there in (
+        own.owner,
+        there,
+        count,
+        find_unique (is_named_by path) (map (plant_symbol types) symbols) found.0
+            (plant_symbol types own.owner) seen named (λ i y e h. only i y own.owner there named e h),
+      )
     where
-      only : (i : ℕ) (y : PlantSymbol) (s : Symbol) → slice_get symbols found.0 ≡ Some s → starts_with bytes_eq (map lower (first_names path)) (lower_identifiers s.name) ≡ true
+      only : (i : ℕ) (y : PlantSymbol) (s : Symbol) → slice_get symbols found.0 ≡ Some s
+          → starts_with bytes_eq (map lower (first_names path)) (lower_identifiers s.name) ≡ true
           → slice_get (map (plant_symbol types) symbols) i ≡ Some y → is_named_by path y ≡ true → i ≡ found.0
       only i y s there named e h =
           let other = mapped_at (plant_symbol types) symbols i y e in
-          let named_other : starts_with bytes_eq (map lower (first_names path)) (lower_identifiers (other.0).name) ≡ true = ap (is_named_by path) (other.2) ∙ h in
+          let named_other : starts_with bytes_eq (map lower (first_names path)) (lower_identifiers (other.0).name) ≡ true =
+          ap (is_named_by path) (other.2) ∙ h in
           only_one path i found.0 other.0 s other.1 there named_other named
 
   pub match_none : (path : List Step) → HasNoMatch keys (map lower (first_names path)) → find (is_named_by path) (map (plant_symbol types) symbols) ≡ None
@@ -176,9 +196,12 @@ module _ (types : List NamedType) (symbols : List Symbol) (keys : List NameKey) 
       no_one : (i : ℕ) (y : PlantSymbol) → slice_get (map (plant_symbol types) symbols) i ≡ Some y → is_named_by path y ≡ true → ⊥
       no_one i y e h =
           let s = mapped_at (plant_symbol types) symbols i y e in
-          let seen : slice_get (map (table_symbol types) symbols) i ≡ Some (table_symbol types s.0) = slice_get-map (table_symbol types) symbols i ∙ ap (option_map (table_symbol types)) s.1 in
+          let seen : slice_get (map (table_symbol types) symbols) i ≡ Some (table_symbol types s.0) =
+          slice_get-map (table_symbol types) symbols i ∙ ap (option_map (table_symbol types)) s.1 in
           let key = are.whole i (table_symbol types s.0) seen in
-          let read : get_or keys key.0 (record { identifiers = []; symbol = 0 }) ≡ name_key (s.0).name i = get_or_default keys key.0 (record { identifiers = []; symbol = 0 }) (name_key (s.0).name i) key.1 ∙ key.2 in
+          let read : get_or keys key.0 (record { identifiers = []; symbol = 0 }) ≡ name_key (s.0).name i =
+          get_or_default keys key.0 (record { identifiers = []; symbol = 0 }) (name_key (s.0).name i) key.1 ∙ key.2 in
           let name : identifiers_at keys key.0 ≡ lower_identifiers (s.0).name = ap (λ (k : NameKey). k.identifiers) read in
           let named : starts_with bytes_eq (map lower (first_names path)) (lower_identifiers (s.0).name) ≡ true = ap (is_named_by path) (s.2) ∙ h in
-          none key.0 key.1 (ap (λ k. order_to_path k (map lower (first_names path))) name ∙ starts-equal (lower_identifiers (s.0).name) (map lower (first_names path)) named)
+          none key.0 key.1 (ap (λ k. order_to_path k (map lower (first_names path))) name
+          ∙ starts-equal (lower_identifiers (s.0).name) (map lower (first_names path)) named)

@@ -27,7 +27,8 @@ text_among [] name = None
 text_among (m ∷ members) name =
     if bytes_eq (lower m.name) (lower name) then Some (record { name = m.name; comment = m.comment }) else text_among members name
 
-among-from : (known : List TypeTree) (at : ℕ) (members : List listed.Member) (name : List ℕ) → option_map text_of_part (parts.member_from at (member_trees known members) name) ≡ text_among members name
+among-from : (known : List TypeTree) (at : ℕ) (members : List listed.Member) (name : List ℕ)
+    → option_map text_of_part (parts.member_from at (member_trees known members) name) ≡ text_among members name
 among-from known at [] name = refl
 among-from known at (m ∷ members) name =
     elim (cases_Bool (bytes_eq (lower m.name) (lower name))) [
@@ -46,17 +47,21 @@ text_in types place x s members name a h r t same =
     rw tree (among-from (trees_of (types_of types)) 0 (map member_of members) name)
 
 -- the member that is met has the name
-pub among_found : (members : List Member) (i : ℕ) (m : Member) (name : List ℕ) → i < length members → m ≡ get_or members i m → bytes_eq (lower m.name) (lower name) ≡ true
+pub among_found : (members : List Member) (i : ℕ) (m : Member) (name : List ℕ)
+    → i < length members → m ≡ get_or members i m → bytes_eq (lower m.name) (lower name) ≡ true
     → text_among (drop i (map member_of members)) name ≡ Some (text_of_declared m)
 among_found members i m name below read is_it =
-    let left : drop i (map member_of members) ≡ member_of m ∷ drop (i + 1) (map member_of members) = drop-get (map member_of members) i (member_of m) (read_at member_of members i m below read) in
+    let left : drop i (map member_of members) ≡ member_of m ∷ drop (i + 1) (map member_of members) =
+    drop-get (map member_of members) i (member_of m) (read_at member_of members i m below read) in
     rw (left, is_it) refl
 
 -- the member that is met has another name
-pub among_passed : (members : List Member) (i : ℕ) (m : Member) (name : List ℕ) → i < length members → m ≡ get_or members i m → bytes_eq (lower m.name) (lower name) ≡ false
+pub among_passed : (members : List Member) (i : ℕ) (m : Member) (name : List ℕ)
+    → i < length members → m ≡ get_or members i m → bytes_eq (lower m.name) (lower name) ≡ false
     → text_among (drop i (map member_of members)) name ≡ text_among (drop (i + 1) (map member_of members)) name
 among_passed members i m name below read other =
-    let left : drop i (map member_of members) ≡ member_of m ∷ drop (i + 1) (map member_of members) = drop-get (map member_of members) i (member_of m) (read_at member_of members i m below read) in
+    let left : drop i (map member_of members) ≡ member_of m ∷ drop (i + 1) (map member_of members) =
+    drop-get (map member_of members) i (member_of m) (read_at member_of members i m below read) in
     rw (left, other) refl
 
 -- all members are passed

@@ -5,7 +5,8 @@ use Rattle.std.proofs.lemmas.Bool.{cases_Bool}
 use Rattle.type_layout.specs.declared.port.Area.{Area}
 use Rattle.symbol_table.specs.declared.place.Place.{Place}
 use Rattle.symbol_table.specs.declared.kept.KeptPlace.{KeptPlace}
-use Rattle.symbol_table.specs.Moves.{AreKept, IsKeptPlace, IsWithin, IsInOldWorld, is_symbol, kept_symbol, part_in, moved_place, has_bytes, kept_bytes, bytes_in, moved_span}
+use Rattle.symbol_table.specs.Moves.{AreKept, IsKeptPlace, IsWithin, IsInOldWorld, is_symbol, kept_symbol}
+use Rattle.symbol_table.specs.Moves.{part_in, moved_place, has_bytes, kept_bytes, bytes_in, moved_span}
 use Rattle.symbol_table.proofs.Indexed.{kept_bytes-parts}
 
 found_among : {X : Type 0} (test : X → Bool) (xs : List X) (x : X) → find test xs ≡ Some x → Contains xs x
@@ -13,7 +14,8 @@ found_among test [] x e = cc
 found_among test (y ∷ xs) x e =
     elim (cases_Bool (test y)) [
       | inl t ↦ let same : Some y ≡ Some x = rw t at e in let is : y ≡ x = cc in (0, omega arith, is)
-      | inr t ↦ let rest : find test xs ≡ Some x = rw t at e in let c = found_among test xs x rest in (c.0 + 1, (let l = c.1 in omega (arith, l)), behind y xs x c.0 c.2)
+      | inr t ↦ let rest : find test xs ≡ Some x = rw t at e in let c = found_among test xs x rest in
+          (c.0 + 1, (let l = c.1 in omega (arith, l)), behind y xs x c.0 c.2)
     ]
   where
     behind : {X : Type 0} (y : X) (xs : List X) (x : X) (k : ℕ) → get_or xs k x ≡ x → get_or (y ∷ xs) (k + 1) x ≡ x
@@ -26,7 +28,8 @@ pub record GoesOn (kept : List KeptPlace) (port : ℕ) (p q : Place) (e : KeptPl
   pub symbol : q.symbol ≡ e.to.symbol
   pub within : IsWithin q e.to
 
-pub place_goes_on : (kept : List KeptPlace) (port : ℕ) (p q : Place) → AreKept kept → IsInOldWorld kept port p → moved_place kept port p ≡ Some q → (e : KeptPlace) × GoesOn kept port p q e
+pub place_goes_on : (kept : List KeptPlace) (port : ℕ) (p q : Place) → AreKept kept
+    → IsInOldWorld kept port p → moved_place kept port p ≡ Some q → (e : KeptPlace) × GoesOn kept port p q e
 unfolding moved_place
 place_goes_on kept port p q are in_old moved = go (kept_symbol kept port p.symbol) refl moved
   where
@@ -52,11 +55,13 @@ pub record BytesGoOn (kept : List KeptPlace) (len : ℕ) (area : Area) (first : 
   pub begins : e.to.at ≤ first
   pub ends : first + len ≤ e.to.at + e.to.len
 
-pub bytes_go_on : (kept : List KeptPlace) (port : ℕ) (area : Area) (first len : ℕ) (to : Area × ℕ) → AreKept kept → moved_span kept port area first len ≡ Some to → (e : KeptPlace) × BytesGoOn kept len to.0 to.1 e
+pub bytes_go_on : (kept : List KeptPlace) (port : ℕ) (area : Area) (first len : ℕ) (to : Area × ℕ) → AreKept kept
+    → moved_span kept port area first len ≡ Some to → (e : KeptPlace) × BytesGoOn kept len to.0 to.1 e
 unfolding moved_span
 bytes_go_on kept port area first len to are moved = go (kept_bytes kept port area first len) refl moved
   where
-    go : (o : Option KeptPlace) → kept_bytes kept port area first len ≡ o → option_map (bytes_in first) o ≡ Some to → (e : KeptPlace) × BytesGoOn kept len to.0 to.1 e
+    go : (o : Option KeptPlace) → kept_bytes kept port area first len ≡ o
+        → option_map (bytes_in first) o ≡ Some to → (e : KeptPlace) × BytesGoOn kept len to.0 to.1 e
     go None found m = cc
     go (Some e) found m =
         let there = found_among (has_bytes port area first len) kept e found in

@@ -13,7 +13,8 @@ pub record Narrowed (keys : List NameKey) (names : List (List ℕ)) (low high : 
   pub above : (i : ℕ) → high ≤ i → i < length keys → order_to_path (identifiers_at keys i) names ≡ Equal → ⊥
 
 -- the middle name stands before the path
-pub narrowed_up : (keys : List NameKey) (names : List (List ℕ)) (low high middle : ℕ) → IsRising keys → IsPrefixFree keys → Narrowed keys names low high → low ≤ middle → middle < high
+pub narrowed_up : (keys : List NameKey) (names : List (List ℕ)) (low high middle : ℕ)
+    → IsRising keys → IsPrefixFree keys → Narrowed keys names low high → low ≤ middle → middle < high
     → order_to_path (identifiers_at keys middle) names ≡ Less → Narrowed keys names (middle + 1) high
 narrowed_up keys names low high middle rising free n from below less =
     let within = n.within in
@@ -25,7 +26,8 @@ narrowed_up keys names low high middle rising free n from below less =
     }
 
 -- the middle name stands behind the path
-pub narrowed_down : (keys : List NameKey) (names : List (List ℕ)) (low high middle : ℕ) → IsRising keys → Narrowed keys names low high → low ≤ middle → middle < high
+pub narrowed_down : (keys : List NameKey) (names : List (List ℕ)) (low high middle : ℕ)
+    → IsRising keys → Narrowed keys names low high → low ≤ middle → middle < high
     → order_to_path (identifiers_at keys middle) names ≡ Greater → Narrowed keys names low middle
 narrowed_down keys names low high middle rising n from below greater =
     let within = n.within in
@@ -42,7 +44,8 @@ pub key_read : (entries : List (Vec (Vec ℕ) × ℕ)) (i : ℕ) (e : Vec (Vec �
 key_read entries i e below read = get_or-map key_of entries i e (record { identifiers = []; symbol = 0 }) below ∙ ap key_of (sym read)
 
 -- the middle name is one that the path begins with
-pub match_at : (entries : List (Vec (Vec ℕ) × ℕ)) (names : List (List ℕ)) (i : ℕ) (e : Vec (Vec ℕ) × ℕ) (count : ℕ) → i < length entries → e ≡ get_or entries i e → count ≡ length e.0.items
+pub match_at : (entries : List (Vec (Vec ℕ) × ℕ)) (names : List (List ℕ)) (i : ℕ) (e : Vec (Vec ℕ) × ℕ) (count : ℕ)
+    → i < length entries → e ≡ get_or entries i e → count ≡ length e.0.items
     → order_to_path (identifiers_in e.0.items) names ≡ Equal → IsMatch (map key_of entries) names (e.1, count)
 match_at entries names i e count below read counted equal =
     let key = key_read entries i e below read in

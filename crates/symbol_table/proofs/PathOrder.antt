@@ -55,7 +55,8 @@ not_behind (a ∷ cs) (b ∷ bs) (n ∷ ns) e g h =
     ]
 
 -- a name that stands before the path, and not before one that the path begins with, begins with it
-pub begins_with : (k l names : List (List ℕ)) → order_to_path k names ≡ Equal → is_gt (name_cmp k l) ≡ false → order_to_path l names ≡ Less → starts_with bytes_eq l k ≡ true
+pub begins_with : (k l names : List (List ℕ)) → order_to_path k names ≡ Equal
+    → is_gt (name_cmp k l) ≡ false → order_to_path l names ≡ Less → starts_with bytes_eq l k ≡ true
 begins_with [] [] names e g h = refl
 begins_with [] (b ∷ bs) names e g h = refl
 begins_with (a ∷ cs) [] names e g h = cc
@@ -75,7 +76,8 @@ begins_with (a ∷ cs) (b ∷ bs) (n ∷ ns) e g h =
     ]
 
 -- none of the names up to one before the path
-pub none_upto : (keys : List NameKey) (names : List (List ℕ)) (middle : ℕ) → IsRising keys → IsPrefixFree keys → middle < length keys → order_to_path (identifiers_at keys middle) names ≡ Less
+pub none_upto : (keys : List NameKey) (names : List (List ℕ)) (middle : ℕ) → IsRising keys
+    → IsPrefixFree keys → middle < length keys → order_to_path (identifiers_at keys middle) names ≡ Less
     → (i : ℕ) → i ≤ middle → order_to_path (identifiers_at keys i) names ≡ Equal → ⊥
 none_upto keys names middle rising free below less i upto is_match =
     let begins = begins_with (identifiers_at keys i) (identifiers_at keys middle) names is_match (rising i middle upto below) less in

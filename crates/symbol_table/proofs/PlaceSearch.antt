@@ -12,7 +12,8 @@ use Rattle.symbol_table.specs.Tiling.{begins_by, EachBefore, EachBehind, HasBegu
 
 -- numbers of areas, and bytes in them
 
-begins_back-numbers : (x y z a n b k : ℕ) → (nat_lt x y || ((x == y) && nat_le (a + n) b)) ≡ true → (nat_lt y z || ((y == z) && nat_le b k)) ≡ true → (nat_lt x z || ((x == z) && nat_le a k)) ≡ true
+begins_back-numbers : (x y z a n b k : ℕ) → (nat_lt x y || ((x == y) && nat_le (a + n) b)) ≡ true
+    → (nat_lt y z || ((y == z) && nat_le b k)) ≡ true → (nat_lt x z || ((x == z) && nat_le a k)) ≡ true
 begins_back-numbers x y z a n b k before begins = grind (arith, nat_tests)
 
 begins-numbers : (x z a k : ℕ) → (x == z) ≡ true → a ≤ k → (nat_lt x z || ((x == z) && nat_le a k)) ≡ true
@@ -28,10 +29,12 @@ apart-numbers : (x y z a n b : ℕ) → (x == z) ≡ true → (y == z) ≡ true 
 apart-numbers x y z a n b one other before = grind (arith, nat_tests)
 
 -- no symbol of the area stands before one of a later area that begins by a byte
-none_before-numbers : (x y z a n b k : ℕ) → (x == z) ≡ true → (y == z) ≡ false → (nat_lt x y || ((x == y) && nat_le (a + n) b)) ≡ true → (nat_lt y z || ((y == z) && nat_le b k)) ≡ true → ⊥
+none_before-numbers : (x y z a n b k : ℕ) → (x == z) ≡ true → (y == z) ≡ false
+    → (nat_lt x y || ((x == y) && nat_le (a + n) b)) ≡ true → (nat_lt y z || ((y == z) && nat_le b k)) ≡ true → ⊥
 none_before-numbers x y z a n b k one other before begins = grind (arith, nat_tests)
 
-none_behind-numbers : (x y z a n b k : ℕ) → (x == z) ≡ true → (y == z) ≡ false → (nat_lt y x || ((y == x) && nat_le (b + n) a)) ≡ true → (nat_lt y z || ((y == z) && nat_le b k)) ≡ false → ⊥
+none_behind-numbers : (x y z a n b k : ℕ) → (x == z) ≡ true → (y == z) ≡ false
+    → (nat_lt y x || ((y == x) && nat_le (b + n) a)) ≡ true → (nat_lt y z || ((y == z) && nat_le b k)) ≡ false → ⊥
 none_behind-numbers x y z a n b k one other before begins = grind (arith, nat_tests)
 
 pub same_area : (a b : Area) → is_same_area a b ≡ true → a ≡ b
@@ -53,10 +56,12 @@ same_area Process Memory e = cc
 same_area Process Process e = refl
 
 begins_back : (area : Area) (at : ℕ) (s t : TableSymbol) → lies_before s t ≡ true → begins_by area at t ≡ true → begins_by area at s ≡ true
-begins_back area at s t before begins = begins_back-numbers (area_number s.area) (area_number t.area) (area_number area) s.offset s.size t.offset at before begins
+begins_back area at s t before begins =
+    begins_back-numbers (area_number s.area) (area_number t.area) (area_number area) s.offset s.size t.offset at before begins
 
 -- one index, one symbol
-pub one_symbol : (symbols : List TableSymbol) (numbers : List ℕ) (i j m n : ℕ) (s t : TableSymbol) → i ≡ j → slice_get numbers i ≡ Some m → slice_get numbers j ≡ Some n → slice_get symbols m ≡ Some s → slice_get symbols n ≡ Some t → s ≡ t
+pub one_symbol : (symbols : List TableSymbol) (numbers : List ℕ) (i j m n : ℕ) (s t : TableSymbol) → i ≡ j
+    → slice_get numbers i ≡ Some m → slice_get numbers j ≡ Some n → slice_get symbols m ≡ Some s → slice_get symbols n ≡ Some t → s ≡ t
 one_symbol symbols numbers i j m n s t same gm gn sm tn =
     let number : Some m ≡ Some n = sym gm ∙ ap (slice_get numbers) same ∙ gn in
     let is_it : m ≡ n = cc in
@@ -72,7 +77,8 @@ pub record Halved (symbols : List TableSymbol) (numbers : List ℕ) (area : Area
 
 module _ (symbols : List TableSymbol) (numbers : List ℕ) (area : Area) (at : ℕ) (order : IsPlaceOrder symbols numbers) where
   -- the middle symbol begins by the byte
-  pub halved_up : (low high middle n : ℕ) (t : TableSymbol) → Halved symbols numbers area at low high → low ≤ middle → middle < high → slice_get numbers middle ≡ Some n → slice_get symbols n ≡ Some t
+  pub halved_up : (low high middle n : ℕ) (t : TableSymbol) → Halved symbols numbers area at low high
+      → low ≤ middle → middle < high → slice_get numbers middle ≡ Some n → slice_get symbols n ≡ Some t
       → begins_by area at t ≡ true → Halved symbols numbers area at (middle + 1) high
   halved_up low high middle n t h from below gn tn begins = record { ordered = omega (arith, below); within = h.within; before = all; behind = h.behind }
     where
@@ -88,9 +94,11 @@ module _ (symbols : List TableSymbol) (numbers : List ℕ) (area : Area) (at : �
           ]
 
   -- the middle symbol does not
-  pub halved_down : (low high middle n : ℕ) (t : TableSymbol) → Halved symbols numbers area at low high → low ≤ middle → middle < high → slice_get numbers middle ≡ Some n → slice_get symbols n ≡ Some t
+  pub halved_down : (low high middle n : ℕ) (t : TableSymbol) → Halved symbols numbers area at low high
+      → low ≤ middle → middle < high → slice_get numbers middle ≡ Some n → slice_get symbols n ≡ Some t
       → begins_by area at t ≡ false → Halved symbols numbers area at low middle
-  halved_down low high middle n t h from below gn tn begins = record { ordered = from; within = (let w = h.within in omega (arith, below, w)); before = h.before; behind = all }
+  halved_down low high middle n t h from below gn tn begins =
+      record { ordered = from; within = (let w = h.within in omega (arith, below, w)); before = h.before; behind = all }
     where
       all : EachBehind symbols numbers middle (λ s. begins_by area at s ≡ false)
       all i m s least gm sm =
@@ -116,7 +124,8 @@ module _ (symbols : List TableSymbol) (numbers : List ℕ) (area : Area) (at : �
 
   module _ (begun : ℕ) (has : HasBegun symbols numbers area at begun) where
     -- where a symbol of the area that begins by the byte stands in the order
-    index_before : (k n : ℕ) (s : TableSymbol) → slice_get numbers k ≡ Some n → slice_get symbols n ≡ Some s → is_same_area s.area area ≡ true → s.offset ≤ at → k < begun
+    index_before : (k n : ℕ) (s : TableSymbol) → slice_get numbers k ≡ Some n
+        → slice_get symbols n ≡ Some s → is_same_area s.area area ≡ true → s.offset ≤ at → k < begun
     index_before k n s gk e same le =
         elim (cases_Bool (nat_lt k begun)) [
           | inl less ↦ ltb-true k begun less
@@ -127,7 +136,8 @@ module _ (symbols : List TableSymbol) (numbers : List ℕ) (area : Area) (at : �
               cc
         ]
 
-    index_behind : (k n : ℕ) (s : TableSymbol) → slice_get numbers k ≡ Some n → slice_get symbols n ≡ Some s → is_same_area s.area area ≡ true → at < s.offset → begun ≤ k
+    index_behind : (k n : ℕ) (s : TableSymbol) → slice_get numbers k ≡ Some n
+        → slice_get symbols n ≡ Some s → is_same_area s.area area ≡ true → at < s.offset → begun ≤ k
     index_behind k n s gk e same more =
         elim (cases_Bool (nat_lt k begun)) [
           | inl less ↦
@@ -148,7 +158,8 @@ module _ (symbols : List TableSymbol) (numbers : List ℕ) (area : Area) (at : �
         let below = slice_get_within numbers k.0 n k.1 in
         begun-numbers (area_number s.area) (area_number area) s.offset at same (has.before k.0 n s (omega (arith, all, below)) k.1 e)
 
-    pub ends_last : (m : ℕ) (t : TableSymbol) → 0 < begun → slice_get numbers (begun - 1) ≡ Some m → slice_get symbols m ≡ Some t → is_same_area t.area area ≡ true → EndsLast symbols area at (m, t.offset + t.size)
+    pub ends_last : (m : ℕ) (t : TableSymbol) → 0 < begun → slice_get numbers (begun - 1) ≡ Some m
+        → slice_get symbols m ≡ Some t → is_same_area t.area area ≡ true → EndsLast symbols area at (m, t.offset + t.size)
     ends_last m t some gm tm same = record {
       owner = t;
       there = tm;
@@ -175,7 +186,8 @@ module _ (symbols : List TableSymbol) (numbers : List ℕ) (area : Area) (at : �
                   omega (arith, equal)
             ]
 
-    pub none_before : (m : ℕ) (t : TableSymbol) → 0 < begun → slice_get numbers (begun - 1) ≡ Some m → slice_get symbols m ≡ Some t → is_same_area t.area area ≡ false → HasNoneBefore symbols area at
+    pub none_before : (m : ℕ) (t : TableSymbol) → 0 < begun → slice_get numbers (begun - 1) ≡ Some m
+        → slice_get symbols m ≡ Some t → is_same_area t.area area ≡ false → HasNoneBefore symbols area at
     none_before m t some gm tm other n s e own =
         elim (cases_Bool (nat_le s.offset at)) [
           | inl le ↦
@@ -185,7 +197,8 @@ module _ (symbols : List TableSymbol) (numbers : List ℕ) (area : Area) (at : �
                 | inl less ↦
                     let before = order.rising k.0 (begun - 1) n m s t (ltb-true k.0 (begun - 1) less) k.1 gm e tm in
                     let begins = has.before (begun - 1) m t (omega (arith, some)) gm tm in
-                    absurd (none_before-numbers (area_number s.area) (area_number t.area) (area_number area) s.offset s.size t.offset at own other before begins)
+                    absurd (none_before-numbers (area_number s.area) (area_number t.area)
+                    (area_number area) s.offset s.size t.offset at own other before begins)
                 | inr most ↦
                     let least = ltb-false k.0 (begun - 1) most in
                     let at_last : k.0 ≡ begun - 1 = omega (arith, least, below, some) in
@@ -196,7 +209,8 @@ module _ (symbols : List TableSymbol) (numbers : List ℕ) (area : Area) (at : �
           | inr more ↦ leb-false s.offset at more
         ]
 
-    pub begins_first : (m : ℕ) (t : TableSymbol) → slice_get numbers begun ≡ Some m → slice_get symbols m ≡ Some t → is_same_area t.area area ≡ true → BeginsFirst symbols area at t.offset
+    pub begins_first : (m : ℕ) (t : TableSymbol) → slice_get numbers begun ≡ Some m
+        → slice_get symbols m ≡ Some t → is_same_area t.area area ≡ true → BeginsFirst symbols area at t.offset
     begins_first m t gm tm same = record {
       number = m;
       owner = t;
@@ -224,7 +238,8 @@ module _ (symbols : List TableSymbol) (numbers : List ℕ) (area : Area) (at : �
                   omega (arith, equal)
             ]
 
-    pub none_behind : (m : ℕ) (t : TableSymbol) → slice_get numbers begun ≡ Some m → slice_get symbols m ≡ Some t → is_same_area t.area area ≡ false → HasNoneBehind symbols area at
+    pub none_behind : (m : ℕ) (t : TableSymbol) → slice_get numbers begun ≡ Some m
+        → slice_get symbols m ≡ Some t → is_same_area t.area area ≡ false → HasNoneBehind symbols area at
     none_behind m t gm tm other n s e own =
         elim (cases_Bool (nat_lt at s.offset)) [
           | inl more ↦
@@ -234,7 +249,8 @@ module _ (symbols : List TableSymbol) (numbers : List ℕ) (area : Area) (at : �
                 | inl less ↦
                     let before = order.rising begun k.0 m n t s (ltb-true begun k.0 less) gm k.1 tm e in
                     let begins = has.behind begun m t (omega arith) gm tm in
-                    absurd (none_behind-numbers (area_number s.area) (area_number t.area) (area_number area) s.offset t.size t.offset at own other before begins)
+                    absurd (none_behind-numbers (area_number s.area) (area_number t.area)
+                    (area_number area) s.offset t.size t.offset at own other before begins)
                 | inr most ↦
                     let upto = ltb-false begun k.0 most in
                     let at_first : k.0 ≡ begun = omega (arith, least, upto) in

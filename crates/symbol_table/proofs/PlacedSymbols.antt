@@ -16,7 +16,8 @@ use Rattle.symbol_table.specs.PlaceOrders.{has_bytes, is_within, lie_apart}
 use Rattle.symbol_table.proofs.PlacesInOrder.{mapped_at}
 use Rattle.symbol_table.proofs.PositiveSizes.{size-positive}
 
-pub typed_placed : (types : List NamedType) (sizes : Sizes) (symbols : List Symbol) → list_all (is_placed types sizes) symbols ≡ true → list_all (is_typed types) symbols ≡ true
+pub typed_placed : (types : List NamedType) (sizes : Sizes) (symbols : List Symbol)
+    → list_all (is_placed types sizes) symbols ≡ true → list_all (is_typed types) symbols ≡ true
 typed_placed types sizes [] h = refl
 typed_placed types sizes (s ∷ symbols) h =
     let parts = and_parts (is_placed types sizes s) (list_all (is_placed types sizes) symbols) h in
@@ -32,14 +33,16 @@ typed-sized types s h =
     let inner = and_parts (is_shape types s.shape) (is_small_shape s.shape) outer.0 in
     record { named = shape-elem types s.shape inner.0; few_elements = inner.1; few_bytes = leb-true (size_of_symbol types s) LIMIT outer.1 }
 
-pub bytes_placed : (types : List NamedType) (symbols : List Symbol) → AreTypes types → list_all (is_typed types) symbols ≡ true → list_all has_bytes (map (table_symbol types) symbols) ≡ true
+pub bytes_placed : (types : List NamedType) (symbols : List Symbol) → AreTypes types
+    → list_all (is_typed types) symbols ≡ true → list_all has_bytes (map (table_symbol types) symbols) ≡ true
 bytes_placed types [] a h = refl
 bytes_placed types (s ∷ symbols) a h =
     let parts = and_parts (is_typed types s) (list_all (is_typed types) symbols) h in
     let some : nat_lt 0 (size_of_symbol types s) ≡ true = lt-ltb 0 (size_of_symbol types s) (size-positive types s.shape a (typed-shape types s parts.0)) in
     rw (some, bytes_placed types symbols a parts.1) refl
 
-pub within_placed : (types : List NamedType) (sizes : Sizes) (symbols : List Symbol) → list_all (is_placed types sizes) symbols ≡ true → list_all (is_within sizes) (map (table_symbol types) symbols) ≡ true
+pub within_placed : (types : List NamedType) (sizes : Sizes) (symbols : List Symbol)
+    → list_all (is_placed types sizes) symbols ≡ true → list_all (is_within sizes) (map (table_symbol types) symbols) ≡ true
 within_placed types sizes [] h = refl
 within_placed types sizes (s ∷ symbols) h =
     let parts = and_parts (is_placed types sizes s) (list_all (is_placed types sizes) symbols) h in
@@ -54,7 +57,8 @@ all_pairs-map : {X Y : Type 0} (f : X → Y) (test : Y → Y → Bool) (xs : Lis
 all_pairs-map f test [] = refl
 all_pairs-map f test (x ∷ xs) = rw (list_all-map f (test (f x)) xs, all_pairs-map f test xs) refl
 
-pub apart_placed : (types : List NamedType) (symbols : List Symbol) → all_pairs (are_apart types) symbols ≡ true → all_pairs lie_apart (map (table_symbol types) symbols) ≡ true
+pub apart_placed : (types : List NamedType) (symbols : List Symbol)
+    → all_pairs (are_apart types) symbols ≡ true → all_pairs lie_apart (map (table_symbol types) symbols) ≡ true
 apart_placed types symbols h = all_pairs-map (table_symbol types) lie_apart symbols ∙ h
 
 -- what is known of a symbol of the table
@@ -63,7 +67,8 @@ pub record IsSoundSymbol (types : List NamedType) (table : SymbolTable) (s : Tab
   pub size_is : s.size ≡ type_size (tree_of types s.shape)
   pub within : s.offset + s.size ≤ size_in table.sizes s.area
 
-sound_of : (types : List NamedType) (port : Port) (n : ℕ) (s : TableSymbol) → IsPlaced types port → slice_get (map (table_symbol types) port.symbols) n ≡ Some s → IsSoundSymbol types (table_of types port) s
+sound_of : (types : List NamedType) (port : Port) (n : ℕ) (s : TableSymbol) → IsPlaced types port
+    → slice_get (map (table_symbol types) port.symbols) n ≡ Some s → IsSoundSymbol types (table_of types port) s
 sound_of types port n s placed e =
     let found = mapped_at (table_symbol types) port.symbols n s e in
     let is_it = list_all-get (is_placed types port.sizes) port.symbols n found.0 placed.each found.1 in
@@ -74,7 +79,8 @@ sound_of types port n s placed e =
       within = leb-true ((found.0).offset + size_of_symbol types (found.0)) (size_in port.sizes (found.0).area) parts.1;
     })
 
-pub sound_symbol : (types : List NamedType) (table : SymbolTable) (n : ℕ) (s : TableSymbol) → IsTableWith types table → slice_get table.symbols n ≡ Some s → IsSoundSymbol types table s
+pub sound_symbol : (types : List NamedType) (table : SymbolTable) (n : ℕ) (s : TableSymbol)
+    → IsTableWith types table → slice_get table.symbols n ≡ Some s → IsSoundSymbol types table s
 sound_symbol types table n s with_ e =
     let same = with_.is_of.same in
     let there : slice_get (table_of types with_.port).symbols n ≡ Some s = ap (λ (t : SymbolTable). slice_get t.symbols n) (sym same) ∙ e in
@@ -89,7 +95,8 @@ symbol-placed types sizes signals s h =
     let name = and_parts (is_symbol_name s.name) (is_typed types s) place.0 in
     rw (name.1, place.1) refl
 
-symbols-placed : (types : List NamedType) (sizes : Sizes) (signals : ℕ) (symbols : List Symbol) → list_all (is_symbol types sizes signals) symbols ≡ true → list_all (is_placed types sizes) symbols ≡ true
+symbols-placed : (types : List NamedType) (sizes : Sizes) (signals : ℕ) (symbols : List Symbol)
+    → list_all (is_symbol types sizes signals) symbols ≡ true → list_all (is_placed types sizes) symbols ≡ true
 symbols-placed types sizes signals [] h = refl
 symbols-placed types sizes signals (s ∷ symbols) h =
     let parts = and_parts (is_symbol types sizes signals s) (list_all (is_symbol types sizes signals) symbols) h in
@@ -109,4 +116,5 @@ port_is_placed types signals port a h =
     }
 
 pub accepted_is_placed : (d : Description) (signals i : ℕ) (port : Port) → IsAccepted d signals → slice_get d.ports i ≡ Some port → IsPlaced d.types port
-accepted_is_placed d signals i port accepted e = port_is_placed d.types signals port accepted.types (list_all-get (is_port d.types signals) d.ports i port accepted.each_port e)
+accepted_is_placed d signals i port accepted e =
+    port_is_placed d.types signals port accepted.types (list_all-get (is_port d.types signals) d.ports i port accepted.each_port e)

@@ -1,5 +1,6 @@
 -- Places of symbols, and what sorting them gives.
-use Rattle.std.proofs.Common.{◌≡◌, ℕ, zero, suc, ◌+◌, ◌<◌, ◌≤◌, true, false, List, [], ◌∷◌, ◌++◌, map, length, get_or, refl, sym, ◌∙◌, ap, subst, arith, inl, inr, eqb}
+use Rattle.std.proofs.Common.{◌≡◌, ℕ, zero, suc, ◌+◌, ◌<◌, ◌≤◌, true, false, List, [], ◌∷◌, ◌++◌, map, length}
+use Rattle.std.proofs.Common.{get_or, refl, sym, ◌∙◌, ap, subst, arith, inl, inr, eqb}
 use Rattle.std.specs.Prelude.{Bool, Some, slice_get, nat_lt, nat_le, ◌&&◌, ◌||◌, not, ◌⊎◌, ◌==◌}
 use Rattle.std.specs.declared.cmp.Ordering.{Ordering}
 use Rattle.std.specs.declared.cmp.Ordering.TheVariants.{Less, Equal, Greater}
@@ -25,7 +26,8 @@ use Rattle.symbol_table.specs.PlaceKeys.{place_key, places_from, numbers_of}
 
 -- places of symbols
 
-pub places_from-push : (n : ℕ) (symbols : List TableSymbol) (s : TableSymbol) → places_from n (symbols ++ s ∷ []) ≡ places_from n symbols ++ place_key s (n + length symbols) ∷ []
+pub places_from-push : (n : ℕ) (symbols : List TableSymbol) (s : TableSymbol)
+    → places_from n (symbols ++ s ∷ []) ≡ places_from n symbols ++ place_key s (n + length symbols) ∷ []
 places_from-push n [] s = let e : n + 0 ≡ n = omega arith in rw e refl
 places_from-push n (t ∷ symbols) s =
     let e : n + 1 + length symbols ≡ n + length (t ∷ symbols) = omega arith in
@@ -42,12 +44,14 @@ pub record IsPlaceAmong (symbols : List TableSymbol) (place : ℕ × ℕ × ℕ)
   pub area : place.0 ≡ area_number owner.area
   pub offset : place.1 ≡ owner.offset
 
-each_from : (n : ℕ) (symbols rest : List TableSymbol) → ((i : ℕ) (s : TableSymbol) → slice_get rest i ≡ Some s → slice_get symbols (n + i) ≡ Some s) → All (IsPlaceAmong symbols) (places_from n rest)
+each_from : (n : ℕ) (symbols rest : List TableSymbol)
+    → ((i : ℕ) (s : TableSymbol) → slice_get rest i ≡ Some s → slice_get symbols (n + i) ≡ Some s) → All (IsPlaceAmong symbols) (places_from n rest)
 each_from n symbols [] h = All-nil (IsPlaceAmong symbols)
 each_from n symbols (s ∷ rest) h =
     let e : n + 0 ≡ n = omega arith in
     let first : slice_get symbols n ≡ Some s = rw e at (h zero s refl) in
-    All-cons (IsPlaceAmong symbols) (place_key s n) (places_from (n + 1) rest) (record { owner = s; there = first; area = refl; offset = refl }) (each_from (n + 1) symbols rest (λ i t g. shift i t g))
+    All-cons (IsPlaceAmong symbols) (place_key s n) (places_from (n + 1) rest)
+    (record { owner = s; there = first; area = refl; offset = refl }) (each_from (n + 1) symbols rest (λ i t g. shift i t g))
   where
     shift : (i : ℕ) (t : TableSymbol) → slice_get rest i ≡ Some t → slice_get symbols (n + 1 + i) ≡ Some t
     shift i t g =
@@ -64,10 +68,12 @@ place_cmp p q = ordering_then (ordering_then (nat_cmp p.0 q.0) (nat_cmp p.1 q.1)
 
 place_cmp_total : IsTotalOrder place_cmp
 place_cmp_total =
-    then_total (then_total (on_total (λ (p : ℕ × ℕ × ℕ). p.0) nat_cmp_total) (on_total (λ (p : ℕ × ℕ × ℕ). p.1) nat_cmp_total)) (on_total (λ (p : ℕ × ℕ × ℕ). p.2) nat_cmp_total)
+    then_total (then_total (on_total (λ (p : ℕ × ℕ × ℕ). p.0) nat_cmp_total) (on_total (λ (p : ℕ × ℕ × ℕ). p.1) nat_cmp_total))
+    (on_total (λ (p : ℕ × ℕ × ℕ). p.2) nat_cmp_total)
 
 -- a place that does not stand before another stands in a later area, or in the same one and not before it
-not_less_parts : (a b c d : ℕ) (o q r : Ordering) → MatchOrdering o (a < b) (a ≡ b) (b < a) → MatchOrdering q (c < d) (c ≡ d) (d < c) → is_lt (ordering_then (ordering_then o q) r) ≡ false
+not_less_parts : (a b c d : ℕ) (o q r : Ordering) → MatchOrdering o (a < b) (a ≡ b) (b < a)
+    → MatchOrdering q (c < d) (c ≡ d) (d < c) → is_lt (ordering_then (ordering_then o q) r) ≡ false
     → (b < a) ⊎ ((b ≡ a) × (d ≤ c))
 not_less_parts a b c d Less q r h k e = cc
 not_less_parts a b c d Equal Less r h k e = cc
@@ -77,18 +83,21 @@ not_less_parts a b c d Greater q r h k e = inl h
 
 not_less : (p q : ℕ × ℕ × ℕ) → is_lt (place_cmp q p) ≡ false → (p.0 < q.0) ⊎ ((p.0 ≡ q.0) × (p.1 ≤ q.1))
 not_less p q h =
-    not_less_parts q.0 p.0 q.1 p.1 (nat_cmp q.0 p.0) (nat_cmp q.1 p.1) (nat_cmp q.2 p.2) (ranked q.0 p.0 (nat_cmp q.0 p.0) refl) (ranked q.1 p.1 (nat_cmp q.1 p.1) refl) h
+    not_less_parts q.0 p.0 q.1 p.1 (nat_cmp q.0 p.0) (nat_cmp q.1 p.1) (nat_cmp q.2 p.2)
+    (ranked q.0 p.0 (nat_cmp q.0 p.0) refl) (ranked q.1 p.1 (nat_cmp q.1 p.1) refl) h
 
 -- a symbol of n bytes at a in the area x, and one of m bytes at b in the area y, where the first does not begin later
 before_numbers : (x y a n b m : ℕ) → (x < y) ⊎ ((x ≡ y) × (a ≤ b)) → nat_lt 0 m ≡ true → (not (x == y) || nat_le (a + n) b || nat_le (b + m) a) ≡ true
     → (nat_lt x y || ((x == y) && nat_le (a + n) b)) ≡ true
 before_numbers x y a n b m order bytes apart = grind (arith, nat_tests)
 
-apart_numbers : (x y a n b m : ℕ) → (not (x == y) || nat_le (a + n) b || nat_le (b + m) a) ≡ true → (not (y == x) || nat_le (b + m) a || nat_le (a + n) b) ≡ true
+apart_numbers : (x y a n b m : ℕ) → (not (x == y) || nat_le (a + n) b || nat_le (b + m) a) ≡ true
+    → (not (y == x) || nat_le (b + m) a || nat_le (a + n) b) ≡ true
 apart_numbers x y a n b m apart = grind (arith, nat_tests)
 
 -- what holds of any two, the earlier first
-pub pair_at : {X : Type 0} (test : X → X → Bool) (xs : List X) (i j : ℕ) (x y : X) → all_pairs test xs ≡ true → i < j → slice_get xs i ≡ Some x → slice_get xs j ≡ Some y → test x y ≡ true
+pub pair_at : {X : Type 0} (test : X → X → Bool) (xs : List X) (i j : ℕ) (x y : X)
+    → all_pairs test xs ≡ true → i < j → slice_get xs i ≡ Some x → slice_get xs j ≡ Some y → test x y ≡ true
 pair_at test [] i j x y h less e f = cc
 pair_at test (z ∷ zs) i zero x y h less e f = absurd (omega (arith, less))
 pair_at {X} test (z ∷ zs) zero (suc j) x y h less e f =
@@ -106,16 +115,19 @@ mapped_at f (x ∷ xs) zero y e = (x, refl, cc)
 mapped_at f (x ∷ xs) (suc i) y e = mapped_at f xs i y e
 
 -- the place at an index
-place_at : (symbols : List TableSymbol) (places : List (ℕ × ℕ × ℕ)) (i : ℕ) (p : ℕ × ℕ × ℕ) → All (IsPlaceAmong symbols) places → slice_get places i ≡ Some p → IsPlaceAmong symbols p
+place_at : (symbols : List TableSymbol) (places : List (ℕ × ℕ × ℕ)) (i : ℕ) (p : ℕ × ℕ × ℕ)
+    → All (IsPlaceAmong symbols) places → slice_get places i ≡ Some p → IsPlaceAmong symbols p
 place_at symbols places i p each e = subst (IsPlaceAmong symbols) (get_or_from_slice_get places i p p e) (each i p (slice_get_within places i p e))
 
-owner_is : (symbols : List TableSymbol) (p : ℕ × ℕ × ℕ) (m : ℕ) (s : TableSymbol) (among : IsPlaceAmong symbols p) → p.2 ≡ m → slice_get symbols m ≡ Some s → (p.0 ≡ area_number s.area) × (p.1 ≡ s.offset)
+owner_is : (symbols : List TableSymbol) (p : ℕ × ℕ × ℕ) (m : ℕ) (s : TableSymbol) (among : IsPlaceAmong symbols p)
+    → p.2 ≡ m → slice_get symbols m ≡ Some s → (p.0 ≡ area_number s.area) × (p.1 ≡ s.offset)
 owner_is symbols p m s among number e =
     let there : slice_get symbols m ≡ Some among.owner = ap (slice_get symbols) (sym number) ∙ among.there in
     let same : among.owner ≡ s = cc in
     (among.area ∙ ap (λ (t : TableSymbol). area_number t.area) same, among.offset ∙ ap (λ (t : TableSymbol). t.offset) same)
 
-module _ (symbols : List TableSymbol) (places : List (ℕ × ℕ × ℕ)) (bytes : list_all has_bytes symbols ≡ true) (apart : all_pairs lie_apart symbols ≡ true) (moved : IsPermutation (places_from 0 symbols) places)
+module _ (symbols : List TableSymbol) (places : List (ℕ × ℕ × ℕ)) (bytes : list_all has_bytes symbols ≡ true)
+    (apart : all_pairs lie_apart symbols ≡ true) (moved : IsPermutation (places_from 0 symbols) places)
     (sorted : IsSortedBy (λ p q. is_lt (place_cmp p q)) places) where
   numbers_moved : IsPermutation (range_with_len 0 (length symbols)) (numbers_of places)
   numbers_moved =
@@ -123,9 +135,11 @@ module _ (symbols : List TableSymbol) (places : List (ℕ × ℕ × ℕ)) (bytes
       subst P (numbers-places_from 0 symbols) (IsPermutation-map (λ (p : ℕ × ℕ × ℕ). p.2) (places_from 0 symbols) places moved)
 
   distinct : IsDistinct eqb (numbers_of places)
-  distinct = IsDistinct-IsPermutation eqb nat_eq_equiv.symm (range_with_len 0 (length symbols)) (numbers_of places) numbers_moved (IsDistinct-from_apart eqb (range_with_len 0 (length symbols)) differ)
+  distinct = IsDistinct-IsPermutation eqb nat_eq_equiv.symm (range_with_len 0 (length symbols))
+      (numbers_of places) numbers_moved (IsDistinct-from_apart eqb (range_with_len 0 (length symbols)) differ)
     where
-      differ : (i j d : ℕ) → i < j → j < length (range_with_len 0 (length symbols)) → eqb (get_or (range_with_len 0 (length symbols)) i d) (get_or (range_with_len 0 (length symbols)) j d) ≡ false
+      differ : (i j d : ℕ) → i < j → j < length (range_with_len 0 (length symbols))
+          → eqb (get_or (range_with_len 0 (length symbols)) i d) (get_or (range_with_len 0 (length symbols)) j d) ≡ false
       differ i j d less below =
           let within : j < length symbols = rw length-range_with_len at below in
           let at_i = get_or-range_with_len 0 (length symbols) i d (omega (arith, less, within)) in
@@ -158,7 +172,8 @@ module _ (symbols : List TableSymbol) (places : List (ℕ × ℕ × ℕ)) (bytes
       let differ : eqb m n ≡ false
       = rw (get_or_from_slice_get (numbers_of places) i m 0 gm, get_or_from_slice_get (numbers_of places) j n 0 gn) at
       (apart_from_distinct eqb (numbers_of places) i j 0 distinct less (slice_get_within (numbers_of places) j n gn)) in
-      before_numbers (area_number s.area) (area_number t.area) s.offset s.size t.offset t.size order (list_all-get has_bytes symbols n t bytes tn) (apart_at m n s t differ sm tn)
+      before_numbers (area_number s.area) (area_number t.area) s.offset s.size t.offset t.size order
+      (list_all-get has_bytes symbols n t bytes tn) (apart_at m n s t differ sm tn)
 
   pub in_place_order : IsPlaceOrder symbols (numbers_of places)
   in_place_order = record {

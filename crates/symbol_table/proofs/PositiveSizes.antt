@@ -5,7 +5,8 @@ use Rattle.std.specs.List.{list_all}
 use Rattle.std.specs.Option.{option_map_or}
 use Rattle.std.proofs.lemmas.Bool.{and_parts, ltb-true}
 use Rattle.std.proofs.Math.Nat.{le-mul_of_pos_right}
-use Rattle.spec_plant.specs.Listed.{Bound, Elem, Plain, Text, Struct, Enum, Shape, One, Array, Member, NamedType, Structure, Enumeration, is_structure, is_enumeration}
+use Rattle.spec_plant.specs.Listed.{Bound, Elem, Plain, Text, Struct, Enum, Shape, One, Array, Member}
+use Rattle.spec_plant.specs.Listed.{NamedType, Structure, Enumeration, is_structure, is_enumeration}
 use Rattle.spec_plant.specs.Trees.{TypeTree, tree_at, trees_of, elem_tree, shape_tree, member_trees, tree_of}
 use Rattle.spec_plant.specs.Sizes.{type_size, members_end, greatest_align, element_count, member_start, aligned}
 use Rattle.spec_plant.specs.AcceptedTypes.{AreTypes, is_elem, is_shape, is_bound, are_bounds, is_member, is_count, elem_within}
@@ -24,7 +25,8 @@ count-positive (b ∷ bs) h =
     let some = ltb-true 0 b.count ((and_parts (nat_lt 0 b.count) _ ((and_parts _ _ parts.0).0)).0) in
     mul_pos some rest
 
-shape-positive : (known : List TypeTree) (before : List NamedType) (s : Shape) → is_shape before s ≡ true → 0 < type_size (elem_tree known (elem_within s)) → 0 < type_size (shape_tree known s)
+shape-positive : (known : List TypeTree) (before : List NamedType) (s : Shape) → is_shape before s ≡ true
+    → 0 < type_size (elem_tree known (elem_within s)) → 0 < type_size (shape_tree known s)
 unfolding type_size
 shape-positive known before (One e) h some = some
 shape-positive known before (Array bounds e) h some =
@@ -33,14 +35,16 @@ shape-positive known before (Array bounds e) h some =
     mul_pos (count-positive bounds each) some
 
 -- a structure whose first member has bytes
-structure-positive : (known : List TypeTree) (name : List ℕ) (m : Member) (ms : List Member) → 0 < type_size (shape_tree known m.shape) → 0 < aligned (members_end 0 (member_trees known (m ∷ ms))) (greatest_align (member_trees known (m ∷ ms)))
+structure-positive : (known : List TypeTree) (name : List ℕ) (m : Member) (ms : List Member) → 0 < type_size (shape_tree known m.shape)
+    → 0 < aligned (members_end 0 (member_trees known (m ∷ ms))) (greatest_align (member_trees known (m ∷ ms)))
 unfolding members_end
 structure-positive known name m ms some =
     let rise = members_end-le (member_start 0 (shape_tree known m.shape) + type_size (shape_tree known m.shape)) (member_trees known ms) in
     omega (arith, some, rise)
 
 -- by the place of the last type that is named
-elem-positive : (types : List NamedType) → AreTypes types → (fuel : ℕ) (e : Elem) → rank e ≤ fuel → is_elem types e ≡ true → 0 < type_size (elem_tree (trees_of types) e)
+elem-positive : (types : List NamedType) → AreTypes types → (fuel : ℕ) (e : Elem)
+    → rank e ≤ fuel → is_elem types e ≡ true → 0 < type_size (elem_tree (trees_of types) e)
 unfolding type_size
 elem-positive types a fuel (Plain k) below h = (kind_size-bounds k).0
 elem-positive types a fuel (Text n) below h = omega arith
@@ -48,7 +52,8 @@ elem-positive types a zero (Struct p) below h = absurd (omega (arith, below))
 elem-positive types a zero (Enum p) below h = absurd (omega (arith, below))
 elem-positive types a (suc fuel) (Struct p) below h = go (λ e le named. elem-positive types a fuel e le named) (slice_get types p) refl h
   where
-    member : ((e : Elem) → rank e ≤ fuel → is_elem types e ≡ true → 0 < type_size (elem_tree (trees_of types) e)) → (name : List ℕ) (ms : List Member) → slice_get types p ≡ Some (Structure name ms)
+    member : ((e : Elem) → rank e ≤ fuel → is_elem types e ≡ true → 0 < type_size (elem_tree (trees_of types) e))
+        → (name : List ℕ) (ms : List Member) → slice_get types p ≡ Some (Structure name ms)
         → 0 < type_size (tree_at (trees_of types) p)
     member earlier_ones name [] e = let parts = (stands_at types p (Structure name []) a e).parts in cc
     member earlier_ones name (m ∷ ms) e =
@@ -62,7 +67,8 @@ elem-positive types a (suc fuel) (Struct p) below h = go (λ e le named. elem-po
         let tree = there.tree in
         rw tree (structure-positive (trees_of types) name m ms shape)
 
-    go : ((e : Elem) → rank e ≤ fuel → is_elem types e ≡ true → 0 < type_size (elem_tree (trees_of types) e)) → (o : Option NamedType) → slice_get types p ≡ o → option_map_or is_structure o false ≡ true
+    go : ((e : Elem) → rank e ≤ fuel → is_elem types e ≡ true → 0 < type_size (elem_tree (trees_of types) e))
+        → (o : Option NamedType) → slice_get types p ≡ o → option_map_or is_structure o false ≡ true
         → 0 < type_size (tree_at (trees_of types) p)
     go earlier_ones None e f = cc
     go earlier_ones (Some (Enumeration name base values)) e f = cc

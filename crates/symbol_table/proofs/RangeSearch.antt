@@ -21,13 +21,15 @@ use Rattle.symbol_table.proofs.PlaceSearch.{one_symbol}
 not_ended-numbers : (x z a n k : ℕ) → (nat_lt x z || ((x == z) && nat_le a k)) ≡ false → (nat_lt x z || ((x == z) && nat_le (a + n) k)) ≡ false
 not_ended-numbers x z a n k later = grind (arith, nat_tests)
 
-ended_before-numbers : (x y z a n b k : ℕ) → (nat_lt x y || ((x == y) && nat_le (a + n) b)) ≡ true → (nat_lt y z || ((y == z) && nat_le b k)) ≡ true → (nat_lt x z || ((x == z) && nat_le (a + n) k)) ≡ true
+ended_before-numbers : (x y z a n b k : ℕ) → (nat_lt x y || ((x == y) && nat_le (a + n) b)) ≡ true
+    → (nat_lt y z || ((y == z) && nat_le b k)) ≡ true → (nat_lt x z || ((x == z) && nat_le (a + n) k)) ≡ true
 ended_before-numbers x y z a n b k before begins = grind (arith, nat_tests)
 
 covers-ended-numbers : (x z a n k : ℕ) → ((x == z) && nat_le a k && nat_lt k (a + n)) ≡ true → (nat_lt x z || ((x == z) && nat_le (a + n) k)) ≡ false
 covers-ended-numbers x z a n k covered = grind (arith, nat_tests)
 
-begun-ended-numbers : (x z a n k : ℕ) → ((x == z) && nat_le a k && nat_lt k (a + n)) ≡ false → (nat_lt x z || ((x == z) && nat_le a k)) ≡ true → (nat_lt x z || ((x == z) && nat_le (a + n) k)) ≡ true
+begun-ended-numbers : (x z a n k : ℕ) → ((x == z) && nat_le a k && nat_lt k (a + n)) ≡ false
+    → (nat_lt x z || ((x == z) && nat_le a k)) ≡ true → (nat_lt x z || ((x == z) && nat_le (a + n) k)) ≡ true
 begun-ended-numbers x z a n k free begins = grind (arith, nat_tests)
 
 -- and the byte l, which is not before k
@@ -40,23 +42,27 @@ record Between (x z a n k l : ℕ) : Type 0 where
   pub begins : a ≤ l
   pub ends : k < a + n
 
-between-numbers : (x z a n k l : ℕ) → (nat_lt x z || ((x == z) && nat_le a l)) ≡ true → (nat_lt x z || ((x == z) && nat_le (a + n) k)) ≡ false → Between x z a n k l
+between-numbers : (x z a n k l : ℕ) → (nat_lt x z || ((x == z) && nat_le a l)) ≡ true
+    → (nat_lt x z || ((x == z) && nat_le (a + n) k)) ≡ false → Between x z a n k l
 between-numbers x z a n k l begins not_ended = record { same = grind (arith, nat_tests); begins = grind (arith, nat_tests); ends = grind (arith, nat_tests) }
 
 covers-begun-numbers : (x z a n k l : ℕ) → k ≤ l → ((x == z) && nat_le a k && nat_lt k (a + n)) ≡ true → (nat_lt x z || ((x == z) && nat_le a l)) ≡ false → ⊥
 covers-begun-numbers x z a n k l order covered later = grind (arith, nat_tests)
 
-ended-covers-numbers : (x z a n k l : ℕ) → k ≤ l → (nat_lt x z || ((x == z) && nat_le (a + n) k)) ≡ true → ((x == z) && nat_le a l && nat_lt l (a + n)) ≡ true → ⊥
+ended-covers-numbers : (x z a n k l : ℕ) → k ≤ l → (nat_lt x z || ((x == z) && nat_le (a + n) k)) ≡ true
+    → ((x == z) && nat_le a l && nat_lt l (a + n)) ≡ true → ⊥
 ended-covers-numbers x z a n k l order ended covered = grind (arith, nat_tests)
 
 at-covers-numbers : (x z a n k : ℕ) → (x == z) ≡ true → a ≤ k → k < a + n → ((x == z) && nat_le a k && nat_lt k (a + n)) ≡ true
 at-covers-numbers x z a n k same begins ends = grind (arith, nat_tests)
 
-module _ (symbols : List TableSymbol) (numbers : List ℕ) (area : Area) (at : ℕ) (order : IsPlaceOrder symbols numbers) (begun : ℕ) (has : HasBegun symbols numbers area at begun) where
+module _ (symbols : List TableSymbol) (numbers : List ℕ) (area : Area) (at : ℕ)
+    (order : IsPlaceOrder symbols numbers) (begun : ℕ) (has : HasBegun symbols numbers area at begun) where
   behind_begun : EachBehind symbols numbers begun (λ s. has_ended area at s ≡ false)
   behind_begun i m s least gm sm = not_ended-numbers (area_number s.area) (area_number area) s.offset s.size at (has.behind i m s least gm sm)
 
-  before_last : (m : ℕ) (t : TableSymbol) → 0 < begun → slice_get numbers (begun - 1) ≡ Some m → slice_get symbols m ≡ Some t → EachBefore symbols numbers (begun - 1) (λ s. has_ended area at s ≡ true)
+  before_last : (m : ℕ) (t : TableSymbol) → 0 < begun → slice_get numbers (begun - 1) ≡ Some m
+      → slice_get symbols m ≡ Some t → EachBefore symbols numbers (begun - 1) (λ s. has_ended area at s ≡ true)
   before_last m t some gm tm i n s below gn sn =
       ended_before-numbers (area_number s.area) (area_number t.area) (area_number area) s.offset s.size t.offset at
       (order.rising i (begun - 1) n m s t below gn gm sn tm) (has.before (begun - 1) m t (omega (arith, some)) gm tm)
@@ -69,7 +75,8 @@ module _ (symbols : List TableSymbol) (numbers : List ℕ) (area : Area) (at : �
   }
 
   -- the last symbol that begins by the byte covers it
-  pub ended_but_last : (m : ℕ) (t : TableSymbol) → 0 < begun → slice_get numbers (begun - 1) ≡ Some m → slice_get symbols m ≡ Some t → covers area at t ≡ true → HasEnded symbols numbers area at (begun - 1)
+  pub ended_but_last : (m : ℕ) (t : TableSymbol) → 0 < begun → slice_get numbers (begun - 1) ≡ Some m
+      → slice_get symbols m ≡ Some t → covers area at t ≡ true → HasEnded symbols numbers area at (begun - 1)
   ended_but_last m t some gm tm covered = record {
     within = (let w = has.within in omega (arith, w));
     before = before_last m t some gm tm;
@@ -88,7 +95,8 @@ module _ (symbols : List TableSymbol) (numbers : List ℕ) (area : Area) (at : �
           ]
 
   -- it ends by the byte
-  pub ended_all : (m : ℕ) (t : TableSymbol) → 0 < begun → slice_get numbers (begun - 1) ≡ Some m → slice_get symbols m ≡ Some t → covers area at t ≡ false → HasEnded symbols numbers area at begun
+  pub ended_all : (m : ℕ) (t : TableSymbol) → 0 < begun → slice_get numbers (begun - 1) ≡ Some m
+      → slice_get symbols m ≡ Some t → covers area at t ≡ false → HasEnded symbols numbers area at begun
   ended_all m t some gm tm free = record { within = has.within; before = all; behind = behind_begun }
     where
       all : EachBefore symbols numbers begun (λ s. has_ended area at s ≡ true)
@@ -127,18 +135,25 @@ part_at numbers first until i n ordered within e =
     let below = slice_get_within (take (until - first) rest) i n e in
     let short : i < until - first = omega (arith, below, count) in
     let inside : first + i < until = omega (arith, short) in
-    let read : get_or numbers (first + i) n ≡ n = sym (get_or-drop first numbers i n) ∙ sym (get_or-take (until - first) rest i n short) ∙ get_or_from_slice_get (take (until - first) rest) i n n e in
+    let read : get_or numbers (first + i) n ≡ n =
+    sym (get_or-drop first numbers i n) ∙ sym (get_or-take (until - first) rest i n short) ∙ get_or_from_slice_get (take (until - first) rest) i n n e in
     (inside, slice_get-get_or numbers (first + i) n (omega (arith, inside, within)) ∙ ap Some read)
 
-part_has : (numbers : List ℕ) (first until j n : ℕ) → first ≤ j → j < until → until ≤ length numbers → get_or numbers j n ≡ n → Contains (take (until - first) (drop first numbers)) n
+part_has : (numbers : List ℕ) (first until j n : ℕ) → first ≤ j → j < until → until ≤ length numbers
+    → get_or numbers j n ≡ n → Contains (take (until - first) (drop first numbers)) n
 part_has numbers first until j n from upto within read =
     let rest = drop first numbers in
     let count : length (take (until - first) rest) ≡ until - first = length-take-le (until - first) rest (simp length-drop (omega (arith, within))) in
     let short : j - first < until - first = omega (arith, from, upto) in
-    let place : first + (j - first) ≡ j = omega (arith, from) in
-    (j - first, omega (arith, short, count), get_or-take (until - first) rest (j - first) n short ∙ get_or-drop first numbers (j - first) n ∙ ap (λ k. get_or numbers k n) place ∙ read)
+    let place : first + (j - first) ≡ j = omega (arith, from) in (
+      j - first,
+      omega (arith, short, count),
+      get_or-take (until - first) rest (j - first) n short
+          ∙ get_or-drop first numbers (j - first) n ∙ ap (λ k. get_or numbers k n) place ∙ read,
+    )
 
-module _ (symbols : List TableSymbol) (numbers : List ℕ) (area : Area) (at len : ℕ) (order : IsPlaceOrder symbols numbers) (bytes : list_all has_bytes symbols ≡ true) (some : 0 < len) (first until : ℕ)
+module _ (symbols : List TableSymbol) (numbers : List ℕ) (area : Area) (at len : ℕ)
+    (order : IsPlaceOrder symbols numbers) (bytes : list_all has_bytes symbols ≡ true) (some : 0 < len) (first until : ℕ)
     (ended : HasEnded symbols numbers area at first) (begun : HasBegun symbols numbers area (at + (len - 1)) until) where
   pub range_ordered : first ≤ until
   range_ordered =
@@ -154,7 +169,8 @@ module _ (symbols : List TableSymbol) (numbers : List ℕ) (area : Area) (at len
         | inr le ↦ ltb-false until first le
       ]
 
-  has_byte : (n : ℕ) (s : TableSymbol) → slice_get symbols n ≡ Some s → begins_by area (at + (len - 1)) s ≡ true → has_ended area at s ≡ false → HasByteIn symbols area at len n
+  has_byte : (n : ℕ) (s : TableSymbol) → slice_get symbols n ≡ Some s
+      → begins_by area (at + (len - 1)) s ≡ true → has_ended area at s ≡ false → HasByteIn symbols area at len n
   has_byte n s sn begins not_ended =
       let between = between-numbers (area_number s.area) (area_number area) s.offset s.size at (at + (len - 1)) begins not_ended in
       let begins_ = between.begins in
@@ -191,9 +207,11 @@ module _ (symbols : List TableSymbol) (numbers : List ℕ) (area : Area) (at len
       let listed : get_or numbers (first + k) 0 ≡ get_or part k d = get_or_from_slice_get numbers (first + k) (get_or part k d) 0 here.1 in
       let number : get_or part k d < length symbols = rw listed at (order.each (first + k) 0 within) in
       let s = symbol_at symbols (get_or part k d) number in
-      has_byte (get_or part k d) s.0 s.1 (begun.before (first + k) (get_or part k d) s.0 inside here.1 s.1) (ended.behind (first + k) (get_or part k d) s.0 (omega arith) here.1 s.1)
+      has_byte (get_or part k d) s.0 s.1 (begun.before (first + k) (get_or part k d) s.0 inside here.1 s.1)
+      (ended.behind (first + k) (get_or part k d) s.0 (omega arith) here.1 s.1)
 
-  whole_in_range : (byte n : ℕ) (s : TableSymbol) → at ≤ byte → byte < at + len → slice_get symbols n ≡ Some s → covers area byte s ≡ true → Contains (take (until - first) (drop first numbers)) n
+  whole_in_range : (byte n : ℕ) (s : TableSymbol) → at ≤ byte → byte < at + len → slice_get symbols n ≡ Some s
+      → covers area byte s ≡ true → Contains (take (until - first) (drop first numbers)) n
   whole_in_range byte n s from upto sn covered =
       let there = order.whole n (slice_get_within symbols n s sn) in
       let j = there.0 in
@@ -204,13 +222,15 @@ module _ (symbols : List TableSymbol) (numbers : List ℕ) (area : Area) (at len
       is_before j listed =
           elim (cases_Bool (nat_lt j until)) [
             | inl less ↦ ltb-true j until less
-            | inr most ↦ absurd (covers-begun-numbers (area_number s.area) (area_number area) s.offset s.size byte (at + (len - 1)) (omega (arith, upto)) covered (begun.behind j n s (ltb-false j until most) listed sn))
+            | inr most ↦ absurd (covers-begun-numbers (area_number s.area) (area_number area) s.offset s.size byte
+                (at + (len - 1)) (omega (arith, upto)) covered (begun.behind j n s (ltb-false j until most) listed sn))
           ]
 
       is_behind : (j : ℕ) → slice_get numbers j ≡ Some n → first ≤ j
       is_behind j listed =
           elim (cases_Bool (nat_lt j first)) [
-            | inl less ↦ absurd (ended-covers-numbers (area_number s.area) (area_number area) s.offset s.size at byte from (ended.before j n s (ltb-true j first less) listed sn) covered)
+            | inl less ↦ absurd (ended-covers-numbers (area_number s.area) (area_number area) s.offset
+                s.size at byte from (ended.before j n s (ltb-true j first less) listed sn) covered)
             | inr most ↦ ltb-false j first most
           ]
 
@@ -219,5 +239,6 @@ module _ (symbols : List TableSymbol) (numbers : List ℕ) (area : Area) (at len
     each = each_in_range;
     whole = whole_in_range;
     rising = λ i j m n s t less gm gn sm tn.
-        order.rising (first + i) (first + j) m n s t (omega (arith, less)) ((part_at numbers first until i m range_ordered begun.within gm).1) ((part_at numbers first until j n range_ordered begun.within gn).1) sm tn;
+        order.rising (first + i) (first + j) m n s t (omega (arith, less)) ((part_at numbers first until i m range_ordered begun.within gm).1)
+        ((part_at numbers first until j n range_ordered begun.within gn).1) sm tn;
   }

@@ -14,7 +14,8 @@ pub record StandsAt (rows : List SymbolRow) (numbers : List ℕ) (i number : ℕ
   pub listed : slice_get numbers i ≡ Some number
   pub there : slice_get (symbols_of_rows rows) number ≡ Some (symbol_of_row row)
 
-pub stands_at : (rows : List SymbolRow) (numbers : List ℕ) (i : ℕ) (row : SymbolRow) → All (λ n. n < length (symbols_of_rows rows)) numbers → i < length numbers → row ≡ get_or rows (get_or numbers i 0) row
+pub stands_at : (rows : List SymbolRow) (numbers : List ℕ) (i : ℕ) (row : SymbolRow)
+    → All (λ n. n < length (symbols_of_rows rows)) numbers → i < length numbers → row ≡ get_or rows (get_or numbers i 0) row
     → StandsAt rows numbers i (get_or numbers i 0) row
 stands_at rows numbers i row each below read =
     let within : get_or numbers i 0 < length rows = rw length-map at (each i 0 below) in
@@ -24,7 +25,8 @@ stands_at rows numbers i row each below read =
     }
 
 -- a row that is read by its number, in the table whose rows they are
-pub row_there : (table : SymbolTable) (rows : List SymbolRow) (number : ℕ) (row : SymbolRow) → symbols_of_rows rows ≡ table.symbols → number < length table.symbols
+pub row_there : (table : SymbolTable) (rows : List SymbolRow) (number : ℕ) (row : SymbolRow)
+    → symbols_of_rows rows ≡ table.symbols → number < length table.symbols
     → row ≡ get_or rows number row → slice_get table.symbols number ≡ Some (symbol_of_row row)
 row_there table rows number row same below read =
     let count : length table.symbols ≡ length rows = ap (λ (ss : List TableSymbol). length ss) (sym same) ∙ length-map rows symbol_of_row in

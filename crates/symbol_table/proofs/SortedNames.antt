@@ -20,7 +20,8 @@ use Rattle.symbol_table.specs.NamesInOrder.{name_key, keys_from, IsKeyAmong, Are
 
 -- keys of symbols
 
-pub keys_from-push : (n : ℕ) (symbols : List TableSymbol) (s : TableSymbol) → keys_from n (symbols ++ s ∷ []) ≡ keys_from n symbols ++ name_key s.name (n + length symbols) ∷ []
+pub keys_from-push : (n : ℕ) (symbols : List TableSymbol) (s : TableSymbol)
+    → keys_from n (symbols ++ s ∷ []) ≡ keys_from n symbols ++ name_key s.name (n + length symbols) ∷ []
 keys_from-push n [] s = let e : n + 0 ≡ n = omega arith in rw e refl
 keys_from-push n (t ∷ symbols) s =
     let e : n + 1 + length symbols ≡ n + length (t ∷ symbols) = omega arith in
@@ -30,12 +31,14 @@ length-keys_from : (n : ℕ) (symbols : List TableSymbol) → length (keys_from 
 length-keys_from n [] = refl
 length-keys_from n (s ∷ symbols) = let rest = length-keys_from (n + 1) symbols in omega (arith, rest)
 
-each_from : (n : ℕ) (symbols rest : List TableSymbol) → ((i : ℕ) (s : TableSymbol) → slice_get rest i ≡ Some s → slice_get symbols (n + i) ≡ Some s) → All (IsKeyAmong symbols) (keys_from n rest)
+each_from : (n : ℕ) (symbols rest : List TableSymbol)
+    → ((i : ℕ) (s : TableSymbol) → slice_get rest i ≡ Some s → slice_get symbols (n + i) ≡ Some s) → All (IsKeyAmong symbols) (keys_from n rest)
 each_from n symbols [] h = All-nil (IsKeyAmong symbols)
 each_from n symbols (s ∷ rest) h =
     let e : n + 0 ≡ n = omega arith in
     let first : slice_get symbols n ≡ Some s = rw e at (h zero s refl) in
-    All-cons (IsKeyAmong symbols) (name_key s.name n) (keys_from (n + 1) rest) (record { owner = s; there = first; name = refl }) (each_from (n + 1) symbols rest (λ i t g. shift i t g))
+    All-cons (IsKeyAmong symbols) (name_key s.name n) (keys_from (n + 1) rest)
+    (record { owner = s; there = first; name = refl }) (each_from (n + 1) symbols rest (λ i t g. shift i t g))
   where
     shift : (i : ℕ) (t : TableSymbol) → slice_get rest i ≡ Some t → slice_get symbols (n + 1 + i) ≡ Some t
     shift i t g =
@@ -80,7 +83,8 @@ abbrev pub entry_cmp : Vec (Vec ℕ) × ℕ → Vec (Vec ℕ) × ℕ → Orderin
 entry_cmp x y = ordering_then (texts_cmp x.0.items y.0.items) (nat_cmp x.1 y.1)
 
 entry_cmp_total : IsTotalOrder entry_cmp
-entry_cmp_total = then_total (on_total (λ (e : Vec (Vec ℕ) × ℕ). e.0.items) (lists_total (on_total (λ (v : Vec ℕ). v.items) nat_list_cmp_total))) (on_total (λ (e : Vec (Vec ℕ) × ℕ). e.1) nat_cmp_total)
+entry_cmp_total = then_total (on_total (λ (e : Vec (Vec ℕ) × ℕ). e.0.items) (lists_total (on_total (λ (v : Vec ℕ). v.items) nat_list_cmp_total)))
+    (on_total (λ (e : Vec (Vec ℕ) × ℕ). e.1) nat_cmp_total)
 
 texts_cmp-items : (xs ys : List (Vec ℕ)) → texts_cmp xs ys ≡ name_cmp (identifiers_in xs) (identifiers_in ys)
 texts_cmp-items [] [] = refl
@@ -98,12 +102,14 @@ rising_at entries d sorted i j upto below =
     let within : j < length entries = rw length-map at below in
     let one = get_or entries i d in
     let other = get_or entries j d in
-    let far : is_lt (entry_cmp other one) ≡ false = sorted_far (λ x y. is_lt (entry_cmp x y)) (ranks_by entry_cmp_total (λ (x : Vec (Vec ℕ) × ℕ). x)) entries sorted i j d upto within in
+    let far : is_lt (entry_cmp other one) ≡ false =
+    sorted_far (λ x y. is_lt (entry_cmp x y)) (ranks_by entry_cmp_total (λ (x : Vec (Vec ℕ) × ℕ). x)) entries sorted i j d upto within in
     let key_i : identifiers_at (map key_of entries) i ≡ identifiers_in one.0.items
     = ap (λ (k : NameKey). k.identifiers) (get_or-map key_of entries i d (record { identifiers = []; symbol = 0 }) (omega (arith, upto, within))) in
     let key_j : identifiers_at (map key_of entries) j ≡ identifiers_in other.0.items
     = ap (λ (k : NameKey). k.identifiers) (get_or-map key_of entries j d (record { identifiers = []; symbol = 0 }) within) in
-    let back : name_cmp (identifiers_in one.0.items) (identifiers_in other.0.items) ≡ ordering_reverse (name_cmp (identifiers_in other.0.items) (identifiers_in one.0.items))
+    let back : name_cmp (identifiers_in one.0.items) (identifiers_in other.0.items)
+    ≡ ordering_reverse (name_cmp (identifiers_in other.0.items) (identifiers_in one.0.items))
     = (lists_total nat_list_cmp_total).antisymm (identifiers_in one.0.items) (identifiers_in other.0.items) in
     let level : is_gt (ordering_reverse (name_cmp (identifiers_in other.0.items) (identifiers_in one.0.items))) ≡ false
     = not_behind (name_cmp (identifiers_in other.0.items) (identifiers_in one.0.items)) (nat_cmp other.1 one.1) (rw texts_cmp-items at far) in

@@ -15,17 +15,20 @@ unfolding part_behind comment_behind
 tells_here types p steps sound none = rw none (record { sound = sound; is = refl; comment_is = refl })
 
 step_none : (types : List NamedType) (comment : List ℕ) (p : TypePart) (step : Step) (rest : List Step) (o : Option TypePart) → part_of p.type step ≡ o
-    → Tells types (comment_of_step p.type step) (option_map (within_part p) o) None → Tells types (comment_behind comment p.type (step ∷ rest)) (part_behind p (step ∷ rest)) None
+    → Tells types (comment_of_step p.type step) (option_map (within_part p) o) None
+    → Tells types (comment_behind comment p.type (step ∷ rest)) (part_behind p (step ∷ rest)) None
 unfolding part_behind comment_behind
 step_none types comment p step rest None e t = rw e tt
 step_none types comment p step rest (Some inner) e t = absurd t
 
 -- the step leads to nothing
 pub tells_none : (types : List NamedType) (comment : List ℕ) (p : TypePart) (step : Step) (steps rest : List Step) → steps ≡ step ∷ rest
-    → Tells types (comment_of_step p.type step) (option_map (within_part p) (part_of p.type step)) None → Tells types (comment_behind comment p.type steps) (part_behind p steps) None
+    → Tells types (comment_of_step p.type step) (option_map (within_part p) (part_of p.type step)) None
+    → Tells types (comment_behind comment p.type steps) (part_behind p steps) None
 tells_none types comment p step steps rest same t = rw same (step_none types comment p step rest (part_of p.type step) refl t)
 
-step_some : (types : List NamedType) (comment : List ℕ) (p : TypePart) (step : Step) (rest : List Step) (next : Part) (result : Option Part) (o : Option TypePart) → part_of p.type step ≡ o
+step_some : (types : List NamedType) (comment : List ℕ) (p : TypePart) (step : Step) (rest : List Step)
+    (next : Part) (result : Option Part) (o : Option TypePart) → part_of p.type step ≡ o
     → Tells types (comment_of_step p.type step) (option_map (within_part p) o) (Some next)
     → Tells types (comment_behind next.comment.now (part_in types next).type rest) (part_behind (part_in types next) rest) result
     → Tells types (comment_behind comment p.type (step ∷ rest)) (part_behind p (step ∷ rest)) result
@@ -36,7 +39,8 @@ step_some types comment p step rest next result (Some inner) e t more =
     rw e (rw (t.is, t.comment_is, type) at more)
 
 -- the step leads to a part, and the others go on from it
-pub tells_on : (types : List NamedType) (comment : List ℕ) (p : TypePart) (step : Step) (steps rest : List Step) (next : Part) (result : Option Part) → steps ≡ step ∷ rest
+pub tells_on : (types : List NamedType) (comment : List ℕ) (p : TypePart) (step : Step) (steps rest : List Step) (next : Part) (result : Option Part)
+    → steps ≡ step ∷ rest
     → Tells types (comment_of_step p.type step) (option_map (within_part p) (part_of p.type step)) (Some next)
     → Tells types (comment_behind next.comment.now (part_in types next).type rest) (part_behind (part_in types next) rest) result
     → Tells types (comment_behind comment p.type steps) (part_behind p steps) result

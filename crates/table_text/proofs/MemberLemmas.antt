@@ -8,12 +8,14 @@ use Rattle.toml.specs.declared.value.Value.{Value}
 use Rattle.toml.proofs.Views.{Entry}
 use Rattle.table_text.specs.SetMember.{set_member}
 
-match_members : (o : Ordering) (a b c : List Entry) → members_view (match_ordering o a b c) ≡ match_ordering o (members_view a) (members_view b) (members_view c)
+match_members : (o : Ordering) (a b c : List Entry)
+    → members_view (match_ordering o a b c) ≡ match_ordering o (members_view a) (members_view b) (members_view c)
 match_members Less a b c = refl
 match_members Equal a b c = refl
 match_members Greater a b c = refl
 
-inserted : (es : List Entry) (k : String Global) (v : Value) → members_view (insert_entry string_cmp es k v) ≡ set_member (string_bytes k) (view v) (members_view es)
+inserted : (es : List Entry) (k : String Global) (v : Value)
+    → members_view (insert_entry string_cmp es k v) ≡ set_member (string_bytes k) (view v) (members_view es)
 inserted [] k v = refl
 inserted (e ∷ es) k v = match_members (string_cmp k e.0) _ _ _ ∙ rw (inserted es k v) refl
 

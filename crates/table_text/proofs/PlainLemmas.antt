@@ -5,7 +5,9 @@ use Rattle.std.proofs.lemmas.Str.{is_utf8-from_IsUtf8}
 use Rattle.toml.specs.Parse.{parse_document}
 use Rattle.spec_rules.specs.TextVerdict.{document_of}
 use Rattle.std.proofs.lemmas.Bool.{and_parts}
-use Rattle.toml.specs.Data.{Data, string, integer, float, boolean, datetime, array, table, Items, no_items, item, Members, no_members, member, has_valid_dates, items_have_valid_dates, members_have_valid_dates}
+use Rattle.toml.specs.Data.{Data, string, integer, float, boolean, datetime, array, table, Items, no_items}
+use Rattle.toml.specs.Data.{item, Members, no_members, member, has_valid_dates, items_have_valid_dates}
+use Rattle.toml.specs.Data.{members_have_valid_dates}
 use Rattle.table_text.specs.PlainTable.{is_plain, are_plain, is_plain_table}
 
 mutual

@@ -4,7 +4,9 @@ use Rattle.std.proofs.lemmas.Bool.{cases_Bool, and_parts}
 use Rattle.toml_parser.specs.Strings.{Key}
 use Rattle.toml.specs.Data.{Data, string, integer, float, boolean, datetime, array, table, Items, no_items, item, Members, no_members, member}
 use Rattle.toml.specs.Tables.{Definition, key_value, std_table, array_table, Expression}
-use Rattle.toml.specs.Text.{breaks_lines, IsValueText, IsItemsText, IsMembersText, IsLineText, IsLinesText, IsDocumentText, is_section, are_tables, needs_header, pairs, sections, section, elements, expressions}
+use Rattle.toml.specs.Text.{breaks_lines, IsValueText, IsItemsText, IsMembersText, IsLineText, IsLinesText}
+use Rattle.toml.specs.Text.{IsDocumentText, is_section, are_tables, needs_header, pairs, sections, section}
+use Rattle.toml.specs.Text.{elements, expressions}
 use Rattle.table_text.specs.PlainTable.{is_plain, are_plain, is_plain_table}
 use Rattle.table_text.specs.TableText.{value_text, items_text, members_text, line_text, lines_text, document_text}
 
@@ -51,12 +53,14 @@ abbrev are_plain_lines : List Expression → Bool
 are_plain_lines [] = true
 are_plain_lines (e ∷ es) = is_plain_definition e.1 && are_plain_lines es
 
-line_is : (started : Bool) (key : Key) (d : Definition) (text : List ℕ) → is_plain_definition d ≡ true → IsLineText false started key d text → text ≡ line_text started key d
+line_is : (started : Bool) (key : Key) (d : Definition) (text : List ℕ)
+    → is_plain_definition d ≡ true → IsLineText false started key d text → text ≡ line_text started key d
 line_is started key (key_value d) text p h = let (this, is, value) = h in rw (is, value_is d this p value) refl
 line_is started key std_table text p h = h
 line_is started key array_table text p h = h
 
-lines_are : (started : Bool) (es : List Expression) (text : List ℕ) → are_plain_lines es ≡ true → IsLinesText false started es text → text ≡ lines_text started es
+lines_are : (started : Bool) (es : List Expression) (text : List ℕ)
+    → are_plain_lines es ≡ true → IsLinesText false started es text → text ≡ lines_text started es
 lines_are started [] text p h = h
 lines_are started (e ∷ es) text p h =
     let (here, more) = and_parts (is_plain_definition e.1) (are_plain_lines es) p in
@@ -113,7 +117,9 @@ mutual
   plain_elements (item (array xs) ds) path k p = plain_elements ds path k (and_parts (are_plain xs) (are_plain ds) p).1
   plain_elements (item (table ms) ds) path k p =
       let (here, more) = and_parts (is_plain_table ms) (are_plain ds) p in
-      plain_append (pairs ms ++ sections (path ++ k ∷ []) ms) (elements (path, k) ds) (plain_append (pairs ms) (sections (path ++ k ∷ []) ms) (plain_pairs ms here) (plain_sections ms (path ++ k ∷ []) here)) (plain_elements ds path k more)
+      plain_append (pairs ms ++ sections (path ++ k ∷ []) ms) (elements (path, k) ds)
+      (plain_append (pairs ms) (sections (path ++ k ∷ []) ms) (plain_pairs ms here) (plain_sections ms (path ++ k ∷ []) here))
+      (plain_elements ds path k more)
 
 -- a printed document of a plain table
 pub printed_is : (ms : Members) (text : List ℕ) → is_plain_table ms ≡ true → IsDocumentText false ms text → text ≡ document_text ms

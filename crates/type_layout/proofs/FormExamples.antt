@@ -40,6 +40,7 @@ nested_form : form_of (tree_of types (One (Struct 2))) ≡ codes "cell{axes:arra
 unfolding form_of trees_of trees_behind digits
 nested_form = refl
 
-array_form : form_of (tree_of types (Array (record { low = negsuc 1; count = 4 } ∷ record { low = pos 0; count = 10 } ∷ []) (Enum 1))) ≡ codes "array [-2..1,0..9] of mode(usint)"
+array_form : form_of (tree_of types (Array (record { low = negsuc 1; count = 4 } ∷ record { low = pos 0; count = 10 } ∷ []) (Enum 1)))
+    ≡ codes "array [-2..1,0..9] of mode(usint)"
 unfolding form_of trees_of trees_behind digits
 array_form = refl

@@ -23,7 +23,8 @@ left_at types members i = member_trees (trees_of (types_of types)) (drop i (map 
 
 -- the structure that stands at a place: what its member names stands before it
 pub good_member_at : (types : List NamedType) (place : ℕ) (x : NamedType) (s : StructType) (members : List Member) (i : ℕ) (m : Member)
-    → AreTypes (types_of types) → is_structure_at (types_of types) place ≡ true → x ≡ get_or types place x → x ≡ named.Struct s → members ≡ s.members → i < length members → m ≡ get_or members i m
+    → AreTypes (types_of types) → is_structure_at (types_of types) place ≡ true → x ≡ get_or types place x
+    → x ≡ named.Struct s → members ≡ s.members → i < length members → m ≡ get_or members i m
     → IsGoodMember (types_of types) place (member_of m)
 good_member_at types place x s members i m a h r t same below read =
     let within : place < length types = simp length-map at (at-below is_structure (types_of types) place h) in
@@ -36,7 +37,8 @@ pub form_turn : (types : List NamedType) (members : List Member) (i : ℕ) (m : 
     ≡ lower m.name ++ codes ":" ++ form_of (tree_of (types_of types) (shape_of m.kind)) ++ codes ";" ++ members_form (left_at types members (i + 1))
 unfolding members_form
 form_turn types members i m below read =
-    let left : drop i (map member_of members) ≡ member_of m ∷ drop (i + 1) (map member_of members) = drop-get (map member_of members) i (member_of m) (read_at member_of members i m below read) in
+    let left : drop i (map member_of members) ≡ member_of m ∷ drop (i + 1) (map member_of members) =
+    drop-get (map member_of members) i (member_of m) (read_at member_of members i m below read) in
     rw left refl
 
 -- all are written

@@ -12,7 +12,8 @@ more_bounds [] = refl
 more_bounds (b ∷ bs) = ap (λ rest. comma_bound b ++ rest) (more_bounds bs)
 
 pub joined_bounds : (bounds : List Bound) (d : Bound) → 0 < length bounds
-    → joined_by_comma (map bound_text (bounds_of bounds)) ≡ bound_text (bound_of (get_or bounds 0 d)) ++ flat_map comma_bound (take (length bounds - 1) (drop 1 bounds))
+    → joined_by_comma (map bound_text (bounds_of bounds)) ≡ bound_text (bound_of (get_or bounds 0 d))
+    ++ flat_map comma_bound (take (length bounds - 1) (drop 1 bounds))
 joined_bounds [] d h = absurd (omega arith)
 joined_bounds (b ∷ bs) d h =
     let less : length (b ∷ bs) - 1 ≡ length bs = omega arith in

@@ -25,7 +25,8 @@ length-extents_of types = length-map (trees_of types) extent_of ∙ length-trees
 extent_there : (types : List NamedType) (p : ℕ) (d : Extent) → p < length types → get_or (extents_of types) p d ≡ extent_of (tree_at (trees_of types) p)
 extent_there types p d below =
     let within : p < length (trees_of types) = rw length-trees_of below in
-    get_or-map extent_of (trees_of types) p (StructTree [] NoMember) d within ∙ ap extent_of (sym (unwrap_or-slice_get (trees_of types) p (StructTree [] NoMember)))
+    get_or-map extent_of (trees_of types) p (StructTree [] NoMember) d within
+    ∙ ap extent_of (sym (unwrap_or-slice_get (trees_of types) p (StructTree [] NoMember)))
 
 is_extent : (tree : TypeTree) (e : Extent) → e ≡ extent_of tree → HasExtent tree e
 is_extent tree e same = record { size = ap (λ (x : Extent). x.size) same; align = ap (λ (x : Extent). x.align) same }
@@ -52,7 +53,8 @@ all_extents types known same =
     first_extents types known (length types) (omega arith) (same ∙ sym (take_all (length types) (extents_of types) (omega (arith, count))))
 
 -- one more
-pub extents_more : (types : List NamedType) (k : ℕ) (e : Extent) → k < length types → HasExtent (tree_at (trees_of types) k) e → take (k + 1) (extents_of types) ≡ take k (extents_of types) ++ e ∷ []
+pub extents_more : (types : List NamedType) (k : ℕ) (e : Extent) → k < length types
+    → HasExtent (tree_at (trees_of types) k) e → take (k + 1) (extents_of types) ≡ take k (extents_of types) ++ e ∷ []
 extents_more types k e below h =
     let count = length-extents_of types in
     take_more (extents_of types) k e (omega (arith, count, below))

@@ -24,7 +24,8 @@ pub drop-get : {X : Type 0} (xs : List X) (i : ℕ) (x : X) → slice_get xs i �
 drop-get xs i x e = rw add-one (drop-get_suc xs i x e)
 
 -- members end within the limit
-pub ends_within : (types : List NamedType) (place : ℕ) (name : List ℕ) (ms : List Member) → StandsAt types place (Structure name ms) → members_end 0 (member_trees (trees_of types) ms) ≤ LIMIT
+pub ends_within : (types : List NamedType) (place : ℕ) (name : List ℕ) (ms : List Member)
+    → StandsAt types place (Structure name ms) → members_end 0 (member_trees (trees_of types) ms) ≤ LIMIT
 unfolding type_size
 ends_within types place name ms s = let small = s.small in omega (arith, small)
 
@@ -39,7 +40,8 @@ pub record IsTurn (types : List NamedType) (place end : ℕ) (shape : Shape) (le
   pub next : members_end end left ≡ members_end (member_start end (tree_of types shape) + type_size (tree_of types shape)) rest
   pub aligns : greatest_align left ≡ max (type_align (tree_of types shape)) (greatest_align rest)
 
-pub is_turn : (types : List NamedType) (place : ℕ) (name : List ℕ) (ms : List Member) (i : ℕ) (m : Member) (end : ℕ) → StandsAt types place (Structure name ms) → slice_get ms i ≡ Some m
+pub is_turn : (types : List NamedType) (place : ℕ) (name : List ℕ) (ms : List Member) (i : ℕ) (m : Member) (end : ℕ)
+    → StandsAt types place (Structure name ms) → slice_get ms i ≡ Some m
     → members_end 0 (member_trees (trees_of types) ms) ≡ members_end end (member_trees (trees_of types) (drop i ms))
     → IsTurn types place end m.shape (member_trees (trees_of types) (drop i ms)) (member_trees (trees_of types) (drop (i + 1) ms))
 unfolding members_end greatest_align

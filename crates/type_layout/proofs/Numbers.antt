@@ -21,7 +21,8 @@ products a b m n h g =
     let most = mul-le (a + 1) n m n (omega (arith, h)) (omega arith) in
     omega (arith, most, g)
 
-pub plane_fits : (bounds : List Bound) (d : Bound) (a b : ℕ) → length bounds ≡ 2 → element_count (bounds_of bounds) ≤ LIMIT → a < (get_or bounds 0 d).count → b < (get_or bounds 1 d).count
+pub plane_fits : (bounds : List Bound) (d : Bound) (a b : ℕ) → length bounds ≡ 2
+    → element_count (bounds_of bounds) ≤ LIMIT → a < (get_or bounds 0 d).count → b < (get_or bounds 1 d).count
     → a * (get_or bounds 1 d).count + b < LIMIT
 plane_fits [] d a b l h f g = absurd (omega (arith, l))
 plane_fits (x ∷ []) d a b l h f g = absurd (omega (arith, l))

@@ -1,5 +1,7 @@
 -- Named types of two lists: which are the same is told one type after another.
-use Rattle.std.proofs.Common.{◌≡◌, ℕ, zero, suc, ◌+◌, ◌<◌, ◌≤◌, List, [], ◌∷◌, ◌++◌, length, get_or, map, take, true, false, refl, sym, ◌∙◌, ap, subst, arith, inl, inr, append-nil, length-append}
+use Rattle.std.proofs.Common.{◌≡◌, ℕ, zero, suc, ◌+◌, ◌<◌, ◌≤◌, List, [], ◌∷◌, ◌++◌, length, get_or, map, take}
+use Rattle.std.proofs.Common.{true, false, refl, sym, ◌∙◌, ap, subst, arith, inl, inr, append-nil}
+use Rattle.std.proofs.Common.{length-append}
 use Rattle.std.specs.Prelude.{Bool, Option, Some, None, MatchOption, slice_get, bytes_eq, ◌==◌, ◌&&◌, not, nat_lt}
 use Rattle.std.specs.List.{list_all}
 use Rattle.std.specs.Option.{option_map_or}
@@ -30,7 +32,8 @@ all_first test (y ∷ xs) x h =
 next_differs : (known : List NamedType) (t : NamedType) → is_next_type known t ≡ true → list_all (λ u. differ (type_name u) (type_name t)) known ≡ true
 next_differs known t h = (and_parts _ _ ((and_parts _ _ ((and_parts _ _ h).0)).0)).1
 
-known_differ : (known ts : List NamedType) (j : ℕ) (u : NamedType) → are_types_behind known ts ≡ true → slice_get ts j ≡ Some u → list_all (λ t. differ (type_name t) (type_name u)) known ≡ true
+known_differ : (known ts : List NamedType) (j : ℕ) (u : NamedType) → are_types_behind known ts ≡ true
+    → slice_get ts j ≡ Some u → list_all (λ t. differ (type_name t) (type_name u)) known ≡ true
 known_differ known [] j u h e = cc
 known_differ known (t ∷ ts) zero u h e =
     let parts = and_parts (is_next_type known t) (are_types_behind (known ++ t ∷ []) ts) h in
@@ -41,7 +44,8 @@ known_differ known (t ∷ ts) (suc j) u h e =
     let parts = and_parts (is_next_type known t) (are_types_behind (known ++ t ∷ []) ts) h in
     (all_first (λ w. differ (type_name w) (type_name u)) known t (known_differ (known ++ t ∷ []) ts j u parts.1 e)).0
 
-later_differ : (known ts : List NamedType) (i j : ℕ) (t u : NamedType) → are_types_behind known ts ≡ true → i < j → slice_get ts i ≡ Some t → slice_get ts j ≡ Some u → differ (type_name t) (type_name u) ≡ true
+later_differ : (known ts : List NamedType) (i j : ℕ) (t u : NamedType) → are_types_behind known ts ≡ true
+    → i < j → slice_get ts i ≡ Some t → slice_get ts j ≡ Some u → differ (type_name t) (type_name u) ≡ true
 later_differ known [] i j t u h less e f = cc
 later_differ known (x ∷ ts) i zero t u h less e f = absurd (omega (arith, less))
 later_differ known (x ∷ ts) zero (suc j) t u h less e f =
@@ -60,7 +64,8 @@ differ_not a b h e =
     cc
 
 -- two places with one name are one
-one_place : (types : List NamedType) (i j : ℕ) (t u : NamedType) → AreTypes types → slice_get types i ≡ Some t → slice_get types j ≡ Some u → type_name t ≡ type_name u → i ≡ j
+one_place : (types : List NamedType) (i j : ℕ) (t u : NamedType) → AreTypes types
+    → slice_get types i ≡ Some t → slice_get types j ≡ Some u → type_name t ≡ type_name u → i ≡ j
 one_place types i j t u a e f same =
     elim (cases_Bool (nat_lt i j)) [
       | inl less ↦ absurd (differ_not (type_name t) (type_name u) (later_differ [] types i j t u a.each (ltb-true i j less) e f) same)
@@ -79,16 +84,19 @@ same_name partners (Enumeration n k vs) (Enumeration m l ws) h = (bytes_eq-Decid
 
 -- the trees of named types
 
-struct_parts : (before : List NamedType) (name : List ℕ) (ms : List Member) → has_parts before (Structure name ms) ≡ true → list_all (is_member before) ms ≡ true
+struct_parts : (before : List NamedType) (name : List ℕ) (ms : List Member)
+    → has_parts before (Structure name ms) ≡ true → list_all (is_member before) ms ≡ true
 struct_parts before name ms h = (and_parts _ _ ((and_parts _ _ h).0)).1
 
-structures : (n m : List ℕ) (old new : List NamedType) (ms ns : List Member) → is_same_type (StructTree n (member_trees (trees_of old) ms)) (StructTree m (member_trees (trees_of new) ns))
+structures : (n m : List ℕ) (old new : List NamedType) (ms ns : List Member)
+    → is_same_type (StructTree n (member_trees (trees_of old) ms)) (StructTree m (member_trees (trees_of new) ns))
     ≡ (bytes_eq n m && has_same_members 0 (member_trees (trees_of old) ms) 0 (member_trees (trees_of new) ns))
 unfolding type_text has_same_parts
 structures n m old new ms ns = refl
 
 module _ (old new : List NamedType) (p : ℕ) (partners : List (Option ℕ)) (ao : AreTypes old) (an : AreTypes new) (are : ArePartners old new p partners) where
-  pub same_named-is : (t u : NamedType) (q : ℕ) → slice_get old p ≡ Some t → slice_get new q ≡ Some u → same_named partners t u ≡ is_same_type (tree_at (trees_of old) p) (tree_at (trees_of new) q)
+  pub same_named-is : (t u : NamedType) (q : ℕ) → slice_get old p ≡ Some t → slice_get new q ≡ Some u
+      → same_named partners t u ≡ is_same_type (tree_at (trees_of old) p) (tree_at (trees_of new) q)
   unfolding type_text has_same_parts
   same_named-is (Structure n ms) (Structure m ns) q e f =
       let x = stands_at old p (Structure n ms) ao e in
@@ -146,7 +154,8 @@ get_last [] x = refl
 get_last (y ∷ xs) x = get_last xs x
 
 -- what is told of one type more
-pub partners_more : (old new : List NamedType) (p : ℕ) (partners : List (Option ℕ)) (t : NamedType) (r : Option ℕ) → AreTypes old → AreTypes new → ArePartners old new p partners → slice_get old p ≡ Some t
+pub partners_more : (old new : List NamedType) (p : ℕ) (partners : List (Option ℕ)) (t : NamedType) (r : Option ℕ)
+    → AreTypes old → AreTypes new → ArePartners old new p partners → slice_get old p ≡ Some t
     → MatchOption r (HasNoPartner partners t new) (IsPartnerAt partners t new) → ArePartners old new (p + 1) (partners ++ r ∷ [])
 partners_more old new p partners t r ao an are e told =
     let counted = are.counted in
@@ -174,7 +183,8 @@ partners_more old new p partners t r ao an are e told =
         ]
 
 -- shapes of the whole lists
-pub shapes_are : (old new : List NamedType) (partners : List (Option ℕ)) (s t : Shape) → AreTypes old → AreTypes new → ArePartners old new (length old) partners → is_shape old s ≡ true → is_shape new t ≡ true
+pub shapes_are : (old new : List NamedType) (partners : List (Option ℕ)) (s t : Shape) → AreTypes old
+    → AreTypes new → ArePartners old new (length old) partners → is_shape old s ≡ true → is_shape new t ≡ true
     → same_shape partners s t ≡ is_same_type (tree_of old s) (tree_of new t)
 shapes_are old new partners s t ao an are hs ht =
     let P : List NamedType → Type 0 = λ known. is_shape known s ≡ true in

@@ -27,20 +27,27 @@ pub read_at : {X Y : Type 0} (f : X → Y) (xs : List X) (i : ℕ) (x : X) → i
 read_at f xs i x h e = slice_get-map f xs i ∙ ap (option_map f) (slice_get_read xs (length xs) i x refl h e)
 
 -- an enumeration that is read at a place
-pub enumeration_at : (types : List NamedType) (place : ℕ) (x : NamedType) (e : EnumType) → AreTypes (types_of types) → place < length types → x ≡ get_or types place x → x ≡ named.Enum e
+pub enumeration_at : (types : List NamedType) (place : ℕ) (x : NamedType) (e : EnumType)
+    → AreTypes (types_of types) → place < length types → x ≡ get_or types place x → x ≡ named.Enum e
     → StandsAt (types_of types) place (enumeration_of e)
-enumeration_at types place x e a h r t = stands_at (types_of types) place (enumeration_of e) a (read_at named_type_of types place x h r ∙ ap (λ y. Some (named_type_of y)) t)
+enumeration_at types place x e a h r t =
+    stands_at (types_of types) place (enumeration_of e) a (read_at named_type_of types place x h r ∙ ap (λ y. Some (named_type_of y)) t)
 
 -- a structure that is read at a place
-pub structure_at : (types : List NamedType) (place : ℕ) (x : NamedType) (s : StructType) → AreTypes (types_of types) → place < length types → x ≡ get_or types place x → x ≡ named.Struct s
+pub structure_at : (types : List NamedType) (place : ℕ) (x : NamedType) (s : StructType)
+    → AreTypes (types_of types) → place < length types → x ≡ get_or types place x → x ≡ named.Struct s
     → StandsAt (types_of types) place (structure_of s)
-structure_at types place x s a h r t = stands_at (types_of types) place (structure_of s) a (read_at named_type_of types place x h r ∙ ap (λ y. Some (named_type_of y)) t)
+structure_at types place x s a h r t =
+    stands_at (types_of types) place (structure_of s) a (read_at named_type_of types place x h r ∙ ap (λ y. Some (named_type_of y)) t)
 
 -- one member of a structure that is read at a place
 pub member_turn : (types : List NamedType) (place : ℕ) (x : NamedType) (s : StructType) (members : List Member) (i : ℕ) (m : Member) (end : ℕ)
-    → AreTypes (types_of types) → is_structure_at (types_of types) place ≡ true → x ≡ get_or types place x → x ≡ named.Struct s → members ≡ s.members → i < length members → m ≡ get_or members i m
-    → members_end 0 (member_trees (trees_of (types_of types)) (map member_of members)) ≡ members_end end (member_trees (trees_of (types_of types)) (drop i (map member_of members)))
-    → IsTurn (types_of types) place end (shape_of m.kind) (member_trees (trees_of (types_of types)) (drop i (map member_of members))) (member_trees (trees_of (types_of types)) (drop (i + 1) (map member_of members)))
+    → AreTypes (types_of types) → is_structure_at (types_of types) place ≡ true → x ≡ get_or types place x
+    → x ≡ named.Struct s → members ≡ s.members → i < length members → m ≡ get_or members i m
+    → members_end 0 (member_trees (trees_of (types_of types)) (map member_of members))
+    ≡ members_end end (member_trees (trees_of (types_of types)) (drop i (map member_of members)))
+    → IsTurn (types_of types) place end (shape_of m.kind) (member_trees (trees_of (types_of types)) (drop i (map member_of members)))
+    (member_trees (trees_of (types_of types)) (drop (i + 1) (map member_of members)))
 member_turn types place x s members i m end a h r t same below read ends =
     let within : place < length types = simp length-map at (at-below is_structure (types_of types) place h) in
     let there : StandsAt (types_of types) place (Structure s.name (map member_of members)) = rw same (structure_at types place x s a within r t) in
@@ -54,9 +61,12 @@ pub record IsWhole (types : List plain.NamedType) (place end greatest : ℕ) : T
   pub high : greatest ≤ 8
 
 pub is_whole : (types : List NamedType) (place : ℕ) (x : NamedType) (s : StructType) (members : List Member) (i end greatest : ℕ)
-    → AreTypes (types_of types) → is_structure_at (types_of types) place ≡ true → x ≡ get_or types place x → x ≡ named.Struct s → members ≡ s.members → length members ≤ i
-    → members_end 0 (member_trees (trees_of (types_of types)) (map member_of members)) ≡ members_end end (member_trees (trees_of (types_of types)) (drop i (map member_of members)))
-    → greatest_align (member_trees (trees_of (types_of types)) (map member_of members)) ≡ max greatest (greatest_align (member_trees (trees_of (types_of types)) (drop i (map member_of members))))
+    → AreTypes (types_of types) → is_structure_at (types_of types) place ≡ true
+    → x ≡ get_or types place x → x ≡ named.Struct s → members ≡ s.members → length members ≤ i
+    → members_end 0 (member_trees (trees_of (types_of types)) (map member_of members))
+    ≡ members_end end (member_trees (trees_of (types_of types)) (drop i (map member_of members)))
+    → greatest_align (member_trees (trees_of (types_of types)) (map member_of members)) ≡ max greatest
+    (greatest_align (member_trees (trees_of (types_of types)) (drop i (map member_of members))))
     → 0 < greatest
     → IsWhole (types_of types) place end greatest
 unfolding type_size type_align members_end greatest_align
@@ -81,30 +91,43 @@ is_whole types place x s members i end greatest a h r t same past ends aligns lo
 
 -- the member that is met has the name that is looked for
 pub member_found : (types : List NamedType) (place : ℕ) (x : NamedType) (s : StructType) (members : List Member) (i : ℕ) (m : Member) (end : ℕ) (name : List ℕ)
-    → AreTypes (types_of types) → is_structure_at (types_of types) place ≡ true → x ≡ get_or types place x → x ≡ named.Struct s → members ≡ s.members → i < length members → m ≡ get_or members i m
-    → member_from 0 (member_trees (trees_of (types_of types)) (map member_of members)) name ≡ member_from end (member_trees (trees_of (types_of types)) (drop i (map member_of members))) name
+    → AreTypes (types_of types) → is_structure_at (types_of types) place ≡ true → x ≡ get_or types place x
+    → x ≡ named.Struct s → members ≡ s.members → i < length members → m ≡ get_or members i m
+    → member_from 0 (member_trees (trees_of (types_of types)) (map member_of members)) name
+    ≡ member_from end (member_trees (trees_of (types_of types)) (drop i (map member_of members))) name
     → bytes_eq (lower m.name) (lower name) ≡ true
     → found.member_of (tree_at (trees_of (types_of types)) place) name
-    ≡ Some (record { name = m.name; first = member_start end (tree_of (types_of types) (shape_of m.kind)); type = tree_of (types_of types) (shape_of m.kind); comment = m.comment })
+    ≡ Some (record {
+      name = m.name;
+      first = member_start end (tree_of (types_of types) (shape_of m.kind));
+      type = tree_of (types_of types) (shape_of m.kind);
+      comment = m.comment;
+    })
 member_found types place x s members i m end name a h r t same below read so_far is_it =
     let within : place < length types = simp length-map at (at-below is_structure (types_of types) place h) in
     let there : StandsAt (types_of types) place (Structure s.name (map member_of members)) = rw same (structure_at types place x s a within r t) in
-    let left : drop i (map member_of members) ≡ member_of m ∷ drop (i + 1) (map member_of members) = drop-get (map member_of members) i (member_of m) (read_at member_of members i m below read) in
+    let left : drop i (map member_of members) ≡ member_of m ∷ drop (i + 1) (map member_of members) =
+    drop-get (map member_of members) i (member_of m) (read_at member_of members i m below read) in
     let tree = there.tree in
     rw tree (so_far ∙ rw (left, is_it) refl)
 
 -- the member that is met has another name
-pub member_passed : (types : List NamedType) (members : List Member) (i : ℕ) (m : Member) (end : ℕ) (name : List ℕ) → i < length members → m ≡ get_or members i m → bytes_eq (lower m.name) (lower name) ≡ false
+pub member_passed : (types : List NamedType) (members : List Member) (i : ℕ) (m : Member) (end : ℕ) (name : List ℕ)
+    → i < length members → m ≡ get_or members i m → bytes_eq (lower m.name) (lower name) ≡ false
     → member_from end (member_trees (trees_of (types_of types)) (drop i (map member_of members))) name
-    ≡ member_from (member_start end (tree_of (types_of types) (shape_of m.kind)) + type_size (tree_of (types_of types) (shape_of m.kind))) (member_trees (trees_of (types_of types)) (drop (i + 1) (map member_of members))) name
+    ≡ member_from (member_start end (tree_of (types_of types) (shape_of m.kind)) + type_size (tree_of (types_of types) (shape_of m.kind)))
+    (member_trees (trees_of (types_of types)) (drop (i + 1) (map member_of members))) name
 member_passed types members i m end name below read other =
-    let left : drop i (map member_of members) ≡ member_of m ∷ drop (i + 1) (map member_of members) = drop-get (map member_of members) i (member_of m) (read_at member_of members i m below read) in
+    let left : drop i (map member_of members) ≡ member_of m ∷ drop (i + 1) (map member_of members) =
+    drop-get (map member_of members) i (member_of m) (read_at member_of members i m below read) in
     rw (left, other) refl
 
 -- no member has the name
 pub member_missing : (types : List NamedType) (place : ℕ) (x : NamedType) (s : StructType) (members : List Member) (i end : ℕ) (name : List ℕ)
-    → AreTypes (types_of types) → is_structure_at (types_of types) place ≡ true → x ≡ get_or types place x → x ≡ named.Struct s → members ≡ s.members → length members ≤ i
-    → member_from 0 (member_trees (trees_of (types_of types)) (map member_of members)) name ≡ member_from end (member_trees (trees_of (types_of types)) (drop i (map member_of members))) name
+    → AreTypes (types_of types) → is_structure_at (types_of types) place ≡ true
+    → x ≡ get_or types place x → x ≡ named.Struct s → members ≡ s.members → length members ≤ i
+    → member_from 0 (member_trees (trees_of (types_of types)) (map member_of members)) name
+    ≡ member_from end (member_trees (trees_of (types_of types)) (drop i (map member_of members))) name
     → found.member_of (tree_at (trees_of (types_of types)) place) name ≡ None
 member_missing types place x s members i end name a h r t same past so_far =
     let within : place < length types = simp length-map at (at-below is_structure (types_of types) place h) in

@@ -1,5 +1,6 @@
 -- That shapes are the same, where it is known which named types are, is that their trees are the same types.
-use Rattle.std.proofs.Common.{◌≡◌, ℕ, zero, suc, ◌+◌, ◌<◌, ◌≤◌, min, List, [], ◌∷◌, ◌++◌, length, map, take, true, false, refl, sym, ◌∙◌, ap, subst, arith, inl, inr}
+use Rattle.std.proofs.Common.{◌≡◌, ℕ, zero, suc, ◌+◌, ◌<◌, ◌≤◌, min, List, [], ◌∷◌, ◌++◌, length, map, take}
+use Rattle.std.proofs.Common.{true, false, refl, sym, ◌∙◌, ap, subst, arith, inl, inr}
 use Rattle.std.specs.Prelude.{Bool, Option, Some, None, slice_get, bytes_eq, codes, decimal, ◌==◌, ◌&&◌, ℤ, pos, ◌+ℤ◌, ◌-ℤ◌}
 use Rattle.std.specs.List.{list_all}
 use Rattle.std.specs.Option.{option_map_or}
@@ -8,8 +9,10 @@ use Rattle.std.proofs.lemmas.Int.{ints}
 use Rattle.std.proofs.lemmas.Slice.Eq.{bytes_eq-Decides}
 use Rattle.name_paths.specs.Identifier.{lower}
 use Rattle.spec_plant.specs.Plain.{Kind}
-use Rattle.spec_plant.specs.Listed.{Bound, Elem, Plain, Text, Struct, Enum, Shape, One, Array, Member, NamedType, Structure, Enumeration, is_structure, is_enumeration}
-use Rattle.spec_plant.specs.Trees.{TypeTree, PlainTree, TextTree, EnumTree, ArrayTree, StructTree, tree_at, trees_of, tree_of, elem_tree, shape_tree, member_trees}
+use Rattle.spec_plant.specs.Listed.{Bound, Elem, Plain, Text, Struct, Enum, Shape, One, Array, Member}
+use Rattle.spec_plant.specs.Listed.{NamedType, Structure, Enumeration, is_structure, is_enumeration}
+use Rattle.spec_plant.specs.Trees.{TypeTree, PlainTree, TextTree, EnumTree, ArrayTree, StructTree, tree_at}
+use Rattle.spec_plant.specs.Trees.{trees_of, tree_of, elem_tree, shape_tree, member_trees}
 use Rattle.spec_plant.specs.Sizes.{element_count, aligned, type_size, member_start}
 use Rattle.spec_plant.specs.Spelling.{type_text, bound_text, joined_by_comma, high_of}
 use Rattle.spec_plant.specs.TypeTexts.{Ends, TypeText, type_text_of}
@@ -98,12 +101,14 @@ elem_tag (Text n) = 1
 elem_tag (Struct p) = 4
 elem_tag (Enum p) = 2
 
-struct_tag : (types : List NamedType) (p : ℕ) (o : Option NamedType) → AreTypes types → slice_get types p ≡ o → option_map_or is_structure o false ≡ true → tag (tree_at (trees_of types) p) ≡ 4
+struct_tag : (types : List NamedType) (p : ℕ) (o : Option NamedType) → AreTypes types
+    → slice_get types p ≡ o → option_map_or is_structure o false ≡ true → tag (tree_at (trees_of types) p) ≡ 4
 struct_tag types p None a e h = cc
 struct_tag types p (Some (Structure n ms)) a e h = ap tag (stands_at types p (Structure n ms) a e).tree
 struct_tag types p (Some (Enumeration n k vs)) a e h = cc
 
-enum_tag : (types : List NamedType) (p : ℕ) (o : Option NamedType) → AreTypes types → slice_get types p ≡ o → option_map_or is_enumeration o false ≡ true → tag (tree_at (trees_of types) p) ≡ 2
+enum_tag : (types : List NamedType) (p : ℕ) (o : Option NamedType) → AreTypes types → slice_get types p ≡ o
+    → option_map_or is_enumeration o false ≡ true → tag (tree_at (trees_of types) p) ≡ 2
 enum_tag types p None a e h = cc
 enum_tag types p (Some (Structure n ms)) a e h = cc
 enum_tag types p (Some (Enumeration n k vs)) a e h = ap tag (stands_at types p (Enumeration n k vs) a e).tree
@@ -149,7 +154,8 @@ arrays_alike bs cs t u e =
     subst P e (alike bs t u)
 
 -- arrays with other bounds have other texts
-arrays_differ : (old new : List NamedType) (bs cs : List Bound) (a b : Elem) → AreTypes old → AreTypes new → is_shape old (Array bs a) ≡ true → is_shape new (Array cs b) ≡ true → same_bounds bs cs ≡ false
+arrays_differ : (old new : List NamedType) (bs cs : List Bound) (a b : Elem) → AreTypes old → AreTypes new
+    → is_shape old (Array bs a) ≡ true → is_shape new (Array cs b) ≡ true → same_bounds bs cs ≡ false
     → is_same_type (tree_of old (Array bs a)) (tree_of new (Array cs b)) ≡ false
 arrays_differ old new bs cs a b ao an ha hb other =
     let x = type_text (tree_of old (Array bs a)) in
@@ -157,7 +163,8 @@ arrays_differ old new bs cs a b ao an ha hb other =
     elim (cases_Bool (bytes_eq x y)) [
       | inl same ↦
           let texts : x ≡ y = (bytes_eq-Decides x y).0 same in
-          let both : Some (written_type old (Array bs a)) ≡ Some (written_type new (Array cs b)) = sym (read_back old (Array bs a) ao ha) ∙ ap type_text_of texts ∙ read_back new (Array cs b) an hb in
+          let both : Some (written_type old (Array bs a)) ≡ Some (written_type new (Array cs b)) =
+          sym (read_back old (Array bs a) ao ha) ∙ ap type_text_of texts ∙ read_back new (Array cs b) an hb in
           let written : written_type old (Array bs a) ≡ written_type new (Array cs b) = cc in
           let ends : map ends_of_bound bs ≡ map ends_of_bound cs = ap (λ (t : TypeText). t.ends) written in
           let clash : true ≡ false = sym (ends_same bs cs ends) ∙ other in
@@ -174,7 +181,8 @@ shape_more types k (Array bs e) h =
     rw (parts.0, named) refl
 
 module _ (old new : List NamedType) (k : ℕ) (partners : List (Option ℕ)) (ao : AreTypes old) (an : AreTypes new) (are : ArePartners old new k partners) where
-  pub same_elem-is : (a b : Elem) → is_elem (take k old) a ≡ true → is_elem new b ≡ true → same_elem partners a b ≡ is_same_type (elem_tree (trees_of old) a) (elem_tree (trees_of new) b)
+  pub same_elem-is : (a b : Elem) → is_elem (take k old) a ≡ true → is_elem new b ≡ true
+      → same_elem partners a b ≡ is_same_type (elem_tree (trees_of old) a) (elem_tree (trees_of new) b)
   unfolding type_text has_same_parts
   same_elem-is (Plain x) (Plain y) ha hb = and_when (is_same_kind x y) (is_same_kind x y) (λ e. e)
   same_elem-is (Text m) (Text n) ha hb =
@@ -187,12 +195,15 @@ module _ (old new : List NamedType) (k : ℕ) (partners : List (Option ℕ)) (ao
       let before = (elem-earlier old k (Enum p) ha).earlier in
       are.each p q (omega (arith, before)) (at-below is_enumeration new q hb)
   same_elem-is a b ha hb =
-      sym (differ (elem_tree (trees_of old) a) (elem_tree (trees_of new) b) (elem_tag a) (elem_tag b) (tag_elem old a ao (elem-earlier old k a ha).named) (tag_elem new b an hb) refl)
+      sym (differ (elem_tree (trees_of old) a) (elem_tree (trees_of new) b) (elem_tag a)
+      (elem_tag b) (tag_elem old a ao (elem-earlier old k a ha).named) (tag_elem new b an hb) refl)
 
-  pub same_shape-is : (s t : Shape) → is_shape (take k old) s ≡ true → is_shape new t ≡ true → same_shape partners s t ≡ is_same_type (tree_of old s) (tree_of new t)
+  pub same_shape-is : (s t : Shape) → is_shape (take k old) s ≡ true → is_shape new t ≡ true
+      → same_shape partners s t ≡ is_same_type (tree_of old s) (tree_of new t)
   same_shape-is (One a) (One b) hs ht = same_elem-is a b hs ht
   same_shape-is (One a) (Array cs b) hs ht =
-      sym (differ (elem_tree (trees_of old) a) (ArrayTree cs (elem_tree (trees_of new) b)) (elem_tag a) 3 (tag_elem old a ao (elem-earlier old k a hs).named) refl (no_array a))
+      sym (differ (elem_tree (trees_of old) a) (ArrayTree cs (elem_tree (trees_of new) b))
+      (elem_tag a) 3 (tag_elem old a ao (elem-earlier old k a hs).named) refl (no_array a))
   same_shape-is (Array bs a) (One b) hs ht =
       sym (differ (ArrayTree bs (elem_tree (trees_of old) a)) (elem_tree (trees_of new) b) 3 (elem_tag b) refl (tag_elem new b an ht) (array_none b))
   same_shape-is (Array bs a) (Array cs b) hs ht =
@@ -238,9 +249,11 @@ module _ (old new : List NamedType) (k : ℕ) (partners : List (Option ℕ)) (ao
             let starts : member_start at t ≡ member_start at u = ap (λ a. aligned at (min a 8)) sizes.align in
             let ends : here ≡ there = ap (λ a. a + type_size t) starts ∙ ap (λ a. member_start at u + a) sizes.size in
             let rest = same_members-is here j ms ns pm.1 pn.1 ∙ ap (λ b. has_same_members here mt b nt) ends in
-            join l (same_shape partners m.shape n.shape) (member_start at t == member_start at u) (is_same_type t u) (same_members partners ms ns) (has_same_members here mt there nt)
+            join l (same_shape partners m.shape n.shape) (member_start at t == member_start at u)
+            (is_same_type t u) (same_members partners ms ns) (has_same_members here mt there nt)
             same yes_same (eq-eqb (member_start at t) (member_start at u) starts) rest
         | inr not_same ↦
-            apart l (same_shape partners m.shape n.shape) (member_start at t == member_start at u) (is_same_type t u) (same_members partners ms ns) (has_same_members here mt there nt)
+            apart l (same_shape partners m.shape n.shape) (member_start at t == member_start at u)
+            (is_same_type t u) (same_members partners ms ns) (has_same_members here mt there nt)
             same not_same
       ]

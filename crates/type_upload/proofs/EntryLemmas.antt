@@ -39,12 +39,14 @@ length-trees_of types = length-trees_behind [] types ∙ zero-add (length types)
 
 -- one more entry
 pub trees_go_on : (types : List NamedType) (i : ℕ) (tree : TypeTree) (old out new : List ℕ) → i < length types → tree_at (trees_of types) i ≡ tree
-    → out ≡ old ++ flat_map tree_bytes (take i (trees_of types)) → new ≡ out ++ tree_bytes tree → new ≡ old ++ flat_map tree_bytes (take (i + 1) (trees_of types))
+    → out ≡ old ++ flat_map tree_bytes (take i (trees_of types)) → new ≡ out ++ tree_bytes tree
+    → new ≡ old ++ flat_map tree_bytes (take (i + 1) (trees_of types))
 trees_go_on types i tree old out new h there so_far e =
     let trees = trees_of types in
     let within : i < length trees = omega (arith, length-trees_of types, h) in
     let is : get_or trees i (StructTree [] NoMember) ≡ tree = sym (unwrap_or-slice_get trees i (StructTree [] NoMember)) ∙ there in
-    let more : take (i + 1) trees ≡ take i trees ++ tree ∷ [] = take_more trees i (StructTree [] NoMember) within ∙ ap (λ (t : TypeTree). take i trees ++ t ∷ []) is in
+    let more : take (i + 1) trees ≡ take i trees ++ tree ∷ [] =
+    take_more trees i (StructTree [] NoMember) within ∙ ap (λ (t : TypeTree). take i trees ++ t ∷ []) is in
     rw more (e ∙ (ap (λ (l : List ℕ). l ++ tree_bytes tree) so_far ∙ flat_map_more tree_bytes old (take i trees) tree))
 
 pub trees_whole : (types : List NamedType) (i : ℕ) (old out : List ℕ) → length types ≤ i → out ≡ old ++ flat_map tree_bytes (take i (trees_of types))

@@ -52,9 +52,11 @@ pub names_are_there : (types : List NamedType) (s : Shape) → IsSized types s �
 names_are_there types s h = elem_is_there types (elem_within s) h.named
 
 -- a named type has no dimensions
-dimensions_of-named : (types : List NamedType) (place : ℕ) (t : NamedType) → AreTypes types → slice_get types place ≡ Some t → dimensions_of (tree_at (trees_of types) place) ≡ []
+dimensions_of-named : (types : List NamedType) (place : ℕ) (t : NamedType) → AreTypes types
+    → slice_get types place ≡ Some t → dimensions_of (tree_at (trees_of types) place) ≡ []
 dimensions_of-named types place (Structure name ms) a e = let there = (stands_at types place (Structure name ms) a e).tree in rw there refl
-dimensions_of-named types place (Enumeration name base values) a e = let there = (stands_at types place (Enumeration name base values) a e).tree in rw there refl
+dimensions_of-named types place (Enumeration name base values) a e = let there =
+    (stands_at types place (Enumeration name base values) a e).tree in rw there refl
 
 dimensions_of-elem : (types : List NamedType) (e : Elem) → AreTypes types → is_elem types e ≡ true → dimensions_of (elem_tree (trees_of types) e) ≡ []
 dimensions_of-elem types (Plain kind) a h = refl
@@ -62,6 +64,7 @@ dimensions_of-elem types (Text n) a h = refl
 dimensions_of-elem types (Struct place) a h = let there = named_there is_structure types place h in dimensions_of-named types place (there.0) a (there.1)
 dimensions_of-elem types (Enum place) a h = let there = named_there is_enumeration types place h in dimensions_of-named types place (there.0) a (there.1)
 
-pub dimensions_of-shape : (types : List NamedType) (s : Shape) → AreTypes types → IsSized types s → map dimension_of (bounds_within s) ≡ dimensions_of (tree_of types s)
+pub dimensions_of-shape : (types : List NamedType) (s : Shape) → AreTypes types
+    → IsSized types s → map dimension_of (bounds_within s) ≡ dimensions_of (tree_of types s)
 dimensions_of-shape types (One e) a h = sym (dimensions_of-elem types e a h.named)
 dimensions_of-shape types (Array bounds e) a h = refl

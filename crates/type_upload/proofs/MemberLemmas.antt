@@ -10,7 +10,9 @@ use Rattle.spec_plant.specs.Trees.{TypeTree, StructTree, shape_tree, tree_of, tr
 use Rattle.spec_plant.specs.Sizes.{aligned, type_size, type_align, greatest_align, members_end, member_start}
 use Rattle.spec_plant.specs.Spelling.{type_text}
 use Rattle.spec_plant.specs.Entries.{type_id}
-use Rattle.spec_plant.specs.AcceptedTypes.{AreTypes, LIMIT, are_bounds, is_elem, is_shape, is_small_shape, is_member, is_comment, is_short_identifier, has_parts, is_count, all_pairs, differ, elem_within}
+use Rattle.spec_plant.specs.AcceptedTypes.{AreTypes, LIMIT, are_bounds, is_elem, is_shape, is_small_shape}
+use Rattle.spec_plant.specs.AcceptedTypes.{is_member, is_comment, is_short_identifier, has_parts, is_count}
+use Rattle.spec_plant.specs.AcceptedTypes.{all_pairs, differ, elem_within}
 use Rattle.spec_plant.proofs.SizeLemmas.{greatest_align-bounds}
 use Rattle.spec_plant.proofs.TypeLemmas.{StandsAt, list_all-get, member-shape}
 use Rattle.spec_plant.proofs.TextLengths.{three_bounds, short_name, short_comment}
@@ -72,10 +74,12 @@ stands_behind end align start tree a e = e ∙ (ap (λ (n : ℕ). aligned end n)
 pub sub_written : (types : List NamedType) (m : Member) (end size offset id : ℕ) (name text comment : List ℕ) (dims : List Dimension) (old new : List ℕ)
     → size ≡ type_size (tree_of types m.shape) → offset ≡ member_start end (tree_of types m.shape) → id ≡ type_id (tree_of types m.shape)
     → name ≡ m.name → text ≡ type_text (tree_of types m.shape) → comment ≡ m.comment → dims ≡ dimensions_of (tree_of types m.shape)
-    → new ≡ old ++ front_bytes (record { size = size; offset = offset; type_id = id; flags = 2; name = name; type_name = text; comment = comment; dimensions = dims }) 0 0
+    → new ≡ old ++ front_bytes
+    (record { size = size; offset = offset; type_id = id; flags = 2; name = name; type_name = text; comment = comment; dimensions = dims }) 0 0
     → new ≡ old ++ sub_of types end m
 sub_written types m end size offset id name text comment dims old new es eo ei en et ec ed e =
-    let f : TypeFields = record { size = size; offset = offset; type_id = id; flags = 2; name = name; type_name = text; comment = comment; dimensions = dims } in
+    let f : TypeFields = record
+    { size = size; offset = offset; type_id = id; flags = 2; name = name; type_name = text; comment = comment; dimensions = dims } in
     let g : TypeFields = member_fields (member_start end (tree_of types m.shape)) m.name (tree_of types m.shape) m.comment in
     let same : f ≡ g = rw (es, eo, ei, en, et, ec, ed) refl in
     e ∙ ap (λ (l : List ℕ). old ++ l) (front_bytes-sub f ∙ ap (λ (x : TypeFields). sub_bytes x) same)
@@ -113,7 +117,8 @@ pub record IsWhole (types : List NamedType) (name : List ℕ) (ms : List Member)
   pub ends : end ≤ LIMIT
   pub high : greatest ≤ 8
 
-pub is_whole : (types : List NamedType) (place : ℕ) (name : List ℕ) (ms : List Member) (i end greatest : ℕ) → StandsAt types place (Structure name ms) → length ms ≤ i
+pub is_whole : (types : List NamedType) (place : ℕ) (name : List ℕ) (ms : List Member) (i end greatest : ℕ)
+    → StandsAt types place (Structure name ms) → length ms ≤ i
     → members_end 0 (member_trees (trees_of types) ms) ≡ members_end end (member_trees (trees_of types) (drop i ms))
     → greatest_align (member_trees (trees_of types) ms) ≡ max greatest (greatest_align (member_trees (trees_of types) (drop i ms)))
     → 0 < greatest → IsWhole types name ms end greatest

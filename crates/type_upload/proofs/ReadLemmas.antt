@@ -1,5 +1,7 @@
 -- What is read is an entry, and nothing is read only where none stands in front.
-use Rattle.std.proofs.Common.{◌≡◌, ℕ, ◌+◌, ◌-◌, ◌/◌, ◌^◌, ◌<◌, ◌≤◌, Bool, true, false, ◌&&◌, cond, List, [], ◌++◌, length, take, drop, Option, Some, None, refl, sym, ap, subst, ◌∙◌, append_assoc, arith}
+use Rattle.std.proofs.Common.{◌≡◌, ℕ, ◌+◌, ◌-◌, ◌/◌, ◌^◌, ◌<◌, ◌≤◌, Bool, true, false, ◌&&◌, cond, List, []}
+use Rattle.std.proofs.Common.{◌++◌, length, take, drop, Option, Some, None, refl, sym, ap, subst, ◌∙◌}
+use Rattle.std.proofs.Common.{append_assoc, arith}
 use Rattle.std.specs.Prelude.{◌↔◌, is_some}
 use Rattle.std.specs.Int.{w32, to_le_bytes}
 use Rattle.std.specs.List.{flat_map, AllByRecursion}
@@ -14,7 +16,9 @@ use Rattle.type_upload.specs.declared.entry.TypeEntry.{TypeEntry}
 use Rattle.type_upload.specs.declared.places.Places.{Places}
 use Rattle.type_upload.specs.Entry.{IsRead, BeginsWithNone, entry_meant}
 use Rattle.type_upload.specs.Places.{HasFields, HasPlaces, ReadsAs}
-use Rattle.spec_formats.specs.TypeEntryReading.{end_of_fields, is_fields, dimensions_in, fields_at, after_entry, after_subs_in, subs_in, behind_fields, entry_at, is_entry, type_entry_of}
+use Rattle.spec_formats.specs.TypeEntryReading.{end_of_fields, is_fields, dimensions_in, fields_at}
+use Rattle.spec_formats.specs.TypeEntryReading.{after_entry, after_subs_in, subs_in, behind_fields, entry_at}
+use Rattle.spec_formats.specs.TypeEntryReading.{is_entry, type_entry_of}
 use Rattle.type_upload.proofs.Dimensions.{length-dimensions, dimensions_read}
 use Rattle.type_upload.proofs.TestLemmas.{test_of_fields}
 use Rattle.type_upload.proofs.FieldLemmas.{made, same_fields, stamps_at, front, found, length-fields}

@@ -9,7 +9,8 @@ use Rattle.spec_plant.specs.AcceptedTypes.{AreTypes, are_bounds, is_elem, is_sha
 use Rattle.spec_plant.proofs.TypeLemmas.{stands_at, named_there, type_text-named}
 use Rattle.spec_plant.proofs.TextLengths.{short_type_name, kind-short, string-short, array-short}
 
-named-short : (types : List NamedType) (place : ℕ) (t : NamedType) → AreTypes types → slice_get types place ≡ Some t → length (type_text (tree_at (trees_of types) place)) ≤ 255
+named-short : (types : List NamedType) (place : ℕ) (t : NamedType) → AreTypes types
+    → slice_get types place ≡ Some t → length (type_text (tree_at (trees_of types) place)) ≤ 255
 named-short types place t a e =
     let short = short_type_name (type_name t) (stands_at types place t a e).name in
     let text = ap length (type_text-named types place t e) in

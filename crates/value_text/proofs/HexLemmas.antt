@@ -1,5 +1,7 @@
 -- What hexadecimal digits are read as is written in lower case.
-use Rattle.std.proofs.Common.{◌≡◌, ℕ, ◌+◌, ◌-◌, ◌*◌, ◌/◌, ◌%◌, ◌<◌, List, [], ◌∷◌, length, get_or, map, Bool, true, cond, ◌&&◌, leb, eqb, ltb, Option, Some, None, Result, Ok, Err, refl, sym, ap, ◌∙◌, subst, inl, inr, arith}
+use Rattle.std.proofs.Common.{◌≡◌, ℕ, ◌+◌, ◌-◌, ◌*◌, ◌/◌, ◌%◌, ◌<◌, List, [], ◌∷◌, length, get_or, map, Bool}
+use Rattle.std.proofs.Common.{true, cond, ◌&&◌, leb, eqb, ltb, Option, Some, None, Result, Ok, Err, refl, sym}
+use Rattle.std.proofs.Common.{ap, ◌∙◌, subst, inl, inr, arith}
 use Rattle.std.specs.Char.{to_ascii_lowercase}
 use Rattle.std.proofs.lemmas.Bool.{cases_Bool, and_parts, eqb-true, agree_below_at}
 use Rattle.std.proofs.lemmas.Bool.Decides.{nat_tests}
@@ -26,11 +28,14 @@ digit_value-ok c i v e = at (hex_digit_value c) e
 -- a digit in either case, in lower case
 digit_lower : (c v : ℕ) → hex_digit_value c ≡ Some v → (v < 16) × (cond (ltb v 10) (48 + v) (87 + v) ≡ to_ascii_lowercase c)
 digit_lower c v e = elim (cases_Bool (leb 65 c && leb c 70)) [
-  | inl upper ↦ (let is : c - 55 ≡ v = cc (rw upper at e) in let range = and_parts (leb 65 c) (leb c 70) upper in (grind (arith, nat_tests), grind (arith, nat_tests)))
+  | inl upper ↦ (let is : c - 55 ≡ v = cc (rw upper at e) in let range = and_parts (leb 65 c) (leb c 70) upper in
+      (grind (arith, nat_tests), grind (arith, nat_tests)))
   | inr upper ↦ elim (cases_Bool (leb 97 c && leb c 102)) [
-    | inl lower ↦ (let is : c - 87 ≡ v = cc (rw (upper, lower) at e) in let range = and_parts (leb 97 c) (leb c 102) lower in (grind (arith, nat_tests), grind (arith, nat_tests)))
+    | inl lower ↦ (let is : c - 87 ≡ v = cc (rw (upper, lower) at e) in let range = and_parts (leb 97 c) (leb c 102) lower in
+        (grind (arith, nat_tests), grind (arith, nat_tests)))
     | inr lower ↦ elim (cases_Bool (leb 48 c && leb c 57)) [
-      | inl plain ↦ (let is : c - 48 ≡ v = cc (rw (upper, lower, plain) at e) in let range = and_parts (leb 48 c) (leb c 57) plain in (grind (arith, nat_tests), grind (arith, nat_tests)))
+      | inl plain ↦ (let is : c - 48 ≡ v = cc (rw (upper, lower, plain) at e) in
+          let range = and_parts (leb 48 c) (leb c 57) plain in (grind (arith, nat_tests), grind (arith, nat_tests)))
       | inr plain ↦ absurd (let none : None ≡ Some v = rw (upper, lower, plain) at e in cc)
     ]
   ]
@@ -42,7 +47,8 @@ digit_again c i v e =
     (digit.0, lower_digit-is v digit.0 ∙ digit.1)
 
 -- a byte and the others, from what their digits are
-written : (h l x a b : ℕ) (others bytes text : List ℕ) → get_or lower_digits h 0 ≡ to_ascii_lowercase a → l < 16 → get_or lower_digits l 0 ≡ to_ascii_lowercase b
+written : (h l x a b : ℕ) (others bytes text : List ℕ) → get_or lower_digits h 0 ≡ to_ascii_lowercase a
+    → l < 16 → get_or lower_digits l 0 ≡ to_ascii_lowercase b
     → ◌≡◌ {A = Result ℕ FromHexError} (Ok (h * 16 + l)) (Ok x) → ◌≡◌ {A = Result (List ℕ) FromHexError} (Ok (x ∷ others)) (Ok bytes)
     → encode_lower others ≡ map to_ascii_lowercase text → encode_lower bytes ≡ map to_ascii_lowercase (a ∷ (b ∷ text))
 unfolding encode_with
@@ -54,7 +60,8 @@ written h l x a b others bytes text high small low byte all rest =
     let low_is : x % 16 ≡ l = omega arith in
     let first = ap (λ k. get_or lower_digits k 0) high_is ∙ high in
     let second = ap (λ k. get_or lower_digits k 0) low_is ∙ low in
-    subst P bytes_is (ap (λ d. d ∷ (get_or lower_digits (x % 16) 0 ∷ encode_lower others)) first ∙ ap (λ d. to_ascii_lowercase a ∷ (d ∷ encode_lower others)) second ∙ ap (λ ds. to_ascii_lowercase a ∷ (to_ascii_lowercase b ∷ ds)) rest)
+    subst P bytes_is (ap (λ d. d ∷ (get_or lower_digits (x % 16) 0 ∷ encode_lower others)) first
+    ∙ ap (λ d. to_ascii_lowercase a ∷ (d ∷ encode_lower others)) second ∙ ap (λ ds. to_ascii_lowercase a ∷ (to_ascii_lowercase b ∷ ds)) rest)
 
 pub encode_lower-decode_pairs : (i : ℕ) (text bytes : List ℕ) → decode_pairs i text ≡ Ok bytes → encode_lower bytes ≡ map to_ascii_lowercase text
 unfolding decode_pairs encode_with

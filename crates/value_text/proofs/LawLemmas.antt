@@ -1,12 +1,16 @@
 -- The laws of values and their texts, form by form.
-use Rattle.std.proofs.Common.{◌≡◌, ℕ, zero, suc, ◌-◌, ◌*◌, ◌^◌, ◌<◌, ◌≤◌, List, [], ◌∷◌, ◌++◌, length, get_or, take, drop, map, replicate, true, cond, ◌&&◌, eqb, ltb, refl, sym, ap, ◌∙◌, subst, inl, inr, arith, lit≤, codes}
+use Rattle.std.proofs.Common.{◌≡◌, ℕ, zero, suc, ◌-◌, ◌*◌, ◌^◌, ◌<◌, ◌≤◌, List, [], ◌∷◌, ◌++◌, length, get_or}
+use Rattle.std.proofs.Common.{take, drop, map, replicate, true, cond, ◌&&◌, eqb, ltb, refl, sym, ap, ◌∙◌}
+use Rattle.std.proofs.Common.{subst, inl, inr, arith, lit≤, codes}
 use Rattle.std.proofs.lemmas.Bool.{cases_Bool, cases_lt, and_parts, eqb-true, ltb-true}
 use Rattle.std.proofs.lemmas.Bool.Decides.{nat_tests}
 use Rattle.std.proofs.lemmas.Fmt.{decimal_injective}
 use Rattle.std.proofs.lemmas.List.{length-append, length-replicate}
 use Rattle.hex.proofs.HexLemmas.{decode_of-encode_lower, decode_of-same}
 use Rattle.spec_frames.specs.Number.{number_of, AreBytes}
-use Rattle.spec_formats.specs.ValueText.{ValueForm, Signed, Unsigned, Truth, Quoted, Hexadecimal, is_signed, is_unsigned, form_of, signed_text, before_nul, quoted, truth_text, text_of, IsNulFree, IsFilledTo, IsReadAs, IsValueOf}
+use Rattle.spec_formats.specs.ValueText.{ValueForm, Signed, Unsigned, Truth, Quoted, Hexadecimal, is_signed}
+use Rattle.spec_formats.specs.ValueText.{is_unsigned, form_of, signed_text, before_nul, quoted, truth_text}
+use Rattle.spec_formats.specs.ValueText.{text_of, IsNulFree, IsFilledTo, IsReadAs, IsValueOf}
 use Rattle.value_text.specs.Parts.{IsNumberSize, HasForm}
 use Rattle.std.specs.Char.{to_ascii_lowercase}
 use Rattle.value_text.specs.Laws.{value_again, in_lower_case}
@@ -60,11 +64,16 @@ signed_text-same : (range m n : ℕ) → range ≤ 2 ^ 64 → m < range → n < 
 signed_text-same range m n limit small_m small_n e = elim (cases_lt (2 * m) range) [
   | inl below_m ↦ elim (cases_lt (2 * n) range) [
     | inl below_n ↦ decimal_injective m n (omega arith) (omega arith) (sym (signed_text-below range m below_m) ∙ e ∙ signed_text-below range n below_n)
-    | inr above_n ↦ absurd (decimal-first m (signed_text range n) (omega arith) (sym e ∙ signed_text-below range m below_m) (ap (λ t. get_or t 0 0) (signed_text-above range n above_n)))
+    | inr above_n ↦ absurd
+        (decimal-first m (signed_text range n) (omega arith) (sym e ∙ signed_text-below range m below_m)
+        (ap (λ t. get_or t 0 0) (signed_text-above range n above_n)))
   ]
   | inr above_m ↦ elim (cases_lt (2 * n) range) [
-    | inl below_n ↦ absurd (decimal-first n (signed_text range m) (omega arith) (e ∙ signed_text-below range n below_n) (ap (λ t. get_or t 0 0) (signed_text-above range m above_m)))
-    | inr above_n ↦ (let lacking = decimal_injective (range - m) (range - n) (omega arith) (omega arith) (ap (drop 1) (sym (signed_text-above range m above_m) ∙ e ∙ signed_text-above range n above_n)) in omega arith)
+    | inl below_n ↦ absurd
+        (decimal-first n (signed_text range m) (omega arith) (e ∙ signed_text-below range n below_n)
+        (ap (λ t. get_or t 0 0) (signed_text-above range m above_m)))
+    | inr above_n ↦ (let lacking = decimal_injective (range - m) (range - n) (omega arith) (omega arith)
+        (ap (drop 1) (sym (signed_text-above range m above_m) ∙ e ∙ signed_text-above range n above_n)) in omega arith)
   ]
 ]
 
@@ -91,7 +100,8 @@ quoted_one text a b len f g =
     let same = quoted-same f.0 g.0 (sym f.1 ∙ g.1) in
     filled-same (length a) f.0 g.0 a b same f.2 (rw (sym len) at g.2)
 
-one_value : (f : ValueForm) (text a b : List ℕ) → HasForm f (length a) → length a ≡ length b → AreBytes a → AreBytes b → IsReadAs f text a → IsReadAs f text b → a ≡ b
+one_value : (f : ValueForm) (text a b : List ℕ) → HasForm f (length a) → length a ≡ length b
+    → AreBytes a → AreBytes b → IsReadAs f text a → IsReadAs f text b → a ≡ b
 unfolding text_of
 one_value Signed text a b has len small_a small_b f g =
     let limit = number_limit (length a) has in
@@ -103,7 +113,8 @@ one_value Unsigned text a b has len small_a small_b f g =
     let limit = number_limit (length a) has in
     let range = ap (λ k. 256 ^ k) len in
     number_of-same a b small_a small_b len
-    (decimal_injective (number_of a) (number_of b) (omega (arith, limit, number_of-lt a small_a)) (omega (arith, limit, range, number_of-lt b small_b)) (sym f ∙ g))
+    (decimal_injective (number_of a) (number_of b) (omega (arith, limit, number_of-lt a small_a))
+    (omega (arith, limit, range, number_of-lt b small_b)) (sym f ∙ g))
 one_value Truth text a b has len small_a small_b f g =
     let same = truth-same (get_or a 0 0) (get_or b 0 0) f.1 g.1 (sym f.0 ∙ g.0) in
     one_byte a has ∙ ap (λ x. x ∷ []) same ∙ sym (one_byte b (sym len ∙ has))
@@ -158,7 +169,8 @@ is_read_again id value small nul =
     let read = again (form_of id (length value)) value (HasForm-form_of id (length value)) small nul in
     record { sized = read.0; read_as = read.1 }
 
-pub is_refused : (f : ValueForm) (value other : List ℕ) → f ≡ Quoted → before_nul value ≡ value → length other ≡ length value → IsReadAs f (text_of f value) other → ⊥
+pub is_refused : (f : ValueForm) (value other : List ℕ) → f ≡ Quoted → before_nul value ≡ value
+    → length other ≡ length value → IsReadAs f (text_of f value) other → ⊥
 unfolding text_of
 is_refused Signed value other e full len read = cc e
 is_refused Unsigned value other e full len read = cc e

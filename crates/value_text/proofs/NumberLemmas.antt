@@ -31,14 +31,16 @@ behind_minus [] rest some minus e = absurd (omega arith)
 behind_minus (b ∷ bs) rest some minus e = cc
 
 -- a text without a minus is the text of a number below half of the range alone
-pub without_minus : (range n : ℕ) (text : List ℕ) → n < range → range ≤ 2 ^ 64 → get_or text 0 0 ≢ 45 → text ≡ signed_text range n → (2 * n < range) × (text ≡ decimal n)
+pub without_minus : (range n : ℕ) (text : List ℕ) → n < range → range ≤ 2 ^ 64
+    → get_or text 0 0 ≢ 45 → text ≡ signed_text range n → (2 * n < range) × (text ≡ decimal n)
 without_minus range n text in_range limit plain e = elim (cases_lt (2 * n) range) [
   | inl below ↦ (below, e ∙ signed_text-below range n below)
   | inr above ↦ absurd (plain (ap (λ t. get_or t 0 0) (e ∙ signed_text-above range n above)))
 ]
 
 -- a text with a minus is the text of a number from there on
-pub with_minus : (range n : ℕ) (text : List ℕ) → n < range → range ≤ 2 ^ 64 → get_or text 0 0 ≡ 45 → text ≡ signed_text range n → (range ≤ 2 * n) × (drop 1 text ≡ decimal (range - n))
+pub with_minus : (range n : ℕ) (text : List ℕ) → n < range → range ≤ 2 ^ 64 → get_or text 0 0 ≡ 45
+    → text ≡ signed_text range n → (range ≤ 2 * n) × (drop 1 text ≡ decimal (range - n))
 with_minus range n text in_range limit minus e = elim (cases_lt (2 * n) range) [
   | inl below ↦ absurd (decimal-first n text (omega arith) (e ∙ signed_text-below range n below) minus)
   | inr above ↦ (above, ap (drop 1) (e ∙ signed_text-above range n above))

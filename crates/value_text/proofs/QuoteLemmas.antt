@@ -1,5 +1,7 @@
 -- Texts between single quotes: what a byte looks like there, and that its text is told apart from what follows.
-use Rattle.std.proofs.Common.{◌≡◌, ◌≢◌, ◌⊎◌, ℕ, suc, zero, ◌+◌, ◌/◌, ◌%◌, ◌<◌, ◌≤◌, List, [], ◌∷◌, ◌++◌, length, get_or, take, drop, flat_map, true, false, eqb, refl, sym, ap, ◌∙◌, subst, inl, inr, arith, append_assoc, append-nil, add-one}
+use Rattle.std.proofs.Common.{◌≡◌, ◌≢◌, ◌⊎◌, ℕ, suc, zero, ◌+◌, ◌/◌, ◌%◌, ◌<◌, ◌≤◌, List, [], ◌∷◌, ◌++◌}
+use Rattle.std.proofs.Common.{length, get_or, take, drop, flat_map, true, false, eqb, refl, sym, ap, ◌∙◌}
+use Rattle.std.proofs.Common.{subst, inl, inr, arith, append_assoc, append-nil, add-one}
 use Rattle.std.proofs.lemmas.Bool.{cases_Bool, eq-eqb, ne_eqb, false≢true}
 use Rattle.std.proofs.lemmas.Bool.Decides.{nat_tests}
 use Rattle.std.proofs.lemmas.List.{take_all, drop_all}
@@ -15,7 +17,8 @@ before_nul-here [] i below nul = absurd (omega arith)
 before_nul-here (b ∷ bs) zero below nul = rw (eq-eqb b 0 nul) refl
 before_nul-here (b ∷ bs) (suc i) below nul = ap (λ x. b ∷ x) (before_nul-here bs i (omega arith) nul)
 
-pub before_nul-more : (bytes : List ℕ) (i : ℕ) → i < length bytes → get_or bytes i 0 ≢ 0 → take i bytes ++ before_nul (drop i bytes) ≡ take (i + 1) bytes ++ before_nul (drop (i + 1) bytes)
+pub before_nul-more : (bytes : List ℕ) (i : ℕ) → i < length bytes → get_or bytes i 0 ≢ 0
+    → take i bytes ++ before_nul (drop i bytes) ≡ take (i + 1) bytes ++ before_nul (drop (i + 1) bytes)
 unfolding before_nul
 before_nul-more [] i below other = absurd (omega arith)
 before_nul-more (b ∷ bs) zero below other = rw (ne_eqb b 0 other) refl
@@ -54,7 +57,8 @@ pub plain_first : (text : List ℕ) → 0 < length text → is_plain (get_or tex
 plain_first [] some plain = absurd (omega arith)
 plain_first (b ∷ bs) some plain = ap (λ x. x ++ bs) (sym (quoted_byte-plain b plain))
 
-pub escaped_first : (text : List ℕ) (b : ℕ) → 3 ≤ length text → get_or text 0 0 ≡ 36 → is_plain b ≡ false → get_or text 1 0 ≡ upper_digit (b / 16) → get_or text 2 0 ≡ upper_digit (b % 16) → text ≡ quoted_byte b ++ drop 3 text
+pub escaped_first : (text : List ℕ) (b : ℕ) → 3 ≤ length text → get_or text 0 0 ≡ 36 → is_plain b ≡ false
+    → get_or text 1 0 ≡ upper_digit (b / 16) → get_or text 2 0 ≡ upper_digit (b % 16) → text ≡ quoted_byte b ++ drop 3 text
 escaped_first [] b three dollar other high low = absurd (omega arith)
 escaped_first (x ∷ []) b three dollar other high low = absurd (omega arith)
 escaped_first (x ∷ (y ∷ [])) b three dollar other high low = absurd (omega arith)
@@ -83,7 +87,8 @@ same_byte b d r s text e f = elim (begins b r text e) [
   ]
 ]
   where
-    both_escaped : (b d : ℕ) (r s : List ℕ) → 36 ∷ upper_digit (b / 16) ∷ upper_digit (b % 16) ∷ r ≡ 36 ∷ upper_digit (d / 16) ∷ upper_digit (d % 16) ∷ s → (b ≡ d) × (r ≡ s)
+    both_escaped : (b d : ℕ) (r s : List ℕ)
+        → 36 ∷ upper_digit (b / 16) ∷ upper_digit (b % 16) ∷ r ≡ 36 ∷ upper_digit (d / 16) ∷ upper_digit (d % 16) ∷ s → (b ≡ d) × (r ≡ s)
     both_escaped b d r s e =
         let high = upper_digit-same (b / 16) (d / 16) cc in
         let low = upper_digit-same (b % 16) (d % 16) cc in
@@ -100,12 +105,14 @@ first_of : (b : ℕ) (bytes rest : List ℕ) → flat_map quoted_byte (b ∷ byt
 first_of b bytes rest = rw append_assoc refl
 
 -- where a text begins with the texts of some bytes, its bytes begin with them
-pub more_of : (content bytes rest : List ℕ) → flat_map quoted_byte content ++ rest ≡ flat_map quoted_byte bytes ++ 39 ∷ [] → (more : List ℕ) × (bytes ≡ content ++ more) × (rest ≡ flat_map quoted_byte more ++ 39 ∷ [])
+pub more_of : (content bytes rest : List ℕ) → flat_map quoted_byte content ++ rest ≡ flat_map quoted_byte bytes ++ 39 ∷ []
+    → (more : List ℕ) × (bytes ≡ content ++ more) × (rest ≡ flat_map quoted_byte more ++ 39 ∷ [])
 more_of [] bytes rest e = (bytes, refl, e)
 more_of (b ∷ content) [] rest e = absurd (no_quote b (flat_map quoted_byte content ++ rest) (sym e ∙ first_of b content rest))
 more_of (b ∷ content) (d ∷ bytes) rest e =
     let text = quoted_byte b ++ (flat_map quoted_byte content ++ rest) in
-    let same = same_byte b d (flat_map quoted_byte content ++ rest) (flat_map quoted_byte bytes ++ 39 ∷ []) text refl (sym (first_of b content rest) ∙ e ∙ first_of d bytes (39 ∷ [])) in
+    let same = same_byte b d (flat_map quoted_byte content ++ rest) (flat_map quoted_byte bytes ++ 39 ∷ []) text refl
+    (sym (first_of b content rest) ∙ e ∙ first_of d bytes (39 ∷ [])) in
     let more = more_of content bytes rest same.1 in
     (more.0, ap (λ x. d ∷ x) more.1 ∙ ap (λ x. x ∷ (content ++ more.0)) (sym same.0), more.2)
 
@@ -157,7 +164,8 @@ quoted-same content bytes e = alone (more_of content bytes (39 ∷ []) cc)
 pub begins_some : (b : ℕ) (rest text : List ℕ) → text ≡ quoted_byte b ++ rest → 0 < length text
 begins_some b rest text e = elim (begins b rest text e) [ inl plain ↦ omega (arith, ap length plain.1) | inr other ↦ omega (arith, ap length other.1) ]
 
-pub begins_other : (b : ℕ) (rest text : List ℕ) → 0 < b → text ≡ quoted_byte b ++ rest → is_plain (get_or text 0 0) ≡ false → (3 ≤ length text) × (get_or text 0 0 ≡ 36) × IsEscaped (get_or text 1 0) (get_or text 2 0) b
+pub begins_other : (b : ℕ) (rest text : List ℕ) → 0 < b → text ≡ quoted_byte b ++ rest → is_plain (get_or text 0 0) ≡ false
+    → (3 ≤ length text) × (get_or text 0 0 ≡ 36) × IsEscaped (get_or text 1 0) (get_or text 2 0) b
 begins_other b rest text some e first = elim (begins b rest text e) [
   | inl plain ↦ absurd (false≢true (sym first ∙ ap (λ t. is_plain (get_or t 0 0)) plain.1 ∙ plain.0))
   | inr other ↦ (
@@ -180,7 +188,8 @@ pub quoted-whole : (content text rest : List ℕ) → text ≡ 39 ∷ (flat_map 
 unfolding quoted
 quoted-whole content text rest whole last = whole ∙ ap (λ x. 39 ∷ (flat_map quoted_byte content ++ x)) last
 
-pub one_more : (content rest behind text : List ℕ) (b : ℕ) → text ≡ 39 ∷ (flat_map quoted_byte content ++ rest) → rest ≡ quoted_byte b ++ behind → text ≡ 39 ∷ (flat_map quoted_byte (content ++ b ∷ []) ++ behind)
+pub one_more : (content rest behind text : List ℕ) (b : ℕ) → text ≡ 39 ∷ (flat_map quoted_byte content ++ rest)
+    → rest ≡ quoted_byte b ++ behind → text ≡ 39 ∷ (flat_map quoted_byte (content ++ b ∷ []) ++ behind)
 one_more content rest behind text b whole first =
     whole ∙ ap (λ x. 39 ∷ (flat_map quoted_byte content ++ x)) first ∙ ap (λ x. 39 ∷ x) (sym (moved content))
   where
@@ -188,7 +197,8 @@ one_more content rest behind text b whole first =
     moved content = rw flat_map-append (simp (append_assoc, append-nil))
 
 -- where the front of what is left stands for no byte, the text is no quoted text
-pub no_more : (content rest text bytes : List ℕ) → text ≡ 39 ∷ (flat_map quoted_byte content ++ rest) → (rest ≡ 39 ∷ [] → ⊥) → ((b : ℕ) (behind : List ℕ) → b < 256 → 0 < b → rest ≢ quoted_byte b ++ behind) → AreBytes bytes → IsNulFree bytes → text ≡ quoted bytes → ⊥
+pub no_more : (content rest text bytes : List ℕ) → text ≡ 39 ∷ (flat_map quoted_byte content ++ rest) → (rest ≡ 39 ∷ [] → ⊥)
+    → ((b : ℕ) (behind : List ℕ) → b < 256 → 0 < b → rest ≢ quoted_byte b ++ behind) → AreBytes bytes → IsNulFree bytes → text ≡ quoted bytes → ⊥
 unfolding quoted
 no_more content rest text bytes whole open_ none each free e = stuck (more_of content bytes rest cc)
   where
@@ -197,13 +207,15 @@ no_more content rest text bytes whole open_ none each free e = stuck (more_of co
     stuck_at (b ∷ more) is left =
         let P : List ℕ → Type 0 = λ x. AreBytes x in
         let Q : List ℕ → Type 0 = λ x. IsNulFree x in
-        none b (flat_map quoted_byte more ++ 39 ∷ []) (are_bytes-at content more b (subst P is each)) (nul_free-at content more b (subst Q is free)) (left ∙ first_of b more (39 ∷ []))
+        none b (flat_map quoted_byte more ++ 39 ∷ []) (are_bytes-at content more b (subst P is each))
+        (nul_free-at content more b (subst Q is free)) (left ∙ first_of b more (39 ∷ []))
 
     stuck : (more : List ℕ) × (bytes ≡ content ++ more) × (rest ≡ flat_map quoted_byte more ++ 39 ∷ []) → ⊥
     stuck more = stuck_at more.0 more.1 more.2
 
 -- what a text is once its closing quote is written
-pub quoted-end : (old content out new : List ℕ) (i : ℕ) → length content ≤ i → out ≡ (old ++ 39 ∷ []) ++ flat_map quoted_byte (take i content) → new ≡ out ++ 39 ∷ [] → new ≡ old ++ quoted content
+pub quoted-end : (old content out new : List ℕ) (i : ℕ) → length content ≤ i
+    → out ≡ (old ++ 39 ∷ []) ++ flat_map quoted_byte (take i content) → new ≡ out ++ 39 ∷ [] → new ≡ old ++ quoted content
 unfolding quoted
 quoted-end old content out new i past before after =
     after ∙ ap (λ x. x ++ 39 ∷ []) before ∙ rw (take_all i content past) (simp append_assoc)

@@ -1,5 +1,7 @@
 -- A value is found for a text exactly where the text is read as that value.
-use Rattle.std.proofs.Common.{◌≡◌, ℕ, zero, suc, ◌+◌, ◌-◌, ◌*◌, ◌/◌, ◌%◌, ◌^◌, ◌<◌, ◌≤◌, List, [], ◌∷◌, ◌++◌, length, drop, replicate, flat_map, Bool, true, false, ◌&&◌, refl, sym, ap, ◌∙◌, inl, inr, arith, lit≤, append_assoc, ◌≢◌, get_or}
+use Rattle.std.proofs.Common.{◌≡◌, ℕ, zero, suc, ◌+◌, ◌-◌, ◌*◌, ◌/◌, ◌%◌, ◌^◌, ◌<◌, ◌≤◌, List, [], ◌∷◌, ◌++◌}
+use Rattle.std.proofs.Common.{length, drop, replicate, flat_map, Bool, true, false, ◌&&◌, refl, sym, ap, ◌∙◌}
+use Rattle.std.proofs.Common.{inl, inr, arith, lit≤, append_assoc, ◌≢◌, get_or}
 use Rattle.std.specs.Prelude.{codes, Some, None, Result, Ok, Err, is_ok, if◌then◌else◌, ◌==◌, nat_lt, bytes_eq}
 use Rattle.std.specs.Fmt.{decimal}
 use Rattle.std.specs.Str.Parse.{digits_value}
@@ -11,10 +13,14 @@ use Rattle.hex.specs.Hex.{decode_of}
 use Rattle.hex.specs.declared.error.FromHexError.{FromHexError}
 use Rattle.spec_frames.specs.Number.{number_of, AreBytes}
 use Rattle.value_text.specs.Parts.{IsNumberSize}
-use Rattle.spec_formats.specs.ValueText.{is_signed, is_unsigned, form_of, signed_text, truth_text, text_of, before_nul, is_plain, upper_digit, quoted_byte, quoted, IsFilledTo, IsReadAs, IsValueOf}
+use Rattle.spec_formats.specs.ValueText.{is_signed, is_unsigned, form_of, signed_text, truth_text, text_of}
+use Rattle.spec_formats.specs.ValueText.{before_nul, is_plain, upper_digit, quoted_byte, quoted, IsFilledTo}
+use Rattle.spec_formats.specs.ValueText.{IsReadAs, IsValueOf}
 use Rattle.value_text.proofs.NumberLemmas.{number_of-lt, decimal-first, signed_text-below, signed_text-above}
 use Rattle.value_text.proofs.QuoteLemmas.{quoted_byte-plain, quoted_byte-escaped, are_bytes-front}
-use Rattle.spec_client.specs.ValueReading.{number_bytes, signed_number, digit_of, Plainly, unquoted, content_of, filled, decoded, made_value, is_quoted_text, is_text_of, are_bytes, is_value, value_of_text}
+use Rattle.spec_client.specs.ValueReading.{number_bytes, signed_number, digit_of, Plainly, unquoted}
+use Rattle.spec_client.specs.ValueReading.{content_of, filled, decoded, made_value, is_quoted_text, is_text_of}
+use Rattle.spec_client.specs.ValueReading.{are_bytes, is_value, value_of_text}
 use Rattle.value_text.specs.Laws.{FindsValues}
 
 bytes_of-all : (value : List ℕ) → are_bytes value ≡ true → AreBytes value
@@ -246,7 +252,8 @@ is_read id size text value e =
 is_found : (id size : ℕ) (text value : List ℕ) → AreBytes value → IsValueOf id size text value → value_of_text id size text ≡ Some value
 unfolding value_of_text
 is_found id size text value each h =
-    let test = both _ _ (both _ _ (all-are_bytes value each) (eq-eqb _ size h.sized)) (text_again id size text value (form_case id size) each h.sized h.read_as) in
+    let test = both _ _ (both _ _ (all-are_bytes value each) (eq-eqb _ size h.sized))
+    (text_again id size text value (form_case id size) each h.sized h.read_as) in
     rw (made_again id size text value (form_case id size) each h.sized h.read_as) (rw test refl)
 
 pub values_found : FindsValues

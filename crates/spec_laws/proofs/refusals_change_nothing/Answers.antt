@@ -1,4 +1,6 @@
-use Rattle.spec_laws.proofs.Refused.{refusal_changes_nothing, result_changes_nothing, turned_away_changes_nothing, refused_reload_counts, bad_additions_are_refused}
+use Rattle.spec_laws.proofs.Refused.{refusal_changes_nothing, result_changes_nothing}
+use Rattle.spec_laws.proofs.Refused.{turned_away_changes_nothing, refused_reload_counts}
+use Rattle.spec_laws.proofs.Refused.{bad_additions_are_refused}
 use Rattle.spec_laws.proofs.refusals_change_nothing.Goals as goal
 
 pub returns-clause-requests : goal.returns-clause-requests

@@ -10,7 +10,8 @@ use Rattle.ads_base.specs.Decimal.{IsSuperfluous}
 use Rattle.ads_base.proofs.decimal.read_decimal.Goals as goal
 
 pub returns-then-has_superfluous_zero-clause-none : goal.returns-then-has_superfluous_zero-clause-none
-returns-then-has_superfluous_zero-clause-none c = λ none n small e. superfluous_is_no_decimal c.args.text.now n small e (c.has_superfluous_zero.ensures.0 c.if-has_superfluous_zero.true)
+returns-then-has_superfluous_zero-clause-none c =
+    λ none n small e. superfluous_is_no_decimal c.args.text.now n small e (c.has_superfluous_zero.ensures.0 c.if-has_superfluous_zero.true)
 
 pub returns-in_err-digit-clause-none : goal.returns-in_err-digit-clause-none
 returns-in_err-digit-clause-none c = λ none n small e. c.in_err-digit.ensures (decimal-at c.args.text.now n c.loop-byte.byte-index small e (omega arith))
@@ -42,5 +43,8 @@ returns-clause-some c =
     let whole : take c.loop-byte.byte-index text ≡ text = take_all c.loop-byte.byte-index text (omega arith) in
     let P : List ℕ → Type 0 = λ t. AllDigits 10 t in
     let value_is : c.loop-byte.value ≡ digits_value 10 text = c.loop-byte.invariant.value ∙ ap (digits_value 10) whole in
-    let plain : IsSuperfluous text → ⊥ = λ s. false≢true (sym c.if-has_superfluous_zero.false ∙ c.has_superfluous_zero.ensures.1 s) in
-    (c.loop-byte.invariant.small, decimal_of_digits text (subst P whole c.loop-byte.invariant.digits) plain (omega (arith, value_is, c.loop-byte.invariant.small)) ∙ ap decimal (sym value_is))
+    let plain : IsSuperfluous text → ⊥ = λ s. false≢true (sym c.if-has_superfluous_zero.false ∙ c.has_superfluous_zero.ensures.1 s) in (
+      c.loop-byte.invariant.small,
+      decimal_of_digits text (subst P whole c.loop-byte.invariant.digits) plain (omega (arith, value_is, c.loop-byte.invariant.small))
+          ∙ ap decimal (sym value_is),
+    )

@@ -15,7 +15,8 @@ returns-in_err-n-clause-none c = λ none n rest small e.
     let i = c.loop-i.i in
     let split = split_at_stop text i c.args.stop (omega arith) c.if-text-i.true in
     let free : (k : ℕ) → k < length (take i text) → get_or (take i text) k 0 ≡ c.args.stop → ⊥ =
-    λ k below at. c.loop-i.invariant k (omega (arith, length-take-le i text (omega arith))) (sym (get_or-take i text k 0 (omega (arith, length-take-le i text (omega arith)))) ∙ at) in
+    λ k below at. c.loop-i.invariant k (omega (arith, length-take-le i text (omega arith)))
+    (sym (get_or-take i text k 0 (omega (arith, length-take-le i text (omega arith)))) ∙ at) in
     let front = same_decimal c.args.stop n (take i text) (drop (i + 1) text) rest c.requires small free (sym split ∙ e) in
     c.in_err-n.ensures.none refl n small front.0
 

@@ -12,7 +12,8 @@ returns-in-Ok-clause-ends g c = λ x stands.
     let out_new = g.S.Sink.state c.run_relay.new.out in
     let wire_new = (g.W.Wire.state c.run_relay.new.wire).history in
     started_so _
-    (λ (between : SinkState) (started : WireHistory). RunsMachine relay_after_event relay_counts x c.args.events c.run_relay.result between out_new started wire_new)
+    (λ (between : SinkState) (started : WireHistory). RunsMachine relay_after_event
+    relay_counts x c.args.events c.run_relay.result between out_new started wire_new)
     c.run_relay.result (g.S.Sink.state c.args.out.now) (g.S.Sink.state c.start_and_tell.new.out) out_new
     (g.W.Wire.state c.args.wire.now).history (g.W.Wire.state c.start_and_tell.new.wire).history wire_new
     c.in-Ok.ensures.ok (c.run_relay.ensures.ends x stands)
@@ -22,5 +23,6 @@ returns-in-Err-clause-ends g c = λ x stands.
     let out_new = g.S.Sink.state c.start_and_tell.new.out in
     let wire_new = (g.W.Wire.state c.start_and_tell.new.wire).history in
     not_started_so _
-    (λ (between : SinkState) (started : WireHistory). RunsMachine relay_after_event relay_counts x c.args.events c.in-Err.status between out_new started wire_new)
+    (λ (between : SinkState) (started : WireHistory). RunsMachine relay_after_event
+    relay_counts x c.args.events c.in-Err.status between out_new started wire_new)
     c.in-Err.status (g.S.Sink.state c.args.out.now) out_new (g.W.Wire.state c.args.wire.now).history wire_new c.in-Err.ensures.err

@@ -12,4 +12,5 @@ pub returns-in-Ok-Ok-clause-new : goal.returns-in-Ok-Ok-clause-new
 returns-in-Ok-Ok-clause-new c = script_fresh all_lines c.args.bytes.now c.in-Ok-Ok.script (c.in-Ok-Ok.ensures ∙ c.in-Ok-Ok.field-0-is)
 
 pub returns-in-Ok-clause-is : goal.returns-in-Ok-clause-is
-returns-in-Ok-clause-is c = λ play. c.in-Ok.ensures ∙ lines_of_script play c.args.bytes.now (Err c.in-Ok-Err.number) (c.in-Ok-Err.ensures ∙ c.in-Ok-Err.field-0-is)
+returns-in-Ok-clause-is c =
+    λ play. c.in-Ok.ensures ∙ lines_of_script play c.args.bytes.now (Err c.in-Ok-Err.number) (c.in-Ok-Err.ensures ∙ c.in-Ok-Err.field-0-is)

@@ -12,7 +12,8 @@ returns-in-Ok-clause-ends g c = λ x stands.
     let out_new = g.S.Sink.state c.run_server.new.out in
     let wire_new = (g.W.Wire.state c.run_server.new.wire).history in
     started_so _
-    (λ (between : SinkState) (started : WireHistory). RunsMachine served_step server_counts x c.args.events c.run_server.result between out_new started wire_new)
+    (λ (between : SinkState) (started : WireHistory). RunsMachine served_step
+    server_counts x c.args.events c.run_server.result between out_new started wire_new)
     c.run_server.result (g.S.Sink.state c.args.out.now) (g.S.Sink.state c.start_and_tell.new.out) out_new
     (g.W.Wire.state c.args.wire.now).history (g.W.Wire.state c.start_and_tell.new.wire).history wire_new
     c.in-Ok.ensures.ok (c.run_server.ensures.ends x stands)

@@ -6,7 +6,8 @@ use Rattle.cli_words.proofs.values.number_in.Goals as goal
 pub returns-in_err-n : goal.returns-in_err-n
 returns-in_err-n c =
     c.from_residual.ensures
-    ∙ sym (number_of-none c.args.least c.args.most c.args.text.now (omega arith) (λ n small e. c.in_err-n.ensures.none refl n small (c.as_bytes.ensures.value ∙ e)))
+    ∙ sym (number_of-none c.args.least c.args.most c.args.text.now (omega arith)
+    (λ n small e. c.in_err-n.ensures.none refl n small (c.as_bytes.ensures.value ∙ e)))
 
 pub returns-then-n-most : goal.returns-then-n-most
 returns-then-n-most c =

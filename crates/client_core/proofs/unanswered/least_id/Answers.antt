@@ -9,5 +9,6 @@ pub loop-i-preserved : goal.loop-i-preserved
 loop-i-preserved c = record {
   within = omega (arith, c.loop-i.invariant.within);
   least = c.least-least.ensures
-      ∙ least_id_step c.args.us.now c.loop-i.i c.index-us-i.result c.loop-i.least c.loop-i-test.true c.loop-i.invariant.within c.index-us-i.is c.loop-i.invariant.least;
+      ∙ least_id_step c.args.us.now c.loop-i.i c.index-us-i.result c.loop-i.least
+      c.loop-i-test.true c.loop-i.invariant.within c.index-us-i.is c.loop-i.invariant.least;
 }

@@ -18,7 +18,8 @@ types-preserved c =
     let read : Some (entry_meant c.in-Some.entry, c.in-Some.behind.now) ≡ type_entry_of c.types.rest.now = c.in-Some.ensures.entry in
     record {
       indexed = c.in_ok-add-in-Some.ensures.indexed;
-      so_far = types_go_on c.args.count c.types.i c.types.entries.list.items c.add.new.self.list.items c.args.upload.now c.types.rest.now c.in-Some.behind.now c.in-Some.entry
+      so_far = types_go_on c.args.count c.types.i c.types.entries.list.items c.add.new.self.list.items
+          c.args.upload.now c.types.rest.now c.in-Some.behind.now c.in-Some.entry
           c.types-test.true c.types.invariant.so_far read c.in_ok-add-in-Some.ensures.list;
     }
 

@@ -14,7 +14,8 @@ returns-in-Some c =
     let types = c.args.types.now in
     let place = c.in-Some.k in
     let now : Bor ReadType → ReadType = λ x. x.now in
-    let found = looked_up now types place (λ (x : Bor ReadType). HoldsAt (λ y. x.now ≡ y) types place) c.get.result (c.get.ensures.lookup.3) (c.get.ensures.lookup.1) in
+    let found = looked_up now types place (λ (x : Bor ReadType). HoldsAt (λ y. x.now ≡ y) types place) c.get.result
+    (c.get.ensures.lookup.3) (c.get.ensures.lookup.1) in
     record {
       value = rw c.in-Some.is (mapped_look_up now type_kept c.get.result (slice_get types place) found ∙ sym (slice_get-map type_kept types place));
       found = look_up_holds now types place (λ (t : ReadType). AreFound (types_kept types) t.members.items) c.get.result found c.requires;

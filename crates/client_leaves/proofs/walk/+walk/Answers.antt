@@ -8,7 +8,10 @@ use Rattle.type_layout.specs.Shapes.{kind_of}
 use Rattle.type_layout.specs.ReadTexts.{elem_text_of, text_of}
 use Rattle.client_leaves.specs.Kept.{leaf_kept}
 use Rattle.client_leaves.specs.Table.{member_kept, type_kept, types_kept}
-use Rattle.client_leaves.proofs.WalkLemmas.{walked_no, walked_yes, walked_as, plain_sound, plain_leaves, string_sound, string_leaves, no_type, named_sound, named_leaves, array_some, array_room, array_leaves_are, all_sound, some_ends, some_subs, structure_sound, structure_leaves_are}
+use Rattle.client_leaves.proofs.WalkLemmas.{walked_no, walked_yes, walked_as, plain_sound, plain_leaves}
+use Rattle.client_leaves.proofs.WalkLemmas.{string_sound, string_leaves, no_type, named_sound, named_leaves}
+use Rattle.client_leaves.proofs.WalkLemmas.{array_some, array_room, array_leaves_are, all_sound, some_ends}
+use Rattle.client_leaves.proofs.WalkLemmas.{some_subs, structure_sound, structure_leaves_are}
 use Rattle.client_leaves.proofs.walk.+walk.Goals as goal
 
 pub elem_leaves-returns-in_ok-put_leaf-in-Plain : goal.elem_leaves-returns-in_ok-put_leaf-in-Plain
@@ -65,7 +68,8 @@ text_leaves-returns t c =
     let elem = elem_text_of text.elem in
     let paths = c.as_slice.result.now in
     let are = c.as_slice.ensures ∙ c.in_ok-paths.ensures in
-    walked_as c.in_ok-sound-2.sound _ _ _ _ _ _ (all_sound (is_sound_elem c.args.depth types elem) paths (array_some c.args.path.now paths (text_of text).ends are))
+    walked_as c.in_ok-sound-2.sound _ _ _ _ _ _
+    (all_sound (is_sound_elem c.args.depth types elem) paths (array_some c.args.path.now paths (text_of text).ends are))
     (array_leaves_are (leaves_of_elem c.args.depth types elem) (elem_size types elem) c.args.path.now c.args.place (text_of text).ends paths
     (some_ends text.count text.first text.second text.third c.if-text-eq0.false) are)
     c.in_ok-sound-2.ensures

@@ -22,14 +22,17 @@ pub returns-in-Ready-clause-link_later : goal.returns-in-Ready-clause-link_later
 returns-in-Ready-clause-link_later g c = link_then _ _ _ c.connect.ensures.later c.talk.ensures.link_later
 
 pub returns-in-Failed-clause-called : goal.returns-in-Failed-clause-called
-returns-in-Failed-clause-called g c =
-    (c.in-Failed.ensures.connects.faulted, inl (record { same = c.in-Failed.ensures.connects.same; silent = refl; told = λ o log told. c.in-Failed.ensures.told o log told }))
+returns-in-Failed-clause-called g c = (
+  c.in-Failed.ensures.connects.faulted,
+  inl (record { same = c.in-Failed.ensures.connects.same; silent = refl; told = λ o log told. c.in-Failed.ensures.told o log told }),
+)
 
 pub returns-in-Failed-clause-out_later : goal.returns-in-Failed-clause-out_later
 returns-in-Failed-clause-out_later g c = sink_same _
 
 pub returns-in-Memory-clause-called : goal.returns-in-Memory-clause-called
-returns-in-Memory-clause-called g c = inl (record { same = c.in-Memory.ensures.connects; silent = refl; told = λ o log told. c.in-Memory.ensures.told o log told })
+returns-in-Memory-clause-called g c =
+    inl (record { same = c.in-Memory.ensures.connects; silent = refl; told = λ o log told. c.in-Memory.ensures.told o log told })
 
 pub returns-in-Memory-clause-out_later : goal.returns-in-Memory-clause-out_later
 returns-in-Memory-clause-out_later g c = sink_same _

@@ -37,29 +37,34 @@ returns-in-Ok-Waits-clause-out_later g c = out_then _ _ _ c.take_turns.ensures.o
 pub returns-in-Ok-Over-clause-talks : goal.returns-in-Ok-Over-clause-talks
 returns-in-Ok-Over-clause-talks g c = λ me peer call stands.
     over_first c.in-Ok-Over.end me peer call c.args.now c.take_turns.new.runner (g.L.Link.tells c.args.link.now) (g.L.Link.tells c.take_turns.new.link)
-    (g.L.Link.state c.args.link.now) (g.L.Link.state c.take_turns.new.link) (outlets (g.S.Sink.state c.args.out.now) (g.K.Keeper.state c.args.keeper.now)) (outlets (g.S.Sink.state c.take_turns.new.out) (g.K.Keeper.state c.take_turns.new.keeper))
+    (g.L.Link.state c.args.link.now) (g.L.Link.state c.take_turns.new.link) (outlets (g.S.Sink.state c.args.out.now) (g.K.Keeper.state c.args.keeper.now))
+    (outlets (g.S.Sink.state c.take_turns.new.out) (g.K.Keeper.state c.take_turns.new.keeper))
     c.take_turns.ensures.same ((rw c.in-Ok-Over.field-0-is at c.in-Ok-Over.ensures.turns) (new_runner me peer call) 1 stands)
 
 pub returns-in-Ok-LinkFault-clause-talks : goal.returns-in-Ok-LinkFault-clause-talks
 returns-in-Ok-LinkFault-clause-talks g c = λ me peer call stands.
     link_first me peer call c.args.now c.take_turns.new.runner (g.L.Link.tells c.args.link.now) (g.L.Link.tells c.take_turns.new.link)
-    (g.L.Link.state c.args.link.now) (g.L.Link.state c.take_turns.new.link) (outlets (g.S.Sink.state c.args.out.now) (g.K.Keeper.state c.args.keeper.now)) (outlets (g.S.Sink.state c.take_turns.new.out) (g.K.Keeper.state c.take_turns.new.keeper))
+    (g.L.Link.state c.args.link.now) (g.L.Link.state c.take_turns.new.link) (outlets (g.S.Sink.state c.args.out.now) (g.K.Keeper.state c.args.keeper.now))
+    (outlets (g.S.Sink.state c.take_turns.new.out) (g.K.Keeper.state c.take_turns.new.keeper))
     c.take_turns.ensures.same ((rw c.in-Ok-LinkFault.field-0-is at c.in-Ok-LinkFault.ensures.turns) (new_runner me peer call) 1 stands)
 
 pub returns-in-Ok-WriteFault-clause-talks : goal.returns-in-Ok-WriteFault-clause-talks
 returns-in-Ok-WriteFault-clause-talks g c = λ me peer call stands.
     write_first me peer call c.args.now c.take_turns.new.runner (g.L.Link.tells c.args.link.now) (g.L.Link.tells c.take_turns.new.link)
-    (g.L.Link.state c.args.link.now) (g.L.Link.state c.take_turns.new.link) (outlets (g.S.Sink.state c.args.out.now) (g.K.Keeper.state c.args.keeper.now)) (outlets (g.S.Sink.state c.take_turns.new.out) (g.K.Keeper.state c.take_turns.new.keeper))
+    (g.L.Link.state c.args.link.now) (g.L.Link.state c.take_turns.new.link) (outlets (g.S.Sink.state c.args.out.now) (g.K.Keeper.state c.args.keeper.now))
+    (outlets (g.S.Sink.state c.take_turns.new.out) (g.K.Keeper.state c.take_turns.new.keeper))
     c.take_turns.ensures.same ((rw c.in-Ok-WriteFault.field-0-is at c.in-Ok-WriteFault.ensures.turns) (new_runner me peer call) 1 stands)
 
 pub returns-in-Ok-KeeperFault-clause-talks : goal.returns-in-Ok-KeeperFault-clause-talks
 returns-in-Ok-KeeperFault-clause-talks g c = λ me peer call stands.
     keeper_first me peer call c.args.now c.take_turns.new.runner (g.L.Link.tells c.args.link.now) (g.L.Link.tells c.take_turns.new.link)
-    (g.L.Link.state c.args.link.now) (g.L.Link.state c.take_turns.new.link) (outlets (g.S.Sink.state c.args.out.now) (g.K.Keeper.state c.args.keeper.now)) (outlets (g.S.Sink.state c.take_turns.new.out) (g.K.Keeper.state c.take_turns.new.keeper))
+    (g.L.Link.state c.args.link.now) (g.L.Link.state c.take_turns.new.link) (outlets (g.S.Sink.state c.args.out.now) (g.K.Keeper.state c.args.keeper.now))
+    (outlets (g.S.Sink.state c.take_turns.new.out) (g.K.Keeper.state c.take_turns.new.keeper))
     c.take_turns.ensures.same ((rw c.in-Ok-KeeperFault.field-0-is at c.in-Ok-KeeperFault.ensures.turns) (new_runner me peer call) 1 stands)
 
 pub returns-in-Err-clause-talks : goal.returns-in-Err-clause-talks
 returns-in-Err-clause-talks g c = λ me peer call stands.
     memory_first c.in-Err.e me peer call c.args.now c.take_turns.new.runner (g.L.Link.tells c.args.link.now) (g.L.Link.tells c.take_turns.new.link)
-    (g.L.Link.state c.args.link.now) (g.L.Link.state c.take_turns.new.link) (outlets (g.S.Sink.state c.args.out.now) (g.K.Keeper.state c.args.keeper.now)) (outlets (g.S.Sink.state c.take_turns.new.out) (g.K.Keeper.state c.take_turns.new.keeper))
+    (g.L.Link.state c.args.link.now) (g.L.Link.state c.take_turns.new.link) (outlets (g.S.Sink.state c.args.out.now) (g.K.Keeper.state c.args.keeper.now))
+    (outlets (g.S.Sink.state c.take_turns.new.out) (g.K.Keeper.state c.take_turns.new.keeper))
     c.take_turns.ensures.same (c.in-Err.ensures.turns (new_runner me peer call) 1 stands)

@@ -8,7 +8,8 @@ use Rattle.client_loop.proofs.hearing.hear_each.Goals as goal
 
 pub loop-heard-init : goal.loop-heard-init
 loop-heard-init g c = record {
-  hears = λ x begun. hears_none x c.args.runner.now (g.L.Link.tells c.args.link.now) (g.L.Link.state c.args.link.now) (outlets (g.S.Sink.state c.args.out.now) (g.K.Keeper.state c.args.keeper.now)) begun;
+  hears = λ x begun. hears_none x c.args.runner.now (g.L.Link.tells c.args.link.now) (g.L.Link.state c.args.link.now)
+      (outlets (g.S.Sink.state c.args.out.now) (g.K.Keeper.state c.args.keeper.now)) begun;
   ready = c.requires.ready;
   few = omega arith;
   linked = link_same _;
@@ -27,7 +28,9 @@ loop-heard-preserved g c = record {
       hears_more x c.loop-heard.runner c.hear.new.runner c.loop-heard.quiet c.in-Ok-Goes.in_a_row c.loop-heard._heard
       (g.L.Link.tells c.args.link.now) (g.L.Link.tells c.loop-heard.link) (g.L.Link.tells c.hear.new.link)
       (g.L.Link.state c.args.link.now) (g.L.Link.state c.loop-heard.link) (g.L.Link.state c.hear.new.link)
-      (outlets (g.S.Sink.state c.args.out.now) (g.K.Keeper.state c.args.keeper.now)) (outlets (g.S.Sink.state c.loop-heard.out) (g.K.Keeper.state c.loop-heard.keeper)) (outlets (g.S.Sink.state c.hear.new.out) (g.K.Keeper.state c.hear.new.keeper)) c.loop-heard-test.true
+      (outlets (g.S.Sink.state c.args.out.now) (g.K.Keeper.state c.args.keeper.now))
+      (outlets (g.S.Sink.state c.loop-heard.out) (g.K.Keeper.state c.loop-heard.keeper))
+      (outlets (g.S.Sink.state c.hear.new.out) (g.K.Keeper.state c.hear.new.keeper)) c.loop-heard-test.true
       (c.loop-heard.invariant.hears x begun) (λ y at. (rw c.in-Ok-Goes.field-0-is at c.in-Ok-Goes.ensures.round) y at);
   ready = rw c.in-Ok-Goes.field-0-is at c.in-Ok-Goes.ensures.ready;
   few = rw c.in-Ok-Goes.field-0-is at c.in-Ok-Goes.ensures.few;
@@ -40,7 +43,9 @@ returns-in-Ok-Ends-clause-ends g c = λ x begun.
     ends_behind (Ok c.in-Ok-Ends.end) x c.loop-heard.runner c.hear.new.runner c.loop-heard.quiet c.loop-heard._heard
     (g.L.Link.tells c.args.link.now) (g.L.Link.tells c.loop-heard.link) (g.L.Link.tells c.hear.new.link)
     (g.L.Link.state c.args.link.now) (g.L.Link.state c.loop-heard.link) (g.L.Link.state c.hear.new.link)
-    (outlets (g.S.Sink.state c.args.out.now) (g.K.Keeper.state c.args.keeper.now)) (outlets (g.S.Sink.state c.loop-heard.out) (g.K.Keeper.state c.loop-heard.keeper)) (outlets (g.S.Sink.state c.hear.new.out) (g.K.Keeper.state c.hear.new.keeper))
+    (outlets (g.S.Sink.state c.args.out.now) (g.K.Keeper.state c.args.keeper.now))
+    (outlets (g.S.Sink.state c.loop-heard.out) (g.K.Keeper.state c.loop-heard.keeper))
+    (outlets (g.S.Sink.state c.hear.new.out) (g.K.Keeper.state c.hear.new.keeper))
     c.loop-heard.invariant.linked.faults c.loop-heard.invariant.outed c.loop-heard-test.true
     (c.loop-heard.invariant.hears x begun) (λ y at. (rw c.in-Ok-Ends.field-0-is at c.in-Ok-Ends.ensures.round) y at)
 
@@ -55,7 +60,9 @@ returns-in-Err-clause-ends g c = λ x begun.
     ends_behind (Err c.in-Err.e) x c.loop-heard.runner c.hear.new.runner c.loop-heard.quiet c.loop-heard._heard
     (g.L.Link.tells c.args.link.now) (g.L.Link.tells c.loop-heard.link) (g.L.Link.tells c.hear.new.link)
     (g.L.Link.state c.args.link.now) (g.L.Link.state c.loop-heard.link) (g.L.Link.state c.hear.new.link)
-    (outlets (g.S.Sink.state c.args.out.now) (g.K.Keeper.state c.args.keeper.now)) (outlets (g.S.Sink.state c.loop-heard.out) (g.K.Keeper.state c.loop-heard.keeper)) (outlets (g.S.Sink.state c.hear.new.out) (g.K.Keeper.state c.hear.new.keeper))
+    (outlets (g.S.Sink.state c.args.out.now) (g.K.Keeper.state c.args.keeper.now))
+    (outlets (g.S.Sink.state c.loop-heard.out) (g.K.Keeper.state c.loop-heard.keeper))
+    (outlets (g.S.Sink.state c.hear.new.out) (g.K.Keeper.state c.hear.new.keeper))
     c.loop-heard.invariant.linked.faults c.loop-heard.invariant.outed c.loop-heard-test.true
     (c.loop-heard.invariant.hears x begun) (λ y at. c.in-Err.ensures.round y at)
 
@@ -68,7 +75,8 @@ returns-in-Err-clause-out_later g c = out_then _ _ _ c.loop-heard.invariant.oute
 pub returns-clause-ends : goal.returns-clause-ends
 returns-clause-ends g c = λ x begun.
     hears_last x c.loop-heard.runner c.loop-heard.quiet c.loop-heard._heard (g.L.Link.tells c.args.link.now) (g.L.Link.tells c.loop-heard.link)
-    (g.L.Link.state c.args.link.now) (g.L.Link.state c.loop-heard.link) (outlets (g.S.Sink.state c.args.out.now) (g.K.Keeper.state c.args.keeper.now)) (outlets (g.S.Sink.state c.loop-heard.out) (g.K.Keeper.state c.loop-heard.keeper))
+    (g.L.Link.state c.args.link.now) (g.L.Link.state c.loop-heard.link) (outlets (g.S.Sink.state c.args.out.now) (g.K.Keeper.state c.args.keeper.now))
+    (outlets (g.S.Sink.state c.loop-heard.out) (g.K.Keeper.state c.loop-heard.keeper))
     (omega arith) (c.loop-heard.invariant.hears x begun)
 
 pub returns-clause-link_later : goal.returns-clause-link_later

@@ -83,8 +83,11 @@ pub returns-in-Ok-Keep-clause-out_later : goal.returns-in-Ok-Keep-clause-out_lat
 returns-in-Ok-Keep-clause-out_later g c = keeper_later (g.S.Sink.state c.args.out.now) _ _ c.keep.ensures.keeper_later
 
 pub returns-in-Ok-Wait-clause-turn : goal.returns-in-Ok-Wait-clause-turn
-returns-in-Ok-Wait-clause-turn g c = λ r n stands.
-    ((rw c.in-Ok-Wait.field-0-is at c.in-Ok-Wait.ensures.stands) r stands, sym ((rw c.in-Ok-Wait.field-0-is at c.in-Ok-Wait.ensures.step) r stands), gives_nothing _ (outlets (g.S.Sink.state c.args.out.now) (g.K.Keeper.state c.args.keeper.now)))
+returns-in-Ok-Wait-clause-turn g c = λ r n stands. (
+  (rw c.in-Ok-Wait.field-0-is at c.in-Ok-Wait.ensures.stands) r stands,
+  sym ((rw c.in-Ok-Wait.field-0-is at c.in-Ok-Wait.ensures.step) r stands),
+  gives_nothing _ (outlets (g.S.Sink.state c.args.out.now) (g.K.Keeper.state c.args.keeper.now)),
+)
 
 pub returns-in-Ok-Wait-clause-ready : goal.returns-in-Ok-Wait-clause-ready
 returns-in-Ok-Wait-clause-ready g c =
@@ -99,8 +102,11 @@ pub returns-in-Ok-Wait-clause-out_later : goal.returns-in-Ok-Wait-clause-out_lat
 returns-in-Ok-Wait-clause-out_later g c = out_same (outlets (g.S.Sink.state c.args.out.now) (g.K.Keeper.state c.args.keeper.now))
 
 pub returns-in-Ok-Over-clause-turn : goal.returns-in-Ok-Over-clause-turn
-returns-in-Ok-Over-clause-turn g c = λ r n stands.
-    (sym ((rw c.in-Ok-Over.field-0-is at c.in-Ok-Over.ensures.step) r stands), gives_nothing _ (outlets (g.S.Sink.state c.args.out.now) (g.K.Keeper.state c.args.keeper.now)), c.in-Ok-Over.ensures.entries r stands)
+returns-in-Ok-Over-clause-turn g c = λ r n stands. (
+  sym ((rw c.in-Ok-Over.field-0-is at c.in-Ok-Over.ensures.step) r stands),
+  gives_nothing _ (outlets (g.S.Sink.state c.args.out.now) (g.K.Keeper.state c.args.keeper.now)),
+  c.in-Ok-Over.ensures.entries r stands,
+)
 
 pub returns-in-Ok-Over-clause-link_later : goal.returns-in-Ok-Over-clause-link_later
 returns-in-Ok-Over-clause-link_later g c = link_same _

@@ -9,7 +9,8 @@ text_of_table-requires-clause-plain c =
 
 pub text_of_table-requires-clause-shallow : goal.text_of_table-requires-clause-shallow
 text_of_table-requires-clause-shallow c =
-    let fits = second_fits c.args.bytes.now (table_view c.in_ok-table.table) c.requires c.in_ok-table.ensures c.keys_ascend.ensures in omega (arith, fits.shallow)
+    let fits = second_fits c.args.bytes.now (table_view c.in_ok-table.table) c.requires c.in_ok-table.ensures c.keys_ascend.ensures in
+    omega (arith, fits.shallow)
 
 pub returns-clause-text : goal.returns-clause-text
 returns-clause-text c =

@@ -15,10 +15,12 @@ returns-then-not-branch c =
     let names = c.args.names.now in
     let xs = c.args.members.now in
     let i = c.loop-i.i in
-    let x = get_or xs i (record { name = record { ref_ptr = (0, 0); now = [] }; kind = record { ref_ptr = (0, 0); now = [] }; comment = record { ref_ptr = (0, 0); now = [] } }) in
+    let x = get_or xs i (record
+    { name = record { ref_ptr = (0, 0); now = [] }; kind = record { ref_ptr = (0, 0); now = [] }; comment = record { ref_ptr = (0, 0); now = [] } }) in
     let is = get_or_default xs i _ x c.loop-i-test.true in
     sym (first_from-wrong (is_right_named names) member_view xs i x _ c.loop-i-test.true is
-    (right-lower member_view member_name (is_member_alone names (member_view x)) (take i xs) x c.loop-i.seen _ _ c.loop-i.invariant.noted c.in_ok-is_right_member.ensures ∙ c.if-not-branch.true)
+    (right-lower member_view member_name (is_member_alone names (member_view x))
+    (take i xs) x c.loop-i.seen _ _ c.loop-i.invariant.noted c.in_ok-is_right_member.ensures ∙ c.if-not-branch.true)
     c.loop-i.invariant.first)
 
 pub loop-i-preserved : goal.loop-i-preserved
@@ -26,11 +28,14 @@ loop-i-preserved c =
     let names = c.args.names.now in
     let xs = c.args.members.now in
     let i = c.loop-i.i in
-    let x = get_or xs i (record { name = record { ref_ptr = (0, 0); now = [] }; kind = record { ref_ptr = (0, 0); now = [] }; comment = record { ref_ptr = (0, 0); now = [] } }) in
+    let x = get_or xs i (record
+    { name = record { ref_ptr = (0, 0); now = [] }; kind = record { ref_ptr = (0, 0); now = [] }; comment = record { ref_ptr = (0, 0); now = [] } }) in
     let is = get_or_default xs i _ x c.loop-i-test.true in
     record {
       first = first_from-right (is_right_named names) member_view xs i x _ c.loop-i-test.true is
-          (right-lower member_view member_name (is_member_alone names (member_view x)) (take i xs) x c.loop-i.seen _ _ c.loop-i.invariant.noted c.in_ok-is_right_member.ensures ∙ c.if-not-branch.false)
+          (right-lower member_view member_name (is_member_alone names (member_view x))
+          (take i xs) x c.loop-i.seen _ _ c.loop-i.invariant.noted c.in_ok-is_right_member.ensures ∙ c.if-not-branch.false)
           c.loop-i.invariant.first;
-      noted = noted-lower member_view member_name xs i x c.loop-i.seen _ c.loop-i-test.true is c.loop-i.invariant.noted (c.in_ok-is_right_member.ensures.noted c.if-not-branch.false);
+      noted = noted-lower member_view member_name xs i x c.loop-i.seen _ c.loop-i-test.true is
+          c.loop-i.invariant.noted (c.in_ok-is_right_member.ensures.noted c.if-not-branch.false);
     }

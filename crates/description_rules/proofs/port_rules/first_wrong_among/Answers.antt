@@ -27,6 +27,7 @@ loop-i-preserved c =
       first = first_from-right (is_right_port c.args.limit) port_view xs i x _ c.loop-i-test.true c.index-ports-i.is
           (is_right_port-noted c.args.limit (take i xs) x c.loop-i.seen _ _ c.loop-i.invariant.noted c.in_ok-is_right_port.ensures ∙ c.if-not-branch.false)
           c.loop-i.invariant.first;
-      noted = port-noted (map number_view (take i xs)) (map number_view (take (i + 1) xs)) (number_view x) _ c.loop-i.seen _ _ c.loop-i.invariant.noted c.in_ok-is_right_port.ensures
+      noted = port-noted (map number_view (take i xs)) (map number_view (take (i + 1) xs))
+          (number_view x) _ c.loop-i.seen _ _ c.loop-i.invariant.noted c.in_ok-is_right_port.ensures
           c.if-not-branch.false (take-more number_view xs i x c.loop-i-test.true c.index-ports-i.is);
     }

@@ -28,7 +28,8 @@ returns c =
       types = λ _. longer;
       known = λ _. record {
         extents = AreKnown-push types (types_of c.push.new.self) c.args.known.now.extents.items c.push-2.new.self.items type extent c.requires.known.extents
-            c.type_extent-extent.ensures.extent c.if-extent-gt1048576.false c.type_extent-extent.ensures.fair.1 c.type_extent-extent.ensures.fair.0 c.if-extent-gt16.false
+            c.type_extent-extent.ensures.extent c.if-extent-gt1048576.false
+            c.type_extent-extent.ensures.fair.1 c.type_extent-extent.ensures.fair.0 c.if-extent-gt16.false
             longer c.in_ok-push-2.ensures.items;
         names = subst (λ names. AreNumbered names c.add.new.self) (sym name) (c.in_ok-add.ensures.ok (map type_name types) c.requires.known.names);
         few = omega (arith, c.requires.few, ap length c.in_ok-push.ensures.ok, length_push c.args.known.now.types c.in-Some.named);

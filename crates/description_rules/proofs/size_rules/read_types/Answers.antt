@@ -6,7 +6,9 @@ use Rattle.spec_rules.specs.SizeRules.{wrong_size}
 use Rattle.type_layout.specs.NamedTypes.{types_of, named_type_of}
 use Rattle.description_table.specs.Views.{type_view}
 use Rattle.description_rules.proofs.StructLemmas.{dropped}
-use Rattle.description_rules.proofs.KnownLemmas.{AreKnown-none, wrong_size-start, types_described-left, first_wrong-right, first_wrong-wrong, types_left-more, known-end}
+use Rattle.description_rules.proofs.KnownLemmas.{AreKnown-none, wrong_size-start, types_described-left}
+use Rattle.description_rules.proofs.KnownLemmas.{first_wrong-right, first_wrong-wrong, types_left-more}
+use Rattle.description_rules.proofs.KnownLemmas.{known-end}
 use Rattle.description_rules.proofs.size_rules.read_types.Goals as goal
 
 pub loop-i-init : goal.loop-i-init
@@ -43,8 +45,15 @@ loop-i-preserved c =
     record {
       wrong = first_wrong-right known (types_of c.add_type.new.known.types) (map type_view (drop i ws)) w (map type_view (drop (i + 1) ws)) i _ left more
           (sym c.in_ok-add_type.ensures.answer ∙ c.if-not-branch.false) c.loop-i.invariant.wrong;
-      built = types_left-more known (types_of c.add_type.new.known.types) (map type_view (drop i ws)) w (map type_view (drop (i + 1) ws)) _ left more c.loop-i.invariant.built;
-      count = omega (arith, longer, length-append known (type_described known w ∷ []), length-map c.add_type.new.known.types named_type_of, length-map c.loop-i.known.types named_type_of);
+      built = types_left-more known (types_of c.add_type.new.known.types) (map type_view (drop i ws)) w
+          (map type_view (drop (i + 1) ws)) _ left more c.loop-i.invariant.built;
+      count = omega (
+        arith,
+        longer,
+        length-append known (type_described known w ∷ []),
+        length-map c.add_type.new.known.types named_type_of,
+        length-map c.loop-i.known.types named_type_of,
+      );
       known = c.in_ok-add_type.ensures.known c.if-not-branch.false;
     }
 
@@ -52,6 +61,7 @@ pub returns : goal.returns
 returns c =
     let ws = c.args.types.now in
     let known = types_of c.loop-i.known.types in
-    let end = known-end known (map type_view (drop c.loop-i.i ws)) c.loop-i.i (wrong_size (types_described (map type_view ws))) (types_described (map type_view ws))
+    let end = known-end known (map type_view (drop c.loop-i.i ws)) c.loop-i.i
+    (wrong_size (types_described (map type_view ws))) (types_described (map type_view ws))
     (ap (map type_view) (drop_all c.loop-i.i ws c.loop-i-test.false)) c.loop-i.invariant.wrong c.loop-i.invariant.built in
     record { right = end.0; types = end.1; is_known = c.loop-i.invariant.known }

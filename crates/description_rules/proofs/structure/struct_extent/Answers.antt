@@ -16,7 +16,8 @@ loop-member-preserved c =
     let xs = c.args.members.now in
     let i = c.loop-member.member-index in
     let types = types_of c.args.known.now.types in
-    let x = get_or xs i (record { name = record { ref_ptr = (0, 0); now = [] }; kind = record { ref_ptr = (0, 0); now = [] }; comment = record { ref_ptr = (0, 0); now = [] } }) in
+    let x = get_or xs i (record
+    { name = record { ref_ptr = (0, 0); now = [] }; kind = record { ref_ptr = (0, 0); now = [] }; comment = record { ref_ptr = (0, 0); now = [] } }) in
     let left : drop i xs ≡ x ∷ drop (i + 1) xs = dropped xs i x c.loop-member-test.true (get_or_default xs i _ x c.loop-member-test.true) in
     let described = λ (ms : List WrittenMember). map (member_described types) (map member_view ms) in
     record {
@@ -38,6 +39,7 @@ returns-clause-extent c =
     let types = types_of c.args.known.now.types in
     let described = λ (ms : List WrittenMember). map (member_described types) (map member_view ms) in
     IsStructExtent-end c.loop-member.so_far (member_trees (trees_of types) (described xs)) c.aligned.result c.loop-member.invariant.some_align
-    (ap (λ ms. extent_behind c.loop-member.so_far (member_trees (trees_of types) (described ms))) (sym (drop_all c.loop-member.member-index xs c.loop-member-test.false))
+    (ap (λ ms. extent_behind c.loop-member.so_far (member_trees (trees_of types) (described ms)))
+    (sym (drop_all c.loop-member.member-index xs c.loop-member-test.false))
     ∙ c.loop-member.invariant.whole)
     c.aligned.ensures.value

@@ -10,8 +10,10 @@ use Rattle.description_rules.proofs.structure.struct_extent.Given as goal
 -- the members so far and those that are left make the structure
 abbrev pub invariant-loop-member : goal.invariant-loop-member
 invariant-loop-member l = record {
-  whole : extent_behind l.so_far (member_trees (trees_of (types_of l.known.types)) (map (member_described (types_of l.known.types)) (map member_view (drop l.member-index l.members))))
-      ≡ extent_behind l.initial.so_far (member_trees (trees_of (types_of l.known.types)) (map (member_described (types_of l.known.types)) (map member_view l.members)));
+  whole : extent_behind l.so_far
+      (member_trees (trees_of (types_of l.known.types)) (map (member_described (types_of l.known.types)) (map member_view (drop l.member-index l.members))))
+      ≡ extent_behind l.initial.so_far
+      (member_trees (trees_of (types_of l.known.types)) (map (member_described (types_of l.known.types)) (map member_view l.members)));
   small : are_small_members (map (member_described (types_of l.known.types)) (map member_view (drop l.member-index l.members))) ≡ true;
   size : l.so_far.size ≤ l.member-index * 2 ^ 41;
   align : l.so_far.align ≤ 8;

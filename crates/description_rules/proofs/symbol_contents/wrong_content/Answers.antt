@@ -20,11 +20,13 @@ pub loop-port-preserved : goal.loop-port-preserved
 loop-port-preserved c =
     let types = types_of c.args.known.now.types in
     let count = λ (p : WrittenPort). length p.symbols in
-    let wrong = λ (before : List WrittenPort) (p : WrittenPort). first_wrong (λ (earlier : List WrittenSymbol) (s : WrittenSymbol). is_right_content types s) [] p.symbols in
+    let wrong = λ (before : List WrittenPort) (p : WrittenPort). first_wrong
+    (λ (earlier : List WrittenSymbol) (s : WrittenSymbol). is_right_content types s) [] p.symbols in
     let symbols = c.port-item.result.symbols in
     let longer : length (map symbol_view symbols.items) ≡ c.len.result = omega (arith, length-map symbols.items symbol_view, c.len.ensures, symbols.ok.0) in
     record {
-      first = through_from-right count wrong port_view c.args.ports.now c.loop-port.port-index c.loop-port.count c.port-item.result _ c.loop-port-test.true c.port-item.is
+      first = through_from-right count wrong port_view c.args.ports.now c.loop-port.port-index
+          c.loop-port.count c.port-item.result _ c.loop-port-test.true c.port-item.is
           (sym (rw c.as_slice.ensures.value at c.in_ok-place.ensures) ∙ c.in_default.is) c.loop-port.invariant.first
           ∙ ap (λ n. through_from count wrong port_view c.args.ports.now (c.loop-port.port-index + 1) (c.loop-port.count + n))
           longer;

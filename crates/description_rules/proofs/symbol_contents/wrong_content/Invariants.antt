@@ -11,6 +11,7 @@ use Rattle.description_rules.proofs.symbol_contents.wrong_content.Given as goal
 abbrev pub invariant-loop-port : goal.invariant-loop-port
 invariant-loop-port l = record {
   first : wrong_content (types_of l.known.types) (map port_view l.ports) ≡ through_from (λ (p : WrittenPort). length p.symbols)
-      (λ before p. first_wrong (λ earlier (s : WrittenSymbol). is_right_content (types_of l.known.types) s) [] p.symbols) port_view l.ports l.port-index l.count;
+      (λ before p. first_wrong (λ earlier (s : WrittenSymbol). is_right_content (types_of l.known.types) s) [] p.symbols)
+      port_view l.ports l.port-index l.count;
   small : l.count ≤ l.port-index * 2 ^ 64;
 }

@@ -30,6 +30,7 @@ loop-i-preserved c =
       first = first_from-right is_right_name symbol_view xs i x _ c.loop-i-test.true c.index-symbols-i.is
           (is_right-noted (take i xs) x c.loop-i.whole c.loop-i.starts _ _ _ c.loop-i.invariant.noted next ∙ c.if-not-branch.false)
           c.loop-i.invariant.first;
-      noted = noted-next (map name_view (take i xs)) (map name_view (take (i + 1) xs)) c.loop-i.whole c.loop-i.starts _ _ (name_view x) _ c.loop-i.invariant.noted next c.if-not-branch.false
+      noted = noted-next (map name_view (take i xs)) (map name_view (take (i + 1) xs)) c.loop-i.whole
+          c.loop-i.starts _ _ (name_view x) _ c.loop-i.invariant.noted next c.if-not-branch.false
           (take-more name_view xs i x c.loop-i-test.true c.index-symbols-i.is);
     }

@@ -12,7 +12,8 @@ loop-i-preserved c =
     let text = c.args.text.now in
     let i = c.loop-i.i in
     let x = get_or text i 0 in
-    left-more c.args.texts.now c.loop-i.texts c.note_start.new.texts text i x c.loop-i-test.true (get_or_default text i 0 x c.loop-i-test.true) c.in_ok-note_start.ensures c.loop-i.invariant
+    left-more c.args.texts.now c.loop-i.texts c.note_start.new.texts text i x c.loop-i-test.true
+    (get_or_default text i 0 x c.loop-i-test.true) c.in_ok-note_start.ensures c.loop-i.invariant
 
 pub returns : goal.returns
 returns c =

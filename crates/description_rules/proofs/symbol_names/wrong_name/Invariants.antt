@@ -9,6 +9,7 @@ use Rattle.description_rules.proofs.symbol_names.wrong_name.Given as goal
 -- the symbols of the ports before this one are right
 abbrev pub invariant-loop-port : goal.invariant-loop-port
 invariant-loop-port l = record {
-  first : wrong_name (map port_view l.ports) ≡ through_from (λ (p : WrittenPort). length p.symbols) (λ before p. first_wrong is_right_name [] p.symbols) port_view l.ports l.port-index l.count;
+  first : wrong_name (map port_view l.ports) ≡ through_from (λ (p : WrittenPort). length p.symbols)
+      (λ before p. first_wrong is_right_name [] p.symbols) port_view l.ports l.port-index l.count;
   small : l.count ≤ l.port-index * 2 ^ 64;
 }

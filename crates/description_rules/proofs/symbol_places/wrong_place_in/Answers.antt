@@ -16,7 +16,8 @@ returns c =
     let types = types_of c.args.known.now.types in
     let port = port_view c.args.port.now in
     let symbols = c.args.port.now.symbols.items in
-    let same : first_wrong is_right_behind [] (map (symbol_place types (sizes_described port)) c.as_slice.result.now) ≡ first_wrong (is_right_place types port) [] (map symbol_view symbols) =
+    let same : first_wrong is_right_behind [] (map (symbol_place types (sizes_described port)) c.as_slice.result.now)
+    ≡ first_wrong (is_right_place types port) [] (map symbol_view symbols) =
     ap (λ xs. first_wrong is_right_behind [] (map (symbol_place types (sizes_described port)) xs)) c.as_slice.ensures.value
     ∙ ap (first_wrong is_right_behind []) (symbol_places-written types (sizes_described port) symbols)
     ∙ first_wrong-places types port (map symbol_view symbols) in

@@ -29,6 +29,7 @@ loop-i-preserved c =
       first = first_from-right is_right_use use_view xs i x _ c.loop-i-test.true is
           (is_right_use-named before (use_view x) c.loop-i.seen _ _ c.loop-i.invariant.named c.in_ok-is_right_use.ensures ∙ c.if-not-branch.false)
           c.loop-i.invariant.first;
-      named = named-more before (map use_view (take (i + 1) xs)) (use_view x) c.loop-i.seen _ _ c.loop-i.invariant.named c.in_ok-is_right_use.ensures c.if-not-branch.false
+      named = named-more before (map use_view (take (i + 1) xs)) (use_view x) c.loop-i.seen
+          _ _ c.loop-i.invariant.named c.in_ok-is_right_use.ensures c.if-not-branch.false
           (take-more use_view xs i x c.loop-i-test.true is);
     }

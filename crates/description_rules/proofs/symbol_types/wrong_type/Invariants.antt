@@ -13,7 +13,8 @@ use Rattle.description_rules.proofs.symbol_types.wrong_type.Given as goal
 abbrev pub invariant-loop-port : goal.invariant-loop-port
 invariant-loop-port l = record {
   first : wrong_type (types_of l.known.types) (map port_view l.ports) ≡ through_from (λ (p : WrittenPort). length p.symbols)
-      (λ before p. first_wrong (λ earlier (s : WrittenSymbol). option_map_or (is_small (types_of l.known.types)) (shape_of_text (types_of l.known.types) s.type) false) [] p.symbols)
+      (λ before p. first_wrong
+      (λ earlier (s : WrittenSymbol). option_map_or (is_small (types_of l.known.types)) (shape_of_text (types_of l.known.types) s.type) false) [] p.symbols)
       port_view l.ports l.port-index l.count;
   small : l.count ≤ l.port-index * 2 ^ 64;
 }

@@ -12,5 +12,7 @@ use Rattle.description_rules.proofs.symbol_types.wrong_type_in.Given as goal
 -- those before this one are right
 abbrev pub invariant-loop-i : goal.invariant-loop-i
 invariant-loop-i l =
-    first_wrong (λ before (s : WrittenSymbol). option_map_or (is_small (types_of l.known.types)) (shape_of_text (types_of l.known.types) s.type) false) [] (map symbol_view l.symbols)
-    ≡ first_from (λ before (s : WrittenSymbol). option_map_or (is_small (types_of l.known.types)) (shape_of_text (types_of l.known.types) s.type) false) symbol_view l.symbols l.i
+    first_wrong (λ before (s : WrittenSymbol). option_map_or (is_small (types_of l.known.types)) (shape_of_text (types_of l.known.types) s.type) false) []
+    (map symbol_view l.symbols)
+    ≡ first_from (λ before (s : WrittenSymbol). option_map_or (is_small (types_of l.known.types)) (shape_of_text (types_of l.known.types) s.type) false)
+    symbol_view l.symbols l.i

@@ -10,7 +10,8 @@ returns c =
     let range = c.args.range in
     let place = c.place_behind-place.result in
     let point : IsPlaceOf range.start rs place = rw c.as_slice.ensures.value at c.place_behind-place.ensures in
-    let free : is_free_at rs place range ≡ true = ap (λ ranges. is_free_at ranges place range) (sym c.as_slice-2.ensures.value) ∙ sym c.is_free_at.ensures ∙ c.if-not-is_free_at.false in
+    let free : is_free_at rs place range ≡ true =
+    ap (λ ranges. is_free_at ranges place range) (sym c.as_slice-2.ensures.value) ∙ sym c.is_free_at.ensures ∙ c.if-not-is_free_at.false in
     let more : c.insert.new.self.items ≡ insert rs place range = c.in_ok-insert.ensures.items in
     record {
       answer = sym free ∙ is_free-answer rs place range c.requires.order point;

@@ -16,7 +16,8 @@ returns-then-not-branch c =
     let i = c.loop-i.i in
     let x = c.index-types-i.result in
     sym (first_from-wrong is_right_type_name type_view xs i x _ c.loop-i-test.true c.index-types-i.is
-    (right-lower type_view written_name (is_type_name (written_name (type_view x))) (take i xs) x c.loop-i.seen _ _ c.loop-i.invariant.noted c.in_ok-is_right_type_name.ensures ∙ c.if-not-branch.true)
+    (right-lower type_view written_name (is_type_name (written_name (type_view x)))
+    (take i xs) x c.loop-i.seen _ _ c.loop-i.invariant.noted c.in_ok-is_right_type_name.ensures ∙ c.if-not-branch.true)
     c.loop-i.invariant.first)
 
 pub loop-i-preserved : goal.loop-i-preserved
@@ -26,7 +27,9 @@ loop-i-preserved c =
     let x = c.index-types-i.result in
     record {
       first = first_from-right is_right_type_name type_view xs i x _ c.loop-i-test.true c.index-types-i.is
-          (right-lower type_view written_name (is_type_name (written_name (type_view x))) (take i xs) x c.loop-i.seen _ _ c.loop-i.invariant.noted c.in_ok-is_right_type_name.ensures ∙ c.if-not-branch.false)
+          (right-lower type_view written_name (is_type_name (written_name (type_view x)))
+          (take i xs) x c.loop-i.seen _ _ c.loop-i.invariant.noted c.in_ok-is_right_type_name.ensures ∙ c.if-not-branch.false)
           c.loop-i.invariant.first;
-      noted = noted-lower type_view written_name xs i x c.loop-i.seen _ c.loop-i-test.true c.index-types-i.is c.loop-i.invariant.noted (c.in_ok-is_right_type_name.ensures.noted c.if-not-branch.false);
+      noted = noted-lower type_view written_name xs i x c.loop-i.seen _ c.loop-i-test.true c.index-types-i.is
+          c.loop-i.invariant.noted (c.in_ok-is_right_type_name.ensures.noted c.if-not-branch.false);
     }

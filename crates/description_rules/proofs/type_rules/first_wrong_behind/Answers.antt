@@ -20,8 +20,10 @@ returns-in-Some c =
     let xs = c.args.types.now in
     let i = c.loop-kind.kind-index in
     let x = c.kind-item.result in
-    sym (through_from-wrong (λ t. length (written_members t)) wrong_member_of type_view xs i c.loop-kind.count c.in-Some.place x _ c.loop-kind-test.true c.kind-item.is
-    (sym (wrong_member-named (map type_view (take i xs)) c.loop-kind.names c.loop-kind.invariant.named (type_view x)) ∙ sym c.in_ok-place.ensures ∙ c.in-Some.is)
+    sym (through_from-wrong (λ t. length (written_members t)) wrong_member_of type_view
+    xs i c.loop-kind.count c.in-Some.place x _ c.loop-kind-test.true c.kind-item.is
+    (sym (wrong_member-named (map type_view (take i xs)) c.loop-kind.names c.loop-kind.invariant.named (type_view x))
+    ∙ sym c.in_ok-place.ensures ∙ c.in-Some.is)
     c.loop-kind.invariant.first)
 
 pub loop-kind-preserved : goal.loop-kind-preserved
@@ -37,6 +39,7 @@ loop-kind-preserved c =
           c.loop-kind.invariant.first
           ∙ ap (λ m. through_from (λ t. length (written_members t)) wrong_member_of type_view xs (i + 1) (c.loop-kind.count + m)) (sym c.member_count.ensures);
       small = omega arith;
-      named = type_names-more (map type_view (take i xs)) (map type_view (take (i + 1) xs)) (type_view x) c.loop-kind.names c.note_type.new.names c.loop-kind.invariant.named
+      named = type_names-more (map type_view (take i xs)) (map type_view (take (i + 1) xs))
+          (type_view x) c.loop-kind.names c.note_type.new.names c.loop-kind.invariant.named
           c.in_ok-note_type.ensures (take-more type_view xs i x c.loop-kind-test.true c.kind-item.is);
     }

@@ -23,7 +23,8 @@ returns-then-not-branch c =
     let x = get_or xs i (record { name = record { ref_ptr = (0, 0); now = [] }; number = pos 0 }) in
     let is = get_or_default xs i _ x c.loop-i-test.true in
     sym (first_from-wrong (is_right_value base) value_view xs i x _ c.loop-i-test.true is
-    (is_right_value-noted base (take i xs) x c.loop-i.names _ c.loop-i.numbers _ _ c.loop-i.invariant.named c.loop-i.invariant.numbered c.in_ok-is_right_value.ensures ∙ c.if-not-branch.true)
+    (is_right_value-noted base (take i xs) x c.loop-i.names _ c.loop-i.numbers _ _ c.loop-i.invariant.named
+    c.loop-i.invariant.numbered c.in_ok-is_right_value.ensures ∙ c.if-not-branch.true)
     c.loop-i.invariant.first)
 
 pub loop-i-preserved : goal.loop-i-preserved
@@ -36,8 +37,10 @@ loop-i-preserved c =
     let next = c.in_ok-is_right_value.ensures in
     record {
       first = first_from-right (is_right_value base) value_view xs i x _ c.loop-i-test.true is
-          (is_right_value-noted base (take i xs) x c.loop-i.names _ c.loop-i.numbers _ _ c.loop-i.invariant.named c.loop-i.invariant.numbered next ∙ c.if-not-branch.false)
+          (is_right_value-noted base (take i xs) x c.loop-i.names _ c.loop-i.numbers _ _ c.loop-i.invariant.named c.loop-i.invariant.numbered next
+          ∙ c.if-not-branch.false)
           c.loop-i.invariant.first;
       named = noted-lower value_view value_name xs i x c.loop-i.names _ c.loop-i-test.true is c.loop-i.invariant.named (next.named c.if-not-branch.false);
-      numbered = next.numbered c.if-not-branch.false ∙ ap (λ numbers. numbers ++ value_number x ∷ []) c.loop-i.invariant.numbered ∙ sym (take-more value_number xs i x c.loop-i-test.true is);
+      numbered = next.numbered c.if-not-branch.false ∙ ap (λ numbers. numbers ++ value_number x ∷ []) c.loop-i.invariant.numbered
+          ∙ sym (take-more value_number xs i x c.loop-i-test.true is);
     }

@@ -14,7 +14,8 @@ returns c =
     let v = value_view c.args.value.now in
     let fits : SFits w64 c.args.value.now.number = search rules in
     if_ok _ (IsNextValue (kind_of c.args.base) v c.args.names.now c.args.numbers.now c.note_lower.new.texts c.note_number.new.seen) c.note_number.result
-    (λ right next. next_value (kind_of c.args.base) v c.args.names.now c.note_lower.new.texts c.args.numbers.now c.note_number.new.seen c.is_value-right.result c.in_ok-new.new right
+    (λ right next. next_value (kind_of c.args.base) v c.args.names.now c.note_lower.new.texts
+    c.args.numbers.now c.note_number.new.seen c.is_value-right.result c.in_ok-new.new right
     c.is_value-right.ensures c.in_ok-new.ensures
     (subst (λ (n : ℤ). IsNextNumber c.in_ok-new.new c.args.numbers.now c.note_number.new.seen n right) (to_z-of_z w64 c.args.value.now.number fits) next))
     c.note_number.ensures

@@ -15,9 +15,11 @@ returns c =
     let keys : only_keys port_keys t ≡ true = sym c.only_keys.ensures ∙ c.if-not-only_keys.false in
     let f = c.in-Some.facts in
     let s = c.in-Some-sizes_in.sizes in
-    let facts = five_read (required as_integer (codes "port") t) (required as_str (codes "name") t) (required as_integer (codes "major") t) (required as_integer (codes "minor") t)
+    let facts = five_read (required as_integer (codes "port") t) (required as_str (codes "name") t)
+    (required as_integer (codes "major") t) (required as_integer (codes "minor") t)
     (required as_integer (codes "build") t) f.number f.name.now f.major f.minor f.build c.in-Some.ensures in
-    let sizes = four_read (optional as_integer (pos 0) (codes "inputs") t) (optional as_integer (pos 0) (codes "outputs") t) (optional as_integer (pos 0) (codes "memory") t)
+    let sizes = four_read (optional as_integer (pos 0) (codes "inputs") t)
+    (optional as_integer (pos 0) (codes "outputs") t) (optional as_integer (pos 0) (codes "memory") t)
     (optional as_integer (pos 0) (codes "data") t) s.inputs s.outputs s.memory s.process c.in-Some-sizes_in.ensures in
     let symbols : optional (tables_of (symbol_in c.args.second)) [] (codes "symbol") t ≡ Some (map symbol_view c.in-Some-2.symbols.items) =
     sym (ap (option_map (λ v. map symbol_view v.items)) (sym c.in-Some-2.is) ∙ c.in_ok-symbols.ensures) in

@@ -15,10 +15,13 @@ returns c =
     let keys : only_keys (symbol_keys c.args.second) t ≡ true = sym c.are_symbol_keys.ensures ∙ c.if-not-are_symbol_keys.false in
     let p = c.in-Some.place in
     let f = c.in-Some-flags_in.flags in
-    let place = four_read (required as_str (codes "name") t) (required as_str (codes "type") t) (required as_str (codes "area") t) (required as_integer (codes "offset") t)
+    let place = four_read (required as_str (codes "name") t) (required as_str (codes "type") t)
+    (required as_str (codes "area") t) (required as_integer (codes "offset") t)
     p.name.now p.kind.now p.area.now p.offset c.in-Some.ensures in
-    let flags = three_read (optional as_str [] (codes "comment") t) (optional as_bool false (codes "persistent") t) (optional as_bool false (codes "read_only") t)
+    let flags = three_read (optional as_str [] (codes "comment") t)
+    (optional as_bool false (codes "persistent") t) (optional as_bool false (codes "read_only") t)
     f.comment.now f.persistent f.read_only c.in-Some-flags_in.ensures in
     let writers : maybe (array_of as_str) (codes "writers") t ≡ Some (option_map (λ v. map text_view v.items) c.in-Some-2.writers) =
     sym (ap (option_map (option_map (λ v. map text_view v.items))) (sym c.in-Some-2.is) ∙ c.in_ok-writers.ensures) in
-    rw (keys, place.0, place.1, place.2, place.3, flags.0, flags.1, flags.2, ← c.in-Some-maybe_text.ensures, ← c.in-Some-maybe_integer.ensures, writers) (search rules)
+    rw (keys, place.0, place.1, place.2, place.3, flags.0, flags.1, flags.2, ← c.in-Some-maybe_text.ensures, ← c.in-Some-maybe_integer.ensures, writers)
+    (search rules)

@@ -11,5 +11,6 @@ loop-item-preserved g c =
     let before = map view c.loop-item.records.items in
     let pushed : map view c.push.new.self.items ≡ before ++ x ∷ [] =
     ap (map view) c.in_ok-push.ensures.items ∙ map-append view c.loop-item.records.items (c.in-Some.one ∷ []) in
-    rw pushed (items_in_more (table_of (g.T.FromTable.written_in c.args.second)) c.args.items.now c.loop-item.item-index c.item-item.result x before _ c.loop-item-test.true
+    rw pushed (items_in_more (table_of (g.T.FromTable.written_in c.args.second))
+    c.args.items.now c.loop-item.item-index c.item-item.result x before _ c.loop-item-test.true
     c.item-item.is (ap (option_map view) (sym c.in-Some.is) ∙ c.in_ok-one.ensures) c.loop-item.invariant)

@@ -7,4 +7,5 @@ use Rattle.description_table.proofs.tables.records_in.Given as goal
 abbrev pub invariant-loop-item : goal.invariant-loop-item
 invariant-loop-item g l =
     items_in (table_of (g.T.FromTable.written_in l.second)) (items_view l.items)
-    ≡ option_map (λ xs. map g.T.FromTable.written_view l.records.items ++ xs) (items_in (table_of (g.T.FromTable.written_in l.second)) (items_view (drop l.item-index l.items)))
+    ≡ option_map (λ xs. map g.T.FromTable.written_view l.records.items ++ xs)
+    (items_in (table_of (g.T.FromTable.written_in l.second)) (items_view (drop l.item-index l.items)))

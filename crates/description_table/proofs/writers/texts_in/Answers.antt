@@ -7,7 +7,8 @@ use Rattle.description_table.proofs.writers.texts_in.Goals as goal
 
 pub returns-in_default : goal.returns-in_default
 returns-in_default c =
-    items_in_none as_str c.args.items.now c.loop-item.item-index c.item-item.result (map text_view c.loop-item.texts.items) _ c.loop-item-test.true c.item-item.is
+    items_in_none as_str c.args.items.now c.loop-item.item-index c.item-item.result
+    (map text_view c.loop-item.texts.items) _ c.loop-item-test.true c.item-item.is
     c.in_default.ensures c.loop-item.invariant
 
 pub loop-item-preserved : goal.loop-item-preserved

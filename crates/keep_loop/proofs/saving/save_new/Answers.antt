@@ -10,8 +10,10 @@ returns-in-Ok-Done-clause-saved g c = record {
   differs = sym c.stands.ensures ∙ c.if-stands.false;
   within = done_within c.args.store.now c.args.body.now c.requires.open (rw c.in-Ok-Done.field-0-is at c.in-Ok-Done.ensures.refused);
   store = rw c.in-Ok-Done.field-0-is at c.in-Ok-Done.ensures.store;
-  told = told_by_save g.D.Disk.contents g.D.Disk.may_leave g.D.Disk.moment g.D.Disk.left_since c.args.disk.now c.save.new.disk c.args.body.now _ c.in-Ok-Done.field-0-is c.in-Ok-Done.ensures.done;
-  left = left_by_save g.D.Disk.contents g.D.Disk.may_leave g.D.Disk.moment g.D.Disk.left_since c.args.disk.now c.save.new.disk c.args.store.now c.args.body.now c.requires.ready c.requires.open c.save.ensures.stop;
+  told = told_by_save g.D.Disk.contents g.D.Disk.may_leave g.D.Disk.moment g.D.Disk.left_since
+      c.args.disk.now c.save.new.disk c.args.body.now _ c.in-Ok-Done.field-0-is c.in-Ok-Done.ensures.done;
+  left = left_by_save g.D.Disk.contents g.D.Disk.may_leave g.D.Disk.moment g.D.Disk.left_since c.args.disk.now
+      c.save.new.disk c.args.store.now c.args.body.now c.requires.ready c.requires.open c.save.ensures.stop;
 }
 
 pub returns-in-Ok-Failed-clause-saved : goal.returns-in-Ok-Failed-clause-saved
@@ -20,7 +22,8 @@ returns-in-Ok-Failed-clause-saved g c = (
     body = c.args.body.now;
     is = refl;
     differs = sym c.stands.ensures ∙ c.if-stands.false;
-    left = left_by_save g.D.Disk.contents g.D.Disk.may_leave g.D.Disk.moment g.D.Disk.left_since c.args.disk.now c.save.new.disk c.args.store.now c.args.body.now c.requires.ready c.requires.open c.save.ensures.stop;
+    left = left_by_save g.D.Disk.contents g.D.Disk.may_leave g.D.Disk.moment g.D.Disk.left_since c.args.disk.now
+        c.save.new.disk c.args.store.now c.args.body.now c.requires.ready c.requires.open c.save.ensures.stop;
   },
   failed_within c.args.store.now c.args.body.now c.requires.open (rw c.in-Ok-Failed.field-0-is at c.in-Ok-Failed.ensures.refused),
 )
@@ -37,5 +40,6 @@ returns-in-Err-clause-saved g c = inr (record {
   body = c.args.body.now;
   is = refl;
   differs = sym c.stands.ensures ∙ c.if-stands.false;
-  left = left_by_save g.D.Disk.contents g.D.Disk.may_leave g.D.Disk.moment g.D.Disk.left_since c.args.disk.now c.save.new.disk c.args.store.now c.args.body.now c.requires.ready c.requires.open c.save.ensures.stop;
+  left = left_by_save g.D.Disk.contents g.D.Disk.may_leave g.D.Disk.moment g.D.Disk.left_since c.args.disk.now
+      c.save.new.disk c.args.store.now c.args.body.now c.requires.ready c.requires.open c.save.ensures.stop;
 })

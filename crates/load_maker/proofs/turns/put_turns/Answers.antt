@@ -17,5 +17,6 @@ loop-i-preserved c =
     record {
       number = number;
       small = c.next_number-x.ensures.small;
-      lines = turns-more c.args.out.now c.put_turn.new.out c.loop-i.out c.args.n c.loop-i.i c.next_number-x.result c.loop-i.invariant.lines number c.in_ok-put_turn.ensures;
+      lines = turns-more c.args.out.now c.put_turn.new.out c.loop-i.out c.args.n c.loop-i.i
+          c.next_number-x.result c.loop-i.invariant.lines number c.in_ok-put_turn.ensures;
     }

@@ -13,4 +13,5 @@ returns-clause-put c =
 
 pub returns-clause-in_turn : goal.returns-clause-in_turn
 returns-clause-in_turn c =
-    subst AreInTurn (sym c.push_back_reserved.ensures.items) (in_turn_behind c.args.turn c.args.turns.now.items (search rules) c.requires.in_turn c.requires.behind)
+    subst AreInTurn (sym c.push_back_reserved.ensures.items)
+    (in_turn_behind c.args.turn c.args.turns.now.items (search rules) c.requires.in_turn c.requires.behind)

@@ -8,12 +8,15 @@ returns-then-count-eq0-clause-none c = zero_entries_at c.args.count c.args.bytes
 
 pub returns-clause-none : goal.returns-clause-none
 returns-clause-none c =
-    step_none c.first_entry.result (λ x. entry_read (entry_meant x.0) x.1.now) c.args.count c.args.bytes.now _ c.if-count-eq0.false c.requires c.first_entry.ensures
+    step_none c.first_entry.result (λ x. entry_read (entry_meant x.0) x.1.now)
+    c.args.count c.args.bytes.now _ c.if-count-eq0.false c.requires c.first_entry.ensures
 
 pub returns-clause-left : goal.returns-clause-left
 returns-clause-left c =
-    step_left c.first_entry.result (λ x. entry_read (entry_meant x.0) x.1.now) c.args.count c.args.bytes.now c.if-count-eq0.false c.requires c.first_entry.ensures
+    step_left c.first_entry.result (λ x. entry_read (entry_meant x.0) x.1.now)
+    c.args.count c.args.bytes.now c.if-count-eq0.false c.requires c.first_entry.ensures
 
 pub returns-clause-next : goal.returns-clause-next
 returns-clause-next c =
-    step_next c.first_entry.result (λ x. entry_read (entry_meant x.0) x.1.now) c.args.count c.args.bytes.now c.if-count-eq0.false c.requires c.first_entry.ensures
+    step_next c.first_entry.result (λ x. entry_read (entry_meant x.0) x.1.now)
+    c.args.count c.args.bytes.now c.if-count-eq0.false c.requires c.first_entry.ensures

@@ -6,9 +6,11 @@ use Rattle.persist_store.proofs.save_steps.fill_slot.Goals as goal
 pub returns-clause-done : goal.returns-clause-done
 returns-clause-done g c =
     on_ok_weaker c.write_and_sync.result
-    (λ done file slot here place closed is short. full_by_write g.D.Disk.contents g.D.Disk.may_leave g.D.Disk.moment g.D.Disk.left_since c.write_and_sync.new.disk c.args.place file c.args.behind.now slot place closed is short (done file here))
+    (λ done file slot here place closed is short. full_by_write g.D.Disk.contents g.D.Disk.may_leave g.D.Disk.moment
+    g.D.Disk.left_since c.write_and_sync.new.disk c.args.place file c.args.behind.now slot place closed is short (done file here))
     c.write_and_sync.ensures.done
 
 pub returns-clause-stop : goal.returns-clause-stop
 returns-clause-stop g c = λ file slot here place closed is short.
-    fill_leaves g.D.Disk.contents g.D.Disk.may_leave g.D.Disk.moment g.D.Disk.left_since c.args.disk.now c.write_and_sync.new.disk c.args.place file c.args.behind.now slot place closed is short (c.write_and_sync.ensures.stop file here)
+    fill_leaves g.D.Disk.contents g.D.Disk.may_leave g.D.Disk.moment g.D.Disk.left_since c.args.disk.now c.write_and_sync.new.disk
+    c.args.place file c.args.behind.now slot place closed is short (c.write_and_sync.ensures.stop file here)

@@ -11,4 +11,5 @@ abbrev pub invariant-loop-row : goal.invariant-loop-row
 invariant-loop-row l =
     (length l.image ≡ image_size (sizes_of l.sizes))
     × (with_all_bytes (sizes_of l.sizes) l.image (map (placed_symbol (λ (s : TableSymbol). s.initial)) (symbols_of_rows (drop l.row-index l.rows)))
-    ≡ with_all_bytes (sizes_of l.sizes) (replicate (image_size (sizes_of l.sizes)) 0) (map (placed_symbol (λ (s : TableSymbol). s.initial)) (symbols_of_rows l.rows)))
+    ≡ with_all_bytes (sizes_of l.sizes) (replicate (image_size (sizes_of l.sizes)) 0)
+    (map (placed_symbol (λ (s : TableSymbol). s.initial)) (symbols_of_rows l.rows)))

@@ -6,7 +6,8 @@ pub returns-clause-turns : goal.returns-clause-turns
 returns-clause-turns g c = logs_turns _ _ _ _ (g.W.Wire.state c.args.wire.now) (g.W.Wire.state c.take_turns-ended.new.wire) _ _ c.take_turns-ended.ensures.serve
 
 pub returns-clause-offers : goal.returns-clause-offers
-returns-clause-offers g c = logs_offers _ _ _ _ (g.W.Wire.state c.args.wire.now) (g.W.Wire.state c.take_turns-ended.new.wire) _ _ c.take_turns-ended.ensures.serve
+returns-clause-offers g c =
+    logs_offers _ _ _ _ (g.W.Wire.state c.args.wire.now) (g.W.Wire.state c.take_turns-ended.new.wire) _ _ c.take_turns-ended.ensures.serve
 
 pub returns-clause-events : goal.returns-clause-events
 returns-clause-events g c = events_by _ _ _ _ (g.W.Wire.state c.args.wire.now) (g.W.Wire.state c.take_turns-ended.new.wire) _ _ c.take_turns-ended.ensures.serve
@@ -18,7 +19,9 @@ pub returns-clause-not_done : goal.returns-clause-not_done
 returns-clause-not_done g c = no_end _ _ _ _ (g.W.Wire.state c.args.wire.now) (g.W.Wire.state c.take_turns-ended.new.wire) _ _ c.take_turns-ended.ensures.serve
 
 pub returns-clause-link_fault : goal.returns-clause-link_fault
-returns-clause-link_fault g c = stops_rose _ _ _ _ (g.W.Wire.state c.args.wire.now) (g.W.Wire.state c.take_turns-ended.new.wire) _ _ c.take_turns-ended.ensures.serve
+returns-clause-link_fault g c =
+    stops_rose _ _ _ _ (g.W.Wire.state c.args.wire.now) (g.W.Wire.state c.take_turns-ended.new.wire) _ _ c.take_turns-ended.ensures.serve
 
 pub returns-clause-no_link_fault : goal.returns-clause-no_link_fault
-returns-clause-no_link_fault g c = no_stops _ _ _ _ (g.W.Wire.state c.args.wire.now) (g.W.Wire.state c.take_turns-ended.new.wire) _ _ c.take_turns-ended.ensures.serve
+returns-clause-no_link_fault g c =
+    no_stops _ _ _ _ (g.W.Wire.state c.args.wire.now) (g.W.Wire.state c.take_turns-ended.new.wire) _ _ c.take_turns-ended.ensures.serve

@@ -17,7 +17,8 @@ returns-in-LinkFault-clause-serve g c =
     let turns = c.loop-taken.invariant.turns in
     let kept = stops_kept _ _ _ _ _ _ _ turns in
     ends_before _ _ _ _ _ _ _ _ _ _ turns c.loop-taken-test.true c.in-LinkFault.ensures.turn.1
-    (stops_later (g.W.Wire.state c.args.wire.now) (g.W.Wire.state c.loop-taken.wire) (g.W.Wire.state c.turn.new.wire) kept c.loop-taken.invariant.later c.in-LinkFault.ensures.turn.0)
+    (stops_later (g.W.Wire.state c.args.wire.now) (g.W.Wire.state c.loop-taken.wire)
+    (g.W.Wire.state c.turn.new.wire) kept c.loop-taken.invariant.later c.in-LinkFault.ensures.turn.0)
 
 pub returns-in-Memory-clause-serve : goal.returns-in-Memory-clause-serve
 returns-in-Memory-clause-serve g c =

@@ -33,4 +33,5 @@ pub returns-in-Lost-clause-ok : goal.returns-in-Lost-clause-ok
 returns-in-Lost-clause-ok g c = leads_then _ _ _ _ _ _ _ _ 0 0 _ _ _ (begins_ends _ _) c.loop.invariant.led (rw c.in-Lost.is at c.in_ok-offer_one.ensures.ok)
 
 pub returns-in-Nothing-clause-ok : goal.returns-in-Nothing-clause-ok
-returns-in-Nothing-clause-ok g c = leads_then _ _ _ _ _ _ _ _ 0 0 _ _ _ (begins_all _ _) c.loop.invariant.led (rw c.in-Nothing.is at c.in_ok-offer_one.ensures.ok)
+returns-in-Nothing-clause-ok g c =
+    leads_then _ _ _ _ _ _ _ _ 0 0 _ _ _ (begins_all _ _) c.loop.invariant.led (rw c.in-Nothing.is at c.in_ok-offer_one.ensures.ok)

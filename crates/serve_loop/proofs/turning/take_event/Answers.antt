@@ -19,13 +19,15 @@ returns-in_err-numbers-clause-memory g c = on_err _ (inr c.in_err-numbers.ensure
 pub returns-in_err-serve_each-clause-no_memory : goal.returns-in_err-serve_each-clause-no_memory
 returns-in_err-serve_each-clause-no_memory g c =
     on_err _ (leads_from _ _ _ _ _ _ _ _ _ _
-    (λ y comes. c.in_ok-numbers.ensures.stays y (comes_to _ _ _ (g.M.Served.serves c.step.new.self) _ c.in_ok-step.ensures.follows y comes)) (λ y ms serves offers. offers) c.in_err-serve_each.ensures.no_memory)
+    (λ y comes. c.in_ok-numbers.ensures.stays y (comes_to _ _ _ (g.M.Served.serves c.step.new.self) _ c.in_ok-step.ensures.follows y comes))
+    (λ y ms serves offers. offers) c.in_err-serve_each.ensures.no_memory)
 
 pub returns-in_err-serve_each-clause-memory : goal.returns-in_err-serve_each-clause-memory
 returns-in_err-serve_each-clause-memory g c = on_err _ (inl c.in_err-serve_each.ensures.memory)
 
 pub returns-clause-ok : goal.returns-clause-ok
 returns-clause-ok g c =
-    leads_from _ _ _ _ _ _ _ _ _ _ (λ y comes. c.in_ok-numbers.ensures.stays y (comes_to _ _ _ (g.M.Served.serves c.step.new.self) _ c.in_ok-step.ensures.follows y comes))
+    leads_from _ _ _ _ _ _ _ _ _ _
+    (λ y comes. c.in_ok-numbers.ensures.stays y (comes_to _ _ _ (g.M.Served.serves c.step.new.self) _ c.in_ok-step.ensures.follows y comes))
     (λ y ms serves all. all (rw c.as_slice.ensures (c.in_ok-numbers.ensures.due y serves)) (g.met.M.Served.apart c.due.new.self y serves))
     c.in_ok-serve_each.ensures.ok

@@ -15,7 +15,8 @@ returns-in-Ok-clause-memory g c = λ is. absurd (event_is_told c.in-Event.event 
 
 pub returns-clause-memory : goal.returns-clause-memory
 returns-clause-memory g c = λ is.
-    wanting_later _ (g.W.Wire.state c.args.wire.now) (g.W.Wire.state c.next.new.self) (g.W.Wire.state c.take_event.new.wire) c.next.ensures.wanted c.in-Err.ensures.memory
+    wanting_later _ (g.W.Wire.state c.args.wire.now) (g.W.Wire.state c.next.new.self)
+    (g.W.Wire.state c.take_event.new.wire) c.next.ensures.wanted c.in-Err.ensures.memory
 
 pub returns-in-Ok-clause-turn : goal.returns-in-Ok-clause-turn
 returns-in-Ok-clause-turn g c =

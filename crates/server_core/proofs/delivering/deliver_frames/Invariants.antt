@@ -13,8 +13,10 @@ abbrev pub invariant-loop-note : goal.invariant-loop-note
 invariant-loop-note l = record {
   marks : l.waiting.blocked ≡ l.initial.waiting.blocked;
   fit : All IsNoteFrame (reverse l.initial.rest.items) → All IsNoteFrame (reverse l.rest.items);
-  delivers : (plant : Plant) (n : ℕ) (k : ServedConnection) → Stands plant (conn_of l.initial.turned (n, l.initial.waiting)) k → All IsNoteFrame (reverse l.initial.rest.items)
-      → DeliversSome plant (conn_of l.turned (n, l.waiting)) l.initial.summary l.summary (map produced_of (reverse l.initial.rest.items)) (map produced_of (reverse l.rest.items)) k;
+  delivers : (plant : Plant) (n : ℕ) (k : ServedConnection)
+      → Stands plant (conn_of l.initial.turned (n, l.initial.waiting)) k → All IsNoteFrame (reverse l.initial.rest.items)
+      → DeliversSome plant (conn_of l.turned (n, l.waiting)) l.initial.summary l.summary
+      (map produced_of (reverse l.initial.rest.items)) (map produced_of (reverse l.rest.items)) k;
 }
 
 abbrev pub decreases-loop-note : goal.decreases-loop-note

@@ -15,10 +15,12 @@ returns-in_ok-piece-in-Piece g c =
     let waves = g.S.Sources.waves c.args.signals.now in
     let old = view_of c.args.server.now in
     let new = view_of c.piece.new.self in
-    let follows = subst (λ bytes. (x : CoreState) → ServesEach old waves x → FollowsEach old new waves x (after_event x (event.Piece c.in-Piece.number bytes))) c.as_slice.ensures
+    let follows = subst (λ bytes. (x : CoreState) → ServesEach old waves x
+    → FollowsEach old new waves x (after_event x (event.Piece c.in-Piece.number bytes))) c.as_slice.ensures
     (c.in_ok-piece-in-Piece.ensures.follows waves) in
     subst (λ (e : Event). TakesEvent old new waves waves e Done) (sym c.in-Piece.is)
-    (takes_plain old new waves waves (event.Piece c.in-Piece.number c.in-Piece.bytes) (piece_plain c.in-Piece.number c.in-Piece.bytes) (λ x s opens. follows x s) c.piece.ensures.notes
+    (takes_plain old new waves waves (event.Piece c.in-Piece.number c.in-Piece.bytes)
+    (piece_plain c.in-Piece.number c.in-Piece.bytes) (λ x s opens. follows x s) c.piece.ensures.notes
     (event_some old new waves waves (event.Piece c.in-Piece.number c.in-Piece.bytes) c.requires follows))
 
 pub returns-in-Closed : goal.returns-in-Closed
@@ -38,7 +40,8 @@ returns-in-Writable g c =
     let new = view_of c.writable.new.self in
     let follows = c.writable.ensures.follows waves in
     subst (λ (e : Event). TakesEvent old new waves waves e Done) (sym c.in-Writable.is)
-    (takes_plain old new waves waves (event.Writable c.in-Writable.number) (writable_plain c.in-Writable.number) (λ x s opens. follows x s) c.writable.ensures.notes
+    (takes_plain old new waves waves (event.Writable c.in-Writable.number)
+    (writable_plain c.in-Writable.number) (λ x s opens. follows x s) c.writable.ensures.notes
     (event_some old new waves waves (event.Writable c.in-Writable.number) c.requires follows))
 
 pub returns-in_ok-tick-in-Tick : goal.returns-in_ok-tick-in-Tick
@@ -58,4 +61,5 @@ returns-in-Reload g c =
     let old = view_of c.args.server.now in
     let new = view_of c.reload.new.self in
     if_ok c.reload.result (λ outcome takes. subst (λ (e : Event). TakesEvent old new waves waves e outcome) (sym c.in-Reload.is)
-    (subst (λ (bytes : List ℕ). TakesEvent old new waves waves (event.Reload bytes) outcome) c.as_slice-in-Reload.ensures (takes waves c.requires))) c.reload.ensures
+    (subst (λ (bytes : List ℕ). TakesEvent old new waves waves (event.Reload bytes) outcome) c.as_slice-in-Reload.ensures (takes waves c.requires)))
+    c.reload.ensures

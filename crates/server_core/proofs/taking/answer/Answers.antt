@@ -23,7 +23,8 @@ returns-in_ok-reply-in-Answer-clause-goes c = λ n x held st is_open.
     (stands_after x.world x.connection.client packet c.take_in.new.self takes.stands) refl refl refl in
     let new = conn_of c.reply.new.turned (n, c.reply.new.waiting) in
     let k = with_client o.client x.connection in
-    goes_reply new device c.args.summary.now c.reply.new.summary packet c.in-Answer.frame x (subst (λ (t : Taken). IsAnswer o.answer t) c.in-Answer.is takes.answered)
+    goes_reply new device c.args.summary.now c.reply.new.summary packet c.in-Answer.frame x
+    (subst (λ (t : Taken). IsAnswer o.answer t) c.in-Answer.is takes.answered)
     (subst (λ (bytes : List ℕ). Produces x.world.plant new c.args.summary.now c.reply.new.summary (Reply bytes) k) c.as_slice.ensures
     (c.in_ok-reply-in-Answer.ensures.produces x.world.plant n k stands is_open))
     (held_after c.args.device.now device x.world x.connection.client packet held takes.held refl refl)

@@ -13,10 +13,12 @@ returns-in-Done-clause-produces c = λ plant n k s is_open.
       | inl over ↦ absurd (let both = sym c.in-Done.is ∙ c.in_ok-push.ensures.over.1 over in cc)
       | inr fits ↦ fits
     ] in
-    produces_fitting plant (conn_of c.args.turned.now (n, c.args.waiting.now)) _ c.args.summary.now c.count_reply.new.self k (Reply c.args.frame.now) s is_open room refl refl
+    produces_fitting plant (conn_of c.args.turned.now (n, c.args.waiting.now)) _
+    c.args.summary.now c.count_reply.new.self k (Reply c.args.frame.now) s is_open room refl refl
     (c.in_ok-push.ensures.done (ap (λ p. Ok p) c.in-Done.is)) refl c.requires c.count_reply.ensures
 
 pub returns-in-Over-clause-produces : goal.returns-in-Over-clause-produces
 returns-in-Over-clause-produces c = λ plant n k s is_open.
-    produces_over plant (conn_of c.args.turned.now (n, c.args.waiting.now)) _ c.args.summary.now k (Reply c.args.frame.now) s is_open (c.in_ok-push.ensures.over.0 c.in-Over.is) refl refl
+    produces_over plant (conn_of c.args.turned.now (n, c.args.waiting.now)) _ c.args.summary.now k
+    (Reply c.args.frame.now) s is_open (c.in_ok-push.ensures.over.0 c.in-Over.is) refl refl
     (c.in_ok-push.ensures.unchanged (ap (λ p. Ok p) c.in-Over.is)) refl

@@ -5,7 +5,8 @@ use Rattle.server_core.specs.Conns.{conn_of}
 use Rattle.server_core.specs.ConnStands.{Stands, history_of, Goes}
 use Rattle.server_core.specs.Taking.{settled, Takes}
 use Rattle.server_core.proofs.CountLemmas.{same_counts}
-use Rattle.server_core.proofs.TakingLemmas.{none_taken, takes_more, takes_all, then_goes, goes_still, fed, after_piece-closing, after_piece-settled, kept_client}
+use Rattle.server_core.proofs.TakingLemmas.{none_taken, takes_more, takes_all, then_goes, goes_still, fed}
+use Rattle.server_core.proofs.TakingLemmas.{after_piece-closing, after_piece-settled, kept_client}
 use Rattle.server_core.proofs.taking.take_piece.Goals as goal
 
 pub returns-then-turned-clause-goes : goal.returns-then-turned-clause-goes
@@ -23,7 +24,8 @@ loop-init c = record {
     world = (c.requires c.if-turned.false).world;
     client = (c.requires c.if-turned.false).client;
     held = (c.requires c.if-turned.false).held;
-    stands = kept_client (c.requires c.if-turned.false).world.plant (c.requires c.if-turned.false).client c.args.turned.now.session c.feed.new.self c.feed.ensures.keeps
+    stands = kept_client (c.requires c.if-turned.false).world.plant
+        (c.requires c.if-turned.false).client c.args.turned.now.session c.feed.new.self c.feed.ensures.keeps
         (c.requires c.if-turned.false).stands;
   };
   takes = λ n x held s is_open. none_taken _ c.args.device.now c.args.summary.now x held s is_open;
@@ -42,9 +44,12 @@ loop-preserved c = record {
   takes = λ n x held s is_open.
       let first = c.loop.invariant.takes n x held s is_open in
       let plant = first.goes.plant in
-      let more = c.in_ok-take_next.ensures.takes n first.next first.goes.holds (subst (λ p. Stands p (conn_of c.loop.turned (n, c.loop.waiting)) first.next.connection) (sym plant) first.goes.stands) first.is_open in
-      takes_more (conn_of c.loop.turned (n, c.loop.waiting)) _ c.loop.device c.take_next.new.device c.args.summary.now c.loop.summary c.take_next.new.summary x first
-      (subst (λ b. Takes b (conn_of c.take_next.new.turned (n, c.take_next.new.waiting)) c.take_next.new.device c.loop.summary c.take_next.new.summary first.next) c.if-branch.true more);
+      let more = c.in_ok-take_next.ensures.takes n first.next first.goes.holds
+      (subst (λ p. Stands p (conn_of c.loop.turned (n, c.loop.waiting)) first.next.connection) (sym plant) first.goes.stands) first.is_open in
+      takes_more (conn_of c.loop.turned (n, c.loop.waiting)) _ c.loop.device
+      c.take_next.new.device c.args.summary.now c.loop.summary c.take_next.new.summary x first
+      (subst (λ b. Takes b (conn_of c.take_next.new.turned (n, c.take_next.new.waiting))
+      c.take_next.new.device c.loop.summary c.take_next.new.summary first.next) c.if-branch.true more);
 }
 
 pub returns-clause-goes : goal.returns-clause-goes
@@ -56,10 +61,13 @@ returns-clause-goes c = λ n x held s there.
     let e = c.take_next.new.device in
     let piece = c.args.bytes.now in
     let is_open = sym s.closing ∙ c.if-turned.false in
-    let come = fed conn mid d c.args.summary.now x piece held s (c.in_ok-feed.ensures.ok (history_of conn x.connection) s.stream) c.feed.ensures.keeps refl refl refl in
+    let come = fed conn mid d c.args.summary.now x piece held s
+    (c.in_ok-feed.ensures.ok (history_of conn x.connection) s.stream) c.feed.ensures.keeps refl refl refl in
     let first = c.loop.invariant.takes n (with_piece piece x) held come.stands is_open in
-    let last = c.in_ok-take_next.ensures.takes n first.next first.goes.holds (subst (λ p. Stands p (conn_of c.loop.turned (n, c.loop.waiting)) first.next.connection) (sym first.goes.plant) first.goes.stands) first.is_open in
-    let all = takes_all (conn_of c.loop.turned (n, c.loop.waiting)) new c.loop.device e c.args.summary.now c.loop.summary c.take_next.new.summary (with_piece piece x) first
+    let last = c.in_ok-take_next.ensures.takes n first.next first.goes.holds
+    (subst (λ p. Stands p (conn_of c.loop.turned (n, c.loop.waiting)) first.next.connection) (sym first.goes.plant) first.goes.stands) first.is_open in
+    let all = takes_all (conn_of c.loop.turned (n, c.loop.waiting)) new c.loop.device e
+    c.args.summary.now c.loop.summary c.take_next.new.summary (with_piece piece x) first
     (subst (λ b. Takes b new e c.loop.summary c.take_next.new.summary first.next) c.if-branch.false last) in
     subst (λ (z : ServedExchange). Goes new e c.args.summary.now c.take_next.new.summary x z) (after_piece-settled piece x is_open there)
     (then_goes mid new d e c.args.summary.now c.args.summary.now c.take_next.new.summary x (with_piece piece x) (settled (with_piece piece x)) come all)

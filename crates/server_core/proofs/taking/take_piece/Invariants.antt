@@ -11,7 +11,8 @@ invariant-loop l = record {
   marks : l.waiting.blocked ≡ l.initial.waiting.blocked;
   device : KeepsDevice l.initial.device l.device;
   connected : IsConnected l.device l.turned.session;
-  takes : (n : ℕ) (x : ServedExchange) → HoldsWorld l.initial.device x.world → Stands x.world.plant (conn_of l.initial.turned (n, l.initial.waiting)) x.connection
+  takes : (n : ℕ) (x : ServedExchange) → HoldsWorld l.initial.device x.world
+      → Stands x.world.plant (conn_of l.initial.turned (n, l.initial.waiting)) x.connection
       → x.connection.closing ≡ false → TakesSome (conn_of l.turned (n, l.waiting)) l.device l.initial.summary l.summary x;
 }
 

@@ -30,7 +30,8 @@ loop-i-preserved c =
       many = length-set list i new ∙ inv.many;
       others = λ k d at. get_or-set_other list i k new d (λ e. absurd (omega (arith, at, e))) ∙ inv.others k d (omega (arith, at));
       asked = λ w v held net.
-          asked_more (λ (a : Turned) (b : Turned). IsAsked w.plant v.plant (client_reloaded c.args.time w v) a b) c.args.list.now list i new (omega (arith, inv.many))
+          asked_more (λ (a : Turned) (b : Turned). IsAsked w.plant v.plant (client_reloaded c.args.time w v) a b)
+          c.args.list.now list i new (omega (arith, inv.many))
           (λ d. subst (λ (a : Turned). IsAsked w.plant v.plant (client_reloaded c.args.time w v) a new)
           (get_or_default list i t d (omega (arith, inv.many)) ∙ inv.others i d (omega arith)) (c.in_ok-tell_one.ensures w v held net))
           (inv.asked w v held net);
@@ -39,4 +40,5 @@ loop-i-preserved c =
 pub returns : goal.returns
 returns c = λ w v held net.
     let inv = c.loop-i.invariant in
-    each_asked w.plant v.plant (client_reloaded c.args.time w v) c.args.list.now c.loop-i.list inv.many (λ k d below. inv.asked w v held net k d (omega (arith, below)))
+    each_asked w.plant v.plant (client_reloaded c.args.time w v) c.args.list.now c.loop-i.list inv.many
+    (λ k d below. inv.asked w v held net k d (omega (arith, below)))

@@ -11,5 +11,6 @@ returns-clause-frame c =
     let header : c.put.new.out ≡ header_bytes (response_header (ams_header_of c.args.h.now) c.args.error (length c.args.out - 38)) =
     c.put.ensures ∙ ap header_bytes (c.answer_of.ensures ∙ ap (λ n. response_header (ams_header_of c.args.h.now) c.args.error (n - 38)) c.len-total.ensures) in
     let long : length c.put.new.out ≡ 32 = search rules in
-    framed-is (ams_header_of c.args.h.now) c.args.error c.args.out c.write_at.new.out c.write_at-2.new.out c.write_at-3.new.out (0 ∷ 0 ∷ []) c.to_le_bytes.result
+    framed-is (ams_header_of c.args.h.now) c.args.error c.args.out c.write_at.new.out
+    c.write_at-2.new.out c.write_at-3.new.out (0 ∷ 0 ∷ []) c.to_le_bytes.result
     c.put.new.out c.requires refl le header long c.write_at.ensures c.write_at-2.ensures c.write_at-3.ensures

@@ -21,7 +21,8 @@ returns-then-len-lt4-clause-answer c = λ a asks.
 
 pub returns-then-len-lt4-clause-leaves : goal.returns-then-len-lt4-clause-leaves
 returns-then-len-lt4-clause-leaves c = λ a asks.
-    refused-leaves a (handle_act a c.args.len c.args.name.now) _ c.args.port.now c.args.handles.now (short-handle a c.args.len c.args.name.now c.if-len-lt4.true) asks
+    refused-leaves a (handle_act a c.args.len c.args.name.now) _ c.args.port.now c.args.handles.now
+    (short-handle a c.args.len c.args.name.now c.if-len-lt4.true) asks
 
 pub returns-in-Err-clause-answer : goal.returns-in-Err-clause-answer
 returns-in-Err-clause-answer c = λ a asks.

@@ -10,7 +10,8 @@ pub returns-in_ok-put32-in-Ok-clause-answer : goal.returns-in_ok-put32-in-Ok-cla
 returns-in_ok-put32-in-Ok-clause-answer c = λ port number a named asks is_named.
     grant-answers a port c.args.handles.now named c.in-Ok.handle _ _ asks
     (said-not-full c.in_ok-handle.field-0 c.in-Ok.handle c.args.handles.now c.in-Ok.is c.in_ok-handle.ensures.full)
-    (given (λ n. n ≡ c.args.handles.now.granted + 1) c.in_ok-handle.field-0 c.in-Ok.handle c.in-Ok.is c.in_ok-handle.ensures.number) c.in_ok-put32-in-Ok.ensures.ok
+    (given (λ n. n ≡ c.args.handles.now.granted + 1) c.in_ok-handle.field-0 c.in-Ok.handle c.in-Ok.is c.in_ok-handle.ensures.number)
+    c.in_ok-put32-in-Ok.ensures.ok
 
 pub returns-in_ok-put32-in-Ok-clause-leaves : goal.returns-in_ok-put32-in-Ok-clause-leaves
 returns-in_ok-put32-in-Ok-clause-leaves c = λ port number a named asks is_named.

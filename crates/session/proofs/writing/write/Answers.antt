@@ -9,7 +9,8 @@ use Rattle.session.proofs.writing.write.Goals as goal
 pub returns-then-is_release-clause-ends : goal.returns-then-is_release-clause-ends
 returns-then-is_release-clause-ends c = λ a asks asker.
     ends-along a (release_act a.client a.asker.port c.args.bytes.now) (act_asked a (Write c.args.group c.args.offset c.args.bytes.now)) _ _ _
-    (write-releases a c.args.group c.args.offset c.args.bytes.now (sym c.if-is_release.ensures)) (c.release.ensures.ends a c.args.port.now c.requires.number asks)
+    (write-releases a c.args.group c.args.offset c.args.bytes.now (sym c.if-is_release.ensures))
+    (c.release.ensures.ends a c.args.port.now c.requires.number asks)
 
 pub returns-then-is_value_by_handle-clause-ends : goal.returns-then-is_value_by_handle-clause-ends
 returns-then-is_value_by_handle-clause-ends c = λ a asks asker.

@@ -11,10 +11,12 @@ use Rattle.stored_values.proofs.symbols.store_symbols.Goals as goal
 
 pub store_symbol-requires-clause-sized : goal.store_symbol-requires-clause-sized
 store_symbol-requires-clause-sized c =
-    next_holds (λ (s : Symbol). IsSized (types_of c.args.types.now) s.shape) symbol_of (symbol_with_stored (map entry_meant c.args.entries.now) (types_of c.args.types.now) c.args.port)
+    next_holds (λ (s : Symbol). IsSized (types_of c.args.types.now) s.shape) symbol_of
+    (symbol_with_stored (map entry_meant c.args.entries.now) (types_of c.args.types.now) c.args.port)
     c.args.symbols.now c.loop-symbol.symbols c.loop-symbol.symbol-index c.symbol-item.result c.loop-symbol-test.true c.loop-symbol.invariant c.requires.sized
 
 pub loop-symbol-preserved : goal.loop-symbol-preserved
 loop-symbol-preserved c =
     turn_mapped symbol_of (symbol_with_stored (map entry_meant c.args.entries.now) (types_of c.args.types.now) c.args.port)
-    c.args.symbols.now c.loop-symbol.symbols c.loop-symbol.symbol-index c.symbol-item.result c.store_symbol.new.symbol c.loop-symbol-test.true c.loop-symbol.invariant c.in_ok-store_symbol.ensures
+    c.args.symbols.now c.loop-symbol.symbols c.loop-symbol.symbol-index c.symbol-item.result
+    c.store_symbol.new.symbol c.loop-symbol-test.true c.loop-symbol.invariant c.in_ok-store_symbol.ensures

@@ -10,5 +10,6 @@ returns-clause-held c =
     let e : Entry = record { handle = c.args.handle; key = c.in_ok-key.key } in
     let items = c.push_reserved.ensures.items ∙ ap (λ (es : List Entry). es ++ e ∷ []) c.in_ok-reserve.ensures.items in
     ap (all_held c.insert.new.self.slots) items
-    ∙ all_held-added c.args.records.now.slots c.insert.new.self.slots c.args.entries.now.items e c.args.granted c.requires.index c.in_ok-key.ensures.was_vacant c.in_ok-key.ensures.updates.changed
+    ∙ all_held-added c.args.records.now.slots c.insert.new.self.slots c.args.entries.now.items e
+    c.args.granted c.requires.index c.in_ok-key.ensures.was_vacant c.in_ok-key.ensures.updates.changed
     c.in_ok-key.ensures.updates.others

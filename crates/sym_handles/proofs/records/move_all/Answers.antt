@@ -27,12 +27,15 @@ loop-entry-preserved c =
     let i = c.loop-entry.entry-index in
     let d : Entry = record { handle = 0; key = 0 } in
     let entries = c.args.entries.now in
-    let more = moved_more c.args.moves.now entries old c.loop-entry.records.slots new i c.loop-entry.live d c.requires.index c.loop-entry.invariant c.loop-entry-test.true
+    let more = moved_more c.args.moves.now entries old c.loop-entry.records.slots new i
+    c.loop-entry.live d c.requires.index c.loop-entry.invariant c.loop-entry-test.true
     c.move_record-live.ensures.moved.changed c.move_record-live.ensures.moved.others c.move_record-live.ensures.no_more in
     subst (λ (n : ℕ). HasMoved c.args.moves.now entries old new (i + 1) (c.loop-entry.live + n)) (sym c.move_record-live.ensures.live) more
 
 pub returns-clause-held : goal.returns-clause-held
-returns-clause-held c = moved_all c.args.moves.now c.args.entries.now c.args.records.now.slots c.loop-entry.records.slots c.loop-entry.entry-index c.loop-entry.live c.loop-entry-test.false c.loop-entry.invariant
+returns-clause-held c = moved_all c.args.moves.now c.args.entries.now c.args.records.now.slots
+    c.loop-entry.records.slots c.loop-entry.entry-index c.loop-entry.live c.loop-entry-test.false c.loop-entry.invariant
 
 pub returns-clause-live : goal.returns-clause-live
-returns-clause-live c = live_all c.args.moves.now c.args.entries.now c.args.records.now.slots c.loop-entry.records.slots c.loop-entry.entry-index c.loop-entry.live c.loop-entry-test.false c.loop-entry.invariant
+returns-clause-live c = live_all c.args.moves.now c.args.entries.now c.args.records.now.slots
+    c.loop-entry.records.slots c.loop-entry.entry-index c.loop-entry.live c.loop-entry-test.false c.loop-entry.invariant

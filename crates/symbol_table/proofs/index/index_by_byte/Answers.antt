@@ -25,7 +25,8 @@ loop-entry-preserved c =
           let any : has_any_byte first ≡ true = lt-ltb 0 first.from.len w.if-e-gt0.true in
           let more = ranks_more rank_by_byte has_any_byte kept i w.rank_of_byte-rank.result c.loop-entry.ranked.items c.loop-entry.invariant inside
           (λ d. ap has_any_byte (same d) ∙ any) (λ d. w.rank_of_byte-rank.ensures ∙ ap rank_by_byte (sym (same d))) in
-          subst (λ (xs : List Ranked). RanksFirst rank_by_byte has_any_byte kept (i + 1) xs) (sym (ap (λ (v : Vec Ranked). v.items) w.ranked-is ∙ w.in_ok-push.ensures.items)) more
+          subst (λ (xs : List Ranked). RanksFirst rank_by_byte has_any_byte kept (i + 1) xs)
+          (sym (ap (λ (v : Vec Ranked). v.items) w.ranked-is ∙ w.in_ok-push.ensures.items)) more
       | else-e-gt0 w ↦
           let none : has_any_byte first ≡ false = le-ltb 0 first.from.len w.if-e-gt0.false in
           let past = ranks_past rank_by_byte has_any_byte kept i c.loop-entry.ranked.items c.loop-entry.invariant (λ d. ap has_any_byte (same d) ∙ none) in

@@ -8,7 +8,8 @@ use Rattle.symbol_table.proofs.index.index_by_symbol.Goals as goal
 
 pub loop-entry-preserved : goal.loop-entry-preserved
 loop-entry-preserved c =
-    let more = ranks_more rank_by_symbol is_any c.args.kept.now c.loop-entry.entry c.rank_of_symbol-rank.result c.loop-entry.ranked.items c.loop-entry.invariant c.loop-entry-test.true
+    let more = ranks_more rank_by_symbol is_any c.args.kept.now c.loop-entry.entry
+    c.rank_of_symbol-rank.result c.loop-entry.ranked.items c.loop-entry.invariant c.loop-entry-test.true
     (λ d. refl) (λ d. c.rank_of_symbol-rank.ensures ∙ ap rank_by_symbol (get_or_default c.args.kept.now c.loop-entry.entry _ d c.loop-entry-test.true)) in
     subst (λ (xs : List Ranked). RanksFirst rank_by_symbol is_any c.args.kept.now (c.loop-entry.entry + 1) xs) (sym c.in_ok-push.ensures.items) more
 

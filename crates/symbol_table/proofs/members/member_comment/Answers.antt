@@ -13,4 +13,5 @@ returns-in-None c = sym (no_comment_told (member_of (tree_of (types_of c.args.ty
 
 pub returns-in-Some : goal.returns-in-Some
 returns-in-Some c =
-    c.as_slice.ensures ∙ comment_told (text_of_declared c.in-Some.member.now) (member_of (tree_of (types_of c.args.types.now) (shape_of_ref c.args.kind)) c.args.name.now) c.in-Some.ensures
+    c.as_slice.ensures ∙ comment_told (text_of_declared c.in-Some.member.now)
+    (member_of (tree_of (types_of c.args.types.now) (shape_of_ref c.args.kind)) c.args.name.now) c.in-Some.ensures

@@ -10,7 +10,8 @@ returns-then-is_same_name c =
     let members = c.as_slice-member-items.result.now in
     let i = c.loop-member.member-index in
     let same : bytes_eq (lower c.member-item.result.name) (lower c.args.name.now) ≡ true = search rules in
-    let whole = text_in c.args.types.now c.args.place c.index-types-place.result c.in-Struct.structure members c.args.name.now c.requires.types c.requires.there c.index-types-place.is c.in-Struct.is c.as_slice-member-items.ensures in
+    let whole = text_in c.args.types.now c.args.place c.index-types-place.result c.in-Struct.structure members
+    c.args.name.now c.requires.types c.requires.there c.index-types-place.is c.in-Struct.is c.as_slice-member-items.ensures in
     let found = among_found members i c.member-item.result c.args.name.now c.loop-member-test.true c.member-item.is same in
     sym (whole ∙ c.loop-member.invariant ∙ found)
 
@@ -24,6 +25,7 @@ loop-member-preserved c =
 pub returns : goal.returns
 returns c =
     let members = c.as_slice-member-items.result.now in
-    let whole = text_in c.args.types.now c.args.place c.index-types-place.result c.in-Struct.structure members c.args.name.now c.requires.types c.requires.there c.index-types-place.is c.in-Struct.is c.as_slice-member-items.ensures in
+    let whole = text_in c.args.types.now c.args.place c.index-types-place.result c.in-Struct.structure members
+    c.args.name.now c.requires.types c.requires.there c.index-types-place.is c.in-Struct.is c.as_slice-member-items.ensures in
     let missing = among_missing members c.loop-member.member-index c.args.name.now c.loop-member-test.false in
     sym (whole ∙ c.loop-member.invariant ∙ missing)

@@ -8,7 +8,8 @@ use Rattle.symbol_table.proofs.ranges.ended.Goals as goal
 
 pub returns-then-begun-eq0 : goal.returns-then-begun-eq0
 returns-then-begun-eq0 c =
-    ended_none (symbols_of_rows c.args.rows.now) c.args.numbers.now (area_of c.args.area) c.args.«at» c.requires c.begun-begun.result c.begun-begun.ensures c.if-begun-eq0.true
+    ended_none (symbols_of_rows c.args.rows.now) c.args.numbers.now (area_of c.args.area)
+    c.args.«at» c.requires c.begun-begun.result c.begun-begun.ensures c.if-begun-eq0.true
 
 pub returns-then-covers : goal.returns-then-covers
 returns-then-covers c =
@@ -18,7 +19,8 @@ returns-then-covers c =
     let below : begun - 1 < length numbers = omega (arith, some, within) in
     let row = c.index-rows-numbers.result in
     let stands = stands_at rows numbers (begun - 1) row c.requires.each below c.index-rows-numbers.is in
-    ended_but_last (symbols_of_rows rows) numbers (area_of c.args.area) c.args.«at» c.requires begun c.begun-begun.ensures (get_or numbers (begun - 1) 0) (symbol_of_row row)
+    ended_but_last (symbols_of_rows rows) numbers (area_of c.args.area) c.args.«at»
+    c.requires begun c.begun-begun.ensures (get_or numbers (begun - 1) 0) (symbol_of_row row)
     (omega (arith, some)) stands.listed stands.there (sym c.covers.ensures ∙ c.if-covers.true)
 
 pub returns-else-covers : goal.returns-else-covers
@@ -29,5 +31,6 @@ returns-else-covers c =
     let below : begun - 1 < length numbers = omega (arith, some, within) in
     let row = c.index-rows-numbers.result in
     let stands = stands_at rows numbers (begun - 1) row c.requires.each below c.index-rows-numbers.is in
-    ended_all (symbols_of_rows rows) numbers (area_of c.args.area) c.args.«at» c.requires begun c.begun-begun.ensures (get_or numbers (begun - 1) 0) (symbol_of_row row)
+    ended_all (symbols_of_rows rows) numbers (area_of c.args.area) c.args.«at» c.requires
+    begun c.begun-begun.ensures (get_or numbers (begun - 1) 0) (symbol_of_row row)
     (omega (arith, some)) stands.listed stands.there (sym c.covers.ensures ∙ c.if-covers.false)

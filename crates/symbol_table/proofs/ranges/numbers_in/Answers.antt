@@ -12,13 +12,15 @@ returns-then-len-eq0 c = rw c.if-len-eq0.true (none_in_range (symbols_of_rows c.
 -- what has begun by the last byte is no less than what has ended by the first
 pub slice_bounds-result-count : goal.slice_bounds-result-count
 slice_bounds-result-count c =
-    let ordered = range_ordered (symbols_of_rows c.args.rows.now) c.args.numbers.now (area_of c.args.area) c.args.«at» c.args.len c.requires.order c.requires.bytes
+    let ordered = range_ordered (symbols_of_rows c.args.rows.now) c.args.numbers.now
+    (area_of c.args.area) c.args.«at» c.args.len c.requires.order c.requires.bytes
     (omega arith) c.ended-first.result c.begun-until.result c.ended-first.ensures c.begun-until.ensures in
     omega (arith, ordered)
 
 pub slice_bounds-result-start : goal.slice_bounds-result-start
 slice_bounds-result-start c =
-    let ordered = range_ordered (symbols_of_rows c.args.rows.now) c.args.numbers.now (area_of c.args.area) c.args.«at» c.args.len c.requires.order c.requires.bytes
+    let ordered = range_ordered (symbols_of_rows c.args.rows.now) c.args.numbers.now
+    (area_of c.args.area) c.args.«at» c.args.len c.requires.order c.requires.bytes
     (omega arith) c.ended-first.result c.begun-until.result c.ended-first.ensures c.begun-until.ensures in
     omega (arith, ordered)
 

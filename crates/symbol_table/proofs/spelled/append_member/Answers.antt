@@ -16,7 +16,9 @@ returns-in-None-clause-ok c =
 
 pub returns-in-Some-clause-ok : goal.returns-in-Some-clause-ok
 returns-in-Some-clause-ok c =
-    let told = name_told (text_of_declared c.in-Some.member.now) (member_of (tree_of (types_of c.args.types.now) (shape_of_ref c.args.kind)) c.args.name.now) c.in-Some.ensures in
-    let whole : c.args.out.now ++ 46 ∷ c.as_slice.result.now ≡ c.args.out.now ++ text_of_member (member_of (tree_of (types_of c.args.types.now) (shape_of_ref c.args.kind)) c.args.name.now)
+    let told = name_told (text_of_declared c.in-Some.member.now)
+    (member_of (tree_of (types_of c.args.types.now) (shape_of_ref c.args.kind)) c.args.name.now) c.in-Some.ensures in
+    let whole : c.args.out.now ++ 46 ∷ c.as_slice.result.now ≡ c.args.out.now
+    ++ text_of_member (member_of (tree_of (types_of c.args.types.now) (shape_of_ref c.args.kind)) c.args.name.now)
     = ap (λ name. c.args.out.now ++ 46 ∷ name) c.as_slice.ensures ∙ ap (λ text. c.args.out.now ++ text) told in
     rw whole at c.append_dotted.ensures.ok

@@ -16,7 +16,8 @@ loop-low-preserved-then-begins_by c =
     let row = c.index-rows-numbers.result in
     let below : middle < length numbers = omega (arith, test, within) in
     let stands = stands_at rows numbers middle row c.requires.each below c.index-rows-numbers.is in
-    halved_up (symbols_of_rows rows) numbers (area_of c.args.area) c.args.«at» c.requires low high middle (get_or numbers middle 0) (symbol_of_row row) c.loop-low.invariant
+    halved_up (symbols_of_rows rows) numbers (area_of c.args.area) c.args.«at» c.requires low high middle
+    (get_or numbers middle 0) (symbol_of_row row) c.loop-low.invariant
     (omega arith) (omega arith) stands.listed stands.there (sym c.begins_by.ensures ∙ c.if-begins_by.true)
 
 pub loop-low-preserved : goal.loop-low-preserved
@@ -29,7 +30,8 @@ loop-low-preserved c =
     let row = c.index-rows-numbers.result in
     let below : middle < length numbers = omega (arith, test, within) in
     let stands = stands_at rows numbers middle row c.requires.each below c.index-rows-numbers.is in
-    halved_down (symbols_of_rows rows) numbers (area_of c.args.area) c.args.«at» c.requires low high middle (get_or numbers middle 0) (symbol_of_row row) c.loop-low.invariant
+    halved_down (symbols_of_rows rows) numbers (area_of c.args.area) c.args.«at» c.requires low high middle
+    (get_or numbers middle 0) (symbol_of_row row) c.loop-low.invariant
     (omega arith) (omega arith) stands.listed stands.there (sym c.begins_by.ensures ∙ c.if-begins_by.false)
 
 pub returns : goal.returns

@@ -8,7 +8,8 @@ use Rattle.symbol_table.proofs.tiling.first_behind.Goals as goal
 
 pub returns-then-begun-numbers-clause-none : goal.returns-then-begun-numbers-clause-none
 returns-then-begun-numbers-clause-none c =
-    all_begun (symbols_of_rows c.args.rows.now) c.args.numbers.now (area_of c.args.area) c.args.«at» c.requires.order c.args.begun c.requires.begun c.if-begun-numbers.true
+    all_begun (symbols_of_rows c.args.rows.now) c.args.numbers.now (area_of c.args.area)
+    c.args.«at» c.requires.order c.args.begun c.requires.begun c.if-begun-numbers.true
 
 pub returns-then-is_same_area-clause-some : goal.returns-then-is_same_area-clause-some
 returns-then-is_same_area-clause-some c =
@@ -18,7 +19,8 @@ returns-then-is_same_area-clause-some c =
     let below : c.args.begun < length numbers = omega (arith, some, within) in
     let row = c.index-rows-numbers.result in
     let stands = stands_at rows numbers c.args.begun row c.requires.order.each below c.index-rows-numbers.is in
-    begins_first (symbols_of_rows rows) numbers (area_of c.args.area) c.args.«at» c.requires.order c.args.begun c.requires.begun (get_or numbers c.args.begun 0) (symbol_of_row row)
+    begins_first (symbols_of_rows rows) numbers (area_of c.args.area) c.args.«at» c.requires.order
+    c.args.begun c.requires.begun (get_or numbers c.args.begun 0) (symbol_of_row row)
     stands.listed stands.there (sym c.is_same_area.ensures ∙ c.if-is_same_area.true)
 
 pub returns-else-is_same_area-clause-none : goal.returns-else-is_same_area-clause-none
@@ -29,5 +31,6 @@ returns-else-is_same_area-clause-none c =
     let below : c.args.begun < length numbers = omega (arith, some, within) in
     let row = c.index-rows-numbers.result in
     let stands = stands_at rows numbers c.args.begun row c.requires.order.each below c.index-rows-numbers.is in
-    none_behind (symbols_of_rows rows) numbers (area_of c.args.area) c.args.«at» c.requires.order c.args.begun c.requires.begun (get_or numbers c.args.begun 0) (symbol_of_row row)
+    none_behind (symbols_of_rows rows) numbers (area_of c.args.area) c.args.«at» c.requires.order
+    c.args.begun c.requires.begun (get_or numbers c.args.begun 0) (symbol_of_row row)
     stands.listed stands.there (sym c.is_same_area.ensures ∙ c.if-is_same_area.false)

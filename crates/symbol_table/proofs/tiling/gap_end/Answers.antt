@@ -6,4 +6,5 @@ use Rattle.symbol_table.proofs.tiling.gap_end.Goals as goal
 
 pub returns-in-Some : goal.returns-in-Some
 returns-in-Some c =
-    ends_first (symbols_of_rows c.args.rows.now) (area_of c.args.area) c.args.«at» c.args.size c.in-Some.start c.requires.bytes c.requires.within c.in-Some.ensures.some
+    ends_first (symbols_of_rows c.args.rows.now) (area_of c.args.area) c.args.«at»
+    c.args.size c.in-Some.start c.requires.bytes c.requires.within c.in-Some.ensures.some

@@ -6,4 +6,5 @@ use Rattle.symbol_table.proofs.tiling.gap_from.Goals as goal
 
 pub returns : goal.returns
 returns c =
-    is_gap (symbols_of_rows c.args.rows.now) (area_of c.args.area) c.args.size c.args.«at» c.args.first c.gap_end-end.result c.requires.starts c.gap_end-end.ensures
+    is_gap (symbols_of_rows c.args.rows.now) (area_of c.args.area) c.args.size
+    c.args.«at» c.args.first c.gap_end-end.result c.requires.starts c.gap_end-end.ensures

@@ -6,4 +6,5 @@ use Rattle.symbol_table.proofs.tiling.tile_within.Goals as goal
 
 pub gap_from-requires-else-at-end-clause-starts : goal.gap_from-requires-else-at-end-clause-starts
 gap_from-requires-else-at-end-clause-starts c =
-    starts_last (symbols_of_rows c.args.rows.now) (area_of c.args.area) c.args.«at» (c.in-Some.number, c.in-Some.end) c.requires.bytes c.in-Some.ensures.some c.if-at-end.false
+    starts_last (symbols_of_rows c.args.rows.now) (area_of c.args.area) c.args.«at»
+    (c.in-Some.number, c.in-Some.end) c.requires.bytes c.in-Some.ensures.some c.if-at-end.false

@@ -20,7 +20,8 @@ loop-place-preserved c =
     let count = length-map c.args.types.now named_type_of in
     let below : c.loop-place.place < length types = omega (arith, count) in
     let grown : c.push.new.self.items ≡ c.loop-place.each.items ++ c.extent_at-extent.result ∷ [] = search rules in
-    grown ∙ ap (λ es. es ++ c.extent_at-extent.result ∷ []) c.loop-place.invariant ∙ sym (extents_more types c.loop-place.place c.extent_at-extent.result below c.extent_at-extent.ensures)
+    grown ∙ ap (λ es. es ++ c.extent_at-extent.result ∷ []) c.loop-place.invariant
+    ∙ sym (extents_more types c.loop-place.place c.extent_at-extent.result below c.extent_at-extent.ensures)
 
 pub returns : goal.returns
 returns c =

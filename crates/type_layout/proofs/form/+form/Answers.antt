@@ -21,13 +21,16 @@ structure_form-append_form-requires t c =
 
 pub structure_form-loop-member-preserved : goal.structure_form-loop-member-preserved
 structure_form-loop-member-preserved t c =
-    let turn = form_turn c.args.types.now c.as_slice-members.result.now c.loop-member.member-index c.member-item.result c.loop-member-test.true c.member-item.is in
+    let turn = form_turn c.args.types.now c.as_slice-members.result.now
+    c.loop-member.member-index c.member-item.result c.loop-member-test.true c.member-item.is in
     let form = form_of (tree_of (types_of c.args.types.now) (shape_of c.member-item.result.kind)) in
     let written : c.append_form.new.out ≡ c.put_lower-in-loop-member.new.out ++ form = rw c.as_ref.ensures at c.in_ok-append_form.ensures in
     let rest = members_form (left_at c.args.types.now c.as_slice-members.result.now (c.loop-member.member-index + 1)) in
-    rw (c.in_ok-push.ensures.ok, written, c.in_ok-put_lower-2.ensures, c.as_slice-in-loop-member.ensures) (joins c.loop-member.out (lower c.member-item.result.name) form rest ∙ ap (λ more. c.loop-member.out ++ more) (sym turn) ∙ c.loop-member.invariant)
+    rw (c.in_ok-push.ensures.ok, written, c.in_ok-put_lower-2.ensures, c.as_slice-in-loop-member.ensures)
+    (joins c.loop-member.out (lower c.member-item.result.name) form rest ∙ ap (λ more. c.loop-member.out ++ more) (sym turn) ∙ c.loop-member.invariant)
   where
-    joins : (out name form rest : List ℕ) → (((out ++ (name ++ codes ":")) ++ form) ++ codes ";") ++ rest ≡ out ++ (name ++ codes ":" ++ form ++ codes ";" ++ rest)
+    joins : (out name form rest : List ℕ)
+        → (((out ++ (name ++ codes ":")) ++ form) ++ codes ";") ++ rest ≡ out ++ (name ++ codes ":" ++ form ++ codes ";" ++ rest)
     joins out name form rest = simp append_assoc refl
 
 pub structure_form-returns : goal.structure_form-returns
@@ -36,8 +39,10 @@ structure_form-returns t c =
     c.requires.types c.requires.there c.index-types-place.is c.in-Struct.is c.as_slice-members.ensures in
     let none = form_end c.args.types.now c.as_slice-members.result.now c.loop-member.member-index c.loop-member-test.false in
     let members = members_form (left_at c.args.types.now c.as_slice-members.result.now 0) in
-    let so_far : c.loop-member.out ++ members_form (left_at c.args.types.now c.as_slice-members.result.now c.loop-member.member-index) ≡ c.put_lower.new.out ++ members = c.loop-member.invariant in
-    let all : c.loop-member.out ≡ (c.args.out.now ++ (lower c.in-Struct.structure.name ++ codes "{")) ++ members = rw (none, append-nil, c.in_ok-put_lower.ensures, c.as_slice.ensures) at so_far in
+    let so_far : c.loop-member.out ++ members_form (left_at c.args.types.now c.as_slice-members.result.now c.loop-member.member-index) ≡ c.put_lower.new.out
+    ++ members = c.loop-member.invariant in
+    let all : c.loop-member.out ≡ (c.args.out.now ++ (lower c.in-Struct.structure.name ++ codes "{")) ++ members =
+    rw (none, append-nil, c.in_ok-put_lower.ensures, c.as_slice.ensures) at so_far in
     let text : c.loop-member.out ++ 125 ∷ [] ≡ c.args.out.now ++ form_of (tree_at (trees_of (types_of c.args.types.now)) c.args.place)
     = rw (all, whole) (ends c.args.out.now (lower c.in-Struct.structure.name) members) in
     rw text at c.push-2.ensures.ok

@@ -15,8 +15,10 @@ use Rattle.type_layout.proofs.form.enumeration_form.Goals as goal
 pub returns : goal.returns
 unfolding form_of
 returns c =
-    let below : c.args.place < length c.args.types.now = simp length-map at (at-below is_enumeration (types_of c.args.types.now) c.args.place c.requires.there) in
-    let there = enumeration_at c.args.types.now c.args.place c.index-types-place.result c.in-Enum.enumeration c.requires.types below c.index-types-place.is c.in-Enum.is in
+    let below : c.args.place < length c.args.types.now =
+    simp length-map at (at-below is_enumeration (types_of c.args.types.now) c.args.place c.requires.there) in
+    let there = enumeration_at c.args.types.now c.args.place c.index-types-place.result
+    c.in-Enum.enumeration c.requires.types below c.index-types-place.is c.in-Enum.is in
     let name = lower c.in-Enum.enumeration.name in
     let base = lower (kind_name (kind_of c.in-Enum.enumeration.base)) in
     let text : (c.put_lower.new.out ++ (lower c.as_bytes.result.now ++ codes ")")) ≡ c.args.out.now ++ (name ++ codes "(" ++ base ++ codes ")")

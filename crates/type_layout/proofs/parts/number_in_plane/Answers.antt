@@ -18,13 +18,15 @@ returns-in_default-2 c =
 pub overflow_add-result : goal.overflow_add-result
 overflow_add-result c =
     let two : length c.args.bounds.now ≡ 2 = omega (arith, c.in-len2.len_at_least, c.in-len2.len_below) in
-    let fits = plane_fits c.args.bounds.now (record { low = pos 0; count = 0 }) c.in_ok-row.row c.in_ok-column.column two c.requires c.in_ok-row.ensures.below c.in_ok-column.ensures.below in
+    let fits = plane_fits c.args.bounds.now (record { low = pos 0; count = 0 }) c.in_ok-row.row
+    c.in_ok-column.column two c.requires c.in_ok-row.ensures.below c.in_ok-column.ensures.below in
     omega (arith, fits)
 
 pub overflow_mul-result : goal.overflow_mul-result
 overflow_mul-result c =
     let two : length c.args.bounds.now ≡ 2 = omega (arith, c.in-len2.len_at_least, c.in-len2.len_below) in
-    let fits = plane_fits c.args.bounds.now (record { low = pos 0; count = 0 }) c.in_ok-row.row c.in_ok-column.column two c.requires c.in_ok-row.ensures.below c.in_ok-column.ensures.below in
+    let fits = plane_fits c.args.bounds.now (record { low = pos 0; count = 0 }) c.in_ok-row.row
+    c.in_ok-column.column two c.requires c.in_ok-row.ensures.below c.in_ok-column.ensures.below in
     omega (arith, fits)
 
 pub returns : goal.returns

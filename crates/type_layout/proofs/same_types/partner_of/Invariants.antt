@@ -7,4 +7,5 @@ use Rattle.type_layout.specs.SameShapes.{same_named}
 use Rattle.type_layout.proofs.same_types.partner_of.Given as goal
 
 abbrev pub invariant-loop-place : goal.invariant-loop-place
-invariant-loop-place l = (k : ℕ) (u : plain.NamedType) → k < l.place → slice_get (types_of l.others) k ≡ Some u → same_named l.partners (named_type_of l.named) u ≡ false
+invariant-loop-place l = (k : ℕ) (u : plain.NamedType) → k < l.place
+    → slice_get (types_of l.others) k ≡ Some u → same_named l.partners (named_type_of l.named) u ≡ false

@@ -30,7 +30,8 @@ loop-named-preserved c =
     let A : List (Option ℕ) → Type 0 = λ ps. ArePartners old new i ps in
     let are : ArePartners old new i c.as_slice.result.now = subst A (sym seen) c.loop-named.invariant in
     let there = read_at named_type_of c.args.old.now i c.named-item.result c.loop-named-test.true c.named-item.is in
-    let more = partners_more old new i c.as_slice.result.now (named_type_of c.named-item.result) c.partner_of-partner.result c.requires.old c.requires.new are there c.partner_of-partner.ensures in
+    let more = partners_more old new i c.as_slice.result.now (named_type_of c.named-item.result)
+    c.partner_of-partner.result c.requires.old c.requires.new are there c.partner_of-partner.ensures in
     let grown : c.push.new.self.items ≡ before ++ c.partner_of-partner.result ∷ [] = search rules in
     let P : List (Option ℕ) → Type 0 = λ ps. ArePartners old new (i + 1) ps in
     subst P (ap (λ ps. ps ++ c.partner_of-partner.result ∷ []) seen ∙ sym grown) more

@@ -13,4 +13,5 @@ returns-then-c-byte-clause-place c =
 pub returns-clause-place : goal.returns-clause-place
 returns-clause-place c =
     let end : c.loop-i.i ≡ length c.args.text.now = omega arith in
-    sym (position_or_len_is (λ x. x == c.args.byte) c.args.text.now (length c.args.text.now) 0 (omega arith) (λ k below. c.loop-i.invariant k (omega arith)) (λ below. absurd (omega arith)))
+    sym (position_or_len_is (λ x. x == c.args.byte) c.args.text.now (length c.args.text.now) 0
+    (omega arith) (λ k below. c.loop-i.invariant k (omega arith)) (λ below. absurd (omega arith)))

@@ -14,7 +14,8 @@ returns-clause-ok c =
     let dims = f.dims.now in
     let count : length dims ≡ length (map dimension_of (bounds_of dims)) = sym (length-map (bounds_of dims) dimension_of ∙ length-map dims bound_of) in
     let len : ℕ = 45 + length f.name.now + length f.kind.now + length f.comment.now + 8 * length dims + c.args.behind in
-    let groups = four_groups meant len c.args.behind c.args.subs (length dims) (flat_map bound_bytes dims) (omega (arith, count)) count (dimensions_meant dims) in
+    let groups = four_groups meant len c.args.behind c.args.subs (length dims)
+    (flat_map bound_bytes dims) (omega (arith, count)) count (dimensions_meant dims) in
     four_parts c.args.out.now (numbers len meant) (lengths (length f.name.now) (length f.kind.now) (length f.comment.now) (length dims) c.args.subs)
     (texts meant) (flat_map bound_bytes dims)
     c.append_numbers.new.out c.append_lengths.new.out c.append_texts.new.out c.append_dimensions.new.out

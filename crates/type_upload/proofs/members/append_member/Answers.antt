@@ -51,7 +51,8 @@ returns-clause-ok c =
     ap (map dimension_of) (c.dims_of.ensures ∙ ap (λ (s : Shape). bounds_within s) c.as_ref-t.ensures)
     ∙ dimensions_of-shape types m.shape c.requires.types c.requires.next.sized in
     sub_written types m c.args.before.end c.shape_layout-layout.result.size c.next_multiple-offset.result c.shape_layout-layout.result.type_id
-    c.as_slice.result.now c.as_slice-2.result.now c.as_slice-3.result.now (map dimension_of (bounds_of c.dims_of.result.now)) c.args.out.now c.append_fields.new.out
+    c.as_slice.result.now c.as_slice-2.result.now c.as_slice-3.result.now
+    (map dimension_of (bounds_of c.dims_of.result.now)) c.args.out.now c.append_fields.new.out
     size start (rw c.as_ref-t.ensures at c.shape_layout-layout.ensures.id_is) c.as_slice.ensures (c.as_slice-2.ensures ∙ text) c.as_slice-3.ensures dims
     c.in_ok-append_fields.ensures.ok
 

@@ -64,7 +64,8 @@ loop-member-preserved c =
     let low = kept.low in
     record {
       within = omega (arith, c.loop-member-test.true);
-      written = subs_go_on types ms i m end c.in_ok-next.next.end out c.append_member.new.out (c.args.out.now ++ subs_of types 0 ms) left follows.end_is ok kept.written;
+      written = subs_go_on types ms i m end c.in_ok-next.next.end out c.append_member.new.out
+          (c.args.out.now ++ subs_of types 0 ms) left follows.end_is ok kept.written;
       begins = Extends-append c.args.out.now out (sub_of types end m) c.append_member.new.out kept.begins ok;
       short = omega (arith, few, longer, len, short);
       ends = rw follows.end_is (kept.ends ∙ turn.next);
@@ -80,7 +81,8 @@ next_multiple-requires-clause-fits c =
     let kept = c.loop-member.invariant in
     let stands = stands_at types place (Structure c.args.s.now.name ms) c.requires.types (rw c.as_slice-members.ensures c.requires.there) in
     let far : length ms ≤ c.loop-member.member-index = simp length-map c.loop-member-test.false in
-    let whole = is_whole types place c.args.s.now.name ms c.loop-member.member-index c.loop-member.laid.end c.loop-member.laid.align stands far kept.ends kept.aligns kept.low in
+    let whole = is_whole types place c.args.s.now.name ms c.loop-member.member-index
+    c.loop-member.laid.end c.loop-member.laid.align stands far kept.ends kept.aligns kept.low in
     let ends = whole.ends in
     let high = whole.high in
     omega (arith, ends, high)
@@ -105,7 +107,8 @@ returns-clause-layout c =
     let kept = c.loop-member.invariant in
     let stands = stands_at types place (Structure c.args.s.now.name ms) c.requires.types (rw c.as_slice-members.ensures c.requires.there) in
     let far : length ms ≤ c.loop-member.member-index = simp length-map c.loop-member-test.false in
-    let whole = is_whole types place c.args.s.now.name ms c.loop-member.member-index c.loop-member.laid.end c.loop-member.laid.align stands far kept.ends kept.aligns kept.low in
+    let whole = is_whole types place c.args.s.now.name ms c.loop-member.member-index
+    c.loop-member.laid.end c.loop-member.laid.align stands far kept.ends kept.aligns kept.low in
     record {
       size_is = c.next_multiple.ensures ∙ (rw c.as_slice-members.ensures at whole.size);
       align_is = rw c.as_slice-members.ensures at whole.align;

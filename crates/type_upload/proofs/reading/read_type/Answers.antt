@@ -1,5 +1,6 @@
 use Rattle.std.proofs.Common.{◌-◌, length, take, drop, arith}
-use Rattle.type_upload.proofs.ReadLemmas.{none_unfit, none_subs, type_entry_of-unfit, type_entry_of-no_subs, region_is, rest_is, after_within, is_read, some_entry, read_entry_is}
+use Rattle.type_upload.proofs.ReadLemmas.{none_unfit, none_subs, type_entry_of-unfit, type_entry_of-no_subs}
+use Rattle.type_upload.proofs.ReadLemmas.{region_is, rest_is, after_within, is_read, some_entry, read_entry_is}
 use Rattle.type_upload.proofs.reading.read_type.Goals as goal
 
 pub returns-in_err-places-clause-none : goal.returns-in_err-places-clause-none

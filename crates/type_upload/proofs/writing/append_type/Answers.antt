@@ -7,5 +7,6 @@ use Rattle.type_upload.proofs.writing.append_type.Goals as goal
 
 pub append_enumeration-requires-clause-short : goal.append_enumeration-requires-clause-short
 append_enumeration-requires-clause-short c =
-    let stands = stands_at (types_of c.args.types.now) (length c.args.known.now) (enumeration_of c.in-Enum.e) c.requires.types (rw c.in-Enum.is at c.requires.there) in
+    let stands = stands_at (types_of c.args.types.now) (length c.args.known.now)
+    (enumeration_of c.in-Enum.e) c.requires.types (rw c.in-Enum.is at c.requires.there) in
     short_type_name c.in-Enum.e.name stands.name

@@ -18,13 +18,15 @@ loop-named-preserved c =
     let t = named_type_of c.named-item.result in
     let kept = c.loop-named.invariant in
     let got : slice_get types i ≡ Some t =
-    rw c.as_slice-named-items.ensures at (read_at named_type_of c.as_slice-named-items.result.now i c.named-item.result c.loop-named-test.true c.named-item.is) in
+    rw c.as_slice-named-items.ensures at
+    (read_at named_type_of c.as_slice-named-items.result.now i c.named-item.result c.loop-named-test.true c.named-item.is) in
     let stands = stands_at types i t c.requires got in
     let longer = length-append c.loop-named.known (c.in_ok-layout.layout ∷ []) in
     let len = ap length c.in_ok-push.ensures.ok in
     let count = kept.count in
     record {
-      written = trees_go_on types i (named_tree (trees_of types) t) c.args.out.now c.loop-named.out c.append_type.new.out (slice_get_within types i t got) stands.tree
+      written = trees_go_on types i (named_tree (trees_of types) t) c.args.out.now
+          c.loop-named.out c.append_type.new.out (slice_get_within types i t got) stands.tree
           kept.written c.in_ok-layout.ensures.ok;
       known = AreKnown-push types c.loop-named.known c.push.new.self c.in_ok-layout.layout kept.known
           (rw (kept.count, stands.tree) c.in_ok-layout.ensures.layout) c.in_ok-push.ensures.ok;

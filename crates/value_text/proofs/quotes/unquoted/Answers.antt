@@ -23,9 +23,11 @@ returns-in_default-clause-none c = λ none content each free e.
 
 pub bytes-preserved : goal.bytes-preserved
 bytes-preserved c = record {
-  whole = rw c.in_ok-push.ensures.ok (one_more c.bytes.content c.bytes.rest.now c.in-Some.behind.now c.args.text.now c.in-Some.byte c.bytes.invariant.whole c.in-Some.ensures.some);
+  whole = rw c.in_ok-push.ensures.ok
+      (one_more c.bytes.content c.bytes.rest.now c.in-Some.behind.now c.args.text.now c.in-Some.byte c.bytes.invariant.whole c.in-Some.ensures.some);
   no_nul = rw c.in_ok-push.ensures.ok (nul_free-push c.bytes.content c.in-Some.byte c.bytes.invariant.no_nul c.in-Some.ensures.no_nul);
 }
 
 pub returns-clause-some : goal.returns-clause-some
-returns-clause-some c = (quoted-whole c.bytes.content c.args.text.now c.bytes.rest.now c.bytes.invariant.whole (c.bytes-test.ensures.0 refl), c.bytes.invariant.no_nul)
+returns-clause-some c =
+    (quoted-whole c.bytes.content c.args.text.now c.bytes.rest.now c.bytes.invariant.whole (c.bytes-test.ensures.0 refl), c.bytes.invariant.no_nul)

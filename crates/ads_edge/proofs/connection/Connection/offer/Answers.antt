@@ -10,6 +10,7 @@ returns-clause-taken c =
     let bytes = c.args.bytes.now in
     let first = c.in_ok-first.first in
     let more = c.in_ok-more.more in
-    let behind : waiting c.put-2.new.self ≡ waiting c.send.new.self.out ++ take more (drop first bytes) = grind (arith, common_steps, c.in_ok-more.ensures.ok) in
+    let behind : waiting c.put-2.new.self ≡ waiting c.send.new.self.out ++ take more (drop first bytes) =
+    grind (arith, common_steps, c.in_ok-more.ensures.ok) in
     rest_taken (waiting c.args.self.now.out) (waiting c.put.new.self) (waiting c.send.new.self.out) (waiting c.put-2.new.self) bytes first more
     c.in_ok-first.ensures.ok c.send.ensures.rest behind

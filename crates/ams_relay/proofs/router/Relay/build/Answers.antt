@@ -7,6 +7,7 @@ use Rattle.ams_relay.proofs.router.Relay.build.Goals as goal
 pub returns : goal.returns
 returns c = record {
   working = refl;
-  holds = starts c.empty.result (description_of c.args.d) (λ net. ap (rights_of net) c.empty.ensures.routes ∙ c.in_ok-routes.ensures net) c.empty.ensures.peers c.empty.ensures.owners c.empty.ensures.counts;
+  holds = starts c.empty.result (description_of c.args.d)
+      (λ net. ap (rights_of net) c.empty.ensures.routes ∙ c.in_ok-routes.ensures net) c.empty.ensures.peers c.empty.ensures.owners c.empty.ensures.counts;
   notes = refl;
 }

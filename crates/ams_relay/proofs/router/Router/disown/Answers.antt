@@ -10,5 +10,6 @@ returns-in-Some c =
     record {
       same = refl;
       disowned = subst (λ o. DisownsIn o os ps) (sym c.in-Some.is)
-          (subst (λ net. Frees net os ps) c.as_slice.ensures (frees_by c.as_slice.result.now os ps c.swap_remove.ensures.updates.1 c.swap_remove.ensures.updates.3));
+          (subst (λ net. Frees net os ps) c.as_slice.ensures
+          (frees_by c.as_slice.result.now os ps c.swap_remove.ensures.updates.1 c.swap_remove.ensures.updates.3));
     }

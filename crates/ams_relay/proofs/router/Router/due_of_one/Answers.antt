@@ -11,4 +11,5 @@ pub returns : goal.returns
 returns c = λ distinct idle.
     let es = c.args.self.now.peers.entries in
     let i = c.in-Some.i in
-    c.in_ok-put_due.ensures ∙ ap (λ ns. ns ++ number_if_due (slice_get es i)) c.new-numbers.ensures ∙ due_one es c.args.a i distinct c.in-Some.ensures.found idle
+    c.in_ok-put_due.ensures ∙ ap (λ ns. ns ++ number_if_due (slice_get es i)) c.new-numbers.ensures
+    ∙ due_one es c.args.a i distinct c.in-Some.ensures.found idle

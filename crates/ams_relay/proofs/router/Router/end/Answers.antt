@@ -14,7 +14,8 @@ returns-in_default c = record {
       let old = c.args.self.now in
       let none : peer_in c.args.number old.peers.entries ≡ None = sym c.shift_remove.ensures.value ∙ c.in_default.is in
       ended_already c.args.number b (record old { peers = c.shift_remove.new.self }) s
-      (holds_same b old (record old { peers = c.shift_remove.new.self }) s refl c.in_default.ensures.unchanged refl refl refl h) c.shift_remove.ensures.updates.1;
+      (holds_same b old (record old { peers = c.shift_remove.new.self }) s refl c.in_default.ensures.unchanged refl refl refl h)
+      c.shift_remove.ensures.updates.1;
 }
 
 pub returns-then-peer : goal.returns-then-peer
@@ -23,10 +24,12 @@ returns-then-peer c = record {
       let old = c.args.self.now in
       let n = c.args.number in
       let was : peer_in n old.peers.entries ≡ Some c.in-Some.peer = sym c.shift_remove.ensures.value ∙ c.in-Some.is in
-      let others : (m : ℕ) → m ≢ n → peer_in m c.shift_remove.new.self.entries ≡ peer_in m old.peers.entries = λ m ne. c.shift_remove.ensures.updates.2 m (test_other n m (λ e. ne (sym e))) in
+      let others : (m : ℕ) → m ≢ n → peer_in m c.shift_remove.new.self.entries ≡ peer_in m old.peers.entries =
+      λ m ne. c.shift_remove.ensures.updates.2 m (test_other n m (λ e. ne (sym e))) in
       let none = c.shift_remove.ensures.updates.1 in
       ends n b c.in-Some.peer old (record old { peers = c.shift_remove.new.self }) s h was c.shift_remove.ensures.entries none others refl refl
-      (λ opens. absurd (true≢false (sym c.if-peer.true ∙ opens))) (λ e. refl) (idle_ended n old.peers.entries c.shift_remove.new.self.entries old.touched none others h.idle);
+      (λ opens. absurd (true≢false (sym c.if-peer.true ∙ opens))) (λ e. refl)
+      (idle_ended n old.peers.entries c.shift_remove.new.self.entries old.touched none others h.idle);
 }
 
 pub returns : goal.returns
@@ -35,8 +38,10 @@ returns c = record {
       let old = c.args.self.now in
       let n = c.args.number in
       let was : peer_in n old.peers.entries ≡ Some c.in-Some.peer = sym c.shift_remove.ensures.value ∙ c.in-Some.is in
-      let others : (m : ℕ) → m ≢ n → peer_in m c.shift_remove.new.self.entries ≡ peer_in m old.peers.entries = λ m ne. c.shift_remove.ensures.updates.2 m (test_other n m (λ e. ne (sym e))) in
+      let others : (m : ℕ) → m ≢ n → peer_in m c.shift_remove.new.self.entries ≡ peer_in m old.peers.entries =
+      λ m ne. c.shift_remove.ensures.updates.2 m (test_other n m (λ e. ne (sym e))) in
       let none = c.shift_remove.ensures.updates.1 in
-      ends_open n b c.in-Some.peer old (record old { peers = c.shift_remove.new.self }) c.disown.new.self s h was c.shift_remove.ensures.entries none others refl refl refl c.if-peer.false
+      ends_open n b c.in-Some.peer old (record old { peers = c.shift_remove.new.self })
+      c.disown.new.self s h was c.shift_remove.ensures.entries none others refl refl refl c.if-peer.false
       c.disown.ensures (idle_ended n old.peers.entries c.shift_remove.new.self.entries old.touched none others h.idle);
 }

@@ -12,8 +12,10 @@ use Rattle.ams_relay.proofs.PeerLemmas.{fits_room, fits_over}
 use Rattle.ams_relay.proofs.router.Router.give.Goals as goal
 
 pub returns-in_default-clause-follows : goal.returns-in_default-clause-follows
-returns-in_default-clause-follows c = λ b s h.
-    (room_absent c.args.number b c.args.packet.now c.args.self.now s h c.in_default.ensures.absent, given_absent c.args.number b c.args.packet.now c.args.self.now s h c.in_default.ensures.absent)
+returns-in_default-clause-follows c = λ b s h. (
+  room_absent c.args.number b c.args.packet.now c.args.self.now s h c.in_default.ensures.absent,
+  given_absent c.args.number b c.args.packet.now c.args.self.now s h c.in_default.ensures.absent,
+)
 
 pub returns-then-index-clause-follows : goal.returns-then-index-clause-follows
 returns-then-index-clause-follows c = λ b s h.
@@ -30,8 +32,10 @@ returns-in-Done-clause-follows c = λ b s h.
     let p = c.index_mut.result.now in
     let place = c.in-Some.ensures.found in
     let was : peer_in n old.peers.entries ≡ Some p = place.value ∙ c.index_mut.ensures.value in
-    let is_open : p.closing ≡ false = sym (ap (λ (x : Peer). x.closing) (some_same c.index.result.now p (sym c.index.ensures ∙ c.index_mut.ensures.value))) ∙ c.if-index.false in
-    let frame : c.as_slice.result.now ≡ frame_bytes packet = c.as_slice.ensures ∙ c.in_ok-put_frame.ensures.ok ∙ ap (λ xs. xs ++ frame_bytes packet) c.cut.ensures in
+    let is_open : p.closing ≡ false =
+    sym (ap (λ (x : Peer). x.closing) (some_same c.index.result.now p (sym c.index.ensures ∙ c.index_mut.ensures.value))) ∙ c.if-index.false in
+    let frame : c.as_slice.result.now ≡ frame_bytes packet =
+    c.as_slice.ensures ∙ c.in_ok-put_frame.ensures.ok ∙ ap (λ xs. xs ++ frame_bytes packet) c.cut.ensures in
     let room : queued p.out + length c.as_slice.result.now ≤ 4194304 = elim (cases_lt 4194304 (queued p.out + length c.as_slice.result.now)) [
       | inl over ↦ absurd (let both = sym c.in-Done.is ∙ c.in_ok-push.ensures.over.1 over in cc)
       | inr fits ↦ fits
@@ -42,7 +46,8 @@ returns-in-Done-clause-follows c = λ b s h.
     ap (λ (o : List (List ℕ)). record p { out = o }) (c.in_ok-push.ensures.done (ap (λ x. Ok x) c.in-Done.is) ∙ ap (λ (f : List ℕ). p.out ++ f ∷ []) frame) in
     let sets = place.sets q in (
       room_there n b packet p old s true h was is_open (λ k st. fits_room p (frame_bytes packet) k st room_f),
-      given_fitting n b packet p q old _ s h was is_open room_f (frame_some packet) is sets refl refl refl (idle_touched n q old.peers.entries _ old.touched c.with-self.result sets c.with-self.ensures h.idle),
+      given_fitting n b packet p q old _ s h was is_open room_f (frame_some packet) is sets refl refl refl
+          (idle_touched n q old.peers.entries _ old.touched c.with-self.result sets c.with-self.ensures h.idle),
     )
 
 pub returns-in-Over-clause-follows : goal.returns-in-Over-clause-follows
@@ -53,9 +58,12 @@ returns-in-Over-clause-follows c = λ b s h.
     let p = c.index_mut.result.now in
     let place = c.in-Some.ensures.found in
     let was : peer_in n old.peers.entries ≡ Some p = place.value ∙ c.index_mut.ensures.value in
-    let is_open : p.closing ≡ false = sym (ap (λ (x : Peer). x.closing) (some_same c.index.result.now p (sym c.index.ensures ∙ c.index_mut.ensures.value))) ∙ c.if-index.false in
-    let frame : c.as_slice.result.now ≡ frame_bytes packet = c.as_slice.ensures ∙ c.in_ok-put_frame.ensures.ok ∙ ap (λ xs. xs ++ frame_bytes packet) c.cut.ensures in
-    let over : 4194304 < queued p.out + length (frame_bytes packet) = subst (λ (f : List ℕ). 4194304 < queued p.out + length f) frame (c.in_ok-push.ensures.over.0 c.in-Over.is) in
+    let is_open : p.closing ≡ false =
+    sym (ap (λ (x : Peer). x.closing) (some_same c.index.result.now p (sym c.index.ensures ∙ c.index_mut.ensures.value))) ∙ c.if-index.false in
+    let frame : c.as_slice.result.now ≡ frame_bytes packet =
+    c.as_slice.ensures ∙ c.in_ok-put_frame.ensures.ok ∙ ap (λ xs. xs ++ frame_bytes packet) c.cut.ensures in
+    let over : 4194304 < queued p.out + length (frame_bytes packet) =
+    subst (λ (f : List ℕ). 4194304 < queued p.out + length f) frame (c.in_ok-push.ensures.over.0 c.in-Over.is) in
     let q : Peer = record p { out = c.push.new.self } in
     let same : q ≡ p = ap (λ (o : List (List ℕ)). record p { out = o }) (c.in_ok-push.ensures.unchanged (ap (λ x. Ok x) c.in-Over.is)) in
     let kept = put_again n b p q old _ s h was same (place.sets q) refl refl refl refl in (

@@ -5,4 +5,5 @@ use Rattle.ams_relay.proofs.router.Router.heard_of.Goals as goal
 
 pub loop-i-preserved : goal.loop-i-preserved
 loop-i-preserved c =
-    kept_more (is_asked_heard c.args.self.now.peers.entries) c.args.asked.now.items c.loop-i.i c.index.result.now c.loop-i.kept.items _ (omega (arith, c.len-i-end.ensures, c.loop-i-test.true)) c.index.ensures c.loop-i.invariant c.in_ok-keep_heard.ensures
+    kept_more (is_asked_heard c.args.self.now.peers.entries) c.args.asked.now.items c.loop-i.i c.index.result.now c.loop-i.kept.items _
+    (omega (arith, c.len-i-end.ensures, c.loop-i-test.true)) c.index.ensures c.loop-i.invariant c.in_ok-keep_heard.ensures

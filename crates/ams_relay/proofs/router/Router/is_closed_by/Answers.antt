@@ -9,4 +9,5 @@ returns-then-is_refused c = λ b s k h heard.
 
 pub returns : goal.returns
 returns c = λ b s k h heard.
-    c.is_taken.ensures b s k h heard ∙ closed_else c.args.payload.now (ams_header_of c.args.h.now) k s (sym (c.is_refused.ensures b s h) ∙ c.if-is_refused.false)
+    c.is_taken.ensures b s k h heard
+    ∙ closed_else c.args.payload.now (ams_header_of c.args.h.now) k s (sym (c.is_refused.ensures b s h) ∙ c.if-is_refused.false)

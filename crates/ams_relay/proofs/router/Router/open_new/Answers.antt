@@ -16,7 +16,10 @@ returns c = λ b s h is_new.
     let p = c.in_ok-peer.peer in
     let new = c.insert.new.self in
     let keys : keys_of new.entries ≡ keys_of old.peers.entries ++ n ∷ [] =
-    ap keys_of (c.in_ok-insert.ensures.entries ∙ insert_entry-new nat_eq old.peers n p c.requires) ∙ map-append (λ (e : ℕ × Peer). e.0) old.peers.entries ((n, p) ∷ []) in
+    ap keys_of (c.in_ok-insert.ensures.entries ∙ insert_entry-new nat_eq old.peers n p c.requires)
+    ∙ map-append (λ (e : ℕ × Peer). e.0) old.peers.entries ((n, p) ∷ []) in
     let own = c.in_ok-insert.ensures.updates.1 in
-    let others : (m : ℕ) → m ≢ n → peer_in m new.entries ≡ peer_in m old.peers.entries = λ m ne. c.in_ok-insert.ensures.updates.2 m (test_other n m (λ e. ne (sym e))) in
-    opens n b p old _ s h is_new c.in_ok-peer.ensures keys own others refl refl c.count_connection.ensures (idle_opened n p old.peers.entries new.entries old.touched c.in_ok-peer.ensures own others h.idle)
+    let others : (m : ℕ) → m ≢ n → peer_in m new.entries ≡ peer_in m old.peers.entries =
+    λ m ne. c.in_ok-insert.ensures.updates.2 m (test_other n m (λ e. ne (sym e))) in
+    opens n b p old _ s h is_new c.in_ok-peer.ensures keys own others refl refl c.count_connection.ensures
+    (idle_opened n p old.peers.entries new.entries old.touched c.in_ok-peer.ensures own others h.idle)

@@ -29,5 +29,6 @@ returns-clause-follows c = λ b s k h heard free.
     let ps = c.insert.new.self.entries in
     let now : owner_in net.bytes ps ≡ Some n = ap (λ x. owner_in x ps) (sym key) ∙ c.in_ok-insert.ensures.updates.1 in
     let sets = place.sets (record p { owned = Some net }) in
-    owns_now n b net k p old _ s h heard was nothing free sets refl refl now (λ other ne. owner_kept c.in_ok-key.key.items os ps c.in_ok-insert.ensures.updates.3 other (λ e. ne (e ∙ key)))
+    owns_now n b net k p old _ s h heard was nothing free sets refl refl now
+    (λ other ne. owner_kept c.in_ok-key.key.items os ps c.in_ok-insert.ensures.updates.3 other (λ e. ne (e ∙ key)))
     (idle_kept n p (record p { owned = Some net }) old.peers.entries _ old.touched was sets refl h.idle)

@@ -13,7 +13,8 @@ use Rattle.ams_relay.proofs.router.Router.pass.Goals as goal
 pub returns-then-is_closed_by-clause-follows : goal.returns-then-is_closed_by-clause-follows
 returns-then-is_closed_by-clause-follows c = λ b s k h heard swept.
     let head = ams_header_of c.in-Some.h in
-    let closes = ap (λ (p : List ℕ). is_closed_by p head k s) (sym c.in-Some.ensures.payload) ∙ sym (c.is_closed_by.ensures b s k h heard) ∙ c.if-is_closed_by.true in
+    let closes = ap (λ (p : List ℕ). is_closed_by p head k s) (sym c.in-Some.ensures.payload)
+    ∙ sym (c.is_closed_by.ensures b s k h heard) ∙ c.if-is_closed_by.true in
     header_closes c.args.conn c.args.packet.now k head c.close.new.self b s c.in-Some.ensures.header closes (c.close.ensures.follows b s h)
 
 pub returns-then-is_response-clause-follows : goal.returns-then-is_response-clause-follows
@@ -21,14 +22,17 @@ returns-then-is_response-clause-follows c = on_ok c.pass_response.result (λ e b
     let head = ams_header_of c.in-Some.h in
     let conn = c.args.conn in
     let packet = c.args.packet.now in
-    let opens = ap (λ (p : List ℕ). is_closed_by p head k s) (sym c.in-Some.ensures.payload) ∙ sym (c.is_closed_by.ensures b s k h heard) ∙ c.if-is_closed_by.false in
+    let opens = ap (λ (p : List ℕ). is_closed_by p head k s) (sym c.in-Some.ensures.payload)
+    ∙ sym (c.is_closed_by.ensures b s k h heard) ∙ c.if-is_closed_by.false in
     let owned = with_owner conn head.source.net s in
     let held = c.in_ok-own.ensures.follows b s k h heard (not_taken (payload_of packet) head k s opens) in
     let after = after_owned conn head.source.net k s heard swept in
     let goes = e b owned after.connection held after.heard after.swept in
     header_goes conn packet k head c.pass_response.new.self b s c.in-Some.ensures.header opens
     (way_by_mark conn head packet c.pass_response.new.self b owned c.is_response.result c.is_response.ensures
-    (subst (λ (t : Bool). Holds c.pass_response.new.self b (after_way conn head packet (cond t (way_of_response (request_answered conn head owned.world.requests)) (way_of_request (owner_of head.target.net owned.connections))) owned))
+    (subst (λ (t : Bool). Holds c.pass_response.new.self b
+    (after_way conn head packet
+    (cond t (way_of_response (request_answered conn head owned.world.requests)) (way_of_request (owner_of head.target.net owned.connections))) owned))
     (sym c.if-is_response.true) goes))) c.pass_response.ensures.follows
 
 pub returns-else-is_response-clause-follows : goal.returns-else-is_response-clause-follows
@@ -36,12 +40,15 @@ returns-else-is_response-clause-follows c = on_ok c.pass_request.result (λ e b 
     let head = ams_header_of c.in-Some.h in
     let conn = c.args.conn in
     let packet = c.args.packet.now in
-    let opens = ap (λ (p : List ℕ). is_closed_by p head k s) (sym c.in-Some.ensures.payload) ∙ sym (c.is_closed_by.ensures b s k h heard) ∙ c.if-is_closed_by.false in
+    let opens = ap (λ (p : List ℕ). is_closed_by p head k s) (sym c.in-Some.ensures.payload)
+    ∙ sym (c.is_closed_by.ensures b s k h heard) ∙ c.if-is_closed_by.false in
     let owned = with_owner conn head.source.net s in
     let held = c.in_ok-own.ensures.follows b s k h heard (not_taken (payload_of packet) head k s opens) in
     let after = after_owned conn head.source.net k s heard swept in
     let goes = e b owned after.connection held after.heard after.swept after.client in
     header_goes conn packet k head c.pass_request.new.self b s c.in-Some.ensures.header opens
     (way_by_mark conn head packet c.pass_request.new.self b owned c.is_response.result c.is_response.ensures
-    (subst (λ (t : Bool). Holds c.pass_request.new.self b (after_way conn head packet (cond t (way_of_response (request_answered conn head owned.world.requests)) (way_of_request (owner_of head.target.net owned.connections))) owned))
+    (subst (λ (t : Bool). Holds c.pass_request.new.self b
+    (after_way conn head packet
+    (cond t (way_of_response (request_answered conn head owned.world.requests)) (way_of_request (owner_of head.target.net owned.connections))) owned))
     (sym c.if-is_response.false) goes))) c.pass_request.ensures.follows

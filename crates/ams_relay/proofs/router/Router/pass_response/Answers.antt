@@ -9,7 +9,8 @@ use Rattle.ams_relay.proofs.router.Router.pass_response.Goals as goal
 pub returns-in_default-clause-follows : goal.returns-in_default-clause-follows
 returns-in_default-clause-follows c = λ b s k h heard swept.
     let head = ams_header_of c.args.h.now in
-    way_stray c.args.conn head c.args.packet.now c.spend.new.self b s (subst (λ o. Spends o c.args.conn head c.spend.new.self b s) c.in_default.is (c.spend.ensures.spends b s k h heard swept))
+    way_stray c.args.conn head c.args.packet.now c.spend.new.self b s
+    (subst (λ o. Spends o c.args.conn head c.spend.new.self b s) c.in_default.is (c.spend.ensures.spends b s k h heard swept))
 
 pub returns-then-fitted-clause-follows : goal.returns-then-fitted-clause-follows
 returns-then-fitted-clause-follows c = λ b s k h heard swept.

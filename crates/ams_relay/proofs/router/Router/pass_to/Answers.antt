@@ -22,4 +22,5 @@ returns-clause-follows c =
     let head = ams_header_of c.args.h.now in
     let packet = c.args.packet.now in
     let g = c.in_ok-fitted.ensures.follows b s h in
-    way_refused c.args.conn c.args.target head packet c.tell_unknown.new.self b s target (sym g.0 ∙ c.if-fitted.false) (e b (given_to c.args.target packet s) g.1)) c.tell_unknown.ensures.follows
+    way_refused c.args.conn c.args.target head packet c.tell_unknown.new.self b s target
+    (sym g.0 ∙ c.if-fitted.false) (e b (given_to c.args.target packet s) g.1)) c.tell_unknown.ensures.follows

@@ -26,6 +26,7 @@ returns-clause-follows c = λ b s k h heard swept client opened asks.
     let is = c.drop_oldest.ensures ∙ ap with_room (c.in_ok-kept.ensures ∙ ap (λ (x : Peer). filter (is_asked_heard old.peers.entries) x.asked.items) same) in
     remembers old _ b s n c.args.target k (ams_header_of c.args.h.now) p q left a h swept heard opened client asks was sets refl refl refl
     (c.in_ok-push_back.ensures.items ∙ ap (λ (xs : List Asked). xs ++ a ∷ []) is)
-    (λ l st. record { stream = st.stream; owned = st.owned; waiting = st.waiting; bytes_taken = st.bytes_taken; closing = st.closing }) refl (c.asked_by.ensures n)
+    (λ l st. record { stream = st.stream; owned = st.owned; waiting = st.waiting; bytes_taken = st.bytes_taken; closing = st.closing }) refl
+    (c.asked_by.ensures n)
     (ap (λ (r : Request). r.asked) (c.asked_by.ensures n)) (ap (λ (r : Request). r.source.net) (c.asked_by.ensures n)) (inr refl)
     (idle_kept n p q old.peers.entries _ old.touched was sets refl h.idle)

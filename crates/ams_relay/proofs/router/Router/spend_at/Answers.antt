@@ -15,7 +15,8 @@ pub returns-in_default-clause-spends : goal.returns-in_default-clause-spends
 returns-in_default-clause-spends c = λ b s k h heard swept owned.
     let was = c.requires.value ∙ c.index.ensures in
     record {
-      none = none_waits c.args.self.now b s h swept c.args.conn k heard (ams_header_of c.args.h.now) c.args.asker owned c.index.result.now was (sym c.answered_at.ensures ∙ c.in_default.is);
+      none = none_waits c.args.self.now b s h swept c.args.conn k heard (ams_header_of c.args.h.now)
+          c.args.asker owned c.index.result.now was (sym c.answered_at.ensures ∙ c.in_default.is);
       holds = h;
     }
 

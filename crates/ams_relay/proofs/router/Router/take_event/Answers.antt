@@ -11,13 +11,15 @@ pub returns-in-Opened : goal.returns-in-Opened
 returns-in-Opened c = on_ok c.open.result (λ e x h opens.
     let new = c.open.new.self in
     let start = settled c.args.self.now c.settle.new.self x.blocked x.state c.settle.ensures.same c.settle.ensures.idle h in
-    subst (Taken new x) (sym c.in-Opened.is) (opened_taken new x c.in-Opened.number (e x.blocked x.state start (subst (OpensNew x) c.in-Opened.is opens)))) c.open.ensures.follows
+    subst (Taken new x) (sym c.in-Opened.is) (opened_taken new x c.in-Opened.number (e x.blocked x.state start (subst (OpensNew x) c.in-Opened.is opens))))
+    c.open.ensures.follows
 
 pub returns-in-Piece : goal.returns-in-Piece
 returns-in-Piece c = on_ok c.piece.result (λ e x h opens.
     let new = c.piece.new.self in
     let start = settled c.args.self.now c.settle.new.self x.blocked x.state c.settle.ensures.same c.settle.ensures.idle h in
-    let taken = subst (λ (bytes : List ℕ). Holds new x.blocked (relay_after_event x.state (event.Piece c.in-Piece.number bytes))) c.as_slice.ensures (e x.blocked x.state start) in
+    let taken = subst (λ (bytes : List ℕ). Holds new x.blocked (relay_after_event x.state (event.Piece c.in-Piece.number bytes)))
+    c.as_slice.ensures (e x.blocked x.state start) in
     subst (Taken new x) (sym c.in-Piece.is) (piece_done new x c.in-Piece.number c.in-Piece.bytes taken)) c.piece.ensures.follows
 
 pub returns-in-Closed : goal.returns-in-Closed

@@ -15,5 +15,7 @@ returns-then-h-eq-DEVICE_NOTIFICATION-clause-follows c = λ b s h.
 pub returns-clause-follows : goal.returns-clause-follows
 returns-clause-follows c = λ b s h.
     let given = c.in_ok-give.ensures.follows b (with_unknown s) (unknown_counted c.args.self.now _ b s refl c.count_unknown.ensures h) in
-    unknown_told c.args.number (ams_header_of c.args.h.now) c.give.new.self b s (test_other c.args.h.now.command DEVICE_NOTIFICATION c.if-h-eq-DEVICE_NOTIFICATION.false)
-    (subst (λ (packet : List ℕ). Holds c.give.new.self b (given_to c.args.number packet (with_unknown s))) (c.as_slice.ensures ∙ c.not_found-packet.ensures) given.1)
+    unknown_told c.args.number (ams_header_of c.args.h.now) c.give.new.self b s
+    (test_other c.args.h.now.command DEVICE_NOTIFICATION c.if-h-eq-DEVICE_NOTIFICATION.false)
+    (subst (λ (packet : List ℕ). Holds c.give.new.self b (given_to c.args.number packet (with_unknown s)))
+    (c.as_slice.ensures ∙ c.not_found-packet.ensures) given.1)

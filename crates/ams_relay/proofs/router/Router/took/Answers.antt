@@ -14,5 +14,7 @@ returns-in-Some-clause-follows c = λ b s left bytes h offered taken.
     let was : peer_in n old.peers.entries ≡ Some p = place.value ∙ c.index_mut.ensures.value in
     let q = c.took.new.self in
     let sets = place.sets q in
-    took_at n b p q c.args.n left bytes old _ s h was sets c.took.ensures (subst (λ o. IsSomeAnd (read_in offer_of_peer None o) (λ (l : List ℕ). c.args.n ≤ length l)) was c.requires)
-    (sym (ap (read_in offer_of_peer None) was) ∙ offered) taken refl refl refl (idle_touched n q old.peers.entries _ old.touched c.with-self.result sets c.with-self.ensures h.idle)
+    took_at n b p q c.args.n left bytes old _ s h was sets c.took.ensures
+    (subst (λ o. IsSomeAnd (read_in offer_of_peer None o) (λ (l : List ℕ). c.args.n ≤ length l)) was c.requires)
+    (sym (ap (read_in offer_of_peer None) was) ∙ offered) taken refl refl refl
+    (idle_touched n q old.peers.entries _ old.touched c.with-self.result sets c.with-self.ensures h.idle)

@@ -14,7 +14,8 @@ returns-in-Some c = record {
       let place = c.in-Some.ensures.found in
       let was : peer_in n old.peers.entries ≡ Some p = place.value ∙ c.index_mut.ensures.value in
       let sets = place.sets (record p { blocked = false }) in
-      writable_at n b p old _ s h was sets refl refl refl (idle_touched n (record p { blocked = false }) old.peers.entries _ old.touched c.with-self.result sets c.with-self.ensures h.idle);
+      writable_at n b p old _ s h was sets refl refl refl
+      (idle_touched n (record p { blocked = false }) old.peers.entries _ old.touched c.with-self.result sets c.with-self.ensures h.idle);
 }
 
 pub returns-in_default : goal.returns-in_default

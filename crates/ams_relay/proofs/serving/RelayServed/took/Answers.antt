@@ -4,4 +4,8 @@ use Rattle.ams_relay.proofs.serving.RelayServed.took.Goals as goal
 
 pub returns-clause-follows : goal.returns-clause-follows
 returns-clause-follows c = λ x left bytes s offered taken.
-    record { working = s.working; holds = c.took.ensures.follows x.running.blocked x.running.state left bytes s.holds offered taken; notes = append-nil x.notes ∙ s.notes }
+    record {
+      working = s.working;
+      holds = c.took.ensures.follows x.running.blocked x.running.state left bytes s.holds offered taken;
+      notes = append-nil x.notes ∙ s.notes;
+    }

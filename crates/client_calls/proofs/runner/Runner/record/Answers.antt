@@ -14,4 +14,5 @@ returns c =
     let same = ap (λ os. stages.progress (stage_kept p.stage) (map output_kept os)) (c.from_vec.ensures.items ∙ c.into_vec.ensures) in
     recording_stands (kept c.in_ok-client.client (stage_kept p.stage) outputs) (address_of c.args.me) (address_of c.args.peer)
     c.args.names.now c.args.spec c.requires.names c.requires.spec c.in_ok-client.ensures
-    (recording_begins c.args.names.now c.as_slice.result.now c.args.spec (stages.progress (stage_kept p.stage) outputs) c.as_slice.ensures (same ∙ c.in_ok-stage.ensures))
+    (recording_begins c.args.names.now c.as_slice.result.now c.args.spec
+    (stages.progress (stage_kept p.stage) outputs) c.as_slice.ensures (same ∙ c.in_ok-stage.ensures))

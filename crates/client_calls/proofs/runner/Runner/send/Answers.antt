@@ -9,15 +9,18 @@ issue-requires c = sent_writable c.args.self.now c.as_request-request.result (re
 
 pub unreachable-requires : goal.unreachable-requires
 unreachable-requires c =
-    never_full c.self.inside.client (stage_kept c.self.inside.stage) (map output_kept c.self.inside.pending.items) c.args.self.now (request_kept c.args.asked.now) c.self.view_is c.requires
+    never_full c.self.inside.client (stage_kept c.self.inside.stage)
+    (map output_kept c.self.inside.pending.items) c.args.self.now (request_kept c.args.asked.now) c.self.view_is c.requires
     ((rw c.in-Err.is at c.in_ok-issued.ensures.full).0 refl)
 
 pub returns-clause-turned : goal.returns-clause-turned
 returns-clause-turned c =
-    sent_inside c.args.now c.self.inside.client c.issue.new.self (stage_kept c.self.inside.stage) (map output_kept c.self.inside.pending.items) c.args.self.now c.as_request-request.result (request_kept c.args.asked.now)
+    sent_inside c.args.now c.self.inside.client c.issue.new.self (stage_kept c.self.inside.stage)
+    (map output_kept c.self.inside.pending.items) c.args.self.now c.as_request-request.result (request_kept c.args.asked.now)
     c.in_ok-issued.field-0 c.in-Ok.issued c.self.view_is c.as_request-request.ensures c.in-Ok.is c.in_ok-issued.ensures.issued c.in_ok-issued.ensures.stands
 
 pub returns-clause-gives : goal.returns-clause-gives
 returns-clause-gives c =
-    sent_gives c.args.now c.self.inside.client c.issue.new.self (stage_kept c.self.inside.stage) (map output_kept c.self.inside.pending.items) c.args.self.now c.as_request-request.result (request_kept c.args.asked.now)
+    sent_gives c.args.now c.self.inside.client c.issue.new.self (stage_kept c.self.inside.stage)
+    (map output_kept c.self.inside.pending.items) c.args.self.now c.as_request-request.result (request_kept c.args.asked.now)
     c.self.view_is c.as_request-request.ensures c.requires c.in_ok-issued.ensures.stands

@@ -13,7 +13,8 @@ returns-in-Answers-clause-applies c = λ client s x.
 
 pub returns-in-Says-clause-applies : goal.returns-in-Says-clause-applies
 returns-in-Says-clause-applies c = λ client s x.
-    applied_says c.args.self.now c.args.self.now refl c.requires c.args.packet c.in-Says.heard client s (verdict_in c.args.verdict _ c.args.packet client c.in-Says.is x)
+    applied_says c.args.self.now c.args.self.now refl c.requires c.args.packet c.in-Says.heard client s
+    (verdict_in c.args.verdict _ c.args.packet client c.in-Says.is x)
 
 pub returns-in-Holds-clause-applies : goal.returns-in-Holds-clause-applies
 returns-in-Holds-clause-applies c = λ client s x.
@@ -22,4 +23,5 @@ returns-in-Holds-clause-applies c = λ client s x.
 
 pub returns-in-Breaks-clause-applies : goal.returns-in-Breaks-clause-applies
 returns-in-Breaks-clause-applies c = λ client s x.
-    applied_breaks c.args.self.now _ c.self-in-Breaks.view_is c.requires c.args.packet c.in-Breaks.copy client s (verdict_in c.args.verdict _ c.args.packet client c.in-Breaks.is x)
+    applied_breaks c.args.self.now _ c.self-in-Breaks.view_is c.requires c.args.packet c.in-Breaks.copy client s
+    (verdict_in c.args.verdict _ c.args.packet client c.in-Breaks.is x)

@@ -8,7 +8,8 @@ returns-in-Some c =
 
 pub returns-in-Some-broken : goal.returns-in-Some-broken
 returns-in-Some-broken c =
-    hears_broken c.args.self.now _ c.self.view_is c.take_timeout.new.us.items c.in_default.ensures c.in-Some-broken.peer c.in_ok-copy.copy c.in-Some-broken.is c.in_ok-copy.ensures
+    hears_broken c.args.self.now _ c.self.view_is c.take_timeout.new.us.items c.in_default.ensures
+    c.in-Some-broken.peer c.in_ok-copy.copy c.in-Some-broken.is c.in_ok-copy.ensures
 
 pub returns-in-Some-pop_front : goal.returns-in-Some-pop_front
 returns-in-Some-pop_front c =

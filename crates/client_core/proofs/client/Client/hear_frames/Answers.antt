@@ -10,7 +10,8 @@ returns-in_err-heard c =
     match_err c.from_residual.result _ _ c.from_residual.ensures.0 (λ client s. c.in_err-heard.ensures.turns client (c.loop-heard.invariant client s))
 
 pub returns-in-Some : goal.returns-in-Some
-returns-in-Some c = hears_passed c.args.self.now c.loop-heard.self c.turn.new.self c.in_ok-heard.field-0 c.in-Some.heard c.in-Some.is c.loop-heard.invariant c.in_ok-heard.ensures.turns
+returns-in-Some c = hears_passed c.args.self.now c.loop-heard.self c.turn.new.self
+    c.in_ok-heard.field-0 c.in-Some.heard c.in-Some.is c.loop-heard.invariant c.in_ok-heard.ensures.turns
 
 pub loop-heard-preserved : goal.loop-heard-preserved
 loop-heard-preserved c =

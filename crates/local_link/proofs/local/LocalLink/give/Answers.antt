@@ -5,7 +5,8 @@ use Rattle.local_link.proofs.local.LocalLink.give.Goals as goal
 
 pub returns-then-waits-gt0-clause-gives : goal.returns-then-waits-gt0-clause-gives
 returns-then-waits-gt0-clause-gives g c =
-    bytes_at_once _ _ _ _ _ _ _ c.self.view_is c.in_ok-waits.ensures.takes (omega (arith, c.if-waits-gt0.true)) c.in_ok-waits.ensures.fits c.moment-now.ensures c.bytes.ensures refl
+    bytes_at_once _ _ _ _ _ _ _ c.self.view_is c.in_ok-waits.ensures.takes
+    (omega (arith, c.if-waits-gt0.true)) c.in_ok-waits.ensures.fits c.moment-now.ensures c.bytes.ensures refl
 
 pub returns-then-closing-clause-gives : goal.returns-then-closing-clause-gives
 returns-then-closing-clause-gives g c =
@@ -23,7 +24,8 @@ returns-then-came-gt0-clause-gives g c =
       tick = c.in_ok-step.ensures;
       last = subst (λ m. m ≤ LAST_MOMENT) c.moment.ensures c.next_tick-now.ensures.bound;
       moment = c.next_tick-now.ensures.is ∙ ap next_tick c.moment.ensures;
-    }) c.in_ok-came.ensures.takes (omega (arith, c.if-came-gt0.true)) (omega (arith, c.in_ok-came.ensures.fits, c.take_waiting.auto.buf)) c.bytes-then-came-gt0.ensures refl
+    }) c.in_ok-came.ensures.takes (omega (arith, c.if-came-gt0.true))
+    (omega (arith, c.in_ok-came.ensures.fits, c.take_waiting.auto.buf)) c.bytes-then-came-gt0.ensures refl
 
 pub returns-clause-gives : goal.returns-clause-gives
 returns-clause-gives g c =

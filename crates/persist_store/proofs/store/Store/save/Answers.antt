@@ -29,6 +29,7 @@ returns-in-Ok-clause-ready g c = λ file told works.
     let standing = option_map standing_kept c.self.inside.standing in
     let ready : (f : List ℕ) → g.D.Disk.contents c.args.disk.now ≡ Some f → Only f (g.D.Disk.may_leave c.args.disk.now) × (standing_of f ≡ standing) =
     λ f is. ((c.requires.ready f is open_).0, (c.requires.ready f is open_).1 ∙ sym (ap (λ (s : StoreState). s.standing) c.self.view_is)) in
-    let after = ready_after g.D.Disk.contents g.D.Disk.may_leave g.D.Disk.moment g.D.Disk.left_since c.args.disk.now c.save_slot.new.disk standing c.args.body.now ready c.save_slot.ensures.untold
+    let after = ready_after g.D.Disk.contents g.D.Disk.may_leave g.D.Disk.moment g.D.Disk.left_since
+    c.args.disk.now c.save_slot.new.disk standing c.args.body.now ready c.save_slot.ensures.untold
     (λ f is. c.in-Ok.ensures.done f (record { told = is; only = (ready f is).0 }) (ready f is).1) file told in
     (after.0, after.1 ∙ sym (ap (λ t. Some t) c.in-Ok.ensures.slot))

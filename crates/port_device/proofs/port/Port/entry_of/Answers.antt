@@ -18,8 +18,10 @@ returns-then-have_same_type-clause-fits c =
     let with_ : IsTableWith m.types m.table = record { port = c.self.invariant.port; is_of = c.self.invariant.table } in
     let new = c.index-symbols-place.result in
     let number = sym c.in_ok-named.ensures ∙ c.in-Some.is in
-    let there = row_called c.symbols.result.now m.table.symbols c.as_slice.result.now c.in-Some.place new c.symbols.ensures.rows number c.index-symbols-place.is in
-    let ends : EndsInReach new = ends_in_reach m.types m.table c.symbols.result.now c.in-Some.place new with_ c.self.invariant.few c.symbols.ensures.rows there in
+    let there = row_called c.symbols.result.now m.table.symbols c.as_slice.result.now
+    c.in-Some.place new c.symbols.ensures.rows number c.index-symbols-place.is in
+    let ends : EndsInReach new =
+    ends_in_reach m.types m.table c.symbols.result.now c.in-Some.place new with_ c.self.invariant.few c.symbols.ensures.rows there in
     let same = c.have_same_type.ensures.len c.if-have_same_type.true in
     let from_ = c.whole_place.ensures in
     let to_ = c.whole_place-then-have_same_type.ensures in
@@ -34,7 +36,8 @@ returns-then-have_same_type-clause-entry c = λ before.
     let s = symbol_of_row c.args.row.now in
     let found = sym c.in_ok-named.ensures ∙ c.in-Some.is in
     let number = ap (λ name. number_called name m.table.symbols) (sym c.as_slice.ensures) ∙ found in
-    let there = row_called c.symbols.result.now m.table.symbols c.as_slice.result.now c.in-Some.place new c.symbols.ensures.rows found c.index-symbols-place.is in
+    let there = row_called c.symbols.result.now m.table.symbols c.as_slice.result.now
+    c.in-Some.place new c.symbols.ensures.rows found c.index-symbols-place.is in
     let symbol = row-symbol c.symbols.result.now m.table.symbols c.in-Some.place new c.symbols.ensures.rows there in
     let from_ = c.whole_place.ensures in
     let to_ = c.whole_place-then-have_same_type.ensures in
@@ -55,7 +58,8 @@ returns-else-have_same_type-clause-entry c = λ before.
     let s = symbol_of_row c.args.row.now in
     let found = sym c.in_ok-named.ensures ∙ c.in-Some.is in
     let number = ap (λ name. number_called name m.table.symbols) (sym c.as_slice.ensures) ∙ found in
-    let there = row_called c.symbols.result.now m.table.symbols c.as_slice.result.now c.in-Some.place new c.symbols.ensures.rows found c.index-symbols-place.is in
+    let there = row_called c.symbols.result.now m.table.symbols c.as_slice.result.now
+    c.in-Some.place new c.symbols.ensures.rows found c.index-symbols-place.is in
     let symbol = row-symbol c.symbols.result.now m.table.symbols c.in-Some.place new c.symbols.ensures.rows there in
     let P : PortMemory
     → Type 0 = λ x. AreCompared before x.types c.args.same.now → IsTypedRow before c.args.row.now → ◌≡◌ {A = Option KeptSymbol} None

@@ -20,6 +20,7 @@ returns-clause-answer c = λ w p h.
     let m : PortMemory = memory_in c.self.inside in
     let held : HoldsPort w p m = subst (HoldsPort w p) (sym c.self.view_is) h in
     let few : c.self.inside.uploads.symbols ≤ c.args.len = omega (arith, c.if-len-self.false) in
-    fixed_given w c.args.len c.self.inside.uploads.symbols (symbol_upload_of p) (symbols_upload (types_of c.deref.result.now) c.self.inside.table) c.args.out.now c.put_symbols.new.out
+    fixed_given w c.args.len c.self.inside.uploads.symbols (symbol_upload_of p)
+    (symbols_upload (types_of c.deref.result.now) c.self.inside.table) c.args.out.now c.put_symbols.new.out
     (c.self.invariant.uploads_are.of_symbols ∙ ap length (upload_at_port w p m held)) few
     (ap (λ ts. symbols_upload (types_of ts) c.self.inside.table) c.deref.ensures ∙ upload_at_port w p m held) c.in_ok-put_symbols.ensures.ok

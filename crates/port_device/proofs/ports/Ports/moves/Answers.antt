@@ -26,7 +26,8 @@ build-requires-2 c =
     let P : List NamedType → Type 0 = λ ts. ArePartners ts (types_of c.deref-2.result.now) (length ts) c.in_ok-same.same in
     let Q : List NamedType → Type 0 = λ ts. ArePartners old.types ts (length old.types) c.in_ok-same.same in
     let partners = subst Q (ap types_of c.deref-2.ensures) (subst P (ap types_of c.deref.ensures) c.in_ok-same.ensures) in
-    let R : PortsMemory → Type 0 = λ x. (before types : List NamedType) → AreCompared before types c.in_ok-same.same → All (HasTypes before) c.as_slice.result.now
+    let R : PortsMemory → Type 0 = λ x. (before types : List NamedType)
+    → AreCompared before types c.in_ok-same.same → All (HasTypes before) c.as_slice.result.now
     → All (HasTypes types) x.ports → kept_symbols_of c.in_ok-kept.kept ≡ entries_between c.as_slice.result.now x.ports in
     let told = entries-told w v old new c.in_ok-same.same c.as_slice.result.now (kept_symbols_of c.in_ok-kept.kept) c.self.invariant c.new.invariant partners
     c.as_slice.ensures.value (subst R (sym c.new.view_is) c.in_ok-kept.ensures.kept) h k in
@@ -42,7 +43,8 @@ returns c = λ w v h_now k_now.
     let P : List NamedType → Type 0 = λ ts. ArePartners ts (types_of c.deref-2.result.now) (length ts) c.in_ok-same.same in
     let Q : List NamedType → Type 0 = λ ts. ArePartners old.types ts (length old.types) c.in_ok-same.same in
     let partners = subst Q (ap types_of c.deref-2.ensures) (subst P (ap types_of c.deref.ensures) c.in_ok-same.ensures) in
-    let R : PortsMemory → Type 0 = λ x. (before types : List NamedType) → AreCompared before types c.in_ok-same.same → All (HasTypes before) c.as_slice.result.now
+    let R : PortsMemory → Type 0 = λ x. (before types : List NamedType)
+    → AreCompared before types c.in_ok-same.same → All (HasTypes before) c.as_slice.result.now
     → All (HasTypes types) x.ports → kept_symbols_of c.in_ok-kept.kept ≡ entries_between c.as_slice.result.now x.ports in
     let told = entries-told w v old new c.in_ok-same.same c.as_slice.result.now (kept_symbols_of c.in_ok-kept.kept) c.self.invariant c.new.invariant partners
     c.as_slice.ensures.value (subst R (sym c.new.view_is) c.in_ok-kept.ensures.kept) h k in

@@ -28,7 +28,8 @@ pub reloaded_ports-requires-clause-each : goal.reloaded_ports-requires-clause-ea
 reloaded_ports-requires-clause-each c =
     let types = types_of (arc_value c.in_ok-types.types) in
     let P : List PortDesc → Type 0 = λ ps. All (λ (p : PortDesc). IsOfAccepted types (port_of p)) ps in
-    subst P (sym c.as_slice.ensures) (each_of_built c.args.d.now types (accepted_may_be_built (description_of c.args.d.now) c.requires) (sym c.in_ok-types.ensures))
+    subst P (sym c.as_slice.ensures)
+    (each_of_built c.args.d.now types (accepted_may_be_built (description_of c.args.d.now) c.requires) (sym c.in_ok-types.ensures))
 
 pub returns : goal.returns
 returns c = λ w held.

@@ -14,7 +14,9 @@ use contract.Running.{tables, tables_of}
 use sound.WpLaws.{WpFn-mono}
 use types.Logic.{Logic}
 use types.SemTy.{cells, Body as Borrowed}
-use types.Kit.{⋆, ‵, raw, ◌⊛◌, prop, ◌$◌, ◌∵◌, !, qed, by, move, keep, use1, use2, split, join, rewrite, fsplit, fsplit3, fjoin, fjoin3, feq_i, feq_l, regoal, suffices, frame, done, at_ret, flt_l, flt_i}
+use types.Kit.{⋆, ‵, raw, ◌⊛◌, prop, ◌$◌, ◌∵◌, !, qed, by, move, keep, use1, use2, split, join, rewrite}
+use types.Kit.{fsplit, fsplit3, fjoin, fjoin3, feq_i, feq_l, regoal, suffices, frame, done, at_ret, flt_l}
+use types.Kit.{flt_i}
 use types.Run.{enter, returns, of_opd, unit_lit, bin, init, stop, assigns_last, first, blocks, exec}
 use types.ByLocal.{alloc_all, pass_all, free_all, look_at, get, through, sets, env, take_at as take_local, give_at as give_local}
 use denote.Builtin.{u8, unit, RawPtr, usize}
@@ -45,7 +47,10 @@ abbrev ended : Ended
 ended = F.ended
 
 abbrev stayed : Stays ended.signature.params ended.kept
-stayed = (stay_ref (0 ∷ []) tt (plain (λ _. R)), (stay_dropped (plain (λ _. RawPtr)) yes, (stay_dropped (plain (λ _. usize)) yes, (stay_dropped (plain (λ _. u8)) yes, tt))))
+stayed = (
+  stay_ref (0 ∷ []) tt (plain (λ _. R)),
+  (stay_dropped (plain (λ _. RawPtr)) yes, (stay_dropped (plain (λ _. usize)) yes, (stay_dropped (plain (λ _. u8)) yes, tt))),
+)
 
 module _ {M : Type 1} {𝓤 : Ura M} (𝓛 : Logic 𝓤) (at_mem : Memory → SProp 𝓤) (run : Routine → Fun 𝓤) where
   open 𝓛 use {H, A}
@@ -89,9 +94,11 @@ module _ {M : Type 1} {𝓤 : Ura M} (𝓛 : Logic 𝓤) (at_mem : Memory → SP
     Said = (new.at ≡ d.at) × (new.bytes ≡ d.bytes ++ byte ∷ []) × (new.room + 1 ≡ d.room)
 
     exits : z.0.4.0 ≡ vptr rb ro ∷ [] → Said
-        → ent 𝓤 (⋆ 𝓛 (‵ (fobs self.ghost_name (R.coded.code new)) ∷ ‵ (fbor κ (Borrowed (mem R) rb ro self.ghost_name)) ∷ ‵ (flft κ q) ∷ ‵ (unit.own_val tt (vunit ∷ [])) ∷ [])) (Post vunit)
+        → ent 𝓤 (⋆ 𝓛 (‵ (fobs self.ghost_name (R.coded.code new)) ∷ ‵ (fbor κ (Borrowed (mem R) rb ro self.ghost_name))
+        ∷ ‵ (flft κ q) ∷ ‵ (unit.own_val tt (vunit ∷ [])) ∷ [])) (Post vunit)
     exits passed said =
-        qed 𝓛 (‵ (fobs self.ghost_name (R.coded.code new)) ∷ ‵ (fbor κ (Borrowed (mem R) rb ro self.ghost_name)) ∷ ‵ (flft κ q) ∷ ‵ (unit.own_val tt (vunit ∷ [])) ∷ []) ∵
+        qed 𝓛 (‵ (fobs self.ghost_name (R.coded.code new)) ∷ ‵ (fbor κ (Borrowed (mem R) rb ro self.ghost_name))
+        ∷ ‵ (flft κ q) ∷ ‵ (unit.own_val tt (vunit ∷ [])) ∷ []) ∵
         suffices ! _ (ends_at 𝓛 ended stayed clauses z vunit tt (new, (tt, (tt, (tt, tt)))) (tt, (tt, (tt, (tt, tt))))) $ says ! said $
         nothing ! $ move ! (3 ∷ 0 ∷ []) $ join ! $ frame ! $ feq_i ! (List Val) z.0.4.0 (vptr rb ro ∷ []) passed $ fjoin3 ! $
         nothing ! $ nothing ! $ fjoin ! $ nothing ! $ fjoin ! $ nothing ! $ fjoin ! $ move ! (1 ∷ 0 ∷ []) $ fjoin ! $ done !
@@ -103,15 +110,20 @@ module _ {M : Type 1} {𝓤 : Ura M} (𝓛 : Logic 𝓤) (at_mem : Memory → SP
         let Asked = (at ≡ d.at) × (count ≡ n) × (0 < d.room) in
         qed 𝓛 (((‵ (flft κ q) ⊛ ‵ ftrue) ⊛ ‵ (owns (MutRef (named 0) κ R ∷ RawPtr ∷ usize ∷ u8 ∷ []) a vss)) ∷ raw (fact 𝓤 Asked) ∷ []) ∵
         move ! (1 ∷ []) $ heard ! Asked (λ asked. split ! $ split ! $ move ! (2 ∷ []) $ fsplit ! $ fsplit3 ! $ feq_l ! (λ is₀. move ! (2 ∷ []) $
-        fsplit ! $ feq_l ! (λ is₁. fsplit ! $ fsplit ! $ feq_l ! (λ is₂. flt_l ! (λ fits_count. fsplit ! $ fsplit ! $ feq_l ! (λ is₃. flt_l ! (λ fits_byte. keep ! (1 ∷ 2 ∷ 3 ∷ []) $
+        fsplit ! $ feq_l ! (λ is₁. fsplit ! $ fsplit ! $ feq_l !
+        (λ is₂. flt_l ! (λ fits_count. fsplit ! $ fsplit ! $ feq_l ! (λ is₃. flt_l ! (λ fits_byte. keep ! (1 ∷ 2 ∷ 3 ∷ []) $
         let more : d.room ≡ suc left = omega (arith, asked.2) in
         let fits : n < 2 ^ 64 = rw (sym asked.1) fits_count in
         regoal ! (λ (us : List Val). prop (WpFn 𝓤 H C Λ code.function (us ++ (vss.1.0 ++ (vss.1.1.0 ++ (vss.1.1.1.0 ++ [])))) Post)) is₀ refl $
-        regoal ! (λ (us : List Val). prop (WpFn 𝓤 H C Λ code.function ((me ∷ []) ++ (us ++ (vss.1.1.0 ++ (vss.1.1.1.0 ++ [])))) Post)) (is₁ ∙ ap (λ p. ptr_val p ∷ []) asked.0) refl $
-        regoal ! (λ (us : List Val). prop (WpFn 𝓤 H C Λ code.function ((me ∷ []) ++ ((ptr_val d.at ∷ []) ++ (us ++ (vss.1.1.1.0 ++ [])))) Post)) (is₂ ∙ ap (λ k. vint w64 k ∷ []) asked.1) refl $
-        regoal ! (λ (us : List Val). prop (WpFn 𝓤 H C Λ code.function ((me ∷ []) ++ ((ptr_val d.at ∷ []) ++ ((vint w64 n ∷ []) ++ (us ++ [])))) Post)) is₃ refl $
+        regoal ! (λ (us : List Val). prop (WpFn 𝓤 H C Λ code.function ((me ∷ []) ++ (us ++ (vss.1.1.0 ++ (vss.1.1.1.0 ++ [])))) Post))
+        (is₁ ∙ ap (λ p. ptr_val p ∷ []) asked.0) refl $
+        regoal ! (λ (us : List Val). prop (WpFn 𝓤 H C Λ code.function ((me ∷ []) ++ ((ptr_val d.at ∷ []) ++ (us ++ (vss.1.1.1.0 ++ [])))) Post))
+        (is₂ ∙ ap (λ k. vint w64 k ∷ []) asked.1) refl $
+        regoal ! (λ (us : List Val). prop
+        (WpFn 𝓤 H C Λ code.function ((me ∷ []) ++ ((ptr_val d.at ∷ []) ++ ((vint w64 n ∷ []) ++ (us ++ [])))) Post)) is₃ refl $
         enter ! C Λ code.function (me ∷ ptr_val d.at ∷ vint w64 n ∷ vint w8 byte ∷ []) Post $
-        alloc_all ! (λ l. pass_all ! refl ((tt, tt), (((rawptr_Lawful 𝓛).typed d.at (ptr_val d.at ∷ []) refl).0, ((tt, record { fits = fits }), ((tt, record { fits = fits_byte }), tt)))) $
+        alloc_all ! (λ l. pass_all ! refl
+        ((tt, tt), (((rawptr_Lawful 𝓛).typed d.at (ptr_val d.at ∷ []) refl).0, ((tt, record { fits = fits }), ((tt, record { fits = fits_byte }), tt)))) $
         opens ! tt R {h = d} rb ro (λ vs. move ! (1 ∷ []) $ fsplit ! $ move ! (1 ∷ []) $
         in_a_block ! d.at (λ p. block_owned p d.bytes d.room) (id⊢ 𝓤 (never 𝓤)) (λ b o e. fsplit ! $ flt_l ! (λ small. fsplit ! $ move ! (1 ∷ []) $
         rewrite ! 0 (λ k. ‵ (froom (bytes_type k) b (n + o))) more refl $
@@ -130,13 +142,21 @@ module _ {M : Type 1} {𝓤 : Ura M} (𝓛 : Logic 𝓤) (at_mem : Memory → SP
         let behind : n + o + 1 ≡ length new.bytes + o = omega (arith, longer) in
         move ! (1 ∷ []) $ rewrite ! 0 (λ k. ‵ (froom (bytes_type left) b k)) behind refl $ move ! (1 ∷ 0 ∷ []) $ fjoin ! $
         flt_i ! (length new.bytes + left) (2 ^ 63) (omega (arith, longer, more, small)) $ fjoin ! $
-        rewrite ! 0 (λ (p : Ptr). ‵ (block_owned p new.bytes left)) (sym e) refl $ move ! (1 ∷ 0 ∷ []) $ fjoin ! $ move ! (1 ∷ 0 ∷ []) $ closes ! tt R new vs rb ro $
-        returns ! (look_at ! 0 refl) $ free_all ! refl $ keep ! (0 ∷ 1 ∷ 2 ∷ []) $ feq_i ! (List Val) (vunit ∷ []) (vunit ∷ []) refl $ move ! (1 ∷ 2 ∷ 3 ∷ 0 ∷ []) $
+        rewrite ! 0 (λ (p : Ptr). ‵ (block_owned p new.bytes left)) (sym e) refl $ move !
+        (1 ∷ 0 ∷ []) $ fjoin ! $ move ! (1 ∷ 0 ∷ []) $ closes ! tt R new vs rb ro $
+        returns ! (look_at ! 0 refl) $ free_all ! refl $ keep ! (0 ∷ 1 ∷ 2 ∷ []) $ feq_i !
+        (List Val) (vunit ∷ []) (vunit ∷ []) refl $ move ! (1 ∷ 2 ∷ 3 ∷ 0 ∷ []) $
         by ! (exits is₀ (refl, refl, omega (arith, more))))))))))))))
 
   meets : (𝓣 : Tables 𝓤 H) → Meets 𝓛 ended.signature (WpFn 𝓤 H 𝓣.C 𝓣.Λ code.function) (closing 𝓛 ended clauses)
   meets 𝓣 =
-      walk_Meets 𝓛 ended stayed (Goes-ref 𝓛 1 0 tt (plain (λ _. R)), (Goes-dropped 𝓛 1 (plain (λ _. RawPtr)) yes (λ κs x f. refl), (Goes-dropped 𝓛 1 (plain (λ _. usize)) yes (λ κs x f. refl), (Goes-dropped 𝓛 1 (plain (λ _. u8)) yes (λ κs x f. refl), tt)))) clauses
+      walk_Meets 𝓛 ended stayed (
+        Goes-ref 𝓛 1 0 tt (plain (λ _. R)),
+        (
+          Goes-dropped 𝓛 1 (plain (λ _. RawPtr)) yes (λ κs x f. refl),
+          (Goes-dropped 𝓛 1 (plain (λ _. usize)) yes (λ κs x f. refl), (Goes-dropped 𝓛 1 (plain (λ _. u8)) yes (λ κs x f. refl), tt)),
+        ),
+      ) clauses
       (WpFn 𝓤 H 𝓣.C 𝓣.Λ code.function) (WpFn-mono 𝓤 H 𝓛.laws 𝓣 code.function) (walks 𝓣.C 𝓣.Λ)
 
 pub put_spec : {M : Type 1} → stated.statement M

@@ -42,7 +42,10 @@ abbrev ended : Ended
 ended = F.ended
 
 abbrev stayed : Stays ended.signature.params ended.kept
-stayed = (stay_dropped (RefOf (0 ∷ []) tt (plain (λ _. the_row)) (λ _. tt)) yes, (stay_dropped (plain (λ _. RawPtr)) yes, (stay_dropped (plain (λ _. usize)) yes, (stay_dropped (plain (λ _. usize)) yes, tt))))
+stayed = (
+  stay_dropped (RefOf (0 ∷ []) tt (plain (λ _. the_row)) (λ _. tt)) yes,
+  (stay_dropped (plain (λ _. RawPtr)) yes, (stay_dropped (plain (λ _. usize)) yes, (stay_dropped (plain (λ _. usize)) yes, tt))),
+)
 
 module _ {M : Type 1} {𝓤 : Ura M} (𝓛 : Logic 𝓤) (at_mem : Memory → SProp 𝓤) (run : Routine → Fun 𝓤) where
   open 𝓛 use {H}
@@ -69,9 +72,11 @@ module _ {M : Type 1} {𝓤 : Ura M} (𝓛 : Logic 𝓤) (at_mem : Memory → SP
         let long : length seen ≡ len = length-take-le len _ (omega (arith, asked.1, length-drop from d.bytes)) in
         fsplit ! $ fsplit ! $ feq_l ! (λ is₀. unhide ! $ fsplit ! $ drop ! $
         in_a_block ! d.at (λ p. block_lent p d.bytes d.room κ) (id⊢ 𝓤 (never 𝓤)) (λ b o e. fsplit ! $ flt_l ! (λ small. move ! (1 ∷ []) $
-        fsplit ! $ feq_l ! (λ is₁. fsplit ! $ fsplit ! $ feq_l ! (λ is₂. flt_l ! (λ fits_from. fsplit ! $ fsplit ! $ feq_l ! (λ is₃. flt_l ! (λ fits_len. drop ! $
+        fsplit ! $ feq_l ! (λ is₁. fsplit ! $ fsplit ! $ feq_l !
+        (λ is₂. flt_l ! (λ fits_from. fsplit ! $ fsplit ! $ feq_l ! (λ is₃. flt_l ! (λ fits_len. drop ! $
         regoal ! (λ (us : List Val). prop (WpFn 𝓤 H C Λ code.function (us ++ (vss.1.0 ++ (vss.1.1.0 ++ (vss.1.1.1.0 ++ [])))) Post)) is₀ refl $
-        regoal ! (λ (us : List Val). prop (WpFn 𝓤 H C Λ code.function ((me ∷ []) ++ (us ++ (vss.1.1.0 ++ (vss.1.1.1.0 ++ [])))) Post)) (is₁ ∙ ap (λ p. ptr_val p ∷ []) (asked.0 ∙ e)) refl $
+        regoal ! (λ (us : List Val). prop (WpFn 𝓤 H C Λ code.function ((me ∷ []) ++ (us ++ (vss.1.1.0 ++ (vss.1.1.1.0 ++ [])))) Post))
+        (is₁ ∙ ap (λ p. ptr_val p ∷ []) (asked.0 ∙ e)) refl $
         regoal ! (λ (us : List Val). prop (WpFn 𝓤 H C Λ code.function ((me ∷ []) ++ ((vptr b o ∷ []) ++ (us ++ (vss.1.1.1.0 ++ [])))) Post)) is₂ refl $
         regoal ! (λ (us : List Val). prop (WpFn 𝓤 H C Λ code.function ((me ∷ []) ++ ((vptr b o ∷ []) ++ ((vint w64 from ∷ []) ++ (us ++ [])))) Post)) is₃ refl $
         enter ! C Λ code.function (me ∷ vptr b o ∷ vint w64 from ∷ vint w64 len ∷ []) Post $
@@ -82,15 +87,24 @@ module _ {M : Type 1} {𝓤 : Ura M} (𝓛 : Logic 𝓤) (at_mem : Memory → SP
         exec ! C Λ (env (code.function).locals l) code.Mir.t-2 (at_ret (env (code.function).locals l) Post) $
         sets ! (of_opd ! (get ! refl)) refl (tt, (tt, (record { fits = fits_len }, tt))) $
         use1 𝓛 (‵ (elements_shared u8 seen b (from + o) κ)) (run_seen 𝓛 b κ d.bytes from len o) $ hide ! $
-        flt_i ! (length seen * 1) (2 ^ 63) (omega (arith, small, asked.1, long)) $ flt_i ! (length seen) (2 ^ 64) (omega (arith, small, asked.1, long)) $ fjoin ! $
-        feq_i ! (List Val) (slice_val (b, from + o) len ∷ []) (slice_val (b, from + o) (length seen) ∷ []) (ap (λ k. slice_val (b, from + o) k ∷ []) (sym long)) $ fjoin ! $ fjoin ! $
+        flt_i ! (length seen * 1) (2 ^ 63) (omega (arith, small, asked.1, long)) $ flt_i !
+        (length seen) (2 ^ 64) (omega (arith, small, asked.1, long)) $ fjoin ! $
+        feq_i ! (List Val) (slice_val (b, from + o) len ∷ []) (slice_val (b, from + o) (length seen) ∷ [])
+        (ap (λ k. slice_val (b, from + o) k ∷ []) (sym long)) $ fjoin ! $ fjoin ! $
         returns ! (look_at ! 0 refl) $ free_all ! refl $
-        suffices ! _ (ends_at 𝓛 ended stayed clauses z (slice_val (b, from + o) len) (record { ref_ptr = (b, from + o); now = seen }) (tt, (tt, (tt, (tt, tt)))) (tt, (tt, (tt, (tt, tt))))) $ says ! refl $
+        suffices ! _ (ends_at 𝓛 ended stayed clauses z (slice_val (b, from + o) len)
+        (record { ref_ptr = (b, from + o); now = seen }) (tt, (tt, (tt, (tt, tt)))) (tt, (tt, (tt, (tt, tt))))) $ says ! refl $
         nothing ! $ nothing ! $ fjoin ! $ nothing ! $ fjoin ! $ nothing ! $ fjoin ! $ nothing ! $ fjoin ! $ move ! (2 ∷ 0 ∷ 1 ∷ []) $ done !))))))))))
 
   meets : (𝓣 : Tables 𝓤 H) → Meets 𝓛 ended.signature (WpFn 𝓤 H 𝓣.C 𝓣.Λ code.function) (closing 𝓛 ended clauses)
   meets 𝓣 =
-      walk_Meets 𝓛 ended stayed (Goes-dropped 𝓛 1 (RefOf (0 ∷ []) tt (plain (λ _. the_row)) (λ _. tt)) yes (λ κs x f. refl), (Goes-dropped 𝓛 1 (plain (λ _. RawPtr)) yes (λ κs x f. refl), (Goes-dropped 𝓛 1 (plain (λ _. usize)) yes (λ κs x f. refl), (Goes-dropped 𝓛 1 (plain (λ _. usize)) yes (λ κs x f. refl), tt)))) clauses
+      walk_Meets 𝓛 ended stayed (
+        Goes-dropped 𝓛 1 (RefOf (0 ∷ []) tt (plain (λ _. the_row)) (λ _. tt)) yes (λ κs x f. refl),
+        (
+          Goes-dropped 𝓛 1 (plain (λ _. RawPtr)) yes (λ κs x f. refl),
+          (Goes-dropped 𝓛 1 (plain (λ _. usize)) yes (λ κs x f. refl), (Goes-dropped 𝓛 1 (plain (λ _. usize)) yes (λ κs x f. refl), tt)),
+        ),
+      ) clauses
       (WpFn 𝓤 H 𝓣.C 𝓣.Λ code.function) (WpFn-mono 𝓤 H 𝓛.laws 𝓣 code.function) (walks 𝓣.C 𝓣.Λ)
 
 pub slice_spec : {M : Type 1} → stated.statement M

@@ -10,4 +10,7 @@ returns-in_default c = λ rs holds.
 pub returns : goal.returns
 returns c = λ rs holds.
     let put = was_put c.insert.result c.insert.ensures.updates c.insert.ensures.absent (λ none. (let both = c.in-Some.ensures ∙ none in cc)) in
-    record { at = λ d. after_put rs c.args.conn c.args.n c.in-Some.left _ c.args.self.now.map c.insert.new.self (sym c.in-Some.ensures) (c.saturating_sub.ensures ∙ ap (λ k. c.in-Some.left - k) c.from.ensures) put holds.at d }
+    record {
+      at = λ d. after_put rs c.args.conn c.args.n c.in-Some.left _ c.args.self.now.map c.insert.new.self
+          (sym c.in-Some.ensures) (c.saturating_sub.ensures ∙ ap (λ k. c.in-Some.left - k) c.from.ensures) put holds.at d;
+    }

@@ -14,4 +14,5 @@ invariant_of-result c =
     let L : List Move → Type 0 = λ log. PlaysOn lines lines log c.new.result c.new-2.result false 0 in
     let F : List ℕ → Type 0 = λ failing. PlaysOn lines lines [] c.new.result failing false 0 in
     let N : List ScriptLine → Type 0 = λ ls. OpenNew [] ls in
-    subst L (sym c.new-3.ensures.items) (subst F (sym c.new-2.ensures) (plays_first lines c.new.result c.new.ensures (subst N (sym c.into_lines.ensures) c.requires)))
+    subst L (sym c.new-3.ensures.items)
+    (subst F (sym c.new-2.ensures) (plays_first lines c.new.result c.new.ensures (subst N (sym c.into_lines.ensures) c.requires)))

@@ -13,6 +13,7 @@ invariant_of-self-2 c =
     let is : taken ≡ take n c.args.bytes.now = search rules in
     let within : n ≤ length c.args.bytes.now = c.most-n.ensures.within in
     let lengthy : length taken ≡ n = ap length is ∙ length-take-le n c.args.bytes.now within in
-    rw c.in_ok-push.ensures.items (plays_took _ _ _ _ _ _ _ _ c.args.conn (length c.args.bytes.now) taken c.self.invariant c.if-self.false (sym c.has.ensures ∙ c.if-has.false)
+    rw c.in_ok-push.ensures.items
+    (plays_took _ _ _ _ _ _ _ _ c.args.conn (length c.args.bytes.now) taken c.self.invariant c.if-self.false (sym c.has.ensures ∙ c.if-has.false)
     (λ rs holds. lengthy ∙ c.most-n.ensures.most rs holds)
     (λ rs holds. let P : ℕ → Type 0 = λ k. HoldsRooms c.take.new.self (rooms_after rs c.args.conn k) in subst P (sym lengthy) (c.take.ensures rs holds)))

@@ -27,14 +27,17 @@ loop-i-preserved c =
     let inv = c.loop-i.invariant in
     let below : i < length old.sessions.items = omega (arith, inv.many) in
     record {
-      aligned = ap (λ (ts : List Turned). length ts) d.sessions ∙ length-set old.sessions.items i d.turned ∙ inv.aligned ∙ sym (length-set_value_at old.waiting.entries i d.waiting)
+      aligned = ap (λ (ts : List Turned). length ts) d.sessions ∙ length-set old.sessions.items i d.turned
+          ∙ inv.aligned ∙ sym (length-set_value_at old.waiting.entries i d.waiting)
           ∙ sym (ap (λ (es : List (ℕ × Waiting)). length es) d.entries);
       many = ap (λ (ts : List Turned). length ts) d.sessions ∙ length-set old.sessions.items i d.turned ∙ inv.many;
       marks = ap (map mark_of) d.entries ∙ marks-set old.waiting.entries i d.waiting d.blocked ∙ inv.marks;
       each = λ plant outcome ks each.
-          (up_to_next plant outcome i old new c.args.summary.now c.loop-i.summary c.deliver_at.new.summary ks d below (inv.each plant outcome ks each) (inv.counted plant outcome ks each)).each;
+          (up_to_next plant outcome i old new c.args.summary.now c.loop-i.summary c.deliver_at.new.summary ks d below
+          (inv.each plant outcome ks each) (inv.counted plant outcome ks each)).each;
       counted = λ plant outcome ks each.
-          (up_to_next plant outcome i old new c.args.summary.now c.loop-i.summary c.deliver_at.new.summary ks d below (inv.each plant outcome ks each) (inv.counted plant outcome ks each)).counted;
+          (up_to_next plant outcome i old new c.args.summary.now c.loop-i.summary c.deliver_at.new.summary ks d below
+          (inv.each plant outcome ks each) (inv.counted plant outcome ks each)).counted;
     }
 
 pub returns : goal.returns
@@ -51,7 +54,8 @@ returns c =
       counted = λ plant outcome ks each.
           let many = up_to_length plant outcome 0 old.sessions.items old.waiting.entries ks each in
           let all : take i ks ≡ ks = take_all i ks (omega (arith, many)) in
-          subst (λ (ls : List ServedConnection). CountsAll c.args.summary.now c.loop-i.summary ls (map (after_given outcome) ls)) all (inv.counted plant outcome ks each);
+          subst (λ (ls : List ServedConnection). CountsAll c.args.summary.now c.loop-i.summary ls (map (after_given outcome) ls)) all
+          (inv.counted plant outcome ks each);
       marks = inv.marks;
       aligned = inv.aligned;
     }

@@ -12,7 +12,8 @@ invariant_of-self c =
     let old = c.args.self.now in
     let i = c.args.i in
     let new = c.without-self.result in
-    let idle = idle_removed old.touched new old.sessions.items old.waiting.entries i old.others_idle c.without-self.ensures.before c.without-self.ensures.behind in
+    let idle = idle_removed old.touched new old.sessions.items old.waiting.entries
+    i old.others_idle c.without-self.ensures.before c.without-self.ensures.behind in
     record {
       others_idle = subst (λ (ts : List Turned). OthersIdle new ts c.shift_remove_index.new.self.entries) (sym c.remove_session.ensures)
           (subst (λ (es : List (ℕ × Waiting)). OthersIdle new (remove old.sessions.items i) es) (sym c.shift_remove_index.ensures.entries) idle);

@@ -9,6 +9,7 @@ loop-i-preserved c =
     let i = c.loop-i.i in
     elim c.match-number.branch [
       | in-Some+in_ok-push w ↦
-          w.numbers-is ∙ w.in_ok-push.ensures.ok ∙ ap (λ (ns : List ℕ). ns ++ w.in-Some.number ∷ []) c.loop-i.invariant ∙ sym (keys_next es i w.in-Some.number c.number.result c.number.ensures w.in-Some.is)
+          w.numbers-is ∙ w.in_ok-push.ensures.ok ∙ ap (λ (ns : List ℕ). ns ++ w.in-Some.number ∷ []) c.loop-i.invariant
+          ∙ sym (keys_next es i w.in-Some.number c.number.result c.number.ensures w.in-Some.is)
       | in_default w ↦ absurd (key_there es i c.number.result c.number.ensures (omega arith) w.in_default.not-Some)
     ]

@@ -21,6 +21,7 @@ invariant_of-self-2 c =
     let t = c.in_ok-turned.turned in
     let w = c.in_ok-waiting.waiting in
     let more = idle_session old.touched old.sessions.items old.waiting.entries t c.in_ok-turned.ensures.open_ old.others_idle in
-    let idle = idle_inserted c.insert.result old.touched (old.sessions.items ++ t ∷ []) old.waiting.entries c.insert.new.self.entries c.args.number w c.insert.ensures.entries c.insert.ensures.err
+    let idle = idle_inserted c.insert.result old.touched (old.sessions.items ++ t ∷ []) old.waiting.entries
+    c.insert.new.self.entries c.args.number w c.insert.ensures.entries c.insert.ensures.err
     c.requires (nothing_offered w c.in_ok-waiting.ensures) more in
     record { others_idle = subst (λ (ts : List Turned). OthersIdle old.touched ts c.insert.new.self.entries) (sym c.in_ok-push.ensures.items) idle }

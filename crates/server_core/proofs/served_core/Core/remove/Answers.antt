@@ -9,7 +9,8 @@ use Rattle.server_core.proofs.served_core.Core.remove.Goals as goal
 
 pub invariant_of-self : goal.invariant_of-self
 invariant_of-self g c = λ working.
-    ended_some (view_of c.self.inside.server) (view_of c.end.new.self) (g.S.Sources.waves c.self.inside.signals) c.args.conn (c.self.invariant working) c.end.ensures.follows
+    ended_some (view_of c.self.inside.server) (view_of c.end.new.self)
+    (g.S.Sources.waves c.self.inside.signals) c.args.conn (c.self.invariant working) c.end.ensures.follows
 
 pub returns-clause-shut : goal.returns-clause-shut
 returns-clause-shut g c = λ x.

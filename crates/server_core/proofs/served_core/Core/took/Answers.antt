@@ -7,4 +7,5 @@ use Rattle.server_core.proofs.served_core.Core.took.Goals as goal
 pub invariant_of-self : goal.invariant_of-self
 invariant_of-self g c = λ working.
     let fits = subst (λ (v : CoreView). FitsOffer c.args.n c.args.conn v) (sym c.self.view_is) c.requires in
-    took_some (view_of c.self.inside.server) (view_of c.took.new.self) (g.S.Sources.waves c.self.inside.signals) c.args.conn c.args.n (c.self.invariant working) fits c.took.ensures.follows
+    took_some (view_of c.self.inside.server) (view_of c.took.new.self)
+    (g.S.Sources.waves c.self.inside.signals) c.args.conn c.args.n (c.self.invariant working) fits c.took.ensures.follows

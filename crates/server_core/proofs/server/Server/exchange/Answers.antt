@@ -24,7 +24,8 @@ moves-requires-clause-new c =
 
 pub tell_all-requires : goal.tell_all-requires
 tell_all-requires c =
-    can_tell (view_of c.args.self.now) c.in_ok-ports.ports c.in_ok-moves.moves (description_of c.args.d.now) c.as_mut_slice-sessions.result.now c.requires.serving c.in_ok-ports.ensures c.in_ok-moves.ensures
+    can_tell (view_of c.args.self.now) c.in_ok-ports.ports c.in_ok-moves.moves (description_of c.args.d.now)
+    c.as_mut_slice-sessions.result.now c.requires.serving c.in_ok-ports.ensures c.in_ok-moves.ensures
     c.as_mut_slice-sessions.ensures.value
 
 pub returns : goal.returns
@@ -33,14 +34,17 @@ returns c =
     let d = description_of c.args.d.now in
     let sessions = old.clients.sessions in
     let list = c.tell_all.new.list in
-    let back = lent_back list sessions.items sessions.len sessions.ok.0 (c.tell_all.auto.list ∙ ap (λ (ts : List Turned). length ts) c.as_mut_slice-sessions.ensures.value) in
+    let back = lent_back list sessions.items sessions.len sessions.ok.0
+    (c.tell_all.auto.list ∙ ap (λ (ts : List Turned). length ts) c.as_mut_slice-sessions.ensures.value) in
     record {
       device = λ waves x s.
-          reloaded_device old.device _ waves d x (record { ports = c.in_ok-ports.ensures; net = refl; routes = c.in_ok-routes.ensures; signals = refl; moment = refl }) s.device;
+          reloaded_device old.device _ waves d x
+          (record { ports = c.in_ok-ports.ensures; net = refl; routes = c.in_ok-routes.ensures; signals = refl; moment = refl }) s.device;
       asked = λ waves x s.
           let w = x.state.world in
           let z = world_after_reload w d in
-          let moved = moved_between w z old.device.ports c.in_ok-ports.ports c.in_ok-moves.moves s.device.world.ports (c.in_ok-ports.ensures w s.device.world.ports) c.in_ok-moves.ensures in
+          let moved = moved_between w z old.device.ports c.in_ok-ports.ports c.in_ok-moves.moves s.device.world.ports
+          (c.in_ok-ports.ensures w s.device.world.ports) c.in_ok-moves.ensures in
           subst (λ (ts : List Turned). EachAsked w.plant z.plant (client_reloaded x.state.moment w z) sessions.items ts) (sym back)
           (subst (λ (t : ℕ). EachAsked w.plant z.plant (client_reloaded t w z) sessions.items list) s.device.moment
           (subst (λ (ts : List Turned). EachAsked w.plant z.plant (client_reloaded old.device.moment w z) ts list) c.as_mut_slice-sessions.ensures.value

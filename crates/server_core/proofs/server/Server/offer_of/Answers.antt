@@ -9,7 +9,8 @@ use Rattle.server_core.proofs.server.Server.offer_of.Goals as goal
 
 pub returns-in_err-i-clause-offer : goal.returns-in_err-i-clause-offer
 returns-in_err-i-clause-offer c =
-    ap option_copied c.from_residual.ensures ∙ sym (read_absent offer_of_waiting None c.args.self.now.clients.waiting.entries c.args.number c.in_err-i.ensures.absent)
+    ap option_copied c.from_residual.ensures
+    ∙ sym (read_absent offer_of_waiting None c.args.self.now.clients.waiting.entries c.args.number c.in_err-i.ensures.absent)
 
 pub returns-then-waiting-clause-offer : goal.returns-then-waiting-clause-offer
 returns-then-waiting-clause-offer c =

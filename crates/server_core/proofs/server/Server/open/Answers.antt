@@ -9,8 +9,10 @@ returns-in-Some-clause-follows c = λ waves x s new.
 
 pub returns-in_ok-open-in-None-clause-follows : goal.returns-in_ok-open-in-None-clause-follows
 returns-in_ok-open-in-None-clause-follows c = λ waves x s new.
-    opens_new c.args.self.now (let s = c.args.self.now in record s { clients = c.open.new.self; summary = c.count_connection.new.self }) c.args.number waves x c.in_ok-open-in-None.ensures refl c.count_connection.ensures s new
+    opens_new c.args.self.now (let s = c.args.self.now in record s { clients = c.open.new.self; summary = c.count_connection.new.self })
+    c.args.number waves x c.in_ok-open-in-None.ensures refl c.count_connection.ensures s new
 
 pub returns-in_ok-open-in-None-clause-some : goal.returns-in_ok-open-in-None-clause-some
 returns-in_ok-open-in-None-clause-some c = λ waves s.
-    opened_some c.args.self.now (let s = c.args.self.now in record s { clients = c.open.new.self; summary = c.count_connection.new.self }) c.args.number waves c.in-None.ensures.absent c.in_ok-open-in-None.ensures refl c.count_connection.ensures s
+    opened_some c.args.self.now (let s = c.args.self.now in record s { clients = c.open.new.self; summary = c.count_connection.new.self })
+    c.args.number waves c.in-None.ensures.absent c.in_ok-open-in-None.ensures refl c.count_connection.ensures s

@@ -11,12 +11,14 @@ use Rattle.server_core.proofs.server.Server.took.Goals as goal
 pub took-requires : goal.took-requires
 took-requires c =
     let w = c.index_mut-waiting.result.now in
-    let read = read_at offer_of_waiting None c.args.self.now.clients.waiting.entries c.args.number c.in-Some.i w c.in-Some.ensures.found c.index_mut-waiting.ensures.value in
+    let read = read_at offer_of_waiting None c.args.self.now.clients.waiting.entries
+    c.args.number c.in-Some.i w c.in-Some.ensures.found c.index_mut-waiting.ensures.value in
     fits_first c.args.n w (subst (λ o. IsSomeAnd o (λ (left : List ℕ). c.args.n ≤ length left)) read c.requires)
 
 pub returns-in-Some-clause-follows : goal.returns-in-Some-clause-follows
 returns-in-Some-clause-follows c = λ waves x left bytes s offered taken.
-    took_at (view_of c.args.self.now) waves x c.args.number c.in-Some.i c.index_mut-waiting.result.now c.took.new.self c.args.n left bytes s c.in-Some.ensures.found
+    took_at (view_of c.args.self.now) waves x c.args.number c.in-Some.i
+    c.index_mut-waiting.result.now c.took.new.self c.args.n left bytes s c.in-Some.ensures.found
     c.index_mut-waiting.ensures.value offered taken c.requires c.took.ensures.out c.took.ensures.blocked
 
 pub returns-in-Some-clause-fewer : goal.returns-in-Some-clause-fewer
@@ -26,18 +28,24 @@ returns-in-Some-clause-fewer c =
     let read = read_at offer_of_waiting None es c.args.number c.in-Some.i w c.in-Some.ensures.found c.index_mut-waiting.ensures.value in
     let before = read_at offers_of_waiting 0 es c.args.number c.in-Some.i w c.in-Some.ensures.found c.index_mut-waiting.ensures.value in
     let after = read_set offers_of_waiting 0 es c.args.number c.in-Some.i c.took.new.self c.in-Some.ensures.found in
-    let less = fewer_left c.args.n w c.took.new.self (subst (λ o. IsSomeAnd o (λ (left : List ℕ). c.args.n ≤ length left)) read c.requires) c.took.ensures.out c.took.ensures.blocked in
+    let less = fewer_left c.args.n w c.took.new.self
+    (subst (λ o. IsSomeAnd o (λ (left : List ℕ). c.args.n ≤ length left)) read c.requires) c.took.ensures.out c.took.ensures.blocked in
     subst (λ (m : ℕ). m < offers_among es c.args.number) (sym after) (subst (λ (m : ℕ). offers_of_waiting c.took.new.self < m) (sym before) less)
 
 pub returns-in_default-clause-follows : goal.returns-in_default-clause-follows
 returns-in_default-clause-follows c = λ waves x left bytes s offered taken.
-    absurd (let both = sym (read_absent offer_of_waiting None c.args.self.now.clients.waiting.entries c.args.number c.in_default.ensures.absent) ∙ offered in cc)
+    absurd (let both = sym (read_absent offer_of_waiting None c.args.self.now.clients.waiting.entries c.args.number c.in_default.ensures.absent)
+    ∙ offered in cc)
 
 pub returns-in_default-clause-fewer : goal.returns-in_default-clause-fewer
 returns-in_default-clause-fewer c =
-    absurd (subst (λ o. IsSomeAnd o (λ (left : List ℕ). c.args.n ≤ length left)) (read_absent offer_of_waiting None c.args.self.now.clients.waiting.entries c.args.number c.in_default.ensures.absent) c.requires)
+    absurd (subst (λ o. IsSomeAnd o (λ (left : List ℕ). c.args.n ≤ length left))
+    (read_absent offer_of_waiting None c.args.self.now.clients.waiting.entries c.args.number c.in_default.ensures.absent) c.requires)
 
 pub invariant_of-self-in-Some : goal.invariant_of-self-in-Some
 invariant_of-self-in-Some c =
     let old = c.args.self.now.clients in
-    record { others_idle = idle_set_waiting old.touched c.with-self.result old.sessions.items old.waiting.entries c.in-Some.i c.took.new.self old.others_idle c.with-self.ensures }
+    record {
+      others_idle = idle_set_waiting old.touched c.with-self.result old.sessions.items
+          old.waiting.entries c.in-Some.i c.took.new.self old.others_idle c.with-self.ensures;
+    }

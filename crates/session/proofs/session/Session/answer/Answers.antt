@@ -16,10 +16,12 @@ pub returns-in_default-clause-keeps : goal.returns-in_default-clause-keeps
 returns-in_default-clause-keeps c = keep-same _
 
 pub returns-in_err-put_room-clause-keeps : goal.returns-in_err-put_room-clause-keeps
-returns-in_err-put_room-clause-keeps c = keep-with c.args.ports.now c.args.h.now.target.port c.in-Some.port.now c.in-Some.port.now (sym c.in-Some.ensures.value) refl
+returns-in_err-put_room-clause-keeps c =
+    keep-with c.args.ports.now c.args.h.now.target.port c.in-Some.port.now c.in-Some.port.now (sym c.in-Some.ensures.value) refl
 
 pub run-requires-clause-some : goal.run-requires-clause-some
-run-requires-clause-some c = some-asks c.args.ports.now c.args.self.now c.args.h.now.target.port c.in-Some.port.now c.requires.served (sym c.in-Some.ensures.value)
+run-requires-clause-some c =
+    some-asks c.args.ports.now c.args.self.now c.args.h.now.target.port c.in-Some.port.now c.requires.served (sym c.in-Some.ensures.value)
 
 pub run-requires-clause-number : goal.run-requires-clause-number
 run-requires-clause-number c = sym (numbered-is c.args.h.now.target.port c.args.ports.now.ports c.in-Some.port.now (sym c.in-Some.ensures.value))

@@ -16,5 +16,6 @@ returns c =
     put ∙ ap (λ x. x ++ second) (c.in_ok-put16.ensures.ok ∙ ap (λ x. x ++ first) c.in_ok-put32.ensures.ok)
     ∙ append_assoc (c.args.out.now ++ code) first second ∙ append_assoc c.args.out.now code (first ++ second)
     ∙ ap (λ x. c.args.out.now ++ x) (sym (state-written c.state-ads.result.0 c.state-ads.result.1)) in
-    state-runs a c.args.port.now c.args.self.now c.state-ads.result.0 c.state-ads.result.1 _ _ h c.state-ads.ensures.ads c.state-ads.ensures.device ads device whole)
+    state-runs a c.args.port.now c.args.self.now c.state-ads.result.0 c.state-ads.result.1
+    _ _ h c.state-ads.ensures.ads c.state-ads.ensures.device ads device whole)
     c.put16-2.ensures.ok

@@ -10,12 +10,21 @@ returns-clause-gives c =
 pub returns-clause-leaves : goal.returns-clause-leaves
 returns-clause-leaves c =
     leaves-all c.args.self.now _ (ReadWrite c.args.group c.args.offset c.args.read_len c.args.bytes.now) c.read_write.result
-    (λ x h after. record { asks = after; asker = h.asker; number = h.number; lent = record { handles = h.lent.handles; port = h.lent.port; keeps = h.lent.keeps }; notes = same-then x.first x.asking.client _ h.notes (same-notes x.asking.client _ (read_write-effect x.asking c.args.group c.args.offset c.args.read_len c.args.bytes.now)) }) c.read_write.ensures.leaves
+    (λ x h after. record {
+      asks = after;
+      asker = h.asker;
+      number = h.number;
+      lent = record { handles = h.lent.handles; port = h.lent.port; keeps = h.lent.keeps };
+      notes =
+          same-then x.first x.asking.client _ h.notes
+          (same-notes x.asking.client _ (read_write-effect x.asking c.args.group c.args.offset c.args.read_len c.args.bytes.now));
+    }) c.read_write.ensures.leaves
 
 pub returns-clause-wants : goal.returns-clause-wants
 returns-clause-wants c = wants-all c.args.self.now c.read_write.result _ (λ x h. record { handles = h.lent.handles; port = h.lent.port; keeps = h.lent.keeps })
 
 pub returns-clause-refused : goal.returns-clause-refused
 returns-clause-refused c =
-    refused-asked c.args.self.now.port.now c.args.self.now.handles.now (ReadWrite c.args.group c.args.offset c.args.read_len c.args.bytes.now) c.read_write.result _ _
+    refused-asked c.args.self.now.port.now c.args.self.now.handles.now
+    (ReadWrite c.args.group c.args.offset c.args.read_len c.args.bytes.now) c.read_write.result _ _
     (record { asking = c.requires.state.asking; asks = c.requires.stands.asks }) c.read_write.ensures.answer

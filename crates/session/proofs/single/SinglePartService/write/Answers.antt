@@ -11,6 +11,10 @@ returns-clause-leaves c = λ s h. record {
   asks = (c.write.ensures.ends s.asking h.asks h.asker).after;
   asker = h.asker;
   number = h.number ∙ sym (keeps-number c.args.self.now.port.now c.write.new.port c.write.ensures.keeps);
-  lent = record { handles = h.lent.handles; port = h.lent.port; keeps = keeps-both s.begun.port.now c.args.self.now.port.now c.write.new.port h.lent.keeps c.write.ensures.keeps };
+  lent = record {
+    handles = h.lent.handles;
+    port = h.lent.port;
+    keeps = keeps-both s.begun.port.now c.args.self.now.port.now c.write.new.port h.lent.keeps c.write.ensures.keeps;
+  };
   notes = same-then s.first s.asking.client _ h.notes (same-notes s.asking.client _ (write-effect s.asking c.args.group c.args.offset c.args.bytes.now));
 }

@@ -6,7 +6,8 @@ use Rattle.signals.specs.Wave.{place_after, Wave}
 use Rattle.signals.proofs.ramp.RampSignal.step.Goals as goal
 
 pub returns-clause-value : goal.returns-clause-value
-returns-clause-value c = c.from-value.ensures ∙ sym (get_or-range_with_len 0 c.args.self.now.len c.args.self.now.place 0 c.args.self.now.within ∙ zero-add c.args.self.now.place)
+returns-clause-value c = c.from-value.ensures
+    ∙ sym (get_or-range_with_len 0 c.args.self.now.len c.args.self.now.place 0 c.args.self.now.within ∙ zero-add c.args.self.now.place)
 
 pub returns-clause-moved : goal.returns-clause-moved
 returns-clause-moved c = let wave : ℕ → Wave = λ n. record { values = range_with_len 0 c.args.self.now.len; place = n } in

@@ -16,7 +16,10 @@ pub returns-in-Some-clause-answer : goal.returns-in-Some-clause-answer
 returns-in-Some-clause-answer c = λ history r.
     let d : KeptHandle = record { number = 0; port = 0; place = None } in
     let place = c.record_at.ensures.place d in
-    c.ok_or.ensures.value ∙ ap (λ (o : Option Place). ok_or o C711) place ∙ place_or_code-ok_or _ ∙ ap look_among (sym (c.in-Some.ensures.found d)) ∙ sym (look_in c.args.self.now history c.args.handle c.args.port r)
+    c.ok_or.ensures.value ∙ ap (λ (o : Option Place). ok_or o C711) place ∙ place_or_code-ok_or _
+    ∙ ap look_among (sym (c.in-Some.ensures.found d)) ∙ sym (look_in c.args.self.now history c.args.handle c.args.port r)
 
 pub returns-in-Some-clause-kept : goal.returns-in-Some-clause-kept
-returns-in-Some-clause-kept c = place_contained c.args.self.now.handles c.args.handle c.args.port c.in-Some.place c.record_at.result.place c.ok_or.result c.in-Some.ensures c.record_at.ensures.place c.ok_or.ensures.value
+returns-in-Some-clause-kept c =
+    place_contained c.args.self.now.handles c.args.handle c.args.port c.in-Some.place
+    c.record_at.result.place c.ok_or.result c.in-Some.ensures c.record_at.ensures.place c.ok_or.ensures.value

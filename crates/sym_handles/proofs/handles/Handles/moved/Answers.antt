@@ -17,14 +17,17 @@ returns-clause-moved c = λ history r.
     let places = c.args.m.now in
     let old = c.self.inside.records.slots in
     let new = c.move_all-live.new.records.slots in
-    let here = ap (all_held new) (sym c.as_slice.ensures.value) ∙ c.move_all-live.ensures.held ∙ ap (λ (es : List Entry). map (moved_handle places) (all_held old es)) c.as_slice.ensures.value in
-    represents_moved c.args.self.now _ history places r (ap (λ (k : Kept). k.granted) c.self.view_is) (here ∙ ap (λ (k : Kept). map (moved_handle places) k.handles) c.self.view_is)
+    let here = ap (all_held new) (sym c.as_slice.ensures.value) ∙ c.move_all-live.ensures.held
+    ∙ ap (λ (es : List Entry). map (moved_handle places) (all_held old es)) c.as_slice.ensures.value in
+    represents_moved c.args.self.now _ history places r (ap (λ (k : Kept). k.granted) c.self.view_is)
+    (here ∙ ap (λ (k : Kept). map (moved_handle places) k.handles) c.self.view_is)
 
 pub returns-clause-kept : goal.returns-clause-kept
 returns-clause-kept c =
     let places = c.args.m.now in
     let old = c.self.inside.records.slots in
     let new = c.move_all-live.new.records.slots in
-    let here = ap (all_held new) (sym c.as_slice.ensures.value) ∙ c.move_all-live.ensures.held ∙ ap (λ (es : List Entry). map (moved_handle places) (all_held old es)) c.as_slice.ensures.value in
+    let here = ap (all_held new) (sym c.as_slice.ensures.value) ∙ c.move_all-live.ensures.held
+    ∙ ap (λ (es : List Entry). map (moved_handle places) (all_held old es)) c.as_slice.ensures.value in
     kept_is _ c.args.self.now.granted (map (moved_handle places) c.args.self.now.handles) (ap (λ (k : Kept). k.granted) c.self.view_is)
     (here ∙ ap (λ (k : Kept). map (moved_handle places) k.handles) c.self.view_is)

@@ -20,10 +20,12 @@ loop-low-preserved-in-Less g c =
     let within : high ≤ length entries = omega (arith, narrowed.within, length-map entries key_of) in
     let key = key_read entries middle c.index.result.now (omega (arith, within)) c.index.ensures in
     let less : order_to_path (identifiers_at (map key_of entries) middle) names ≡ Less
-    = ap (λ k. order_to_path k.identifiers names) key ∙ sym (ap (λ v. order_to_path (identifiers_in v) names) c.as_slice.ensures.value) ∙ sym c.compare.ensures.order ∙ c.in-Less.is in (
+    = ap (λ k. order_to_path k.identifiers names) key
+    ∙ sym (ap (λ v. order_to_path (identifiers_in v) names) c.as_slice.ensures.value) ∙ sym c.compare.ensures.order ∙ c.in-Less.is in (
       narrowed_up (map key_of entries) names low high middle c.self.invariant (rw c.self.view_is c.requires) narrowed (omega arith) (omega arith) less,
       omega (arith, c.loop-low.invariant.1, c.compare.ensures.step),
-      step_halves c.args.steps.now c.loop-low.steps c.compare.new.steps (high - low) (high - (middle + 1)) (length (map key_of entries)) c.loop-low.invariant.1 (omega (arith, c.compare.ensures.step)) (omega arith) (omega arith) c.loop-low.invariant.2,
+      step_halves c.args.steps.now c.loop-low.steps c.compare.new.steps (high - low) (high - (middle + 1))
+          (length (map key_of entries)) c.loop-low.invariant.1 (omega (arith, c.compare.ensures.step)) (omega arith) (omega arith) c.loop-low.invariant.2,
       omega (arith, c.loop-low.invariant.1, c.compare.ensures.step),
     )
 
@@ -38,10 +40,12 @@ loop-low-preserved g c =
     let within : high ≤ length entries = omega (arith, narrowed.within, length-map entries key_of) in
     let key = key_read entries middle c.index.result.now (omega (arith, within)) c.index.ensures in
     let greater : order_to_path (identifiers_at (map key_of entries) middle) names ≡ Greater
-    = ap (λ k. order_to_path k.identifiers names) key ∙ sym (ap (λ v. order_to_path (identifiers_in v) names) c.as_slice.ensures.value) ∙ sym c.compare.ensures.order ∙ c.in-Greater.is in (
+    = ap (λ k. order_to_path k.identifiers names) key ∙ sym (ap (λ v. order_to_path (identifiers_in v) names) c.as_slice.ensures.value)
+    ∙ sym c.compare.ensures.order ∙ c.in-Greater.is in (
       narrowed_down (map key_of entries) names low high middle c.self.invariant narrowed (omega arith) (omega arith) greater,
       omega (arith, c.loop-low.invariant.1, c.compare.ensures.step),
-      step_halves c.args.steps.now c.loop-low.steps c.compare.new.steps (high - low) (middle - low) (length (map key_of entries)) c.loop-low.invariant.1 (omega (arith, c.compare.ensures.step)) (omega arith) (omega arith) c.loop-low.invariant.2,
+      step_halves c.args.steps.now c.loop-low.steps c.compare.new.steps (high - low) (middle - low) (length (map key_of entries))
+          c.loop-low.invariant.1 (omega (arith, c.compare.ensures.step)) (omega arith) (omega arith) c.loop-low.invariant.2,
       omega (arith, c.loop-low.invariant.1, c.compare.ensures.step),
     )
 
@@ -62,5 +66,6 @@ returns-in-Equal-clause-found g c =
 
 pub returns-in-Equal-clause-few_steps : goal.returns-in-Equal-clause-few_steps
 returns-in-Equal-clause-few_steps g c =
-    let few = last_step c.args.steps.now c.loop-low.steps c.compare.new.steps (c.loop-low.high - c.loop-low.low) (length (map key_of c.self.inside.entries.items)) c.loop-low.invariant.1 (omega (arith, c.compare.ensures.step)) (omega arith) c.loop-low.invariant.2 in
+    let few = last_step c.args.steps.now c.loop-low.steps c.compare.new.steps (c.loop-low.high - c.loop-low.low)
+    (length (map key_of c.self.inside.entries.items)) c.loop-low.invariant.1 (omega (arith, c.compare.ensures.step)) (omega arith) c.loop-low.invariant.2 in
     rw (sym c.self.view_is) few

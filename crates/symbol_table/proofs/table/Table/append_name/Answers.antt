@@ -18,7 +18,8 @@ pub append_steps-requires-clause-sized : goal.append_steps-requires-clause-sized
 append_steps-requires-clause-sized c =
     let types = types_of c.args.types.now in
     let row = c.index-row.result.now in
-    let there = row_there c.args.self.now c.self.inside.rows.items c.args.number row (ap (λ (t : SymbolTable). t.symbols) c.self.view_is) c.requires.there c.index-row.ensures in
+    let there = row_there c.args.self.now c.self.inside.rows.items c.args.number row
+    (ap (λ (t : SymbolTable). t.symbols) c.self.view_is) c.requires.there c.index-row.ensures in
     let sound = sound_symbol types c.args.self.now c.args.number (symbol_of_row row) c.requires.types there in
     rw c.as_ref.ensures sound.sized
 
@@ -28,7 +29,8 @@ returns-clause-ok c = λ port led is_of found there.
     let row = c.index-row.result.now in
     let path = c.args.path.now in
     let old = c.args.out.now in
-    let seen = row_there c.args.self.now c.self.inside.rows.items c.args.number row (ap (λ (t : SymbolTable). t.symbols) c.self.view_is) c.requires.there c.index-row.ensures in
+    let seen = row_there c.args.self.now c.self.inside.rows.items c.args.number row
+    (ap (λ (t : SymbolTable). t.symbols) c.self.view_is) c.requires.there c.index-row.ensures in
     let begun : c.put.new.self ≡ old ++ row.name = c.in_ok-put.ensures.ok ∙ ap (λ n. old ++ n) c.as_slice-name.ensures in
     let steps : c.steps_behind_name-steps.result ≡ drop (length (identifiers_of row.name)) path
     = c.steps_behind_name-steps.ensures ∙ ap (λ n. drop (length (identifiers_of n)) path) c.as_slice-name.ensures in
@@ -40,4 +42,5 @@ returns-clause-ok c = λ port led is_of found there.
     ∙ ap (λ t. old ++ t) (sym (led_name types port c.args.self.now c.args.number (symbol_of_row row) path led is_of seen found there))
 
 pub append_steps-requires-clause-extents : goal.append_steps-requires-clause-extents
-append_steps-requires-clause-extents c = extents_are (types_of c.args.types.now) c.args.self.now c.self.inside.extents (ap (λ (t : SymbolTable). t.extents) c.self.view_is) c.requires.types
+append_steps-requires-clause-extents c =
+    extents_are (types_of c.args.types.now) c.args.self.now c.self.inside.extents (ap (λ (t : SymbolTable). t.extents) c.self.view_is) c.requires.types

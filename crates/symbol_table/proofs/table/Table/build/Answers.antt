@@ -25,7 +25,8 @@ place_order-requires-clause-bytes c =
 
 pub place_order-requires-clause-apart : goal.place_order-requires-clause-apart
 place_order-requires-clause-apart c =
-    rw (c.as_slice-4.ensures.value, c.in_ok-rows.ensures, c.as_slice.ensures) (apart_placed (types_of c.args.types.now) (symbols_of c.args.port.now.symbols) c.requires.apart)
+    rw (c.as_slice-4.ensures.value, c.in_ok-rows.ensures, c.as_slice.ensures)
+    (apart_placed (types_of c.args.types.now) (symbols_of c.args.port.now.symbols) c.requires.apart)
 
 pub invariant_of-result : goal.invariant_of-result
 invariant_of-result c =

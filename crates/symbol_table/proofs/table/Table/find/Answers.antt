@@ -15,7 +15,8 @@ use Rattle.symbol_table.proofs.FoundParts.{finds_in}
 use Rattle.symbol_table.proofs.table.Table.find.Goals as goal
 
 -- the keys are those of the port's symbols
-keys_of_port : (types : List NamedType) (port : Port) (table : SymbolTable) (symbols : List TableSymbol) (keys : List NameKey) → symbols ≡ table.symbols → AreKeysOf symbols keys → IsTableOf types port table
+keys_of_port : (types : List NamedType) (port : Port) (table : SymbolTable) (symbols : List TableSymbol) (keys : List NameKey)
+    → symbols ≡ table.symbols → AreKeysOf symbols keys → IsTableOf types port table
     → AreKeysOf (map (table_symbol types) port.symbols) keys
 keys_of_port types port table symbols keys same are is_of =
     let P : List TableSymbol → Type 0 = λ all. AreKeysOf all keys in
@@ -25,15 +26,18 @@ pub search-requires : goal.search-requires
 search-requires g c =
     let types = types_of c.args.types.now in
     let port = c.requires.port in
-    let are = keys_of_port types port c.args.self.now _ c.self.inside.by_name (ap (λ (t : SymbolTable). t.symbols) c.self.view_is) c.self.invariant.keys_are c.requires.is_of in
+    let are = keys_of_port types port c.args.self.now _ c.self.inside.by_name
+    (ap (λ (t : SymbolTable). t.symbols) c.self.view_is) c.self.invariant.keys_are c.requires.is_of in
     prefix_free types port.symbols c.self.inside.by_name are c.requires.is_of.placed.names
 
 pub steps_behind-requires : goal.steps_behind-requires
 steps_behind-requires g c =
     let types = types_of c.args.types.now in
     let port = c.requires.port in
-    let are = keys_of_port types port c.args.self.now _ c.self.inside.by_name (ap (λ (t : SymbolTable). t.symbols) c.self.view_is) c.self.invariant.keys_are c.requires.is_of in
-    let found = match_found types port.symbols c.self.inside.by_name are c.requires.is_of.placed.names c.args.path.now (c.in-Some.number, c.in-Some.count) c.in-Some.ensures.found in
+    let are = keys_of_port types port c.args.self.now _ c.self.inside.by_name
+    (ap (λ (t : SymbolTable). t.symbols) c.self.view_is) c.self.invariant.keys_are c.requires.is_of in
+    let found = match_found types port.symbols c.self.inside.by_name are c.requires.is_of.placed.names c.args.path.now
+    (c.in-Some.number, c.in-Some.count) c.in-Some.ensures.found in
     let count = found.2 in
     let some = length-slice_split is_full_stop (found.0).name in
     omega (arith, count, some)
@@ -42,9 +46,12 @@ pub part-requires-clause-there : goal.part-requires-clause-there
 part-requires-clause-there g c =
     let types = types_of c.args.types.now in
     let port = c.requires.port in
-    let are = keys_of_port types port c.args.self.now _ c.self.inside.by_name (ap (λ (t : SymbolTable). t.symbols) c.self.view_is) c.self.invariant.keys_are c.requires.is_of in
-    let found = match_found types port.symbols c.self.inside.by_name are c.requires.is_of.placed.names c.args.path.now (c.in-Some.number, c.in-Some.count) c.in-Some.ensures.found in
-    let seen : slice_get (table_of types port).symbols c.in-Some.number ≡ Some (table_symbol types found.0) = slice_get-map (table_symbol types) port.symbols c.in-Some.number ∙ ap (option_map (table_symbol types)) found.1 in
+    let are = keys_of_port types port c.args.self.now _ c.self.inside.by_name
+    (ap (λ (t : SymbolTable). t.symbols) c.self.view_is) c.self.invariant.keys_are c.requires.is_of in
+    let found = match_found types port.symbols c.self.inside.by_name are c.requires.is_of.placed.names c.args.path.now
+    (c.in-Some.number, c.in-Some.count) c.in-Some.ensures.found in
+    let seen : slice_get (table_of types port).symbols c.in-Some.number ≡ Some (table_symbol types found.0) =
+    slice_get-map (table_symbol types) port.symbols c.in-Some.number ∙ ap (option_map (table_symbol types)) found.1 in
     let below = slice_get_within (table_of types port).symbols c.in-Some.number (table_symbol types found.0) seen in
     let count = ap (λ (t : SymbolTable). length t.symbols) c.requires.is_of.same in
     omega (arith, below, count)
@@ -52,16 +59,21 @@ part-requires-clause-there g c =
 pub returns-in-None-clause-found : goal.returns-in-None-clause-found
 returns-in-None-clause-found g c = λ port is_of.
     let types = types_of c.args.types.now in
-    let are = keys_of_port types port c.args.self.now _ c.self.inside.by_name (ap (λ (t : SymbolTable). t.symbols) c.self.view_is) c.self.invariant.keys_are is_of in
+    let are = keys_of_port types port c.args.self.now _ c.self.inside.by_name
+    (ap (λ (t : SymbolTable). t.symbols) c.self.view_is) c.self.invariant.keys_are is_of in
     let none = match_none types port.symbols c.self.inside.by_name are is_of.placed.names c.args.path.now c.in-None.ensures.none in
     rw none tt
 
 pub returns-in-Some-clause-found : goal.returns-in-Some-clause-found
 returns-in-Some-clause-found g c = λ port is_of.
     let types = types_of c.args.types.now in
-    let are = keys_of_port types port c.args.self.now _ c.self.inside.by_name (ap (λ (t : SymbolTable). t.symbols) c.self.view_is) c.self.invariant.keys_are is_of in
-    let found = match_found types port.symbols c.self.inside.by_name are is_of.placed.names c.args.path.now (c.in-Some.number, c.in-Some.count) c.in-Some.ensures.found in
+    let are = keys_of_port types port c.args.self.now _ c.self.inside.by_name
+    (ap (λ (t : SymbolTable). t.symbols) c.self.view_is) c.self.invariant.keys_are is_of in
+    let found = match_found types port.symbols c.self.inside.by_name are is_of.placed.names c.args.path.now
+    (c.in-Some.number, c.in-Some.count) c.in-Some.ensures.found in
     let seen : slice_get c.args.self.now.symbols c.in-Some.number ≡ Some (table_symbol types found.0)
-    = ap (λ (t : SymbolTable). slice_get t.symbols c.in-Some.number) is_of.same ∙ slice_get-map (table_symbol types) port.symbols c.in-Some.number ∙ ap (option_map (table_symbol types)) found.1 in
+    = ap (λ (t : SymbolTable). slice_get t.symbols c.in-Some.number) is_of.same
+    ∙ slice_get-map (table_symbol types) port.symbols c.in-Some.number ∙ ap (option_map (table_symbol types)) found.1 in
     let told = c.part.ensures (table_symbol types found.0) seen in
-    finds_in types port.symbols c.args.path.now c.in-Some.number c.in-Some.count found.0 c.part.result found.1 found.2 found.3 (rw c.steps_behind.ensures at told)
+    finds_in types port.symbols c.args.path.now c.in-Some.number c.in-Some.count
+    found.0 c.part.result found.1 found.2 found.3 (rw c.steps_behind.ensures at told)
