@@ -132,8 +132,8 @@ group-writes c k handle place bytes access live g (inl some) e =
 
 pub writes_by_handle : WritesByHandle
 unfolding act_of
-writes_by_handle table d c k handle place bytes access memory live accepted =
-    let w = group-writes c k handle place bytes access live (answered_group table WRITE value_by_handle) (by_handle table WRITE) accepted in
+writes_by_handle d c k handle place bytes access memory live accepted =
+    let w = group-writes c k handle place bytes access live (answered_group WRITE value_by_handle) (by_handle WRITE) accepted in
     let P : List Put → Type 0 = λ ps. WritesPlace k.port.number place bytes memory (memory_after_puts memory ps) in
     subst P (sym w.writes)
     (record {

@@ -7,7 +7,7 @@ use Rattle.spec_machine.specs.SumLaws.{single_outcome, party_after, RunsInTurn}
 
 pub runs_in_turn : RunsInTurn
 unfolding acts_of given_in_turn left_in_turn outcomes_of memory_after_acts client_after_acts
-runs_in_turn table w k [] p = record { outcomes = refl; memory = refl; client = refl }
-runs_in_turn table w k (r ∷ rs) p =
-    let rest = runs_in_turn table w k rs (party_after table w k p r) in
-    record { outcomes = ap (λ os. single_outcome table w k p r ∷ os) rest.outcomes; memory = rest.memory; client = rest.client }
+runs_in_turn w k [] p = record { outcomes = refl; memory = refl; client = refl }
+runs_in_turn w k (r ∷ rs) p =
+    let rest = runs_in_turn w k rs (party_after w k p r) in
+    record { outcomes = ap (λ os. single_outcome w k p r ∷ os) rest.outcomes; memory = rest.memory; client = rest.client }
