@@ -24,7 +24,7 @@ pub(crate) fn read_write(
     alloc: Global,
     handles: &mut Handles,
     port: &Port,
-    number: u16,
+    ams_port: u16,
     group: u32,
     offset: u32,
     len: u32,
@@ -32,7 +32,7 @@ pub(crate) fn read_write(
     out: &mut Octets,
 ) -> Result<Result<(), Code>, NoMemory>
     requires some { SomeAsks port.now handles.old }
-    requires number { number ≡ port.now.number }
+    requires number { ams_port ≡ port.now.number }
     ensures answer { IfOk result (λ answer. (a : Asking) → Asks a port.now handles.old
         → AnswersAct a.world (act_asked a (ReadWrite group offset len bytes.now)) answer out.old out.new) }
     ensures leaves { OnOk result ((a : Asking) → Asks a port.now handles.old
@@ -42,7 +42,7 @@ pub(crate) fn read_write(
 {
     let _any = offset;
     if is_handle_by_name(group) {
-        return grant(alloc, handles, port, number, len, bytes, out);
+        return grant(alloc, handles, port, ams_port, len, bytes, out);
     }
     port.ask(alloc, group, len, bytes, out)
 }
@@ -53,12 +53,12 @@ fn grant(
     alloc: Global,
     handles: &mut Handles,
     port: &Port,
-    number: u16,
+    ams_port: u16,
     len: u32,
     name: &[u8],
     out: &mut Octets,
 ) -> Result<Result<(), Code>, NoMemory>
-    requires number { number ≡ port.now.number }
+    requires number { ams_port ≡ port.now.number }
     ensures answer { IfOk result (λ answer. (a : Asking) → Asks a port.now handles.old
         → AnswersAct a.world (handle_act a len name.now) answer out.old out.new) }
     ensures leaves { OnOk result ((a : Asking) → Asks a port.now handles.old
@@ -69,7 +69,7 @@ fn grant(
         return Ok(Err(Code::C705));
     }
     match port.place(name) {
-        Ok(place) => grant_place(alloc, handles, number, place, out),
+        Ok(place) => grant_place(alloc, handles, ams_port, place, out),
         Err(code) => Ok(Err(code)),
     }
 }
@@ -78,17 +78,17 @@ fn grant(
 fn grant_place(
     alloc: Global,
     handles: &mut Handles,
-    number: u16,
+    ams_port: u16,
     place: Place,
     out: &mut Octets,
 ) -> Result<Result<(), Code>, NoMemory>
-    ensures answer { (port : PortMemory) → number ≡ port.number → IfOk result (λ answer. (a : Asking) (named : client.Place) → Asks a port handles.old
+    ensures answer { (port : PortMemory) → ams_port ≡ port.number → IfOk result (λ answer. (a : Asking) (named : client.Place) → Asks a port handles.old
         → IsPlaceNamed a place named → AnswersAct a.world (grant_act a.client a.asker.port named) answer out.old out.new) }
-    ensures leaves { (port : PortMemory) → number ≡ port.number → OnOk result ((a : Asking) (named : client.Place) → Asks a port handles.old
+    ensures leaves { (port : PortMemory) → ams_port ≡ port.number → OnOk result ((a : Asking) (named : client.Place) → Asks a port handles.old
         → IsPlaceNamed a place named → Asks (after_act a (grant_act a.client a.asker.port named)) port handles.new) }
     ensures no_memory { OnErr result (out.new ≡ out.old) }
 {
-    match handles.grant(alloc, number, place)? {
+    match handles.grant(alloc, ams_port, place)? {
         Ok(handle) => {
             put32(alloc, out, handle)?;
             Ok(Ok(()))

@@ -1,6 +1,7 @@
 //! The session of one client: what it sends is cut into frames, and each is answered from the ports.
 #![tactic(auto)]
 
+mod accesses;
 mod asker;
 mod checks;
 mod examined;
@@ -17,10 +18,12 @@ mod reading;
 mod refusing;
 mod reloaded;
 mod replies;
+mod requests;
 mod room;
 mod run;
 mod session;
 mod single;
+mod sums;
 mod take;
 mod taken;
 mod tick;

@@ -20,12 +20,12 @@ use sym_handles::Handles;
 use symbol_table::Place;
 
 /// The place of a handle of this port; 0x710 where it was never granted here or is released, 0x711 where it is outdated.
-pub(crate) fn look(handles: &Handles, number: u16, handle: u32) -> Result<Place, Code>
+pub(crate) fn look(handles: &Handles, ams_port: u16, handle: u32) -> Result<Place, Code>
     ensures looks { (ports : List PlantPort) (hs : List (machine.Handle client.Place)) → KeptFor ports hs handles.now
-        → LooksUp ports number (machine.kept_status hs handle number) result }
-    ensures placed { (port : PortMemory) → SomeAsks port handles.now → number ≡ port.number → IfOk result (IsPlaceOf port.table) }
+        → LooksUp ports ams_port (machine.kept_status hs handle ams_port) result }
+    ensures placed { (port : PortMemory) → SomeAsks port handles.now → ams_port ≡ port.number → IfOk result (IsPlaceOf port.table) }
 {
-    handles.look(handle, number)
+    handles.look(handle, ams_port)
 }
 
 /// Appends the first bytes of a value by its handle.
@@ -33,19 +33,19 @@ pub(crate) fn read_value(
     alloc: Global,
     handles: &Handles,
     port: &Port,
-    number: u16,
+    ams_port: u16,
     handle: u32,
     len: u32,
     out: &mut Octets,
 ) -> Result<Result<(), Code>, NoMemory>
     requires some { SomeAsks port.now handles.now }
-    requires number { number ≡ port.now.number }
+    requires number { ams_port ≡ port.now.number }
     ensures answer { IfOk result (λ answer. (a : Asking) → Asks a port.now handles.now
         → AnswersAct a.world (read_act (addressed_by_status a.asker.port.number
         (machine.kept_status a.client.handles handle a.asker.port.number) len)) answer out.old out.new) }
     ensures no_memory { OnErr result (out.new ≡ out.old) }
 {
-    match look(handles, number, handle) {
+    match look(handles, ams_port, handle) {
         Ok(place) => port.read_place(alloc, place, len, out),
         Err(code) => Ok(Err(code)),
     }

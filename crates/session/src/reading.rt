@@ -21,21 +21,21 @@ pub(crate) fn read(
     alloc: Global,
     handles: &Handles,
     port: &Port,
-    number: u16,
+    ams_port: u16,
     group: u32,
     offset: u32,
     len: u32,
     out: &mut Octets,
 ) -> Result<Result<(), Code>, NoMemory>
     requires some { SomeAsks port.now handles.now }
-    requires number { number ≡ port.now.number }
+    requires number { ams_port ≡ port.now.number }
     ensures answer { IfOk result (λ answer. (a : Asking) → Asks a port.now handles.now
         → AnswersAct a.world (act_asked a (Read group offset len)) answer out.old out.new) }
     ensures asked { OnOk result (length out.new ≤ length out.old + len) }
     ensures no_memory { OnErr result (out.new ≡ out.old) }
 {
     if is_value_by_handle(group) {
-        return read_value(alloc, handles, port, number, offset, len, out);
+        return read_value(alloc, handles, port, ams_port, offset, len, out);
     }
     port.read(alloc, group, offset, len, out)
 }

@@ -1,34 +1,25 @@
 //! The request of a packet that passed the checks is run, and its reply's payload written.
 
-ghost use Rattle.std.specs.Prelude.{◌≡◌, ◌≤◌, ◌+◌, ◌++◌, ℕ, List, length, OnOk, OnErr, IfOk};
+ghost use Rattle.std.specs.Prelude.{◌≡◌, ℕ, List, OnOk};
 ghost use Rattle.spec_formats.specs.Request as format;
 ghost use Rattle.ads_commands.specs.Reply.{facts_meant};
 ghost use Rattle.ads_commands.specs.Request.{request_meant};
+ghost use Rattle.ads_base.specs.declared.ams_addr.AmsAddr.{AmsAddr};
+ghost use Rattle.type_layout.specs.Descriptions.{facts_of};
+ghost use Rattle.type_layout.specs.declared.description.Rights.{Rights};
 ghost use Rattle.port_device.specs.Endings.{KeepsDescription};
 ghost use Rattle.port_device.specs.PortMemory.{PortMemory};
 ghost use Rattle.session.specs.Asking.{Asking};
 ghost use Rattle.session.specs.Asks.{SomeAsks};
-ghost use Rattle.session.specs.Runs.{IsSumGroup};
-ghost use Rattle.session.specs.Single.{SumState, IsSingle, part_outcome, state_after};
-ghost use Rattle.spec_formats.specs.Ranges.{greatest_len};
-ghost use Rattle.sum_commands.specs.SumCommand.{sum_of, refusal_in, refused_by, sum_reply, left_by_sum};
-ghost use Rattle.ads_base.specs.declared.ams_addr.AmsAddr.{AmsAddr};
-ghost use Rattle.type_layout.specs.Descriptions.{facts_of};
-ghost use Rattle.type_layout.specs.declared.description.Rights.{Rights};
 
+use crate::Session;
 use crate::asker::Asker;
-use crate::groups::is_sum;
-use crate::replies::{FRONT, fill_front, number_in, read_reply, read_write_reply};
-use crate::room::put_room;
-use crate::single::Single;
-use crate::watching::NoteRequest;
-use crate::{Session, writing};
-use ads_base::{AmsAddr, NoMemory, Octets, put16, put32};
+use crate::replies::number_in;
+use crate::requests::{NoteRequest, ReadWriteRequest, WriteRequest};
+use ads_base::{NoMemory, Octets, put16, put32};
 use ads_commands::{DeviceFacts, Reply, Request, put_reply};
 use port_device::Port;
-use return_codes::Code;
 use std::alloc::Global;
-use sum_commands::run_sum;
 use type_layout::{DeviceFacts4, Rights};
 
 impl Session {
@@ -59,19 +50,26 @@ impl Session {
                 group,
                 offset,
                 bytes,
-            } => self.write(alloc, port, asker, group, offset, bytes, out),
+            } => {
+                let asked = WriteRequest {
+                    group,
+                    offset,
+                    bytes,
+                };
+                self.write(alloc, port, asker, &asked, out)
+            }
             Request::State => self.state(alloc, port, out),
             Request::Control {
                 ads,
                 device,
-                bytes: _any,
+                bytes: _,
             } => self.control(alloc, port, asker.rights, ads, device, out),
             Request::Add {
                 group,
                 offset,
                 len,
                 mode,
-                delay: _any,
+                delay: _,
                 cycle,
             } => {
                 let asked = NoteRequest {
@@ -81,16 +79,24 @@ impl Session {
                     mode,
                     cycle,
                 };
-                self.add(alloc, port, asker.number, asker.source, &asked, out)
+                self.add(alloc, port, asker, &asked, out)
             }
             Request::Delete { handle } => self.delete(alloc, asker.number, handle, out),
-            Request::Note(_any) => self.note(alloc, out),
+            Request::Note(_) => self.note(alloc, out),
             Request::ReadWrite {
                 group,
                 offset,
                 read_len,
                 bytes,
-            } => self.read_write(alloc, port, asker, group, offset, read_len, bytes, out),
+            } => {
+                let asked = ReadWriteRequest {
+                    group,
+                    offset,
+                    len: read_len,
+                    bytes,
+                };
+                self.read_write(alloc, port, asker, &asked, out)
+            }
         }
     }
 
@@ -101,55 +107,6 @@ impl Session {
     {
         let told = told_of(port.facts());
         put_reply(alloc, &Reply::Info(0, told), out)
-    }
-
-    fn read(
-        &self,
-        alloc: Global,
-        port: &Port,
-        number: u16,
-        group: u32,
-        offset: u32,
-        len: u32,
-        out: &mut Octets,
-    ) -> Result<(), NoMemory>
-        requires some { SomeAsks port.now self.now.handles }
-        requires number { number ≡ port.now.number }
-        ensures { OnOk result ((a : Asking) → AsksSession a port.now self.now
-            → Runs a (format.Read group offset len) out.old out.new port.now self.now) }
-    {
-        read_reply(alloc, &self.handles, port, number, group, offset, len, out)
-    }
-
-    fn write(
-        &mut self,
-        alloc: Global,
-        port: &mut Port,
-        asker: Asker,
-        group: u32,
-        offset: u32,
-        bytes: &[u8],
-        out: &mut Octets,
-    ) -> Result<(), NoMemory>
-        requires some { SomeAsks port.old self.old.handles }
-        requires number { asker.number ≡ port.old.number }
-        ensures runs { OnOk result ((a : Asking) → AsksSession a port.old self.old → IsFrom a asker.source asker.rights
-            → Runs a (format.Write group offset bytes.now) out.old out.new port.new self.new) }
-        ensures keeps { KeepsDescription port.old port.new }
-        ensures stream { self.new.stream ≡ self.old.stream }
-    {
-        let net = asker.source.net;
-        let answer = writing::write(
-            &mut self.handles,
-            port,
-            asker.number,
-            group,
-            offset,
-            bytes,
-            asker.rights,
-            net,
-        );
-        put32(alloc, out, number_in(answer))
     }
 
     // The two state words.
@@ -181,24 +138,22 @@ impl Session {
         put_reply(alloc, &Reply::Control(number_in(answer)), out)
     }
 
-    // The greatest delay is not looked at.
     fn add(
         &mut self,
         alloc: Global,
         port: &Port,
-        number: u16,
-        source: AmsAddr,
+        asker: Asker,
         asked: &NoteRequest,
         out: &mut Octets,
     ) -> Result<(), NoMemory>
         requires some { SomeAsks port.now self.old.handles }
-        requires number { number ≡ port.now.number }
-        ensures runs { OnOk result ((a : Asking) (rights : Rights) (delay : ℕ) → AsksSession a port.now self.old → IsFrom a source rights
+        requires number { asker.number ≡ port.now.number }
+        ensures runs { OnOk result ((a : Asking) (delay : ℕ) → AsksSession a port.now self.old → IsFrom a asker.source asker.rights
             → Runs a (format.AddDeviceNotification asked.now.group asked.now.offset asked.now.len asked.now.mode delay asked.now.cycle)
             out.old out.new port.now self.new) }
         ensures stream { self.new.stream ≡ self.old.stream }
     {
-        match self.add_note(alloc, port, number, source, asked)? {
+        match self.add_note(alloc, port, asker, asked)? {
             Ok(handle) => put_reply(alloc, &Reply::Add(0, handle), out),
             Err(code) => put_reply(alloc, &Reply::Add(code.number(), 0), out),
         }
@@ -207,15 +162,15 @@ impl Session {
     fn delete(
         &mut self,
         alloc: Global,
-        number: u16,
+        ams_port: u16,
         handle: u32,
         out: &mut Octets,
     ) -> Result<(), NoMemory>
-        ensures runs { OnOk result ((a : Asking) (port : PortMemory) → number ≡ port.number → AsksSession a port self.old
+        ensures runs { OnOk result ((a : Asking) (port : PortMemory) → ams_port ≡ port.number → AsksSession a port self.old
             → Runs a (format.DeleteDeviceNotification handle) out.old out.new port self.new) }
         ensures stream { self.new.stream ≡ self.old.stream }
     {
-        let answer = self.delete_note(number, handle);
+        let answer = self.delete_note(ams_port, handle);
         put_reply(alloc, &Reply::Delete(number_in(answer)), out)
     }
 
@@ -225,74 +180,6 @@ impl Session {
             → Runs a (format.DeviceNotification bytes) out.old out.new port self.now) }
     {
         put_reply(alloc, &Reply::Write(0), out)
-    }
-
-    fn read_write(
-        &mut self,
-        alloc: Global,
-        port: &mut Port,
-        asker: Asker,
-        group: u32,
-        offset: u32,
-        len: u32,
-        bytes: &[u8],
-        out: &mut Octets,
-    ) -> Result<(), NoMemory>
-        requires some { SomeAsks port.old self.old.handles }
-        requires number { asker.number ≡ port.old.number }
-        ensures runs { OnOk result ((a : Asking) → AsksSession a port.old self.old → IsFrom a asker.source asker.rights
-            → Runs a (format.ReadWrite group offset len bytes.now) out.old out.new port.new self.new) }
-        ensures keeps { KeepsDescription port.old port.new }
-        ensures stream { self.new.stream ≡ self.old.stream }
-    {
-        if is_sum(group) {
-            return self.sum(alloc, port, asker, group, offset, len, bytes, out);
-        }
-        read_write_reply(
-            alloc,
-            &mut self.handles,
-            port,
-            asker.number,
-            group,
-            offset,
-            len,
-            bytes,
-            out,
-        )
-    }
-
-    // The parts of a sum, one after another. Its offset is how many they are.
-    fn sum(
-        &mut self,
-        alloc: Global,
-        port: &mut Port,
-        asker: Asker,
-        group: u32,
-        count: u32,
-        len: u32,
-        bytes: &[u8],
-        out: &mut Octets,
-    ) -> Result<(), NoMemory>
-        requires some { SomeAsks port.old self.old.handles }
-        requires number { asker.number ≡ port.old.number }
-        requires sum { IsSumGroup group }
-        ensures runs { OnOk result ((a : Asking) → AsksSession a port.old self.old → IsFrom a asker.source asker.rights
-            → Runs a (format.ReadWrite group count len bytes.now) out.old out.new port.new self.new) }
-        ensures keeps { KeepsDescription port.old port.new }
-        ensures stream { self.new.stream ≡ self.old.stream }
-    {
-        let start = out.len();
-        put_room(alloc, out, FRONT)?;
-        let mut single = Single {
-            handles: &mut self.handles,
-            port: &mut *port,
-            number: asker.number,
-            rights: asker.rights,
-            net: asker.source.net,
-        };
-        let answer = run_parts(alloc, &mut single, group, count, len, bytes, out)?;
-        fill_front(out, start, number_in(answer));
-        Ok(())
     }
 }
 
@@ -307,33 +194,4 @@ fn told_of(facts: DeviceFacts4) -> DeviceFacts
         build: facts.build,
         name,
     }
-}
-
-// The parts of a sum, at the handles and the port that were lent for it.
-fn run_parts(
-    alloc: Global,
-    single: &mut Single<'_>,
-    group: u32,
-    count: u32,
-    len: u32,
-    bytes: &[u8],
-    out: &mut Octets,
-) -> Result<Result<(), Code>, NoMemory>
-    requires some { SomeAsks single.old.port.now single.old.handles.now }
-    requires number { single.old.number ≡ single.old.port.now.number }
-    requires sum { IsSumGroup group }
-    ensures handles { single.new.handles.ghost_name ≡ single.old.handles.ghost_name }
-    ensures port { single.new.port.ghost_name ≡ single.old.port.ghost_name }
-    ensures keeps { KeepsDescription single.old.port.now single.new.port.now }
-    ensures code { IfOk result (λ answer. refused_by answer
-        ≡ refusal_in (sum_of group count bytes.now) count (length bytes.now) len) }
-    ensures err { IfOk result (λ answer. OnErr answer ((single.new ≡ single.old) × (out.new ≡ out.old))) }
-    ensures reply { IfOk result (λ answer. OnOk answer ((x : SumState) → IsSingle single.old x
-        → out.new ≡ out.old ++ sum_reply part_outcome state_after x (sum_of group count bytes.now))) }
-    ensures leaves { IfOk result (λ answer. OnOk answer ((x : SumState) → IsSingle single.old x
-        → IsSingle single.new (left_by_sum state_after x (sum_of group count bytes.now)))) }
-    ensures grows { IfOk result (λ answer. length out.old ≤ length out.new) }
-    ensures short { IfOk result (λ answer. length out.new ≤ length out.old + greatest_len) }
-{
-    run_sum(alloc, single, group, count, len, bytes, out)
 }

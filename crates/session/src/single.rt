@@ -1,22 +1,21 @@
 //! The single requests that the parts of a sum are.
 
+use crate::asker::Asker;
+use crate::requests::WriteRequest;
 use crate::{granting, reading, writing};
-use ads_base::{NetId, NoMemory, Octets};
+use ads_base::{NoMemory, Octets};
 use port_device::Port;
 use return_codes::Code;
 use std::alloc::Global;
 use sum_commands::PartService;
 use sym_handles::Handles;
-use type_layout::Rights;
 
 /// One client at one port, who runs single requests. After want of memory the part that wanted it may be done.
 #[derive(Drop)]
 pub(crate) struct Single<'a> {
     pub(crate) handles: &'a mut Handles,
     pub(crate) port: &'a mut Port,
-    pub(crate) number: u16,
-    pub(crate) rights: Rights,
-    pub(crate) net: NetId,
+    pub(crate) asker: Asker,
 }
 
 impl PartService for Single<'_> {
@@ -44,7 +43,7 @@ impl PartService for Single<'_> {
             alloc,
             &*self.handles,
             &*self.port,
-            self.number,
+            self.asker.number,
             group,
             offset,
             len,
@@ -53,16 +52,12 @@ impl PartService for Single<'_> {
     }
 
     fn write(&mut self, group: u32, offset: u32, bytes: &[u8]) -> Result<(), Code> {
-        writing::write(
-            &mut *self.handles,
-            &mut *self.port,
-            self.number,
+        let asked = WriteRequest {
             group,
             offset,
             bytes,
-            self.rights,
-            self.net,
-        )
+        };
+        writing::write(&mut *self.handles, &mut *self.port, self.asker, &asked)
     }
 
     fn read_write(
@@ -78,7 +73,7 @@ impl PartService for Single<'_> {
             alloc,
             &mut *self.handles,
             &*self.port,
-            self.number,
+            self.asker.number,
             group,
             offset,
             read_len,

@@ -20,9 +20,11 @@ ghost use Rattle.session.specs.StandsFor.{StandsFor};
 ghost use Rattle.session.specs.Watching.{is_byte_or_bit, IsWatched, IsSpecAsked, AsksFor, AddsAs, DeletesAs};
 
 use crate::Session;
+use crate::asker::Asker;
 use crate::groups::is_value_by_handle;
 use crate::looking::look;
-use ads_base::{AmsAddr, NoMemory};
+use crate::requests::NoteRequest;
+use ads_base::NoMemory;
 use index_groups::{Reach, reach};
 use notify_table::{Mode, Spec, WatchFull};
 use port_device::{Group, Port, group_named};
@@ -32,16 +34,6 @@ use sym_handles::Handles;
 
 // The most bytes that a notification watches.
 const MOST_BYTES: u32 = 2048;
-
-/// What AddDeviceNotification asks for.
-#[derive(Clone, Copy)]
-pub(crate) struct NoteRequest {
-    pub group: u32,
-    pub offset: u32,
-    pub len: u32,
-    pub mode: u32,
-    pub cycle: u32,
-}
 
 impl Session {
     /// Adds a notification of a port for an address, and gives its handle.
@@ -58,51 +50,44 @@ impl Session {
         &mut self,
         alloc: Global,
         port: &Port,
-        number: u16,
-        to: AmsAddr,
+        asker: Asker,
         asked: &NoteRequest,
     ) -> Result<Result<u32, Code>, NoMemory>
         requires some { SomeAsks port.now self.old.handles }
-        requires number { number ≡ port.now.number }
+        requires number { asker.number ≡ port.now.number }
         ensures adds { IfOk result (λ answer. (a : Asking) (delay : ℕ) → HoldsPort a.world a.asker.port port.now
-            → StandsFor a.world.plant a.client self.old → a.asker.address ≡ address_of to
+            → StandsFor a.world.plant a.client self.old → a.asker.address ≡ address_of asker.source
             → AddsAs a (act_asked a (AddDeviceNotification asked.now.group asked.now.offset asked.now.len asked.now.mode delay asked.now.cycle))
             answer self.new) }
         ensures keeps { self.new ≡ record self.old { watches = self.new.watches } }
         ensures no_memory { OnErr result (self.new ≡ self.old) }
     {
-        match self.spec_asked(port, number, to, asked) {
+        match self.spec_asked(port, asker, asked) {
             Ok(spec) => self.add_spec(alloc, spec),
             Err(code) => Ok(Err(code)),
         }
     }
 
     /// Deletes a notification of a port. 0x714 where no live one of this port has the handle.
-    pub(crate) fn delete_note(&mut self, number: u16, handle: u32) -> Result<(), Code>
-        ensures deletes { (a : Asking) → StandsFor a.world.plant a.client self.old → number ≡ a.asker.port.number
+    pub(crate) fn delete_note(&mut self, ams_port: u16, handle: u32) -> Result<(), Code>
+        ensures deletes { (a : Asking) → StandsFor a.world.plant a.client self.old → ams_port ≡ a.asker.port.number
             → DeletesAs a (act_asked a (DeleteDeviceNotification handle)) result self.new }
         ensures keeps { self.new ≡ record self.old { watches = self.new.watches } }
     {
-        self.watches.delete(handle, number)
+        self.watches.delete(handle, ams_port)
     }
 
     // The notification that is asked for, or the code that refuses it before the limits are looked at.
-    fn spec_asked(
-        &self,
-        port: &Port,
-        number: u16,
-        to: AmsAddr,
-        asked: &NoteRequest,
-    ) -> Result<Spec, Code>
+    fn spec_asked(&self, port: &Port, asker: Asker, asked: &NoteRequest) -> Result<Spec, Code>
         requires some { SomeAsks port.now self.now.handles }
-        requires number { number ≡ port.now.number }
-        ensures asked { (a : Asking) (delay : ℕ) → Asks a port.now self.now.handles → a.asker.address ≡ address_of to
+        requires number { asker.number ≡ port.now.number }
+        ensures asked { (a : Asking) (delay : ℕ) → Asks a port.now self.now.handles → a.asker.address ≡ address_of asker.source
             → IsSpecAsked a (act_asked a (AddDeviceNotification asked.now.group asked.now.offset asked.now.len asked.now.mode delay asked.now.cycle))
             result }
         ensures watchable { IfOk result (λ spec. CanBeWatched (range_meant spec.reach)) }
     {
         match mode_named(asked.mode) {
-            Some(mode) => self.spec_with_mode(port, number, to, asked, mode),
+            Some(mode) => self.spec_with_mode(port, asker, asked, mode),
             None => Err(Code::C713),
         }
     }
@@ -110,15 +95,14 @@ impl Session {
     fn spec_with_mode(
         &self,
         port: &Port,
-        number: u16,
-        to: AmsAddr,
+        asker: Asker,
         asked: &NoteRequest,
         mode: Mode,
     ) -> Result<Spec, Code>
         requires some { SomeAsks port.now self.now.handles }
-        requires number { number ≡ port.now.number }
+        requires number { asker.number ≡ port.now.number }
         requires mode { Some (mode_meant mode) ≡ mode_of asked.now.mode }
-        ensures asked { (a : Asking) (delay : ℕ) → Asks a port.now self.now.handles → a.asker.address ≡ address_of to
+        ensures asked { (a : Asking) (delay : ℕ) → Asks a port.now self.now.handles → a.asker.address ≡ address_of asker.source
             → IsSpecAsked a (act_asked a (AddDeviceNotification asked.now.group asked.now.offset asked.now.len asked.now.mode delay asked.now.cycle))
             result }
         ensures watchable { IfOk result (λ spec. CanBeWatched (range_meant spec.reach)) }
@@ -126,21 +110,14 @@ impl Session {
         if asked.len > MOST_BYTES {
             return Err(Code::C717);
         }
-        match watched(
-            &self.handles,
-            port,
-            number,
-            asked.group,
-            asked.offset,
-            asked.len,
-        ) {
+        match watched(&self.handles, port, asker.number, asked) {
             Ok(reach) => {
                 if asked.len == 0 {
                     return Err(Code::C705);
                 }
                 Ok(Spec {
-                    port: number,
-                    to,
+                    port: asker.number,
+                    to: asker.source,
                     reach,
                     mode,
                     cycle: asked.cycle,
@@ -165,10 +142,10 @@ impl Session {
     }
 }
 
-fn mode_named(number: u32) -> Option<Mode>
-    ensures { option_map mode_meant result ≡ mode_of number }
+fn mode_named(code: u32) -> Option<Mode>
+    ensures { option_map mode_meant result ≡ mode_of code }
 {
-    match number {
+    match code {
         3 => Some(Mode::Cycle),
         4 => Some(Mode::Change),
         _ => None,
@@ -179,35 +156,33 @@ fn mode_named(number: u32) -> Option<Mode>
 fn watched(
     handles: &Handles,
     port: &Port,
-    number: u16,
-    group: u32,
-    offset: u32,
-    len: u32,
+    ams_port: u16,
+    asked: &NoteRequest,
 ) -> Result<Reach, Code>
     requires some { SomeAsks port.now handles.now }
-    requires number { number ≡ port.now.number }
+    requires number { ams_port ≡ port.now.number }
     ensures watched { (a : Asking) → Asks a port.now handles.now
-        → IsWatched a.world.plant.ports a.asker.port.number len
-        (reach_of a.client a.asker.port (answered_group ADD_DEVICE_NOTIFICATION group) offset len) result }
-    ensures len { IfOk result (λ reach. watched_len (range_meant reach) ≡ len) }
+        → IsWatched a.world.plant.ports a.asker.port.number asked.now.len
+        (reach_of a.client a.asker.port (answered_group ADD_DEVICE_NOTIFICATION asked.now.group) asked.now.offset asked.now.len) result }
+    ensures len { IfOk result (λ reach. watched_len (range_meant reach) ≡ asked.now.len) }
 {
-    if is_value_by_handle(group) {
-        return watched_by_handle(handles, number, offset, len);
+    if is_value_by_handle(asked.group) {
+        return watched_by_handle(handles, ams_port, asked.offset, asked.len);
     }
-    if !is_bytes_or_bit(group) {
+    if !is_bytes_or_bit(asked.group) {
         return Err(Code::C702);
     }
-    reach(port.sizes(), group, offset, len)
+    reach(port.sizes(), asked.group, asked.offset, asked.len)
 }
 
 // The first bytes of a value by its handle.
-fn watched_by_handle(handles: &Handles, number: u16, handle: u32, len: u32) -> Result<Reach, Code>
-    ensures watched { (a : Asking) (port : PortMemory) → number ≡ port.number → Asks a port handles.now
+fn watched_by_handle(handles: &Handles, ams_port: u16, handle: u32, len: u32) -> Result<Reach, Code>
+    ensures watched { (a : Asking) (port : PortMemory) → ams_port ≡ port.number → Asks a port handles.now
         → IsWatched a.world.plant.ports a.asker.port.number len
         (addressed_by_status a.asker.port.number (kept_status a.client.handles handle a.asker.port.number) len) result }
     ensures len { IfOk result (λ reach. watched_len (range_meant reach) ≡ len) }
 {
-    match look(handles, number, handle) {
+    match look(handles, ams_port, handle) {
         Ok(place) => {
             if len > place.len {
                 return Err(Code::C705);

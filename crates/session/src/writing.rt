@@ -12,9 +12,11 @@ ghost use Rattle.session.specs.Asking.{Asking, act_asked};
 ghost use Rattle.session.specs.Asks.{Asks, SomeAsks};
 ghost use Rattle.session.specs.Ends.{EndsAct, value_write_act};
 
+use crate::asker::Asker;
 use crate::groups::{is_release, is_value_by_handle};
 use crate::looking::look;
-use ads_base::{NetId, get32};
+use crate::requests::WriteRequest;
+use ads_base::get32;
 use port_device::Port;
 use return_codes::Code;
 use sym_handles::Handles;
@@ -25,60 +27,55 @@ use type_layout::Rights;
 pub(crate) fn write(
     handles: &mut Handles,
     port: &mut Port,
-    number: u16,
-    group: u32,
-    offset: u32,
-    bytes: &[u8],
-    rights: Rights,
-    net: NetId,
+    asker: Asker,
+    asked: &WriteRequest<'_>,
 ) -> Result<(), Code>
     requires some { SomeAsks port.old handles.old }
-    requires number { number ≡ port.old.number }
-    ensures ends { (a : Asking) → Asks a port.old handles.old → IsAsker a.asker (rights_of rights) net.bytes
-        → EndsAct a (act_asked a (Write group offset bytes.now)) result port.new handles.new }
+    requires number { asker.number ≡ port.old.number }
+    ensures ends { (a : Asking) → Asks a port.old handles.old → IsAsker a.asker (rights_of asker.rights) asker.source.net.bytes
+        → EndsAct a (act_asked a (Write asked.now.group asked.now.offset asked.now.bytes.now)) result port.new handles.new }
     ensures keeps { KeepsDescription port.old port.new }
 {
-    if is_release(group) {
-        return release(handles, number, bytes);
+    if is_release(asked.group) {
+        return release(handles, asker.number, asked.bytes);
     }
-    if is_value_by_handle(group) {
-        return write_value(handles, port, number, offset, bytes, rights, net);
+    if is_value_by_handle(asked.group) {
+        return write_value(handles, port, asker, asked.offset, asked.bytes);
     }
-    port.write(group, offset, bytes, rights, net)
+    let net = asker.source.net;
+    port.write(asked.group, asked.offset, asked.bytes, asker.rights, net)
 }
 
 // Releases a handle, whose 4 bytes are the data. Rights are not looked at.
-fn release(handles: &mut Handles, number: u16, bytes: &[u8]) -> Result<(), Code>
-    ensures ends { (a : Asking) (port : PortMemory) → number ≡ port.number → Asks a port handles.old
+fn release(handles: &mut Handles, ams_port: u16, bytes: &[u8]) -> Result<(), Code>
+    ensures ends { (a : Asking) (port : PortMemory) → ams_port ≡ port.number → Asks a port handles.old
         → EndsAct a (machine.release_act a.client a.asker.port bytes.now) result port handles.new }
 {
     if bytes.len() != 4 {
         return Err(Code::C705);
     }
-    handles.release(get32(bytes, 0), number)
+    handles.release(get32(bytes, 0), ams_port)
 }
 
 // Writes the first bytes of a value by its handle. The rights come first.
 fn write_value(
     handles: &Handles,
     port: &mut Port,
-    number: u16,
+    asker: Asker,
     handle: u32,
     bytes: &[u8],
-    rights: Rights,
-    net: NetId,
 ) -> Result<(), Code>
     requires some { SomeAsks port.old handles.now }
-    requires number { number ≡ port.old.number }
-    ensures ends { (a : Asking) → Asks a port.old handles.now → IsAsker a.asker (rights_of rights) net.bytes
+    requires number { asker.number ≡ port.old.number }
+    ensures ends { (a : Asking) → Asks a port.old handles.now → IsAsker a.asker (rights_of asker.rights) asker.source.net.bytes
         → EndsAct a (value_write_act a handle bytes.now) result port.new handles.now }
     ensures keeps { KeepsDescription port.old port.new }
 {
-    if !may_write(rights) {
+    if !may_write(asker.rights) {
         return Err(Code::C704);
     }
-    match look(handles, number, handle) {
-        Ok(place) => port.write_place(place, bytes, rights, net),
+    match look(handles, asker.number, handle) {
+        Ok(place) => port.write_place(place, bytes, asker.rights, asker.source.net),
         Err(code) => Err(code),
     }
 }

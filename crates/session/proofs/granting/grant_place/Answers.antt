@@ -15,9 +15,9 @@ returns-in_ok-put32-in-Ok-clause-answer c = λ port number a named asks is_named
 
 pub returns-in_ok-put32-in-Ok-clause-leaves : goal.returns-in_ok-put32-in-Ok-clause-leaves
 returns-in_ok-put32-in-Ok-clause-leaves c = λ port number a named asks is_named.
-    grant-leaves a port c.args.handles.now _ c.args.number c.args.place named asks number
+    grant-leaves a port c.args.handles.now _ c.args.ams_port c.args.place named asks number
     (said-not-full c.in_ok-handle.field-0 c.in-Ok.handle c.args.handles.now c.in-Ok.is c.in_ok-handle.ensures.full) is_named
-    (given (λ n. (history : History) → Represents c.args.handles.now history → Represents c.grant.new.self (history ++ Grant c.args.number c.args.place ∷ []))
+    (given (λ n. (history : History) → Represents c.args.handles.now history → Represents c.grant.new.self (history ++ Grant c.args.ams_port c.args.place ∷ []))
     c.in_ok-handle.field-0 c.in-Ok.handle c.in-Ok.is c.in_ok-handle.ensures.granted)
 
 pub returns-in-Err-clause-answer : goal.returns-in-Err-clause-answer

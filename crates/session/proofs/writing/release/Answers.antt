@@ -7,6 +7,6 @@ returns-then-bytes-ne4 c = record { ends = λ a port number asks. release-short 
 pub returns : goal.returns
 returns c = record {
   ends = λ a port number asks.
-      release-ends a c.args.bytes.now c.args.number c.get32.result _ port c.args.handles.now _ asks number c.if-bytes-ne4.false
+      release-ends a c.args.bytes.now c.args.ams_port c.get32.result _ port c.args.handles.now _ asks number c.if-bytes-ne4.false
       c.get32.ensures c.release.ensures.answer c.release.ensures.ok c.release.ensures.err;
 }

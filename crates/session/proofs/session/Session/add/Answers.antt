@@ -12,7 +12,7 @@ pub returns-in-Ok-clause-runs : goal.returns-in-Ok-clause-runs
 returns-in-Ok-clause-runs c =
     let fits : c.in-Ok.handle < 2 ^ 32 = search rules in
     let x = c.args.asked.now in
-    ok-then c.put_reply.result _ _ (λ put a rights delay h from.
+    ok-then c.put_reply.result _ _ (λ put a delay h from.
     let r = AddDeviceNotification x.group x.offset x.len x.mode delay x.cycle in
     let A : Result ℕ Code → Type 0 = λ y. AddsAs a (act_asked a r) y c.add_note.new.self in
     added-runs a x.group x.offset x.len x.mode delay x.cycle c.in-Ok.handle c.args.port.now _ _ _ h.held fits
@@ -22,7 +22,7 @@ returns-in-Ok-clause-runs c =
 pub returns-in-Err-clause-runs : goal.returns-in-Err-clause-runs
 returns-in-Err-clause-runs c =
     let x = c.args.asked.now in
-    ok-then c.put_reply-in-Err.result _ _ (λ put a rights delay h from.
+    ok-then c.put_reply-in-Err.result _ _ (λ put a delay h from.
     let r = AddDeviceNotification x.group x.offset x.len x.mode delay x.cycle in
     let A : Result ℕ Code → Type 0 = λ y. AddsAs a (act_asked a r) y c.add_note.new.self in
     unadded-runs a x.group x.offset x.len x.mode delay x.cycle c.in-Err.code c.args.port.now _ _ _ h.held

@@ -6,12 +6,12 @@ use Rattle.session.proofs.SumGroups.{sum-group}
 use Rattle.session.proofs.session.Session.read_write.Goals as goal
 
 pub sum-requires-clause-sum : goal.sum-requires-clause-sum
-sum-requires-clause-sum c = sum-group c.args.group (sym c.if-is_sum.ensures)
+sum-requires-clause-sum c = sum-group c.args.asked.now.group (sym c.if-is_sum.ensures)
 
 pub returns-clause-runs : goal.returns-clause-runs
 returns-clause-runs c = ok-both c.read_write_reply.result _ _ _ (λ said leaves a h from.
     let S : SessionState → Type 0 = λ s. AsksSession a c.args.port.now s in
     let own = subst S (sym c.self.view_is) h in
-    read_write-runs a c.args.group c.args.offset c.args.len c.args.bytes.now c.args.port.now _ _ _ _ own (sym c.if-is_sum.ensures) refl
+    read_write-runs a c.args.asked.now.group c.args.asked.now.offset c.args.asked.now.len c.args.asked.now.bytes.now c.args.port.now _ _ _ _ own (sym c.if-is_sum.ensures) refl
     (said a (asks-of a _ _ own)) (leaves a (asks-of a _ _ own)))
     c.read_write_reply.ensures.reply c.read_write_reply.ensures.leaves

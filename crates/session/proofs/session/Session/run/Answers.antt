@@ -8,17 +8,17 @@ use Rattle.session.proofs.session.Session.run.Goals as goal
 pub returns-in-Control-clause-runs : goal.returns-in-Control-clause-runs
 returns-in-Control-clause-runs c = ok-then c.control.result _ _ (λ said a h from.
     let R : Request → Type 0 = λ q. Runs a (request_meant q) c.args.out.now c.control.new.out c.control.new.port c.args.self.now in
-    subst R (sym c.in-Control.is) (said a c.args.asker.source c.in-Control._any.now h from)) c.control.ensures.runs
+    subst R (sym c.in-Control.is) (said a c.args.asker.source c.in-Control.bytes.now h from)) c.control.ensures.runs
 
 pub returns-in-Add-clause-runs : goal.returns-in-Add-clause-runs
 returns-in-Add-clause-runs c = ok-then c.add.result _ _ (λ said a h from.
     let R : Request → Type 0 = λ q. Runs a (request_meant q) c.args.out.now c.add.new.out c.args.port.now c.add.new.self in
-    subst R (sym c.in-Add.is) (said a c.args.asker.rights c.in-Add._any h from)) c.add.ensures.runs
+    subst R (sym c.in-Add.is) (said a c.in-Add.delay h from)) c.add.ensures.runs
 
 pub returns-in-Note-clause-runs : goal.returns-in-Note-clause-runs
 returns-in-Note-clause-runs c = ok-then c.note.result _ _ (λ said a h from.
     let R : Request → Type 0 = λ q. Runs a (request_meant q) c.args.out.now c.note.new.out c.args.port.now c.args.self.now in
-    subst R (sym c.in-Note.is) (said a c.args.port.now c.in-Note._any.now h)) c.note.ensures
+    subst R (sym c.in-Note.is) (said a c.args.port.now c.in-Note.field-0.now h)) c.note.ensures
 
 pub returns-in-Delete-clause-runs : goal.returns-in-Delete-clause-runs
 returns-in-Delete-clause-runs c = ok-then c.delete.result _ _ (λ said a h from.

@@ -1,29 +1,29 @@
 use Rattle.sum_commands.specs.SumCommand.{sum_of}
 use Rattle.session.proofs.SumLemmas.{some-state, stands-some, stands-for-some, sum-lent, ok-grows}
-use Rattle.session.proofs.run.run_parts.Goals as goal
+use Rattle.session.proofs.sums.run_parts.Goals as goal
 
 pub run_sum-requires-clause-some : goal.run_sum-requires-clause-some
 run_sum-requires-clause-some c = stands-for-some _ c.requires.some c.requires.number
 
 pub returns-clause-handles : goal.returns-clause-handles
 returns-clause-handles c =
-    (sum-lent c.args.single.now c.run_sum.new.service (some-state c.args.single.now c.requires.some) (sum_of c.args.group c.args.count c.args.bytes.now) _ _
+    (sum-lent c.args.single.now c.run_sum.new.service (some-state c.args.single.now c.requires.some) (sum_of c.args.asked.now.group c.args.asked.now.offset c.args.asked.now.bytes.now) _ _
     c.run_sum.result (stands-some c.args.single.now c.requires.some c.requires.number)
     c.run_sum.ensures.err c.run_sum.ensures.leaves c.run_sum.ensures.wants).handles
 
 pub returns-clause-port : goal.returns-clause-port
 returns-clause-port c =
-    (sum-lent c.args.single.now c.run_sum.new.service (some-state c.args.single.now c.requires.some) (sum_of c.args.group c.args.count c.args.bytes.now) _ _
+    (sum-lent c.args.single.now c.run_sum.new.service (some-state c.args.single.now c.requires.some) (sum_of c.args.asked.now.group c.args.asked.now.offset c.args.asked.now.bytes.now) _ _
     c.run_sum.result (stands-some c.args.single.now c.requires.some c.requires.number)
     c.run_sum.ensures.err c.run_sum.ensures.leaves c.run_sum.ensures.wants).port
 
 pub returns-clause-keeps : goal.returns-clause-keeps
 returns-clause-keeps c =
-    (sum-lent c.args.single.now c.run_sum.new.service (some-state c.args.single.now c.requires.some) (sum_of c.args.group c.args.count c.args.bytes.now) _ _
+    (sum-lent c.args.single.now c.run_sum.new.service (some-state c.args.single.now c.requires.some) (sum_of c.args.asked.now.group c.args.asked.now.offset c.args.asked.now.bytes.now) _ _
     c.run_sum.result (stands-some c.args.single.now c.requires.some c.requires.number)
     c.run_sum.ensures.err c.run_sum.ensures.leaves c.run_sum.ensures.wants).keeps
 
 pub returns-clause-grows : goal.returns-clause-grows
 returns-clause-grows c =
-    ok-grows c.args.single.now c.run_sum.new.service (some-state c.args.single.now c.requires.some) (sum_of c.args.group c.args.count c.args.bytes.now) _ _
+    ok-grows c.args.single.now c.run_sum.new.service (some-state c.args.single.now c.requires.some) (sum_of c.args.asked.now.group c.args.asked.now.offset c.args.asked.now.bytes.now) _ _
     c.run_sum.result (stands-some c.args.single.now c.requires.some c.requires.number) c.run_sum.ensures.err c.run_sum.ensures.reply
