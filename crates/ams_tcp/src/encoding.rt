@@ -23,9 +23,6 @@ pub fn put_frame(alloc: Global, ams: &[u8], out: &mut Octets) -> Result<(), NoMe
     let len = (ams.len() as u32).to_le_bytes();
     let before = out.len();
     out.put(alloc, &[0, 0, len[0], len[1], len[2], len[3]])?;
-    if out.put(alloc, ams).is_err() {
-        out.cut(before);
-        return Err(NoMemory);
-    }
-    Ok(())
+    let put = out.put(alloc, ams);
+    out.cut_back(before, put)
 }
