@@ -7,23 +7,27 @@ run_sum-requires-clause-some c = stands-for-some _ c.requires.some c.requires.nu
 
 pub returns-clause-handles : goal.returns-clause-handles
 returns-clause-handles c =
-    (sum-lent c.args.single.now c.run_sum.new.service (some-state c.args.single.now c.requires.some) (sum_of c.args.asked.now.group c.args.asked.now.offset c.args.asked.now.bytes.now) _ _
+    let x = c.args.asked.now in
+    (sum-lent c.args.single.now c.run_sum.new.service (some-state c.args.single.now c.requires.some) (sum_of x.group x.offset x.bytes.now) _ _
     c.run_sum.result (stands-some c.args.single.now c.requires.some c.requires.number)
     c.run_sum.ensures.err c.run_sum.ensures.leaves c.run_sum.ensures.wants).handles
 
 pub returns-clause-port : goal.returns-clause-port
 returns-clause-port c =
-    (sum-lent c.args.single.now c.run_sum.new.service (some-state c.args.single.now c.requires.some) (sum_of c.args.asked.now.group c.args.asked.now.offset c.args.asked.now.bytes.now) _ _
+    let x = c.args.asked.now in
+    (sum-lent c.args.single.now c.run_sum.new.service (some-state c.args.single.now c.requires.some) (sum_of x.group x.offset x.bytes.now) _ _
     c.run_sum.result (stands-some c.args.single.now c.requires.some c.requires.number)
     c.run_sum.ensures.err c.run_sum.ensures.leaves c.run_sum.ensures.wants).port
 
 pub returns-clause-keeps : goal.returns-clause-keeps
 returns-clause-keeps c =
-    (sum-lent c.args.single.now c.run_sum.new.service (some-state c.args.single.now c.requires.some) (sum_of c.args.asked.now.group c.args.asked.now.offset c.args.asked.now.bytes.now) _ _
+    let x = c.args.asked.now in
+    (sum-lent c.args.single.now c.run_sum.new.service (some-state c.args.single.now c.requires.some) (sum_of x.group x.offset x.bytes.now) _ _
     c.run_sum.result (stands-some c.args.single.now c.requires.some c.requires.number)
     c.run_sum.ensures.err c.run_sum.ensures.leaves c.run_sum.ensures.wants).keeps
 
 pub returns-clause-grows : goal.returns-clause-grows
 returns-clause-grows c =
-    ok-grows c.args.single.now c.run_sum.new.service (some-state c.args.single.now c.requires.some) (sum_of c.args.asked.now.group c.args.asked.now.offset c.args.asked.now.bytes.now) _ _
+    let x = c.args.asked.now in
+    ok-grows c.args.single.now c.run_sum.new.service (some-state c.args.single.now c.requires.some) (sum_of x.group x.offset x.bytes.now) _ _
     c.run_sum.result (stands-some c.args.single.now c.requires.some c.requires.number) c.run_sum.ensures.err c.run_sum.ensures.reply

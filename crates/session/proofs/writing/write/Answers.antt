@@ -8,16 +8,19 @@ use Rattle.session.proofs.writing.write.Goals as goal
 
 pub returns-then-is_release-clause-ends : goal.returns-then-is_release-clause-ends
 returns-then-is_release-clause-ends c = λ a asks asker.
-    ends-along a (release_act a.client a.asker.port c.args.asked.now.bytes.now) (act_asked a (Write c.args.asked.now.group c.args.asked.now.offset c.args.asked.now.bytes.now)) _ _ _
-    (write-releases a c.args.asked.now.group c.args.asked.now.offset c.args.asked.now.bytes.now (sym c.if-is_release.ensures))
+    let x = c.args.asked.now in
+    ends-along a (release_act a.client a.asker.port x.bytes.now) (act_asked a (Write x.group x.offset x.bytes.now)) _ _ _
+    (write-releases a x.group x.offset x.bytes.now (sym c.if-is_release.ensures))
     (c.release.ensures.ends a c.args.port.now c.requires.number asks)
 
 pub returns-then-is_value_by_handle-clause-ends : goal.returns-then-is_value_by_handle-clause-ends
 returns-then-is_value_by_handle-clause-ends c = λ a asks asker.
-    ends-along a (value_write_act a c.args.asked.now.offset c.args.asked.now.bytes.now) (act_asked a (Write c.args.asked.now.group c.args.asked.now.offset c.args.asked.now.bytes.now)) _ _ _
-    (write-by-handle a c.args.asked.now.group c.args.asked.now.offset c.args.asked.now.bytes.now (sym c.if-is_value_by_handle.ensures)) (c.write_value.ensures.ends a asks asker)
+    let x = c.args.asked.now in
+    ends-along a (value_write_act a x.offset x.bytes.now) (act_asked a (Write x.group x.offset x.bytes.now)) _ _ _
+    (write-by-handle a x.group x.offset x.bytes.now (sym c.if-is_value_by_handle.ensures)) (c.write_value.ensures.ends a asks asker)
 
 pub returns-clause-ends : goal.returns-clause-ends
 returns-clause-ends c = λ a asks asker.
-    port-ends a c.args.asked.now.group c.args.asked.now.offset c.args.asked.now.bytes.now _ _ _ _ (sym c.if-is_release.ensures) (sym c.if-is_value_by_handle.ensures) asks
+    let x = c.args.asked.now in
+    port-ends a x.group x.offset x.bytes.now _ _ _ _ (sym c.if-is_release.ensures) (sym c.if-is_value_by_handle.ensures) asks
     (c.write.ensures.answer a.world a.client a.asker asks.held asker)

@@ -12,6 +12,7 @@ pub returns-clause-runs : goal.returns-clause-runs
 returns-clause-runs c = ok-both c.read_write_reply.result _ _ _ (λ said leaves a h from.
     let S : SessionState → Type 0 = λ s. AsksSession a c.args.port.now s in
     let own = subst S (sym c.self.view_is) h in
-    read_write-runs a c.args.asked.now.group c.args.asked.now.offset c.args.asked.now.len c.args.asked.now.bytes.now c.args.port.now _ _ _ _ own (sym c.if-is_sum.ensures) refl
+    let x = c.args.asked.now in
+    read_write-runs a x.group x.offset x.len x.bytes.now c.args.port.now _ _ _ _ own (sym c.if-is_sum.ensures) refl
     (said a (asks-of a _ _ own)) (leaves a (asks-of a _ _ own)))
     c.read_write_reply.ensures.reply c.read_write_reply.ensures.leaves

@@ -18,7 +18,8 @@ pub returns-clause-runs : goal.returns-clause-runs
 returns-clause-runs c = λ a h from.
     let S : SessionState → Type 0 = λ s. AsksSession a c.args.port.now s in
     let own = subst S (sym c.self.view_is) h in
-    sum-runs a c.args.asked.now.group c.args.asked.now.offset c.args.asked.now.len c.args.asked.now.bytes.now c.args.port.now _
+    let x = c.args.asked.now in
+    sum-runs a x.group x.offset x.len x.bytes.now c.args.port.now _
     _ _ _ _ c.args.out.now c.put_room.new.out c.run_parts.new.out c.fill_front.new.out
     c.len-start.result c.number_in.result c.in_ok-answer.answer c.in_ok-answer.ensures.code c.in_ok-answer.ensures.err c.in_ok-answer.ensures.reply
     c.in_ok-answer.ensures.leaves c.requires.sum own

@@ -9,7 +9,8 @@ pub returns-clause-runs : goal.returns-clause-runs
 returns-clause-runs c = ok-then c.put32.result _ _ (λ put a h from.
     let S : SessionState → Type 0 = λ s. AsksSession a c.args.port.now s in
     let own = subst S (sym c.self.view_is) h in
-    write-runs a c.args.asked.now.group c.args.asked.now.offset c.number_in.result c.args.asked.now.bytes.now c.write-answer.result c.args.port.now _ _ _ _ _ own
+    let x = c.args.asked.now in
+    write-runs a x.group x.offset c.number_in.result x.bytes.now c.write-answer.result c.args.port.now _ _ _ _ _ own
     (c.write-answer.ensures.ends a (asks-of a _ _ own)
     (record { net_is = ap (λ (x : AmsAddress). x.net) from.address; rights_are = from.rights_are })) refl c.number_in.ensures
     (put ∙ ap (λ x. c.args.out.now ++ x) (sym (write-written c.number_in.result))))
