@@ -40,7 +40,6 @@ pub(crate) fn read_write(
     ensures asked { OnOk result (length out.new ≤ length out.old + len) }
     ensures no_memory { OnErr result (out.new ≡ out.old) }
 {
-    let _any = offset;
     if is_handle_by_name(group) {
         return grant(alloc, handles, port, ams_port, len, bytes, out);
     }
