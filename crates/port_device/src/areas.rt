@@ -93,6 +93,22 @@ pub(crate) fn put_bytes(image: &mut Image, sizes: &Sizes, area: Area, at: u32, b
     requires within { at + length bytes.now ≤ size_in (sizes_of sizes.now) (area_of area) }
     ensures { image.new ≡ with_image_bytes (sizes_of sizes.now) image.old (area_of area) at bytes.now }
 {
+    // Where the length is known, as it is of most fields, the bytes are moved in one step and with no call.
+    if bytes.len() == 4 {
+        copy_bytes(image, sizes, area, at, bytes);
+    } else {
+        copy_bytes(image, sizes, area, at, bytes);
+    }
+}
+
+// The same, wherever the length is known or not.
+#[inline(always)]
+fn copy_bytes(image: &mut Image, sizes: &Sizes, area: Area, at: u32, bytes: &[u8])
+    requires few { image_size (sizes_of sizes.now) ≤ IMAGE_LIMIT }
+    requires image { length image.old ≡ image_size (sizes_of sizes.now) }
+    requires within { at + length bytes.now ≤ size_in (sizes_of sizes.now) (area_of area) }
+    ensures { image.new ≡ with_image_bytes (sizes_of sizes.now) image.old (area_of area) at bytes.now }
+{
     let span = span_of(sizes, area, at, bytes.len() as u32);
     image.part_mut(span).copy_from_slice(bytes);
 }

@@ -1,6 +1,6 @@
 //! Reads of an area's bytes, a bit, a size, and of a symbol's bytes.
 
-ghost use Rattle.std.specs.Prelude.{◌≡◌, ◌+◌, ◌≤◌, ℕ, [], ◌∷◌, length, map, IfOk, OnErr};
+ghost use Rattle.std.specs.Prelude.{◌≡◌, ◌+◌, ◌≤◌, ℕ, [], ◌∷◌, ◌++◌, length, map, IfOk, OnOk, OnErr};
 ghost use Rattle.spec_plant.specs.Description.{size_in};
 ghost use Rattle.spec_plant.specs.World.{PlantPort};
 ghost use Rattle.spec_formats.specs.Groups.{group_of};
@@ -20,7 +20,7 @@ use crate::group::is_version;
 use crate::port::Port;
 use crate::upload::upload_named;
 use ads_base::{NoMemory, Octets, put32};
-use index_groups::{Reach, reach};
+use index_groups::{PROCESS_BYTES, Reach, reach};
 use return_codes::Code;
 use std::alloc::Global;
 use symbol_table::Place;
@@ -37,7 +37,29 @@ impl Port {
     /// | 0x705 | it ends outside; or the size, the version or the upload has more bytes than were asked for, or a type upload more than 2,000,000 |
     ///
     /// Beckhoff Information System, "ADS Read".
+    #[inline(always)]
     pub fn read(
+        &self,
+        alloc: Global,
+        group: u32,
+        offset: u32,
+        len: u32,
+        out: &mut Octets,
+    ) -> Result<Result<(), Code>, NoMemory>
+        ensures answer { IfOk result (λ answer. (w : World) (c : client.Client) (p : PlantPort) → HoldsPort w p self.now
+            → AnswersAct w (read_group (setup_of w) c p (without_handles (group_of group)) offset len) answer out.old out.new) }
+        ensures no_memory { OnErr result (out.new ≡ out.old) }
+    {
+        // Most reads are of data. Where the group is known, no table of groups is asked.
+        if group == PROCESS_BYTES {
+            return self.read_by(alloc, group, offset, len, out);
+        }
+        self.read_apart(alloc, group, offset, len, out)
+    }
+
+    // The same, wherever the group is known or not.
+    #[inline(always)]
+    fn read_by(
         &self,
         alloc: Global,
         group: u32,
@@ -53,6 +75,23 @@ impl Port {
             Ok(range) => self.read_reach(alloc, range, out),
             Err(code) => self.read_unreached(alloc, group, len, code, out),
         }
+    }
+
+    // The same, apart from the code of the caller.
+    #[inline(never)]
+    fn read_apart(
+        &self,
+        alloc: Global,
+        group: u32,
+        offset: u32,
+        len: u32,
+        out: &mut Octets,
+    ) -> Result<Result<(), Code>, NoMemory>
+        ensures answer { IfOk result (λ answer. (w : World) (c : client.Client) (p : PlantPort) → HoldsPort w p self.now
+            → AnswersAct w (read_group (setup_of w) c p (without_handles (group_of group)) offset len) answer out.old out.new) }
+        ensures no_memory { OnErr result (out.new ≡ out.old) }
+    {
+        self.read_by(alloc, group, offset, len, out)
     }
 
     // What Read gives of a group by which no range of an area is reached: an upload, the symbol version, or the code that
@@ -124,8 +163,9 @@ impl Port {
         if len > place.len {
             return Ok(Err(Code::C705));
         }
-        out.put(
+        put_field(
             alloc,
+            out,
             bytes_of(&self.image, &self.sizes, place.area, place.at, len),
         )?;
         Ok(Ok(()))
@@ -164,7 +204,11 @@ impl Port {
     {
         match range {
             Reach::Bytes { area, at, len } => {
-                out.put(alloc, bytes_of(&self.image, &self.sizes, area, at, len))?;
+                put_field(
+                    alloc,
+                    out,
+                    bytes_of(&self.image, &self.sizes, area, at, len),
+                )?;
                 Ok(Ok(()))
             }
             Reach::Bit { area, at, bit } => {
@@ -177,5 +221,17 @@ impl Port {
                 Ok(Ok(()))
             }
         }
+    }
+}
+
+// Appends bytes. Those of a field of four bytes, as most are, are moved in one step and with no call.
+#[inline(always)]
+fn put_field(alloc: Global, out: &mut Octets, bytes: &[u8]) -> Result<(), NoMemory>
+    ensures ok { OnOk result (out.new ≡ out.old ++ bytes.now) }
+    ensures no_memory { OnErr result (out.new ≡ out.old) }
+{
+    match bytes.as_array::<4>() {
+        Some(four) => out.put_array(alloc, four),
+        None => out.put(alloc, bytes),
     }
 }

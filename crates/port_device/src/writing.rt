@@ -21,7 +21,7 @@ use crate::marks::are_clear;
 use crate::port::Port;
 use crate::writable::{may_control, may_write, may_write_all};
 use ads_base::NetId;
-use index_groups::{Reach, reach};
+use index_groups::{PROCESS_BYTES, Reach, reach};
 use return_codes::Code;
 use symbol_table::Place;
 use type_layout::{Area, Rights};
@@ -57,6 +57,29 @@ impl Port {
         ensures err { OnErr result (self.new ≡ self.old) }
         ensures keeps { KeepsDescription self.old self.new }
     {
+        // Most writes are of data. Where the group is known, no table of groups is asked.
+        if group == PROCESS_BYTES {
+            return self.write_by(group, offset, bytes, rights, source);
+        }
+        self.write_apart(group, offset, bytes, rights, source)
+    }
+
+    // The same, wherever the group is known or not.
+    #[inline(always)]
+    fn write_by(
+        &mut self,
+        group: u32,
+        offset: u32,
+        bytes: &[u8],
+        rights: Rights,
+        source: NetId,
+    ) -> Result<(), Code>
+        ensures answer { (w : World) (c : client.Client) (k : Asker) → HoldsPort w k.port self.old
+            → IsAsker k (rights_of rights) source.bytes
+            → EndsAs w k.port (write_group c k (written_by_port (group_of group)) offset bytes.now) result self.new }
+        ensures err { OnErr result (self.new ≡ self.old) }
+        ensures keeps { KeepsDescription self.old self.new }
+    {
         if !is_written(group) {
             return Err(Code::C702);
         }
@@ -69,6 +92,25 @@ impl Port {
             Ok(Reach::Size { area: _ }) => Err(Code::C702),
             Err(code) => Err(code),
         }
+    }
+
+    // The same, apart from the code of the caller.
+    #[inline(never)]
+    fn write_apart(
+        &mut self,
+        group: u32,
+        offset: u32,
+        bytes: &[u8],
+        rights: Rights,
+        source: NetId,
+    ) -> Result<(), Code>
+        ensures answer { (w : World) (c : client.Client) (k : Asker) → HoldsPort w k.port self.old
+            → IsAsker k (rights_of rights) source.bytes
+            → EndsAs w k.port (write_group c k (written_by_port (group_of group)) offset bytes.now) result self.new }
+        ensures err { OnErr result (self.new ≡ self.old) }
+        ensures keeps { KeepsDescription self.old self.new }
+    {
+        self.write_by(group, offset, bytes, rights, source)
     }
 
     /// Writes the first bytes of a symbol or a part of it. 0x704 comes first, by the rights, and last, by the symbol; between

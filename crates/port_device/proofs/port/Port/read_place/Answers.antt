@@ -26,5 +26,5 @@ returns-clause-answer c = λ w p named h t.
     let P : PortMemory → Type 0 = λ x. IsPlaceOf x.table c.args.place in
     let within = place_within c.self.inside.sizes c.self.inside.uploads c.self.inside.bound.items c.self.inside.marks.items m c.args.place
     c.self.invariant (subst P (sym c.self.view_is) c.requires) in
-    place_read w p m c.args.place named _ c.args.len c.args.out.now c.put.new.self (subst (HoldsPort w p) (sym c.self.view_is) h) t
-    c.self.invariant.sizes_are within c.if-len-place.false (c.in_ok-put.ensures.ok ∙ ap (λ bs. c.args.out.now ++ bs) c.bytes_of.ensures)
+    place_read w p m c.args.place named _ c.args.len c.args.out.now c.put_field.new.out (subst (HoldsPort w p) (sym c.self.view_is) h) t
+    c.self.invariant.sizes_are within c.if-len-place.false (c.in_ok-put_field.ensures.ok ∙ ap (λ bs. c.args.out.now ++ bs) c.bytes_of.ensures)

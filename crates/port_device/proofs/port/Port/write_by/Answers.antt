@@ -21,7 +21,7 @@ use Rattle.port_device.proofs.GroupLemmas.{not_written, reached, range_len, writ
 use Rattle.port_device.proofs.ImageLemmas.{one_element}
 use Rattle.port_device.proofs.PortLemmas.{same_sizes}
 use Rattle.port_device.proofs.WriteLemmas.{refused}
-use Rattle.port_device.proofs.port.Port.write.Goals as goal
+use Rattle.port_device.proofs.port.Port.write_by.Goals as goal
 
 pub returns-then-not-is_written-clause-answer : goal.returns-then-not-is_written-clause-answer
 returns-then-not-is_written-clause-answer c = λ w d k h asker.

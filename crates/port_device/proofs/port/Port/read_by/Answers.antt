@@ -13,7 +13,7 @@ use Rattle.port_device.specs.Holds.{HoldsPort}
 use Rattle.port_device.specs.PortMemory.{PortMemory}
 use Rattle.port_device.specs.Ports.{memory_in}
 use Rattle.port_device.proofs.ReadLemmas.{range_at_port, read_of_reached, reads_as, unreached_at}
-use Rattle.port_device.proofs.port.Port.read.Goals as goal
+use Rattle.port_device.proofs.port.Port.read_by.Goals as goal
 
 pub read_reach-requires : goal.read_reach-requires
 read_reach-requires c =
