@@ -9,7 +9,7 @@ use std::alloc::Global;
 use std::mem;
 
 // Appends zeros, of which most parts need none.
-#[inline]
+#[inline(always)]
 pub(crate) fn put_zeros(alloc: Global, out: &mut Octets, count: u32) -> Result<(), NoMemory>
     ensures ok { OnOk result (out.new ≡ out.old ++ replicate count 0) }
     ensures no_memory { OnErr result (out.new ≡ out.old) }
