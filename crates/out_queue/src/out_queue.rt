@@ -55,6 +55,7 @@ impl OutQueue {
     }
 
     /// Puts a frame behind the others, unless more than 4,194,304 bytes would wait.
+    #[inline(always)]
     pub fn push(&mut self, _alloc: Global, frame: &[u8]) -> Result<Pushed, NoMemory>
         ensures over { IfOk result (λ pushed. (pushed ≡ Pushed.Over)
             ↔ (QUEUE_LIMIT < queued self.old + length frame.now)) }
