@@ -128,6 +128,7 @@ impl<S: Sources> Core<S> {
     }
 
     /// The first n bytes of what was offered to a connection were taken.
+    #[inline(always)]
     pub fn took(&mut self, conn: u32, n: u32)
         requires { FitsOffer n conn self.old }
         ensures follows { (x : CoreState) (left bytes : List ℕ) → Serves self.old x → offer_in self.old conn ≡ Some left
