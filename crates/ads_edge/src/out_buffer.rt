@@ -51,6 +51,7 @@ impl OutBuffer {
     }
 
     /// Takes as many first bytes as there is room for, and tells how many.
+    #[inline(always)]
     pub(crate) fn put(&mut self, bytes: &[u8]) -> Result<usize, NoMemory>
         ensures count { IfOk result (λ n. n ≡ min (length bytes.now) (room_left self.old)) }
         ensures within { IfOk result (λ n. n ≤ length bytes.now) }
