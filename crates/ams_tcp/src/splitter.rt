@@ -78,6 +78,7 @@ impl Splitter {
 
     /// The same with the packet in the room of bytes that are no longer needed, which are let go. Who gives each packet back
     /// for the next takes no memory once the room is as large as the packets.
+    #[inline(always)]
     pub fn next_in(&mut self, alloc: Global, room: Octets) -> Result<Cut, NoMemory>
         ensures answer { IfOk result (λ cut. (h : History) → Represents self.old h → cut ≡ answer_of h) }
         ensures stands { OnOk result ((h : History) → Represents self.old h → Represents self.new (after_next h)) }
