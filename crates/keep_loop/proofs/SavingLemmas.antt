@@ -1,19 +1,22 @@
 -- A save in terms of the store: what a stop leaves of it, and why it was not refused.
 use Rattle.std.proofs.Common.{◌≡◌, ℕ, List, [], ◌∷◌, true, false, refl, sym, ap, ◌∙◌, subst, inl, inr}
-use Rattle.std.specs.Prelude.{Bool, ◌⊎◌, Option, Some}
+use Rattle.std.specs.Prelude.{Bool, ◌⊎◌, Option, Some, None}
+use Rattle.std.proofs.lemmas.Slice.Eq.{bytes_eq-Decides}
+use Rattle.ads_served.specs.Standing as served
 use Rattle.spec_store.specs.Disk.{LeavesOnly}
 use Rattle.spec_store.specs.Laws.{IsBeforeOrAfter}
 use Rattle.spec_store.specs.Slots.{Standing, standing_of}
 use Rattle.spec_store.specs.Saves.{is_over_limit, standing_after}
 use Rattle.spec_store.specs.Runs.{IsOneOf}
 use Rattle.persist_store.specs.Steps.{StandsFor}
-use Rattle.persist_store.specs.Store.{StoreState, IsReady, IsRefused}
+use Rattle.persist_store.specs.Store.{StoreState, body_of, IsReady, IsRefused}
 use Rattle.persist_store.specs.declared.saved.Saved.{Saved}
 use Rattle.persist_store.specs.declared.saved.Saved.TheVariants as saved
 use Rattle.persist_store.proofs.Moments.{weaker}
 use Rattle.keep_loop.specs.declared.save_end.SaveEnd.{SaveEnd}
 use Rattle.keep_loop.specs.declared.save_end.SaveEnd.TheVariants as save
-use Rattle.keep_loop.specs.Saving.{LeavesEach, StaysTold, AfterSave}
+use Rattle.keep_loop.specs.Bodies.{BodyOf, is_standing}
+use Rattle.keep_loop.specs.Saving.{LeavesEach, StaysTold, StandsForSome, StaysSame, AfterSave}
 
 before_or_after : (standing of_file : Option Standing) (body : List ℕ) (one : Option Standing) → of_file ≡ standing
     → (one ≡ of_file) ⊎ (one ≡ Some (standing_after of_file body)) → IsOneOf standing (body ∷ []) one
@@ -68,3 +71,21 @@ saved_to save.Limit First Then contents moment left_since old_disk new_disk old 
 saved_to save.Memory First Then contents moment left_since old_disk new_disk old new to (inl same) = inl same
 saved_to save.Memory First Then contents moment left_since old_disk new_disk old new to (inr s) =
     inr (record { body = s.body; is = to s.body s.is; differs = s.differs; left = s.left })
+
+-- the body of what is served stands already
+pub stays_same : {W C D : Type 0} (of_world : BodyOf W) (serves : served.Standing W C → Type 0) (disk : D) (store : StoreState) → StandsForSome serves
+    → ((x : served.Standing W C) → serves x → true ≡ is_standing (body_of store) (of_world x.running.state.world))
+    → StaysSame (λ body. (x : served.Standing W C) → serves x → body ≡ of_world x.running.state.world) disk disk store store
+stays_same {W} {C} {D} of_world serves disk store some same = by_stood (body_of store) refl same
+  where
+    by_stood : (stood : Option (List ℕ)) → body_of store ≡ stood
+        → ((x : served.Standing W C) → serves x → true ≡ is_standing stood (of_world x.running.state.world))
+        → StaysSame (λ body. (x : served.Standing W C) → serves x → body ≡ of_world x.running.state.world) disk disk store store
+    by_stood None e is = absurd (let never : true ≡ false = is some.standing some.stands in cc)
+    by_stood (Some body) e is = record {
+      body = body;
+      is = λ x stands. (bytes_eq-Decides body (of_world x.running.state.world)).0 (sym (is x stands));
+      stands = ap (λ o. is_standing o body) e ∙ (bytes_eq-Decides body body).1 refl;
+      disk = refl;
+      store = refl;
+    }

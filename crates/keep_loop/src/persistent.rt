@@ -1,7 +1,7 @@
 //! What is kept: a machine that takes turns over a wire, and whose world holds a body text.
 
 ghost use denote.Param.Send.{IsSync};
-ghost use Rattle.std.specs.Prelude.{◌≡◌, ◌≤◌, true, IfOk};
+ghost use Rattle.std.specs.Prelude.{◌≡◌, ◌≤◌, true, IfOk, bytes_eq};
 ghost use Rattle.spec_machine.specs.Moves.{EventStep};
 ghost use Rattle.ads_served.specs.Standing.{Standing, Noting};
 ghost use Rattle.spec_store.specs.BodyText.{is_body_text};
@@ -50,4 +50,9 @@ pub trait Persistent {
     fn body(&self, alloc: Global) -> Result<Octets, NoMemory>
         ensures body { IfOk result (λ body. (x : Standing World Client) → serves self.now x → body ≡ body_of x.running.state.world) }
         ensures text { IfOk result (λ body. (x : Standing World Client) → serves self.now x → is_body_text body ≡ true) };
+
+    /// Whether a text is that body text, which is not made for it.
+    fn is_body(&self, alloc: Global, text: &[u8]) -> Result<bool, NoMemory>
+        ensures { IfOk result (λ same. (x : Standing World Client) → serves self.now x
+            → same ≡ bytes_eq text.now (body_of x.running.state.world)) };
 }

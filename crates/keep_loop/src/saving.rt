@@ -1,6 +1,6 @@
 //! The body of what is served is saved, where it does not stand already.
 
-ghost use Rattle.std.specs.Prelude.{◌≡◌, ◌≤◌, ◌<◌, ◌^◌, ℕ, List, length, true, false, None, option_map, bytes_eq};
+ghost use Rattle.std.specs.Prelude.{◌≡◌, ◌≤◌, ◌<◌, ◌^◌, ℕ, List, length, true, false, None, IfOk, option_map, bytes_eq};
 ghost use Rattle.ads_outside.specs.Rose.{Rose};
 ghost use Rattle.ads_served.specs.Standing.{Standing};
 ghost use Rattle.spec_store.specs.BodyText.{is_body_text};
@@ -16,6 +16,41 @@ use std::alloc::Global;
 
 /// Saves the body of what is served, where it differs from the store's or nothing stands.
 pub(crate) fn save_body<M: Persistent, D: Disk>(
+    alloc: Global,
+    served: &M,
+    store: &mut Store,
+    disk: &mut D,
+) -> SaveEnd
+    requires some { StandsForSome (M.serves served.now) }
+    requires ready { IsReady D.contents D.may_leave disk.old store.old }
+    requires open { store.old.shut ≡ false }
+    ensures saved { AfterSave result (λ body. (x : Standing M.World M.Client) → M.serves served.now x → body ≡ M.body_of x.running.state.world)
+        D.contents D.moment D.left_since disk.old disk.new store.old store.new }
+    ensures ready { IsReady D.contents D.may_leave disk.new store.new }
+    ensures untold { D.contents disk.old ≡ None → D.contents disk.new ≡ None }
+    ensures later { D.fault_count disk.old ≤ D.fault_count disk.new }
+    ensures failed { result ≡ SaveEnd.Failed → Rose (D.fault_count disk.old) (D.fault_count disk.new) }
+{
+    match is_standing(alloc, served, store) {
+        Ok(true) => SaveEnd::Same,
+        Ok(false) => save_made(alloc, served, store, disk),
+        Err(NoMemory) => SaveEnd::Memory,
+    }
+}
+
+// Whether the body of what is served stands already, which is told without its text.
+fn is_standing<M: Persistent>(alloc: Global, served: &M, store: &Store) -> Result<bool, NoMemory>
+    ensures { IfOk result (λ same. (x : Standing M.World M.Client) → M.serves served.now x
+        → same ≡ is_standing (body_of store.now) (M.body_of x.running.state.world)) }
+{
+    match store.body() {
+        Some(stood) => served.is_body(alloc, stood),
+        None => Ok(false),
+    }
+}
+
+// Makes the body of what is served, and saves it where it differs from the store's or nothing stands.
+fn save_made<M: Persistent, D: Disk>(
     alloc: Global,
     served: &M,
     store: &mut Store,

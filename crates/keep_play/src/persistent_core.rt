@@ -52,4 +52,8 @@ impl<S: Sources> Persistent for KeptCore<S> {
         self.core.ports().persistent(alloc, &mut body)?;
         Ok(body)
     }
+
+    fn is_body(&self, alloc: Global, text: &[u8]) -> Result<bool, NoMemory> {
+        self.core.ports().persists(alloc, text)
+    }
 }

@@ -1,10 +1,7 @@
--- The body that was made is that of what is served.
-use Rattle.std.proofs.Common.{◌∙◌}
-use Rattle.keep_loop.proofs.SavingLemmas.{saved_to}
+-- The body of what is served stands already, as was told of it.
+use Rattle.keep_loop.proofs.SavingLemmas.{stays_same}
 use Rattle.keep_loop.proofs.saving.save_body.Goals as goal
 
-pub returns-in-Ok-clause-saved : goal.returns-in-Ok-clause-saved
-returns-in-Ok-clause-saved g c =
-    saved_to c.save_new.result _ _ g.D.Disk.contents g.D.Disk.moment g.D.Disk.left_since
-    c.args.disk.now c.save_new.new.disk c.args.store.now c.save_new.new.store
-    (λ body is x stands. is ∙ (c.as_slice.ensures ∙ c.in-Ok.ensures.body x stands)) c.save_new.ensures.saved
+pub returns-in-Ok-true-clause-saved : goal.returns-in-Ok-true-clause-saved
+returns-in-Ok-true-clause-saved g c = stays_same g.M.Persistent.body_of (g.M.Persistent.serves c.args.served.now) c.args.disk.now c.args.store.now
+    c.requires.some (rw c.in-Ok-true.field-0-test at c.in-Ok-true.ensures)
