@@ -26,6 +26,7 @@ pub mod OtherwiseLemmas
 mod PersistentLemmas
 mod PersistentCounts
 mod PersistentBodies
+mod BehindLemmas
 mod ReadLemmas
 mod StepLemmas
 mod TypeLengths

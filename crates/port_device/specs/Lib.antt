@@ -5,6 +5,7 @@ pub mod Endings
 pub mod Changed
 pub mod Groups
 pub mod PersistentRows
+pub mod Behind
 pub mod Rows
 pub mod Uploads
 pub mod Signals

@@ -17,6 +17,7 @@ mod marks;
 mod moving;
 mod naming;
 mod persistent;
+mod persists;
 mod port;
 mod ports;
 mod reading;

@@ -42,7 +42,7 @@ fn append_body(alloc: Global, ports: &[Port], out: &mut Octets) -> Result<(), No
 }
 
 // How many persistent symbols all ports have, where 32 bits can tell.
-fn count_all(ports: &[Port]) -> u32
+pub(crate) fn count_all(ports: &[Port]) -> u32
     ensures count { length (ports_entries ports.now) < 2 ^ 32 → result ≡ length (ports_entries ports.now) }
     ensures numbers { All HasNumber ports.now }
 {

@@ -1,0 +1,13 @@
+-- For private contracts, and cited by no public clause: what stands behind a text, where bytes begin with it.
+use Rattle.std.specs.Prelude.{ℕ, List, [], ◌∷◌, length, ◌==◌, Bool, false, if◌then◌else◌, Option, Some, None}
+
+-- what stands behind a text; nothing where the bytes do not begin with it
+unfoldable pub behind : List ℕ → List ℕ → Option (List ℕ)
+behind [] bytes = Some bytes
+behind (t ∷ ts) [] = None
+behind (t ∷ ts) (b ∷ bs) = if b == t then behind ts bs else None
+
+-- whether nothing stands behind it
+abbrev pub is_end : Option (List ℕ) → Bool
+is_end None = false
+is_end (Some rest) = length rest == 0
