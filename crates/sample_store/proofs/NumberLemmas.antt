@@ -1,7 +1,9 @@
 -- Tables whose rows have the numbers from 1 on.
-use Rattle.std.proofs.Common.{◌≡◌, ◌⊎◌, ℕ, suc, ◌+◌, ◌≤◌, ◌<◌, List, [], ◌∷◌, ◌++◌, length, true, refl, sym, ap, inl, inr, arith}
-use Rattle.std.specs.Prelude.{is_some, ◌==◌, nat_lt, map, Result, Ok, Err, OnOk, OnErr}
-use Rattle.std.proofs.lemmas.Bool.{cases_Bool, cases_lt, false≢true, eqb-true}
+use Rattle.std.proofs.Common.{◌≡◌, ◌⊎◌, ℕ, zero, suc, ◌+◌, ◌≤◌, ◌<◌, List, [], ◌∷◌, ◌++◌, length, true, refl, sym, ap, inl, inr, arith, ◌∙◌}
+use Rattle.std.specs.Prelude.{is_some, ◌==◌, nat_lt, map, slice_get, option_map, get_or, Option, Some, None, IfSome, MatchOption, Result, Ok, Err, OnOk, OnErr}
+use Rattle.std.specs.Borrow.{Bor}
+use Rattle.std.proofs.lemmas.Option.{slice_get_read, slice_get_past}
+use Rattle.std.proofs.lemmas.Bool.{cases_Bool, cases_lt, false≢true, eqb-true, ne_eqb, eq-eqb}
 use Rattle.spec_samples.specs.Row.{Row}
 use Rattle.sample_store.specs.declared.row.Row as code
 use Rattle.sample_store.specs.Views.{row_kept}
@@ -71,3 +73,32 @@ next_grows rows put next counted = elim (grows_or_there rows put) [
       let below = there_below 1 put.number rows (rw there.0 at counted) there.1 in
       absurd (omega (arith, next, below))
 ]
+
+-- a number that is less than theirs is not there
+pub numbered-below : (k n : ℕ) (rows : List Row) → AreCountedFrom n rows → k < n → row_numbered k rows ≡ None
+unfolding AreCountedFrom
+numbered-below k n [] counted below = refl
+numbered-below k n (r ∷ rs) counted below =
+    let here = counted.0 in
+    rw (ne_eqb r.number k (λ same. omega (arith, same, here, below))) (numbered-below k (n + 1) rs counted.1 (omega (arith, below)))
+
+-- the row of a number stands at its place
+pub numbered-at : (at n : ℕ) (rows : List code.Row) → AreCountedFrom n (map row_kept rows)
+    → option_map row_kept (slice_get rows at) ≡ row_numbered (n + at) (map row_kept rows)
+unfolding AreCountedFrom
+numbered-at at n [] counted = refl
+numbered-at zero n (r ∷ rs) counted =
+    let here : r.number ≡ n + 0 = let is = counted.0 in omega (arith, is) in
+    rw (eq-eqb r.number (n + 0) here) refl
+numbered-at (suc at) n (r ∷ rs) counted =
+    let here = counted.0 in
+    let other = ne_eqb r.number (n + suc at) (λ same. omega (arith, same, here)) in
+    let next : n + 1 + at ≡ n + suc at = omega arith in
+    rw other (numbered-at at (n + 1) rs counted.1 ∙ ap (λ k. row_numbered k (map row_kept rs)) next)
+
+-- a look-up at a place gives the row that stands there
+pub row_looked_up : (rows : List code.Row) (at : ℕ) (P : Bor code.Row → Type 0) (r : Option (Bor code.Row))
+    → MatchOption r (length rows ≤ at) (λ x. (at < length rows) × P x) → IfSome r (λ x. x.now ≡ get_or rows at x.now)
+    → option_map (λ (x : Bor code.Row). row_kept x.now) r ≡ option_map row_kept (slice_get rows at)
+row_looked_up rows at P None past value = ap (option_map row_kept) (sym (slice_get_past rows at past))
+row_looked_up rows at P (Some x) there value = ap (option_map row_kept) (sym (slice_get_read rows (length rows) at x.now refl there.0 value))

@@ -1,9 +1,10 @@
 -- A row that is put at its place.
-use Rattle.std.proofs.Common.{◌≡◌, ℕ, suc, List, [], ◌∷◌, map, Option, Some, None, option_map, refl, sym, ap, ◌∙◌, inl, inr, add-one}
+use Rattle.std.proofs.Common.{◌≡◌, ℕ, ◌+◌, ◌≤◌, length, true, arith, suc, List, [], ◌∷◌, map, Option, Some, None, option_map, refl, sym, ap, ◌∙◌, inl, inr, add-one}
 use Rattle.std.specs.Prelude.{nat_lt, ◌==◌, insert}
 use Rattle.std.specs.Option.{option_map_or}
-use Rattle.std.proofs.lemmas.Bool.{cases_Bool}
+use Rattle.std.proofs.lemmas.Bool.{cases_Bool, lt-ltb}
 use Rattle.spec_samples.specs.Row as samples
+use Rattle.spec_samples.specs.Laws.{AreCountedFrom}
 use Rattle.spec_samples.specs.Rows.{rows_after_put}
 use Rattle.sample_store.specs.declared.row.Row.{Row}
 use Rattle.sample_store.specs.Views.{row_kept}
@@ -55,3 +56,12 @@ put_some rows new row copy at place same is =
     ap (map row_kept) is
     ∙ (ap (put_in rows copy) (place ∙ ap (λ n. place_from 0 n rows) (sym number))
     ∙ (sym (rows_after_put-place rows copy) ∙ ap (rows_after_put (map row_kept rows)) same))
+
+-- a number that is greater than theirs goes behind all
+pub place_behind : (at n k : ℕ) (rows : List Row) → AreCountedFrom n (map row_kept rows) → n + length rows ≤ k → place_from at k rows ≡ Some (at + length rows)
+unfolding AreCountedFrom
+place_behind at n k [] counted most = ap Some (omega arith)
+place_behind at n k (r ∷ rs) counted most =
+    let here = counted.0 in
+    let less : nat_lt r.number k ≡ true = lt-ltb r.number k (omega (arith, here, most)) in
+    rw less (place_behind (at + 1) (n + 1) k rs counted.1 (omega (arith, most)) ∙ ap Some (omega arith))

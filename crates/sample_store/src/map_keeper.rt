@@ -51,12 +51,10 @@ impl MapKeeper {
     pub fn row(&self, number: u64) -> Option<&Row>
         ensures { option_map (λ r. row_kept r.now) result ≡ row_numbered number self.now.rows }
     {
-        for row in &self.rows {
-            if row.number == number {
-                return Some(row);
-            }
+        match number.checked_sub(1) {
+            None => None,
+            Some(at) => self.rows.as_slice().get(at as usize),
         }
-        None
     }
 }
 
