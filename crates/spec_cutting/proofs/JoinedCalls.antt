@@ -5,7 +5,7 @@ use Rattle.std.proofs.lemmas.Bool.{eqb-true}
 use Rattle.std.proofs.lemmas.List.{append-nil}
 use Rattle.spec_samples.specs.Row.{Row}
 use Rattle.spec_client.specs.Client.{client_after_feed, client_after_tick}
-use Rattle.spec_client.specs.Stages.{Stage, Finished, FinishedRecording}
+use Rattle.spec_client.specs.Stages.{Stage, Finished, FinishedRecording, entries_taken}
 use Rattle.spec_client.specs.Runner.{Runner, CallStep, Send, Print, Keep, Wait, Over, Turns, is_over, joined, runner_after_feed, runner_after_tick, turns}
 use Rattle.spec_client.specs.Conversation.{LinkAnswer, Bytes, Quiet, Closed, LoopEnd, Conversation}
 use Rattle.spec_client.specs.Conversation.{MAX_ANSWERS, printed_by, kept_by, end_of_stage, runner_after_answer}
@@ -190,6 +190,11 @@ kept_of : (r : Runner) (q : ℕ) (s : List (List ℕ)) (t : List ℕ) (k : List 
 kept_of r q s t k None = refl
 kept_of r q s t k (Some e) = refl
 
+entries_of : (r : Runner) (q : ℕ) (s : List (List ℕ)) (t : List ℕ) (k : List Row) (o : Option LoopEnd)
+    → (view_of r q s t k o).entries ≡ entries_taken r.stage
+entries_of r q s t k None = refl
+entries_of r q s t k (Some e) = refl
+
 pub view_sent : (c : Conversation) → (view c).sent ≡ bytes_sent c
 view_sent c = sent_of c.runner c.quiet (bytes_sent c) c.text c.kept c.end
 
@@ -201,6 +206,8 @@ same_views c d same = record {
       ∙ text_of d.runner d.quiet (bytes_sent d) d.text d.kept d.end;
   kept = sym (kept_of c.runner c.quiet (bytes_sent c) c.text c.kept c.end) ∙ ap (λ (v : View). v.kept) same
       ∙ kept_of d.runner d.quiet (bytes_sent d) d.text d.kept d.end;
+  entries = sym (entries_of c.runner c.quiet (bytes_sent c) c.text c.kept c.end) ∙ ap (λ (v : View). v.entries) same
+      ∙ entries_of d.runner d.quiet (bytes_sent d) d.text d.kept d.end;
   end = sym (view_end c) ∙ ap (λ (v : View). v.end) same ∙ view_end d;
 }
 

@@ -395,7 +395,13 @@ pub cuttings_are_one : {W C : Type 0} → CuttingsAreOne W C
 cuttings_are_one device cutting other s me peer call room =
     let first = by_bytes device cutting s me peer call room in
     let second = by_bytes device other s me peer call room in
-    record { sent = first.sent ∙ sym second.sent; text = first.text ∙ sym second.text; kept = first.kept ∙ sym second.kept; end = first.end ∙ sym second.end }
+    record {
+      sent = first.sent ∙ sym second.sent;
+      text = first.text ∙ sym second.text;
+      kept = first.kept ∙ sym second.kept;
+      entries = first.entries ∙ sym second.entries;
+      end = first.end ∙ sym second.end;
+    }
 
 pub links_are_one : {W C : Type 0} → LinksAreOne W C
 links_are_one device cutting s me peer call to now answers none logs over room =

@@ -1,4 +1,4 @@
--- What a call tells, without its numbers of answers and, once it is over, without its runner.
+-- What a call tells, without its numbers of answers and, once it is over, without its runner but for the entries that it took.
 use Rattle.std.proofs.Common.{◌≡◌, ℕ, ◌+◌, ◌<◌, ◌≤◌, List, [], ◌∷◌, ◌++◌, map, Bool, true, false, refl, sym, ap, ◌∙◌, arith}
 use Rattle.std.specs.Prelude.{Option, Some, None, ◌==◌, ◌||◌, if◌then◌else◌}
 use Rattle.std.proofs.lemmas.List.{map-append}
@@ -6,7 +6,8 @@ use Rattle.ads_base.specs.declared.peer.Peer.TheVariants as peer
 use Rattle.spec_machine.proofs.Find.{test_other}
 use Rattle.spec_samples.specs.Row.{Row}
 use Rattle.spec_client.specs.Client.{new_client}
-use Rattle.spec_client.specs.Stages.{BadPeer, AwaitsFacts}
+use Rattle.spec_formats.specs.SymbolEntry.{SymbolEntry}
+use Rattle.spec_client.specs.Stages.{BadPeer, AwaitsFacts, entries_taken}
 use Rattle.spec_client.specs.Runner.{Runner, CallStep, Send, Print, Keep, Wait, Over, Turns, turns}
 use Rattle.spec_client.specs.Conversation.{LinkAnswer, Bytes, Quiet, Closed, Sent, LoopEnd, CallEnded, Budget}
 use Rattle.spec_client.specs.Conversation.{Conversation, MAX_QUIET, MAX_ANSWERS, moment_of, quiet_after}
@@ -23,6 +24,7 @@ pub record View : Type 0 where
   pub sent : List (List ℕ)
   pub text : List ℕ
   pub kept : List Row
+  pub entries : List SymbolEntry
   pub end : Option LoopEnd
 
 -- the runner of a call that is over
@@ -30,8 +32,24 @@ abbrev nobody : Runner
 nobody = at (new_client (record { net = []; port = 0 }) (record { net = []; port = 0 })) AwaitsFacts []
 
 abbrev pub view_of : Runner → ℕ → List (List ℕ) → List ℕ → List Row → Option LoopEnd → View
-view_of runner quiet sent text kept (Some end) = record { runner = nobody; quiet = 0; sent = sent; text = text; kept = kept; end = Some end }
-view_of runner quiet sent text kept None = record { runner = runner; quiet = quiet; sent = sent; text = text; kept = kept; end = None }
+view_of runner quiet sent text kept (Some end) = record {
+  runner = nobody;
+  quiet = 0;
+  sent = sent;
+  text = text;
+  kept = kept;
+  entries = entries_taken runner.stage;
+  end = Some end;
+}
+view_of runner quiet sent text kept None = record {
+  runner = runner;
+  quiet = quiet;
+  sent = sent;
+  text = text;
+  kept = kept;
+  entries = entries_taken runner.stage;
+  end = None;
+}
 
 abbrev pub view : Conversation → View
 view c = view_of c.runner c.quiet (bytes_sent c) c.text c.kept c.end

@@ -9,3 +9,4 @@ mod Leading
 mod Scenes
 mod Running
 mod LocalAnswers
+mod Beginnings

@@ -1,6 +1,6 @@
 -- Calls over the closed server have room: it answers each of their requests by one frame at most, and a tick gives one
 -- sample at most, so nothing waits where a request is sent. So they are the same however their answers are cut.
-use Rattle.std.specs.Prelude.{◌≡◌, ℕ, ◌≤◌, ◌<◌, ◌^◌, List, length, Bool, true, false, is_some, Some, None}
+use Rattle.std.specs.Prelude.{◌≡◌, ℕ, ◌≤◌, ◌<◌, ◌^◌, List, ◌++◌, length, Bool, true, false, is_some, Some, None}
 use Rattle.spec_formats.specs.Header.{AmsAddress, IsAddress}
 use Rattle.spec_machine.specs.AdsDevice.{DescriptionReading, server_step}
 use Rattle.spec_machine.specs.Client as served
@@ -8,14 +8,15 @@ use Rattle.spec_machine.specs.Connection.{connection_of}
 use Rattle.spec_machine.specs.MachineState.{MachineState}
 use Rattle.spec_machine.specs.Moves.{EventStep}
 use Rattle.spec_machine.specs.World.{World}
+use Rattle.spec_samples.specs.Row.{Row}
 use Rattle.spec_client.specs.Calls.{Call, Info, State, Control, Get, Set, Symbols, Watch, Show, Record}
 use Rattle.spec_client.specs.CallLog.{call_log_up_to}
 use Rattle.spec_client.specs.CallOver.{call_over}
 use Rattle.spec_client.specs.Conversation.{LinkAnswer, LoopEnd, CallEnded, Conversation}
 use Rattle.spec_client.specs.Stages.{BadValue, TimedOut}
 use Rattle.spec_local.specs.LinkLog.{IsLogOf}
-use Rattle.spec_local.specs.LocalCall.{Cutting, local_call}
-use Rattle.spec_cutting.specs.Joining.{IsSameCall}
+use Rattle.spec_local.specs.LocalCall.{Cutting, local_call, local_call_within}
+use Rattle.spec_cutting.specs.Joining.{IsSameCall, bytes_sent}
 use Rattle.spec_cutting.specs.Laws.{HasRoom}
 
 -- the greatest length of a name, and the greatest number of samples that a call takes
@@ -67,6 +68,28 @@ LocalLinksAreOne = (reading : DescriptionReading) (cutting : Cutting) (s : Machi
     → IsLocal s me peer call → IsLogOf (closed_step reading) s (call_log_up_to me peer call to now answers)
     → is_some (call_over me peer call now answers).end ≡ true
     → IsSameCall (call_over me peer call now answers) (local_call (closed_step reading) cutting s me peer call)
+
+-- a call that sent, printed and kept what begins what another did
+pub record BeginsCall (c d : Conversation) : Type 0 where
+  pub sent_left : List (List ℕ)
+  pub sent : bytes_sent d ≡ bytes_sent c ++ sent_left
+  pub text_left : List ℕ
+  pub text : d.text ≡ c.text ++ text_left
+  pub kept_left : List Row
+  pub kept : d.kept ≡ c.kept ++ kept_left
+
+-- Behind any number of answers, cut in any way, it is a beginning of the one call.
+abbrev pub LocalCallsBegin : Type 0
+LocalCallsBegin = (reading : DescriptionReading) (cutting other : Cutting) (count : ℕ) (s : MachineState World served.Client) (me peer : AmsAddress)
+    (call : Call) → IsLocal s me peer call
+    → BeginsCall (local_call_within (closed_step reading) cutting count s me peer call) (local_call (closed_step reading) other s me peer call)
+
+-- So is a call over a link whose log, so far, is one of this machine.
+abbrev pub LocalLinksBegin : Type 0
+LocalLinksBegin = (reading : DescriptionReading) (cutting : Cutting) (s : MachineState World served.Client) (me peer : AmsAddress) (call : Call)
+    (to : List ℕ) (now : ℕ) (answers : List LinkAnswer)
+    → IsLocal s me peer call → IsLogOf (closed_step reading) s (call_log_up_to me peer call to now answers)
+    → BeginsCall (call_over me peer call now answers) (local_call (closed_step reading) cutting s me peer call)
 
 abbrev pub is_setting : Call → Bool
 is_setting (Set name text) = true

@@ -1,7 +1,8 @@
 //! Calls over the closed server in the same process: they have room, so they are the same in every cutting.
 #![tactic(auto)]
 
-ghost use Rattle.spec_local_room.specs.Laws.{LocalCallsHaveRoom, LocalCallsAreOne, LocalLinksAreOne, LocalCallsEnd};
+ghost use Rattle.spec_local_room.specs.Laws.{LocalCallsHaveRoom, LocalCallsAreOne, LocalLinksAreOne, LocalCallsBegin, LocalLinksBegin};
+ghost use Rattle.spec_local_room.specs.Laws.{LocalCallsEnd};
 
 /// A bounded call over the server's machine has room, so it is the same however its answers are cut, over the machine and
 /// over a link to it; and it ends, by no timeout, and only where a value is set for a text that is none.
@@ -9,5 +10,7 @@ pub fn local_calls_have_room()
     ensures room { LocalCallsHaveRoom }
     ensures one { LocalCallsAreOne }
     ensures link { LocalLinksAreOne }
+    ensures begins { LocalCallsBegin }
+    ensures link_begins { LocalLinksBegin }
     ensures ends { LocalCallsEnd }
 {}
