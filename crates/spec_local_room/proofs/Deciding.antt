@@ -1,27 +1,32 @@
 -- What the server decides of a request of a call, and what its answer is read as.
-use Rattle.std.proofs.Common.{◌≡◌, ◌⊎◌, ℕ, ◌+◌, ◌<◌, ◌^◌, List, [], ◌∷◌, length, drop, Bool, true, false, not, refl, sym, ap, ◌∙◌, subst, inl, inr, arith}
-use Rattle.std.specs.Prelude.{Option, Some, None, is_none, Result, Ok, Err, ◌==◌, ◌||◌, ◌%◌, nat_le, nat_lt, bytes_eq, if◌then◌else◌}
+use Rattle.std.proofs.Common.{◌≡◌, ◌⊎◌, ℕ, zero, suc, ◌+◌, ◌<◌, ◌^◌, List, [], ◌∷◌, length, drop, Bool, true, false, not, refl, sym, ap, ◌∙◌, subst, inl, inr, arith}
+use Rattle.std.specs.Prelude.{Option, Some, None, is_none, Result, Ok, Err, map, ◌==◌, ◌||◌, ◌/◌, ◌%◌, nat_le, nat_lt, bytes_eq, if◌then◌else◌}
 use Rattle.std.specs.Int.{w32, to_le_bytes}
 use Rattle.std.proofs.lemmas.Bool.{cases_Bool, cond-true, cond-false, leb-false, eqb-true}
 use Rattle.std.proofs.lemmas.Nat.{from_le_bytes-to_le_bytes_4}
 use Rattle.std.proofs.lemmas.Slice.Eq.{bytes_eq-Decides}
-use Rattle.spec_plant.specs.Description.{Rights}
+use Rattle.spec_plant.specs.Description.{Rights, Area, size_in}
 use Rattle.spec_plant.specs.Finding.{Found, found_of}
 use Rattle.spec_plant.specs.Rights.{rights_of}
-use Rattle.spec_plant.specs.World.{Plant, PlantPort}
+use Rattle.spec_plant.specs.World.{Plant, PlantPort, ByteName, SymbolPart}
 use Rattle.spec_formats.specs.Codes.{invalid_ams_length, unknown_ams_command, target_machine_not_found, target_port_not_found, unknown_command_id, invalid_size}
+use Rattle.spec_formats.specs.Codes.{invalid_offset, invalid_group, symbol_not_found, symbol_version_invalid}
 use Rattle.spec_formats.specs.Commands.{ADD_DEVICE_NOTIFICATION, DEVICE_NOTIFICATION, READ_WRITE}
+use Rattle.spec_formats.specs.Ranges.{Bytes, Bit, greatest_len, byte_range, bit_range, range_in}
+use Rattle.spec_formats.specs.Groups.{AreaBytes, AreaBit, ValueByHandle}
 use Rattle.spec_formats.specs.Groups.{Group, ExtendedInfoByName, SumRead, SumWrite, SumReadWrite, group_of, group_in}
 use Rattle.spec_formats.specs.Header.{AmsHeader, request_flags}
 use Rattle.spec_formats.specs.Numbers.{number32}
 use Rattle.spec_formats.specs.Request as request
 use Rattle.spec_formats.specs.Request.{Request, request_of, request_in, request_bytes, command_of}
 use Rattle.spec_formats.specs.SymbolEntry.{entry_bytes}
-use Rattle.spec_machine.specs.Access.{Addressed}
+use Rattle.spec_machine.specs.Access.{Addressed, WholeByte, OneBit}
 use Rattle.spec_machine.specs.Acts.{Act, Refusal, Allowed, changing, effect_of, client_after_acts}
 use Rattle.spec_machine.specs.Answers.{answered_group}
 use Rattle.spec_machine.specs.ByName.{MAX_NUMBER, if_found, read_write_group}
-use Rattle.spec_machine.specs.Client.{Client, client_after, Adds, NoEffect}
+use Rattle.spec_machine.specs.Handles.{HandleStatus, Never, Released, Outdated, Live, kept_status}
+use Rattle.spec_machine.specs.Reach.{addressed_by_range, addressed_in_place, addressed_by_status, reach_of}
+use Rattle.spec_machine.specs.Client.{Place, names_of_place, Client, client_after, Adds, NoEffect}
 use Rattle.spec_machine.specs.Decisions.{Decision, NoAnswer, EndConnection, AmsError, Perform, Single, refuse, acts_in}
 use Rattle.spec_machine.specs.Entries.{entry_of_part}
 use Rattle.spec_machine.specs.Packets.{Check, checks_of, checked, decide_passed, decide_header}
@@ -30,7 +35,7 @@ use Rattle.spec_machine.specs.Requests.{mode_of, MAX_WATCHES, next_watch, add_wa
 use Rattle.spec_machine.specs.Sums.{SumRequest, sum_refusal, sum_of_reads, sum_of_writes, sum_of_read_writes, given_in_turn}
 use Rattle.spec_machine.specs.SumPackets.{acts_of, decide_parts, decide_read_write, decide_request}
 use Rattle.spec_machine.specs.Watches.{Watch, Mode}
-use Rattle.spec_machine.specs.World.{Setup, port_numbered}
+use Rattle.spec_machine.specs.World.{Setup, port_numbered, numbers_from, name_at, names_at}
 use Rattle.spec_machine.specs.Writes.{Asker}
 use Rattle.spec_client.specs.Calls.{entry_request}
 
@@ -234,12 +239,69 @@ entry_keeps d c h name flags command =
 
 -- an addition gives one notification more, or nothing changes
 
--- a notification from this port to this address
+-- what is reached is something, where at least one byte is asked for
+
+abbrev ReachesSome : ℕ → Result (List Addressed) ℕ → Type 0
+ReachesSome len o = (places : List Addressed) → o ≡ Ok places → (len == 0) ≡ false → places ≡ [] → ⊥
+
+err_reaches : (len code : ℕ) → ReachesSome len (Err code)
+err_reaches len code places is some none = absurd cc
+
+some_names : (f : ℕ → ByteName) (first len : ℕ) → ReachesSome len (Ok (map WholeByte (map f (numbers_from first len))))
+unfolding numbers_from
+some_names f first zero places is some none = absurd (let e : true ≡ false = some in cc)
+some_names f first (suc len) places is some none = absurd cc
+
+bytes_reach : (p : PlantPort) (area : Area) (size offset len : ℕ) → ReachesSome len (addressed_by_range p (byte_range area size offset len))
+unfolding byte_range names_at
+bytes_reach p area size offset len = go (nat_lt size offset) (nat_lt size (offset + len) || nat_lt greatest_len len)
+  where
+    go : (a b : Bool)
+        → ReachesSome len (addressed_by_range p (if a then Err invalid_offset else if b then Err invalid_size else Ok (Bytes area offset len)))
+    go true b = err_reaches len invalid_offset
+    go false true = err_reaches len invalid_size
+    go false false = some_names (name_at p area) offset len
+
+one_place : (len : ℕ) (place : Addressed) → ReachesSome len (Ok (place ∷ []))
+one_place len place places is some none = absurd cc
+
+bit_reach : (p : PlantPort) (area : Area) (size offset len : ℕ) → ReachesSome len (addressed_by_range p (bit_range area size offset len))
+unfolding bit_range
+bit_reach p area size offset len = go (nat_le size (offset / 8)) (len == 1)
+  where
+    go : (a b : Bool)
+        → ReachesSome len (addressed_by_range p (if a then Err invalid_offset else if b then Ok (Bit area (offset / 8) (offset % 8)) else Err invalid_size))
+    go true b = err_reaches len invalid_offset
+    go false true = one_place len (OneBit (name_at p area (offset / 8)) (offset % 8))
+    go false false = err_reaches len invalid_size
+
+place_reach : (port : ℕ) (place : Place) (len : ℕ) → ReachesSome len (addressed_in_place port place len)
+place_reach port place len = go (nat_lt place.len len)
+  where
+    go : (b : Bool) → ReachesSome len (if b then Err invalid_size else Ok (map WholeByte (names_of_place port place len)))
+    go true = err_reaches len invalid_size
+    go false = some_names (λ k. record { port = port; part = SymbolPart place.symbol; index = k }) place.first len
+
+status_reach : (port : ℕ) (status : HandleStatus Place) (len : ℕ) → ReachesSome len (addressed_by_status port status len)
+status_reach port Never len = err_reaches len symbol_not_found
+status_reach port Released len = err_reaches len symbol_not_found
+status_reach port Outdated len = err_reaches len symbol_version_invalid
+status_reach port (Live place) len = place_reach port place len
+
+reach_some : (c : Client) (p : PlantPort) (g : Option Group) (offset len : ℕ) → ReachesSome len (reach_of c p g offset len)
+unfolding reach_of range_in
+reach_some c p (Some (AreaBytes area)) offset len = bytes_reach p area (size_in p.sizes area) offset len
+reach_some c p (Some (AreaBit area)) offset len = bit_reach p area (size_in p.sizes area) offset len
+reach_some c p (Some ValueByHandle) offset len = status_reach p.number (kept_status c.handles offset p.number) len
+reach_some c p g offset len = err_reaches len invalid_group
+
+-- a notification from this port to this address, of something
 pub record IsWatch (h : AmsHeader) (plant : Plant) (w : Watch (List Addressed)) : Type 0 where
   pub handle : w.handle < 2 ^ 32
   pub port : w.port ≡ h.target.port
   pub address : w.address ≡ h.source
   pub net : h.target.net ≡ plant.net
+  pub some : w.watched ≡ [] → ⊥
 
 pub record Adding (h : AmsHeader) (plant : Plant) (d : Decision) : Type 0 where
   pub w : Watch (List Addressed)
@@ -263,8 +325,8 @@ both_false true b e = absurd (let f : true ≡ false = e in cc)
 both_false false b e = e
 
 watch_case : (h : AmsHeader) (plant : Plant) (c : Client) (k : Asker) (mode : Mode) (cycle : ℕ) (watched : List Addressed)
-    → k.address ≡ h.source → k.port.number ≡ h.target.port → h.target.net ≡ plant.net → ActCase h plant (add_watch c (next_watch c k mode cycle watched))
-watch_case h plant c k mode cycle watched address port net =
+    → k.address ≡ h.source → k.port.number ≡ h.target.port → h.target.net ≡ plant.net → (watched ≡ [] → ⊥) → ActCase h plant (add_watch c (next_watch c k mode cycle watched))
+watch_case h plant c k mode cycle watched address port net some =
     let w = next_watch c k mode cycle watched in
     let full = nat_le MAX_WATCHES (length c.watches) || nat_le MAX_NUMBER c.additions in
     elim (cases_Bool full) [
@@ -274,16 +336,19 @@ watch_case h plant c k mode cycle watched address port net =
           inr (record {
             w = w;
             is = cond-false full _ _ room;
-            watch = record { handle = omega (arith, less); port = port; address = address; net = net };
+            watch = record { handle = omega (arith, less); port = port; address = address; net = net; some = some };
           })
     ]
 
 reached_case : (h : AmsHeader) (plant : Plant) (c : Client) (k : Asker) (mode : Mode) (len cycle : ℕ) (o : Result (List Addressed) ℕ)
-    → k.address ≡ h.source → k.port.number ≡ h.target.port → h.target.net ≡ plant.net → ActCase h plant (add_reached c k mode len cycle o)
-reached_case h plant c k mode len cycle (Err code) address port net = inl refl
-reached_case h plant c k mode len cycle (Ok watched) address port net = elim (cases_Bool (len == 0)) [
-  | inl zero ↦ inl (ap effect_of (cond-true (len == 0) _ _ zero))
-  | inr some ↦ subst (ActCase h plant) (sym (cond-false (len == 0) _ _ some)) (watch_case h plant c k mode cycle watched address port net)
+    → k.address ≡ h.source → k.port.number ≡ h.target.port → h.target.net ≡ plant.net → ReachesSome len o
+    → ActCase h plant (add_reached c k mode len cycle o)
+reached_case h plant c k mode len cycle (Err code) address port net reaches = inl refl
+reached_case h plant c k mode len cycle (Ok watched) address port net reaches = elim (cases_Bool (len == 0)) [
+  | inl nothing ↦ inl (ap effect_of (cond-true (len == 0) _ _ nothing))
+  | inr some ↦
+      subst (ActCase h plant) (sym (cond-false (len == 0) _ _ some))
+      (watch_case h plant c k mode cycle watched address port net (reaches watched refl some))
 ]
 
 add_case : (h : AmsHeader) (plant : Plant) (c : Client) (k : Asker) (g : Option Group) (offset len cycle : ℕ) (m : Option Mode)
@@ -291,7 +356,7 @@ add_case : (h : AmsHeader) (plant : Plant) (c : Client) (k : Asker) (g : Option 
 add_case h plant c k g offset len cycle None address port net = inl refl
 add_case h plant c k g offset len cycle (Some mode) address port net = elim (cases_Bool (nat_lt 2048 len)) [
   | inl big ↦ inl (ap effect_of (cond-true (nat_lt 2048 len) _ _ big))
-  | inr small ↦ subst (ActCase h plant) (sym (cond-false (nat_lt 2048 len) _ _ small)) (reached_case h plant c k mode len cycle _ address port net)
+  | inr small ↦ subst (ActCase h plant) (sym (cond-false (nat_lt 2048 len) _ _ small)) (reached_case h plant c k mode len cycle _ address port net (reach_some c k.port g offset len))
 ]
 
 single_case : (h : AmsHeader) (plant : Plant) (c : Client) (a : Act) → ActCase h plant a → AddsOrKeeps c h plant (Perform (a ∷ []) Single)

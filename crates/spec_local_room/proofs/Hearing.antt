@@ -11,7 +11,10 @@ use Rattle.ads_base.specs.declared.peer.Peer.TheVariants as peer
 use Rattle.spec_frames.specs.Frame.{frame_bytes}
 use Rattle.spec_frames.specs.Division.{Open, Broken, front_of, frames_of, rest_of}
 use Rattle.spec_frames.proofs.DivisionLemmas.{rest_of-append}
+use Rattle.std.specs.List.{AllByRecursion}
+use Rattle.std.proofs.lemmas.List.{append-nil}
 use Rattle.spec_formats.specs.Commands.{DEVICE_NOTIFICATION}
+use Rattle.spec_formats.specs.Notification.{Sample}
 use Rattle.spec_formats.specs.Header.{AmsAddress, AmsHeader, header_of, payload_of, is_same_address}
 use Rattle.spec_formats.specs.NotificationReading.{notification_of}
 use Rattle.spec_machine.proofs.Find.{test_same}
@@ -115,7 +118,28 @@ pub record IsSampleOf (handle : ℕ) (p : List ℕ) : Type 0 where
   pub bytes : List ℕ
   pub stamps : notification_of (payload_of p) ≡ Some (record { time = time; samples = record { handle = handle; bytes = bytes } ∷ [] } ∷ [])
 
-same_address : (a : AmsAddress) → is_same_address a a ≡ true
+-- a sample of a handle that passes a test, and of some bytes
+pub record IsAmong (test : ℕ → Bool) (s : Sample) : Type 0 where
+  pub handle : test s.handle ≡ true
+  pub some : s.bytes ≡ [] → ⊥
+
+-- the packet has samples, each of them so
+pub record HasSamples (test : ℕ → Bool) (p : List ℕ) : Type 0 where
+  pub header : AmsHeader
+  pub read : header_of p ≡ Some header
+  pub len : 32 + header.len ≡ length p
+  pub request : is_response header ≡ false
+  pub command : header.command ≡ DEVICE_NOTIFICATION
+  pub time : ℕ
+  pub first : Sample
+  pub others : List Sample
+  pub among : AllByRecursion (IsAmong test) (first ∷ others)
+  pub stamps : notification_of (payload_of p) ≡ Some (record { time = time; samples = first ∷ others } ∷ [])
+
+abbrev pub stamped : ℕ → Sample → StampedSample
+stamped time s = record { time = time; sample = s }
+
+pub same_address : (a : AmsAddress) → is_same_address a a ≡ true
 same_address a = rw ((bytes_eq-Decides a.net a.net).1 refl, test_same a.port a.port refl) refl
 
 answers_one : (c : Client) (u : Unanswered) (me peer : AmsAddress) (p : List ℕ) (a : IsAnswerTo u me peer p) → c.unanswered ≡ u ∷ [] → u.timed_out ≡ None
@@ -183,6 +207,31 @@ sample_heard c handle p a none =
     let len : (32 + h.len == length p) ≡ true = test_same (32 + h.len) (length p) a.len in
     let command : (h.command == DEVICE_NOTIFICATION) ≡ true = test_same h.command DEVICE_NOTIFICATION a.command in
     ap (λ o. header_hearing c o p) a.read ∙ rw (len, a.request, command, a.stamps) refl
+
+pub samples_heard : (test : ℕ → Bool) (c : Client) (p : List ℕ) (a : HasSamples test p)
+    → packet_hearing c p ≡ Some (hearing (heard_of_sample (stamped a.time a.first)) (record c { samples = map (stamped a.time) a.others }))
+unfolding packet_hearing
+samples_heard test c p a =
+    let h = a.header in
+    let len : (32 + h.len == length p) ≡ true = test_same (32 + h.len) (length p) a.len in
+    let command : (h.command == DEVICE_NOTIFICATION) ≡ true = test_same h.command DEVICE_NOTIFICATION a.command in
+    ap (λ o. header_hearing c o p) a.read ∙ rw (len, a.request, command, a.stamps) refl
+    ∙ ap (λ (ss : List StampedSample). Some (hearing (heard_of_sample (stamped a.time a.first)) (record c { samples = ss })))
+    (append-nil (map (stamped a.time) a.others))
+
+pub samples_say : (test : ℕ → Bool) (p : List ℕ) → HasSamples test p → says_something p ≡ true
+unfolding says_something
+samples_say test p a =
+    let len : (32 + a.header.len == length p) ≡ true = test_same (32 + a.header.len) (length p) a.len in
+    let command : (a.header.command == DEVICE_NOTIFICATION) ≡ true = test_same a.header.command DEVICE_NOTIFICATION a.command in
+    rw (a.read, len, a.request, command, a.stamps) refl
+
+-- the next of the samples that are left is heard
+pub next_sample : (c : Client) (s : StampedSample) (ss : List StampedSample) → next_timeout c.unanswered ≡ None → c.broken ≡ None → c.samples ≡ s ∷ ss
+    → next_hearing c ≡ hearing (heard_of_sample s) (record c { samples = ss })
+unfolding next_hearing
+next_sample c s ss told unbroken left =
+    ap (hearing_of_timeout c) told ∙ ap (hearing_unless_broken c) unbroken ∙ ap (hearing_of_samples c) left
 
 -- a sample is something
 pub sample_told : (s : StampedSample) → is_not_yet (heard_of_sample s) ≡ false

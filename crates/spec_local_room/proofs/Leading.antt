@@ -1,12 +1,14 @@
 -- What an answer or a sample leads a bounded call to: it is over, or one request is sent, or it listens to one notification. At each
 -- it has less before it.
-use Rattle.std.proofs.Common.{◌≡◌, ◌⊎◌, ℕ, zero, suc, ◌+◌, ◌<◌, ◌≤◌, ◌^◌, List, [], ◌∷◌, ◌++◌, length, Bool}
+use Rattle.std.proofs.Common.{◌≡◌, ◌⊎◌, ℕ, zero, suc, ◌+◌, ◌-◌, ◌*◌, ◌<◌, ◌≤◌, ◌^◌, List, [], ◌∷◌, ◌++◌, length, Bool}
 use Rattle.std.proofs.Common.{true, false, cond, refl, sym, ap, ◌∙◌, subst, inl, inr, arith}
-use Rattle.std.specs.Prelude.{Option, Some, None, option_map, ◌==◌, ◌&&◌, if◌then◌else◌}
+use Rattle.std.specs.Prelude.{Option, Some, None, option_map, ◌==◌, ◌&&◌, ◌||◌, if◌then◌else◌}
+use Rattle.std.specs.List.{AllByRecursion, list_any}
 use Rattle.std.specs.Int.{w32, to_le_bytes}
 use Rattle.std.specs.Option.{option_and_then}
 use Rattle.std.proofs.lemmas.Bool.{cond-true, eqb-true, leb-true, and_parts}
 use Rattle.std.proofs.lemmas.List.{length-append}
+use Rattle.spec_formats.specs.Header.{AmsAddress}
 use Rattle.spec_formats.specs.Commands.{ADD_DEVICE_NOTIFICATION, DEVICE_NOTIFICATION}
 use Rattle.spec_formats.specs.Numbers.{number32}
 use Rattle.spec_formats.specs.Reply.{Reply, result_of}
@@ -26,9 +28,12 @@ use Rattle.spec_client.specs.Entries.{is_taken, entries_in, types_in, first_of, 
 use Rattle.spec_client.specs.Heard.{Heard, heard_of_sample, Sampled, Ended}
 use Rattle.spec_client.specs.LeafTypes.{is_sound_text}
 use Rattle.spec_client.specs.Printed.{sample_line}
+use Rattle.spec_client.specs.Recordings.{is_recorded, has_enough, after_deletion, with_next_name, after_record_entry}
+use Rattle.spec_client.specs.Recordings.{with_notification, after_notification}
 use Rattle.spec_client.specs.Replies.{bytes_given, handle_given, after_value_read, after_entry}
 use Rattle.spec_client.specs.Replies.{after_entry_read, after_upload, after_types, after_reply, after_answer}
 use Rattle.spec_client.specs.Runner.{is_over}
+use Rattle.spec_client.specs.Stages.{Done, Recorded, Recording, ForEntry, ForNotification, ForSamples, ForDeletion}
 use Rattle.spec_client.specs.Stages.{CallEnd, Refused, BadValue, Output, ToSend, ToPrint, Purpose, ToGet}
 use Rattle.spec_client.specs.Stages.{ToSet, ToWatch, ToShow, Stage, AwaitsFacts, AwaitsState, AwaitsLast}
 use Rattle.spec_client.specs.Stages.{AwaitsEntry, AwaitsValue, AwaitsHandle, AwaitsWrite, AwaitsUploadInfo}
@@ -39,7 +44,9 @@ use Rattle.spec_client.specs.Steps.{after_heard, after_sample, after_end, with_s
 use Rattle.spec_client.specs.ValueReading.{made_value, is_value, are_bytes, is_text_of, value_of_text}
 use Rattle.spec_machine.specs.Access.{Addressed}
 use Rattle.spec_machine.specs.Watches as served
-use Rattle.spec_local_room.specs.Laws.{MAX_NAME, MAX_SAMPLES, IsBounded, is_setting, IsAnswered}
+use Rattle.spec_local_room.proofs.Recording.{IsEnd, Deletes, deletion_leads, samples_lead}
+use Rattle.spec_local_room.specs.Laws.{MAX_NAME, MAX_SAMPLES, HasShortNames, IsBounded, is_setting, IsAnswered}
+use Rattle.spec_local_room.proofs.TickingAll.{IsWatched, KeepsAll}
 
 -- so many samples, at least one
 abbrev pub HasCount : Watching → Type 0
@@ -63,7 +70,17 @@ Awaits sets (AwaitsNotification e w) = HasCount w
 Awaits sets (AwaitsTypeInfo name e) = length name ≤ MAX_NAME
 Awaits sets (AwaitsTypes name e count) = length name ≤ MAX_NAME
 Awaits sets (AwaitsLeaves size leaves) = Unit {0}
+Awaits sets (Records ForEntry r) = HasShortNames r.names
+Awaits sets (Records (ForNotification name) r) = HasShortNames r.names
+Awaits sets (Records (ForDeletion left) r) = Unit {0}
 Awaits sets stage = ⊥
+
+-- how many samples a recording still keeps, and how many notifications it has
+abbrev pub kept_left : Recording → ℕ
+kept_left r = r.watching.count - r.kept
+
+abbrev pub notes_of : Recording → ℕ
+notes_of r = length r.notifications
 
 -- how many frames a call still takes, at most
 abbrev pub frames_left : Stage → ℕ
@@ -84,6 +101,10 @@ frames_left (Watches e handle left) = left + 2
 frames_left (AwaitsTypeInfo name e) = 3
 frames_left (AwaitsTypes name e count) = 2
 frames_left (AwaitsLeaves size leaves) = 1
+frames_left (Records ForEntry r) = kept_left r + notes_of r + 3 * length r.names + 6
+frames_left (Records (ForNotification name) r) = kept_left r + notes_of r + 3 * length r.names + 5
+frames_left (Records ForSamples r) = kept_left r + notes_of r + 2
+frames_left (Records (ForDeletion left) r) = length left + 1
 frames_left stage = 0
 
 pub awaits_on : (sets : Bool) (stage : Stage) → Awaits sets stage → is_over stage ≡ false
@@ -101,18 +122,28 @@ pub record IsShort (r : Request) : Type 0 where
 abbrev pub Asks : Stage → Request → Type 0
 Asks (AwaitsEntry (ToWatch w) name) r = r ≡ entry_request name
 Asks (AwaitsNotification e w) r = command_of r ≡ ADD_DEVICE_NOTIFICATION
+Asks (Records ForEntry x) r = (name : List ℕ) × (r ≡ entry_request name)
+Asks (Records (ForNotification name) x) r = command_of r ≡ ADD_DEVICE_NOTIFICATION
 Asks stage r = Unit {0}
 
--- no notification, while a call waits so
-abbrev pub HasNone : Stage → List (served.Watch (List Addressed)) → Type 0
-HasNone (AwaitsEntry (ToWatch w) name) ws = ws ≡ []
-HasNone stage ws = Unit {0}
+-- a handle is that of one of its notifications, or the one that a reply gives
+abbrev pub is_recorded_or : Recording → Reply → ℕ → Bool
+is_recorded_or r reply handle = is_recorded r handle || (handle_given reply == handle)
 
--- nor before a request is sent by which it comes to wait so
-abbrev pub HadNone : Stage → List (served.Watch (List Addressed)) → Type 0
-HadNone (AwaitsEntry (ToWatch w) name) ws = ws ≡ []
-HadNone (AwaitsNotification e w) ws = ws ≡ []
-HadNone stage ws = Unit {0}
+-- the notifications behind the answer to a call that waited so: none, or those of the recording
+abbrev pub HasWatches : AmsAddress → AmsAddress → List ℕ → Stage → Option Reply → List (served.Watch (List Addressed)) → Type 0
+HasWatches me peer net (AwaitsEntry (ToWatch w) name) o ws = ws ≡ []
+HasWatches me peer net (Records ForEntry r) o ws = KeepsAll me peer net (is_recorded r) ws
+HasWatches me peer net (Records (ForNotification name) r) (Some reply) ws = KeepsAll me peer net (is_recorded_or r reply) ws
+HasWatches me peer net stage o ws = Unit {0}
+
+-- those before a request is sent by which it comes to wait so
+abbrev pub HadWatches : AmsAddress → AmsAddress → List ℕ → Stage → List (served.Watch (List Addressed)) → Type 0
+HadWatches me peer net (AwaitsEntry (ToWatch w) name) ws = ws ≡ []
+HadWatches me peer net (AwaitsNotification e w) ws = ws ≡ []
+HadWatches me peer net (Records ForEntry r) ws = KeepsAll me peer net (is_recorded r) ws
+HadWatches me peer net (Records (ForNotification name) r) ws = KeepsAll me peer net (is_recorded r) ws
+HadWatches me peer net stage ws = Unit {0}
 
 -- the call is over, and so
 pub record IsOver (sets : Bool) (p : Progress) : Type 0 where
@@ -121,14 +152,15 @@ pub record IsOver (sets : Bool) (p : Progress) : Type 0 where
   pub over : is_over p.stage ≡ true
   pub answered : IsAnswered sets end
 
-pub record Sends (sets : Bool) (stage : Stage) (p : Progress) : Type 0 where
+pub record Sends (sets : Bool) (stage : Stage) (o : Option Reply) (p : Progress) : Type 0 where
   pub request : Request
   pub outputs : p.outputs ≡ ToSend request ∷ []
   pub awaits : Awaits sets p.stage
   pub short : IsShort request
   pub asks : Asks p.stage request
   pub less : frames_left p.stage < frames_left stage
-  pub none : (ws : List (served.Watch (List Addressed))) → HasNone stage ws → HadNone p.stage ws
+  pub had : (me peer : AmsAddress) (net : List ℕ) (ws : List (served.Watch (List Addressed)))
+      → HasWatches me peer net stage o ws → HadWatches me peer net p.stage ws
 
 -- an addition is answered: it listens from now on
 pub record ListensTo (stage : Stage) (o : Option Reply) (p : Progress) : Type 0 where
@@ -140,8 +172,17 @@ pub record ListensTo (stage : Stage) (o : Option Reply) (p : Progress) : Type 0 
   pub is : p ≡ stay (Watches entry (handle_given reply) watching.count)
   pub count : HasCount watching
 
+-- a recording waits for samples from now on
+pub record ListensToAll (stage : Stage) (o : Option Reply) (p : Progress) : Type 0 where
+  pub recording : Recording
+  pub is : p ≡ stay (Records ForSamples recording)
+  pub enough : has_enough recording ≡ false
+  pub less : frames_left (Records ForSamples recording) < frames_left stage
+  pub keeps : (me peer : AmsAddress) (net : List ℕ) (ws : List (served.Watch (List Addressed)))
+      → HasWatches me peer net stage o ws → KeepsAll me peer net (is_recorded recording) ws
+
 abbrev pub Leads : Bool → Stage → Option Reply → Progress → Type 0
-Leads sets stage o p = IsOver sets p ⊎ (Sends sets stage p ⊎ ListensTo stage o p)
+Leads sets stage o p = IsOver sets p ⊎ (Sends sets stage o p ⊎ (ListensTo stage o p ⊎ ListensToAll stage o p))
 
 if_both : {A : Type 0} (P : A → Type 0) (b : Bool) (x y : A) → (b ≡ true → P x) → (b ≡ false → P y) → P (cond b x y)
 if_both P true x y first second = first refl
@@ -149,12 +190,6 @@ if_both P false x y first second = second refl
 
 over_now : (sets : Bool) (end : CallEnd) (outputs : List Output) → IsAnswered sets (CallEnded end) → IsOver sets (progress (Finished end) outputs)
 over_now sets end outputs answered = record { end = CallEnded end; is = refl; over = refl; answered = answered }
-
--- a call at any stage ends so
-pub record IsEnd (end : CallEnd) (p : Progress) : Type 0 where
-  pub is : end_of_stage p.stage ≡ Some (CallEnded end)
-  pub over : is_over p.stage ≡ true
-  pub silent : p.outputs ≡ []
 
 pub at_end : (stage : Stage) (end : CallEnd) → IsEnd end (ended_at stage end)
 at_end (Records wait r) end = record { is = refl; over = refl; silent = refl }
@@ -260,7 +295,7 @@ leads_value sets stage o name (Some value) is few left size = inr (inl (record {
   short = short_read_write _ _ _ name (omega (arith, few));
   asks = tt;
   less = omega (arith, left);
-  none = λ ws had. tt;
+  had = λ me peer net ws has. tt;
 }))
 
 leads_entry : (sets : Bool) (purpose : Purpose) (name : List ℕ) (o : Option Reply) (e : SymbolEntry)
@@ -273,7 +308,7 @@ leads_entry sets ToGet name o e few size = inr (inl (record {
   short = short_read_write _ _ _ name (omega (arith, few));
   asks = tt;
   less = omega arith;
-  none = λ ws had. tt;
+  had = λ me peer net ws has. tt;
 }))
 leads_entry sets (ToSet text) name o e few size =
     let is = few.0 in
@@ -287,7 +322,7 @@ leads_entry sets (ToWatch w) name o e few size = inr (inl (record {
   short = short_addition e w;
   asks = refl;
   less = omega arith;
-  none = λ ws had. had;
+  had = λ me peer net ws has. has;
 }))
 leads_entry sets ToShow name o e few size = inr (inl (record {
   request = type_info_request;
@@ -296,7 +331,7 @@ leads_entry sets ToShow name o e few size = inr (inl (record {
   short = short_read _ _ _;
   asks = tt;
   less = omega arith;
-  none = λ ws had. tt;
+  had = λ me peer net ws has. tt;
 }))
 
 leads_entry_read : (sets : Bool) (purpose : Purpose) (name : List ℕ) (o : Option Reply) (bytes payload : List ℕ) (e : Option SymbolEntry)
@@ -323,7 +358,7 @@ leads_types sets name e count o (Some ts) payload few =
       short = short_read_write _ _ _ name (omega (arith, few));
       asks = tt;
       less = omega arith;
-      none = λ ws had. tt;
+      had = λ me peer net ws has. tt;
     })))
     (λ unsound. inl (over_now sets _ [] tt))
 
@@ -332,6 +367,163 @@ leads_last : (sets : Bool) (text : List ℕ) (o : Option Reply) (reply : Reply) 
 unfolding after_reply
 leads_last sets [] o reply payload = inl (over_now sets _ [] tt)
 leads_last sets (c ∷ cs) o reply payload = inl (over_now sets _ _ tt)
+
+-- a recording
+
+leads_record_entry : (sets : Bool) (r : Recording) (o : Option Reply) (e : Option SymbolEntry) (payload : List ℕ)
+    → HasShortNames r.names → Leads sets (Records ForEntry r) o (after_record_entry r e payload)
+leads_record_entry sets r o None payload short = inl (record { end = CallEnded (bad_text payload); is = refl; over = refl; answered = tt })
+leads_record_entry sets r o (Some e) payload short = inr (inl (record {
+  request = addition_request e r.watching;
+  outputs = refl;
+  awaits = short;
+  short = short_addition e r.watching;
+  asks = refl;
+  less = omega arith;
+  had = λ me peer net ws has. has;
+}))
+
+over_so : (sets : Bool) (p : Progress) → IsEnd Done p → IsOver sets p
+over_so sets p end = record { end = CallEnded Done; is = end.is; over = end.over; answered = tt }
+
+-- a notification is deleted, which leaves less before it
+deletes_so : (sets : Bool) (stage : Stage) (o : Option Reply) (most : ℕ) (r : Recording) (p : Progress) → Deletes most r p → most + 1 ≤ frames_left stage
+    → Sends sets stage o p
+deletes_so sets stage o most r p d less =
+    let few = d.few in
+    subst (Sends sets stage o) (sym d.is) (record {
+      request = request.DeleteDeviceNotification d.handle;
+      outputs = refl;
+      awaits = tt;
+      short = short_deletion d.handle;
+      asks = tt;
+      less = omega (arith, few, less);
+      had = λ me peer net ws has. tt;
+    })
+
+leads_deletion : (sets : Bool) (r : Recording) (left : List ℕ) (o : Option Reply) → Leads sets (Records (ForDeletion left) r) o (after_deletion left r)
+leads_deletion sets r left o = elim (deletion_leads left r) [
+  | inl end ↦ inl (over_so sets _ end)
+  | inr d ↦ inr (inl (deletes_so sets (Records (ForDeletion left) r) o (length left) r _ d (omega arith)))
+]
+
+-- a recording with one notification more, at most
+record TakesNote (stage : Stage) (o : Option Reply) (r next : Recording) : Type 0 where
+  watching : next.watching ≡ r.watching
+  kept : next.kept ≡ r.kept
+  few : notes_of next ≤ notes_of r + 1
+  keeps : (me peer : AmsAddress) (net : List ℕ) (ws : List (served.Watch (List Addressed)))
+      → HasWatches me peer net stage o ws → KeepsAll me peer net (is_recorded next) ws
+
+same_left : (r next : Recording) → next.watching ≡ r.watching → next.kept ≡ r.kept → kept_left next ≡ kept_left r
+same_left r next watching kept = rw (watching, kept) refl
+
+leads_next : (sets : Bool) (r next : Recording) (name : List ℕ) (o : Option Reply) (names : List (List ℕ)) → r.names ≡ names → HasShortNames names
+    → TakesNote (Records (ForNotification name) r) o r next → Leads sets (Records (ForNotification name) r) o (with_next_name next names)
+leads_next sets r next name o [] is short t =
+    let few = t.few in
+    let left = same_left r next t.watching t.kept in
+    elim (samples_lead next) [
+      | inl end ↦ inl (over_so sets _ end)
+      | inr (inl (enough, d)) ↦ inr (inl (deletes_so sets _ o (notes_of next) next _ d (omega (arith, few))))
+      | inr (inr w) ↦ inr (inr (inr (record {
+        recording = next;
+        is = w.is;
+        enough = w.enough;
+        less = omega (arith, few, left);
+        keeps = t.keeps;
+      })))
+    ]
+leads_next sets r next name o (other ∷ names) is short t =
+    let few = t.few in
+    let left = same_left r next t.watching t.kept in
+    let count : length r.names ≡ suc (length names) = ap (λ l. length l) is in
+    let size = short.0 in
+    inr (inl (record {
+      request = entry_request other;
+      outputs = refl;
+      awaits = short.1;
+      short = short_read_write _ _ _ other (omega (arith, size));
+      asks = (other, refl);
+      less = omega (arith, few, left, count);
+      had = t.keeps;
+    }))
+
+either_note : (a b c : Bool) → (a ≡ true → c ≡ true) → (b ≡ true → c ≡ true) → (a || b) ≡ true → c ≡ true
+either_note true b c first second is = first refl
+either_note false b c first second is = second is
+
+-- what holds of each element
+all_map : {A : Type 0} (P Q : A → Type 0) (xs : List A) → ((x : A) → P x → Q x) → AllByRecursion P xs → AllByRecursion Q xs
+all_map P Q [] f all = tt
+all_map P Q (x ∷ xs) f all = (f x all.0, all_map P Q xs f all.1)
+
+pub kept_as : (me peer : AmsAddress) (net : List ℕ) (test other : ℕ → Bool) (ws : List (served.Watch (List Addressed)))
+    → ((n : ℕ) → test n ≡ true → other n ≡ true) → KeepsAll me peer net test ws → KeepsAll me peer net other ws
+kept_as me peer net test other ws more all = all_map (IsWatched me peer net test) (IsWatched me peer net other) ws (λ w kept. record {
+  handle = more w.handle kept.handle;
+  small = kept.small;
+  port = kept.port;
+  address = kept.address;
+  net_is = kept.net_is;
+  some = kept.some;
+}) all
+
+any-append : (test : Recorded → Bool) (ns ms : List Recorded) → list_any test (ns ++ ms) ≡ (list_any test ns || list_any test ms)
+any-append test [] ms = refl
+any-append test (n ∷ ns) ms = ap (λ b. test n || b) (any-append test ns ms) ∙ or_assoc (test n) (list_any test ns) (list_any test ms)
+  where
+    or_assoc : (a b c : Bool) → (a || (b || c)) ≡ ((a || b) || c)
+    or_assoc true b c = refl
+    or_assoc false b c = refl
+
+pub first_true : (a b c : Bool) → a ≡ true → (a || b) ≡ true
+first_true true b c is = refl
+first_true false b c is = absurd (let e : false ≡ true = is in cc)
+
+pub second_true : (a b : Bool) → b ≡ true → (a || b) ≡ true
+second_true true b is = refl
+second_true false b is = is
+
+any_true : (a b : Bool) → b ≡ true → (a || (b || false)) ≡ true
+any_true true b is = refl
+any_true false true is = refl
+any_true false false is = absurd (let e : false ≡ true = is in cc)
+
+abbrev with_note : Recording → ℕ → List ℕ → Recording
+with_note r handle name = record r { notifications = r.notifications ++ record { handle = handle; name = name } ∷ [] }
+
+takes_note : (r : Recording) (name : List ℕ) (reply : Reply) (b : Bool) → is_recorded r (handle_given reply) ≡ b
+    → TakesNote (Records (ForNotification name) r) (Some reply) r (if b then r else with_note r (handle_given reply) name)
+takes_note r name reply true is = record {
+  watching = refl;
+  kept = refl;
+  few = omega arith;
+  keeps = λ me peer net ws has. kept_as me peer net (is_recorded_or r reply) (is_recorded r) ws (λ n passes.
+      either_note (is_recorded r n) (handle_given reply == n) (is_recorded r n) (λ e. e)
+      (λ e. subst (λ m. is_recorded r m ≡ true) (eqb-true (handle_given reply) n e) is) passes) has;
+}
+takes_note r name reply false is =
+    let handle = handle_given reply in
+    let note : Recorded = record { handle = handle; name = name } in
+    let next = with_note r handle name in
+    let more = length-append r.notifications (note ∷ []) in
+    let passes_in : (n : ℕ) → is_recorded_or r reply n ≡ true → is_recorded next n ≡ true = λ n passes.
+    any-append (λ (m : Recorded). m.handle == n) r.notifications (note ∷ [])
+    ∙ either_note (is_recorded r n) (handle == n) (is_recorded r n || ((handle == n) || false))
+    (λ e. first_true (is_recorded r n) ((handle == n) || false) false e) (λ e. any_true (is_recorded r n) (handle == n) e) passes in
+    record {
+      watching = refl;
+      kept = refl;
+      few = omega (arith, more);
+      keeps = λ me peer net ws has. kept_as me peer net (is_recorded_or r reply) (is_recorded next) ws passes_in has;
+    }
+
+leads_notification : (sets : Bool) (r : Recording) (reply : Reply) (name : List ℕ) → HasShortNames r.names
+    → Leads sets (Records (ForNotification name) r) (Some reply) (after_notification r (handle_given reply) name)
+leads_notification sets r reply name short =
+    leads_next sets r (with_notification r (handle_given reply) name) name (Some reply) r.names refl short
+    (takes_note r name reply (is_recorded r (handle_given reply)) refl)
 
 leads_reply : (sets : Bool) (stage : Stage) (reply : Reply) (payload : List ℕ)
     → Awaits sets stage → Leads sets stage (Some reply) (after_reply stage reply payload)
@@ -353,7 +545,7 @@ leads_reply sets (AwaitsHandle value) reply payload awaits =
       short = short_write _ _ value awaits;
       asks = tt;
       less = omega arith;
-      none = λ ws had. tt;
+      had = λ me peer net ws has. tt;
     })))
     (λ t. inl (over_now sets _ [] tt))
 leads_reply sets (AwaitsWrite handle) reply payload awaits = inr (inl (record {
@@ -363,7 +555,7 @@ leads_reply sets (AwaitsWrite handle) reply payload awaits = inr (inl (record {
   short = short_write _ _ (to_le_bytes w32 handle) (omega arith);
   asks = tt;
   less = omega arith;
-  none = λ ws had. tt;
+  had = λ me peer net ws has. tt;
 }))
 leads_reply sets AwaitsUploadInfo reply payload awaits =
     if_both (Leads sets AwaitsUploadInfo (Some reply)) (length (bytes_given reply) == 8) _ _
@@ -374,11 +566,11 @@ leads_reply sets AwaitsUploadInfo reply payload awaits =
       short = short_read _ _ _;
       asks = tt;
       less = omega arith;
-      none = λ ws had. tt;
+      had = λ me peer net ws has. tt;
     })))
     (λ t. inl (over_now sets _ [] tt))
 leads_reply sets (AwaitsUpload count) reply payload awaits = leads_upload sets (AwaitsUpload count) (Some reply) (entries_in count (bytes_given reply)) payload
-leads_reply sets (AwaitsNotification e w) reply payload awaits = inr (inr (record {
+leads_reply sets (AwaitsNotification e w) reply payload awaits = inr (inr (inl (record {
   entry = e;
   watching = w;
   stage_is = refl;
@@ -386,7 +578,7 @@ leads_reply sets (AwaitsNotification e w) reply payload awaits = inr (inr (recor
   reply_is = refl;
   is = refl;
   count = awaits;
-}))
+})))
 leads_reply sets (AwaitsTypeInfo name e) reply payload awaits =
     if_both (Leads sets (AwaitsTypeInfo name e) (Some reply)) (length (bytes_given reply) == 24) _ _
     (λ t. inr (inl (record {
@@ -396,7 +588,7 @@ leads_reply sets (AwaitsTypeInfo name e) reply payload awaits =
       short = short_read _ _ _;
       asks = tt;
       less = omega arith;
-      none = λ ws had. tt;
+      had = λ me peer net ws has. tt;
     })))
     (λ t. inl (over_now sets _ [] tt))
 leads_reply sets (AwaitsTypes name e count) reply payload awaits =
@@ -404,6 +596,10 @@ leads_reply sets (AwaitsTypes name e count) reply payload awaits =
 leads_reply sets (AwaitsLeaves size leaves) reply payload awaits =
     if_both (Leads sets (AwaitsLeaves size leaves) (Some reply)) (length (bytes_given reply) == size) _ _
     (λ t. inl (over_now sets _ _ tt)) (λ t. inl (over_now sets _ [] tt))
+leads_reply sets (Records ForEntry r) reply payload awaits =
+    leads_record_entry sets r (Some reply) (one_entry_in (bytes_given reply)) payload awaits
+leads_reply sets (Records (ForNotification name) r) reply payload awaits = leads_notification sets r reply name awaits
+leads_reply sets (Records (ForDeletion left) r) reply payload awaits = leads_deletion sets r left (Some reply)
 leads_reply sets stage reply payload awaits = absurd awaits
 
 pub leads : (sets : Bool) (stage : Stage) (error : ℕ) (o : Option Reply) (payload : List ℕ)
@@ -457,8 +653,8 @@ pub record Begins (sets : Bool) (p : Progress) : Type 0 where
   pub awaits : Awaits sets p.stage
   pub short : IsShort request
   pub asks : Asks p.stage request
-  pub few : frames_left p.stage ≤ 1000004
-  pub none : HadNone p.stage []
+  pub few : frames_left p.stage ≤ 1000060
+  pub had : (me peer : AmsAddress) (net : List ℕ) → HadWatches me peer net p.stage []
 
 pub begins : (call : Call) → IsBounded call → Begins (is_setting call) (begun call)
 unfolding begun
@@ -469,7 +665,7 @@ begins Info bounded = record {
   short = short_info;
   asks = tt;
   few = omega arith;
-  none = tt;
+  had = λ me peer net. tt;
 }
 begins State bounded = record {
   request = request.ReadState;
@@ -478,7 +674,7 @@ begins State bounded = record {
   short = short_state;
   asks = tt;
   few = omega arith;
-  none = tt;
+  had = λ me peer net. tt;
 }
 begins (Control ads device) bounded = record {
   request = request.WriteControl ads device [];
@@ -487,7 +683,7 @@ begins (Control ads device) bounded = record {
   short = short_control ads device;
   asks = tt;
   few = omega arith;
-  none = tt;
+  had = λ me peer net. tt;
 }
 begins (Get name) bounded = record {
   request = entry_request name;
@@ -496,7 +692,7 @@ begins (Get name) bounded = record {
   short = short_read_write _ _ _ name (omega (arith, bounded));
   asks = tt;
   few = omega arith;
-  none = tt;
+  had = λ me peer net. tt;
 }
 begins (Set name text) bounded = record {
   request = entry_request name;
@@ -505,7 +701,7 @@ begins (Set name text) bounded = record {
   short = short_read_write _ _ _ name (omega (arith, bounded));
   asks = tt;
   few = omega arith;
-  none = tt;
+  had = λ me peer net. tt;
 }
 begins Symbols bounded = record {
   request = upload_info_request;
@@ -514,7 +710,7 @@ begins Symbols bounded = record {
   short = short_read _ _ _;
   asks = tt;
   few = omega arith;
-  none = tt;
+  had = λ me peer net. tt;
 }
 begins (Watch name w) bounded =
     let few = bounded.0 in
@@ -526,7 +722,7 @@ begins (Watch name w) bounded =
       short = short_read_write _ _ _ name (omega (arith, few));
       asks = refl;
       few = omega (arith, most);
-      none = refl;
+      had = λ me peer net. refl;
     }
 begins (Show name) bounded = record {
   request = entry_request name;
@@ -535,6 +731,19 @@ begins (Show name) bounded = record {
   short = short_read_write _ _ _ name (omega (arith, bounded));
   asks = tt;
   few = omega arith;
-  none = tt;
+  had = λ me peer net. tt;
 }
-begins (Record names watching first) bounded = absurd bounded
+begins (Record [] watching first) bounded = let some = bounded.1 in absurd (omega (arith, some))
+begins (Record (name ∷ names) watching first) bounded =
+    let short = bounded.0.0 in
+    let few = bounded.2 in
+    let most = bounded.3 in
+    record {
+      request = entry_request name;
+      outputs = refl;
+      awaits = bounded.0.1;
+      short = short_read_write _ _ _ name (omega (arith, short));
+      asks = (name, refl);
+      few = omega (arith, few, most);
+      had = λ me peer net. tt;
+    }

@@ -5,6 +5,9 @@ mod Pieces
 mod Deciding
 mod Responding
 mod Ticking
+mod Recording
+mod RecordTurns
+mod TickingAll
 mod Leading
 mod Scenes
 mod Running

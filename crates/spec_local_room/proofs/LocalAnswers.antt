@@ -49,8 +49,10 @@ use Rattle.spec_local_room.proofs.Coming.{no_frames, no_rest, none_short, length
 use Rattle.spec_local_room.proofs.Hearing.{IsSilent, tick_keeps, silent_hears}
 use Rattle.spec_local_room.proofs.Turning.{sends_one, IsBehind, is_behind, end_so}
 use Rattle.spec_local_room.proofs.Ticking.{KeepsFew, Ticked, ticked}
+use Rattle.spec_local_room.proofs.TickingAll.{KeepsAll, TickedAll, ticked_all}
+use Rattle.spec_client.specs.Recordings.{is_recorded}
 use Rattle.spec_local_room.proofs.Leading.{frames_left, awaits_on, begins}
-use Rattle.spec_local_room.proofs.Scenes.{Machine, Link, Stands, Talks, Listening, FRAME, Waits, Rests, Good}
+use Rattle.spec_local_room.proofs.Scenes.{Machine, Link, Stands, Talks, Listening, ListeningAll, FRAME, Waits, Rests, Good}
 use Rattle.spec_local_room.proofs.Scenes.{issued_is, issued, issued_silent, device, asked, one_more_out}
 use Rattle.spec_local_room.proofs.Running.{Given, waits_so, StepsTo, step_still, take_step, no_end}
 use Rattle.spec_client.specs.PassedOver.{says_something}
@@ -119,7 +121,8 @@ quiet_end q n few some = elim (cases_eq (q + 1) MAX_QUIET) [
 
 quiet_step : (reading : DescriptionReading) (sets : Bool) (me peer : AmsAddress) (net : List ℕ)
     (now : ℕ) (s : Machine) (k : Link) (c : Conversation) (cl : Client) (stage : Stage)
-    → Stands net now s k cl.received [] → Talks me peer now c cl stage → Listening me peer net k cl stage ⊎ (k.closing ≡ true)
+    → Stands net now s k cl.received [] → Talks me peer now c cl stage
+    → Listening me peer net k cl stage ⊎ (ListeningAll me peer net k cl stage ⊎ (k.closing ≡ true))
     → c.answers + frames_left stage * FRAME + (MAX_QUEUED + 1 + (MAX_QUIET - c.quiet)) ≤ MAX_ANSWERS → StepsTo reading sets me peer c (answered (Quiet now) s)
 quiet_step reading sets me peer net now s k c cl stage stands talks mode room =
     let a = Quiet now in
@@ -257,7 +260,8 @@ tick_step reading sets me peer most s c mine theirs x m =
     (subst (λ n. KeepsFew me peer n m.handle x.k.client.watches) net m.keeps)) in
     let talks = talks_later me peer now later c x.cl x.stage m.none x.talks in
     let quiet = answered (Quiet t.moment) t in
-    let quietly : Stands x.net later t l x.cl.received [] → Listening me peer x.net l x.cl x.stage ⊎ (l.closing ≡ true)
+    let quietly : Stands x.net later t l x.cl.received []
+    → Listening me peer x.net l x.cl x.stage ⊎ (ListeningAll me peer x.net l x.cl x.stage ⊎ (l.closing ≡ true))
     → StepsTo reading sets me peer c (waiting_or (state_after_event (device reading)) most t quiet (waiting_bytes t))
     = λ stands mode.
     subst (StepsTo reading sets me peer c)
@@ -266,7 +270,7 @@ tick_step reading sets me peer most s c mine theirs x m =
     elim becomes.becomes [
       | inl closes ↦ quietly
           (stands_ticked reading x.net now s x.k x.cl.received [] x.stands (ap bytes_of_all closes.produced ∙ x.stands.out) closes.bytes_taken)
-          (inr closes.closing)
+          (inr (inr closes.closing))
       | inr (inl quiets) ↦
           quietly (stands_ticked reading x.net now s x.k x.cl.received [] x.stands (ap bytes_of_all quiets.produced ∙ x.stands.out) quiets.bytes_taken)
           (inl (record {
@@ -298,7 +302,7 @@ tick_step reading sets me peer most s c mine theirs x m =
             w = frame_bytes p;
             stands = stands;
             talks = talks;
-            mode = inr (record {
+            mode = inr (inl (record {
               closing = samples.closing;
               whole = samples.whole;
               entry = m.entry;
@@ -311,7 +315,88 @@ tick_step reading sets me peer most s c mine theirs x m =
               size = omega (arith, fits, sum);
               sample = samples.sample;
               keeps = becomes.keeps samples.closing;
-            });
+            }));
+            some = tick_frame_not_nil p;
+            room = omega (arith, room, fits, few);
+          })
+    ]
+
+-- the same of a recording
+tick_all : (reading : DescriptionReading) (sets : Bool) (me peer : AmsAddress) (most : ℕ) (s : Machine) (c : Conversation)
+    → IsAddress me → IsAddress peer → (x : Rests sets me peer s c)
+    → ListeningAll me peer x.net x.k x.cl x.stage
+    → StepsTo reading sets me peer c (answer_after_tick (state_after_event (device reading)) most (tick_of reading s))
+unfolding answer_after_tick
+tick_all reading sets me peer most s c mine theirs x m =
+    let now = x.now in
+    let later = max now (next_tick now) in
+    let t = tick_of reading s in
+    let l = ticked_link reading s x.k in
+    let moment : t.moment ≡ later = tick_moment reading s ∙ ap (λ n. max n (next_tick n)) x.stands.moment in
+    let world = world_after_tick s.world in
+    let net : x.net ≡ world.plant.net = sym (ap (λ (p : Plant). p.net) (same_plant s.world) ∙ x.stands.net_is) in
+    let time : max s.moment (next_tick s.moment) < 2 ^ 64 = moment_small s.moment (subst (λ n. n < 2 ^ 64) (sym x.stands.moment) x.stands.time) in
+    let test = is_recorded m.recording in
+    let becomes : TickedAll me peer x.net test x.k l
+    = subst (λ n. TickedAll me peer n test x.k l) (sym net)
+    (ticked_all reading me peer test (max s.moment (next_tick s.moment)) world x.k mine theirs time m.closing x.stands.one.there m.whole
+    (subst (λ n. KeepsAll me peer n test x.k.client.watches) net m.keeps)) in
+    let talks = talks_later me peer now later c x.cl x.stage m.none x.talks in
+    let quiet = answered (Quiet t.moment) t in
+    let quietly : Stands x.net later t l x.cl.received []
+    → Listening me peer x.net l x.cl x.stage ⊎ (ListeningAll me peer x.net l x.cl x.stage ⊎ (l.closing ≡ true))
+    → StepsTo reading sets me peer c (waiting_or (state_after_event (device reading)) most t quiet (waiting_bytes t))
+    = λ stands mode.
+    subst (StepsTo reading sets me peer c)
+    (sym (other_answer reading most t quiet (waits_so x.net later t l x.cl.received [] stands) ∙ ap (λ n. answered (Quiet n) t) moment))
+    (quiet_step reading sets me peer x.net later t l c x.cl x.stage stands talks mode x.room) in
+    elim becomes.becomes [
+      | inl closes ↦ quietly
+          (stands_ticked reading x.net now s x.k x.cl.received [] x.stands (ap bytes_of_all closes.produced ∙ x.stands.out) closes.bytes_taken)
+          (inr (inr closes.closing))
+      | inr (inl quiets) ↦
+          quietly (stands_ticked reading x.net now s x.k x.cl.received [] x.stands (ap bytes_of_all quiets.produced ∙ x.stands.out) quiets.bytes_taken)
+          (inr (inl (record {
+            closing = quiets.closing;
+            whole = quiets.whole;
+            recording = m.recording;
+            stage_is = m.stage_is;
+            enough = m.enough;
+            none = m.none;
+            rest = m.rest;
+            keeps = becomes.keeps quiets.closing;
+          })))
+      | inr (inr samples) ↦
+          let p = samples.packet in
+          let stands = stands_ticked reading x.net now s x.k x.cl.received (frame_bytes p) x.stands
+          (ap bytes_of_all samples.produced ∙ one_more_out x.k.produced samples.frame x.cl.received (frame_bytes p) samples.bytes x.stands.out)
+          samples.bytes_taken in
+          let fits = samples.room in
+          let sum = length-frame_bytes p in
+          let room = x.room in
+          let few = x.talks.quiet in
+          taken_step reading sets me peer most t c quiet mine theirs (record {
+            net = x.net;
+            now = later;
+            k = l;
+            cl = x.cl;
+            stage = x.stage;
+            w = frame_bytes p;
+            stands = stands;
+            talks = talks;
+            mode = inr (inr (record {
+              closing = samples.closing;
+              whole = samples.whole;
+              recording = m.recording;
+              stage_is = m.stage_is;
+              enough = m.enough;
+              none = m.none;
+              p = p;
+              frame = ap (λ r. r ++ frame_bytes p) m.rest;
+              size = omega (arith, fits, sum);
+              samples = samples.samples;
+              keeps = becomes.keeps samples.closing;
+            }));
             some = tick_frame_not_nil p;
             room = omega (arith, room, fits, few);
           })
@@ -335,7 +420,10 @@ rest_step reading sets me peer most s c mine theirs x =
       | inl m ↦
           subst (StepsTo reading sets me peer c) (sym (cond-false (is_to_be_shut (connection_of 1 s.connections)) _ _ (shut ∙ m.closing)))
           (tick_step reading sets me peer most s c mine theirs x m)
-      | inr closing ↦
+      | inr (inl m) ↦
+          subst (StepsTo reading sets me peer c) (sym (cond-false (is_to_be_shut (connection_of 1 s.connections)) _ _ (shut ∙ m.closing)))
+          (tick_all reading sets me peer most s c mine theirs x m)
+      | inr (inr closing) ↦
           subst (StepsTo reading sets me peer c) (sym (cond-true (is_to_be_shut (connection_of 1 s.connections)) _ _ (shut ∙ closing)))
           (subst (λ n. StepsTo reading sets me peer c (answered (Closed n) s)) (sym x.stands.moment)
           (closed_so reading sets me peer x.now s c x.cl x.stage x.talks (omega (arith, room))))
@@ -494,7 +582,7 @@ begun_good reading s me peer call x =
       awaits = b.awaits;
       short = b.short;
       asks = b.asks;
-      had = b.none;
+      had = b.had me peer m.world.plant.net;
     }) (record {
       on = no_end p.stage on;
       runner = ap (λ (e : Client). at e p.stage []) (issued_is cl r now refl);

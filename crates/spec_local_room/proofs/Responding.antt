@@ -252,8 +252,7 @@ addition_gives w c me peer id r packet added a command small e h x read got =
 
 -- the notifications behind it
 pub added_watches : (c : Client) (w : Watch (List Addressed)) (d : Decision)
-    → c.watches ≡ [] → d ≡ Perform (changing (to_le_bytes w32 w.handle) (Adds w) ∷ []) Single
-    → (client_after_acts c (acts_in d)).watches ≡ w ∷ []
+    → d ≡ Perform (changing (to_le_bytes w32 w.handle) (Adds w) ∷ []) Single
+    → (client_after_acts c (acts_in d)).watches ≡ c.watches ++ w ∷ []
 unfolding client_after_acts client_after
-added_watches c w d none is =
-    ap (λ e. (client_after_acts c (acts_in e)).watches) is ∙ ap (λ (ws : List (Watch (List Addressed))). ws ++ w ∷ []) none
+added_watches c w d is = ap (λ e. (client_after_acts c (acts_in e)).watches) is

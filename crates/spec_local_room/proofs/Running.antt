@@ -2,7 +2,9 @@
 use Rattle.std.proofs.Common.{◌≡◌, ◌⊎◌, ℕ, zero, suc, ◌+◌, ◌-◌, ◌*◌, ◌<◌, ◌≤◌, ◌^◌, List, [], ◌∷◌, ◌++◌}
 use Rattle.std.proofs.Common.{length, drop, Bool, true, false, refl, sym, ap, ◌∙◌, subst, inl, inr, arith}
 use Rattle.std.proofs.Common.{append_assoc}
-use Rattle.std.specs.Prelude.{Option, Some, None, ◌==◌, ◌||◌, if◌then◌else◌}
+use Rattle.std.specs.Prelude.{Option, Some, None, ◌==◌, ◌||◌, nat_le, if◌then◌else◌}
+use Rattle.std.specs.List.{list_any}
+use Rattle.std.proofs.lemmas.Bool.{eqb-true, leb-false}
 use Rattle.std.proofs.lemmas.List.{length-append}
 use Rattle.std.proofs.Math.Seq.{drop-append_seam}
 use Rattle.ads_outside.specs.declared.event.Event.TheVariants as event
@@ -12,7 +14,7 @@ use Rattle.spec_formats.specs.Header.{AmsAddress, AmsHeader, IsAddress, payload_
 use Rattle.spec_formats.specs.Reply.{Reply, reply_of}
 use Rattle.spec_formats.specs.Request.{Request}
 use Rattle.spec_formats.specs.Request as request
-use Rattle.spec_machine.proofs.Find.{test_other}
+use Rattle.spec_machine.proofs.Find.{test_same, test_other}
 use Rattle.spec_machine.specs.Access.{Addressed}
 use Rattle.spec_machine.specs.AdsDevice.{DescriptionReading}
 use Rattle.spec_machine.specs.Client as served
@@ -28,11 +30,13 @@ use Rattle.spec_client.specs.Conversation.{MAX_QUIET, MAX_ANSWERS, sent_by, end_
 use Rattle.spec_client.specs.Conversation.{conversation_after, quiet_after}
 use Rattle.spec_client.specs.Heard.{heard_of_sample}
 use Rattle.spec_client.specs.Hearing.{Hearing, hearing, broken_hearing, next_hearing, with_one_taken}
+use Rattle.spec_client.specs.Recordings.{is_recorded, has_enough}
 use Rattle.spec_client.specs.Replies.{handle_given, after_answer}
 use Rattle.spec_client.specs.Runner.{Runner, Turns, turns, is_over, is_not_yet, Print, Send}
 use Rattle.spec_client.specs.Stages.{BadPeer, Stage, Finished, FinishedRecording, Watches, AwaitsNotification}
 use Rattle.spec_client.specs.Stages.{Progress, AwaitsEntry, AwaitsLast, ToPrint, ToSend, ToWatch, ended_at}
 use Rattle.spec_client.specs.Stages.{progress, stay}
+use Rattle.spec_client.specs.Stages.{Done, Recorded, Recording, ForEntry, ForNotification, ForSamples, ForDeletion, Records}
 use Rattle.spec_client.specs.Steps.{after_heard}
 use Rattle.spec_client.proofs.TurnsUnfolded.{at}
 use Rattle.spec_local.specs.LocalCall.{Answered, answered, waiting_bytes, machine_after_pieces, scene_after}
@@ -41,14 +45,18 @@ use Rattle.spec_cutting.proofs.Takes.{taken_by, one_behind_take, taken_moment, w
 use Rattle.spec_local_room.specs.Laws.{IsAnswered}
 use Rattle.spec_local_room.proofs.Hearing.{IsSilent, FedStill, FedBroken, FedWhole, fed_cases, tick_keeps}
 use Rattle.spec_local_room.proofs.Hearing.{silent_hears, answer_heard, sample_heard, answer_says, sample_says}
-use Rattle.spec_local_room.proofs.Hearing.{sample_told}
+use Rattle.spec_local_room.proofs.Hearing.{sample_told, stamped, samples_heard, samples_say}
+use Rattle.spec_local_room.proofs.TickingAll.{IsWatched, KeepsAll, all-append}
+use Rattle.spec_local_room.proofs.RecordTurns.{RecordHears, silenced, hearing_still, hears_sample, record_hears}
 use Rattle.spec_local_room.proofs.Turning.{over_stays_over, sends_one, prints_one, prints_and_sends, hears_so, IsBehind, is_behind, end_so}
 use Rattle.spec_local_room.proofs.Pieces.{TakesWhole}
 use Rattle.spec_local_room.proofs.Ticking.{KeepsFew}
-use Rattle.spec_local_room.proofs.Leading.{Awaits, awaits_on, frames_left, HasNone, IsOver, at_end, leads}
-use Rattle.spec_local_room.proofs.Leading.{sample_leads, short_deletion, Asks, HadNone, IsShort, Leads}
+use Rattle.spec_local_room.proofs.Leading.{Awaits, awaits_on, frames_left, HasWatches, IsOver, at_end, leads}
+use Rattle.spec_local_room.proofs.Leading.{sample_leads, short_deletion, Asks, HadWatches, IsShort, Leads}
+use Rattle.spec_local_room.proofs.Leading.{is_recorded_or, kept_as, first_true, second_true}
 use Rattle.spec_local_room.proofs.Leading.{SampleLeads}
 use Rattle.spec_local_room.proofs.Scenes.{Machine, Link, Stands, Talks, Knows, Answering, Sampling, FRAME}
+use Rattle.spec_local_room.proofs.Scenes.{AddedMore, SamplingAll, Listening, ListeningAll}
 use Rattle.spec_local_room.proofs.Scenes.{Waits, EndsSo, Good, issued, issued_is, issued_silent, device, asked}
 use Rattle.spec_client.specs.Unanswered.{MAX_ID}
 use Rattle.spec_formats.specs.SymbolEntry.{SymbolEntry}
@@ -238,7 +246,7 @@ part_step reading sets me peer s c x bytes w t fed =
           answer = m.answer;
           knows = m.knows;
         })
-        | inr m ↦ inr (record {
+        | inr (inl m) ↦ inr (inl (record {
           closing = m.closing;
           whole = record { rest = m.whole.rest; taken = m.whole.taken };
           entry = m.entry;
@@ -251,7 +259,20 @@ part_step reading sets me peer s c x bytes w t fed =
           size = m.size;
           sample = m.sample;
           keeps = m.keeps;
-        })
+        }))
+        | inr (inr m) ↦ inr (inr (record {
+          closing = m.closing;
+          whole = record { rest = m.whole.rest; taken = m.whole.taken };
+          recording = m.recording;
+          stage_is = m.stage_is;
+          enough = m.enough;
+          none = m.none;
+          p = m.p;
+          frame = frame m.p m.frame;
+          size = m.size;
+          samples = m.samples;
+          keeps = m.keeps;
+        }))
       ];
       some = fed.some;
       room = omega (arith, room, more, parts, least);
@@ -279,9 +300,9 @@ broken_step reading sets me peer s c x bytes fed =
     step_still reading sets me peer c (answered a (taken_by (length bytes) s)) ts b refl
     (inr (over_behind sets c a ts (conversation_after c a) p.stage (CallEnded end) b refl so.is tt (few_answers sets me peer s c x)))
 
--- what stands behind a whole frame
+-- what stands behind a whole frame whose turns are these
 record WholeTaken (reading : DescriptionReading) (sets : Bool) (me peer : AmsAddress) (net : List ℕ) (now : ℕ) (c : Conversation) (a : Given)
-    (k : Link) (cl : Client) (stage : Stage) (p : Progress) : Type 0 where
+    (k : Link) (cl : Client) (stage : Stage) (ts : Turns) : Type 0 where
   stands : Stands net now a.machine k cl.received []
   closing : k.closing ≡ false
   whole : TakesWhole k
@@ -296,19 +317,18 @@ record WholeTaken (reading : DescriptionReading) (sets : Bool) (me peer : AmsAdd
   bytes : List ℕ
   answer : a.answer ≡ Bytes bytes now
   on : c.end ≡ None
-  turned : turns now (runner_after_answer c.runner (Bytes bytes now)) ≡ turns now (at cl p.stage p.outputs)
+  turned : turns now (runner_after_answer c.runner (Bytes bytes now)) ≡ ts
   room : c.answers + frames_left stage * FRAME + 1 ≤ MAX_ANSWERS
 
 whole_none : (reading : DescriptionReading) (sets : Bool) (me peer : AmsAddress) (net : List ℕ) (now : ℕ) (c : Conversation) (a : Given)
-    (k : Link) (cl : Client) (stage : Stage) (p : Progress) → WholeTaken reading sets me peer net now c a k cl stage p → waiting_bytes a.machine ≡ []
-whole_none reading sets me peer net now c a k cl stage p x = waits_so net now a.machine k cl.received [] x.stands
+    (k : Link) (cl : Client) (stage : Stage) (ts : Turns) → WholeTaken reading sets me peer net now c a k cl stage ts → waiting_bytes a.machine ≡ []
+whole_none reading sets me peer net now c a k cl stage ts x = waits_so net now a.machine k cl.received [] x.stands
 
 whole_behind : (reading : DescriptionReading) (sets : Bool) (me peer : AmsAddress) (net : List ℕ) (now : ℕ) (c : Conversation) (a : Given)
-    (k : Link) (cl : Client) (stage : Stage) (p : Progress) (x : WholeTaken reading sets me peer net now c a k cl stage p) (ts : Turns)
-    → turns now (at cl p.stage p.outputs) ≡ ts
+    (k : Link) (cl : Client) (stage : Stage) (ts : Turns) (x : WholeTaken reading sets me peer net now c a k cl stage ts)
     → IsBehind c (Bytes x.bytes now) ts (conversation_after c a.answer)
-whole_behind reading sets me peer net now c a k cl stage p x ts is =
-    subst (λ l. IsBehind c (Bytes x.bytes now) ts (conversation_after c l)) (sym x.answer) (is_behind c (Bytes x.bytes now) ts x.on (x.turned ∙ is))
+whole_behind reading sets me peer net now c a k cl stage ts x =
+    subst (λ l. IsBehind c (Bytes x.bytes now) ts (conversation_after c l)) (sym x.answer) (is_behind c (Bytes x.bytes now) ts x.on x.turned)
 
 behind_answer : (c : Conversation) (a b : LinkAnswer) (ts : Turns) (d : Conversation) → a ≡ b → IsBehind c b ts d → IsBehind c a ts d
 behind_answer c a b ts d same is = subst (λ l. IsBehind c l ts d) (sym same) is
@@ -317,16 +337,22 @@ any_pieces : (reading : DescriptionReading) (sets : Bool) (me peer : AmsAddress)
     → waiting_bytes a.machine ≡ [] → EndsSo sets (conversation_after c a.answer) → StepsTo reading sets me peer c a
 any_pieces reading sets me peer c a none ends = record { good = inr ends; alone = inl none }
 
+whole_ends : (reading : DescriptionReading) (sets : Bool) (me peer : AmsAddress) (net : List ℕ) (now : ℕ) (c : Conversation) (a : Given)
+    (k : Link) (cl : Client) (stage : Stage) (ts : Turns) (end : LoopEnd)
+    → WholeTaken reading sets me peer net now c a k cl stage ts → end_of_stage ts.runner.stage ≡ Some end → IsAnswered sets end
+    → StepsTo reading sets me peer c a
+whole_ends reading sets me peer net now c a k cl stage ts end x is answered =
+    let b = whole_behind reading sets me peer net now c a k cl stage ts x in
+    let room = x.room in
+    any_pieces reading sets me peer c a (whole_none reading sets me peer net now c a k cl stage ts x)
+    (over_behind sets c (Bytes x.bytes now) ts (conversation_after c a.answer) ts.runner.stage end b refl is answered (omega (arith, room)))
+
 whole_over : (reading : DescriptionReading) (sets : Bool) (me peer : AmsAddress) (net : List ℕ) (now : ℕ) (c : Conversation) (a : Given)
     (k : Link) (cl : Client) (stage : Stage) (p : Progress)
-    → WholeTaken reading sets me peer net now c a k cl stage p → IsOver sets p → StepsTo reading sets me peer c a
+    → WholeTaken reading sets me peer net now c a k cl stage (turns now (at cl p.stage p.outputs)) → IsOver sets p → StepsTo reading sets me peer c a
 whole_over reading sets me peer net now c a k cl stage p x over =
-    let ts = turns now (at cl p.stage p.outputs) in
-    let b = whole_behind reading sets me peer net now c a k cl stage p x ts refl in
-    let room = x.room in
-    any_pieces reading sets me peer c a (whole_none reading sets me peer net now c a k cl stage p x)
-    (over_behind sets c (Bytes x.bytes now) ts (conversation_after c a.answer) p.stage over.end b
-    (over_stays_over now cl p.stage p.outputs over.over) over.is over.answered (omega (arith, room)))
+    whole_ends reading sets me peer net now c a k cl stage (turns now (at cl p.stage p.outputs)) over.end x
+    (ap end_of_stage (over_stays_over now cl p.stage p.outputs over.over) ∙ over.is) over.answered
 
 -- a request is sent behind the frame
 record NewRequest (now : ℕ) (c : Conversation) (cl : Client) (stage next : Stage) (r : Request) (ts : Turns) : Type 0 where
@@ -335,22 +361,21 @@ record NewRequest (now : ℕ) (c : Conversation) (cl : Client) (stage next : Sta
   less : frames_left next < frames_left stage
 
 whole_sends : (reading : DescriptionReading) (sets : Bool) (me peer : AmsAddress) (net : List ℕ) (now : ℕ) (c : Conversation) (a : Given)
-    (k : Link) (cl : Client) (stage : Stage) (p : Progress) (r : Request) (ts : Turns) → WholeTaken reading sets me peer net now c a k cl stage p
-    → turns now (at cl p.stage p.outputs) ≡ ts → NewRequest now c cl stage p.stage r ts → Awaits sets p.stage
-    → IsShort r → Asks p.stage r → HadNone p.stage k.client.watches
+    (k : Link) (cl : Client) (stage next : Stage) (r : Request) (ts : Turns) → WholeTaken reading sets me peer net now c a k cl stage ts
+    → NewRequest now c cl stage next r ts → Awaits sets next → IsShort r → Asks next r → HadWatches me peer net next k.client.watches
     → StepsTo reading sets me peer c a
-whole_sends reading sets me peer net now c a k cl stage p r ts x is new awaits short asks had =
-    let b = whole_behind reading sets me peer net now c a k cl stage p x ts is in
+whole_sends reading sets me peer net now c a k cl stage next r ts x new awaits short asks had =
+    let b = whole_behind reading sets me peer net now c a k cl stage ts x in
     let d = conversation_after c a.answer in
     let sent : Sent = record { answers = c.answers + 1; bytes = request_frame cl (next_id cl) r } in
     let room = x.room in
     let less = new.less in
     let quiet = b.quiet in
     let more = b.answers in
-    let going = ap (λ (v : Runner). is_over v.stage) new.runner ∙ awaits_on sets p.stage awaits in
+    let going = ap (λ (v : Runner). is_over v.stage) new.runner ∙ awaits_on sets next awaits in
     step_sends reading sets me peer c a ts sent (behind_answer c a.answer (Bytes x.bytes now) ts d x.answer b) new.sends
-    (whole_none reading sets me peer net now c a k cl stage p x)
-    (asked sets me peer net now reading a.machine k cl p.stage r d (record {
+    (whole_none reading sets me peer net now c a k cl stage ts x)
+    (asked sets me peer net now reading a.machine k cl next r d (record {
       stands = x.stands;
       closing = x.closing;
       whole = x.whole;
@@ -368,61 +393,102 @@ whole_sends reading sets me peer net now c a k cl stage p r ts x is new awaits s
       had = had;
     }) (record {
       on = on_behind c x.bytes now ts d b going (omega (arith, room));
-      runner = b.runner ∙ new.runner ∙ ap (λ (e : Client). at e p.stage []) (issued_is cl r now x.none);
+      runner = b.runner ∙ new.runner ∙ ap (λ (e : Client). at e next []) (issued_is cl r now x.none);
       quiet = omega (arith, quiet);
       room = omega (arith, room, less, more);
     }))
 
 -- it listens behind the frame
-whole_listens : (reading : DescriptionReading) (sets : Bool) (me peer : AmsAddress) (net : List ℕ) (now : ℕ) (c : Conversation) (a : Given)
-    (k : Link) (cl : Client) (stage : Stage) (p : Progress) (ts : Turns) (entry : SymbolEntry) (handle left : ℕ)
-    → WholeTaken reading sets me peer net now c a k cl stage p
-    → turns now (at cl p.stage p.outputs) ≡ ts → sent_by (c.answers + 1) ts.steps ≡ [] → ts.runner ≡ at cl (Watches entry handle (suc left)) []
-    → left + 3 < frames_left stage → KeepsFew me peer net handle k.client.watches → StepsTo reading sets me peer c a
-whole_listens reading sets me peer net now c a k cl stage p ts entry handle left x is none runner less keeps =
-    let b = whole_behind reading sets me peer net now c a k cl stage p x ts is in
+whole_goes_on : (reading : DescriptionReading) (sets : Bool) (me peer : AmsAddress) (net : List ℕ) (now : ℕ) (c : Conversation) (a : Given)
+    (k : Link) (cl : Client) (stage next : Stage) (ts : Turns) → WholeTaken reading sets me peer net now c a k cl stage ts
+    → sent_by (c.answers + 1) ts.steps ≡ [] → ts.runner ≡ at cl next [] → is_over next ≡ false → frames_left next < frames_left stage
+    → Listening me peer net k cl next ⊎ ListeningAll me peer net k cl next → StepsTo reading sets me peer c a
+whole_goes_on reading sets me peer net now c a k cl stage next ts x none runner goes less listens =
+    let b = whole_behind reading sets me peer net now c a k cl stage ts x in
     let d = conversation_after c a.answer in
     let room = x.room in
     let quiet = b.quiet in
     let more = b.answers in
-    let going = ap (λ (v : Runner). is_over v.stage) runner in
+    let going = ap (λ (v : Runner). is_over v.stage) runner ∙ goes in
     step_still reading sets me peer c a ts (behind_answer c a.answer (Bytes x.bytes now) ts d x.answer b) none (inl (inr (record {
       net = net;
       now = now;
       k = k;
       cl = cl;
-      stage = Watches entry handle (suc left);
+      stage = next;
       stands = x.stands;
       talks = record {
         on = on_behind c x.bytes now ts d b going (omega (arith, room));
         runner = b.runner ∙ runner;
-        going = refl;
+        going = goes;
         silent = x.silent;
         me_is = x.me_is;
         peer_is = x.peer_is;
         ids = x.ids;
         quiet = omega (arith, quiet);
       };
-      mode = inl (record {
-        closing = x.closing;
-        whole = x.whole;
-        entry = entry;
-        handle = handle;
-        left = left;
-        stage_is = refl;
-        none = x.none;
-        rest = x.rest;
-        keeps = keeps;
-      });
+      mode = elim listens [ inl m ↦ inl m | inr m ↦ inr (inl m) ];
       room = omega (arith, room, less, more);
     })))
 
+whole_listens : (reading : DescriptionReading) (sets : Bool) (me peer : AmsAddress) (net : List ℕ) (now : ℕ) (c : Conversation) (a : Given)
+    (k : Link) (cl : Client) (stage : Stage) (ts : Turns) (entry : SymbolEntry) (handle left : ℕ)
+    → WholeTaken reading sets me peer net now c a k cl stage ts
+    → sent_by (c.answers + 1) ts.steps ≡ [] → ts.runner ≡ at cl (Watches entry handle (suc left)) []
+    → left + 3 < frames_left stage → KeepsFew me peer net handle k.client.watches → StepsTo reading sets me peer c a
+whole_listens reading sets me peer net now c a k cl stage ts entry handle left x none runner less keeps =
+    whole_goes_on reading sets me peer net now c a k cl stage (Watches entry handle (suc left)) ts x none runner refl (omega (arith, less)) (inl (record {
+      closing = x.closing;
+      whole = x.whole;
+      entry = entry;
+      handle = handle;
+      left = left;
+      stage_is = refl;
+      none = x.none;
+      rest = x.rest;
+      keeps = keeps;
+    }))
+
+whole_listens_all : (reading : DescriptionReading) (sets : Bool) (me peer : AmsAddress) (net : List ℕ) (now : ℕ) (c : Conversation) (a : Given)
+    (k : Link) (cl : Client) (stage : Stage) (ts : Turns) (r : Recording) → WholeTaken reading sets me peer net now c a k cl stage ts
+    → sent_by (c.answers + 1) ts.steps ≡ [] → ts.runner ≡ at cl (Records ForSamples r) [] → has_enough r ≡ false
+    → frames_left (Records ForSamples r) < frames_left stage → KeepsAll me peer net (is_recorded r) k.client.watches → StepsTo reading sets me peer c a
+whole_listens_all reading sets me peer net now c a k cl stage ts r x none runner enough less keeps =
+    whole_goes_on reading sets me peer net now c a k cl stage (Records ForSamples r) ts x none runner refl less (inr (record {
+      closing = x.closing;
+      whole = x.whole;
+      recording = r;
+      stage_is = refl;
+      enough = enough;
+      none = x.none;
+      rest = x.rest;
+      keeps = keeps;
+    }))
+
 -- an answer is whole
 
-knows_none : (me peer : AmsAddress) (net : List ℕ) (stage : Stage) (ws : List (Watch (List Addressed))) (p : List ℕ)
-    → Knows me peer net stage ws p → HasNone stage ws
-knows_none me peer net (AwaitsEntry (ToWatch w) name) ws p knows = knows
-knows_none me peer net stage ws p knows = tt
+-- the notifications of a recording behind an answer that gives a handle
+all_kept : (me peer : AmsAddress) (net : List ℕ) (r : Recording) (ws : List (Watch (List Addressed))) (p : List ℕ) (h : AmsHeader) (reply : Reply)
+    → KeepsAll me peer net (is_recorded r) ws ⊎ AddedMore me peer net (is_recorded r) ws p
+    → header_of p ≡ Some h → reply_of h.command (payload_of p) ≡ Some reply → KeepsAll me peer net (is_recorded_or r reply) ws
+all_kept me peer net r ws p h reply (inl all) read got =
+    kept_as me peer net (is_recorded r) (is_recorded_or r reply) ws (λ n passes. first_true (is_recorded r n) (handle_given reply == n) false passes) all
+all_kept me peer net r ws p h reply (inr more) read got =
+    let given = more.gives h reply read got in
+    let olds = kept_as me peer net (is_recorded r) (is_recorded_or r reply) more.old
+    (λ n passes. first_true (is_recorded r n) (handle_given reply == n) false passes) more.kept in
+    let one = kept_as me peer net (λ n. n == more.w.handle) (is_recorded_or r reply) (more.w ∷ [])
+    (λ n passes. second_true (is_recorded r n) (handle_given reply == n)
+    (test_same (handle_given reply) n (given ∙ sym (eqb-true n more.w.handle passes)))) (more.one, tt) in
+    subst (KeepsAll me peer net (is_recorded_or r reply)) (sym more.is)
+    (all-append (IsWatched me peer net (is_recorded_or r reply)) more.old (more.w ∷ []) olds one)
+
+has_watches : (me peer : AmsAddress) (net : List ℕ) (stage : Stage) (ws : List (Watch (List Addressed))) (p : List ℕ) (h : AmsHeader) (o : Option Reply)
+    → Knows me peer net stage ws p → header_of p ≡ Some h → reply_of h.command (payload_of p) ≡ o → HasWatches me peer net stage o ws
+has_watches me peer net (AwaitsEntry (ToWatch w) name) ws p h o knows read got = knows
+has_watches me peer net (Records ForEntry r) ws p h o knows read got = knows
+has_watches me peer net (Records (ForNotification name) r) ws p h (Some reply) knows read got = all_kept me peer net r ws p h reply knows read got
+has_watches me peer net stage ws p h o knows read got = tt
 
 handle_kept : (me peer : AmsAddress) (net : List ℕ) (entry : SymbolEntry) (watching : Watching)
     (ws : List (Watch (List Addressed))) (p : List ℕ) (h : AmsHeader) (r : Reply) → Knows me peer net (AwaitsNotification entry watching) ws p
@@ -447,7 +513,7 @@ count_is (suc n) least = omega arith
 -- what was answered leads on
 answer_leads : (reading : DescriptionReading) (sets : Bool) (me peer : AmsAddress) (net : List ℕ) (now : ℕ) (c : Conversation) (a : Given)
     (k : Link) (cl : Client) (stage : Stage) (q : List ℕ) (h : AmsHeader) (pr : Progress)
-    → WholeTaken reading sets me peer net now c a k cl stage pr → Knows me peer net stage k.client.watches q
+    → WholeTaken reading sets me peer net now c a k cl stage (turns now (at cl pr.stage pr.outputs)) → Knows me peer net stage k.client.watches q
     → header_of q ≡ Some h
     → Leads sets stage (reply_of h.command (payload_of q)) pr → StepsTo reading sets me peer c a
 answer_leads reading sets me peer net now c a k cl stage q h pr x knows read (inl over) = whole_over reading sets me peer net now c a k cl stage pr x over
@@ -461,10 +527,20 @@ answer_leads reading sets me peer net now c a k cl stage q h pr x knows read (in
     let ts : Turns = record { steps = Send (request_frame cl (next_id cl) r) ∷ []; runner = at after next [] } in
     let is : turns now (at cl next pr.outputs) ≡ ts =
     ap (λ os. turns now (at cl next os)) sends.outputs ∙ sends_one now cl next r (awaits_on sets next sends.awaits) waits in
-    whole_sends reading sets me peer net now c a k cl stage pr r ts x is
+    let y = subst (λ (us : Turns). WholeTaken reading sets me peer net now c a k cl stage us) is x in
+    whole_sends reading sets me peer net now c a k cl stage next r ts y
     (record { sends = refl; runner = refl; less = sends.less }) sends.awaits sends.short sends.asks
-    (sends.none k.client.watches (knows_none me peer net stage k.client.watches q knows))
-answer_leads reading sets me peer net now c a k cl stage q h pr x knows read (inr (inr listens)) =
+    (sends.had me peer net k.client.watches (has_watches me peer net stage k.client.watches q h (reply_of h.command (payload_of q)) knows read refl))
+answer_leads reading sets me peer net now c a k cl stage q h pr x knows read (inr (inr (inr listens))) =
+    let r = listens.recording in
+    let next : Stage = Records ForSamples r in
+    let waits : is_not_yet (next_hearing cl).heard ≡ true = ap (λ (y : Hearing). is_not_yet y.heard) (silent_hears now cl x.silent) in
+    let is : turns now (at cl pr.stage pr.outputs) ≡ still cl next
+    = ap (λ (p : Progress). turns now (at cl p.stage p.outputs)) listens.is ∙ turns_wait now cl next refl waits in
+    let y = subst (λ (us : Turns). WholeTaken reading sets me peer net now c a k cl stage us) is x in
+    whole_listens_all reading sets me peer net now c a k cl stage (still cl next) r y refl refl listens.enough listens.less
+    (listens.keeps me peer net k.client.watches (has_watches me peer net stage k.client.watches q h (reply_of h.command (payload_of q)) knows read refl))
+answer_leads reading sets me peer net now c a k cl stage q h pr x knows read (inr (inr (inl listens))) =
     let handle = handle_given listens.reply in
     let entry = listens.entry in
     let count = listens.watching.count in
@@ -476,7 +552,8 @@ answer_leads reading sets me peer net now c a k cl stage q h pr x knows read (in
     let is : turns now (at cl pr.stage pr.outputs) ≡ still cl next
     = ap (λ (p : Progress). turns now (at cl p.stage p.outputs)) same ∙ turns_wait now cl next refl waits in
     let frames : frames_left stage ≡ count + 3 = ap frames_left listens.stage_is in
-    whole_listens reading sets me peer net now c a k cl stage pr (still cl next) entry handle left x is refl refl (omega (arith, least, frames))
+    let y = subst (λ (us : Turns). WholeTaken reading sets me peer net now c a k cl stage us) is x in
+    whole_listens reading sets me peer net now c a k cl stage (still cl next) entry handle left y refl refl (omega (arith, least, frames))
     (handle_kept me peer net entry listens.watching k.client.watches q h listens.reply
     (subst (λ st. Knows me peer net st k.client.watches q) listens.stage_is knows) read listens.reply_is)
 
@@ -553,7 +630,7 @@ whole_step reading sets me peer s c x bytes w t mine other m fed =
 
 sample_step : (reading : DescriptionReading) (sets : Bool) (me peer : AmsAddress) (net : List ℕ) (now : ℕ) (c : Conversation) (a : Given)
     (k : Link) (cl : Client) (entry : SymbolEntry) (handle left : ℕ) (pr : Progress)
-    → WholeTaken reading sets me peer net now c a k cl (Watches entry handle (suc left)) pr → KeepsFew me peer net handle k.client.watches
+    → WholeTaken reading sets me peer net now c a k cl (Watches entry handle (suc left)) (turns now (at cl pr.stage pr.outputs)) → KeepsFew me peer net handle k.client.watches
     → SampleLeads sets entry handle left pr → StepsTo reading sets me peer c a
 sample_step reading sets me peer net now c a k cl entry handle left pr x keeps (inl over) =
     whole_over reading sets me peer net now c a k cl (Watches entry handle (suc left)) pr x over
@@ -568,8 +645,9 @@ sample_step reading sets me peer net now c a k cl entry handle left pr x keeps (
     let ts : Turns = record { steps = Print last.text ∷ Send (request_frame cl (next_id cl) r) ∷ []; runner = at after next [] } in
     let wanted = progress next (ToPrint last.text ∷ ToSend r ∷ []) in
     let is : turns now (at cl next wanted.outputs) ≡ ts = prints_and_sends now cl next last.text r refl waits in
-    let y = subst (λ p. WholeTaken reading sets me peer net now c a k cl stage p) last.is x in
-    whole_sends reading sets me peer net now c a k cl stage wanted r ts y is
+    let y = subst (λ (us : Turns). WholeTaken reading sets me peer net now c a k cl stage us)
+    (ap (λ (p : Progress). turns now (at cl p.stage p.outputs)) last.is ∙ is) x in
+    whole_sends reading sets me peer net now c a k cl stage next r ts y
     (record { sends = refl; runner = refl; less = omega arith }) tt (short_deletion last.handle) tt tt
 sample_step reading sets me peer net now c a k cl entry handle left pr x keeps (inr (inr goes)) =
     let stage : Stage = Watches entry handle (suc left) in
@@ -579,8 +657,9 @@ sample_step reading sets me peer net now c a k cl entry handle left pr x keeps (
     let waits : is_not_yet (next_hearing cl).heard ≡ true = ap (λ (y : Hearing). is_not_yet y.heard) (silent_hears now cl x.silent) in
     let ts : Turns = record { steps = Print goes.text ∷ []; runner = at cl next [] } in
     let is : turns now (at cl next wanted.outputs) ≡ ts = prints_one now cl next goes.text refl waits in
-    let y = subst (λ p. WholeTaken reading sets me peer net now c a k cl stage p) goes.is x in
-    whole_listens reading sets me peer net now c a k cl stage wanted ts entry handle goes.less y is refl refl (omega (arith, left_is)) keeps
+    let y = subst (λ (us : Turns). WholeTaken reading sets me peer net now c a k cl stage us)
+    (ap (λ (p : Progress). turns now (at cl p.stage p.outputs)) goes.is ∙ is) x in
+    whole_listens reading sets me peer net now c a k cl stage ts entry handle goes.less y refl refl (omega (arith, left_is)) keeps
 
 whole_sample : (reading : DescriptionReading) (sets : Bool) (me peer : AmsAddress) (s : Machine)
     (c : Conversation) (x : Waits sets me peer s c) (bytes w : List ℕ) → Takes sets me peer s c x bytes w
@@ -631,6 +710,94 @@ whole_sample reading sets me peer s c x bytes w t mine other m fed =
       room = omega (arith, room, least, sizes, frames);
     }) m.keeps (sample_leads sets m.entry m.handle m.left m.sample.time m.sample.bytes)
 
+-- samples of a recording are whole
+
+less_left : (count kept n next : ℕ) → (nat_le count kept ≡ false) → next ≡ kept + suc n → count - next < count - kept
+less_left count kept n next some sum = let less = leb-false count kept some in omega (arith, less, sum)
+
+fewer_left : (r next : Recording) (n : ℕ) → has_enough r ≡ false → next.watching ≡ r.watching → next.notifications ≡ r.notifications
+    → next.kept ≡ r.kept + suc n → frames_left (Records ForSamples next) < frames_left (Records ForSamples r)
+fewer_left r next n some watching notes kept =
+    let count = ap (λ (w : Watching). w.count) watching in
+    let same = ap (λ (ns : List Recorded). length ns) notes in
+    let less = less_left r.watching.count r.kept n next.kept some kept in
+    omega (arith, count, same, less)
+
+same_handles : (r next : Recording) (n : ℕ) → next.notifications ≡ r.notifications → is_recorded r n ≡ true → is_recorded next n ≡ true
+same_handles r next n notes is = ap (λ (ns : List Recorded). list_any (λ (m : Recorded). m.handle == n) ns) notes ∙ is
+
+samples_step : (reading : DescriptionReading) (sets : Bool) (me peer : AmsAddress) (net : List ℕ) (now : ℕ) (c : Conversation) (a : Given)
+    (k : Link) (cl : Client) (r : Recording) (n : ℕ) (ts : Turns)
+    → WholeTaken reading sets me peer net now c a k (silenced cl) (Records ForSamples r) ts → has_enough r ≡ false
+    → KeepsAll me peer net (is_recorded r) k.client.watches → RecordHears now cl r (suc n) ts → StepsTo reading sets me peer c a
+samples_step reading sets me peer net now c a k cl r n ts x some keeps (inl ends) =
+    whole_ends reading sets me peer net now c a k (silenced cl) (Records ForSamples r) ts (CallEnded Done) x ends.over tt
+samples_step reading sets me peer net now c a k cl r n ts x some keeps (inr (inl sends)) =
+    let few = sends.few in
+    whole_sends reading sets me peer net now c a k (silenced cl) (Records ForSamples r) (Records (ForDeletion sends.left) sends.next)
+    (request.DeleteDeviceNotification sends.handle) ts x
+    (record { sends = sends.sent (c.answers + 1); runner = sends.runner; less = omega (arith, few) }) tt (short_deletion sends.handle) tt tt
+samples_step reading sets me peer net now c a k cl r n ts x some keeps (inr (inr goes)) =
+    whole_listens_all reading sets me peer net now c a k (silenced cl) (Records ForSamples r) ts goes.next x (goes.sent (c.answers + 1)) goes.runner
+    goes.enough (fewer_left r goes.next n some goes.watching goes.notifications goes.kept)
+    (kept_as me peer net (is_recorded r) (is_recorded goes.next) k.client.watches (λ m is. same_handles r goes.next m goes.notifications is) keeps)
+
+whole_samples : (reading : DescriptionReading) (sets : Bool) (me peer : AmsAddress) (s : Machine)
+    (c : Conversation) (x : Waits sets me peer s c) (bytes w : List ℕ) → Takes sets me peer s c x bytes w
+    → IsAddress me → IsAddress peer → (m : SamplingAll me peer x.net x.k x.cl x.stage x.w) → FedWhole x.cl bytes w m.p
+    → StepsTo reading sets me peer c (answered (Bytes bytes x.now) (taken_by (length bytes) s))
+whole_samples reading sets me peer s c x bytes w t mine other m fed =
+    let now = x.now in
+    let r = m.recording in
+    let stage : Stage = Records ForSamples r in
+    let talks = x.talks in
+    let cl = client_after_feed x.cl bytes in
+    let a = answered (Bytes bytes now) (taken_by (length bytes) s) in
+    let says = samples_say (is_recorded r) m.p m.samples in
+    let one = with_one_taken cl in
+    let time = m.samples.time in
+    let ss = m.samples.others in
+    let first = m.samples.first in
+    let st = stamped time first in
+    let hears = fed.hears (hearing (heard_of_sample st) (hearing_still one time ss)) says (samples_heard (is_recorded r) one m.p m.samples) in
+    let parts : x.w ≡ bytes ++ [] = t.parts ∙ ap (λ l. bytes ++ l) fed.none in
+    let stands = stands_taken x.net now s x.k x.cl.received bytes [] (subst (λ l. Stands x.net now s x.k x.cl.received l) parts x.stands) in
+    let fed_so : runner_after_answer c.runner (Bytes bytes now) ≡ at cl stage []
+    = fed_runner me peer now c x.cl x.stage bytes talks ∙ ap (λ st. at cl st []) m.stage_is in
+    let room = x.room in
+    let least = some_length bytes t.some in
+    let sizes = ap (λ l. length l) parts ∙ length-append bytes [] in
+    let frames : frames_left x.stage ≡ frames_left stage = ap frames_left m.stage_is in
+    let silent : IsSilent now (silenced one) = record {
+      few = inl m.none;
+      unbroken = talks.silent.unbroken;
+      samples = refl;
+      all = record { taken = (fed.all says).taken; front = (fed.all says).front };
+    } in
+    let ts = turns now (at (hearing_still one time (first ∷ ss)) stage []) in
+    let p = after_heard stage (heard_of_sample st) in
+    let turned : turns now (runner_after_answer c.runner (Bytes bytes now)) ≡ ts
+    = ap (turns now) fed_so ∙ hears_so now cl (hearing_still one time ss) stage (hearing (heard_of_sample st) (hearing_still one time ss)) refl hears
+    (sample_told st) refl ∙ sym (hears_sample now one stage time first ss p refl silent refl) in
+    samples_step reading sets me peer x.net now c a (later (length bytes) x.k) one r (length ss) ts (record {
+      stands = stands;
+      closing = m.closing;
+      whole = record { rest = m.whole.rest; taken = m.whole.taken };
+      rest = fed.rest;
+      silent = silent;
+      none = m.none;
+      me_is = talks.me_is;
+      peer_is = talks.peer_is;
+      ids = talks.ids;
+      me_fits = mine;
+      peer_fits = other;
+      bytes = bytes;
+      answer = refl;
+      on = talks.on;
+      turned = turned;
+      room = omega (arith, room, least, sizes, frames);
+    }) m.enough m.keeps (record_hears now one time (first ∷ ss) r m.samples.among m.enough m.none silent)
+
 -- bytes of what waits are taken
 
 whole_frame : (t bytes w x p : List ℕ) → x ≡ bytes ++ w → t ++ x ≡ frame_bytes p → (t ++ bytes) ++ w ≡ frame_bytes p
@@ -651,10 +818,16 @@ take_step reading sets me peer s c x bytes w mine other parts some =
             | inr (inl fed) ↦ broken_step reading sets me peer s c x bytes fed
             | inr (inr fed) ↦ whole_step reading sets me peer s c x bytes w t mine other m fed
           ]
-      | inr m ↦
+      | inr (inl m) ↦
           elim (fed_cases x.now x.cl bytes w m.p x.talks.silent (whole_frame (rest_of x.cl.received) bytes w x.w m.p parts m.frame) (small_packet m.p m.size)) [
             | inl fed ↦ part_step reading sets me peer s c x bytes w t fed
             | inr (inl fed) ↦ broken_step reading sets me peer s c x bytes fed
             | inr (inr fed) ↦ whole_sample reading sets me peer s c x bytes w t mine other m fed
+          ]
+      | inr (inr m) ↦
+          elim (fed_cases x.now x.cl bytes w m.p x.talks.silent (whole_frame (rest_of x.cl.received) bytes w x.w m.p parts m.frame) (small_packet m.p m.size)) [
+            | inl fed ↦ part_step reading sets me peer s c x bytes w t fed
+            | inr (inl fed) ↦ broken_step reading sets me peer s c x bytes fed
+            | inr (inr fed) ↦ whole_samples reading sets me peer s c x bytes w t mine other m fed
           ]
     ]

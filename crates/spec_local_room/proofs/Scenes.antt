@@ -29,7 +29,9 @@ use Rattle.spec_machine.specs.World.{World, setup_of}
 use Rattle.spec_client.specs.Client.{Client, is_full, next_id, request_packet, request_frame, client_after_issue}
 use Rattle.spec_client.specs.Conversation.{LoopEnd, Conversation, MAX_QUIET, MAX_ANSWERS}
 use Rattle.spec_client.specs.Runner.{is_over}
+use Rattle.spec_client.specs.Recordings.{is_recorded, has_enough}
 use Rattle.spec_client.specs.Stages.{Stage, AwaitsEntry, ToWatch, AwaitsNotification, Watches}
+use Rattle.spec_client.specs.Stages.{Records, Recording, ForEntry, ForNotification, ForSamples}
 use Rattle.spec_formats.specs.SymbolEntry.{SymbolEntry}
 use Rattle.spec_client.specs.Calls.{entry_request}
 use Rattle.spec_client.specs.Unanswered.{Unanswered, MAX_ID, id_after, free_id, outstanding_count}
@@ -37,14 +39,15 @@ use Rattle.spec_client.proofs.TurnsUnfolded.{at}
 use Rattle.spec_cutting.proofs.Takes.{HasOne, after_piece-number}
 use Rattle.spec_local_room.specs.Laws.{IsAnswered}
 use Rattle.spec_local_room.proofs.Coming.{length-frame_bytes}
-use Rattle.spec_local_room.proofs.Hearing.{IsSilent, IsAnswerTo, IsSampleOf}
+use Rattle.spec_local_room.proofs.Hearing.{IsSilent, IsAnswerTo, IsSampleOf, HasSamples}
 use Rattle.spec_local_room.proofs.Pieces.{TakesWhole, Closes, Served, piece_taken, Replies}
 use Rattle.spec_local_room.proofs.Deciding.{replied, entry_keeps, addition_adds}
 use Rattle.spec_local_room.proofs.Responding.{asking, IsAsked, length-asked, decision, does, replies_so}
 use Rattle.spec_local_room.proofs.Responding.{response_so, asked_one, response_answers, GivesHandle}
 use Rattle.spec_local_room.proofs.Responding.{addition_gives, added_watches}
 use Rattle.spec_local_room.proofs.Ticking.{IsKept}
-use Rattle.spec_local_room.proofs.Leading.{Awaits, frames_left, awaits_on, IsShort, Asks, HadNone}
+use Rattle.spec_local_room.proofs.TickingAll.{IsWatched, KeepsAll}
+use Rattle.spec_local_room.proofs.Leading.{Awaits, frames_left, awaits_on, IsShort, Asks, HadWatches}
 use Rattle.spec_local_room.proofs.Ticking.{KeepsFew}
 use Rattle.spec_machine.specs.Replies.{answer_to}
 
@@ -81,10 +84,22 @@ pub record AddedOne (me peer : AmsAddress) (net : List ℕ) (ws : List (Watch (L
   pub kept : IsKept me peer net w.handle w
   pub gives : GivesHandle w.handle p
 
+-- one notification more
+pub record AddedMore (me peer : AmsAddress) (net : List ℕ) (test : ℕ → Bool) (ws : List (Watch (List Addressed))) (p : List ℕ) : Type 0 where
+  pub old : List (Watch (List Addressed))
+  pub w : Watch (List Addressed)
+  pub is : ws ≡ old ++ w ∷ []
+  pub kept : KeepsAll me peer net test old
+  pub one : IsWatched me peer net (λ handle. handle == w.handle) w
+  pub gives : GivesHandle w.handle p
+
 -- what is known of the notifications where the answer to a request is this packet
 abbrev pub Knows : AmsAddress → AmsAddress → List ℕ → Stage → List (Watch (List Addressed)) → List ℕ → Type 0
 Knows me peer net (AwaitsEntry (ToWatch w) name) ws p = ws ≡ []
 Knows me peer net (AwaitsNotification e w) ws p = (ws ≡ []) ⊎ AddedOne me peer net ws p
+Knows me peer net (Records ForEntry r) ws p = KeepsAll me peer net (is_recorded r) ws
+Knows me peer net (Records (ForNotification name) r) ws p =
+    KeepsAll me peer net (is_recorded r) ws ⊎ AddedMore me peer net (is_recorded r) ws p
 Knows me peer net stage ws p = Unit {0}
 
 -- the answer to the only request waits
@@ -128,6 +143,31 @@ pub record Listening (me peer : AmsAddress) (net : List ℕ) (k : Link) (cl : Cl
   pub rest : rest_of cl.received ≡ []
   pub keeps : KeepsFew me peer net handle k.client.watches
 
+-- samples of a recording wait
+pub record SamplingAll (me peer : AmsAddress) (net : List ℕ) (k : Link) (cl : Client) (stage : Stage) (w : List ℕ) : Type 0 where
+  pub closing : k.closing ≡ false
+  pub whole : TakesWhole k
+  pub recording : Recording
+  pub stage_is : stage ≡ Records ForSamples recording
+  pub enough : has_enough recording ≡ false
+  pub none : cl.unanswered ≡ []
+  pub p : List ℕ
+  pub frame : rest_of cl.received ++ w ≡ frame_bytes p
+  pub size : 6 + length p ≤ MAX_QUEUED
+  pub samples : HasSamples (is_recorded recording) p
+  pub keeps : KeepsAll me peer net (is_recorded recording) k.client.watches
+
+-- nothing waits, and a recording listens to its notifications
+pub record ListeningAll (me peer : AmsAddress) (net : List ℕ) (k : Link) (cl : Client) (stage : Stage) : Type 0 where
+  pub closing : k.closing ≡ false
+  pub whole : TakesWhole k
+  pub recording : Recording
+  pub stage_is : stage ≡ Records ForSamples recording
+  pub enough : has_enough recording ≡ false
+  pub none : cl.unanswered ≡ []
+  pub rest : rest_of cl.received ≡ []
+  pub keeps : KeepsAll me peer net (is_recorded recording) k.client.watches
+
 -- what a frame costs at most: its bytes, and the ticks before it
 abbrev pub FRAME : ℕ
 FRAME = 5194306
@@ -141,7 +181,7 @@ pub record Waits (sets : Bool) (me peer : AmsAddress) (s : Machine) (c : Convers
   pub w : List ℕ
   pub stands : Stands net now s k cl.received w
   pub talks : Talks me peer now c cl stage
-  pub mode : Answering sets me peer net now k cl stage w ⊎ Sampling me peer net k cl stage w
+  pub mode : Answering sets me peer net now k cl stage w ⊎ (Sampling me peer net k cl stage w ⊎ SamplingAll me peer net k cl stage w)
   pub some : w ≡ [] → ⊥
   pub room : c.answers + frames_left stage * FRAME + length w ≤ MAX_ANSWERS
 
@@ -153,7 +193,7 @@ pub record Rests (sets : Bool) (me peer : AmsAddress) (s : Machine) (c : Convers
   pub stage : Stage
   pub stands : Stands net now s k cl.received []
   pub talks : Talks me peer now c cl stage
-  pub mode : Listening me peer net k cl stage ⊎ (k.closing ≡ true)
+  pub mode : Listening me peer net k cl stage ⊎ (ListeningAll me peer net k cl stage ⊎ (k.closing ≡ true))
   pub room : c.answers + frames_left stage * FRAME + (MAX_QUEUED + 1 + (MAX_QUIET - c.quiet)) ≤ MAX_ANSWERS
 
 -- the call is over
@@ -201,7 +241,7 @@ issued_silent cl r now silent = record {
 -- the notifications behind a request
 knows_behind : (reading : DescriptionReading) (me peer : AmsAddress) (world : World)
     (c : served.Client) (id : ℕ) (r : Request) (stage : Stage) (packet : List ℕ) → IsAsked me peer id r
-    → Asks stage r → HadNone stage c.watches → length packet < 2 ^ 32
+    → Asks stage r → HadWatches me peer world.plant.net stage c.watches → length packet < 2 ^ 32
     → answer_to (asking me peer id r) (decision world c me peer id r) world.memory ≡ Answered packet
     → Knows me peer world.plant.net stage (client_after_acts c (acts_in (decision world c me peer id r))).watches packet
 knows_behind reading me peer world c id r (AwaitsEntry (ToWatch w) name) packet a asks had small answer =
@@ -214,8 +254,34 @@ knows_behind reading me peer world c id r (AwaitsNotification e w) packet a asks
       | inl keeps ↦ inl (ap (λ (x : served.Client). x.watches) keeps ∙ had)
       | inr adds ↦ inr (record {
         w = adds.w;
-        is = added_watches c adds.w (decision world c me peer id r) had adds.is;
+        is = added_watches c adds.w (decision world c me peer id r) adds.is ∙ ap (λ (ws : List (Watch (List Addressed))). ws ++ adds.w ∷ []) had;
         kept = record { handle_is = refl; small = adds.watch.handle; port = adds.watch.port; address = adds.watch.address; net_is = sym adds.watch.net };
+        gives = addition_gives world c me peer id r packet adds a asks small answer;
+      })
+    ]
+knows_behind reading me peer world c id r (Records ForEntry x) packet a asks had small answer =
+    let name = asks.0 in
+    let same : decision world c me peer id r ≡ decision world c me peer id (entry_request name) = ap (decision world c me peer id) asks.1 in
+    let keeps = entry_keeps (setup_of world) c (asking me peer id (entry_request name)) name refl refl in
+    subst (KeepsAll me peer world.plant.net (is_recorded x))
+    (sym (ap (λ d. (client_after_acts c (acts_in d)).watches) same ∙ ap (λ (y : served.Client). y.watches) keeps)) had
+knows_behind reading me peer world c id r (Records (ForNotification name) x) packet a asks had small answer =
+    let h = asking me peer id r in
+    elim (addition_adds (setup_of world) c h (request_bytes r) refl asks) [
+      | inl keeps ↦ inl (subst (KeepsAll me peer world.plant.net (is_recorded x)) (sym (ap (λ (y : served.Client). y.watches) keeps)) had)
+      | inr adds ↦ inr (record {
+        old = c.watches;
+        w = adds.w;
+        is = added_watches c adds.w (decision world c me peer id r) adds.is;
+        kept = had;
+        one = record {
+          handle = test_same adds.w.handle adds.w.handle refl;
+          small = adds.watch.handle;
+          port = adds.watch.port;
+          address = adds.watch.address;
+          net_is = sym adds.watch.net;
+          some = adds.watch.some;
+        };
         gives = addition_gives world c me peer id r packet adds a asks small answer;
       })
     ]
@@ -258,7 +324,7 @@ pub record Asking (sets : Bool) (me peer : AmsAddress) (net : List ℕ) (now : �
   pub awaits : Awaits sets stage
   pub short : IsShort r
   pub asks : Asks stage r
-  pub had : HadNone stage k.client.watches
+  pub had : HadWatches me peer net stage k.client.watches
 
 -- a conversation behind it
 pub record AsksIn (now : ℕ) (cl : Client) (stage : Stage) (r : Request) (d : Conversation) : Type 0 where
@@ -304,7 +370,7 @@ shuts sets me peer net now reading m k cl stage r d f x y closes =
         taken = closes.bytes_taken ∙ x.stands.taken;
       };
       talks = asks_talks sets me peer net now m k cl stage r d x y;
-      mode = inr closes.closing;
+      mode = inr (inr closes.closing);
       room = omega (arith, room);
     }))
 
@@ -342,7 +408,8 @@ answers sets me peer net now reading m k cl stage r d f x y asked gave world =
     let answer = sym did.answer ∙ gave.answer in
     let response = response_so (asking me peer id r) (decision m.world k.client me peer id r) m.world.memory p
     (replied (setup_of m.world) k.client (asking me peer id r) _ refl x.short.other) answer in
-    let knows = knows_behind reading me peer m.world k.client id r stage p asked x.asks x.had small answer in
+    let had = subst (λ n. HadWatches me peer n stage k.client.watches) (sym x.stands.net_is) x.had in
+    let knows = knows_behind reading me peer m.world k.client id r stage p asked x.asks had small answer in
     let plant : e.world.plant.net ≡ m.world.plant.net = ap (λ (w : World). w.plant.net) world ∙ ap (λ (pl : Plant). pl.net) did.plant in
     let client : e.connection.client.watches ≡ (client_after_acts k.client (acts_in (decision m.world k.client me peer id r))).watches
     = ap (λ (c : served.Client). c.watches) (gives.client_is ∙ did.client) in

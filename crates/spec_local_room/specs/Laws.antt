@@ -1,6 +1,6 @@
 -- Calls over the closed server have room: it answers each of their requests by one frame at most, and a tick gives one
 -- sample at most, so nothing waits where a request is sent. So they are the same however their answers are cut.
-use Rattle.std.specs.Prelude.{◌≡◌, ℕ, ◌≤◌, ◌<◌, ◌^◌, List, ◌++◌, length, Bool, true, false, is_some, Some, None}
+use Rattle.std.specs.Prelude.{◌≡◌, ℕ, ◌≤◌, ◌<◌, ◌^◌, List, [], ◌∷◌, ◌++◌, length, Bool, true, false, is_some, Some, None}
 use Rattle.spec_formats.specs.Header.{AmsAddress, IsAddress}
 use Rattle.spec_machine.specs.AdsDevice.{DescriptionReading, server_step}
 use Rattle.spec_machine.specs.Client as served
@@ -26,7 +26,16 @@ MAX_NAME = 65536
 abbrev pub MAX_SAMPLES : ℕ
 MAX_SAMPLES = 1000000
 
--- a call of one name at most, that is short, and that takes a sample at least and not too many; no recording
+-- the greatest number of names that a recording has
+abbrev pub MAX_NAMES : ℕ
+MAX_NAMES = 16
+
+-- names that are short
+abbrev pub HasShortNames : List (List ℕ) → Type 0
+HasShortNames [] = Unit {0}
+HasShortNames (name ∷ names) = (length name ≤ MAX_NAME) × HasShortNames names
+
+-- a call whose names are short, and that takes not too many samples: of one name at least one, of a recording's some names any number
 abbrev pub IsBounded : Call → Type 0
 IsBounded Info = Unit {0}
 IsBounded State = Unit {0}
@@ -36,7 +45,8 @@ IsBounded (Set name text) = length name ≤ MAX_NAME
 IsBounded Symbols = Unit {0}
 IsBounded (Watch name watching) = (length name ≤ MAX_NAME) × (1 ≤ watching.count) × (watching.count ≤ MAX_SAMPLES)
 IsBounded (Show name) = length name ≤ MAX_NAME
-IsBounded (Record names watching first) = ⊥
+IsBounded (Record names watching first) =
+    HasShortNames names × (1 ≤ length names) × (length names ≤ MAX_NAMES) × (watching.count ≤ MAX_SAMPLES)
 
 -- the server's machine, over any reading of descriptions
 abbrev pub closed_step : DescriptionReading → EventStep World served.Client

@@ -5,7 +5,8 @@ ghost use Rattle.spec_local_room.specs.Laws.{LocalCallsHaveRoom, LocalCallsAreOn
 ghost use Rattle.spec_local_room.specs.Laws.{LocalCallsEnd};
 
 /// A bounded call over the server's machine has room, so it is the same however its answers are cut, over the machine and
-/// over a link to it; and it ends, by no timeout, and only where a value is set for a text that is none.
+/// over a link to it, and behind some answers it is a beginning of that call; and it ends, by no timeout, and for a text that
+/// is no value only where it sets one.
 pub fn local_calls_have_room()
     ensures room { LocalCallsHaveRoom }
     ensures one { LocalCallsAreOne }
