@@ -1,5 +1,6 @@
 -- What the server decides of a request of a call, and what its answer is read as.
-use Rattle.std.proofs.Common.{◌≡◌, ◌⊎◌, ℕ, zero, suc, ◌+◌, ◌<◌, ◌^◌, List, [], ◌∷◌, length, drop, Bool, true, false, not, refl, sym, ap, ◌∙◌, subst, inl, inr, arith}
+use Rattle.std.proofs.Common.{◌≡◌, ◌⊎◌, ℕ, zero, suc, ◌+◌, ◌<◌, ◌^◌, List, [], ◌∷◌, length, drop, Bool, true, false, not}
+use Rattle.std.proofs.Common.{refl, sym, ap, ◌∙◌, subst, inl, inr, arith}
 use Rattle.std.specs.Prelude.{Option, Some, None, is_none, Result, Ok, Err, map, ◌==◌, ◌||◌, ◌/◌, ◌%◌, nat_le, nat_lt, bytes_eq, if◌then◌else◌}
 use Rattle.std.specs.Int.{w32, to_le_bytes}
 use Rattle.std.proofs.lemmas.Bool.{cases_Bool, cond-true, cond-false, leb-false, eqb-true}
@@ -325,7 +326,8 @@ both_false true b e = absurd (let f : true ≡ false = e in cc)
 both_false false b e = e
 
 watch_case : (h : AmsHeader) (plant : Plant) (c : Client) (k : Asker) (mode : Mode) (cycle : ℕ) (watched : List Addressed)
-    → k.address ≡ h.source → k.port.number ≡ h.target.port → h.target.net ≡ plant.net → (watched ≡ [] → ⊥) → ActCase h plant (add_watch c (next_watch c k mode cycle watched))
+    → k.address ≡ h.source → k.port.number ≡ h.target.port → h.target.net ≡ plant.net → (watched ≡ [] → ⊥)
+    → ActCase h plant (add_watch c (next_watch c k mode cycle watched))
 watch_case h plant c k mode cycle watched address port net some =
     let w = next_watch c k mode cycle watched in
     let full = nat_le MAX_WATCHES (length c.watches) || nat_le MAX_NUMBER c.additions in
@@ -356,7 +358,9 @@ add_case : (h : AmsHeader) (plant : Plant) (c : Client) (k : Asker) (g : Option 
 add_case h plant c k g offset len cycle None address port net = inl refl
 add_case h plant c k g offset len cycle (Some mode) address port net = elim (cases_Bool (nat_lt 2048 len)) [
   | inl big ↦ inl (ap effect_of (cond-true (nat_lt 2048 len) _ _ big))
-  | inr small ↦ subst (ActCase h plant) (sym (cond-false (nat_lt 2048 len) _ _ small)) (reached_case h plant c k mode len cycle _ address port net (reach_some c k.port g offset len))
+  | inr small ↦
+      subst (ActCase h plant) (sym (cond-false (nat_lt 2048 len) _ _ small))
+      (reached_case h plant c k mode len cycle _ address port net (reach_some c k.port g offset len))
 ]
 
 single_case : (h : AmsHeader) (plant : Plant) (c : Client) (a : Act) → ActCase h plant a → AddsOrKeeps c h plant (Perform (a ∷ []) Single)

@@ -630,7 +630,8 @@ whole_step reading sets me peer s c x bytes w t mine other m fed =
 
 sample_step : (reading : DescriptionReading) (sets : Bool) (me peer : AmsAddress) (net : List ℕ) (now : ℕ) (c : Conversation) (a : Given)
     (k : Link) (cl : Client) (entry : SymbolEntry) (handle left : ℕ) (pr : Progress)
-    → WholeTaken reading sets me peer net now c a k cl (Watches entry handle (suc left)) (turns now (at cl pr.stage pr.outputs)) → KeepsFew me peer net handle k.client.watches
+    → WholeTaken reading sets me peer net now c a k cl (Watches entry handle (suc left)) (turns now (at cl pr.stage pr.outputs))
+    → KeepsFew me peer net handle k.client.watches
     → SampleLeads sets entry handle left pr → StepsTo reading sets me peer c a
 sample_step reading sets me peer net now c a k cl entry handle left pr x keeps (inl over) =
     whole_over reading sets me peer net now c a k cl (Watches entry handle (suc left)) pr x over
