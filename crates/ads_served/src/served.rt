@@ -1,14 +1,14 @@
 //! A machine that is served.
 
 ghost use denote.Param.Send.{IsSync};
-ghost use Rattle.std.specs.Prelude.{◌≡◌, ◌≤◌, ◌<◌, ℕ, List, length, Option, Some, None, OnOk, OnErr, IfOk, IfSome, IsErr, slice_get};
+ghost use Rattle.std.specs.Prelude.{◌≡◌, ◌≤◌, ◌<◌, ℕ, List, length, Option, Some, None, OnOk, OnErr, IfOk, IfSome, IsErr};
 ghost use Rattle.std.specs.Prelude.{option_copied};
 ghost use Rattle.ads_outside.specs.declared.event.Event.{Event as EventOf};
 ghost use Rattle.ads_outside.specs.declared.event.Event.TheVariants as event;
 ghost use Rattle.ads_outside.specs.declared.moves.Move.TheVariants as move;
 ghost use Rattle.ads_outside.specs.declared.reload_note.ReloadNote.{ReloadNote};
 ghost use Rattle.spec_machine.specs.Connection.{MAX_QUEUED};
-ghost use Rattle.spec_machine.specs.MachineState.{MachineState, present_numbers};
+ghost use Rattle.spec_machine.specs.MachineState.{MachineState};
 ghost use Rattle.spec_machine.specs.Moves.{EventStep};
 ghost use Rattle.spec_machine.specs.Running.{OpensNew, offer_at, is_to_be_shut_at};
 ghost use Rattle.ads_served.specs.Standing.{Standing, standing_after};
@@ -57,10 +57,6 @@ pub trait Served {
             → serves self.new (standing_after steps noted x (move.Event event.now))) }
         ensures no_memory { OnErr result (has_failed self.new) }
         ensures from_then_on { has_failed self.old → IsErr result };
-
-    /// The n-th connection that is there, in the order of opening; None past the last.
-    fn connection(&self, n: usize) -> Option<u32>
-        ensures { (x : Standing World Client) → serves self.now x → result ≡ slice_get (present_numbers x.running.state) n };
 
     /// The connections that have something to be offered or are to be shut, in the order of opening. Others may
     /// stand among them, and none is left out that is to be served. After want of memory `step` answers want of memory

@@ -1,15 +1,14 @@
 -- What is offered to connections, what of it was taken, and frames that are given.
 use Rattle.std.proofs.Common.{◌≡◌, ◌≢◌, ℕ, ◌+◌, ◌<◌, ◌≤◌, List, [], ◌∷◌, ◌++◌, length, Bool, true, false, cond}
 use Rattle.std.proofs.Common.{not, Bor, refl, sym, ap, ◌∙◌, subst, inl, inr, arith}
-use Rattle.std.specs.Prelude.{Option, Some, None, option_map, option_copied, map, drop, filter, nat_lt, ◌||◌}
-use Rattle.std.specs.Prelude.{◌&&◌, ◌==◌, IsNone, IfSome, IsSomeAnd, slice_get, unwrap_or}
+use Rattle.std.specs.Prelude.{Option, Some, None, option_copied, map, drop, filter, nat_lt, ◌||◌}
+use Rattle.std.specs.Prelude.{◌&&◌, ◌==◌, IsNone, IfSome, IsSomeAnd, unwrap_or}
 use Rattle.std.proofs.lemmas.Bool.{cases_Bool, cases_eq, cond-true, cond-false, or_left, ltb-false}
-use Rattle.std.proofs.lemmas.Option.{slice_get-map}
 use Rattle.ads_outside.specs.declared.event.Event.TheVariants as event
 use Rattle.ads_outside.specs.declared.moves.Move.TheVariants as move
 use Rattle.spec_frames.specs.Frame.{frame_bytes}
 use Rattle.spec_machine.specs.Connection.{connection_of, bytes_of, put_back, with_frame, with_closing, produce, fits}
-use Rattle.spec_machine.specs.MachineState.{exchange_of, after_exchange, present_numbers}
+use Rattle.spec_machine.specs.MachineState.{exchange_of, after_exchange}
 use Rattle.spec_machine.specs.Moves.{with_took, state_after_move}
 use Rattle.spec_machine.specs.Offers.{is_among, left_after, waiting_of, waiting_at, blocked_after_move}
 use Rattle.spec_machine.specs.Running.{Running, first_frame, offer_at, is_to_be_shut}
@@ -247,11 +246,6 @@ closing_absent n b r s h none = by (connection_of n s.connections) refl
     by : (o : Option RelayConnection) → connection_of n s.connections ≡ o → false ≡ is_to_be_shut (connection_of n s.connections)
     by None e = sym (ap is_to_be_shut e)
     by (Some k) e = sym (ap is_to_be_shut e ∙ ap (λ g. not g && k.closing) (peer_absent r.peers.entries b s n h.peers none k e))
-
--- the numbers of the connections
-pub number_read : (b : List ℕ) (r : Router) (s : RelayState) (n : ℕ) → Holds r b s
-    → option_map (λ (e : ℕ × Peer). e.0) (slice_get r.peers.entries n) ≡ slice_get (present_numbers s) n
-number_read b r s n h = sym (slice_get-map (λ (e : ℕ × Peer). e.0) r.peers.entries n) ∙ ap (λ ns. slice_get ns n) h.peers.numbers
 
 -- whether a frame has room
 pub room_absent : (n : ℕ) (b : List ℕ) (packet : List ℕ) (r : Router) (s : RelayState) → Holds r b s

@@ -1,6 +1,7 @@
 //! The requests that wait for a response, each in the queue of its asker.
 
-ghost use Rattle.std.specs.Prelude.{◌≡◌, ◌<◌, ◌==◌, ◌++◌, ℕ, List, [], ◌∷◌, length, remove, position, filter, slice_get, if◌then◌else◌, false, IsTrue, IfOk, OnOk, Some};
+ghost use Rattle.std.specs.Prelude.{◌≡◌, ◌<◌, ◌==◌, ◌++◌, ℕ, List, [], ◌∷◌, length, remove, position};
+ghost use Rattle.std.specs.Prelude.{filter, slice_get, if◌then◌else◌, false, IsTrue, IfOk, OnOk, Some};
 ghost use Rattle.std.specs.Map.{values_of};
 ghost use Rattle.spec_formats.specs.Commands.{DEVICE_NOTIFICATION};
 ghost use Rattle.ams_header.specs.Header.{ams_header_of};

@@ -1,6 +1,6 @@
 //! The relay, and all that it keeps.
 
-ghost use Rattle.std.specs.Prelude.{◌≡◌, [], IfOk, IfSome, IfNone, None, option_map, slice_get};
+ghost use Rattle.std.specs.Prelude.{◌≡◌, [], IfOk, IfSome, IfNone, None};
 ghost use Rattle.type_layout.specs.Descriptions.{description_of};
 ghost use Rattle.spec_relay.specs.RelayState.{relay_start};
 ghost use Rattle.spec_relay.specs.RelaySummary.{relay_summary_of};
@@ -57,13 +57,6 @@ impl Router {
         ensures absent { IfNone result (peer_in number self.now.peers.entries ≡ None) }
     {
         self.peers.get_index_of(&number)
-    }
-
-    /// The number of the n-th connection; None past the last.
-    pub(crate) fn number(&self, n: usize) -> Option<u32>
-        ensures { result ≡ option_map (λ e. e.0) (slice_get self.now.peers.entries n) }
-    {
-        Some(*self.peers.get_index(n)?.0)
     }
 }
 

@@ -126,7 +126,8 @@ impl Router {
     // It was passed on, and its response is waited for.
     fn ask(&mut self, alloc: Global, conn: u32, target: u32, h: &Header) -> Result<(), NoMemory>
         ensures follows { OnOk result ((b : List ℕ) (s : RelayState) (k : RelayConnection) → Holds self.old b s → IsHeardAt conn k s → IsSwept s
-            → k.client ≡ Some h.now.source.net.bytes → IsOpenedAt target s → Holds self.new b (with_passed (with_request_of conn target (ams_header_of h.now) s))) }
+            → k.client ≡ Some h.now.source.net.bytes → IsOpenedAt target s
+            → Holds self.new b (with_passed (with_request_of conn target (ams_header_of h.now) s))) }
         ensures streams { KeepsStreams self.old.peers.entries self.new.peers.entries }
     {
         self.remember(alloc, conn, target, h)?;

@@ -53,10 +53,6 @@ impl Served for Relay {
         }
     }
 
-    fn connection(&self, n: usize) -> Option<u32> {
-        self.router.number(n)
-    }
-
     fn due(&mut self, alloc: Global) -> Result<ListOf<u32>, NoMemory> {
         match self.router.due(alloc) {
             Ok(numbers) => Ok(numbers),

@@ -6,7 +6,7 @@ use Rattle.std.specs.List.{prefix_len, IsDistinct, AllByRecursion}
 use Rattle.std.specs.Map.{keys_of, values_of}
 use Rattle.std.proofs.lemmas.Bool.{cases_Bool, cond-true, cond-false, ltb-false, not_from_true, not_from_false, eqb-true}
 use Rattle.std.proofs.lemmas.List.{take_more, take_all}
-use Rattle.std.proofs.lemmas.Option.{slice_get-map, slice_get-get_or, slice_get_within, get_or_from_slice_get}
+use Rattle.std.proofs.lemmas.Option.{slice_get-map, slice_get_within, get_or_from_slice_get}
 use Rattle.std.proofs.lemmas.List.Quantifiers.{position-Some}
 use Rattle.indexmap.specs.IndexMap.{insert_entry, set_value_at}
 use Rattle.spec_machine.proofs.Find.{test_same, test_other}
@@ -139,17 +139,6 @@ keys_next es i n o read some =
 
 pub keys_all : (es : List (ℕ × Waiting)) (i : ℕ) → length es ≤ i → take i (keys_of es) ≡ keys_of es
 keys_all es i past = take_all i (keys_of es) (omega (arith, past, keys_length es))
-
-key_is_there : (es : List (ℕ × Waiting)) (i : ℕ) (o : Option ℕ) → o ≡ option_map (λ (e : ℕ × Waiting). e.0) (slice_get es i) → i < length es → o ≡ None → ⊥
-key_is_there es i o read below none =
-    let here = key_at es i ∙ sym read ∙ none in
-    let some = slice_get-get_or (keys_of es) i 0 (omega (arith, below, keys_length es)) in
-    let both = sym here ∙ some in cc
-
-pub key_there : (es : List (ℕ × Waiting)) (i : ℕ) (o : Option ℕ)
-    → o ≡ option_map (λ (e : ℕ × Waiting). e.0) (slice_get es i) → i < length es → ((n : ℕ) → o ≡ Some n → ⊥) → ⊥
-key_there es i None read below not_some = key_is_there es i None read below refl
-key_there es i (Some n) read below not_some = not_some n refl
 
 -- among keys of which none is equal to one before it, the place of a number is the first
 none_before : (es : List (ℕ × Waiting)) (x n i : ℕ) → AllByRecursion (λ y. nat_eq x y ≡ false) (keys_of es)

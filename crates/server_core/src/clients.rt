@@ -1,14 +1,13 @@
 //! The connections that are there, found by their numbers.
 
-ghost use Rattle.std.specs.Prelude.{◌≡◌, ◌<◌, [], length, remove, slice_get, option_map, IfOk, OnOk, IfSome, IfNone, IsTrue};
-ghost use Rattle.indexmap.specs.IndexMap.{keys};
+ghost use Rattle.std.specs.Prelude.{◌≡◌, ◌<◌, [], length, remove, slice_get, option_map, OnOk, IfSome, IfNone, IsTrue};
 ghost use Rattle.server_core.specs.Touched.{OthersIdle};
 
 use crate::fresh::{fresh_session, nothing_waits};
 use crate::touched::Touched;
 use crate::turned::Turned;
 use crate::waiting::Waiting;
-use ads_base::{ListOf, NoMemory};
+use ads_base::NoMemory;
 use indexmap::IndexMap;
 use std::alloc::Global;
 
@@ -37,61 +36,48 @@ impl Clients {
     }
 
     /// The number of the n-th connection; None past the last.
-    pub(crate) fn number(&self, n: usize) -> Option<u32>
+    pub(crate) fn connection_at(&self, n: usize) -> Option<u32>
         ensures { result ≡ option_map (λ e. e.0) (slice_get self.now.waiting.entries n) }
     {
         Some(*self.waiting.get_index(n)?.0)
     }
 
-    /// All numbers, in the order of opening.
-    pub(crate) fn numbers(&self, alloc: Global) -> Result<ListOf<u32>, NoMemory>
-        ensures { IfOk result (λ numbers. numbers ≡ keys self.now.waiting) }
-    {
-        let mut numbers = ListOf::new(alloc);
-        for i in 0..self.waiting.len() {
-            if let Some(number) = self.number(i) {
-                numbers.push(alloc, number)?;
-            }
-        }
-        Ok(numbers)
-    }
-
     /// Where the connection of a number stands.
-    pub(crate) fn place_of(&self, number: u32) -> Option<usize>
-        ensures found { IfSome result (IsEntry self.now.waiting.entries number) }
-        ensures absent { IfNone result (IsNoEntry self.now.waiting.entries number) }
+    pub(crate) fn place_of(&self, connection: u32) -> Option<usize>
+        ensures found { IfSome result (IsEntry self.now.waiting.entries connection) }
+        ensures absent { IfNone result (IsNoEntry self.now.waiting.entries connection) }
     {
         // Mostly it is the first that was touched, which no look-up by the number has to find.
         if let Touched::Stretch { first, last: _ } = self.touched {
-            if self.is_at(first, number) {
+            if self.is_at(first, connection) {
                 return Some(first);
             }
         }
-        self.waiting.get_index_of(&number)
+        self.waiting.get_index_of(&connection)
     }
 
     // Whether the connection of a number stands at a place.
-    fn is_at(&self, i: usize, number: u32) -> bool
-        ensures { IsTrue result → IsEntry self.now.waiting.entries number i }
+    fn is_at(&self, i: usize, connection: u32) -> bool
+        ensures { IsTrue result → IsEntry self.now.waiting.entries connection i }
     {
         if i >= self.waiting.len() {
             return false;
         }
-        match self.number(i) {
-            Some(there) => there == number,
+        match self.connection_at(i) {
+            Some(there) => there == connection,
             None => false,
         }
     }
 
     /// A connection is opened, whose number is not there.
-    pub(crate) fn open(&mut self, alloc: Global, number: u32) -> Result<(), NoMemory>
-        requires { IsNoEntry self.old.waiting.entries number }
-        ensures { OnOk result (Opens number self.old self.new) }
+    pub(crate) fn open(&mut self, alloc: Global, connection: u32) -> Result<(), NoMemory>
+        requires { IsNoEntry self.old.waiting.entries connection }
+        ensures { OnOk result (Opens connection self.old self.new) }
     {
         let turned = fresh_session(alloc)?;
         let waiting = nothing_waits(alloc)?;
         self.sessions.push(turned)?;
-        let _ = self.waiting.insert(number, waiting)?;
+        let _ = self.waiting.insert(connection, waiting)?;
         Ok(())
     }
 

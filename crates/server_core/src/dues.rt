@@ -75,8 +75,8 @@ impl Clients {
         if !self.is_due(i) {
             return Ok(());
         }
-        match self.number(i) {
-            Some(number) => numbers.push(alloc, number),
+        match self.connection_at(i) {
+            Some(connection) => numbers.push(alloc, connection),
             None => Ok(()),
         }
     }

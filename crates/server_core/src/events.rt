@@ -41,16 +41,16 @@ fn take_settled<T: Threads + Sync, S: Sources>(
     ensures { IfOk result (TakesEvent (view_of server.old) (view_of server.new) (S.waves signals.old) (S.waves signals.new) event.now) }
 {
     match event {
-        Event::Opened(number) => {
-            server.open(alloc, *number)?;
+        Event::Opened(connection) => {
+            server.open(alloc, *connection)?;
             Ok(Outcome::Done)
         }
-        Event::Piece(number, bytes) => {
-            server.piece(alloc, *number, bytes.as_slice())?;
+        Event::Piece(connection, bytes) => {
+            server.piece(alloc, *connection, bytes.as_slice())?;
             Ok(Outcome::Done)
         }
-        Event::Closed(number) => {
-            server.end(*number);
+        Event::Closed(connection) => {
+            server.end(*connection);
             Ok(Outcome::Done)
         }
         Event::Tick(moment) => {
@@ -58,8 +58,8 @@ fn take_settled<T: Threads + Sync, S: Sources>(
             Ok(Outcome::Done)
         }
         Event::Reload(text) => server.reload(alloc, text.as_slice()),
-        Event::Writable(number) => {
-            server.writable(*number);
+        Event::Writable(connection) => {
+            server.writable(*connection);
             Ok(Outcome::Done)
         }
     }

@@ -3,9 +3,11 @@
 
 mod checking;
 mod clients;
+mod core_for_loop;
 mod delivering;
 mod device;
 mod dues;
+mod event_core;
 mod events;
 mod fresh;
 mod gate;
@@ -13,9 +15,7 @@ mod laws;
 mod outcome;
 mod reloading;
 mod rooms;
-mod served_core;
 mod server;
-mod serving;
 mod sources;
 mod summary;
 mod taking;
@@ -26,10 +26,10 @@ mod turned;
 mod waiting;
 
 pub use checking::check_all;
+pub use event_core::Core;
 pub use gate::{Gate, OpenGate};
 pub use laws::gone_connections_are_forgotten;
 pub use outcome::Outcome;
-pub use served_core::Core;
 pub use sources::Sources;
 pub use summary::Summary;
 pub use turned::Turned;

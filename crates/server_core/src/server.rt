@@ -41,17 +41,17 @@ impl Server {
     }
 
     /// A connection is opened; nothing changes where its number is there.
-    pub(crate) fn open(&mut self, alloc: Global, number: u32) -> Result<(), NoMemory>
+    pub(crate) fn open(&mut self, alloc: Global, connection: u32) -> Result<(), NoMemory>
         ensures follows { OnOk result ((waves : List Wave) (x : CoreState) → ServesEach (view_of self.old) waves x
-            → OpensNew x (event.Opened number)
-            → FollowsEach (view_of self.old) (view_of self.new) waves x (after_event x (event.Opened number))) }
+            → OpensNew x (event.Opened connection)
+            → FollowsEach (view_of self.old) (view_of self.new) waves x (after_event x (event.Opened connection))) }
         ensures some { OnOk result ((waves : List Wave) → ServesSome (view_of self.old) waves → ServesSome (view_of self.new) waves) }
         ensures notes { self.new.notes ≡ self.old.notes }
     {
-        match self.clients.place_of(number) {
+        match self.clients.place_of(connection) {
             Some(_) => Ok(()),
             None => {
-                self.clients.open(alloc, number)?;
+                self.clients.open(alloc, connection)?;
                 self.summary.count_connection();
                 Ok(())
             }
@@ -59,13 +59,18 @@ impl Server {
     }
 
     /// A piece of a connection comes in.
-    pub(crate) fn piece(&mut self, alloc: Global, number: u32, bytes: &[u8]) -> Result<(), NoMemory>
+    pub(crate) fn piece(
+        &mut self,
+        alloc: Global,
+        connection: u32,
+        bytes: &[u8],
+    ) -> Result<(), NoMemory>
         requires { IsServing (view_of self.old) }
         ensures follows { OnOk result ((waves : List Wave) (x : CoreState) → ServesEach (view_of self.old) waves x
-            → FollowsEach (view_of self.old) (view_of self.new) waves x (after_event x (event.Piece number bytes.now))) }
+            → FollowsEach (view_of self.old) (view_of self.new) waves x (after_event x (event.Piece connection bytes.now))) }
         ensures notes { self.new.notes ≡ self.old.notes }
     {
-        let Some(i) = self.clients.place_of(number) else {
+        let Some(i) = self.clients.place_of(connection) else {
             return Ok(());
         };
         self.clients.touched = self.clients.touched.with(i);
@@ -83,12 +88,12 @@ impl Server {
     }
 
     /// A connection is writable.
-    pub(crate) fn writable(&mut self, number: u32)
+    pub(crate) fn writable(&mut self, connection: u32)
         ensures follows { (waves : List Wave) (x : CoreState) → ServesEach (view_of self.old) waves x
-            → FollowsEach (view_of self.old) (view_of self.new) waves x (after_event x (event.Writable number)) }
+            → FollowsEach (view_of self.old) (view_of self.new) waves x (after_event x (event.Writable connection)) }
         ensures notes { self.new.notes ≡ self.old.notes }
     {
-        if let Some(i) = self.clients.place_of(number) {
+        if let Some(i) = self.clients.place_of(connection) {
             self.clients.touched = self.clients.touched.with(i);
             let waiting = &mut self.clients.waiting[i];
             waiting.free();
@@ -96,26 +101,26 @@ impl Server {
     }
 
     /// A connection is gone: it was closed, lost or shut.
-    pub(crate) fn end(&mut self, number: u32)
+    pub(crate) fn end(&mut self, connection: u32)
         ensures follows { (waves : List Wave) (x : CoreState) → ServesEach (view_of self.old) waves x
-            → FollowsEach (view_of self.old) (view_of self.new) waves x (after_event x (event.Closed number)) }
+            → FollowsEach (view_of self.old) (view_of self.new) waves x (after_event x (event.Closed connection)) }
         ensures notes { self.new.notes ≡ self.old.notes }
     {
-        if let Some(i) = self.clients.place_of(number) {
+        if let Some(i) = self.clients.place_of(connection) {
             self.clients.end_at(i);
         }
     }
 
     /// The first n bytes of what was offered to a connection were taken.
-    pub(crate) fn took(&mut self, number: u32, n: u32)
-        requires { IsSomeAnd (offer_among self.old.clients.waiting.entries number) (λ left. n ≤ length left) }
+    pub(crate) fn took(&mut self, connection: u32, n: u32)
+        requires { IsSomeAnd (offer_among self.old.clients.waiting.entries connection) (λ left. n ≤ length left) }
         ensures follows { (waves : List Wave) (x : CoreState) (left bytes : List ℕ) → ServesEach (view_of self.old) waves x
-            → offer_among self.old.clients.waiting.entries number ≡ Some left → length bytes ≡ n
-            → FollowsEach (view_of self.old) (view_of self.new) waves x (after_move x (move.Took number (length left) bytes)) }
-        ensures fewer { offers_among self.new.clients.waiting.entries number < offers_among self.old.clients.waiting.entries number }
+            → offer_among self.old.clients.waiting.entries connection ≡ Some left → length bytes ≡ n
+            → FollowsEach (view_of self.old) (view_of self.new) waves x (after_move x (move.Took connection (length left) bytes)) }
+        ensures fewer { offers_among self.new.clients.waiting.entries connection < offers_among self.old.clients.waiting.entries connection }
         ensures notes { self.new.notes ≡ self.old.notes }
     {
-        if let Some(i) = self.clients.place_of(number) {
+        if let Some(i) = self.clients.place_of(connection) {
             self.clients.touched = self.clients.touched.with(i);
             let waiting = &mut self.clients.waiting[i];
             waiting.took(n);
@@ -123,11 +128,11 @@ impl Server {
     }
 
     /// What is left of the first frame that waits for a connection, unless it is blocked.
-    pub(crate) fn offer_of(&self, number: u32) -> Option<&[u8]>
-        ensures offer { option_copied result ≡ offer_among self.now.clients.waiting.entries number }
+    pub(crate) fn offer_of(&self, connection: u32) -> Option<&[u8]>
+        ensures offer { option_copied result ≡ offer_among self.now.clients.waiting.entries connection }
         ensures bound { IfSome result (λ left. length left.now ≤ QUEUE_LIMIT) }
     {
-        let i = self.clients.place_of(number)?;
+        let i = self.clients.place_of(connection)?;
         let waiting = &self.clients.waiting[i];
         if waiting.blocked {
             return None;
@@ -136,10 +141,10 @@ impl Server {
     }
 
     /// Whether a connection that is there is to be shut.
-    pub(crate) fn closing(&self, number: u32) -> bool
-        ensures { (waves : List Wave) (x : CoreState) → ServesEach (view_of self.now) waves x → result ≡ is_to_be_shut_at number x }
+    pub(crate) fn closing(&self, connection: u32) -> bool
+        ensures { (waves : List Wave) (x : CoreState) → ServesEach (view_of self.now) waves x → result ≡ is_to_be_shut_at connection x }
     {
-        let Some(i) = self.clients.place_of(number) else {
+        let Some(i) = self.clients.place_of(connection) else {
             return false;
         };
         match self.clients.sessions.get(i) {
@@ -152,6 +157,6 @@ impl Server {
     pub(crate) fn connection(&self, n: usize) -> Option<u32>
         ensures { (waves : List Wave) (x : CoreState) → ServesEach (view_of self.now) waves x → result ≡ slice_get (present_numbers x.state) n }
     {
-        self.clients.number(n)
+        self.clients.connection_at(n)
     }
 }

@@ -16,12 +16,12 @@ returns-in_ok-piece-in-Piece g c =
     let old = view_of c.args.server.now in
     let new = view_of c.piece.new.self in
     let follows = subst (λ bytes. (x : CoreState) → ServesEach old waves x
-    → FollowsEach old new waves x (after_event x (event.Piece c.in-Piece.number bytes))) c.as_slice.ensures
+    → FollowsEach old new waves x (after_event x (event.Piece c.in-Piece.connection bytes))) c.as_slice.ensures
     (c.in_ok-piece-in-Piece.ensures.follows waves) in
     subst (λ (e : Event). TakesEvent old new waves waves e Done) (sym c.in-Piece.is)
-    (takes_plain old new waves waves (event.Piece c.in-Piece.number c.in-Piece.bytes)
-    (piece_plain c.in-Piece.number c.in-Piece.bytes) (λ x s opens. follows x s) c.piece.ensures.notes
-    (event_some old new waves waves (event.Piece c.in-Piece.number c.in-Piece.bytes) c.requires follows))
+    (takes_plain old new waves waves (event.Piece c.in-Piece.connection c.in-Piece.bytes)
+    (piece_plain c.in-Piece.connection c.in-Piece.bytes) (λ x s opens. follows x s) c.piece.ensures.notes
+    (event_some old new waves waves (event.Piece c.in-Piece.connection c.in-Piece.bytes) c.requires follows))
 
 pub returns-in-Closed : goal.returns-in-Closed
 returns-in-Closed g c =
@@ -30,8 +30,8 @@ returns-in-Closed g c =
     let new = view_of c.end.new.self in
     let follows = c.end.ensures.follows waves in
     subst (λ (e : Event). TakesEvent old new waves waves e Done) (sym c.in-Closed.is)
-    (takes_plain old new waves waves (event.Closed c.in-Closed.number) (closed_plain c.in-Closed.number) (λ x s opens. follows x s) c.end.ensures.notes
-    (event_some old new waves waves (event.Closed c.in-Closed.number) c.requires follows))
+    (takes_plain old new waves waves (event.Closed c.in-Closed.connection) (closed_plain c.in-Closed.connection) (λ x s opens. follows x s) c.end.ensures.notes
+    (event_some old new waves waves (event.Closed c.in-Closed.connection) c.requires follows))
 
 pub returns-in-Writable : goal.returns-in-Writable
 returns-in-Writable g c =
@@ -40,9 +40,9 @@ returns-in-Writable g c =
     let new = view_of c.writable.new.self in
     let follows = c.writable.ensures.follows waves in
     subst (λ (e : Event). TakesEvent old new waves waves e Done) (sym c.in-Writable.is)
-    (takes_plain old new waves waves (event.Writable c.in-Writable.number)
-    (writable_plain c.in-Writable.number) (λ x s opens. follows x s) c.writable.ensures.notes
-    (event_some old new waves waves (event.Writable c.in-Writable.number) c.requires follows))
+    (takes_plain old new waves waves (event.Writable c.in-Writable.connection)
+    (writable_plain c.in-Writable.connection) (λ x s opens. follows x s) c.writable.ensures.notes
+    (event_some old new waves waves (event.Writable c.in-Writable.connection) c.requires follows))
 
 pub returns-in_ok-tick-in-Tick : goal.returns-in_ok-tick-in-Tick
 returns-in_ok-tick-in-Tick g c =

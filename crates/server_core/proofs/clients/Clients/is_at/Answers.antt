@@ -6,5 +6,5 @@ use Rattle.server_core.proofs.clients.Clients.is_at.Goals as goal
 
 pub returns-in-Some : goal.returns-in-Some
 returns-in-Some c = λ same.
-    entry_of_key c.args.self.now.waiting.entries c.args.number c.args.i c.len.ensures.unique
-    (sym c.number.ensures ∙ c.in-Some.is ∙ ap (λ n. Some n) (eqb-true c.in-Some.there c.args.number same))
+    entry_of_key c.args.self.now.waiting.entries c.args.connection c.args.i c.len.ensures.unique
+    (sym c.connection_at.ensures ∙ c.in-Some.is ∙ ap (λ n. Some n) (eqb-true c.in-Some.there c.args.connection same))

@@ -10,17 +10,17 @@ use Rattle.server_core.proofs.server.Server.offer_of.Goals as goal
 pub returns-in_err-i-clause-offer : goal.returns-in_err-i-clause-offer
 returns-in_err-i-clause-offer c =
     ap option_copied c.from_residual.ensures
-    ∙ sym (read_absent offer_of_waiting None c.args.self.now.clients.waiting.entries c.args.number c.in_err-i.ensures.absent)
+    ∙ sym (read_absent offer_of_waiting None c.args.self.now.clients.waiting.entries c.args.connection c.in_err-i.ensures.absent)
 
 pub returns-then-waiting-clause-offer : goal.returns-then-waiting-clause-offer
 returns-then-waiting-clause-offer c =
     let w = c.index-waiting.result.now in
-    sym (read_at offer_of_waiting None c.args.self.now.clients.waiting.entries c.args.number c.in_ok-i.i w c.in_ok-i.ensures.found c.index-waiting.ensures
+    sym (read_at offer_of_waiting None c.args.self.now.clients.waiting.entries c.args.connection c.in_ok-i.i w c.in_ok-i.ensures.found c.index-waiting.ensures
     ∙ cond-true w.blocked None (front_of w.out) c.if-waiting.true)
 
 pub returns-clause-offer : goal.returns-clause-offer
 returns-clause-offer c =
     let w = c.index-waiting.result.now in
     front_is c.front.result w.out c.front.ensures.empty.0 c.front.ensures.first
-    ∙ sym (read_at offer_of_waiting None c.args.self.now.clients.waiting.entries c.args.number c.in_ok-i.i w c.in_ok-i.ensures.found c.index-waiting.ensures
+    ∙ sym (read_at offer_of_waiting None c.args.self.now.clients.waiting.entries c.args.connection c.in_ok-i.i w c.in_ok-i.ensures.found c.index-waiting.ensures
     ∙ cond-false w.blocked None (front_of w.out) c.if-waiting.false)

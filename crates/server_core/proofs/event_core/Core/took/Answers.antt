@@ -2,7 +2,7 @@ use Rattle.std.proofs.Common.{sym, subst}
 use Rattle.server_core.specs.ServerView.{view_of}
 use Rattle.server_core.specs.Serves.{CoreView, FitsOffer}
 use Rattle.server_core.proofs.CoreLemmas.{took_some}
-use Rattle.server_core.proofs.served_core.Core.took.Goals as goal
+use Rattle.server_core.proofs.event_core.Core.took.Goals as goal
 
 pub invariant_of-self : goal.invariant_of-self
 invariant_of-self g c = λ working.

@@ -3,7 +3,7 @@ use Rattle.ads_served.specs.Due.{LeavesOutIdle}
 use Rattle.ads_served.proofs.DueLemmas.{leaves_out_idle}
 use Rattle.server_core.specs.Serves.{CoreView, StandsAt}
 use Rattle.server_core.proofs.ReloadLemmas.{if_ok}
-use Rattle.server_core.proofs.serving.CoreServed.due.Goals as goal
+use Rattle.server_core.proofs.core_for_loop.CoreServed.due.Goals as goal
 
 pub returns-clause-due : goal.returns-clause-due
 returns-clause-due g c = if_ok c.due.result (λ numbers e. λ x s.

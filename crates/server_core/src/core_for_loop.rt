@@ -40,10 +40,6 @@ impl<S: Sources> Served for Core<S> {
         Ok(())
     }
 
-    fn connection(&self, n: usize) -> Option<u32> {
-        self.connection(n)
-    }
-
     fn due(&mut self, alloc: Global) -> Result<ListOf<u32>, NoMemory> {
         self.due(alloc)
     }

@@ -2,7 +2,7 @@ use Rattle.std.proofs.Common.{◌∙◌, sym, subst}
 use Rattle.server_core.specs.ServerView.{view_of}
 use Rattle.server_core.specs.Serves.{CoreView, Serves}
 use Rattle.server_core.proofs.OfferLemmas.{offer_is}
-use Rattle.server_core.proofs.served_core.Core.offer_of.Goals as goal
+use Rattle.server_core.proofs.event_core.Core.offer_of.Goals as goal
 
 pub returns-clause-machine : goal.returns-clause-machine
 returns-clause-machine g c = λ x s.

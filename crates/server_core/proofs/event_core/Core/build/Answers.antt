@@ -1,7 +1,7 @@
 use Rattle.server_core.specs.CoreState.{started}
 use Rattle.type_layout.specs.Descriptions.{description_of}
 use Rattle.server_core.proofs.CoreLemmas.{started_serves}
-use Rattle.server_core.proofs.served_core.Core.build.Goals as goal
+use Rattle.server_core.proofs.event_core.Core.build.Goals as goal
 
 pub invariant_of-result : goal.invariant_of-result
 invariant_of-result g c = λ e.

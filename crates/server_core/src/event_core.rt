@@ -157,13 +157,6 @@ impl<S: Sources> Core<S> {
         self.server.end(conn);
     }
 
-    /// The numbers of the connections that are there, in the order of opening.
-    pub fn numbers(&self, alloc: Global) -> Result<ListOf<u32>, NoMemory>
-        ensures { IfOk result (λ numbers. (x : CoreState) → Serves self.now x → numbers ≡ present_numbers x.state) }
-    {
-        self.server.clients.numbers(alloc)
-    }
-
     /// The numbers of the connections that have something to be offered or are to be shut, in the order of opening. It costs
     /// what events touched since they were last served: one connection, but for a tick and a reload. After want of memory
     /// `step` answers want of memory from then on.

@@ -5,7 +5,7 @@ use Rattle.server_core.specs.ServerView.{view_of}
 use Rattle.server_core.specs.Serves.{CoreView, Serves, Follows, FollowsEach}
 use Rattle.server_core.proofs.CoreLemmas.{follows_core, ended_some}
 use Rattle.server_core.proofs.ServeLemmas.{shut_is_closed, lost_is_closed}
-use Rattle.server_core.proofs.served_core.Core.remove.Goals as goal
+use Rattle.server_core.proofs.event_core.Core.remove.Goals as goal
 
 pub invariant_of-self : goal.invariant_of-self
 invariant_of-self g c = λ working.

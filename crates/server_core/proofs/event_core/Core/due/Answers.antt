@@ -2,7 +2,7 @@ use Rattle.std.proofs.Common.{◌∙◌, sym, subst}
 use Rattle.server_core.specs.ServerView.{view_of}
 use Rattle.server_core.specs.Serves.{CoreView, Serves}
 use Rattle.server_core.proofs.NumbersDue.{due_numbers_are}
-use Rattle.server_core.proofs.served_core.Core.due.Goals as goal
+use Rattle.server_core.proofs.event_core.Core.due.Goals as goal
 
 pub returns-in-Ok-clause-due : goal.returns-in-Ok-clause-due
 returns-in-Ok-clause-due g c = λ x s.
