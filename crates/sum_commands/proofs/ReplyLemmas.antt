@@ -1,5 +1,6 @@
 -- The reply of a sum: its results in front, and its data behind them.
 use Rattle.std.proofs.Common.{◌≡◌, ℕ, ◌*◌, List, ◌++◌, drop, refl, sym}
+use Rattle.std.specs.Prelude.{Result, Ok, Err, OnOk}
 use Rattle.std.proofs.lemmas.List.{append-nil}
 use Rattle.spec_formats.specs.Request.{Request}
 use Rattle.spec_machine.specs.Acts.{Outcome}
@@ -18,3 +19,8 @@ unfolding packed
 sum_reply-parts given leaves s form.Reads n bytes = refl
 sum_reply-parts given leaves s form.Writes n bytes = sym (append-nil _)
 sum_reply-parts given leaves s form.ReadWrites n bytes = refl
+
+-- what holds where a call is well, of one that was
+pub ok-given : {T E : Type 0} (r : Result T E) (x : T) (P : Type 0) → Ok x ≡ r → OnOk r P → P
+ok-given (Ok y) x P is said = said
+ok-given (Err e) x P is said = absurd (let no : ◌≡◌ {A = Result _ _} (Ok x) (Err e) = is in cc)

@@ -74,12 +74,10 @@ pub fn run_sum<P: PartService>(
         written: bytes_behind(bytes, form.heads(n)),
     };
     let before = out.len();
-    match put_reply(alloc, service, rest, n, len, out) {
+    let put = put_reply(alloc, service, rest, n, len, out);
+    match out.cut_back(before, put) {
         Ok(()) => Ok(Ok(())),
-        Err(no_memory) => {
-            out.cut(before);
-            Err(no_memory)
-        }
+        Err(no_memory) => Err(no_memory),
     }
 }
 
