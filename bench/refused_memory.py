@@ -1,7 +1,7 @@
 #!/usr/bin/env python3
 """Refused memory: each call for memory of a run fails in turn, alone and with all behind it, and the run must end as it does with memory, or with status 10; and
 then what it printed is a beginning of what it prints with memory, and behind it a beginning of `ads: memory`. The file of a run that keeps values must stand for what stood, or
-for what the run saves.
+for what the run saves; that of a run that records must have the rows that stood and a first part of those of the whole run, with their totals, as Python's sqlite3 reads them.
 
     python3 bench/refused_memory.py [--program PATH] [--most N] [--run WORD]
 
@@ -10,7 +10,9 @@ Build the program first: in crates/ads, `rt run -- selftest ../../examples/state
 """
 import argparse
 import os
+import shutil
 import socket
+import sqlite3
 import subprocess
 import sys
 import tempfile
@@ -20,12 +22,15 @@ HERE = os.path.dirname(os.path.abspath(__file__))
 sys.path.insert(0, HERE)
 import hostile  # noqa: E402
 import model  # noqa: E402
+import recorded  # noqa: E402
 import store  # noqa: E402
 from hostile import add, ask, head, read, state, sum_of, write  # noqa: E402
 
 PROGRAM = os.path.join(HERE, "..", "crates", "ads", "out", "ads")
 LINE = b"ads: memory\n"
 NAME = b"Main.count"
+RECORD = ["record", "Main.wave", "Main.count", "--mode", "change", "--cycle", "0", "--count", "4", "--store"]
+LOCAL = ["--local", "plant.toml", "--me", "192.168.0.9.1.1"]
 WATCH = ["watch", "Main.wave", "--mode", "change", "--cycle", "0", "--count", "3"]
 RUNS = {
     "a panel, a rig, and a plant that is described anew": ["replay", "plant.toml", "plant.script"],
@@ -46,6 +51,9 @@ RUNS = {
     "a relay between a panel and a rig": ["relay", "plant.toml", "relay.script"],
     "values that are kept, where nothing stood": ["keep", "plant.toml", "keep.script", "none.store"],
     "values that are kept, and come back": ["keep", "plant.toml", "change.script", "some.store"],
+    "samples that are recorded into a new file": [*RECORD, "none.db", *LOCAL],
+    "samples that are recorded on top of others": [*RECORD, "some.db", *LOCAL],
+    "samples that are recorded over a socket": [*RECORD, "none.db", "--to", "PEER", "--netid", "5.1.2.3.1.1", "--me", "192.168.0.9.1.1"],
     **{f"a client in the same process: {said}": [*words, "--local", "plant.toml", "--me", "192.168.0.9.1.1"] for said, words in {
         "name and version": ["info"], "the states": ["state"], "other states": ["control", "6", "0"],
         "a value": ["get", "Main.title"], "a value that is set": ["set", "Main.count", "7"], "a list": ["list"], "the leaves of an array": ["show", "Main.axis"],
@@ -138,6 +146,30 @@ BODIES = {
 }
 
 
+def rows_in(folder, name):
+    """The rows of a file of samples, which is whole; none where it is not there, or has no table."""
+    path = os.path.join(folder, name)
+    if not os.path.exists(path):
+        return []
+    try:
+        return recorded.whole(path)
+    except sqlite3.OperationalError as fault:
+        if "no such table" not in str(fault):
+            raise
+        return []
+
+
+def records_well(folder, words, before, all_rows):
+    """Whether the file of a recording has the rows that stood, and a first part of the others."""
+    if words[0] != "record":
+        return True
+    try:
+        rows = rows_in(folder, words[words.index("--store") + 1])
+    except (recorded.Differs, sqlite3.Error):
+        return False
+    return len(rows) >= before and rows == all_rows[:len(rows)]
+
+
 def stands_well(folder, words):
     """Whether the file of a run that keeps values stands for what stood, or for what the run saves."""
     if words[0] != "keep":
@@ -156,6 +188,12 @@ def ran(program, words, folder, shim, nth, on):
     for name, file in STORES.items():
         with open(os.path.join(folder, name), "wb") as it:
             it.write(file)
+    for name in ("none.db", "some.db"):
+        for end in ("", "-wal", "-shm"):
+            if os.path.exists(os.path.join(folder, name + end)):
+                os.remove(os.path.join(folder, name + end))
+            if os.path.exists(os.path.join(folder, "kept_" + name + end)):
+                shutil.copy(os.path.join(folder, "kept_" + name + end), os.path.join(folder, name + end))
     with open(tell, "wb") as it:
         it.write(bytes(8))
     given = {"LD_PRELOAD": shim, "FAIL_NTH": str(nth), "FAIL_TELL": tell, **({"FAIL_ON": "1"} if on else {})}
@@ -185,18 +223,23 @@ def main():
     peer.start()
     with tempfile.TemporaryDirectory() as folder:
         shim = built(folder)
+        subprocess.run([program, *RECORD, "kept_some.db", "--local", os.path.join(hostile.DATA, "..", "..", "..", "examples", "plant.toml"), *LOCAL[2:]], cwd=folder,
+                       stdout=subprocess.DEVNULL, check=True)
+        stood = len(rows_in(folder, "kept_some.db"))
         for said, words in written(folder).items():
             if given.run not in said:
                 continue
             words = [peer.where if word == "PEER" else word for word in words]
             status, out, calls = ran(program, words, folder, shim, 0, False)
+            rows = rows_in(folder, words[words.index("--store") + 1]) if words[0] == "record" else []
+            before = stood if "some.db" in words else 0
             counts, bad, tried = {True: 0, False: 0}, 0, 0
             for nth in range(1, calls + 1, -(-calls // given.most) or 1):
                 for on in (False, True):
                     one, printed, _ = ran(program, words, folder, shim, nth, on)
                     tried += 1
                     counts[one == 10] += 1
-                    if not fits(one, printed, (status, out)) or not stands_well(folder, words):
+                    if not fits(one, printed, (status, out)) or not stands_well(folder, words) or not records_well(folder, words, before, rows):
                         bad += 1
                         print(f"  {' '.join(words)}, call {nth}{' and all behind it' if on else ''}: status {one}, {len(printed)} bytes", file=sys.stderr)
             wrong += bad

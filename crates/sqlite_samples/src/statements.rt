@@ -45,6 +45,15 @@ pub fn add_to_total<'a, S: Alter>(
     time: &'a [u8],
     bytes: &'a [u8],
 ) -> Result<(), Error> {
+    // Nearly every sample has a greater number than all before it, and its name a total: then one statement does it.
+    let counted = run(
+        change,
+        "UPDATE total SET count = count + 1, last = ?2, time = ?3, bytes = ?4 WHERE name = ?1 AND last < ?2",
+        params![name, number, time, bytes],
+    )?;
+    if counted != 0 {
+        return Ok(());
+    }
     run(
         change,
         "INSERT OR IGNORE INTO total (name, count, last, time, bytes) VALUES (?1, 0, ?2, ?3, ?4)",
@@ -54,11 +63,6 @@ pub fn add_to_total<'a, S: Alter>(
         change,
         "UPDATE total SET count = count + 1 WHERE name = ?1",
         params![name],
-    )?;
-    run(
-        change,
-        "UPDATE total SET last = ?2, time = ?3, bytes = ?4 WHERE name = ?1 AND last < ?2",
-        params![name, number, time, bytes],
     )?;
     Ok(())
 }
