@@ -3,11 +3,18 @@
 
     python3 bench/wrong_bodies.py NAME..     at the top of a clone, for these crates
     python3 bench/wrong_bodies.py            for each crate that has such a folder, which takes hours
+    python3 bench/wrong_bodies.py --by COMMAND NAME..     the same by a command of one's own, one edit after another
+    python3 bench/wrong_bodies.py --table FOLDER          proves nothing: a table of what the files NAME.txt of a folder say, for docs/WRONG_BODIES.md
     python3 bench/wrong_bodies.py --look     proves nothing: tells which edits of must-fail/ and of wrong-bodies/ no longer apply
 
 An edit has the form of those in must-fail/: a line `file: src/lib.rt`, and pairs of lines `old: TEXT` and `new: TEXT`. The tree is copied into a scratch
 folder without what rt made; there the edits stand in must-fail/, alone, and `rt must-fail NAME` tries them. Nothing in the tree is changed. It begins with
 what `rt check` kept on this machine of the same crates, so check them first.
+
+With --by, edits of different functions are made together in a scratch copy, and `COMMAND NAME --only FUNCTION ..` is called there by the shell: as the check of
+one function rests on the contracts of others and not on their bodies, one call tries many edits. The command says of each function of the crate, as `rattle
+check` does, whether it is proved. An edit of which that call says nothing of its own is tried once more, alone; one outside of functions is tried by
+`COMMAND NAME`. Where WRONG_LOGS names a folder, what was printed is written there, and a file NAME.txt with a line an edit.
 
 It prints for each crate which edits the prover refuses, which are still proved (a contract is too weak there, or the edit means the same as before), which no
 longer apply or can't be read, and which were not tried. The status is 0 where all are refused.
@@ -18,6 +25,7 @@ import shutil
 import subprocess
 import sys
 import tempfile
+import time
 
 HEADS = (
     ("refused", "refused"),
@@ -55,6 +63,156 @@ def tried(names):
                 if found:
                     said[found[1], found[2]] = found[3]
     return said
+
+
+def scratch(room):
+    """Copies what a check reads of the tree, without edits."""
+    shutil.copytree("crates", f"{room}/crates", ignore=shutil.ignore_patterns("out", "must-fail", "wrong-bodies"))
+    for name in ("crates.txt", "HANDLES"):
+        if os.path.isfile(name):
+            shutil.copy(name, f"{room}/{name}")
+    subprocess.run(["git", "init", "-q", room], check=True)
+
+
+def called(command, room, seconds):
+    """Calls the command in the scratch copy; returns its status, what it printed, and how long it took. Status 124: it was ended."""
+    began = time.time()
+    how = {"cwd": room, "stdout": subprocess.PIPE, "stderr": subprocess.STDOUT, "text": True, "errors": "replace"}
+    with subprocess.Popen(command, shell=True, start_new_session=True, **how) as one:
+        try:
+            said = one.communicate(timeout=seconds)[0]
+            status = one.returncode
+        except subprocess.TimeoutExpired:
+            os.killpg(one.pid, 9)
+            said, status = one.communicate()[0], 124
+    return status, said, time.time() - began
+
+
+def function_at(crate, file, old):
+    """The function in whose body a text stands, as a check names it; None if it stands in none."""
+    with open(f"crates/{crate}/{file}", encoding="utf-8") as it:
+        text = it.read()
+    place = text.index(old)
+    heads = list(re.finditer(r"^( *)(?:pub(?:\([^)]*\))? )?(?:const )?(?:unsafe )?fn (\w+)", text[: place + len(old)], re.MULTILINE))
+    if not heads:
+        return None
+    head = heads[-1]
+    end = re.compile(rf"^{head[1]}}}", re.MULTILINE).search(text, head.end())
+    if end and end.start() < place:
+        return None
+    names = file[len("src/") : -len(".rt")].split("/")
+    if names == ["lib"] or names == ["main"]:
+        names = []
+    if names and names[-1] == "mod":
+        names = names[:-1]
+    if head[1]:
+        blocks = re.findall(r"^impl(?:<.*?>)? +(?:(\w+)(?:<[^{]*?>)? for )?&?(?:mut )?(\w+)", text[: head.start()], re.MULTILINE)
+        if not blocks:
+            return None
+        trait, name = blocks[-1]
+        names.append(f"{name}+{trait}" if trait else name)
+    return "::".join(names + [head[2]])
+
+
+def functions_of(crate, edit):
+    """The functions that an edit changes; None if it changes anything else."""
+    found = set()
+    for file, old, _ in pairs_of(edit):
+        name = function_at(crate, file, old) if file.startswith("src/") else None
+        if name is None:
+            return None
+        found.add(name)
+    return found
+
+
+def word_of(status, said, crate, functions):
+    """What a check says of an edit of these functions; None if it says nothing of its own."""
+    if status == 124:
+        return "NOT TRIED (it did not end in time)"
+    lines = dict(re.findall(rf"^fn {crate}::(\S+): (.*)", said, re.MULTILINE))
+    if functions is None:
+        bad = sorted(name for name, line in lines.items() if line != "proved")
+        return f"refused ({' '.join(bad)})" if bad else "NOT REFUSED" if status == 0 else None
+    told = [lines.get(name) for name in functions]
+    if any(line and line != "proved" and "it calls" not in line for line in told):
+        return f"refused ({' '.join(sorted(functions))})"
+    return "NOT REFUSED" if all(line == "proved" for line in told) else None
+
+
+def rounds_of(crate, edits):
+    """The edits in groups, each of edits of different functions; those of none of the functions come alone."""
+    rounds = []
+    for edit in edits:
+        functions = functions_of(crate, f"crates/{crate}/wrong-bodies/{edit}.edit")
+        group = None if functions is None else next((it for it in rounds if it[1] is not None and not it[1] & functions), None)
+        if group is None:
+            rounds.append(([edit], functions))
+        else:
+            group[0].append(edit)
+            group[1].update(functions)
+    return [names for names, _ in rounds]
+
+
+def one_round(command, crate, edits, room, logs):
+    """Makes these edits together, calls the command, and returns what it says of each."""
+    functions = {it: functions_of(crate, f"crates/{crate}/wrong-bodies/{it}.edit") for it in edits}
+    before = {}
+    for edit in edits:
+        for file, old in applied(f"crates/{crate}/wrong-bodies/{edit}.edit", f"{room}/crates/{crate}").items():
+            before.setdefault(file, old)
+    only = "".join(f" --only '{name}'" for it in edits for name in sorted(functions[it] or ()))
+    status, text, seconds = called(f"{command} {crate}{only}", room, 1200)
+    for file, old in before.items():
+        with open(file, "w", encoding="utf-8") as it:
+            it.write(old)
+    if logs:
+        with open(f"{logs}/{crate}.log", "a", encoding="utf-8") as it:
+            it.write(f"==== {' '.join(edits)}: status {status}, {seconds:.0f} s\n{text}\n")
+    return {it: word_of(status, text, crate, functions[it]) for it in edits}
+
+
+def tried_by(command, name, logs):
+    """Tries the edits of a crate by a command."""
+    said = {}
+
+    def tell(edit, word):
+        said[name, edit] = word
+        line = f"{name}/{edit}: {word}"
+        print(line, flush=True)
+        if logs:
+            with open(f"{logs}/{name}.txt", "a", encoding="utf-8") as it:
+                it.write(line + "\n")
+
+    with tempfile.TemporaryDirectory(prefix="wrong-bodies-") as room:
+        scratch(room)
+        left = []
+        for edit in edits_of(name):
+            why = why_not(f"crates/{name}/wrong-bodies/{edit}.edit", name)
+            if why:
+                tell(edit, f"BAD EDIT ({why})")
+            else:
+                left.append(edit)
+        for group in rounds_of(name, left):
+            words = one_round(command, name, group, room, logs)
+            for edit in group:
+                word = words[edit]
+                if word is None and len(group) > 1:
+                    word = one_round(command, name, [edit], room, logs)[edit]
+                tell(edit, word or "BAD EDIT (the check said nothing of it)")
+    return said
+
+
+def applied(edit, folder):
+    """Makes an edit in a crate's folder; returns each changed file with its text before."""
+    before = {}
+    for file, old, new in pairs_of(edit):
+        path = f"{folder}/{file}"
+        with open(path, encoding="utf-8") as it:
+            text = it.read()
+        before.setdefault(path, text)
+        with open(path, "w", encoding="utf-8") as it:
+            it.write(text.replace(old, new, 1))
+    return before
 
 
 def edits_of(name):
@@ -124,15 +282,54 @@ def look():
     return lacking
 
 
+def told_in(folder, crate):
+    """What the file of a crate says of each edit; the last line on an edit counts."""
+    path = f"{folder}/{crate}.txt"
+    if not os.path.isfile(path):
+        return {}
+    with open(path, encoding="utf-8") as it:
+        return dict(re.findall(rf"^{crate}/(\S+): (.*)$", it.read(), re.MULTILINE))
+
+
+def table(folder):
+    """Prints a table of what was tried, crate by crate."""
+    rows, sums = [], [0, 0, 0]
+    for crate in crates_with_edits():
+        edits, said = edits_of(crate), told_in(folder, crate)
+        of = {word: [it for it in edits if said.get(it, "NOT TRIED").startswith(word)] for _, word in HEADS}
+        lacking = [it for it in of["BAD EDIT"] + of["NOT TRIED"] if it in said]
+        tried = len(of["refused"]) + len(of["NOT REFUSED"])
+        if tried or lacking:
+            rest = " ".join(f"`{it}`" for it in of["NOT REFUSED"]) or "none"
+            rows.append(f"| {crate} | {len(edits)} | {len(of['refused'])} | {rest} | {' '.join(f'`{it}`' for it in lacking) or 'none'} |")
+        sums = [sums[0] + len(edits), sums[1] + len(of["refused"]), sums[2] + len(of["NOT REFUSED"])]
+    print("| crate | wrong bodies | refused | still proved | no longer apply, or not ended in time |")
+    print("|---|---|---|---|---|")
+    print("\n".join(rows))
+    print(f"| all, with those not tried | {sums[0]} | {sums[1]} | {sums[2]} | |")
+
+
 def main():
+    if sys.argv[1:2] == ["--table"] and len(sys.argv) == 3:
+        table(sys.argv[2])
+        return 0
     if sys.argv[1:] == ["--look"]:
         return 1 if look() else 0
-    names = sys.argv[1:] or crates_with_edits()
+    words = sys.argv[1:]
+    command = None
+    if words[:1] == ["--by"] and len(words) > 1:
+        command, words = words[1], words[2:]
+    names = words or crates_with_edits()
     lacking = [it for it in names if it not in crates_with_edits()]
     if lacking:
         print(f"no crates/NAME/wrong-bodies here for {' '.join(lacking)}")
         return 2
-    said = tried(names)
+    if command is None:
+        said = tried(names)
+    else:
+        said = {}
+        for name in names:
+            said.update(tried_by(command, name, os.environ.get("WRONG_LOGS")))
     return 1 if sum([told(name, said) for name in names]) else 0
 
 
