@@ -3,11 +3,11 @@
 ghost use Rattle.std.specs.Prelude.{◌≡◌, Err, None};
 ghost use Rattle.std.specs.Process.{exit_status};
 ghost use Rattle.ads_outside.specs.Rose.{Rose};
-ghost use Rattle.ads_run.specs.Ending.{line_alone};
-ghost use Rattle.ads_run.specs.Prints.{PrintsEnding};
+ghost use Rattle.run_tasks.specs.Ending.{line_alone};
+ghost use Rattle.run_tasks.specs.Prints.{PrintsEnding};
 ghost use Rattle.ads_run.specs.Program.{words_behind_name};
-ghost use Rattle.ads_run.specs.StatusTable.{number_of};
-ghost use Rattle.ads_run.specs.Tasks.{asked_task};
+ghost use Rattle.run_tasks.specs.StatusTable.{number_of};
+ghost use Rattle.run_tasks.specs.Tasks.{asked_task};
 
 use crate::real_outside::RealOutside;
 use ads_base::NoMemory;

@@ -1,61 +1,55 @@
 -- What the end of a run says of its cause.
 use Rattle.std.proofs.Common.{◌≡◌, rules, ℕ, List, Option, Some, None, inl, inr, subst, ap, sym, ◌∙◌, refl, zero, length}
-use Rattle.std.specs.Prelude.{◌≤◌, Bool, true, false, Result, Ok, Err, nat_lt, if◌then◌else◌}
+use Rattle.std.specs.Prelude.{◌≤◌}
 use Rattle.signals.specs.Wave.{Wave}
 use Rattle.ads_outside.specs.declared.end.End.{End}
 use Rattle.ads_outside.specs.declared.end.End.TheVariants as end
 use Rattle.ads_outside.specs.declared.listening.Listening.{Listening}
 use Rattle.ads_outside.specs.declared.moves.Move.{Move}
 use Rattle.ads_outside.specs.declared.named_file.NamedFile.{NamedFile}
-use Rattle.ads_outside.specs.Limit.{file_limit}
 use Rattle.ads_outside.specs.LinkState.{LinkState}
 use Rattle.ads_outside.specs.Named.{bytes_of}
 use Rattle.ads_outside.specs.Rose.{Rose, raised}
 use Rattle.ads_outside.specs.SinkState.{SinkState}
 use Rattle.ads_outside.specs.WireState.{WireHistory, listened}
 use Rattle.spec_plant.specs.Description.{Description}
-use Rattle.spec_machine.specs.ScriptLine.{ScriptLine}
 use Rattle.spec_rules.specs.TextVerdict.{TextVerdict, Described, Breaks, NoDocument, text_verdict}
-use Rattle.spec_server.specs.Server.{server_script}
 use Rattle.spec_store.specs.Slots.{Standing}
 use Rattle.serve_loop.specs.Leads.{events_in}
 use Rattle.serve_loop.specs.TurnTaken.{raised_by}
 use Rattle.serve_loop.proofs.EndLemmas.{events-after}
 use Rattle.serve_loop.proofs.TurnLemmas.{stops-after, ends-after}
 use Rattle.keep_play.specs.KeptSaves.{saves_of_play}
-use Rattle.ads_run.specs.declared.file_task.FileTask.{FileTask}
-use Rattle.ads_run.specs.declared.file_task.FileTask.TheVariants as file_task
-use Rattle.ads_run.specs.declared.status.Status.{Status}
-use Rattle.ads_run.specs.declared.status.Status.TheVariants as status
-use Rattle.ads_run.specs.declared.task.Task.{Task}
-use Rattle.ads_run.specs.declared.task.Task.TheVariants as task
+use Rattle.run_tasks.specs.declared.file_task.FileTask.{FileTask}
+use Rattle.run_tasks.specs.declared.status.Status.{Status}
+use Rattle.run_tasks.specs.declared.status.Status.TheVariants as status
+use Rattle.run_tasks.specs.declared.task.Task.{Task}
+use Rattle.run_tasks.specs.declared.task.Task.TheVariants as task
 use Rattle.cli_words.specs.declared.client_words.ClientWords.{ClientWords}
 use Rattle.cli_words.specs.declared.client_words.PeerWords.{PeerWords}
 use Rattle.cli_words.specs.declared.client_words.PeerWords.TheVariants as peer
 use Rattle.client_loop.specs.Called.{calling}
-use Rattle.ads_run.specs.declared.client_task.ClientTask.{ClientTask}
-use Rattle.ads_run.specs.Asking.{local_calling, call_asked, own_address, asked_address}
-use Rattle.ads_run.specs.BuiltIn.{built_in}
-use Rattle.ads_run.specs.declared.record_task.RecordTask.{RecordTask}
+use Rattle.run_tasks.specs.declared.client_task.ClientTask.{ClientTask}
+use Rattle.run_tasks.specs.Asking.{local_calling, call_asked, own_address, asked_address}
+use Rattle.run_tasks.specs.declared.record_task.RecordTask.{RecordTask}
 use Rattle.ads_run.specs.Causes.{CauseOfRecord, CauseOfAsking, CauseOfKeeping, CauseOfService, IsNoLinkEnd, HasCause, EndsOfWire, TakesAll, FailsOfWire}
-use Rattle.ads_run.specs.Ending.{Ending, line_alone}
+use Rattle.run_tasks.specs.Ending.{Ending, line_alone}
 use Rattle.ads_run.specs.Ends.{RunsSo, RunsBy}
-use Rattle.ads_run.specs.Keeping.{Keeping, EndsKeeping, PrintsKept, kept_ending, keeping}
-use Rattle.ads_run.specs.Prints.{PrintsEnding}
-use Rattle.ads_run.specs.Readings.{OverFiles}
-use Rattle.ads_run.specs.Service.{Service, ServedMachine, OfRelay, server_with, ending_after}
-use Rattle.ads_run.specs.Serving.{MakesMoves, PrintsAt, EndsService}
-use Rattle.ads_run.specs.RecordAsked.{recording_to, local_recording}
+use Rattle.run_tasks.specs.KeepAsked.{Keeping, keeping}
+use Rattle.file_run.specs.Keeping.{EndsKeeping, PrintsKept, kept_ending}
+use Rattle.run_tasks.specs.Prints.{PrintsEnding}
+use Rattle.run_tasks.specs.Readings.{OverFiles}
+use Rattle.run_tasks.specs.Service.{Service, ServedMachine, OfRelay, server_with, ending_after}
+use Rattle.file_run.specs.Serving.{MakesMoves, PrintsAt, EndsService}
+use Rattle.run_tasks.specs.RecordAsked.{recording_to, local_recording}
 use Rattle.ads_run.specs.RecordCauses.{CauseOfLocalRecording}
-use Rattle.ads_run.specs.Uses.{KeeperUse, Uses}
-use Rattle.ads_run.specs.Verdict.{verdict_of_recorded, verdict_of_recorded_text, verdict_of_record}
-use Rattle.ads_run.specs.Verdict.{Verdict, Play, ended, prints, over_server, over_relay, over_store, verdict_of_lines, verdict_of_script}
-use Rattle.ads_run.specs.Verdict.{verdict_of_description, verdict_of_file, verdict_of_described, verdict_of_both}
-use Rattle.ads_run.specs.Verdict.{verdict_of_migrated, verdict_of_served, verdict_of_service, verdict_of_file_task, verdict_of_task, verdict_of_called}
-use Rattle.ads_run.specs.Verdict.{verdict_of_local, verdict_of_ask}
-use Rattle.ads_run.proofs.RecordLemmas.{recording_facts}
+use Rattle.call_run.specs.CallUses.{KeeperUse}
+use Rattle.ads_run.specs.Uses.{Uses}
+use Rattle.run_tasks.specs.Verdict.{verdict_of_recorded, verdict_of_recorded_text, verdict_of_record, Verdict, ended, prints, over_store, verdict_of_file, verdict_of_served, verdict_of_service, verdict_of_task, verdict_of_called, verdict_of_local, verdict_of_ask}
+use Rattle.ads_run.proofs.RecordCauseLemmas.{recording_facts}
 use Rattle.ads_run.proofs.RecordLocalEnds.{local_recording_facts}
-use Rattle.ads_run.proofs.CallLemmas.{CallFacts, ending_told, told_facts, wanting_facts, unwritten_facts, call_facts, local_facts}
+use Rattle.ads_run.proofs.CallCauseLemmas.{CallFacts, ending_told, told_facts, wanting_facts, unwritten_facts, call_facts, local_facts}
+use Rattle.run_tasks.proofs.VerdictLemmas.{Holds, of_both, of_file, of_file_task}
 
 -- what the end of a run of a task says
 pub record Facts {O : Type 0} (asked : Option Task) (s : Status) (u : Uses O) : Type 0 where
@@ -218,71 +212,6 @@ service_facts service s out out_new wire wire_new (inr (inl (same, inl h))) =
 service_facts service s out out_new wire wire_new (inr (inl (same, inr h))) = wanting_facts (ServiceCause service.limit wire wire_new) s out out_new tt h.0
 service_facts service s out out_new wire wire_new (inr (inr h)) =
     run_facts service h.runs.ended h.runs.moves s out h.between out_new wire wire_new h.told.later.faults h.runs.wire h.runs.prints
-
--- what holds of each ending of a task that asks its files alone, and of one that was refused
-pub record Holds (P : Verdict → Type 0) : Type 0 where
-  pub prints_ : (text : List ℕ) → P (prints text)
-  pub bad : (number item : ℕ) → P (ended (status.BadDescription number item))
-  pub script : (n : ℕ) → P (ended (status.BadScript n))
-  pub unread : P (ended status.ReadFault)
-  pub long : P (ended status.TooLong)
-
-of_file : (P : Verdict → Type 0) (v : List ℕ → Verdict) (o : Option (List ℕ)) → P (ended status.ReadFault) → P (ended status.TooLong)
-    → ((bytes : List ℕ) → P (v bytes))
-    → P (verdict_of_file v o)
-of_file P v None unread long all = unread
-of_file P v (Some bytes) unread long all = go (nat_lt file_limit (length bytes))
-  where
-    go : (b : Bool) → P (if b then ended status.TooLong else v bytes)
-    go true = long
-    go false = all bytes
-
-of_lines : (P : Verdict → Type 0) → Holds P → (play : List ScriptLine → Verdict) → ((lines : List ScriptLine) → P (play lines))
-    → (r : Result (List ScriptLine) ℕ) → P (verdict_of_lines play r)
-of_lines P h play all (Ok lines) = all lines
-of_lines P h play all (Err n) = h.script n
-
-of_script : (P : Verdict → Type 0) → Holds P → (play : List ScriptLine → Verdict) → ((lines : List ScriptLine) → P (play lines))
-    → (o : Option (List ℕ)) → P (verdict_of_file (verdict_of_script play) o)
-of_script P h play all o = of_file P (verdict_of_script play) o h.unread h.long (λ bytes. of_lines P h play all (server_script bytes))
-
-of_check : (P : Verdict → Type 0) → Holds P → (v : TextVerdict) → P (verdict_of_description v)
-of_check P h (Described d) = h.prints_ _
-of_check P h (Breaks n item) = h.bad n item
-of_check P h NoDocument = h.bad 0 0
-
-of_described : (P : Verdict → Type 0) → Holds P → (play : Play) → ((d : Description) (lines : List ScriptLine) → P (play d lines))
-    → (script : Option (List ℕ)) (v : TextVerdict) → P (verdict_of_described play script v)
-of_described P h play all script (Described d) = of_script P h (play d) (all d) script
-of_described P h play all script (Breaks n item) = h.bad n item
-of_described P h play all script NoDocument = h.bad 0 0
-
-pub of_both : (P : Verdict → Type 0) → Holds P → (play : Play) → ((d : Description) (lines : List ScriptLine) → P (play d lines))
-    → (signals : ℕ) (description script : List ℕ) (first second : List NamedFile) → P (verdict_of_both signals play description script first second)
-of_both P h play all signals description script first second =
-    of_file P (λ bytes. verdict_of_described play (bytes_of second script) (text_verdict signals bytes)) (bytes_of first description) h.unread h.long
-    (λ bytes. of_described P h play all (bytes_of second script) (text_verdict signals bytes))
-
-of_migrated : (P : Verdict → Type 0) → Holds P → (bytes : List ℕ) (v : TextVerdict) → P (verdict_of_migrated bytes v)
-of_migrated P h bytes (Described d) = h.prints_ _
-of_migrated P h bytes (Breaks n item) = h.bad n item
-of_migrated P h bytes NoDocument = h.bad 0 0
-
-of_file_task : (P : Verdict → Type 0) → Holds P → (waves : List Wave) (t : FileTask) (first second : List NamedFile)
-    → P (verdict_of_file_task waves t first second)
-of_file_task P h waves (file_task.Selftest script) first second =
-    of_script P h (over_server waves built_in) (λ lines. h.prints_ _) (bytes_of first script)
-of_file_task P h waves (file_task.Check d) first second =
-    of_file P (λ bytes. verdict_of_description (text_verdict (length waves) bytes)) (bytes_of first d) h.unread h.long
-    (λ bytes. of_check P h (text_verdict (length waves) bytes))
-of_file_task P h waves (file_task.Replay d script) first second =
-    of_both P h (over_server waves) (λ x lines. h.prints_ _) (length waves) d script first second
-of_file_task P h waves (file_task.Relay d script) first second =
-    of_both P h over_relay (λ x lines. h.prints_ _) (length waves) d script first second
-of_file_task P h waves (file_task.Load n) first second = h.prints_ _
-of_file_task P h waves (file_task.Migrate d) first second =
-    of_file P (λ bytes. verdict_of_migrated bytes (text_verdict (length waves) bytes)) (bytes_of first d) h.unread h.long
-    (λ bytes. of_migrated P h bytes (text_verdict (length waves) bytes))
 
 file_facts : {O : Type 0} (t : FileTask) (s : Status) (u : Uses O) → Holds (λ v. RunsSo v s u → Facts (Some (task.OfFiles t)) s u)
 file_facts t s u =

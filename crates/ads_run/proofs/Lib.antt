@@ -1,23 +1,7 @@
-mod ToldLemmas
-pub mod PlayLemmas
-pub mod RelayPlayLemmas
-pub mod PromiseLemmas
-pub mod ReadingLemmas
-pub mod ReadLemmas
-pub mod EndLemmas
-pub mod CallLemmas
-pub mod LocalLemmas
-pub mod MachineLemmas
-pub mod ServiceLemmas
-pub mod TaskLemmas
-pub mod MigrationLemmas
-pub mod LoadLemmas
-pub mod RecordLemmas
-pub mod RecordedRows
-pub mod RecordLocalLemmas
+pub mod CallCauseLemmas
+pub mod RecordCauseLemmas
 pub mod RecordLocalEnds
 pub mod CauseLemmas
-pub mod KeepLemmas
 pub mod RunLemmas
 pub mod StoreLemmas
 pub mod RecordRunLemmas

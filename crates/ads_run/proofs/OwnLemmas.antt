@@ -11,23 +11,24 @@ use Rattle.ads_outside.specs.SinkState.{SinkState}
 use Rattle.ads_outside.specs.WireState.{WireHistory, listened}
 use Rattle.spec_store.specs.Slots.{Standing}
 use Rattle.keep_play.specs.KeptSaves.{saves_of_play}
-use Rattle.ads_run.specs.declared.status.Status.{Status}
-use Rattle.ads_run.specs.declared.status.Status.TheVariants as status
+use Rattle.run_tasks.specs.declared.status.Status.{Status}
+use Rattle.run_tasks.specs.declared.status.Status.TheVariants as status
 use Rattle.ads_run.specs.Causes.{IsOwnEnd, NothingFailed}
-use Rattle.ads_run.specs.Ending.{Ending, line_alone}
+use Rattle.run_tasks.specs.Ending.{Ending, line_alone}
 use Rattle.ads_run.specs.Ends.{RunsSo, RunsBy}
-use Rattle.ads_run.specs.Keeping.{Keeping, EndsKeeping, PrintsKept, kept_ending}
-use Rattle.ads_run.specs.Prints.{PrintsEnding}
-use Rattle.ads_run.specs.Readings.{OverFiles}
-use Rattle.ads_run.specs.Service.{Service, ending_after}
-use Rattle.ads_run.specs.Serving.{MakesMoves, PrintsAt, EndsService}
+use Rattle.run_tasks.specs.KeepAsked.{Keeping}
+use Rattle.file_run.specs.Keeping.{EndsKeeping, PrintsKept, kept_ending}
+use Rattle.run_tasks.specs.Prints.{PrintsEnding}
+use Rattle.run_tasks.specs.Readings.{OverFiles}
+use Rattle.run_tasks.specs.Service.{Service, ending_after}
+use Rattle.file_run.specs.Serving.{MakesMoves, PrintsAt, EndsService}
 use Rattle.ads_run.specs.Uses.{DiskUse, Uses}
-use Rattle.ads_run.specs.Verdict.{Verdict, Ends, Serves, Calls, CallsLocally, Keeps, Records, RecordsLocally}
-use Rattle.ads_run.proofs.CallLemmas.{own_call, own_local}
+use Rattle.run_tasks.specs.Verdict.{Verdict, Ends, Serves, Calls, CallsLocally, Keeps, Records, RecordsLocally}
+use Rattle.ads_run.proofs.CallCauseLemmas.{own_call, own_local}
 use Rattle.ads_run.proofs.CauseLemmas.{fault_cause}
-use Rattle.ads_run.proofs.RecordLemmas.{own_recording}
+use Rattle.ads_run.proofs.RecordCauseLemmas.{own_recording}
 use Rattle.ads_run.proofs.RecordLocalEnds.{own_local_recording}
-use Rattle.ads_run.proofs.ReadingLemmas.{map_files, rose_from}
+use Rattle.run_tasks.proofs.ReadingLemmas.{map_files, rose_from}
 
 -- where nothing failed, a run that was to end so does
 own_ending : (e : Ending) (s : Status) (out out_new : SinkState) → (Rose out.faults out_new.faults → ⊥) → PrintsEnding e s out out_new → (s ≡ e.status)

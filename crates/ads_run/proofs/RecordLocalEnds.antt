@@ -18,17 +18,17 @@ use Rattle.client_replies.specs.Stages.{end_meant}
 use Rattle.sample_store.specs.declared.keeper_open.KeeperOpen.{KeeperOpen}
 use Rattle.sample_store.specs.declared.keeper_open.KeeperOpen.TheVariants as open_
 use Rattle.sample_store.specs.Keeper.{KeeperState, Counts}
-use Rattle.ads_run.specs.declared.status.Status.{Status}
-use Rattle.ads_run.specs.declared.status.Status.TheVariants as status
-use Rattle.ads_run.specs.Asking.{LocalCalling}
-use Rattle.ads_run.specs.Calling.{status_of_call, status_of_loop, local_conversation}
-use Rattle.ads_run.specs.Recording.{MOST_ROWS, PrintsRecorded, BehindOpening}
-use Rattle.ads_run.specs.Recording.{AfterLocalRecord, EndsLocalRecorded, EndsLocalRecording}
+use Rattle.run_tasks.specs.declared.status.Status.{Status}
+use Rattle.run_tasks.specs.declared.status.Status.TheVariants as status
+use Rattle.run_tasks.specs.Asking.{LocalCalling}
+use Rattle.call_run.specs.Calling.{status_of_call, status_of_loop, local_conversation}
+use Rattle.call_run.specs.Recording.{MOST_ROWS, PrintsRecorded, BehindOpening}
+use Rattle.call_run.specs.Recording.{AfterLocalRecord, EndsLocalRecorded, EndsLocalRecording}
 use Rattle.ads_run.specs.RecordCauses.{CauseOfLocalRecording, IsEndOfLocalRecording, IsFull}
-use Rattle.ads_run.specs.Uses.{KeeperUse}
-use Rattle.ads_run.proofs.CallLemmas.{CallFacts, told_facts, wanting_facts, unwritten_facts, no_writing, no_usage, told_own, not_unwritten}
-use Rattle.ads_run.proofs.ReadingLemmas.{rose_from}
-use Rattle.ads_run.proofs.RecordLemmas.{same_faults, failed_at_opening, OwnEnd, own_or_memory, full_own, own_full}
+use Rattle.call_run.specs.CallUses.{KeeperUse}
+use Rattle.ads_run.proofs.CallCauseLemmas.{CallFacts, told_facts, wanting_facts, unwritten_facts, no_writing, no_usage, told_own, not_unwritten}
+use Rattle.run_tasks.proofs.ReadingLemmas.{rose_from}
+use Rattle.ads_run.proofs.RecordCauseLemmas.{same_faults, failed_at_opening, OwnEnd, own_or_memory, full_own, own_full}
 
 -- why a local recording ends with a status
 abbrev Cause : KeeperUse → Status → Type 0

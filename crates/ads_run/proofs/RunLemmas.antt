@@ -1,99 +1,66 @@
--- How a run ends that called no link, or a link alone.
-use Rattle.std.proofs.Common.{◌≡◌, ℕ, List, [], Option, Some, None, inl, inr, subst, ap, sym, refl, length, Bool, true, false, rules}
-use Rattle.std.specs.Prelude.{Err, nat_lt, if◌then◌else◌}
+-- How a run ends by what its commands leave, or for want of memory.
+use Rattle.std.proofs.Common.{◌≡◌, ℕ, List, [], Option, Some, None, inl, inr, subst, sym, refl}
 use Rattle.signals.specs.Wave.{Wave}
 use Rattle.ads_outside.specs.declared.link_move.LinkMove.{LinkMove}
 use Rattle.ads_outside.specs.declared.named_file.NamedFile.{NamedFile}
-use Rattle.ads_outside.specs.Limit.{file_limit}
 use Rattle.ads_outside.specs.LinkState.{LinkState}
-use Rattle.ads_outside.specs.Named.{bytes_of}
 use Rattle.ads_outside.specs.SinkState.{SinkState}
 use Rattle.ads_outside.specs.WireState.{WireHistory}
-use Rattle.spec_plant.specs.Description.{Description}
-use Rattle.spec_rules.specs.TextVerdict.{TextVerdict, Described, Breaks, NoDocument, text_verdict}
 use Rattle.client_loop.specs.Called.{Calling}
-use Rattle.symbol_file.specs.declared.fault.DescFault.{DescFault}
-use Rattle.symbol_file.specs.declared.fault.DescFault.TheVariants as fault
-use Rattle.symbol_file.specs.Reading.{answer_of}
 use Rattle.cli_words.specs.declared.client_words.ClientWords.{ClientWords}
 use Rattle.cli_words.specs.declared.client_words.PeerWords.{PeerWords}
-use Rattle.ads_run.specs.declared.client_task.ClientTask.{ClientTask}
-use Rattle.ads_run.specs.declared.outcome.Outcome.{Outcome}
-use Rattle.ads_run.specs.declared.status.Status.{Status}
-use Rattle.ads_run.specs.declared.status.Status.TheVariants as status
-use Rattle.ads_run.specs.declared.task.Task.{Task}
-use Rattle.ads_run.specs.declared.task.Task.TheVariants as task
-use Rattle.ads_run.specs.Asking.{LocalCalling, local_calling}
-use Rattle.ads_run.specs.Calling.{EndsCall, EndsLocalCall}
-use Rattle.ads_run.specs.Ending.{line_alone}
-use Rattle.ads_run.specs.Ends.{EndsSo, EndsBy, AsksSo, AsksBy, RunsSo, RunsBy}
-use Rattle.ads_run.specs.Outcomes.{IsOutcome, Decides, HasBytes, Finds, status_of_fault}
-use Rattle.ads_run.specs.Prints.{PutsMemoryLine, PrintsEnding}
-use Rattle.ads_run.specs.Readings.{OverFile, OverFiles}
-use Rattle.ads_run.specs.Tasks.{asked_task}
-use Rattle.ads_run.specs.Uses.{LinkUse, DiskUse, KeeperUse, Uses, link_used, used, uses}
-use Rattle.ads_run.specs.Verdict.{Verdict, Ends, Serves, Calls, CallsLocally, Keeps, Records, RecordsLocally}
-use Rattle.ads_run.specs.Verdict.{ended, verdict_of, verdict_of_task, verdict_of_file, verdict_of_called}
-use Rattle.ads_run.specs.Verdict.{verdict_of_local, verdict_of_ask}
-use Rattle.ads_run.proofs.EndLemmas.{ending_in}
-use Rattle.ads_run.proofs.KeepLemmas.{IsUntouched, never_kept}
-use Rattle.ads_run.proofs.RecordLemmas.{leaves_link}
-use Rattle.ads_run.proofs.ReadingLemmas.{map_file, map_files, at_bytes, decided_none}
+use Rattle.run_tasks.specs.declared.client_task.ClientTask.{ClientTask}
+use Rattle.run_tasks.specs.declared.status.Status.{Status}
+use Rattle.run_tasks.specs.declared.status.Status.TheVariants as status
+use Rattle.run_tasks.specs.declared.task.Task.{Task}
+use Rattle.run_tasks.specs.declared.task.Task.TheVariants as task
+use Rattle.call_run.specs.Calling.{EndsCall}
+use Rattle.run_tasks.specs.Ending.{line_alone}
+use Rattle.ads_run.specs.Ends.{RunsSo, RunsBy}
+use Rattle.run_tasks.specs.Prints.{PutsMemoryLine, PrintsEnding}
+use Rattle.run_tasks.specs.Readings.{OverFile, OverFiles}
+use Rattle.run_tasks.specs.Tasks.{asked_task}
+use Rattle.call_run.specs.CallUses.{LinkUse, KeeperUse, link_used, used}
+use Rattle.ads_run.specs.Uses.{DiskUse, Uses, uses}
+use Rattle.run_tasks.specs.Verdict.{Verdict, Ends, Serves, Calls, CallsLocally, Keeps, Records, RecordsLocally, verdict_of, verdict_of_task, verdict_of_ask, ended}
+use Rattle.file_run.proofs.KeepLemmas.{IsUntouched, never_kept}
+use Rattle.call_run.proofs.RecordLemmas.{leaves_link}
+use Rattle.run_tasks.proofs.ReadingLemmas.{map_files, map_file, over_first}
+use Rattle.call_run.proofs.AskLemmas.{never_asked, never_called}
+use Rattle.run_tasks.specs.EndsOr.{EndsOr, EndsOrBy}
 
--- a run that wanted memory before it called anything
-pub never_called : {O : Type 0} (x : Calling) (s : Status) (out out_new : SinkState) (told : O → List LinkMove → Type 0) (state : LinkState)
-    → s ≡ status.Memory → PutsMemoryLine out out_new → EndsCall x s out out_new (used told told state state)
-never_called x s out out_new told state is line = record {
-  answer = Err (record {});
-  between = out;
-  called = inl (record { same = refl; silent = refl; told = λ o log h. h });
-  later = record { faults = search rules; wants = search rules };
-  prints = (is, line);
-}
+-- a run that calls its files alone, or one thing more, ends as a run with its verdict
+or_as_run : {O X : Type 0} (kind : X → Verdict) (C : X → Type 0) (Still : Type 0) (v : Verdict) (s : Status) (u : Uses O)
+    → (Still → u.wire_new ≡ u.wire) → ((x : X) → C x → RunsSo (kind x) s u) → EndsOr kind C Still v s u.out u.out_new → RunsSo v s u
+or_as_run kind C Still v s u same all (inl h) = subst (λ w. RunsSo w s u) h.is (h.printed, same h.still)
+or_as_run kind C Still v s u same all (inr h) = subst (λ w. RunsSo w s u) h.is (all h.made h.comes)
 
-pub never_asked : (x : LocalCalling) (s : Status) (out out_new : SinkState) → s ≡ status.Memory → PutsMemoryLine out out_new → EndsLocalCall x s out out_new
-never_asked x s out out_new is line = record {
-  answer = Err (record {});
-  between = out;
-  called = inl refl;
-  later = record { faults = search rules; wants = search rules };
-  prints = (is, line);
-}
+by_as_run : {O X : Type 0} (kind : X → Verdict) (C : X → Type 0) (Still : Type 0) (v : Verdict) (failed : Type 0) (s : Status) (u : Uses O)
+    → (Still → u.wire_new ≡ u.wire) → ((x : X) → C x → RunsSo (kind x) s u) → EndsOrBy kind C Still v failed s u.out u.out_new → RunsBy v failed s u
+by_as_run kind C Still v failed s u same all (inl h) = inl (or_as_run kind C Still v s u same all h)
+by_as_run kind C Still v failed s u same all (inr h) = inr (h.0, or_as_run kind C Still (ended status.ReadFault) s u same all (inl h.1))
+
+pub files_as_run : {O X : Type 0} (kind : X → Verdict) (C : X → Type 0) (Still : Type 0) (held : Option (List NamedFile))
+    (v : List NamedFile → List NamedFile → Verdict) (failed : Type 0) (s : Status) (u : Uses O)
+    → (Still → u.wire_new ≡ u.wire) → ((x : X) → C x → RunsSo (kind x) s u)
+    → OverFiles held (λ first second. EndsOrBy kind C Still (v first second) failed s u.out u.out_new)
+    → OverFiles held (λ first second. RunsBy (v first second) failed s u)
+files_as_run kind C Still held v failed s u same all h =
+    map_files held (λ first second. EndsOrBy kind C Still (v first second) failed s u.out u.out_new) (λ first second. RunsBy (v first second) failed s u)
+    (λ first second k. by_as_run kind C Still (v first second) failed s u same all k) h
+
+-- the same of one file
+pub file_as_run : {O X : Type 0} (kind : X → Verdict) (C : X → Type 0) (Still : Type 0) (held : Option (List NamedFile)) (v : List NamedFile → Verdict)
+    (failed : Type 0) (s : Status) (u : Uses O) → (Still → u.wire_new ≡ u.wire) → ((x : X) → C x → RunsSo (kind x) s u)
+    → OverFile held (λ files. EndsOrBy kind C Still (v files) failed s u.out u.out_new) → OverFiles held (λ first second. RunsBy (v first) failed s u)
+file_as_run kind C Still held v failed s u same all h =
+    over_first held (λ files. RunsBy (v files) failed s u)
+    (map_file held (λ files. EndsOrBy kind C Still (v files) failed s u.out u.out_new) (λ files. RunsBy (v files) failed s u)
+    (λ files k. by_as_run kind C Still (v files) failed s u same all k) h)
 
 -- a disk and a keeper that were not called
 abbrev pub AreUntouched : DiskUse → KeeperUse → Type 0
 AreUntouched disk keeper = IsUntouched disk × (keeper.new ≡ keeper.old)
-
--- a run that called no link
-so_as_run : {O : Type 0} (v : Verdict) (s : Status) (out out_new : SinkState) (wire wire_new : WireHistory) (told : O → List LinkMove → Type 0)
-    (state : LinkState)
-    (disk : DiskUse) (keeper : KeeperUse) → AreUntouched disk keeper → EndsSo v s out out_new wire wire_new
-    → RunsSo v s (uses out out_new wire wire_new (used told told state state) disk keeper)
-so_as_run (Ends e) s out out_new wire wire_new told state disk keeper untouched h = h
-so_as_run (Serves service) s out out_new wire wire_new told state disk keeper untouched h = h
-so_as_run (Calls x) s out out_new wire wire_new told state disk keeper untouched h = never_called x s out out_new told state h.0.0 h.0.1
-so_as_run (CallsLocally x) s out out_new wire wire_new told state disk keeper untouched h = never_asked x s out out_new h.0.0 h.0.1
-so_as_run (Keeps x) s out out_new wire wire_new told state disk keeper untouched h = (never_kept x s out out_new disk untouched.0 h.0.0 h.0.1, h.1)
-so_as_run (Records x) s out out_new wire wire_new told state disk keeper untouched h = inl (leaves_link told state, (h.0.0, h.0.1, untouched.1))
-so_as_run (RecordsLocally x) s out out_new wire wire_new told state disk keeper untouched h = inl (h.0.0, h.0.1, untouched.1)
-
-by_as_run : {O : Type 0} (v : Verdict) (failed : Type 0) (s : Status) (out out_new : SinkState) (wire wire_new : WireHistory)
-    (told : O → List LinkMove → Type 0)
-    (state : LinkState) (disk : DiskUse) (keeper : KeeperUse) → AreUntouched disk keeper → EndsBy v failed s out out_new wire wire_new
-    → RunsBy v failed s (uses out out_new wire wire_new (used told told state state) disk keeper)
-by_as_run v failed s out out_new wire wire_new told state disk keeper untouched (inl h) =
-    inl (so_as_run v s out out_new wire wire_new told state disk keeper untouched h)
-by_as_run v failed s out out_new wire wire_new told state disk keeper untouched (inr h) = inr (h.0, h.1)
-
-pub ends_as_run : {O : Type 0} (held : Option (List NamedFile)) (v : List NamedFile → List NamedFile → Verdict) (failed : Type 0) (s : Status)
-    (out out_new : SinkState)
-    (wire wire_new : WireHistory) (told : O → List LinkMove → Type 0) (state : LinkState) (disk : DiskUse) (keeper : KeeperUse) → AreUntouched disk keeper
-    → OverFiles held (λ first second. EndsBy (v first second) failed s out out_new wire wire_new)
-    → OverFiles held (λ first second. RunsBy (v first second) failed s (uses out out_new wire wire_new (used told told state state) disk keeper))
-ends_as_run held v failed s out out_new wire wire_new told state disk keeper untouched h =
-    map_files held (λ first second. EndsBy (v first second) failed s out out_new wire wire_new)
-    (λ first second. RunsBy (v first second) failed s (uses out out_new wire wire_new (used told told state state) disk keeper))
-    (λ first second k. by_as_run (v first second) failed s out out_new wire wire_new told state disk keeper untouched k) h
 
 -- words that are no command are told so
 pub runs_usage : {O : Type 0} (held : Option (List NamedFile)) (waves : List Wave) (failed : Type 0) (s : Status) (out out_new : SinkState)
@@ -103,109 +70,12 @@ pub runs_usage : {O : Type 0} (held : Option (List NamedFile)) (waves : List Wav
 runs_usage None waves failed s out out_new wire link disk keeper printed = ([], [], inl (printed, refl))
 runs_usage (Some files) waves failed s out out_new wire link disk keeper printed = inl (printed, refl)
 
--- a run that called neither wire nor link
-asked_so : {O : Type 0} (v : Verdict) (s : Status) (out out_new : SinkState) (wire : WireHistory) (link : LinkUse O) (disk : DiskUse) (keeper : KeeperUse)
-    → AsksSo v s out out_new → RunsSo v s (uses out out_new wire wire link disk keeper)
-asked_so (Ends e) s out out_new wire link disk keeper h = (h, refl)
-asked_so (Serves service) s out out_new wire link disk keeper h = absurd h
-asked_so (Calls x) s out out_new wire link disk keeper h = absurd h
-asked_so (CallsLocally x) s out out_new wire link disk keeper h = h
-asked_so (Keeps x) s out out_new wire link disk keeper h = absurd h
-asked_so (Records x) s out out_new wire link disk keeper h = absurd h
-asked_so (RecordsLocally x) s out out_new wire link disk keeper h = absurd h
-
-asked_by : {O : Type 0} (v : Verdict) (failed : Type 0) (s : Status) (out out_new : SinkState) (wire : WireHistory) (link : LinkUse O) (disk : DiskUse)
-    (keeper : KeeperUse) → AsksBy v failed s out out_new → RunsBy v failed s (uses out out_new wire wire link disk keeper)
-asked_by v failed s out out_new wire link disk keeper (inl h) = inl (asked_so v s out out_new wire link disk keeper h)
-asked_by v failed s out out_new wire link disk keeper (inr h) = inr (h.0, (h.1, refl))
-
-pub asks_as_run : {O : Type 0} (held : Option (List NamedFile)) (v : List NamedFile → Verdict) (failed : Type 0) (s : Status) (out out_new : SinkState)
-    (wire : WireHistory) (link : LinkUse O) (disk : DiskUse) (keeper : KeeperUse) → OverFile held (λ files. AsksBy (v files) failed s out out_new)
-    → OverFiles held (λ first second. RunsBy (v first) failed s (uses out out_new wire wire link disk keeper))
-asks_as_run None v failed s out out_new wire link disk keeper h = (h.0, [], asked_by (v h.0) failed s out out_new wire link disk keeper h.1)
-asks_as_run (Some files) v failed s out out_new wire link disk keeper h = asked_by (v files) failed s out out_new wire link disk keeper h
-
 -- a run that called the link
 pub call_as_run : {O : Type 0} (held : Option (List NamedFile)) (x : Calling) (failed : Type 0) (s : Status) (u : Uses O)
     → EndsCall x s u.out u.out_new u.link
     → OverFiles held (λ first second. RunsBy (Calls x) failed s u)
 call_as_run None x failed s u h = ([], [], inl h)
 call_as_run (Some files) x failed s u h = inl h
-
--- a run that wanted memory asks by any verdict that it may have
-pub judged_without_memory : (waves : List Wave) (what : ClientTask) (client : ClientWords) (v : TextVerdict) (s : Status) (out out_new : SinkState)
-    → s ≡ status.Memory → PutsMemoryLine out out_new → AsksSo (verdict_of_called waves what client v) s out out_new
-judged_without_memory waves what client (Described d) s out out_new is line = never_asked (local_calling d waves what client) s out out_new is line
-judged_without_memory waves what client (Breaks n item) s out out_new is line = inr (inr (is, inl line))
-judged_without_memory waves what client NoDocument s out out_new is line = inr (inr (is, inl line))
-
-long_without_memory : (waves : List Wave) (what : ClientTask) (client : ClientWords) (bytes : List ℕ) (b : Bool) (failed : Type 0) (s : Status)
-    (out out_new : SinkState)
-    → s ≡ status.Memory → PutsMemoryLine out out_new → AsksBy (if b then ended status.TooLong else verdict_of_local waves what client bytes) failed s out
-    out_new
-long_without_memory waves what client bytes true failed s out out_new is line = inl (inr (inr (is, inl line)))
-long_without_memory waves what client bytes false failed s out out_new is line =
-    inl (judged_without_memory waves what client (text_verdict (length waves) bytes) s out out_new is line)
-
-file_without_memory : (waves : List Wave) (what : ClientTask) (client : ClientWords) (o : Option (List ℕ)) (failed : Type 0) (s : Status)
-    (out out_new : SinkState)
-    → s ≡ status.Memory → PutsMemoryLine out out_new → AsksBy (verdict_of_file (verdict_of_local waves what client) o) failed s out out_new
-file_without_memory waves what client None failed s out out_new is line = inl (inr (inr (is, inl line)))
-file_without_memory waves what client (Some bytes) failed s out out_new is line =
-    long_without_memory waves what client bytes (nat_lt file_limit (length bytes)) failed s out out_new is line
-
-pub asks_without_memory : (held : Option (List NamedFile)) (waves : List Wave) (what : ClientTask) (client : ClientWords) (name : List ℕ) (failed : Type 0)
-    (s : Status)
-    (out out_new : SinkState) → s ≡ status.Memory → PutsMemoryLine out out_new
-    → OverFile held (λ files. AsksBy (verdict_of_file (verdict_of_local waves what client) (bytes_of files name)) failed s out out_new)
-asks_without_memory None waves what client name failed s out out_new is line =
-    ([], file_without_memory waves what client (bytes_of [] name) failed s out out_new is line)
-asks_without_memory (Some files) waves what client name failed s out out_new is line =
-    file_without_memory waves what client (bytes_of files name) failed s out out_new is line
-
-asks_outcome : (v : Verdict) (o : Outcome) (s : Status) (out out_new : SinkState) → IsOutcome v o → PrintsEnding (ending_in o) s out out_new
-    → AsksSo v s out out_new
-asks_outcome v o s out out_new is printed = let P : Verdict → Type 0 = λ v. AsksSo v s out out_new in subst P is printed
-
-asks_decided : (v : Verdict) (failed : Type 0) (o : Outcome) (s : Status) (out out_new : SinkState) → PrintsEnding (ending_in o) s out out_new
-    → Decides v failed o
-    → AsksBy v failed s out out_new
-asks_decided v failed o s out out_new printed (inl is) = inl (asks_outcome v o s out out_new is printed)
-asks_decided v failed o s out out_new printed (inr fault) = inr (fault.0, asks_outcome (ended status.ReadFault) o s out out_new fault.1 printed)
-
--- a file that gave no bytes ends the run
-pub asks_unfound : (held : Option (List NamedFile)) (v : List ℕ → Verdict) (name : List ℕ) (failed : Type 0) (o : Outcome) (s : Status)
-    (out out_new : SinkState) → PrintsEnding (ending_in o) s out out_new → Finds held name failed (Err o)
-    → OverFile held (λ files. AsksBy (verdict_of_file v (bytes_of files name)) failed s out out_new)
-asks_unfound held v name failed o s out out_new printed finds =
-    map_file held (λ files. Decides (verdict_of_file v (bytes_of files name)) failed o)
-    (λ files. AsksBy (verdict_of_file v (bytes_of files name)) failed s out out_new)
-    (λ files d. asks_decided (verdict_of_file v (bytes_of files name)) failed o s out out_new printed d)
-    (decided_none held v name failed o finds)
-
--- a file that was read decides
-pub asks_found : (held : Option (List NamedFile)) (v : List ℕ → Verdict) (name bytes text : List ℕ) (failed : Type 0) (s : Status)
-    (out out_new : SinkState) → text ≡ bytes → OverFile held (HasBytes name bytes) → AsksSo (v text) s out out_new
-    → OverFile held (λ files. AsksBy (verdict_of_file v (bytes_of files name)) failed s out out_new)
-asks_found held v name bytes text failed s out out_new is has so =
-    let P : Verdict → Type 0 = λ verdict. AsksBy verdict failed s out out_new in
-    map_file held (HasBytes name bytes) (λ files. AsksBy (verdict_of_file v (bytes_of files name)) failed s out out_new)
-    (λ files h. subst P (sym (at_bytes v name bytes files h)) (subst P (ap v is) (inl so))) has
-
--- a description that is refused, and one that is asked
-pub asks_refused : (waves : List Wave) (what : ClientTask) (client : ClientWords) (bytes : List ℕ) (f : DescFault) (s : Status) (out out_new : SinkState)
-    → answer_of (Err f) ≡ text_verdict (length waves) bytes → PrintsEnding (line_alone (status_of_fault f)) s out out_new
-    → AsksSo (verdict_of_local waves what client bytes) s out out_new
-asks_refused waves what client bytes fault.Syntax s out out_new h printed =
-    subst (λ v. AsksSo (verdict_of_called waves what client v) s out out_new) h printed
-asks_refused waves what client bytes (fault.Rule number item) s out out_new h printed =
-    subst (λ v. AsksSo (verdict_of_called waves what client v) s out out_new) h printed
-
-pub asks_described : (waves : List Wave) (what : ClientTask) (client : ClientWords) (bytes : List ℕ) (d : Description) (s : Status) (out out_new : SinkState)
-    → Described d ≡ text_verdict (length waves) bytes → EndsLocalCall (local_calling d waves what client) s out out_new
-    → AsksSo (verdict_of_local waves what client bytes) s out out_new
-asks_described waves what client bytes d s out out_new h asked =
-    subst (λ v. AsksSo (verdict_of_called waves what client v) s out out_new) h asked
 
 -- how the task ends is how the words end that ask for it
 pub runs_as_asked : {O : Type 0} (held : Option (List NamedFile)) (waves : List Wave) (words : List (List ℕ)) (t : Option Task) (failed : Type 0) (s : Status)

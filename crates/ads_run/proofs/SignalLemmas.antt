@@ -2,7 +2,7 @@
 use Rattle.std.proofs.Common.{◌≡◌, ◌++◌, ◌∷◌, [], map, ℕ, List, ap, ◌∙◌, subst}
 use Rattle.ads_outside.specs.FilesState.{FilesState}
 use Rattle.signals.specs.Wave.{Wave}
-use Rattle.ads_run.specs.declared.status.Status.{Status}
+use Rattle.run_tasks.specs.declared.status.Status.{Status}
 use Rattle.ads_run.specs.Program.{RunsWith}
 use Rattle.ads_run.specs.Uses.{Uses}
 

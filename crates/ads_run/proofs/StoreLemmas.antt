@@ -7,15 +7,16 @@ use Rattle.spec_client.specs.Stages.{Done, Refused, BadPeer, BadValue, TimedOut}
 use Rattle.cli_words.specs.declared.client_words.ClientWords.{ClientWords}
 use Rattle.cli_words.specs.declared.client_words.PeerWords.{PeerWords}
 use Rattle.cli_words.specs.declared.client_words.PeerWords.TheVariants as peer
-use Rattle.ads_run.specs.declared.client_task.ClientTask.{ClientTask}
-use Rattle.ads_run.specs.declared.status.Status.{Status}
-use Rattle.ads_run.specs.declared.status.Status.TheVariants as status
-use Rattle.ads_run.specs.declared.task.Task.{Task}
-use Rattle.ads_run.specs.declared.task.Task.TheVariants as task
-use Rattle.ads_run.specs.Calling.{status_of_loop}
-use Rattle.ads_run.specs.declared.record_task.RecordTask.{RecordTask}
+use Rattle.run_tasks.specs.declared.client_task.ClientTask.{ClientTask}
+use Rattle.run_tasks.specs.declared.status.Status.{Status}
+use Rattle.run_tasks.specs.declared.status.Status.TheVariants as status
+use Rattle.run_tasks.specs.declared.task.Task.{Task}
+use Rattle.run_tasks.specs.declared.task.Task.TheVariants as task
+use Rattle.call_run.specs.Calling.{status_of_loop}
+use Rattle.run_tasks.specs.declared.record_task.RecordTask.{RecordTask}
 use Rattle.ads_run.specs.Causes.{CauseOfAsking, CauseOfRecord, HasCause, IsNoStoreEnd}
-use Rattle.ads_run.specs.Uses.{KeeperUse, Uses}
+use Rattle.call_run.specs.CallUses.{KeeperUse}
+use Rattle.ads_run.specs.Uses.{Uses}
 
 -- no call of a client ends by a disk or a keeper
 no_store_end : (e : LoopEnd) (s : Status) → s ≡ status_of_loop e → IsNoStoreEnd s

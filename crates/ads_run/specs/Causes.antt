@@ -12,18 +12,19 @@ use Rattle.cli_words.specs.declared.client_words.PeerWords.{PeerWords}
 use Rattle.cli_words.specs.declared.client_words.PeerWords.TheVariants as peer
 use Rattle.client_loop.specs.Called.{Calling, calling, over}
 use Rattle.client_loop.specs.LinkAfter.{history_over}
-use Rattle.ads_run.specs.declared.client_task.ClientTask.{ClientTask}
-use Rattle.ads_run.specs.declared.record_task.RecordTask.{RecordTask}
-use Rattle.ads_run.specs.declared.status.Status.{Status}
-use Rattle.ads_run.specs.declared.status.Status.TheVariants as status
-use Rattle.ads_run.specs.declared.task.Task.{Task}
-use Rattle.ads_run.specs.declared.task.Task.TheVariants as task
-use Rattle.ads_run.specs.Asking.{LocalCalling, call_asked, own_address, asked_address}
-use Rattle.ads_run.specs.Calling.{status_of_loop, local_conversation}
-use Rattle.ads_run.specs.RecordAsked.{recording_to}
+use Rattle.run_tasks.specs.declared.client_task.ClientTask.{ClientTask}
+use Rattle.run_tasks.specs.declared.record_task.RecordTask.{RecordTask}
+use Rattle.run_tasks.specs.declared.status.Status.{Status}
+use Rattle.run_tasks.specs.declared.status.Status.TheVariants as status
+use Rattle.run_tasks.specs.declared.task.Task.{Task}
+use Rattle.run_tasks.specs.declared.task.Task.TheVariants as task
+use Rattle.run_tasks.specs.Asking.{LocalCalling, call_asked, own_address, asked_address}
+use Rattle.call_run.specs.Calling.{status_of_loop, local_conversation}
+use Rattle.run_tasks.specs.RecordAsked.{recording_to}
 use Rattle.ads_run.specs.RecordCauses.{CauseOfRecording, CauseOfLocalRecording, IsEndOfRecording, IsEndOfLocalRecording, IsFull}
-use Rattle.ads_run.specs.Uses.{KeeperUse, Uses}
-use Rattle.ads_run.specs.Verdict.{Verdict, Ends, Serves, Calls, CallsLocally, Keeps, Records, RecordsLocally}
+use Rattle.call_run.specs.CallUses.{KeeperUse}
+use Rattle.ads_run.specs.Uses.{Uses}
+use Rattle.run_tasks.specs.Verdict.{Verdict, Ends, Serves, Calls, CallsLocally, Keeps, Records, RecordsLocally}
 
 -- whether a task is served over a wire
 abbrev pub is_service : Option Task → Bool
@@ -131,15 +132,6 @@ HasCause (Some (task.RelayServe description listen events)) s u = CauseOfService
 HasCause (Some (task.Keep description script store)) s u = CauseOfKeeping s u.disk.faults u.disk.faults_new
 HasCause (Some (task.Ask what client)) s u = CauseOfAsking what client client.peer s u.link.old u.link.new
 HasCause (Some (task.Record what)) s u = CauseOfRecord what what.client.peer s u.link.old u.link.new u.keeper
-
--- the words, the description or the script decided, or a file could not be read
-abbrev pub IsBeforeRun : Status → Type 0
-IsBeforeRun status.Usage = Unit {0}
-IsBeforeRun (status.BadDescription rule item) = Unit {0}
-IsBeforeRun (status.BadScript n) = Unit {0}
-IsBeforeRun status.ReadFault = Unit {0}
-IsBeforeRun status.TooLong = Unit {0}
-IsBeforeRun s = ⊥
 
 -- no reading, no piece of output, no start of the wire, no event and no call of the link, the disk or the keeper failed
 pub record NothingFailed {O : Type 0} (files files_new : FilesState) (u : Uses O) : Type 0 where

@@ -6,15 +6,15 @@ use Rattle.ads_outside.specs.Rose.{Rose}
 use Rattle.signals.specs.Wave.{Wave}
 use Rattle.spec_plant.specs.Description.{Description}
 use Rattle.spec_machine.specs.ScriptLine.{ScriptLine}
-use Rattle.ads_run.specs.declared.status.Status.{Status}
+use Rattle.run_tasks.specs.declared.status.Status.{Status}
 use Rattle.ads_run.specs.Causes.{IsOwnEnd, NothingFailed}
 use Rattle.ads_run.specs.Ends.{RunsBy}
-use Rattle.ads_run.specs.Migrated.{HasMigrated}
-use Rattle.ads_run.specs.Promises.{PlayKeepsPromises}
-use Rattle.ads_run.specs.Readings.{OverFiles}
-use Rattle.ads_run.specs.Tasks.{asked_task}
+use Rattle.file_run.specs.Migrated.{HasMigrated}
+use Rattle.file_run.specs.Promises.{PlayKeepsPromises}
+use Rattle.run_tasks.specs.Readings.{OverFiles}
+use Rattle.run_tasks.specs.Tasks.{asked_task}
 use Rattle.ads_run.specs.Uses.{Uses}
-use Rattle.ads_run.specs.Verdict.{verdict_of}
+use Rattle.run_tasks.specs.Verdict.{verdict_of}
 
 -- the words of a process behind the program's name; none where they could not be read
 abbrev pub words_behind_name : {E : Type 0} → Result (Vec (String Global)) E → List (List ℕ)

@@ -9,11 +9,11 @@ use Rattle.client_loop.specs.Called.{Calling, over}
 use Rattle.client_loop.specs.LinkAfter.{history_over}
 use Rattle.sample_store.specs.declared.keeper_open.KeeperOpen.TheVariants as open_
 use Rattle.sample_store.specs.Keeper.{KeeperState, Counts}
-use Rattle.ads_run.specs.declared.status.Status.{Status}
-use Rattle.ads_run.specs.declared.status.Status.TheVariants as status
-use Rattle.ads_run.specs.Asking.{LocalCalling}
-use Rattle.ads_run.specs.Calling.{status_of_loop, local_conversation}
-use Rattle.ads_run.specs.Recording.{MOST_ROWS}
+use Rattle.run_tasks.specs.declared.status.Status.{Status}
+use Rattle.run_tasks.specs.declared.status.Status.TheVariants as status
+use Rattle.run_tasks.specs.Asking.{LocalCalling}
+use Rattle.call_run.specs.Calling.{status_of_loop, local_conversation}
+use Rattle.call_run.specs.Recording.{MOST_ROWS}
 
 -- the table has so many rows that none is put
 pub record IsFull (rows : Option (List Row)) : Type 0 where

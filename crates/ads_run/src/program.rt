@@ -5,27 +5,28 @@ ghost use Rattle.ads_outside.specs.Rose.{Rose};
 ghost use Rattle.spec_plant.specs.Description as plant;
 ghost use Rattle.spec_machine.specs.ScriptLine.{ScriptLine};
 ghost use Rattle.spec_relay.specs.RelayPromises.{RelayPlayKeepsPromises};
-ghost use Rattle.ads_run.specs.Causes.{HasCause, IsBeforeRun, IsOwnEnd, NothingFailed, is_service};
-ghost use Rattle.ads_run.specs.Ending.{line_alone};
+ghost use Rattle.ads_run.specs.Causes.{HasCause, IsOwnEnd, NothingFailed, is_service};
+ghost use Rattle.run_tasks.specs.BeforeRun.{IsBeforeRun};
+ghost use Rattle.run_tasks.specs.Ending.{line_alone};
 ghost use Rattle.ads_run.specs.Ends.{RunsBy};
-ghost use Rattle.ads_run.specs.Migrated.{HasMigrated};
-ghost use Rattle.ads_run.specs.Prints.{PrintsEnding};
+ghost use Rattle.file_run.specs.Migrated.{HasMigrated};
+ghost use Rattle.run_tasks.specs.Prints.{PrintsEnding};
 ghost use Rattle.ads_run.specs.Program.{RunsWith, words_behind_name};
 ghost use Rattle.ads_run.specs.ProgramWaves.{program_waves};
-ghost use Rattle.ads_run.specs.Promises.{PlayKeepsPromises};
-ghost use Rattle.ads_run.specs.Readings.{OverFiles, ReadsFiles, asks_disk, asks_keeper, asks_link, reads_no_file};
-ghost use Rattle.ads_run.specs.RecordRows.{AddsRows};
-ghost use Rattle.ads_run.specs.Tasks.{asked_task};
-ghost use Rattle.ads_run.specs.Uses.{disk_used, keeper_used, link_used, uses};
-ghost use Rattle.ads_run.specs.Verdict.{verdict_of};
+ghost use Rattle.file_run.specs.Promises.{PlayKeepsPromises};
+ghost use Rattle.run_tasks.specs.Readings.{OverFiles, ReadsFiles, asks_disk, asks_keeper, asks_link, reads_no_file};
+ghost use Rattle.call_run.specs.RecordRows.{AddsRows};
+ghost use Rattle.run_tasks.specs.Tasks.{asked_task};
+ghost use Rattle.ads_run.specs.Uses.{disk_used, uses};
+ghost use Rattle.call_run.specs.CallUses.{keeper_used, link_used};
+ghost use Rattle.run_tasks.specs.Verdict.{verdict_of};
 
-use crate::ending::end_without_memory;
 use crate::program_signals::ProgramSignals;
-use crate::status::Status;
 use crate::top_call::run;
 use ads_base::NoMemory;
 use ads_outside::{Files, Link, Sink, Wire};
 use persist_store::Disk;
+use run_tasks::{Status, end_without_memory};
 use sample_store::Keeper;
 use signals::Signal;
 use std::alloc::Global;
@@ -34,7 +35,7 @@ use std::thread::Threads;
 
 /// `run` over the words of a process behind the program's name, with the signals that the program has: a ramp, a square and
 /// a table. Words that could not be read are no command; where memory was wanting for them, that is told.
-#[tactic(auto, using(crate::proofs::RecordedRows::adds_none))]
+#[tactic(auto, using(call_run::proofs::RecordedRows::adds_none))]
 pub fn run_program<T: Threads + Sync, F: Files, W: Wire, L: Link, S: Sink, D: Disk, K: Keeper>(
     rt: &T,
     alloc: Global,
@@ -116,7 +117,7 @@ pub fn run_program<T: Threads + Sync, F: Files, W: Wire, L: Link, S: Sink, D: Di
 }
 
 // The same. Nothing is called where memory is wanting for the words or the signals.
-#[tactic(auto, using(crate::proofs::RecordedRows::adds_none))]
+#[tactic(auto, using(call_run::proofs::RecordedRows::adds_none))]
 fn run_signals<T: Threads + Sync, F: Files, W: Wire, L: Link, S: Sink, D: Disk, K: Keeper>(
     rt: &T,
     alloc: Global,

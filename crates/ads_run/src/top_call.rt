@@ -1,37 +1,32 @@
 //! The top call: a command, from its words to its status.
 
-ghost use Rattle.std.specs.Prelude.{◌<◌, ◌^◌, ◌≡◌, ◌≢◌, length, List, ℕ, None, Some, true, false, map, string_bytes};
+ghost use Rattle.std.specs.Prelude.{◌<◌, ◌^◌, ◌≡◌, length, List, None, Some, true, false, map, string_bytes};
 ghost use Rattle.ads_outside.specs.Rose.{Rose};
 ghost use Rattle.spec_plant.specs.Description as plant;
 ghost use Rattle.spec_machine.specs.ScriptLine.{ScriptLine};
 ghost use Rattle.spec_relay.specs.RelayPromises.{RelayPlayKeepsPromises};
-ghost use Rattle.ads_run.specs.Causes.{HasCause, IsBeforeRun, IsOwnEnd, NothingFailed, is_service};
-ghost use Rattle.ads_run.specs.Ending.{line_alone};
+ghost use Rattle.ads_run.specs.Causes.{HasCause, IsOwnEnd, NothingFailed, is_service};
+ghost use Rattle.run_tasks.specs.BeforeRun.{IsBeforeRun};
+ghost use Rattle.run_tasks.specs.Ending.{line_alone};
 ghost use Rattle.ads_run.specs.Ends.{RunsBy};
-ghost use Rattle.ads_run.specs.Fits.{FitsTask};
-ghost use Rattle.ads_run.specs.Migrated.{HasMigrated};
-ghost use Rattle.ads_run.specs.Prints.{PrintsEnding};
-ghost use Rattle.ads_run.specs.Promises.{PlayKeepsPromises};
-ghost use Rattle.ads_run.specs.Readings.{OverFiles, ReadsFiles, asks_disk, asks_keeper, asks_link, reads_no_file};
-ghost use Rattle.ads_run.specs.RecordRows.{AddsRows};
-ghost use Rattle.ads_run.specs.Tasks.{asked_task};
-ghost use Rattle.ads_run.specs.Uses.{disk_used, keeper_used, link_used, uses};
-ghost use Rattle.ads_run.specs.Verdict.{verdict_of, verdict_of_task};
+ghost use Rattle.run_tasks.specs.Fits.{FitsTask};
+ghost use Rattle.file_run.specs.Migrated.{HasMigrated};
+ghost use Rattle.run_tasks.specs.Prints.{PrintsEnding};
+ghost use Rattle.file_run.specs.Promises.{PlayKeepsPromises};
+ghost use Rattle.run_tasks.specs.Readings.{OverFiles, ReadsFiles, asks_disk, asks_keeper, asks_link, reads_no_file};
+ghost use Rattle.call_run.specs.RecordRows.{AddsRows};
+ghost use Rattle.run_tasks.specs.Tasks.{asked_task};
+ghost use Rattle.ads_run.specs.Uses.{disk_used, uses};
+ghost use Rattle.call_run.specs.CallUses.{keeper_used, link_used};
+ghost use Rattle.run_tasks.specs.Verdict.{verdict_of, verdict_of_task};
 
-use crate::ask::{ask_locally, ask_over_link};
-use crate::commands::print_file_task;
-use crate::ending::{end_without_memory, print_and_end};
-use crate::keep::keep;
-use crate::last_line::USAGE_LINE;
-use crate::recording::record;
-use crate::relay_serve::serve_relay;
-use crate::serve::serve;
-use crate::status::Status;
-use crate::task::{Task, task_asked};
 use ads_base::NoMemory;
 use ads_outside::{Files, Link, Sink, Wire};
+use call_run::{ask_locally, ask_over_link, record};
 use cli_words::PeerWords;
+use file_run::{keep, print_file_task, serve, serve_relay};
 use persist_store::Disk;
+use run_tasks::{Status, Task, USAGE_LINE, end_without_memory, print_and_end, task_asked};
 use sample_store::Keeper;
 use server_core::Sources;
 use std::alloc::Global;
@@ -150,7 +145,7 @@ pub fn run<T: Threads + Sync, F: Files, W: Wire, L: Link, S: Sink, D: Disk, K: K
 }
 
 // The run of the task that the words ask for.
-#[tactic(auto, using(crate::proofs::RecordedRows::adds_none))]
+#[tactic(auto, using(call_run::proofs::RecordedRows::adds_none))]
 fn run_words<
     T: Threads + Sync,
     F: Files,
@@ -206,7 +201,7 @@ fn run_words<
 }
 
 // The run of a task.
-#[tactic(auto, using(crate::proofs::RecordedRows::adds_none))]
+#[tactic(auto, using(call_run::proofs::RecordedRows::adds_none))]
 fn run_task<T: Threads + Sync, F: Files, W: Wire, L: Link, S: Sink, D: Disk, K: Keeper, G: Sources>(
     rt: &T,
     alloc: Global,

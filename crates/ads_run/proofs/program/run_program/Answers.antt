@@ -4,14 +4,15 @@ use Rattle.ads_outside.specs.Rose.{Rose}
 use Rattle.spec_relay.proofs.PromiseLemmas.{relay_play_keeps_promises}
 use Rattle.ads_run.specs.Program.{words_behind_name}
 use Rattle.ads_run.specs.ProgramWaves.{program_waves}
-use Rattle.ads_run.specs.Tasks.{asked_task}
-use Rattle.ads_run.specs.Uses.{disk_used, keeper_used, link_used, uses}
-use Rattle.ads_run.specs.Verdict.{verdict_of}
+use Rattle.run_tasks.specs.Tasks.{asked_task}
+use Rattle.ads_run.specs.Uses.{disk_used, uses}
+use Rattle.call_run.specs.CallUses.{keeper_used, link_used}
+use Rattle.run_tasks.specs.Verdict.{verdict_of}
 use Rattle.ads_run.proofs.CauseLemmas.{cause_without_memory}
-use Rattle.ads_run.proofs.KeepLemmas.{untouched_same}
-use Rattle.ads_run.proofs.MigrationLemmas.{any_without_memory}
+use Rattle.file_run.proofs.KeepLemmas.{untouched_same}
+use Rattle.file_run.proofs.MigrationLemmas.{any_without_memory}
 use Rattle.ads_run.proofs.OwnLemmas.{own_without_memory}
-use Rattle.ads_run.proofs.PromiseLemmas.{play_keeps_promises}
+use Rattle.file_run.proofs.PromiseLemmas.{play_keeps_promises}
 use Rattle.ads_run.proofs.RunLemmas.{runs_untouched}
 use Rattle.ads_run.proofs.program.run_program.Goals as goal
 

@@ -3,13 +3,14 @@ use Rattle.std.proofs.Common.{map}
 use Rattle.std.specs.Prelude.{string_bytes}
 use Rattle.spec_relay.proofs.PromiseLemmas.{relay_play_keeps_promises}
 use Rattle.ads_outside.specs.Rose.{Rose}
-use Rattle.ads_run.specs.Tasks.{asked_task}
-use Rattle.ads_run.specs.Uses.{disk_used, keeper_used, link_used, uses}
-use Rattle.ads_run.specs.Verdict.{verdict_of}
+use Rattle.run_tasks.specs.Tasks.{asked_task}
+use Rattle.ads_run.specs.Uses.{disk_used, uses}
+use Rattle.call_run.specs.CallUses.{keeper_used, link_used}
+use Rattle.run_tasks.specs.Verdict.{verdict_of}
 use Rattle.ads_run.proofs.CauseLemmas.{facts_of}
 use Rattle.ads_run.proofs.OwnLemmas.{own_end}
 use Rattle.ads_run.proofs.StoreLemmas.{store_fault, keeper_fault}
-use Rattle.ads_run.proofs.PromiseLemmas.{play_keeps_promises}
+use Rattle.file_run.proofs.PromiseLemmas.{play_keeps_promises}
 use Rattle.ads_run.proofs.top_call.run.Goals as goal
 
 pub returns-clause-usage : goal.returns-clause-usage

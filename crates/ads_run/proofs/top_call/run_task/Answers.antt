@@ -1,19 +1,20 @@
 -- The task's own run.
-use Rattle.std.proofs.Common.{length, refl}
+use Rattle.std.proofs.Common.{◌≡◌, length, refl}
 use Rattle.ads_outside.specs.Named.{bytes_of}
 use Rattle.ads_outside.specs.Rose.{Rose}
 use Rattle.client_loop.specs.Called.{calling}
 use Rattle.cli_words.specs.declared.client_words.PeerWords.TheVariants as peer
-use Rattle.ads_run.specs.declared.task.Task.TheVariants as task
-use Rattle.ads_run.specs.Asking.{asked_address, call_asked, own_address}
-use Rattle.ads_run.specs.Ends.{EndsBy}
-use Rattle.ads_run.specs.Service.{OfRelay}
-use Rattle.ads_run.specs.Uses.{disk_used, keeper_used, link_used, uses}
-use Rattle.ads_run.specs.Verdict.{over_store, verdict_of_both, verdict_of_file, verdict_of_file_task, verdict_of_serve, verdict_of_service, verdict_of_local}
-use Rattle.ads_run.proofs.CallLemmas.{call_not_before}
-use Rattle.ads_run.proofs.KeepLemmas.{keeps_as_run}
-use Rattle.ads_run.proofs.ReadingLemmas.{over_first}
-use Rattle.ads_run.proofs.RunLemmas.{ends_as_run, asks_as_run, call_as_run, runs_of_task, runs_of_peer}
+use Rattle.run_tasks.specs.declared.task.Task.TheVariants as task
+use Rattle.run_tasks.specs.Asking.{asked_address, call_asked, own_address}
+use Rattle.call_run.specs.Calling.{EndsLocalCall}
+use Rattle.file_run.specs.Keeping.{EndsKeeping}
+use Rattle.file_run.specs.Serving.{EndsService}
+use Rattle.run_tasks.specs.Service.{OfRelay}
+use Rattle.ads_run.specs.Uses.{disk_used, uses}
+use Rattle.call_run.specs.CallUses.{keeper_used, link_used}
+use Rattle.run_tasks.specs.Verdict.{CallsLocally, Keeps, Serves, over_store, verdict_of_both, verdict_of_file, verdict_of_file_task, verdict_of_serve, verdict_of_service, verdict_of_local}
+use Rattle.call_run.proofs.CallLemmas.{call_not_before}
+use Rattle.ads_run.proofs.RunLemmas.{call_as_run, file_as_run, files_as_run, runs_of_task, runs_of_peer}
 use Rattle.ads_run.proofs.RecordRunLemmas.{records_as_run}
 use Rattle.ads_run.proofs.top_call.run_task.Goals as goal
 
@@ -27,11 +28,10 @@ returns-in-OfFiles-clause-ends g c =
     let out = g.S.Sink.state c.args.out.now in
     let out_new = g.S.Sink.state c.print_file_task.new.out in
     let wire = (g.W.Wire.state c.args.wire.now).history in
-    runs_of_task held waves c.args.task.now (task.OfFiles c.in-OfFiles.task) failed c.print_file_task.result
-    (uses out out_new wire wire (link_used g.L.Link.tells g.L.Link.state c.args.link.now c.args.link.now) disk keeper) c.in-OfFiles.is
-    (ends_as_run held (λ first second. verdict_of_file_task waves c.in-OfFiles.task first second) failed c.print_file_task.result out out_new wire wire
-    (g.L.Link.tells c.args.link.now) (g.L.Link.state c.args.link.now) disk keeper
-    (g.met.D.Disk.only_now c.args.disk.now, refl) (c.print_file_task.ensures.ends wire))
+    let u = uses out out_new wire wire (link_used g.L.Link.tells g.L.Link.state c.args.link.now c.args.link.now) disk keeper in
+    runs_of_task held waves c.args.task.now (task.OfFiles c.in-OfFiles.task) failed c.print_file_task.result u c.in-OfFiles.is
+    (files_as_run Serves (λ x. ⊥) (Unit {0}) held (λ first second. verdict_of_file_task waves c.in-OfFiles.task first second) failed
+    c.print_file_task.result u (λ t. refl) (λ x h. absurd h) c.print_file_task.ensures.ends)
 
 pub returns-in-Serve-clause-ends : goal.returns-in-Serve-clause-ends
 returns-in-Serve-clause-ends g c =
@@ -44,15 +44,11 @@ returns-in-Serve-clause-ends g c =
     let out_new = g.S.Sink.state c.serve.new.out in
     let wire = (g.W.Wire.state c.args.wire.now).history in
     let wire_new = (g.W.Wire.state c.serve.new.wire).history in
-    runs_of_task held waves c.args.task.now (task.Serve c.in-Serve.description c.in-Serve.listen c.in-Serve.events) failed c.serve.result
-    (uses out out_new wire wire_new (link_used g.L.Link.tells g.L.Link.state c.args.link.now c.args.link.now) disk keeper) c.in-Serve.is
-    (ends_as_run held (λ first second. verdict_of_file (verdict_of_serve waves c.in-Serve.description c.in-Serve.listen c.in-Serve.events)
-    (bytes_of first c.in-Serve.description)) failed c.serve.result out out_new wire wire_new
-    (g.L.Link.tells c.args.link.now) (g.L.Link.state c.args.link.now) disk keeper (g.met.D.Disk.only_now c.args.disk.now, refl)
-    (over_first held
-    (λ files. EndsBy (verdict_of_file (verdict_of_serve waves c.in-Serve.description c.in-Serve.listen c.in-Serve.events)
-    (bytes_of files c.in-Serve.description)) failed c.serve.result out out_new wire wire_new)
-    c.serve.ensures.ends))
+    let u = uses out out_new wire wire_new (link_used g.L.Link.tells g.L.Link.state c.args.link.now c.args.link.now) disk keeper in
+    runs_of_task held waves c.args.task.now (task.Serve c.in-Serve.description c.in-Serve.listen c.in-Serve.events) failed c.serve.result u c.in-Serve.is
+    (file_as_run Serves (λ x. EndsService x c.serve.result out out_new wire wire_new) (wire_new ≡ wire) held
+    (λ files. verdict_of_file (verdict_of_serve waves c.in-Serve.description c.in-Serve.listen c.in-Serve.events)
+    (bytes_of files c.in-Serve.description)) failed c.serve.result u (λ same. same) (λ x h. h) c.serve.ensures.ends)
 
 pub returns-in-RelayServe-clause-ends : goal.returns-in-RelayServe-clause-ends
 returns-in-RelayServe-clause-ends g c =
@@ -65,16 +61,13 @@ returns-in-RelayServe-clause-ends g c =
     let out_new = g.S.Sink.state c.serve_relay.new.out in
     let wire = (g.W.Wire.state c.args.wire.now).history in
     let wire_new = (g.W.Wire.state c.serve_relay.new.wire).history in
+    let u = uses out out_new wire wire_new (link_used g.L.Link.tells g.L.Link.state c.args.link.now c.args.link.now) disk keeper in
     runs_of_task held waves c.args.task.now (task.RelayServe c.in-RelayServe.description c.in-RelayServe.listen c.in-RelayServe.events) failed
-    c.serve_relay.result (uses out out_new wire wire_new (link_used g.L.Link.tells g.L.Link.state c.args.link.now c.args.link.now) disk keeper)
-    c.in-RelayServe.is
-    (ends_as_run held (λ first second. verdict_of_file (verdict_of_service (length waves) OfRelay c.in-RelayServe.description
-    c.in-RelayServe.listen c.in-RelayServe.events) (bytes_of first c.in-RelayServe.description)) failed c.serve_relay.result out out_new wire wire_new
-    (g.L.Link.tells c.args.link.now) (g.L.Link.state c.args.link.now) disk keeper (g.met.D.Disk.only_now c.args.disk.now, refl)
-    (over_first held
-    (λ files. EndsBy (verdict_of_file (verdict_of_service (length waves) OfRelay c.in-RelayServe.description
-    c.in-RelayServe.listen c.in-RelayServe.events) (bytes_of files c.in-RelayServe.description)) failed c.serve_relay.result out out_new wire wire_new)
-    c.serve_relay.ensures.ends))
+    c.serve_relay.result u c.in-RelayServe.is
+    (file_as_run Serves (λ x. EndsService x c.serve_relay.result out out_new wire wire_new) (wire_new ≡ wire) held
+    (λ files. verdict_of_file (verdict_of_service (length waves) OfRelay c.in-RelayServe.description
+    c.in-RelayServe.listen c.in-RelayServe.events) (bytes_of files c.in-RelayServe.description)) failed c.serve_relay.result u (λ same. same) (λ x h. h)
+    c.serve_relay.ensures.ends)
 
 pub returns-in-To-clause-ends : goal.returns-in-To-clause-ends
 returns-in-To-clause-ends g c =
@@ -111,9 +104,9 @@ returns-in-Local-clause-ends g c =
     let u = uses out out_new wire wire link disk keeper in
     runs_of_task held waves c.args.task.now (task.Ask what client) failed c.ask_locally.result u c.in-Ask.is
     (runs_of_peer held waves what client (peer.Local c.in-Local.description) failed c.ask_locally.result u c.in-Local.is
-    (asks_as_run held (λ first. verdict_of_file (verdict_of_local waves what client) (bytes_of first c.in-Local.description)) failed c.ask_locally.result out
-    out_new wire link disk keeper
-    c.ask_locally.ensures.ends))
+    (file_as_run CallsLocally (λ x. EndsLocalCall x c.ask_locally.result out out_new) (Unit {0}) held
+    (λ files. verdict_of_file (verdict_of_local waves what client) (bytes_of files c.in-Local.description)) failed c.ask_locally.result u
+    (λ t. refl) (λ x h. h) c.ask_locally.ensures.ends))
 
 pub returns-in-To-clause-before_run : goal.returns-in-To-clause-before_run
 returns-in-To-clause-before_run g c = λ before. absurd
@@ -134,10 +127,11 @@ returns-in-Keep-clause-ends g c =
     let out_new = g.S.Sink.state c.keep.new.out in
     let wire = (g.W.Wire.state c.args.wire.now).history in
     let link = link_used g.L.Link.tells g.L.Link.state c.args.link.now c.args.link.now in
-    runs_of_task held waves c.args.task.now (task.Keep c.in-Keep.description c.in-Keep.script c.in-Keep.store) failed c.keep.result
-    (uses out out_new wire wire link disk keeper) c.in-Keep.is
-    (keeps_as_run held (verdict_of_both (length waves) (over_store waves) c.in-Keep.description c.in-Keep.script) failed c.keep.result out out_new wire link
-    disk keeper c.keep.ensures.ends)
+    let u = uses out out_new wire wire link disk keeper in
+    runs_of_task held waves c.args.task.now (task.Keep c.in-Keep.description c.in-Keep.script c.in-Keep.store) failed c.keep.result u c.in-Keep.is
+    (files_as_run Keeps (λ x. EndsKeeping x c.keep.result out out_new disk) (Unit {0}) held
+    (verdict_of_both (length waves) (over_store waves) c.in-Keep.description c.in-Keep.script) failed c.keep.result u (λ t. refl) (λ x h. (h, refl))
+    c.keep.ensures.ends)
 
 pub returns-in-Record-clause-ends : goal.returns-in-Record-clause-ends
 returns-in-Record-clause-ends g c =

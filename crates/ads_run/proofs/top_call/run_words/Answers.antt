@@ -2,10 +2,11 @@
 use Rattle.std.proofs.Common.{map, sym, ◌∙◌, length, refl}
 use Rattle.std.specs.Prelude.{string_bytes, Some, None}
 use Rattle.ads_outside.specs.Rose.{Rose}
-use Rattle.ads_run.specs.Tasks.{asked_task}
-use Rattle.ads_run.specs.Uses.{disk_used, keeper_used, link_used, uses}
-use Rattle.ads_run.specs.Verdict.{verdict_of}
-use Rattle.ads_run.proofs.MigrationLemmas.{of_task, any_without_memory}
+use Rattle.run_tasks.specs.Tasks.{asked_task}
+use Rattle.ads_run.specs.Uses.{disk_used, uses}
+use Rattle.call_run.specs.CallUses.{keeper_used, link_used}
+use Rattle.run_tasks.specs.Verdict.{verdict_of}
+use Rattle.file_run.proofs.MigrationLemmas.{of_task, any_without_memory}
 use Rattle.ads_run.proofs.RunLemmas.{runs_as_asked, runs_usage, runs_without_memory}
 use Rattle.ads_run.proofs.top_call.run_words.Goals as goal
 

@@ -1,0 +1,7 @@
+pub mod CallLemmas
+pub mod AskLemmas
+pub mod LocalLemmas
+pub mod RecordLemmas
+pub mod RecordedRows
+pub mod RecordLocalLemmas
+pub mod RecordEndLemmas

@@ -1,0 +1,22 @@
+-- The recording over the link to the core is the local one.
+use Rattle.std.proofs.Common.{refl, ap, List, ℕ}
+use Rattle.spec_formats.specs.Header.{AmsAddress}
+use Rattle.run_tasks.specs.RecordAsked.{local_recording, recording_to}
+use Rattle.call_run.specs.CallUses.{keeper_used}
+use Rattle.call_run.proofs.CallLemmas.{same_calling}
+use Rattle.call_run.proofs.RecordLemmas.{recording_not_before}
+use Rattle.call_run.proofs.RecordLocalLemmas.{local_recording_ends}
+use Rattle.call_run.proofs.record_locally.record_link.Goals as goal
+
+pub returns-clause-ends : goal.returns-clause-ends
+returns-clause-ends g c = λ d waves told net.
+    let at : List ℕ → AmsAddress = λ n. record { net = n; port = c.args.what.now.client.port } in
+    local_recording_ends (local_recording d waves c.args.what.now) _ (recording_to c.args.what.now c.args.net _) c.record_over.result _ _
+    (g.S.Sink.state c.args.out.now) (g.S.Sink.state c.record_over.new.out)
+    (keeper_used g.K.Keeper.state c.args.keeper.now c.record_over.new.keeper)
+    (λ n. same_calling _ _ _ _ _ _ _ _ refl (ap at net) refl refl) (λ n. told) c.record_over.ensures.ends
+
+pub returns-clause-run : goal.returns-clause-run
+returns-clause-run g c = λ before.
+    recording_not_before (recording_to c.args.what.now c.args.net _) c.record_over.result (g.S.Sink.state c.args.out.now)
+    (g.S.Sink.state c.record_over.new.out) _ (keeper_used g.K.Keeper.state c.args.keeper.now c.record_over.new.keeper) c.record_over.ensures.ends before

@@ -1,0 +1,5 @@
+pub mod ReadingLemmas
+pub mod ReadLemmas
+pub mod VerdictLemmas
+pub mod EndLemmas
+pub mod TaskLemmas

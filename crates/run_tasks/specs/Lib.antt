@@ -1,0 +1,17 @@
+pub mod StatusTable
+pub mod Ending
+pub mod BuiltIn
+pub mod Tasks
+pub mod Report
+pub mod Load
+pub mod Asking
+pub mod Fits
+pub mod RecordAsked
+pub mod KeepAsked
+pub mod Prints
+pub mod BeforeRun
+pub mod Service
+pub mod Verdict
+pub mod Readings
+pub mod EndsOr
+pub mod Outcomes
