@@ -37,14 +37,18 @@ def main():
     given.add_argument("--rows", type=int, default=1_000_000)
     given = given.parse_args()
     program, count = os.path.abspath(given.program), given.rows
-    rows = "".join(f"| {k} Main.count {100000 * k} x2a000000\n" for k in range(1, count + 1))
-    plant = "file plant.toml\nfrom plant.toml\n"
-    words = f"words record Main.count --mode cycle --cycle 0 --count {count} --store s --local plant.toml --me 192.168.0.9.1.1\n"
-    record = f"# {count} samples in the same process.\n{words}{plant}status 0\nout\n| Main.count count {count} last {100000 * count} 42\nrows\n{rows}"
-    beside = f"# The same text beside a command that does nothing with it.\nwords selftest it.script\nfile it.script\nfile rows\n{rows}status 0\nout\n| connections 0 requests 0 replies 0 samples 0 reloads 0 0\n"
     with tempfile.TemporaryDirectory() as folder:
-        folder = pathlib.Path(folder)
+        folder, rows = pathlib.Path(folder), ""
         (folder / "plant.toml").write_bytes((DATA / "plant.toml").read_bytes())
+        # No file is longer than 16 MiB.
+        for part, first in enumerate(range(1, count + 1, 250_000)):
+            last = min(count, first + 249_999)
+            (folder / f"rows{part}").write_text("".join(f"{k} Main.count {100000 * k} x2a000000\n" for k in range(first, last + 1)))
+            rows += f"from rows{part}\n"
+        plant = "file plant.toml\nfrom plant.toml\n"
+        words = f"words record Main.count --mode cycle --cycle 0 --count {count} --store s --local plant.toml --me 192.168.0.9.1.1\n"
+        record = f"# {count} samples in the same process.\n{words}{plant}status 0\nout\n| Main.count count {count} last {100000 * count} 42\nrows\n{rows}"
+        beside = f"# The same text beside a command that does nothing with it.\nwords selftest it.script\nfile it.script\nfile rows\n{rows}status 0\nout\n| connections 0 requests 0 replies 0 samples 0 reloads 0 0\n"
         text, whole = (min(spent(program, folder, run) for _ in range(3)) for run in (beside, record))
     print(f"{count:,} samples into memory: {whole - text:.2f} s of the processor ({whole:.2f} with the reading of the wanted rows)")
     return 1 if whole - text >= 5 * count / 1_000_000 else 0
