@@ -11,5 +11,5 @@ mod TickingAll
 mod Leading
 mod Scenes
 mod Running
-mod LocalAnswers
-mod Beginnings
+pub mod LocalAnswers
+pub mod Beginnings
