@@ -134,7 +134,8 @@ def word_of(status, said, crate, functions):
         bad = sorted(name for name, line in lines.items() if line != "proved")
         return f"refused ({' '.join(bad)})" if bad else "NOT REFUSED" if status == 0 else None
     told = [lines.get(name) for name in functions]
-    if any(line and line != "proved" and "it calls" not in line for line in told):
+    # one that is not proved since it calls such a one, and for no goal of its own, is told nothing of
+    if any(line and line != "proved" and ("did not prove" in line or "it calls" not in line) for line in told):
         return f"refused ({' '.join(sorted(functions))})"
     return "NOT REFUSED" if all(line == "proved" for line in told) else None
 
@@ -301,12 +302,13 @@ def table(folder):
         tried = len(of["refused"]) + len(of["NOT REFUSED"])
         if tried or lacking:
             rest = " ".join(f"`{it}`" for it in of["NOT REFUSED"]) or "none"
-            rows.append(f"| {crate} | {len(edits)} | {len(of['refused'])} | {rest} | {' '.join(f'`{it}`' for it in lacking) or 'none'} |")
-        sums = [sums[0] + len(edits), sums[1] + len(of["refused"]), sums[2] + len(of["NOT REFUSED"])]
-    print("| crate | wrong bodies | refused | still proved | no longer apply, or not ended in time |")
-    print("|---|---|---|---|---|")
-    print("\n".join(rows))
-    print(f"| all, with those not tried | {sums[0]} | {sums[1]} | {sums[2]} | |")
+            bad = " ".join(f"`{it}`" for it in lacking) or "none"
+            rows.append(f"| {crate} | {len(edits)} | {tried} | {len(of['refused'])} | {rest} | {bad} |")
+        sums = [sums[0] + len(edits), sums[1] + tried, sums[2] + len(of["refused"])]
+    print("| crate | wrong bodies | tried | refused | still proved | no longer apply, or not ended in time |")
+    print("|---|---|---|---|---|---|")
+    print("".join(f"{row}\n" for row in rows), end="")
+    print(f"| all, with the crates not tried | {sums[0]} | {sums[1]} | {sums[2]} | | |")
 
 
 def main():
