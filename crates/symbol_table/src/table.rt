@@ -157,10 +157,7 @@ impl Table {
     {
         let before = out.len();
         let put = self.append_name(alloc, types, path, found.place.symbol, out);
-        if put.is_err() {
-            out.cut(before);
-        }
-        put
+        out.cut_back(before, put)
     }
 
     // After want of memory a part of the name may stand there.
