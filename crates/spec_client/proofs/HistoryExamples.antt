@@ -64,6 +64,8 @@ record HistoryRows : Type 0 where
       ≡ Sampled 1 1000 (42 ∷ 0 ∷ []) ∷ Ended 2 ∷ NotYet ∷ []
 
 history_rows : HistoryRows
-unfolding handle_parts ams_length_of is_header front_of packet_of behind_frame frames_from frames_of left_behind rest_of header_of reply_in reply_of sample_of samples_of stamp_of stamps_of notification_of free_id least_id without_first issued_by client_after_issue client_after_tick says_something packet_hearing packets_hearing next_hearing client_after_move client_after all_heard
+unfolding handle_parts ams_length_of is_header front_of packet_of behind_frame frames_from frames_of left_behind rest_of header_of reply_in reply_of
+    sample_of samples_of stamp_of stamps_of notification_of free_id least_id without_first issued_by client_after_issue client_after_tick
+    says_something packet_hearing packets_hearing next_hearing client_after_move client_after all_heard
 history_rows = record
     { first = refl; names = refl; at_most = refl; next = refl; out_of_order = refl; broken = refl; late = refl; in_time = refl; samples = refl }

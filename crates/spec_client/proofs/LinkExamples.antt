@@ -46,5 +46,8 @@ record LinkRows : Type 0 where
   closed_before : (over 5 (Bytes (take 7 state_reply) 6 ∷ Closed 6 ∷ [])).end ≡ Some (CallEnded (BadPeer peers.Closed))
 
 link_rows : LinkRows
-unfolding digits ams_length_of is_header front_of packet_of behind_frame frames_from frames_of left_behind rest_of text_in header_of notification_of reply_in reply_of free_id least_id without_first issued_by client_after_issue client_after_tick says_something packet_hearing packets_hearing next_hearing after_reply after_answer after_sample after_end after_heard begun runner_after_hearing given turn_within all_given turns_within conversation_after_turns conversation_going_on conversation_after conversation_after_all
+unfolding digits ams_length_of is_header front_of packet_of behind_frame frames_from frames_of left_behind rest_of text_in header_of notification_of
+    reply_in reply_of free_id least_id without_first issued_by client_after_issue client_after_tick says_something packet_hearing packets_hearing
+    next_hearing after_reply after_answer after_sample after_end after_heard begun runner_after_hearing given turn_within all_given turns_within
+    conversation_after_turns conversation_going_on conversation_after conversation_after_all
 link_rows = record { broken = refl; timed_out = refl; goes_on = refl; sent = refl; in_pieces = refl; closed = refl; closed_before = refl }

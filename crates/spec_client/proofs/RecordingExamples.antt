@@ -116,7 +116,8 @@ record RecordingRows : Type 0 where
       ≡ line (codes "a count 2 last 9 9") ++ line (codes "\\x00\\xff count 0")
 
 recording_rows : RecordingRows
-unfolding digits encode_with text_in reply_in reply_of is_entry entry_of form_of signed_text before_nul quoted_byte quoted text_of last_row total_of entries_in escaped after_deletion after_reply after_answer after_sample after_end after_heard begun
+unfolding digits encode_with text_in reply_in reply_of is_entry entry_of form_of signed_text before_nul quoted_byte quoted text_of last_row total_of
+    entries_in escaped after_deletion after_reply after_answer after_sample after_end after_heard begun
 recording_rows = record {
   whole = refl;
   early = refl;
