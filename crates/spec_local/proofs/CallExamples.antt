@@ -100,7 +100,22 @@ record CallRows : Type 0 where
       ∷ codes "Main.title 0x4040 72 8 0x1 STRING(7)" ∷ codes "Flags.bits 0x4020 0 1 0x0 BYTE" ∷ [])
 
 call_rows : CallRows
-unfolding name_behind comment_behind says_something type_size type_align ams_length_of is_header front_of packet_of behind_frame frames_from frames_of left_behind rest_of found_of part_behind type_text trees_behind trees_of byte_at with_byte text_in group_in group_of header_of sample_of samples_of stamp_of stamps_of notification_of byte_range bit_range size_range range_in range_of written_bytes reply_in reply_of request_in request_of is_entry entry_of is_fields after_sub_in after_subs_in is_entry_of_ads_formats_typeentryreading type_entry_of form_of signed_text before_nul quoted_byte quoted text_of memory_after_puts outcomes_of memory_after_acts client_after_acts answered_group read_write_group client_after client_after_reload ended_of produce produce_all connection_of put_back entry_of_part connection_after_tick connection_after_reload state_after_event grant_in is_released_in place_after handle_in with_released handles_after state_after_move state_after left_after blocked_after taken_of decide after_packet after_packets after_piece reach_of read_group is_kept memory_after_reload world_after_reload client_reloaded reply_in_forms outcome_in_all response_packet performed act_of grouped frames_of_samples samples_at watches_after_tick acts_of decide_request given_in_turn left_in_turn sum_refusal packed world_after_tick client_after_tick watches_after_reload ended_watches numbers_from name_at names_at content_of write_group control_act conversation_after_all issued_by client_after_issue client_after_tick_of_ads_client_client conversation_after_turns conversation_going_on conversation_after entries_in types_in packet_hearing packets_hearing next_hearing client_after_move client_after_of_ads_client_history all_heard type_named is_sound_elem leaves_of_elem escaped handle_parts after_reply after_answer runner_after_hearing given turn_within all_given turns_within after_sample after_end after_heard begun free_id without_first least_id unquoted made_value is_text_of value_of_text machine_after_pieces bytes_taken answer_after_tick local_answer scene_after scene_after_answers answers_in digits encode_with decode_pairs
+unfolding name_behind comment_behind says_something type_size type_align ams_length_of is_header front_of packet_of behind_frame frames_from frames_of
+    left_behind rest_of found_of part_behind type_text trees_behind trees_of byte_at with_byte text_in group_in group_of header_of sample_of
+    samples_of stamp_of stamps_of notification_of byte_range bit_range size_range range_in range_of written_bytes reply_in reply_of request_in
+    request_of is_entry entry_of is_fields after_sub_in after_subs_in is_entry_of_ads_formats_typeentryreading type_entry_of form_of signed_text
+    before_nul quoted_byte quoted text_of memory_after_puts outcomes_of memory_after_acts client_after_acts answered_group read_write_group
+    client_after client_after_reload ended_of produce produce_all connection_of put_back entry_of_part connection_after_tick connection_after_reload
+    state_after_event grant_in is_released_in place_after handle_in with_released handles_after state_after_move state_after left_after blocked_after
+    taken_of decide after_packet after_packets after_piece reach_of read_group is_kept memory_after_reload world_after_reload client_reloaded
+    reply_in_forms outcome_in_all response_packet performed act_of grouped frames_of_samples samples_at watches_after_tick acts_of decide_request
+    given_in_turn left_in_turn sum_refusal packed world_after_tick client_after_tick watches_after_reload ended_watches numbers_from name_at names_at
+    content_of write_group control_act conversation_after_all issued_by client_after_issue client_after_tick_of_ads_client_client
+    conversation_after_turns conversation_going_on conversation_after entries_in types_in packet_hearing packets_hearing next_hearing
+    client_after_move client_after_of_ads_client_history all_heard type_named is_sound_elem leaves_of_elem escaped handle_parts after_reply
+    after_answer runner_after_hearing given turn_within all_given turns_within after_sample after_end after_heard begun free_id without_first least_id
+    unquoted made_value is_text_of value_of_text machine_after_pieces bytes_taken answer_after_tick local_answer scene_after scene_after_answers
+    answers_in digits encode_with decode_pairs
 call_rows = record {
   get_number = refl;
   get_text = refl;
