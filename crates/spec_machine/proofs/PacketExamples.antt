@@ -55,8 +55,8 @@ closes text = is_closing_at 1 (state_after step start (opened 1 ∷ piece 1 (hex
 
 record PacketRows : Type 0 where
   -- a data length that is not the AMS length less 32; the connection goes on
-  data_length : asked (codes
-      "000021000000 0501020301015303 c0a8000901018980 0400040000000000 0000000001000000 00  000020000000 0501020301015303 c0a8000901018980 0400040000000000 0000000002000000")
+  data_length : asked (codes "000021000000 0501020301015303 c0a8000901018980 0400040000000000 0000000001000000 00  "
+      ++ codes "000020000000 0501020301015303 c0a8000901018980 0400040000000000 0000000002000000")
       ≡ hex (codes "000020000000 c0a8000901018980 0501020301015303 0400050000000000 0e00000001000000") ++ a 4 2 (codes "0000000005000000")
   -- a response is silent, other flags are not
   response : asked (codes "000020000000 0501020301015303 c0a8000901018980 0400050000000000 0000000001000000") ≡ []
@@ -65,8 +65,8 @@ record PacketRows : Type 0 where
   -- an unknown route closes without a reply
   no_route : asked (codes "000020000000 0501020301025303 0909090901018980 0400040000000000 0000000001000000") ≡ []
   -- a frame behind one that closes is not taken
-  nothing_behind : asked
-      (codes "000020000000 0501020301025303 0909090901018980 0400040000000000 0000000001000000  000020000000 0501020301015303 c0a8000901018980 0400040000000000 0000000002000000") ≡ []
+  nothing_behind : asked (codes "000020000000 0501020301025303 0909090901018980 0400040000000000 0000000001000000  "
+      ++ codes "000020000000 0501020301015303 c0a8000901018980 0400040000000000 0000000002000000") ≡ []
   no_route_closes : closes (codes "000020000000 0501020301025303 0909090901018980 0400040000000000 0000000001000000") ≡ true
   -- an unknown port; an unknown machine, also with an unknown port
   no_port : asked (codes "000020000000 0501020301015403 c0a8000901018980 0400040000000000 0000000001000000")
@@ -83,7 +83,16 @@ record PacketRows : Type 0 where
       ++ a 1 2 (codes "05070000 0000000000000000 0000000000000000 00000000")
 
 packet_rows : PacketRows
-unfolding ams_length_of is_header front_of packet_of behind_frame frames_from frames_of left_behind rest_of has_same_parts has_same_members part_behind type_align greatest_align type_size members_end type_depth greatest_depth found_of byte_at with_byte trees_behind trees_of type_text group_in group_of request_in request_of byte_range bit_range size_range range_in header_of written_bytes reply_in notes_of connection_after_tick connection_after_reload state_after_event state_after_move state_after given_in_turn left_in_turn sum_refusal packed handles_after_all memory_after_puts world_after_tick client_after_tick read_write_group act_of produce produce_all connection_of put_back grant_in is_released_in place_after handle_in with_released handles_after write_group control_act client_after client_after_reload ended_of watches_after_reload ended_watches name_behind comment_behind entry_of_part numbers_from name_at names_at content_of projection_of acts_of_packets acts_of_move acts_of_log acts_by_others reply_in_forms outcome_in_all response_packet performed grouped frames_of_samples samples_at watches_after_tick reach_of outcomes_of memory_after_acts client_after_acts is_kept memory_after_reload world_after_reload client_reloaded answered_group after_packet after_packets after_piece read_group acts_of decide_request decide digits
+unfolding ams_length_of is_header front_of packet_of behind_frame frames_from frames_of left_behind rest_of has_same_parts has_same_members
+    part_behind type_align greatest_align type_size members_end type_depth greatest_depth found_of byte_at with_byte trees_behind trees_of type_text
+    group_in group_of request_in request_of byte_range bit_range size_range range_in header_of written_bytes reply_in notes_of connection_after_tick
+    connection_after_reload state_after_event state_after_move state_after given_in_turn left_in_turn sum_refusal packed handles_after_all
+    memory_after_puts world_after_tick client_after_tick read_write_group act_of produce produce_all connection_of put_back grant_in is_released_in
+    place_after handle_in with_released handles_after write_group control_act client_after client_after_reload ended_of watches_after_reload
+    ended_watches name_behind comment_behind entry_of_part numbers_from name_at names_at content_of projection_of acts_of_packets acts_of_move
+    acts_of_log acts_by_others reply_in_forms outcome_in_all response_packet performed grouped frames_of_samples samples_at watches_after_tick
+    reach_of outcomes_of memory_after_acts client_after_acts is_kept memory_after_reload world_after_reload client_reloaded answered_group
+    after_packet after_packets after_piece read_group acts_of decide_request decide digits
 packet_rows = record {
   data_length = refl;
   response = refl;
