@@ -177,7 +177,9 @@ impl MemLink {
 
     // The address of a connection, and the moment that it answers unless it fails.
     fn note_connect(&mut self, to: &str, fails: bool, now: u64) -> Result<(), NoMemory>
-        ensures ok { OnOk result (self.new ≡ record self.old { log = self.old.log ++ (if fails then move.Refused to.now else move.Connected to.now now) ∷ [] }) }
+        ensures ok { OnOk result (self.new ≡ record self.old {
+          log = self.old.log ++ (if fails then move.Refused to.now else move.Connected to.now now) ∷ [];
+        }) }
         ensures no_memory { OnErr result (self.new ≡ self.old) }
     {
         let to = Octets::copy_of(self.alloc, to.as_bytes())?;
@@ -198,13 +200,8 @@ impl MemLink {
         let entry = Octets::copy_of(self.alloc, bytes)?;
         let before = self.sent.len();
         self.sent.put(self.alloc, bytes)?;
-        match self.log.push(self.alloc, LinkMove::Sent(entry)) {
-            Ok(()) => Ok(()),
-            Err(NoMemory) => {
-                self.sent.cut(before);
-                Err(NoMemory)
-            }
-        }
+        let noted = self.log.push(self.alloc, LinkMove::Sent(entry));
+        self.sent.cut_back(before, noted)
     }
 
     // So many bytes of what comes next, or all else of it, came.
