@@ -1,6 +1,7 @@
 //! The connections of a wire.
 
-ghost use Rattle.std.specs.Prelude.{◌≡◌, ◌≤◌, ◌<◌, ◌^◌, ◌∷◌, ◌++◌, ◌+◌, [], length, vec_len, nat_lt, true, false, IfOk, OnOk, IfSome, OnSome, IfNone, if◌then◌else◌};
+ghost use Rattle.std.specs.Prelude.{◌≡◌, ◌≤◌, ◌<◌, ◌^◌, ◌∷◌, ◌++◌, ◌+◌, [], length, vec_len, nat_lt};
+ghost use Rattle.std.specs.Prelude.{true, false, IfOk, OnOk, IfSome, OnSome, IfNone, if◌then◌else◌};
 ghost use Rattle.std.specs.List.{HoldsAt, list_any, remove};
 ghost use Rattle.ads_edge.specs.Came.{CameWithin};
 ghost use Rattle.ads_edge.specs.declared.connection.Connection.{Connection};
@@ -269,7 +270,9 @@ impl Peers {
     #[tactic(auto, using(crate::proofs::QueueLemmas::longer_same, crate::proofs::QueueLemmas::longer_one))]
     fn list_to_read(&mut self, place: usize, hung: bool) -> Result<(), NoMemory>
         ensures order { IsLongerBy self.old.to_read.items self.new.to_read.items }
-        ensures once { OnOk result (place < vec_len self.old.connections → HoldsAt (λ (c : Connection). self.new.to_read.items ≡ (if c.to_read then self.old.to_read.items else self.old.to_read.items ++ c.number ∷ [])) self.old.connections.items place) }
+        ensures once { OnOk result (place < vec_len self.old.connections
+            → HoldsAt (λ (c : Connection). self.new.to_read.items
+            ≡ (if c.to_read then self.old.to_read.items else self.old.to_read.items ++ c.number ∷ [])) self.old.connections.items place) }
         ensures flag { OnOk result (place < vec_len self.old.connections → HoldsAt (λ (c : Connection). c.to_read ≡ true) self.new.connections.items place) }
         ensures turns { self.new.turns ≡ self.old.turns }
         ensures to_send { self.new.to_send.items ≡ self.old.to_send.items }

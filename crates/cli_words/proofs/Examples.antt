@@ -23,12 +23,14 @@ no_such_option = refl
 -- serve p --listen=127.0.0.1:48898 --events 1000
 served : command_of (codes "serve" ∷ codes "p" ∷ codes "--listen=127.0.0.1:48898" ∷ codes "--events" ∷ codes "1000" ∷ [])
     ≡ Some (command.Serve (codes "p") (codes "127.0.0.1:48898") 1000)
-unfolding command_of form_of divided kind_of parted are_among options_of value_of command_in serve_in file_in file_of server_of number_at address_at address_of address_port stopped_bytes number_of digits
+unfolding command_of form_of divided kind_of parted are_among options_of value_of command_in serve_in file_in file_of server_of number_at address_at
+    address_of address_port stopped_bytes number_of digits
 served = refl
 
 -- serve p --listen localhost:0 --events 1
 no_port_0 : command_of (codes "serve" ∷ codes "p" ∷ codes "--listen" ∷ codes "localhost:0" ∷ codes "--events" ∷ codes "1" ∷ []) ≡ None
-unfolding command_of form_of divided kind_of parted are_among options_of value_of command_in serve_in file_in file_of server_of number_at address_at address_of address_port stopped_bytes number_of digits
+unfolding command_of form_of divided kind_of parted are_among options_of value_of command_in serve_in file_in file_of server_of number_at address_at
+    address_of address_port stopped_bytes number_of digits
 no_port_0 = refl
 
 -- load 007, load 100000
@@ -62,10 +64,12 @@ no_value = refl
 -- set N --local p --me 1.2.3.4.5.6 -- -7
 negative_value : command_of (codes "set" ∷ codes "N" ∷ codes "--local" ∷ codes "p" ∷ codes "--me" ∷ codes "1.2.3.4.5.6" ∷ codes "--" ∷ codes "-7" ∷ [])
     ≡ Some (command.Set (codes "N") (codes "-7") (record { me = record { bytes = 1 ∷ 2 ∷ 3 ∷ 4 ∷ 5 ∷ 6 ∷ [] }; port = 851; peer = peer.Local (codes "p") }))
-unfolding command_of form_of divided kind_of parted are_among options_of value_of command_in set_in texts_in two_texts text_of client_of net_at net_id_of port_of peer_of file_of stopped_bytes number_of digits
+unfolding command_of form_of divided kind_of parted are_among options_of value_of command_in set_in texts_in two_texts text_of client_of net_at
+    net_id_of port_of peer_of file_of stopped_bytes number_of digits
 negative_value = refl
 
 -- info --me 1.2.3.4.5.6 --to localhost:1 --local p
 mixture : command_of (codes "info" ∷ codes "--me" ∷ codes "1.2.3.4.5.6" ∷ codes "--to" ∷ codes "localhost:1" ∷ codes "--local" ∷ codes "p" ∷ []) ≡ None
-unfolding command_of form_of divided kind_of parted are_among options_of value_of command_in info_in client_alone client_of net_at net_id_of port_of peer_of stopped_bytes number_of digits
+unfolding command_of form_of divided kind_of parted are_among options_of value_of command_in info_in client_alone client_of net_at net_id_of port_of
+    peer_of stopped_bytes number_of digits
 mixture = refl

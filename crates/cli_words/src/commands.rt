@@ -1,9 +1,11 @@
 //! Each command by its positional words and its options.
 
 ghost use Rattle.cli_words.specs.Reading.{Reads};
-ghost use Rattle.cli_words.specs.Commands.{file_in, name_in, number_in, two_files, files_in, two_texts, texts_in, two_numbers, numbers_in, three_files, three_files_in};
+ghost use Rattle.cli_words.specs.Commands.{file_in, name_in, number_in, two_files, files_in, two_texts, texts_in};
+ghost use Rattle.cli_words.specs.Commands.{two_numbers, numbers_in, three_files, three_files_in};
 ghost use Rattle.cli_words.specs.Commands.{client_alone, relay_over_script, relay_over_wire, relay_in, command_in};
-ghost use Rattle.cli_words.specs.Commands.{selftest_in, check_in, migrate_in, replay_in, serve_in, keep_in, load_in, info_in, state_in, list_in, control_in, get_in, show_in, set_in, watch_in, record_in};
+ghost use Rattle.cli_words.specs.Commands.{selftest_in, check_in, migrate_in, replay_in, serve_in, keep_in, load_in, info_in};
+ghost use Rattle.cli_words.specs.Commands.{state_in, list_in, control_in, get_in, show_in, set_in, watch_in, record_in};
 
 use crate::client::{client, file_at, samples, server};
 use crate::division::Division;

@@ -2,7 +2,8 @@
 
 ghost use Rattle.std.specs.Prelude.{◌≡◌, ◌&&◌, nat_lt, nat_le, length, is_some, option_map, Some};
 ghost use Rattle.cli_words.specs.Reading.{Reads};
-ghost use Rattle.cli_words.specs.Values.{number_of, behind_byte, stopped_bytes, net_id_of, is_host, address_port, address_of, file_of, text_of, on_change_of, stands_in, are_distinct, are_texts, names_of};
+ghost use Rattle.cli_words.specs.Values.{number_of, behind_byte, stopped_bytes, net_id_of, is_host, address_port, address_of};
+ghost use Rattle.cli_words.specs.Values.{file_of, text_of, on_change_of, stands_in, are_distinct, are_texts, names_of};
 
 use crate::division::part;
 use crate::refusal::Refusal;

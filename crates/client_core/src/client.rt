@@ -10,7 +10,8 @@ ghost use Rattle.client_core.specs.Heard.{heard_meant, issued_meant};
 ghost use Rattle.client_core.specs.Kept.{bytes_left};
 ghost use Rattle.client_core.specs.Represents.{Represents, StandsFor};
 ghost use Rattle.client_core.specs.Promised.{IsPromised};
-ghost use Rattle.client_core.specs.Hears.{StandsStill, Hears, HearsFrames, Turns, HeardAt, Cuts, Applies, Holds, IsAtBroken, IsHearing, hearing_in_frames, with_waiting};
+ghost use Rattle.client_core.specs.Hears.{StandsStill, Hears, HearsFrames, Turns, HeardAt, Cuts, Applies};
+ghost use Rattle.client_core.specs.Hears.{Holds, IsAtBroken, IsHearing, hearing_in_frames, with_waiting};
 ghost use Rattle.spec_client.specs.Client.{Client as Spec};
 ghost use Rattle.ams_tcp.specs.History.{IsFrameCut};
 

@@ -2,7 +2,8 @@
 
 ghost use Rattle.std.specs.Prelude.{◌≡◌, length, map, unwrap_or, None, MatchOption};
 ghost use Rattle.std.specs.List.{list_any};
-ghost use Rattle.spec_client.specs.Unanswered.{is_outstanding, is_outstanding_at, outstanding_count, has_outstanding, id_after, free_id, after_tick_of, least_id, without_first};
+ghost use Rattle.spec_client.specs.Unanswered.{is_outstanding, is_outstanding_at, outstanding_count, has_outstanding};
+ghost use Rattle.spec_client.specs.Unanswered.{id_after, free_id, after_tick_of, least_id, without_first};
 ghost use Rattle.client_core.specs.Unanswered.{is_at, is_answered_by, least_with, IsNowhere, FirstAt, TakesTimeout};
 
 use std::marker::Model;

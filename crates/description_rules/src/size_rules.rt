@@ -79,7 +79,8 @@ fn type_extent(known: &KnownTypes, kind: &WrittenType<'_>) -> Extent
 
 #[tactic(auto, unfolding(spec_plant::specs::Sizes::type_size, spec_plant::specs::Sizes::type_align, spec_plant::specs::Sizes::type_depth))]
 fn enumeration_extent(e: &WrittenEnumeration<'_>) -> Extent
-    ensures extent { (known : List TypeTree) → extent_view result ≡ extent_of (named_tree known (enumeration_described e.now.name.now e.now.base.now (map value_view e.now.values.items))) }
+    ensures extent { (known : List TypeTree) → extent_view result
+        ≡ extent_of (named_tree known (enumeration_described e.now.name.now e.now.base.now (map value_view e.now.values.items))) }
     ensures fair { (0 < result.align) × (result.align ≤ 8) }
 {
     let base = match read_base(e.base) {

@@ -23,7 +23,10 @@ use Rattle.toml.specs.Data.{members_depth}
 use Rattle.load_maker.specs.LoadDescription.{symbol_tables, route_tables, load_table, load_description}
 
 pub load_described : (signals : ℕ) → table_verdict signals load_table ≡ Ok load_description
-unfolding load_table symbol_tables route_tables load_description route_in member_in value_in structure_in enumeration_in type_in symbol_in port_in document_in shape_of_text types_behind wrong_schema wrong_net wrong_rights wrong_type_name wrong_part wrong_size wrong_port wrong_upload wrong_name wrong_type wrong_place wrong_content wrong_signal trees_behind trees_of type_align greatest_align type_size members_end type_depth greatest_depth type_text digits decode_pairs
+unfolding load_table symbol_tables route_tables load_description route_in member_in value_in structure_in enumeration_in type_in symbol_in port_in
+    document_in shape_of_text types_behind wrong_schema wrong_net wrong_rights wrong_type_name wrong_part wrong_size wrong_port wrong_upload
+    wrong_name wrong_type wrong_place wrong_content wrong_signal trees_behind trees_of type_align greatest_align type_size members_end type_depth
+    greatest_depth type_text digits decode_pairs
 load_described signals = refl
 
 pub load_plain : is_plain_table load_table ≡ true

@@ -1,6 +1,7 @@
 //! The handles of one client.
 
-ghost use Rattle.std.specs.Prelude.{◌≡◌, ◌+◌, ◌^◌, ◌<◌, ◌≤◌, ◌↔◌, [], ◌∷◌, ◌++◌, map, length, slice_index_or, All, Contains, false, None, Ok, Err, Some, IsErr, IfOk, MatchOption, OnOk, OnErr};
+ghost use Rattle.std.specs.Prelude.{◌≡◌, ◌+◌, ◌^◌, ◌<◌, ◌≤◌, ◌↔◌, [], ◌∷◌, ◌++◌, map, length, slice_index_or, All};
+ghost use Rattle.std.specs.Prelude.{Contains, false, None, Ok, Err, Some, IsErr, IfOk, MatchOption, OnOk, OnErr};
 ghost use Rattle.spec_machine.specs.Handles.{Grant, Release, Reload, status_of};
 ghost use Rattle.spec_machine.specs.HandleLaws.{handles_of};
 ghost use Rattle.symbol_table.specs.Moves.{moved_place};

@@ -6,7 +6,8 @@ ghost use Rattle.spec_plant.specs.Listed as plain;
 ghost use Rattle.spec_plant.specs.SameTypes.{is_same_type};
 ghost use Rattle.spec_plant.specs.Trees.{tree_of};
 ghost use Rattle.type_layout.specs.NamedTypes.{types_of, named_type_of, member_of};
-ghost use Rattle.type_layout.specs.SameShapes.{ArePartners, HasNoPartner, IsPartnerAt, is_partner, same_elem, same_bound, same_bounds, same_shape, same_member, same_members, same_named};
+ghost use Rattle.type_layout.specs.SameShapes.{ArePartners, HasNoPartner, IsPartnerAt, is_partner, same_elem, same_bound};
+ghost use Rattle.type_layout.specs.SameShapes.{same_bounds, same_shape, same_member, same_members, same_named};
 ghost use Rattle.type_layout.specs.Shapes.{elem_of, bound_of, bounds_of, shape_of_ref};
 
 use crate::parts::is_same_name;

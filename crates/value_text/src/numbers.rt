@@ -1,6 +1,7 @@
 //! Numbers of 1, 2, 4 or 8 bytes, and their decimal texts.
 
-ghost use Rattle.std.specs.Prelude.{◌≡◌, ◌≢◌, ℕ, ◌*◌, ◌^◌, ◌<◌, ◌≤◌, ◌++◌, ◌∷◌, length, decimal, slice_index, ◌==◌, ◌-◌, IsTrue, IfOk, IfSome, IsNone, OnOk, OnErr};
+ghost use Rattle.std.specs.Prelude.{◌≡◌, ◌≢◌, ℕ, ◌*◌, ◌^◌, ◌<◌, ◌≤◌, ◌++◌, ◌∷◌, length, decimal, slice_index};
+ghost use Rattle.std.specs.Prelude.{◌==◌, ◌-◌, IsTrue, IfOk, IfSome, IsNone, OnOk, OnErr};
 ghost use Rattle.spec_frames.specs.Number.{number_of};
 ghost use Rattle.spec_formats.specs.ValueText.{Signed, Unsigned, text_of, signed_text};
 ghost use Rattle.value_text.specs.Parts.{IsNumberSize, Answers};

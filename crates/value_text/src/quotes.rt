@@ -1,6 +1,7 @@
 //! Texts between single quotes, where `$` and two digits stand for a byte that is not plain.
 
-ghost use Rattle.std.specs.Prelude.{◌≡◌, ◌≢◌, ◌+◌, ◌*◌, ◌/◌, ◌%◌, ◌<◌, ◌≤◌, ℕ, List, [], ◌∷◌, ◌++◌, length, slice_index, IsTrue, ◌↔◌, IfOk, IfSome, IsNone, OnOk, OnErr};
+ghost use Rattle.std.specs.Prelude.{◌≡◌, ◌≢◌, ◌+◌, ◌*◌, ◌/◌, ◌%◌, ◌<◌, ◌≤◌, ℕ, List, [], ◌∷◌, ◌++◌, length};
+ghost use Rattle.std.specs.Prelude.{slice_index, IsTrue, ◌↔◌, IfOk, IfSome, IsNone, OnOk, OnErr};
 ghost use Rattle.spec_frames.specs.Number.{AreBytes};
 ghost use Rattle.spec_formats.specs.ValueText.{Quoted, before_nul, is_plain, upper_digit, quoted_byte, quoted, IsNulFree, IsFilledTo, text_of};
 ghost use Rattle.value_text.specs.Parts.{Answers, Extends, IsEscaped};
