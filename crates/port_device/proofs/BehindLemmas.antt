@@ -1,10 +1,11 @@
 -- What stands behind a text: one text behind another, and whole texts.
-use Rattle.std.proofs.Common.{◌≡◌, ℕ, suc, ◌+◌, ◌<◌, ◌≤◌, ◌^◌, List, [], ◌∷◌, ◌++◌, length, true, false, refl, sym, ap, ◌∙◌, inl, inr, append_assoc, arith}
-use Rattle.std.specs.Prelude.{◌==◌, Bool, Option, Some, None, MatchOption, Result, Ok, Err, IfOk, option_map, option_and_then, bytes_eq, take, drop, flat_map}
+use Rattle.std.proofs.Common.{◌≡◌, ℕ, suc, ◌+◌, ◌*◌, ◌<◌, ◌≤◌, ◌^◌, List, [], ◌∷◌, ◌++◌, length, true, false}
+use Rattle.std.proofs.Common.{refl, sym, ap, subst, ◌∙◌, inl, inr, append_assoc, arith}
+use Rattle.std.specs.Prelude.{◌==◌, ◌/◌, ◌%◌, Bool, Option, Some, None, MatchOption, Result, Ok, Err, IfOk}
+use Rattle.std.specs.Prelude.{option_map, option_and_then, bytes_eq, get_or, take, drop, flat_map}
 use Rattle.std.specs.Borrow.{Bor}
-use Rattle.std.specs.Int.{w32, w64, to_le_bytes}
+use Rattle.std.specs.Int.{w16, w32, w64, to_le_bytes}
 use Rattle.std.specs.List.{All}
-use Rattle.std.specs.Prelude.{get_or}
 use Rattle.std.proofs.lemmas.Bool.{cases_Bool, ne_eqb}
 use Rattle.std.proofs.lemmas.List.{drop_more, drop_all}
 use Rattle.std.proofs.lemmas.Grind.{flat_map-append}
@@ -18,7 +19,7 @@ use Rattle.spec_machine.specs.World.{World}
 use Rattle.spec_persistent.specs.Persistent.{body_of}
 use Rattle.spec_store.specs.BodyText.{StoredEntry, entry_bytes, body_text}
 use Rattle.type_layout.specs.Forms.{form_of}
-use Rattle.port_device.specs.Behind.{behind, is_end}
+use Rattle.port_device.specs.Behind.{behind, sized_form, is_end}
 use Rattle.port_device.specs.Holds.{HoldsPorts}
 use Rattle.port_device.specs.PortMemory.{PortsMemory}
 use Rattle.port_device.specs.PersistentRows.{head_bytes, value_bytes, ports_entries, HasNumber}
@@ -83,9 +84,31 @@ behind-none a b bytes none = ap (option_and_then (behind b)) none ∙ sym (behin
 pub behind-some : (a b bytes rest : List ℕ) (r : Option (List ℕ)) → Some rest ≡ behind a bytes → r ≡ behind b rest → r ≡ behind (a ++ b) bytes
 behind-some a b bytes rest r first then_ = then_ ∙ ap (option_and_then (behind b)) first ∙ sym (behind-append a b bytes)
 
+-- two numbers of 16 bits in one word
+pub word-halves : (low high : ℕ) → low < 65536 → high < 65536 → to_le_bytes w32 (low + high * 65536) ≡ to_le_bytes w16 low ++ to_le_bytes w16 high
+word-halves low high l h =
+    let P : ℕ → ℕ → ℕ → ℕ → Type 0 = λ a b c d. a ∷ b ∷ c ∷ d ∷ [] ≡ to_le_bytes w16 low ++ to_le_bytes w16 high in
+    let w : ℕ = low + high * 65536 in
+    let a : low % 256 ≡ w % 256 = omega (arith, l, h) in
+    let b : low / 256 % 256 ≡ w / 256 % 256 = omega (arith, l, h) in
+    let c : high % 256 ≡ w / 65536 % 256 = omega (arith, l, h) in
+    let d : high / 256 % 256 ≡ w / 16777216 % 256 = omega (arith, l, h) in
+    subst (λ x. P x (w / 256 % 256) (w / 65536 % 256) (w / 16777216 % 256)) a
+    (subst (λ x. P (low % 256) x (w / 65536 % 256) (w / 16777216 % 256)) b
+    (subst (λ x. P (low % 256) (low / 256 % 256) x (w / 16777216 % 256)) c
+    (subst (λ x. P (low % 256) (low / 256 % 256) (high % 256) x) d refl)))
+
 -- an entry is its head and its value
 parts : (h a f s v : List ℕ) → h ++ (((a ++ f) ++ s) ++ v) ≡ (((h ++ a) ++ f) ++ s) ++ v
 parts h a f s v = simp append_assoc refl
+
+-- a value behind its form
+pub value-parts : (form value : List ℕ)
+    → to_le_bytes w64 (length form) ++ (form ++ (to_le_bytes w32 (length value) ++ value)) ≡ value_bytes form value
+value-parts form value = simp append_assoc refl
+
+pub sized-parts : (form value : List ℕ) → sized_form form ++ (to_le_bytes w32 (length value) ++ value) ≡ value_bytes form value
+sized-parts form value = simp append_assoc refl
 
 entry-parts : (e : StoredEntry) → head_bytes e.port e.name ++ value_bytes e.form e.bytes ≡ entry_bytes e
 entry-parts e = parts (head_bytes e.port e.name) (to_le_bytes w64 (length e.form)) e.form (to_le_bytes w32 (length e.bytes)) e.bytes

@@ -102,7 +102,13 @@ impl Port {
 fn count_rows(rows: &[SymbolRow]) -> usize
     ensures { result ≡ count_by (λ r. r.persistent) rows.now }
 {
-    rows.iter().filter(|row| row.persistent).count()
+    let mut count = 0;
+    for row in rows {
+        if row.persistent {
+            count += 1;
+        }
+    }
+    count
 }
 
 fn append_rows(

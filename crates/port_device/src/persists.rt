@@ -1,6 +1,7 @@
 //! Whether bytes are the body text of the persistent symbols: walked entry by entry, so that the text is not made.
 
-ghost use Rattle.std.specs.Prelude.{◌≡◌, ◌<◌, ◌≤◌, ◌^◌, ◌++◌, length, flat_map, option_map, bytes_eq, All, IfOk, IfSome};
+ghost use Rattle.std.specs.Prelude.{◌≡◌, ◌+◌, ◌*◌, ◌<◌, ◌≤◌, ◌^◌, ◌++◌, length, flat_map, option_map, bytes_eq, All, IfOk, IfSome};
+ghost use Rattle.std.specs.Int.{w32, to_le_bytes};
 ghost use Rattle.name_paths.specs.Identifier.{lower};
 ghost use Rattle.spec_plant.specs.AcceptedTypes.{AreTypes, IsSized};
 ghost use Rattle.spec_plant.specs.Listed.{One, Plain};
@@ -13,7 +14,7 @@ ghost use Rattle.symbol_table.specs.Rows.{symbol_of_row};
 ghost use Rattle.type_layout.specs.Forms.{form_of};
 ghost use Rattle.type_layout.specs.NamedTypes.{types_of};
 ghost use Rattle.type_layout.specs.Shapes.{kind_of, shape_of_ref};
-ghost use Rattle.port_device.specs.Behind.{behind};
+ghost use Rattle.port_device.specs.Behind.{behind, sized_form};
 ghost use Rattle.port_device.specs.Holds.{HoldsPorts};
 ghost use Rattle.port_device.specs.PersistentRows.{head_bytes, value_bytes, stored_entry, row_entries, rows_entries, port_entries, ports_entries, IsStoredRow, HasNumber};
 
@@ -150,10 +151,15 @@ fn behind_head<'a>(port: u16, name: &[u8], bytes: &'a [u8]) -> Option<&'a [u8]>
     requires short { length name.now ≤ 255 }
     ensures { option_map (λ r. r.now) result ≡ behind (head_bytes port name.now) bytes.now }
 {
-    match behind(bytes, &port.to_le_bytes()) {
-        Some(rest) => behind_both(&(name.len() as u16).to_le_bytes(), name, rest),
-        None => None,
-    }
+    let word = word_of(port, name.len() as u16);
+    behind_both(&word.to_le_bytes(), name, bytes)
+}
+
+// Two numbers in one, which is compared in one step.
+fn word_of(low: u16, high: u16) -> u32
+    ensures { result ≡ low + high * 65536 }
+{
+    u32::from(low) + u32::from(high) * 65_536
 }
 
 // Behind the form of a type, and a value.
@@ -171,7 +177,7 @@ fn behind_typed<'a>(
         ≡ behind (value_bytes (form_of (tree_of (types_of types.now) (shape_of_ref t.entry))) value.now) bytes.now) }
 {
     if let Some(kind) = plain_kind(t) {
-        return Ok(behind_value(form_of_kind(kind), value, bytes));
+        return Ok(behind_sized(sized_form(kind), value, bytes));
     }
     let mut form = Octets::new(alloc);
     put_form(alloc, types, t, &mut form)?;
@@ -183,7 +189,19 @@ fn behind_value<'a>(form: &[u8], value: &[u8], bytes: &'a [u8]) -> Option<&'a [u
     requires short { length value.now < 2 ^ 32 }
     ensures { option_map (λ r. r.now) result ≡ behind (value_bytes form.now value.now) bytes.now }
 {
-    match behind_both(&(form.len() as u64).to_le_bytes(), form, bytes) {
+    match behind(bytes, &(form.len() as u64).to_le_bytes()) {
+        Some(rest) => behind_sized(form, value, rest),
+        None => None,
+    }
+}
+
+// Behind a text, size 4, bytes.
+fn behind_sized<'a>(text: &[u8], value: &[u8], bytes: &'a [u8]) -> Option<&'a [u8]>
+    requires short { length value.now < 2 ^ 32 }
+    ensures { option_map (λ r. r.now) result
+        ≡ behind (text.now ++ (to_le_bytes w32 (length value.now) ++ value.now)) bytes.now }
+{
+    match behind(bytes, text) {
         Some(rest) => behind_both(&(value.len() as u32).to_le_bytes(), value, rest),
         None => None,
     }
@@ -218,27 +236,26 @@ fn plain_kind(t: TypeRef<'_>) -> Option<Kind>
     }
 }
 
-// The name of a plain type in lower case.
-#[tactic(auto, unfolding(type_layout::specs::Forms::form_of))]
-fn form_of_kind(kind: Kind) -> &'static [u8]
-    ensures { result.now ≡ lower (kind_name (kind_of kind)) }
+// The form of a plain type behind its length: the name in lower case.
+fn sized_form(kind: Kind) -> &'static [u8]
+    ensures { result.now ≡ sized_form (lower (kind_name (kind_of kind))) }
 {
     match kind {
-        Kind::Bool => b"bool",
-        Kind::Sint => b"sint",
-        Kind::Usint => b"usint",
-        Kind::Byte => b"byte",
-        Kind::Int => b"int",
-        Kind::Uint => b"uint",
-        Kind::Word => b"word",
-        Kind::Dint => b"dint",
-        Kind::Udint => b"udint",
-        Kind::Dword => b"dword",
-        Kind::Time => b"time",
-        Kind::Lint => b"lint",
-        Kind::Ulint => b"ulint",
-        Kind::Lword => b"lword",
-        Kind::Real => b"real",
-        Kind::Lreal => b"lreal",
+        Kind::Bool => b"\x04\0\0\0\0\0\0\0bool",
+        Kind::Sint => b"\x04\0\0\0\0\0\0\0sint",
+        Kind::Usint => b"\x05\0\0\0\0\0\0\0usint",
+        Kind::Byte => b"\x04\0\0\0\0\0\0\0byte",
+        Kind::Int => b"\x03\0\0\0\0\0\0\0int",
+        Kind::Uint => b"\x04\0\0\0\0\0\0\0uint",
+        Kind::Word => b"\x04\0\0\0\0\0\0\0word",
+        Kind::Dint => b"\x04\0\0\0\0\0\0\0dint",
+        Kind::Udint => b"\x05\0\0\0\0\0\0\0udint",
+        Kind::Dword => b"\x05\0\0\0\0\0\0\0dword",
+        Kind::Time => b"\x04\0\0\0\0\0\0\0time",
+        Kind::Lint => b"\x04\0\0\0\0\0\0\0lint",
+        Kind::Ulint => b"\x05\0\0\0\0\0\0\0ulint",
+        Kind::Lword => b"\x05\0\0\0\0\0\0\0lword",
+        Kind::Real => b"\x04\0\0\0\0\0\0\0real",
+        Kind::Lreal => b"\x05\0\0\0\0\0\0\0lreal",
     }
 }

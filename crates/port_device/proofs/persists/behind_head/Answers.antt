@@ -1,15 +1,15 @@
-use Rattle.std.proofs.Common.{◌≡◌}
+use Rattle.std.proofs.Common.{◌≡◌, ◌<◌, ◌∙◌, ap, arith}
 use Rattle.std.specs.Prelude.{◌++◌, length}
-use Rattle.std.specs.Int.{w16, to_le_bytes}
-use Rattle.port_device.proofs.BehindLemmas.{behind-none, behind-some}
+use Rattle.std.specs.Int.{w16, w32, to_le_bytes}
+use Rattle.port_device.specs.Behind.{behind}
+use Rattle.port_device.proofs.BehindLemmas.{word-halves}
 use Rattle.port_device.proofs.persists.behind_head.Goals as goal
 
-pub returns-in-Some : goal.returns-in-Some
-returns-in-Some c =
-    let size : c.to_le_bytes-in-Some.result ≡ to_le_bytes w16 (length c.args.name.now) = c.to_le_bytes-in-Some.ensures in
-    behind-some (to_le_bytes w16 c.args.port) (to_le_bytes w16 (length c.args.name.now) ++ c.args.name.now) c.args.bytes.now
-    c.in-Some.rest.now _ (rw c.to_le_bytes.ensures at c.in-Some.ensures) (rw size at c.behind_both.ensures)
-
-pub returns-in-None : goal.returns-in-None
-returns-in-None c = behind-none (to_le_bytes w16 c.args.port) (to_le_bytes w16 (length c.args.name.now) ++ c.args.name.now) c.args.bytes.now
-    (rw c.to_le_bytes.ensures at c.in-None.ensures)
+pub returns : goal.returns
+returns c =
+    let name = c.args.name.now in
+    let short = c.requires.short in
+    let fits = c.ranges.port.fits in
+    let word : c.to_le_bytes.result ≡ to_le_bytes w16 c.args.port ++ to_le_bytes w16 (length name) =
+    c.to_le_bytes.ensures ∙ ap (to_le_bytes w32) c.word_of-word.ensures ∙ word-halves c.args.port (length name) fits (omega (arith, short)) in
+    c.behind_both.ensures ∙ ap (λ t. behind (t ++ name) c.args.bytes.now) word
