@@ -1,5 +1,5 @@
 -- The rows of a table, and their entries one after another.
-use Rattle.std.proofs.Common.{◌≡◌, ℕ, ◌≤◌, List, [], ◌∷◌, ◌++◌, length, get_or, map, true, refl, sym, ◌∙◌, ap}
+use Rattle.std.proofs.Common.{◌≡◌, ℕ, ◌≤◌, List, [], ◌∷◌, ◌++◌, length, get_or, map, true, refl, sym, ◌∙◌, ap, subst}
 use Rattle.std.specs.Prelude.{Some, nat_le, ◌+◌, ◌&&◌, slice_get, option_map, Result, Ok, Err, OnOk}
 use Rattle.std.specs.List.{All, list_all}
 use Rattle.std.proofs.lemmas.Bool.{and_parts, leb-true}
@@ -69,7 +69,12 @@ pub rows_are_upload : (types : List NamedType) (table : SymbolTable) (rows : Lis
 rows_are_upload types table rows same =
     rows-entries types rows ∙ ap (λ (ss : List TableSymbol). upload_bytes (map entry_of_symbol (map (plant_symbol types) (map declared ss)))) same
 
--- what is appended, by another name
-pub put_as : (r : Result (Unit {0}) NoMemory) (old new xs ys : List ℕ) → xs ≡ ys → OnOk r (new ≡ old ++ xs) → OnOk r (new ≡ old ++ ys)
-put_as (Ok done) old new xs ys e h = h ∙ ap (λ bs. old ++ bs) e
-put_as (Err no_memory) old new xs ys e h = h
+-- what is appended, by another name, and kept where memory sufficed
+pub put_as : (r put : Result (Unit {0}) NoMemory) (old mid new xs ys : List ℕ) → r ≡ put → xs ≡ ys
+    → OnOk put (mid ≡ old ++ xs) → OnOk put (new ≡ mid) → OnOk r (new ≡ old ++ ys)
+put_as r (Ok done) old mid new xs ys is e appended kept =
+    let P : Result (Unit {0}) NoMemory → Type 0 = λ x. OnOk x (new ≡ old ++ ys) in
+    subst P (sym is) (kept ∙ appended ∙ ap (λ bs. old ++ bs) e)
+put_as r (Err no_memory) old mid new xs ys is e appended kept =
+    let P : Result (Unit {0}) NoMemory → Type 0 = λ x. OnOk x (new ≡ old ++ ys) in
+    subst P (sym is) tt

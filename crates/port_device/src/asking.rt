@@ -108,10 +108,7 @@ fn put_info(alloc: Global, place: Place, out: &mut Octets) -> Result<(), NoMemor
 {
     let before = out.len();
     let put = append_info(alloc, place, out);
-    if put.is_err() {
-        out.cut(before);
-    }
-    put
+    out.cut_back(before, put)
 }
 
 // After want of memory a part of the info may stand there.

@@ -39,10 +39,7 @@ pub(crate) fn put_symbols(
 {
     let before = out.len();
     let put = append_rows(alloc, types, table.symbols(), out);
-    if put.is_err() {
-        out.cut(before);
-    }
-    put
+    out.cut_back(before, put)
 }
 
 // After want of memory a part of the entries may stand there.

@@ -88,19 +88,19 @@ impl Ports {
 }
 
 // The place of the port with a number in the order of the description; the number of ports where there is none.
-fn place_of(ports: &[Port], number: u16) -> usize
-    ensures { result ≡ place_numbered number ports.now }
+fn place_of(ports: &[Port], ams_port: u16) -> usize
+    ensures { result ≡ place_numbered ams_port ports.now }
 {
     for (i, port) in ports.iter().enumerate() {
-        if has_number(port, number) {
+        if has_number(port, ams_port) {
             return i;
         }
     }
     ports.len()
 }
 
-fn has_number(port: &Port, number: u16) -> bool
-    ensures { result ≡ (port.now.number == number) }
+fn has_number(port: &Port, ams_port: u16) -> bool
+    ensures { result ≡ (port.now.number == ams_port) }
 {
-    port.number == number
+    port.number == ams_port
 }

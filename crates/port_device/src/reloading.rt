@@ -58,16 +58,16 @@ impl Ports {
     fn keep_in(
         &self,
         alloc: Global,
-        number: u16,
+        ams_port: u16,
         port: &mut Port,
         same: &SameTypes,
     ) -> Result<(), NoMemory>
         requires { All BeginsWhole port.old.table.symbols }
         ensures { OnOk result ((before : List NamedType) → AreCompared before port.old.types same.now
             → All (HasTypes before) self.now.ports
-            → port.new ≡ after_reload (memory_numbered number self.now.ports) port.old) }
+            → port.new ≡ after_reload (memory_numbered ams_port self.now.ports) port.old) }
     {
-        match self.find(number) {
+        match self.find(ams_port) {
             None => Ok(()),
             Some(was) => {
                 port.keep(alloc, was, same)?;

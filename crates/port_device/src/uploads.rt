@@ -149,10 +149,7 @@ fn put_numbers(alloc: Global, numbers: &[u32], out: &mut Octets) -> Result<(), N
 {
     let before = out.len();
     let put = append_numbers(alloc, numbers, out);
-    if put.is_err() {
-        out.cut(before);
-    }
-    put
+    out.cut_back(before, put)
 }
 
 // After want of memory a part of the numbers may stand there.

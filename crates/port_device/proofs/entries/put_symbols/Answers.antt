@@ -10,8 +10,9 @@ append_rows-put-requires-clause-rows c =
     entry_rows types c.args.table.now c.symbols.result.now c.symbols.ensures.rows c.requires.table c.requires.texts
     (c.symbols.ensures.sized types c.requires.table)
 
-pub returns-else-is_err-clause-ok : goal.returns-else-is_err-clause-ok
-returns-else-is_err-clause-ok c =
+pub returns-clause-ok : goal.returns-clause-ok
+returns-clause-ok c =
     let types = types_of c.args.types.now in
-    put_as c.append_rows-put.result c.args.out.now c.append_rows-put.new.out (rows_bytes types c.symbols.result.now) (symbols_upload types c.args.table.now)
-    (rows_are_upload types c.args.table.now c.symbols.result.now c.symbols.ensures.rows) c.append_rows-put.ensures.ok
+    put_as c.cut_back.result c.append_rows-put.result c.args.out.now c.append_rows-put.new.out c.cut_back.new.self
+    (rows_bytes types c.symbols.result.now) (symbols_upload types c.args.table.now) c.cut_back.ensures.answer
+    (rows_are_upload types c.args.table.now c.symbols.result.now c.symbols.ensures.rows) c.append_rows-put.ensures.ok c.cut_back.ensures.ok

@@ -4,4 +4,4 @@ use Rattle.port_device.proofs.ports.place_of.Given as goal
 
 -- the port is none of those before
 abbrev pub invariant-loop-i : goal.invariant-loop-i
-invariant-loop-i l = place_numbered l.number l.ports ≡ l.i + place_numbered l.number (drop l.i l.ports)
+invariant-loop-i l = place_numbered l.ams_port l.ports ≡ l.i + place_numbered l.ams_port (drop l.i l.ports)

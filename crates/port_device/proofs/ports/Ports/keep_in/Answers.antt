@@ -9,6 +9,6 @@ pub returns-in_ok-keep-in-Some : goal.returns-in_ok-keep-in-Some
 returns-in_ok-keep-in-Some c = λ before compared all.
     let was = c.in-Some.was.now in
     let found = sym c.in-Some.ensures in
-    let types = numbered_has before c.args.number c.args.self.now.ports was all found in
+    let types = numbered_has before c.args.ams_port c.args.self.now.ports was all found in
     let P : List NamedType → Type 0 = λ ts. AreCompared ts c.args.port.now.types c.args.same.now in
     c.in_ok-keep-in-Some.ensures (subst P (sym types) compared) ∙ sym (ap (λ o. after_reload o c.args.port.now) found)
