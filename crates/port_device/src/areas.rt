@@ -101,7 +101,7 @@ pub(crate) fn put_bytes(image: &mut Image, sizes: &Sizes, area: Area, at: u32, b
     }
 }
 
-// The same, wherever the length is known or not.
+// The same, whether the length is known or not.
 #[inline(always)]
 fn copy_bytes(image: &mut Image, sizes: &Sizes, area: Area, at: u32, bytes: &[u8])
     requires few { image_size (sizes_of sizes.now) ≤ IMAGE_LIMIT }

@@ -57,7 +57,7 @@ impl Port {
         self.read_apart(alloc, group, offset, len, out)
     }
 
-    // The same, wherever the group is known or not.
+    // The same, whether the group is known or not.
     #[inline(always)]
     fn read_by(
         &self,

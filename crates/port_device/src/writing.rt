@@ -64,7 +64,7 @@ impl Port {
         self.write_apart(group, offset, bytes, rights, source)
     }
 
-    // The same, wherever the group is known or not.
+    // The same, whether the group is known or not.
     #[inline(always)]
     fn write_by(
         &mut self,
