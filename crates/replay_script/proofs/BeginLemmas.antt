@@ -15,8 +15,8 @@ use Rattle.spec_machine.specs.ScriptLine.{ScriptLine, Happens, TakesAtMost, Fail
 use Rattle.spec_machine.specs.Turns.{LogTurn, moves_of_turn, KeepsTurns}
 use Rattle.replay_script.specs.declared.rooms.Rooms.{Rooms}
 use Rattle.replay_script.specs.Answering.{AnsweredBy, AnsweredSoFar, IsFirstPart, BeginsItsPlay, IsAnsweredAtEachCut}
-use Rattle.replay_script.specs.ScriptWire.{BeginsTurn, PlaysOn}
-use Rattle.replay_script.proofs.AnswerLemmas.{fails_answered}
+use Rattle.replay_script.specs.ScriptWire.{PlaysOn, lines_ahead}
+use Rattle.replay_script.proofs.AnswerLemmas.{BeginsTurn, fails_answered}
 use Rattle.replay_script.proofs.PlayedLemmas.{log_is_play}
 
 -- whatever answers these moves and others behind them, a first part of it answers these moves
@@ -106,10 +106,11 @@ bare_answered (TakesAtMost c n ∷ lines) peers = (refl, bare_answered lines (pe
 bare_answered (FailsNext c ∷ lines) peers = fails_answered peers c lines (bare_events lines) (bare_begin lines) (bare_answered lines (with_failing c peers))
 
 -- the log of a wire that plays a script
-pub plays_so_far : (lines left : List ScriptLine) (log : List Move) (rooms : Rooms) (failing : List ℕ) (looking : Bool) (ends : ℕ)
-    → PlaysOn lines left log rooms failing looking ends → AnsweredSoFar first_peers lines log
-plays_so_far lines left log rooms failing looking ends plays =
-    cut_answered log (bare_events left) first_peers lines (plays.so_far (bare_events left) (λ e. bare_begin left) (bare_answered left plays.peers))
+pub plays_so_far : (lines left : List ScriptLine) (log : List Move) (rooms : Rooms) (failing : List ℕ) (settled ends : ℕ)
+    → PlaysOn lines left log rooms failing settled ends → AnsweredSoFar first_peers lines log
+plays_so_far lines left log rooms failing settled ends plays =
+    let rest = lines_ahead plays.ahead left in
+    cut_answered log (bare_events rest) first_peers lines (plays.so_far (bare_events rest) (bare_answered rest plays.peers))
 
 -- the turns of a first part of some lines come first
 record PlaysFirst {W C : Type 0} (step : EventStep W C) (x : Scene W C) (first left : List ScriptLine) : Type 0 where

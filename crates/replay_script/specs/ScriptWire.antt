@@ -1,5 +1,5 @@
 -- A wire that plays a script.
-use Rattle.std.specs.Prelude.{◌≡◌, ℕ, ◌+◌, ◌<◌, ◌≤◌, List, [], ◌∷◌, ◌++◌, length, Bool, true, Option, Some, None}
+use Rattle.std.specs.Prelude.{◌≡◌, ℕ, ◌+◌, ◌<◌, ◌≤◌, List, [], ◌∷◌, ◌++◌, length, take, map, Option, Some, None}
 use Rattle.ads_outside.specs.declared.event.Event.{Event}
 use Rattle.ads_outside.specs.declared.listening.Listening.{Listening}
 use Rattle.ads_outside.specs.declared.moves.Move.{Move}
@@ -10,7 +10,7 @@ use Rattle.ads_outside.specs.WireState.{WireState}
 use Rattle.spec_machine.specs.Offers.{is_among}
 use Rattle.spec_machine.specs.Peers.{Peers, first_peers}
 use Rattle.spec_machine.specs.Reading.{is_among as is_listed}
-use Rattle.spec_machine.specs.ScriptLine.{ScriptLine}
+use Rattle.spec_machine.specs.ScriptLine.{ScriptLine, FailsNext}
 use Rattle.serve_loop.specs.Leads.{events_in}
 use Rattle.replay_script.specs.declared.rooms.Rooms.{Rooms}
 use Rattle.replay_script.specs.Answering.{AnsweredBy}
@@ -58,24 +58,29 @@ told_after None w = state_of_played (record w { ends = raised w.ends })
 told_after (Some e) w =
     state_of_played (record w { log = w.log ++ move.Event e ∷ []; events = raised w.events })
 
--- no move, or an event first
-abbrev pub BeginsTurn : List Move → Type 0
-BeginsTurn [] = Unit {0}
-BeginsTurn (move.Event e ∷ ms) = Unit {0}
-BeginsTurn (move.Took c offered bytes ∷ ms) = ⊥
-BeginsTurn (move.Lost c ∷ ms) = ⊥
-BeginsTurn (move.Shut c ∷ ms) = ⊥
+-- the connections whose next offer fails, behind lines that fail offers to these
+abbrev pub failing_behind : List ℕ → List ℕ → List ℕ
+failing_behind [] failing = failing
+failing_behind (c ∷ cs) failing = failing_behind cs (c ∷ failing)
 
--- how the connections answer now, and that the lines that are left go on behind the log; while a next event is
--- looked for, only that it comes first
+-- the lines that fail offers to these connections, and others behind them
+abbrev pub lines_ahead : List ℕ → List ScriptLine → List ScriptLine
+lines_ahead ahead left = map FailsNext ahead ++ left
+
+-- how the connections answer now, and that the lines that are left go on behind the log; lines that fail offers, and were read
+-- since the last event, hold from the next event on
 pub record PlaysOn (lines left : List ScriptLine) (log : List Move) (rooms : Rooms)
-    (failing : List ℕ) (looking : Bool) (ends : ℕ) : Type 0 where
+    (failing : List ℕ) (settled ends : ℕ) : Type 0 where
   pub peers : Peers
+  -- the connections of those lines
+  pub ahead : List ℕ
   -- where what follows is answered by the lines that are left, all is answered by the script
-  pub so_far : (ms : List Move) → (looking ≡ true → BeginsTurn ms) → AnsweredBy peers left ms
-      → AnsweredBy first_peers lines (log ++ ms)
+  pub so_far : (ms : List Move) → AnsweredBy peers (lines_ahead ahead left) ms → AnsweredBy first_peers lines (log ++ ms)
   pub rooms_are : HoldsRooms rooms peers.rooms
-  pub failing_are : (c : ℕ) → is_listed c failing ≡ is_among c peers.failing
+  -- the numbers of the first lines hold now, and all of them from the next event on
+  pub within : settled ≤ length failing
+  pub failing_are : (c : ℕ) → is_listed c (take settled failing) ≡ is_among c peers.failing
+  pub ahead_are : (c : ℕ) → is_listed c failing ≡ is_among c (failing_behind ahead peers.failing)
   pub new : OpenNew (opened_in log) left
   pub over : 0 < ends → left ≡ []
   -- each event is of a line

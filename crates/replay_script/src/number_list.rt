@@ -1,6 +1,6 @@
 //! Numbers of connections, each once, in the order in which they came.
 
-ghost use Rattle.std.specs.Prelude.{◌≡◌, ◌++◌, [], ◌∷◌, false, length, OnOk, OnErr};
+ghost use Rattle.std.specs.Prelude.{◌≡◌, ◌++◌, [], ◌∷◌, false, length, take, OnOk, OnErr};
 ghost use Rattle.spec_machine.specs.Reading.{is_among};
 
 use ads_base::NoMemory;
@@ -44,6 +44,16 @@ impl NumberList {
         ensures { result ≡ is_among number self.now }
     {
         self.numbers.contains(&number)
+    }
+
+    /// Whether a number is among so many first ones.
+    pub fn has_among(&self, number: u32, count: usize) -> bool
+        ensures { result ≡ is_among number (take count self.now) }
+    {
+        match self.numbers.get_index_of(&number) {
+            Some(at) => at < count,
+            None => false,
+        }
     }
 
     /// Appends a number that is not there.

@@ -1,6 +1,6 @@
 //! A wire that plays a script.
 
-ghost use Rattle.std.specs.Prelude.{◌≡◌, ◌≢◌, ◌≤◌, ◌<◌, ◌^◌, ◌++◌, ◌∷◌, [], length, take, map, IsTrue, Some, None, IfOk, IfSome, OnOk, OnErr};
+ghost use Rattle.std.specs.Prelude.{◌≡◌, ◌≢◌, ◌≤◌, ◌<◌, ◌^◌, ◌++◌, ◌∷◌, [], length, take, map, IsTrue, Some, None, IfOk, IfSome, IfNone, OnOk, OnErr};
 ghost use Rattle.ads_outside.specs.declared.moves.Move.TheVariants as move;
 ghost use Rattle.ads_outside.specs.Opened.{is_new, opened_in};
 ghost use Rattle.serve_loop.specs.Leads.{events_in};
@@ -25,8 +25,8 @@ pub struct ScriptWire {
     at: usize,
     rooms: Rooms,
     failing: NumberList,
-    // The next event is looked for: a line that fails an offer was read, and no event behind it.
-    looking: bool,
+    // How many of them hold now: those of lines that were read since the last event hold from the next event on.
+    settled: usize,
     log: Vec<Move>,
     starts: ListOf<Listening>,
     events: u64,
@@ -53,7 +53,7 @@ impl Model for ScriptWire {
       wants = w.wants;
     } };
 
-    ghost invariant = { λ w. PlaysOn (map line_meant w.lines) (drop w.at (map line_meant w.lines)) w.log.items w.rooms w.failing w.looking w.ends };
+    ghost invariant = { λ w. PlaysOn (map line_meant w.lines) (drop w.at (map line_meant w.lines)) w.log.items w.rooms w.failing w.settled w.ends };
 }
 
 impl ScriptWire {
@@ -72,7 +72,7 @@ impl ScriptWire {
             at: 0,
             rooms: Rooms::new(alloc),
             failing: NumberList::new(alloc),
-            looking: false,
+            settled: 0,
             log: Vec::new(alloc),
             starts: ListOf::new(alloc),
             events: 0,
@@ -95,7 +95,7 @@ impl ScriptWire {
             at: _,
             rooms: _,
             failing: _,
-            looking: _,
+            settled: _,
             log,
             starts: _,
             events: _,
@@ -158,12 +158,10 @@ impl ScriptWire {
     {
         if self.failing.has(conn) {
             self.at += 1;
-            self.looking = true;
             return Ok(());
         }
         self.failing.push(conn)?;
         self.at += 1;
-        self.looking = true;
         Ok(())
     }
 
@@ -180,7 +178,7 @@ impl ScriptWire {
         let entry = Move::Event(event.copy(self.alloc)?);
         self.log.push(entry)?;
         self.at += 1;
-        self.looking = false;
+        self.settled = self.failing.len();
         self.events = self.events.saturating_add(1);
         Ok(event)
     }
@@ -199,7 +197,7 @@ impl ScriptWire {
         match self.rooms.set(conn, room) {
             Ok(()) => {
                 self.at += 1;
-                self.looking = false;
+                self.settled = self.failing.len();
                 self.events = self.events.saturating_add(1);
                 Ok(Event::Writable(conn))
             }
@@ -226,44 +224,33 @@ impl ScriptWire {
         self.wants = self.wants.saturating_add(1);
     }
 
-    // An offer of which so many bytes are taken. Where memory was wanting while the next event was looked for, it still is.
-    fn put_taken(&mut self, conn: u32, bytes: &[u8]) -> Result<u32, NoMemory>
+    // An offer: it fails where the next one to its connection is to fail, else so many bytes are taken.
+    fn put_offer(&mut self, conn: u32, bytes: &[u8]) -> Result<Option<u32>, NoMemory>
         requires { length bytes.now < 2 ^ 32 }
-        ensures taken { IfOk result (λ n. self.new ≡ record self.old { log = self.old.log ++ move.Took conn (length bytes.now) (take n bytes.now) ∷ [] }) }
-        ensures within { IfOk result (λ n. n ≤ length bytes.now) }
+        ensures taken { IfOk result (λ answer. IfSome answer (λ n.
+            self.new ≡ record self.old { log = self.old.log ++ move.Took conn (length bytes.now) (take n bytes.now) ∷ [] })) }
+        ensures within { IfOk result (λ answer. IfSome answer (λ n. n ≤ length bytes.now)) }
+        ensures lost { IfOk result (λ answer. IfNone answer
+            (self.new ≡ record self.old { log = self.old.log ++ move.Lost conn ∷ []; faults = raised self.old.faults })) }
         ensures no_memory { OnErr result (self.new ≡ self.old) }
     {
-        if self.looking || self.failing.has(conn) {
-            return Err(NoMemory);
+        if self.failing.has_among(conn, self.settled) {
+            self.log.push(Move::Lost(conn))?;
+            self.faults = self.faults.saturating_add(1);
+            return Ok(None);
         }
         let len = bytes.len() as u32;
         let n = self.rooms.most(conn, len);
         let taken = Octets::copy_of(self.alloc, &bytes[..n as usize])?;
         self.log.push(Move::Took(conn, len, taken))?;
         self.rooms.take(conn, n);
-        Ok(n)
-    }
-
-    // An offer that fails.
-    fn put_lost(&mut self, conn: u32) -> Result<(), NoMemory>
-        ensures ok { OnOk result (self.new ≡ record self.old { log = self.old.log ++ move.Lost conn ∷ []; faults = raised self.old.faults }) }
-        ensures no_memory { OnErr result (self.new ≡ self.old) }
-    {
-        if self.looking || !self.failing.has(conn) {
-            return Err(NoMemory);
-        }
-        self.log.push(Move::Lost(conn))?;
-        self.faults = self.faults.saturating_add(1);
-        Ok(())
+        Ok(Some(n))
     }
 
     fn put_shut(&mut self, conn: u32) -> Result<(), NoMemory>
         ensures ok { OnOk result (self.new ≡ record self.old { log = self.old.log ++ move.Shut conn ∷ [] }) }
         ensures no_memory { OnErr result (self.new ≡ self.old) }
     {
-        if self.looking {
-            return Err(NoMemory);
-        }
         self.log.push(Move::Shut(conn))?;
         Ok(())
     }
@@ -329,17 +316,9 @@ impl Wire for ScriptWire {
     }
 
     fn offer(&mut self, conn: u32, bytes: &[u8]) -> Offer {
-        if self.failing.has(conn) {
-            return match self.put_lost(conn) {
-                Ok(()) => Offer::Failed,
-                Err(NoMemory) => {
-                    self.want();
-                    Offer::Memory
-                }
-            };
-        }
-        match self.put_taken(conn, bytes) {
-            Ok(n) => Offer::Took(n),
+        match self.put_offer(conn, bytes) {
+            Ok(Some(n)) => Offer::Took(n),
+            Ok(None) => Offer::Failed,
             Err(NoMemory) => {
                 self.want();
                 Offer::Memory
