@@ -1,20 +1,18 @@
 -- A log that is answered by a first part of a script, and begins the script's play.
-use Rattle.std.proofs.Common.{◌≡◌, ℕ, List, [], ◌∷◌, ◌++◌, true, refl, sym, ap, ◌∙◌, subst, append_assoc}
-use Rattle.std.specs.Prelude.{Bool}
+use Rattle.std.proofs.Common.{◌≡◌, ℕ, List, [], ◌∷◌, ◌++◌, refl, sym, ap, ◌∙◌, append_assoc}
 use Rattle.std.specs.List.{flat_map}
 use Rattle.std.proofs.lemmas.List.Concat.{flat_map-append}
 use Rattle.ads_outside.specs.declared.event.Event.{Event}
 use Rattle.ads_outside.specs.declared.event.Event.TheVariants as event
 use Rattle.ads_outside.specs.declared.moves.Move.{Move}
 use Rattle.ads_outside.specs.declared.moves.Move.TheVariants as move
-use Rattle.spec_machine.specs.MachineState.{MachineState}
 use Rattle.spec_machine.specs.Moves.{EventStep}
 use Rattle.spec_machine.specs.Peers.{Peers, first_peers, with_room, with_failing, peers_after_move}
 use Rattle.spec_machine.specs.Play.{Scene, scene_after_turn, with_peers, turns_of, turn_of, play_of}
 use Rattle.spec_machine.specs.ScriptLine.{ScriptLine, Happens, TakesAtMost, FailsNext}
-use Rattle.spec_machine.specs.Turns.{LogTurn, moves_of_turn, KeepsTurns}
+use Rattle.spec_machine.specs.Turns.{moves_of_turn}
 use Rattle.replay_script.specs.declared.rooms.Rooms.{Rooms}
-use Rattle.replay_script.specs.Answering.{AnsweredBy, AnsweredSoFar, IsFirstPart, BeginsItsPlay, IsAnsweredAtEachCut}
+use Rattle.replay_script.specs.Answering.{AnsweredBy, AnsweredSoFar, BeginsItsPlay, IsAnsweredAtEachCut}
 use Rattle.replay_script.specs.ScriptWire.{PlaysOn, lines_ahead}
 use Rattle.replay_script.proofs.AnswerLemmas.{BeginsTurn, fails_answered}
 use Rattle.replay_script.proofs.PlayedLemmas.{log_is_play}

@@ -232,6 +232,7 @@ impl ScriptWire {
         ensures within { IfOk result (λ answer. IfSome answer (λ n. n ≤ length bytes.now)) }
         ensures lost { IfOk result (λ answer. IfNone answer
             (self.new ≡ record self.old { log = self.old.log ++ move.Lost conn ∷ []; faults = raised self.old.faults })) }
+        ensures later { self.old.faults ≤ self.new.faults }
         ensures no_memory { OnErr result (self.new ≡ self.old) }
     {
         if self.failing.has_among(conn, self.settled) {

@@ -1,5 +1,5 @@
 -- A number is among the first ones where its place is before their end.
-use Rattle.std.proofs.Common.{◌≡◌, ◌∙◌, sym, ap, subst, false, take, List, ℕ, nat_lt}
+use Rattle.std.proofs.Common.{◌≡◌, ◌∙◌, sym, subst, false, take, List, ℕ, nat_lt}
 use Rattle.spec_machine.specs.Reading.{is_among}
 use Rattle.replay_script.proofs.NumberLemmas.{among_first, not_among}
 use Rattle.replay_script.proofs.number_list.NumberList.has_among.Goals as goal

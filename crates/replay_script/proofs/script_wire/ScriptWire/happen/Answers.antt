@@ -13,7 +13,7 @@ pub invariant_of-self-2 : goal.invariant_of-self-2
 invariant_of-self-2 c =
     let P : PlayedScript → Type 0 = λ w. slice_get w.lines w.at ≡ Some (Happens c.args.event) in
     let line = line_at (map line_meant c.self.inside.lines) c.self.inside.at _ (subst P (sym c.self.view_is) c.requires.line) in
-    rw (c.in_ok-push.ensures.items, c.in_ok-copy.ensures, c.len.ensures) (plays_event _ _ _ _ _ _ _ _ c.args.event line c.self.invariant)
+    rw (c.in_ok-push.ensures.items, c.in_ok-copy.ensures, c.len-self-inside.ensures) (plays_event _ _ _ _ _ _ _ _ c.args.event line c.self.invariant)
 
 pub returns-clause-is_new : goal.returns-clause-is_new
 returns-clause-is_new c =

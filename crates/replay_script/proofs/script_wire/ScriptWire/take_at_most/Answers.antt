@@ -11,4 +11,4 @@ pub invariant_of-self-in-Ok : goal.invariant_of-self-in-Ok
 invariant_of-self-in-Ok c =
     let P : PlayedScript → Type 0 = λ w. slice_get w.lines w.at ≡ Some (TakesAtMost c.args.conn c.args.room) in
     let line = line_at (map line_meant c.self.inside.lines) c.self.inside.at _ (subst P (sym c.self.view_is) c.requires.line) in
-    rw (c.in_ok-push.ensures.items, c.in-Ok.len.ensures) (plays_room _ _ _ _ _ _ _ _ _ c.args.conn c.args.room line c.self.invariant c.in-Ok.ensures.ok)
+    rw (c.in_ok-push.ensures.items, c.len-self-inside.ensures) (plays_room _ _ _ _ _ _ _ _ _ c.args.conn c.args.room line c.self.invariant c.in-Ok.ensures.ok)
