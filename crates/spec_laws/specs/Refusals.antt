@@ -108,7 +108,7 @@ BadAdditionsAreRefused = (d : Setup) (c : Client) (k : Asker)
     (group offset len number delay cycle : ℕ) → IsBadAddition group len number
     → IsRefused (act_of d c k (AddDeviceNotification group offset len number delay cycle))
 
--- any access by such a handle, whatever is asked and whatever the table answers
+-- any access by such a handle, whatever is asked and whatever is answered
 pub record RefusesAnyForm (d : Setup) (c : Client) (k : Asker) (handle : ℕ) : Type 0 where
   pub read : (len : ℕ) → IsRefused (act_of d c k (Read value_by_handle handle len))
   pub write : (bytes : List ℕ) → IsRefused (act_of d c k (Write value_by_handle handle bytes))

@@ -22,7 +22,7 @@ use Rattle.spec_laws.specs.Isolation.{start}
 use Rattle.spec_laws.specs.Soundness.{Each, ReadsAccepted}
 
 -- A Read and a ReadWrite, and each such part of a sum, is given at most as many bytes as it asks: in
--- every state, for every group and table.
+-- every state and for every group.
 pub record GivesAtMostAsked (d : Setup) (c : Client) (k : Asker) (memory : List Block) : Type 0 where
   pub read : (group offset len : ℕ)
       → length (outcome_of memory (act_of d c k (Read group offset len))).bytes ≤ len

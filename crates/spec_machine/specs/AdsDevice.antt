@@ -19,7 +19,7 @@ abbrev pub reloading : World → Result Description DescriptionFault → Reloadi
 reloading w (Err fault) = Refused fault
 reloading w (Ok d) = Accepted (world_after_reload w d).version (world_after_reload w d)
 
--- the device that answers by this table and reads descriptions so
+-- the device that reads descriptions so
 abbrev pub ads_device : DescriptionReading → Device World Client
 ads_device reading = record {
   new_client = new_client;
