@@ -28,6 +28,7 @@ impl Port {
             → FindsPlace w p (found_of p.symbols name.now) result }
         ensures placed { IfOk result (IsPlaceOf self.now.table) }
     {
+        let _known = &self.table;
         match self.find(name) {
             Some(found) => Ok(found.place),
             None => Err(Code::C710),

@@ -132,6 +132,7 @@ impl Port {
         if !may_write(rights) {
             return Err(Code::C704);
         }
+        let _known = &self.table;
         if bytes.len() > place.len as usize {
             return Err(Code::C705);
         }
