@@ -6,6 +6,8 @@ use Rattle.spec_frames.specs.Division.{Front, Whole, Open, Broken, front_of, fra
 use Rattle.ams_tcp.specs.Held.{Held}
 use Rattle.ams_tcp.specs.declared.cut.Cut.{Cut}
 use Rattle.ams_tcp.specs.declared.cut.Cut.TheVariants as cut
+use Rattle.ams_tcp.specs.declared.peeked.Peeked.{Peeked}
+use Rattle.ams_tcp.specs.declared.peeked.Peeked.TheVariants as peeked
 
 -- what happened to a splitter: all bytes fed, the number of frames given, and whether Broken was answered
 pub record History : Type 0 where
@@ -62,3 +64,9 @@ abbrev pub HoldsPacket : Cut → Type 0
 HoldsPacket (cut.Frame ams) = IsAmsPacket ams
 HoldsPacket cut.NotYet = Unit {0}
 HoldsPacket cut.Broken = Unit {0}
+
+-- the answer that is shown, with the packet lent
+abbrev pub cut_of : Peeked → Cut
+cut_of (peeked.Frame packet) = cut.Frame packet.now
+cut_of peeked.NotYet = cut.NotYet
+cut_of peeked.Broken = cut.Broken

@@ -3,6 +3,7 @@
 ghost use Rattle.std.specs.Prelude.{◌≡◌, ◌≤◌, length, take};
 ghost use Rattle.ams_tcp.specs.FrontCase.{IsFront};
 
+use crate::Peeked;
 use ads_base::get32;
 
 /// Bytes of the AMS/TCP header: reserved 2, length 4.
@@ -14,28 +15,21 @@ const LEAST_AMS: usize = 32;
 /// Bytes of the greatest AMS packet.
 const GREATEST_AMS: usize = 2_097_152;
 
-#[derive(Clone, Copy, Drop)]
-pub(crate) enum Front {
-    /// A whole frame with an AMS packet of this length.
-    Whole(usize),
-    Open,
-    Broken,
-}
-
-pub(crate) fn front_at(text: &[u8]) -> Front
+#[inline(always)]
+pub(crate) fn front_at(text: &[u8]) -> Peeked<'_>
     ensures { IsFront text.now result }
 {
     if text.len() < HEADER {
-        return Front::Open;
+        return Peeked::NotYet;
     }
     let len = get32(text, 2) as usize;
     if text[0] != 0 || text[1] != 0 || len < LEAST_AMS || len > GREATEST_AMS {
-        return Front::Broken;
+        return Peeked::Broken;
     }
     if text.len() < HEADER + len {
-        return Front::Open;
+        return Peeked::NotYet;
     }
-    Front::Whole(len)
+    Peeked::Frame(&text[HEADER..HEADER + len])
 }
 
 /// The first six bytes.

@@ -4,8 +4,10 @@
 mod cut;
 mod encoding;
 mod front;
+mod peeked;
 mod splitter;
 
 pub use cut::Cut;
 pub use encoding::put_frame;
+pub use peeked::Peeked;
 pub use splitter::Splitter;

@@ -1,12 +1,15 @@
 //! The splitter: pieces of a stream go in, frames come out.
 
 ghost use Rattle.std.specs.Prelude.{◌≡◌, ◌+◌, ◌<◌, length, IfOk, OnOk, OnErr};
+ghost use Rattle.spec_frames.specs.Division.{front_of, Whole};
+ghost use Rattle.ams_tcp.specs.History.{Represents, nothing_fed};
 
-use crate::Cut;
-use crate::front::{Front, HEADER, front_at, header_at};
-use ads_base::{NoMemory, Octets};
+use crate::front::{HEADER, front_at, header_at};
+use crate::{Cut, Peeked};
+use ads_base::{NoMemory, Octets, get32};
 use std::alloc::Global;
 use std::marker::Model;
+use std::mem;
 
 /// Cuts a stream into frames, in whatever pieces it comes. Contracts see the bytes behind the frames that were
 /// given, how many bytes of those frames are still kept, and whether Broken was answered; what a splitter answers is
@@ -39,18 +42,24 @@ impl Model for Splitter {
 
 impl Splitter {
     ghost use Rattle.ams_tcp.specs.History.{History, Represents, nothing_fed, after_feed, answer_of, after_next};
-    ghost use Rattle.ams_tcp.specs.History.{broken_of, IsFrameCut, HoldsPacket};
+    ghost use Rattle.ams_tcp.specs.History.{broken_of, cut_of, IsFrameCut, HoldsPacket};
 
     /// A splitter that was fed nothing. Nothing is allocated.
     pub fn new(alloc: Global) -> Result<Self, NoMemory>
         ensures nothing { IfOk result (λ splitter. Represents splitter nothing_fed) }
         ensures passed { IfOk result (λ splitter. splitter.passed ≡ 0) }
     {
-        Ok(Splitter {
-            bytes: Vec::new(alloc),
-            start: 0,
-            told_broken: false,
-        })
+        Ok(fed_nothing(alloc))
+    }
+
+    /// Gives the stream away, and leaves a splitter that was fed nothing. Nothing is allocated.
+    #[inline(always)]
+    pub fn take(&mut self, alloc: Global) -> Splitter
+        ensures given { result ≡ self.old }
+        ensures nothing { Represents self.new nothing_fed }
+        ensures passed { self.new.passed ≡ 0 }
+    {
+        mem::replace(self, fed_nothing(alloc))
     }
 
     /// Appends a piece to the stream. The bytes of frames that were given are let go.
@@ -87,21 +96,42 @@ impl Splitter {
         ensures passed { self.new.passed + length self.new.rest ≡ self.old.passed + length self.old.rest }
         ensures no_memory { OnErr result (self.new ≡ self.old) }
     {
-        let rest = self.rest();
-        match front_at(rest) {
-            Front::Whole(len) => {
+        match front_at(self.rest()) {
+            Peeked::Frame(packet) => {
                 let mut ams = room;
                 ams.cut(0);
-                ams.put(alloc, &rest[HEADER..HEADER + len])?;
-                self.start += HEADER + len;
+                ams.put(alloc, packet)?;
+                self.pass_frame();
                 Ok(Cut::Frame(ams))
             }
-            Front::Open => Ok(Cut::NotYet),
-            Front::Broken => {
+            Peeked::NotYet => Ok(Cut::NotYet),
+            Peeked::Broken => {
                 self.told_broken = true;
                 Ok(Cut::Broken)
             }
         }
+    }
+
+    /// What `next` would answer, with the packet lent. The frame is still there: `pass_frame` passes over it.
+    #[inline(always)]
+    pub fn peek(&self) -> Peeked<'_>
+        ensures answer { (h : History) → Represents self.now h → cut_of result ≡ answer_of h }
+        ensures packet { HoldsPacket (cut_of result) }
+        ensures whole { IsFrameCut (cut_of result) → front_of self.now.rest ≡ Whole }
+    {
+        front_at(self.rest())
+    }
+
+    /// Passes over the frame in front, as `next` does.
+    #[inline(always)]
+    pub fn pass_frame(&mut self)
+        requires { front_of self.old.rest ≡ Whole }
+        ensures stands { (h : History) → Represents self.old h → Represents self.new (after_next h) }
+        ensures shorter { length self.new.rest < length self.old.rest }
+        ensures passed { self.new.passed + length self.new.rest ≡ self.old.passed + length self.old.rest }
+    {
+        let len = get32(self.rest(), 2) as usize;
+        self.start += HEADER + len;
     }
 
     /// The six bytes at the broken place; None until `next` has answered Broken.
@@ -127,9 +157,23 @@ impl Splitter {
     {
         if self.start > 0 {
             let len = self.bytes.len() - self.start;
-            self.bytes.copy_within(self.start.., 0);
+            if len > 0 {
+                self.bytes.copy_within(self.start.., 0);
+            }
             self.bytes.truncate(len);
             self.start = 0;
         }
+    }
+}
+
+// A splitter that was fed nothing.
+fn fed_nothing(alloc: Global) -> Splitter
+    ensures nothing { Represents result nothing_fed }
+    ensures passed { result.passed ≡ 0 }
+{
+    Splitter {
+        bytes: Vec::new(alloc),
+        start: 0,
+        told_broken: false,
     }
 }

@@ -1,7 +1,8 @@
 use Rattle.std.proofs.Common.{◌≡◌, arith}
 use Rattle.spec_frames.specs.Division.{ams_length_of}
-use Rattle.spec_frames.proofs.FrontLemmas.{front_of-short, front_of-begun, front_of-whole}
+use Rattle.spec_frames.proofs.FrontLemmas.{front_of-short, front_of-begun}
 use Rattle.ams_tcp.proofs.Headers.{is_header-true, is_header-first, is_header-second, is_header-small, is_header-great, broken_header}
+use Rattle.ams_tcp.proofs.PeekLemmas.{is_whole}
 use Rattle.ams_tcp.proofs.front.front_at.Goals as goal
 use Rattle.ams_tcp.proofs.front.front_at.Goals.{then-text-ne0-via-then-text-ne0}
 use Rattle.ams_tcp.proofs.front.front_at.Goals.{then-text-ne0-via-else-text-ne0+then-text-ne0-2}
@@ -41,11 +42,5 @@ returns c =
     let size : c.get32-len.result ≡ ams_length_of c.args.text.now = c.get32-len.ensures in
     let header = is_header-true c.args.text.now c.if-text-ne0.false c.if-text-ne0-2.false
     (omega (arith, size, c.if-len-lt-LEAST_AMS.false)) (omega (arith, size, c.if-len-gt-GREATEST_AMS.false)) in
-    record {
-      front = front_of-whole c.args.text.now
-          (record { six = c.if-text-lt-HEADER.false; header = header; all_there = omega (arith, size, c.if-text-len.false) });
-      size = size;
-      least = c.if-len-lt-LEAST_AMS.false;
-      most = c.if-len-gt-GREATEST_AMS.false;
-      all_there = c.if-text-len.false;
-    }
+    is_whole c.args.text.now c.get32-len.result
+    (record { six = c.if-text-lt-HEADER.false; header = header; all_there = omega (arith, size, c.if-text-len.false) }) size
