@@ -41,7 +41,7 @@ pub(crate) struct Peers {
 impl Peers {
     ghost use Rattle.ads_edge.specs.Peers.{ClosesSilent, IsEmpty, IsLongerBy, KeepsQueues, NoneIsSilent, is_busy};
     ghost use Rattle.std.specs.VecDeque.{deque_len};
-    ghost use Rattle.ads_edge.specs.Connection.{has_waiting, is_left};
+    ghost use Rattle.ads_edge.specs.Connection.{has_waiting};
     ghost use Rattle.ads_edge.specs.Turn.{IsTold, TellsOf};
 
     /// No connection.
@@ -156,6 +156,7 @@ impl Peers {
 
     /// Offers bytes to a connection: how many were taken; None where it is not there or its peer is gone, and then it is
     /// removed.
+    #[inline(always)]
     pub(crate) fn offer(&mut self, number: u32, bytes: &[u8]) -> Result<Option<u32>, NoMemory>
         requires { length bytes.now < 2 ^ 32 }
         ensures { IfOk result (λ taken. IfSome taken (λ n. n ≤ length bytes.now)) }
@@ -163,13 +164,24 @@ impl Peers {
         let Some(place) = self.place_of(number) else {
             return Ok(None);
         };
-        if self.was_left(place) {
+        let Some(connection) = self.connections.get_mut(place) else {
             return Ok(None);
+        };
+        match connection.stage {
+            Stage::Served => {}
+            Stage::Failed => {
+                self.remove(place);
+                return Ok(None);
+            }
+            Stage::Leaving | Stage::Parting => return Ok(None),
         }
-        match offer_at(&mut self.connections, place, bytes, self.beat)? {
+        match connection.offer(bytes, self.beat)? {
             Some(taken) => {
-                self.list_to_send(place)?;
-                Ok(Some(taken))
+                if !connection.to_send && connection.waits() {
+                    connection.to_send = true;
+                    self.to_send.push_back(number)?;
+                }
+                Ok(Some(taken as u32))
             }
             None => {
                 self.remove(place);
@@ -226,7 +238,8 @@ impl Peers {
         self.connections.iter().any(|connection| connection.waits())
     }
 
-    // The place of a connection.
+    // The place of a connection, which mostly is the one that was looked up last.
+    #[inline(always)]
     fn place_of(&mut self, number: u32) -> Option<usize>
         ensures within { IfSome result (λ place. place < vec_len self.old.connections) }
         ensures found { IfSome result (HoldsAt (λ (c : Connection). c.number ≡ number) self.old.connections.items) }
@@ -237,6 +250,15 @@ impl Peers {
                 return Some(self.near);
             }
         }
+        self.place_among(number)
+    }
+
+    // The same by the order of the numbers.
+    fn place_among(&mut self, number: u32) -> Option<usize>
+        ensures within { IfSome result (λ place. place < vec_len self.old.connections) }
+        ensures found { IfSome result (HoldsAt (λ (c : Connection). c.number ≡ number) self.old.connections.items) }
+        ensures same { self.new ≡ record self.old { near = self.new.near } }
+    {
         let place = self
             .connections
             .partition_point(|connection| connection.number < number);
@@ -245,16 +267,6 @@ impl Peers {
         }
         self.near = place;
         Some(place)
-    }
-
-    // Whether the server is done with the connection.
-    fn was_left(&self, place: usize) -> bool
-        ensures { place < vec_len self.now.connections → HoldsAt (λ (c : Connection). result ≡ is_left c.stage) self.now.connections.items place }
-    {
-        match self.connections.get(place) {
-            Some(connection) => connection.is_left(),
-            None => true,
-        }
     }
 
     fn remove(&mut self, place: usize)
@@ -482,28 +494,5 @@ fn read_at(connections: &mut Vec<Connection>, place: usize, buffer: &mut [u8], n
     match connections.get_mut(place) {
         Some(connection) => connection.read(buffer, now),
         None => Came::Nothing,
-    }
-}
-
-// Offers bytes to a connection that is served.
-fn offer_at(
-    connections: &mut Vec<Connection>,
-    place: usize,
-    bytes: &[u8],
-    now: u64,
-) -> Result<Option<u32>, NoMemory>
-    requires { length bytes.now < 2 ^ 32 }
-    ensures within { IfOk result (λ taken. IfSome taken (λ n. n ≤ length bytes.now)) }
-    ensures same { vec_len connections.new ≡ vec_len connections.old }
-{
-    let Some(connection) = connections.get_mut(place) else {
-        return Ok(None);
-    };
-    if connection.stage != Stage::Served {
-        return Ok(None);
-    }
-    match connection.offer(bytes, now)? {
-        Some(taken) => Ok(Some(taken as u32)),
-        None => Ok(None),
     }
 }

@@ -93,6 +93,7 @@ impl Sockets {
     }
 
     /// Offers bytes to a connection: how many were taken; None where it is not there or its peer is gone.
+    #[inline(always)]
     pub(crate) fn offer(&mut self, number: u32, bytes: &[u8]) -> Result<Option<u32>, NoMemory>
         requires { length bytes.now < 2 ^ 32 }
         ensures { IfOk result (λ taken. IfSome taken (λ n. n ≤ length bytes.now)) }
