@@ -11,7 +11,8 @@ use std::marker::Model;
 // So much room is kept where no frame is left.
 const MOST_SPARE: usize = 65_536;
 
-// Bytes of frames that are gone are moved over once they are so many, and no fewer than those of frames that are left.
+// Where there is no room, bytes of frames that are gone are moved over if they are so many, and no fewer than those of frames
+// that are left.
 const MANY_GONE: usize = 4096;
 
 // The frames, which contracts see as a list.
@@ -54,7 +55,7 @@ impl FrameRun {
         ensures ok { OnOk result (self.new ≡ self.old ++ frame.now ∷ []) }
         ensures no_memory { OnErr result (self.new ≡ self.old) }
     {
-        self.close_up();
+        self.close_up(frame.len());
         self.lens.reserve(1)?;
         self.bytes.extend_from_slice(frame)?;
         self.lens.push_back_reserved(frame.len() as u32);
@@ -85,8 +86,19 @@ impl FrameRun {
         }
     }
 
+    // Makes room for so many further bytes out of what is gone, where none is left.
+    #[inline(always)]
+    fn close_up(&mut self, more: usize)
+        ensures { self.new ≡ self.old }
+    {
+        if more > self.bytes.capacity() - self.bytes.len() {
+            self.move_up();
+        }
+    }
+
     // Moves what is left over what is gone, where that is more: a byte is moved at most once for each that is gone.
-    fn close_up(&mut self)
+    #[inline(never)]
+    fn move_up(&mut self)
         ensures { self.new ≡ self.old }
     {
         let left = self.bytes.len() - self.gone;
