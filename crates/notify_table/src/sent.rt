@@ -1,6 +1,6 @@
 //! The bytes that a notification last sent.
 
-ghost use Rattle.std.specs.Prelude.{◌≡◌, ◌≤◌, length, take, bytes_eq, IfOk};
+ghost use Rattle.std.specs.Prelude.{◌≡◌, ◌≤◌, length, take, bytes_eq, IfOk, IfSome};
 
 use ads_base::NoMemory;
 use std::alloc::Global;
@@ -75,19 +75,36 @@ impl SentBytes {
     }
 }
 
-// Whether two runs of bytes are the same. Four are compared in one step, where any number of them is a call.
+// Whether two runs of bytes are the same. A known number of them is compared in one step, where any number is a call.
 fn are_same(bytes: &[u8], others: &[u8]) -> bool
     ensures { result ≡ bytes_eq bytes.now others.now }
 {
-    if let Some(four) = bytes.as_array::<4>() {
-        if let Some(other) = others.as_array::<4>() {
-            return *four == *other;
-        }
+    if let Some(same) = are_same_of::<4>(bytes, others) {
+        return same;
+    }
+    if let Some(same) = are_same_of::<2>(bytes, others) {
+        return same;
+    }
+    if let Some(same) = are_same_of::<8>(bytes, others) {
+        return same;
+    }
+    if let Some(same) = are_same_of::<1>(bytes, others) {
+        return same;
     }
     bytes == others
 }
 
-// At most eight bytes, and zeros behind them. Four are moved in one step.
+// The same, where both have so many.
+fn are_same_of<const N: usize>(bytes: &[u8], others: &[u8]) -> Option<bool>
+    requires { N ≤ 8 }
+    ensures { IfSome result (λ same. same ≡ bytes_eq bytes.now others.now) }
+{
+    let these = bytes.as_array::<N>()?;
+    let those = others.as_array::<N>()?;
+    Some(*these == *those)
+}
+
+// At most eight bytes, and zeros behind them. A known number of them is moved in one step.
 fn few_of(bytes: &[u8]) -> [u8; FEW]
     requires { length bytes.now ≤ 8 }
     ensures { take (length bytes.now) result ≡ bytes.now }
@@ -95,6 +112,17 @@ fn few_of(bytes: &[u8]) -> [u8; FEW]
     if let Some(four) = bytes.as_array::<4>() {
         let [a, b, c, d] = *four;
         return [a, b, c, d, 0, 0, 0, 0];
+    }
+    if let Some(two) = bytes.as_array::<2>() {
+        let [a, b] = *two;
+        return [a, b, 0, 0, 0, 0, 0, 0];
+    }
+    if let Some(eight) = bytes.as_array::<8>() {
+        return *eight;
+    }
+    if let Some(one) = bytes.as_array::<1>() {
+        let [a] = *one;
+        return [a, 0, 0, 0, 0, 0, 0, 0];
     }
     let mut few = [0; FEW];
     few[..bytes.len()].copy_from_slice(bytes);
