@@ -1,4 +1,5 @@
 pub mod Filtered
+pub mod SentLemmas
 pub mod TurnLemmas
 pub mod ScheduleLemmas
 pub mod NumberedLemmas

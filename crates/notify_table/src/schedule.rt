@@ -195,6 +195,14 @@ fn place_of_handle(turns: &VecDeque<Turn>, handle: u32) -> Option<usize>
     if is_first(turns, handle) {
         return Some(0);
     }
+    place_by_walk(turns, handle)
+}
+
+// The same, apart from the code of the caller.
+#[inline(never)]
+fn place_by_walk(turns: &VecDeque<Turn>, handle: u32) -> Option<usize>
+    ensures { result ≡ position (λ t. nat_eq (handle_of_turn t) handle) turns.now.items }
+{
     turns.iter().position(|turn| turn.handle == handle)
 }
 

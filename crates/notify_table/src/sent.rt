@@ -1,6 +1,6 @@
 //! The bytes that a notification last sent.
 
-ghost use Rattle.std.specs.Prelude.{◌≡◌, ◌≤◌, length, take, bytes_eq, IfOk, IfSome};
+ghost use Rattle.std.specs.Prelude.{◌≡◌, ◌≤◌, length, bytes_eq, IfOk};
 
 use ads_base::NoMemory;
 use std::alloc::Global;
@@ -68,63 +68,52 @@ impl SentBytes {
         ensures { self.new ≡ bytes.now }
     {
         if self.len <= FEW {
-            self.few = few_of(bytes);
+            put_few(&mut self.few[..self.len], bytes);
         } else {
             self.many.as_mut_slice().copy_from_slice(bytes);
         }
     }
 }
 
-// Whether two runs of bytes are the same. A known number of them is compared in one step, where any number is a call.
+// Whether two runs of bytes are the same. Two and four are compared in place, where any number of them is a call.
 fn are_same(bytes: &[u8], others: &[u8]) -> bool
     ensures { result ≡ bytes_eq bytes.now others.now }
 {
-    if let Some(same) = are_same_of::<4>(bytes, others) {
-        return same;
+    if let Some(two) = bytes.as_array::<2>() {
+        if let Some(other) = others.as_array::<2>() {
+            return *two == *other;
+        }
     }
-    if let Some(same) = are_same_of::<2>(bytes, others) {
-        return same;
-    }
-    if let Some(same) = are_same_of::<8>(bytes, others) {
-        return same;
-    }
-    if let Some(same) = are_same_of::<1>(bytes, others) {
-        return same;
+    if let Some(four) = bytes.as_array::<4>() {
+        if let Some(other) = others.as_array::<4>() {
+            return are_same_four(*four, *other);
+        }
     }
     bytes == others
 }
 
-// The same, where both have so many.
-fn are_same_of<const N: usize>(bytes: &[u8], others: &[u8]) -> Option<bool>
-    requires { N ≤ 8 }
-    ensures { IfSome result (λ same. same ≡ bytes_eq bytes.now others.now) }
+fn are_same_four(bytes: [u8; 4], others: [u8; 4]) -> bool
+    ensures { result ≡ bytes_eq bytes others }
 {
-    let these = bytes.as_array::<N>()?;
-    let those = others.as_array::<N>()?;
-    Some(*these == *those)
+    u32::from_le_bytes(bytes) == u32::from_le_bytes(others)
 }
 
-// At most eight bytes, and zeros behind them. A known number of them is moved in one step.
-fn few_of(bytes: &[u8]) -> [u8; FEW]
-    requires { length bytes.now ≤ 8 }
-    ensures { take (length bytes.now) result ≡ bytes.now }
+// As many other bytes. Two, four and eight are moved in one step.
+fn put_few(few: &mut [u8], bytes: &[u8])
+    requires { length bytes.now ≡ length few.old }
+    ensures { few.new ≡ bytes.now }
 {
-    if let Some(four) = bytes.as_array::<4>() {
-        let [a, b, c, d] = *four;
-        return [a, b, c, d, 0, 0, 0, 0];
-    }
     if let Some(two) = bytes.as_array::<2>() {
-        let [a, b] = *two;
-        return [a, b, 0, 0, 0, 0, 0, 0];
+        few.copy_from_slice(two.as_slice());
+        return;
+    }
+    if let Some(four) = bytes.as_array::<4>() {
+        few.copy_from_slice(four.as_slice());
+        return;
     }
     if let Some(eight) = bytes.as_array::<8>() {
-        return *eight;
+        few.copy_from_slice(eight.as_slice());
+        return;
     }
-    if let Some(one) = bytes.as_array::<1>() {
-        let [a] = *one;
-        return [a, 0, 0, 0, 0, 0, 0, 0];
-    }
-    let mut few = [0; FEW];
-    few[..bytes.len()].copy_from_slice(bytes);
-    few
+    few.copy_from_slice(bytes);
 }

@@ -49,6 +49,7 @@ fn is_behind_all(turns: &VecDeque<Turn>, turn: Turn) -> bool
 }
 
 // Puts a turn where it belongs. There is room.
+#[inline(always)]
 pub(crate) fn put_turn(turns: &mut VecDeque<Turn>, turn: Turn)
     requires in_turn { AreInTurn turns.old.items }
     requires room { deque_len turns.old < deque_capacity turns.old }
@@ -60,6 +61,24 @@ pub(crate) fn put_turn(turns: &mut VecDeque<Turn>, turn: Turn)
         put_last(turns, turn);
         return;
     }
+    // A copy, so that the turn itself needs no place in memory.
+    let copy = Turn {
+        next: turn.next,
+        handle: turn.handle,
+        key: turn.key,
+    };
+    put_between(turns, copy);
+}
+
+// The same by a search, apart from the code of the caller.
+#[inline(never)]
+fn put_between(turns: &mut VecDeque<Turn>, turn: Turn)
+    requires in_turn { AreInTurn turns.old.items }
+    requires room { deque_len turns.old < deque_capacity turns.old }
+    ensures put { (place : ℕ) × (place ≤ deque_len turns.old)
+        × (turns.new.items ≡ insert turns.old.items place turn) }
+    ensures in_turn { AreInTurn turns.new.items }
+{
     let place = place_of(turns, turn);
     // There is room, so this cannot fail.
     let _ = turns.insert(place, turn);
@@ -78,6 +97,7 @@ fn put_last(turns: &mut VecDeque<Turn>, turn: Turn)
 }
 
 // Takes the turn at a place out. Its room stays.
+#[inline(always)]
 pub(crate) fn take_turn(turns: &mut VecDeque<Turn>, at: usize) -> Turn
     requires { at < deque_len turns.old }
     ensures value { result ≡ slice_index_or turns.old.items at result }
@@ -89,6 +109,18 @@ pub(crate) fn take_turn(turns: &mut VecDeque<Turn>, at: usize) -> Turn
     if at == 0 {
         return take_first(turns);
     }
+    take_other(turns, at)
+}
+
+// The same, apart from the code of the caller.
+#[inline(never)]
+fn take_other(turns: &mut VecDeque<Turn>, at: usize) -> Turn
+    requires { at < deque_len turns.old }
+    ensures value { result ≡ slice_index_or turns.old.items at result }
+    ensures items { turns.new.items ≡ remove turns.old.items at }
+    ensures len { deque_len turns.new + 1 ≡ deque_len turns.old }
+    ensures capacity { deque_capacity turns.new ≡ deque_capacity turns.old }
+{
     match turns.remove(at) {
         Some(turn) => turn,
         None => unreachable!(),
@@ -122,7 +154,8 @@ pub(crate) fn due_turns<L: Ledger>(
     ensures cost { steps.new ≤ steps.old + (length (filter (is_turn_due now) turns.now.items) + 1) }
     ensures counted { OnOk result (steps.old + length (filter (is_turn_due now) turns.now.items) ≤ steps.new) }
 {
-    let mut handles = Vec::new(alloc);
+    // So many are due, and the list grows no further.
+    let mut handles = Vec::with_capacity(alloc, count_due(turns, now))?;
     for i in 0..turns.len() {
         let turn = turns[i];
         if !is_due(&turn, now, steps) {
