@@ -1,6 +1,6 @@
 -- The saves so far go on with a turn; and how a run ends.
 use Rattle.std.proofs.Common.{◌≡◌, ℕ, ◌+◌, ◌<◌, ◌≤◌, List, [], ◌∷◌, ◌++◌, length, true, false, refl, sym, ap, ◌∙◌, subst, append-nil, inl, inr, arith}
-use Rattle.std.specs.Prelude.{Option, Some, None, ◌⊎◌}
+use Rattle.std.specs.Prelude.{Option, Some, ◌⊎◌}
 use Rattle.std.proofs.lemmas.List.{length-append}
 use Rattle.ads_outside.specs.declared.moves.Move.{Move}
 use Rattle.ads_outside.specs.WireAnswers.{Stops}
@@ -9,7 +9,7 @@ use Rattle.spec_machine.specs.Moves.{EventStep}
 use Rattle.ads_served.specs.Standing.{Standing, Noting, standing_after_all}
 use Rattle.spec_store.specs.Slots as slots
 use Rattle.spec_store.specs.Runs as runs
-use Rattle.spec_store.specs.Saves.{is_over_limit, standing_after}
+use Rattle.spec_store.specs.Saves.{is_over_limit}
 use Rattle.serve_loop.specs.declared.turn_end.TurnEnd.{TurnEnd}
 use Rattle.serve_loop.specs.declared.turn_end.TurnEnd.TheVariants as turn
 use Rattle.serve_loop.specs.Leads.{serves_any}
@@ -24,11 +24,11 @@ use Rattle.keep_loop.specs.declared.save_end.SaveEnd.TheVariants as save
 use Rattle.keep_loop.specs.Bodies.{BodyOf, bodies_at_ticks, bodies_of_run, is_standing, saves_in, is_any_over}
 use Rattle.keep_loop.specs.Saving.{LeavesEach, StaysTold, StandsForSome, StaysSame, IsSaved, IsBegun, Differs, AfterSave}
 use Rattle.keep_loop.specs.Ending.{EndsBySave, end_by_save}
-use Rattle.keep_loop.specs.Keeping.{Keeps, KeepsBefore, GoesOn, StopsAt, TookTurns, CountsSaves, FileStandsFor, StandsAtEnd, AfterKeep, KeepsSoFar}
+use Rattle.keep_loop.specs.Keeping.{Keeps, GoesOn, StopsAt, TookTurns, CountsSaves, FileStandsFor, StandsAtEnd, AfterKeep, KeepsSoFar}
 use Rattle.keep_loop.proofs.SaveLemmas.{last_of, body_in, body_after, saves-same, saves-other, saves-none}
-use Rattle.keep_loop.proofs.SaveLemmas.{over_then, standing_then, first_standing, left_then, left_more}
+use Rattle.keep_loop.proofs.SaveLemmas.{over_then, standing_then, left_then, left_more}
 use Rattle.keep_loop.proofs.SaveLemmas.{left_same, told_then, told_same}
-use Rattle.keep_loop.proofs.TurnLemmas.{bodies_of_turn, keeps_then, keeps_last, keeps_to, keeps_none}
+use Rattle.keep_loop.proofs.TurnLemmas.{keeps_then, keeps_last, keeps_to, keeps_none}
 
 -- the body of a world that is served
 abbrev pub IsBodyOf : {W C : Type 0} → BodyOf W → (Standing W C → Type 0) → List ℕ → Type 0

@@ -14,7 +14,7 @@ use Rattle.serve_loop.specs.TurnTaken.{StandsOver, AreTurnsOf}
 use Rattle.serve_loop.proofs.EndLemmas.{log-after}
 use Rattle.serve_loop.proofs.TurnLemmas.{ends-after}
 use Rattle.keep_loop.specs.Bodies.{BodyOf, bodies_at_ticks, bodies_of_run, saves_in}
-use Rattle.keep_loop.specs.Keeping.{BodiesOf, Keeps, KeepsBefore, GoesOn}
+use Rattle.keep_loop.specs.Keeping.{Keeps, KeepsBefore, GoesOn}
 use Rattle.keep_loop.proofs.BodyLemmas.{bodies_begin}
 use Rattle.keep_loop.proofs.SaveLemmas.{last_of, saves-append}
 

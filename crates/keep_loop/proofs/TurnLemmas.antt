@@ -18,7 +18,7 @@ use Rattle.serve_loop.proofs.TurnLemmas.{turns_none, turns_then}
 use Rattle.keep_loop.specs.Bodies.{BodyOf, bodies_at_event, bodies_at_ticks, bodies_of_run, saves_in}
 use Rattle.keep_loop.specs.Keeping.{BodiesOf, Keeps}
 use Rattle.keep_loop.proofs.BodyLemmas.{bodies-append, turn_bodies}
-use Rattle.keep_loop.proofs.SaveLemmas.{last_of, saves-append, saves-none}
+use Rattle.keep_loop.proofs.SaveLemmas.{last_of, saves-append}
 
 pub state_played : {W C : Type 0} (step : EventStep W C) (noted : Noting W C) (x : Standing W C) (ms : List Move)
     → (standing_after_all step noted x ms).running.state ≡ state_after step x.running.state ms

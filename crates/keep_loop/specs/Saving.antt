@@ -1,6 +1,5 @@
 -- What became of a body that may have to be saved. No public clause cites it but `LeavesEach` and `StandsForSome`.
 use Rattle.std.specs.Prelude.{◌≡◌, ◌⊎◌, ℕ, List, [], ◌∷◌, true, false, Option, Some}
-use Rattle.ads_outside.specs.Rose.{Rose}
 use Rattle.ads_served.specs.Standing as served
 use Rattle.spec_store.specs.Disk.{LeavesOnly}
 use Rattle.spec_store.specs.Slots.{Standing, standing_of}

@@ -1,6 +1,6 @@
 //! The loop: turns, and a save after each tick and at the end.
 
-ghost use Rattle.std.specs.Prelude.{◌≡◌, ◌≤◌, ◌<◌, ◌+◌, ◌^◌, ℕ, List, false, None};
+ghost use Rattle.std.specs.Prelude.{◌≡◌, ◌≤◌, ◌<◌, ◌+◌, ◌^◌, false, None};
 ghost use Rattle.ads_outside.specs.Rose.{Rose};
 ghost use Rattle.ads_served.specs.Standing.{Standing};
 ghost use Rattle.persist_store.specs.Store.{IsReady, body_of};

@@ -1,5 +1,5 @@
 -- What the answer of the store's save makes of a body that does not stand.
-use Rattle.std.proofs.Common.{◌≡◌, ◌∙◌, refl, sym, inl, inr}
+use Rattle.std.proofs.Common.{◌∙◌, refl, sym, inr}
 use Rattle.keep_loop.proofs.SavingLemmas.{left_by_save, told_by_save, done_within, failed_within}
 use Rattle.keep_loop.proofs.saving.save_new.Goals as goal
 
