@@ -10,7 +10,6 @@ use Rattle.symbol_file.specs.declared.fault.DescFault.{DescFault}
 use Rattle.symbol_file.specs.declared.fault.DescFault.TheVariants as fault
 use Rattle.symbol_file.specs.Reading.{answer_of, IsVerdict}
 use Rattle.type_layout.specs.declared.description.Description as layout
-use Rattle.run_tasks.specs.declared.described.Accepted.{Accepted}
 use Rattle.run_tasks.specs.declared.outcome.Outcome.{Outcome}
 use Rattle.run_tasks.specs.declared.status.Status.{Status}
 use Rattle.run_tasks.specs.declared.status.Status.TheVariants as status
@@ -19,7 +18,7 @@ use Rattle.run_tasks.specs.EndsOr.{WantsMemory, IsPrinted, EndsOr, EndsOrBy}
 use Rattle.run_tasks.specs.Outcomes.{IsOutcome, Decides, HasBytes, Finds, IsRead, status_of_fault}
 use Rattle.run_tasks.specs.Prints.{PrintsEnding}
 use Rattle.run_tasks.specs.Readings.{OverFile, OverFiles}
-use Rattle.run_tasks.specs.Verdict.{Verdict, Ends, ended, if_accepted, verdict_of_file, verdict_of_description_file}
+use Rattle.run_tasks.specs.Verdict.{Verdict, Ends, ended, if_accepted, verdict_of_description_file}
 use Rattle.run_tasks.proofs.ReadingLemmas.{map_file, map_files, at_bytes, decided_none}
 use Rattle.run_tasks.proofs.VerdictLemmas.{Holds, of_file, of_accepted}
 

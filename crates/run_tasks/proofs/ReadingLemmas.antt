@@ -11,7 +11,6 @@ use Rattle.ads_outside.specs.Limit.{file_limit}
 use Rattle.ads_outside.specs.Named.{bytes_of}
 use Rattle.ads_outside.specs.Reads.{Reads}
 use Rattle.ads_outside.specs.Rose.{Rose}
-use Rattle.symbol_file.specs.declared.fault.DescFault.TheVariants as fault
 use Rattle.run_tasks.specs.declared.outcome.Outcome.{Outcome}
 use Rattle.run_tasks.specs.declared.status.Status.TheVariants as status
 use Rattle.run_tasks.specs.Verdict.{Verdict, ended, verdict_of_file}

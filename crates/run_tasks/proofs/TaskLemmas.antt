@@ -1,5 +1,5 @@
 -- The numbers of a task are small enough.
-use Rattle.std.proofs.Common.{◌≡◌, ℕ, Bool, true, false, List, [], ◌∷◌, Option, Some, None, refl, sym, subst}
+use Rattle.std.proofs.Common.{◌≡◌, ◌≤◌, ℕ, Bool, true, false, List, [], ◌∷◌, Option, Some, None, refl, sym, subst}
 use Rattle.std.specs.Prelude.{nat_le, ◌&&◌, length, if◌then◌else◌}
 use Rattle.std.specs.List.{list_all}
 use Rattle.std.proofs.lemmas.Bool.{leb-true, and_parts}
@@ -20,6 +20,22 @@ load_fits : (n : ℕ) (b : Bool) → nat_le n 100000 ≡ b → FitsTask (if b th
 load_fits n true is = leb-true n 100000 is
 load_fits n false is = tt
 
+-- a cycle and a number of samples that a call takes
+record Samples (y k : ℕ) : Type 0 where
+  cycle : y ≤ 4294967295
+  some : 1 ≤ k
+  most : k ≤ 1000000
+
+samples_fit : (cycle count : ℕ) → takes_samples cycle count ≡ true → Samples cycle count
+samples_fit cycle count h =
+    let counts = and_parts (nat_le cycle 4294967295 && nat_le 1 count) (nat_le count 1000000) h in
+    let first = and_parts (nat_le cycle 4294967295) (nat_le 1 count) counts.0 in
+    record {
+      cycle = leb-true cycle 4294967295 first.0;
+      some = leb-true 1 count first.1;
+      most = leb-true count 1000000 counts.1;
+    }
+
 what_fits : (what : ClientTask) → fits_what what ≡ true → FitsClientTask what
 what_fits ask.Info h = tt
 what_fits ask.State h = tt
@@ -32,9 +48,9 @@ what_fits (ask.Set name value) h =
     let both = and_parts (is_text name) (is_text value) h in
     (leb-true (length name) 65536 both.0, leb-true (length value) 65536 both.1)
 what_fits (ask.Watch name change cycle count) h =
-    let last = and_parts (is_text name && nat_le cycle 4294967295) (nat_le count 1000000) h in
-    let first = and_parts (is_text name) (nat_le cycle 4294967295) last.0 in
-    (leb-true (length name) 65536 first.0, leb-true cycle 4294967295 first.1, leb-true count 1000000 last.1)
+    let both = and_parts (is_text name) (takes_samples cycle count) h in
+    let s = samples_fit cycle count both.1 in
+    (leb-true (length name) 65536 both.0, s.cycle, s.some, s.most)
 
 ask_fits : (what : ClientTask) (client : ClientWords) (b a : Bool) → nat_le client.port 65535 ≡ b → fits_what what ≡ a
     → FitsTask (if b && a then Some (task.Ask what client) else None)
@@ -52,15 +68,14 @@ record_fits_so : (what : RecordTask) → fits_record what ≡ true → FitsRecor
 record_fits_so what h =
     let all = and_parts (nat_le what.client.port 65535 && takes_samples what.cycle what.count) (are_names what.names) h in
     let first = and_parts (nat_le what.client.port 65535) (takes_samples what.cycle what.count) all.0 in
-    let counts = and_parts (nat_le what.cycle 4294967295 && nat_le 1 what.count) (nat_le what.count 1000000) first.1 in
-    let cycles = and_parts (nat_le what.cycle 4294967295) (nat_le 1 what.count) counts.0 in
+    let samples = samples_fit what.cycle what.count first.1 in
     let names = and_parts (nat_le 1 (length what.names) && nat_le (length what.names) 16) (list_all (λ name. is_text name) what.names) all.1 in
     let lengths = and_parts (nat_le 1 (length what.names)) (nat_le (length what.names) 16) names.0 in
     record {
       client = leb-true what.client.port 65535 first.0;
-      cycle = leb-true what.cycle 4294967295 cycles.0;
-      some = leb-true 1 what.count cycles.1;
-      most = leb-true what.count 1000000 counts.1;
+      cycle = samples.cycle;
+      some = samples.some;
+      most = samples.most;
       named = leb-true 1 (length what.names) lengths.0;
       few = leb-true (length what.names) 16 lengths.1;
       short = texts_fit what.names names.1;

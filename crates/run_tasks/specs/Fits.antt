@@ -21,7 +21,7 @@ FitsClientTask (ask.Control ads device) = (ads ≤ 65535) × (device ≤ 65535)
 FitsClientTask (ask.Get name) = IsTextOfWords name
 FitsClientTask (ask.Show name) = IsTextOfWords name
 FitsClientTask (ask.Set name value) = IsTextOfWords name × IsTextOfWords value
-FitsClientTask (ask.Watch name change cycle count) = IsTextOfWords name × (cycle ≤ 4294967295) × (count ≤ 1000000)
+FitsClientTask (ask.Watch name change cycle count) = IsTextOfWords name × (cycle ≤ 4294967295) × (1 ≤ count) × (count ≤ 1000000)
 
 abbrev pub FitsClient : ClientWords → Type 0
 FitsClient client = client.port ≤ 65535

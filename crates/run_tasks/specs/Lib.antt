@@ -2,6 +2,7 @@ pub mod StatusTable
 pub mod Ending
 pub mod BuiltIn
 pub mod Tasks
+pub mod Groups
 pub mod Report
 pub mod Load
 pub mod Asking

@@ -20,6 +20,10 @@ task_of_load n = if nat_le n 100000 then Some (task.OfFiles (file_task.Load n)) 
 abbrev pub is_text : List ℕ → Bool
 is_text text = nat_le (length text) 65536
 
+-- a cycle of 32 bits, and 1 to 1,000,000 samples
+abbrev pub takes_samples : ℕ → ℕ → Bool
+takes_samples cycle count = nat_le cycle 4294967295 && nat_le 1 count && nat_le count 1000000
+
 abbrev pub fits_what : ClientTask → Bool
 fits_what ask.Info = true
 fits_what ask.State = true
@@ -28,18 +32,15 @@ fits_what (ask.Control ads device) = nat_le ads 65535 && nat_le device 65535
 fits_what (ask.Get name) = is_text name
 fits_what (ask.Show name) = is_text name
 fits_what (ask.Set name value) = is_text name && is_text value
-fits_what (ask.Watch name change cycle count) = is_text name && nat_le cycle 4294967295 && nat_le count 1000000
+fits_what (ask.Watch name change cycle count) = is_text name && takes_samples cycle count
 
 abbrev pub task_of_ask : ClientTask → ClientWords → Option Task
 task_of_ask what client =
     if nat_le client.port 65535 && fits_what what then Some (task.Ask what client) else None
 
--- 1 to 16 names, and what a recording takes
+-- 1 to 16 names
 abbrev pub are_names : List (List ℕ) → Bool
 are_names names = nat_le 1 (length names) && nat_le (length names) 16 && list_all (λ name. is_text name) names
-
-abbrev pub takes_samples : ℕ → ℕ → Bool
-takes_samples cycle count = nat_le cycle 4294967295 && nat_le 1 count && nat_le count 1000000
 
 abbrev pub fits_record : RecordTask → Bool
 fits_record what = nat_le what.client.port 65535 && takes_samples what.cycle what.count && are_names what.names

@@ -2,6 +2,7 @@
 #![tactic(auto)]
 
 mod client_task;
+mod command_task;
 mod described;
 mod ending;
 mod file;

@@ -3,14 +3,15 @@
 ghost use Rattle.std.specs.Prelude.{◌≡◌, map, string_bytes, IfOk};
 ghost use Rattle.std.specs.List.{list_all};
 ghost use Rattle.run_tasks.specs.Tasks.{are_names, asked_task, fits_record, fits_what, is_text, takes_samples};
-ghost use Rattle.run_tasks.specs.Tasks.{task_of_ask, task_of_command, task_of_load, task_of_record};
+ghost use Rattle.run_tasks.specs.Tasks.{task_of_ask, task_of_record};
 ghost use Rattle.run_tasks.specs.Fits.{FitsTask};
 
 use crate::client_task::ClientTask;
+use crate::command_task::task_of;
 use crate::file_task::FileTask;
 use crate::record_task::RecordTask;
 use ads_base::NoMemory;
-use cli_words::{ClientWords, Command, Text, read_words};
+use cli_words::{ClientWords, Text, read_words};
 use std::alloc::Global;
 
 /// A command, with the names of its files.
@@ -54,138 +55,8 @@ pub fn task_asked(alloc: Global, words: &[String]) -> Result<Option<Task>, NoMem
     Ok(task_of(command))
 }
 
-#[tactic(auto, unfolding(crate::specs::Tasks::task_of_command))]
-fn task_of(command: Option<Command>) -> Option<Task>
-    ensures { result ≡ task_of_command command }
-{
-    match command {
-        Some(Command::Selftest { script }) => Some(Task::OfFiles(FileTask::Selftest { script })),
-        Some(Command::Check { description }) => {
-            Some(Task::OfFiles(FileTask::Check { description }))
-        }
-        Some(
-            Command::Replay {
-                description,
-                script,
-            },
-        ) => Some(Task::OfFiles(FileTask::Replay {
-            description,
-            script,
-        })),
-        Some(Command::Load { n }) => task_of_load(n),
-        Some(Command::Migrate { description }) => {
-            Some(Task::OfFiles(FileTask::Migrate { description }))
-        }
-        Some(
-            Command::Serve {
-                description,
-                listen,
-                events,
-            },
-        ) => Some(Task::Serve {
-            description,
-            listen,
-            events,
-        }),
-        Some(Command::Info(client)) => task_of_ask(ClientTask::Info, client),
-        Some(Command::State(client)) => task_of_ask(ClientTask::State, client),
-        Some(Command::List(client)) => task_of_ask(ClientTask::List, client),
-        Some(
-            Command::Control {
-                ads,
-                device,
-                client,
-            },
-        ) => task_of_ask(ClientTask::Control { ads, device }, client),
-        Some(Command::Get { name, client }) => task_of_ask(ClientTask::Get { name }, client),
-        Some(Command::Show { name, client }) => task_of_ask(ClientTask::Show { name }, client),
-        Some(
-            Command::Set {
-                name,
-                value,
-                client,
-            },
-        ) => task_of_ask(ClientTask::Set { name, value }, client),
-        Some(
-            Command::Watch {
-                name,
-                change,
-                cycle,
-                count,
-                client,
-            },
-        ) => task_of_ask(
-            ClientTask::Watch {
-                name,
-                change,
-                cycle,
-                count,
-            },
-            client,
-        ),
-        Some(
-            Command::Relay {
-                description,
-                script,
-            },
-        ) => Some(Task::OfFiles(FileTask::Relay {
-            description,
-            script,
-        })),
-        Some(
-            Command::RelayServe {
-                description,
-                listen,
-                events,
-            },
-        ) => Some(Task::RelayServe {
-            description,
-            listen,
-            events,
-        }),
-        Some(
-            Command::Keep {
-                description,
-                script,
-                store,
-            },
-        ) => Some(Task::Keep {
-            description,
-            script,
-            store,
-        }),
-        Some(
-            Command::Record {
-                names,
-                change,
-                cycle,
-                count,
-                store,
-                client,
-            },
-        ) => task_of_record(RecordTask {
-            names,
-            change,
-            cycle,
-            count,
-            store,
-            client,
-        }),
-        None => None,
-    }
-}
-
-fn task_of_load(n: u64) -> Option<Task>
-    ensures { result ≡ task_of_load n }
-{
-    if n <= 100_000 {
-        Some(Task::OfFiles(FileTask::Load { n }))
-    } else {
-        None
-    }
-}
-
-fn task_of_ask(what: ClientTask, client: ClientWords) -> Option<Task>
+/// What a client asks, if its numbers and texts are small enough.
+pub(crate) fn task_of_ask(what: ClientTask, client: ClientWords) -> Option<Task>
     ensures { result ≡ task_of_ask what client }
 {
     if client.port <= 65_535 && fits_what(&what) {
@@ -209,11 +80,12 @@ fn fits_what(what: &ClientTask) -> bool
             change: _,
             cycle,
             count,
-        } => is_text(name) && *cycle <= 4_294_967_295 && *count <= 1_000_000,
+        } => is_text(name) && takes_samples(*cycle, *count),
     }
 }
 
-fn task_of_record(what: RecordTask) -> Option<Task>
+/// What a client records, if its numbers, texts and names are small and few enough.
+pub(crate) fn task_of_record(what: RecordTask) -> Option<Task>
     ensures { result ≡ task_of_record what }
 {
     if fits_record(&what) {
