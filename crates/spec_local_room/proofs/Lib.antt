@@ -10,6 +10,9 @@ mod RecordTurns
 mod TickingAll
 mod Leading
 mod Scenes
+mod Stepping
+mod WholeFrames
+mod WholeSamples
 mod Running
 pub mod LocalAnswers
 pub mod Beginnings

@@ -54,7 +54,8 @@ use Rattle.spec_client.specs.Recordings.{is_recorded}
 use Rattle.spec_local_room.proofs.Leading.{frames_left, awaits_on, begins}
 use Rattle.spec_local_room.proofs.Scenes.{Machine, Link, Stands, Talks, Listening, ListeningAll, FRAME, Waits, Rests, Good}
 use Rattle.spec_local_room.proofs.Scenes.{issued_is, issued, issued_silent, device, asked, one_more_out}
-use Rattle.spec_local_room.proofs.Running.{Given, waits_so, StepsTo, step_still, take_step, no_end}
+use Rattle.spec_local_room.proofs.Stepping.{Given, waits_so, StepsTo, step_still, no_end}
+use Rattle.spec_local_room.proofs.Running.{take_step}
 use Rattle.spec_client.specs.PassedOver.{says_something}
 
 -- what the machine answers
