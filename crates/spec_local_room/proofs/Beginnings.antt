@@ -6,12 +6,10 @@ use Rattle.std.proofs.lemmas.List.{append-nil, map-append}
 use Rattle.spec_machine.specs.AdsDevice.{DescriptionReading}
 use Rattle.spec_machine.specs.Client as served
 use Rattle.spec_machine.specs.World.{World}
-use Rattle.spec_client.specs.Conversation.{LinkAnswer, Sent, LoopEnd, Conversation, MAX_ANSWERS, moment_of, sent_by, printed_by, kept_by}
-use Rattle.spec_client.specs.Conversation.{runner_after_answer, with_answer, unless_ended, conversation_after_turns, conversation_going_on}
-use Rattle.spec_client.specs.Conversation.{conversation_after}
+use Rattle.spec_client.specs.Conversation.{LinkAnswer, Sent, LoopEnd, Conversation, MAX_ANSWERS, moment_of, sent_by, printed_by, kept_by, runner_after_answer}
+use Rattle.spec_client.specs.Conversation.{with_answer, unless_ended, conversation_after_turns, conversation_going_on, conversation_after}
 use Rattle.spec_client.specs.Runner.{Turns, turns}
-use Rattle.spec_local.specs.LocalCall.{Cutting, LocalScene, answer_in, scene_behind, scene_begun, scene_after, scene_after_answers}
-use Rattle.spec_local.specs.LocalCall.{local_call}
+use Rattle.spec_local.specs.LocalCall.{Cutting, LocalScene, answer_in, scene_behind, scene_begun, scene_after, scene_after_answers, local_call}
 use Rattle.spec_local.specs.LinkLog.{cutting_of}
 use Rattle.spec_local.proofs.CallLogs.{calls_are_local}
 use Rattle.spec_local.proofs.Scenes.{over_stays, going_on, scene_stays, scene_goes_on}

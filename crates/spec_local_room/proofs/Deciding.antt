@@ -1,6 +1,6 @@
 -- What the server decides of a request of a call, and what its answer is read as.
-use Rattle.std.proofs.Common.{◌≡◌, ◌⊎◌, ℕ, zero, suc, ◌+◌, ◌<◌, ◌^◌, List, [], ◌∷◌, length, drop, Bool, true, false, not}
-use Rattle.std.proofs.Common.{refl, sym, ap, ◌∙◌, subst, inl, inr, arith}
+use Rattle.std.proofs.Common.{◌≡◌, ◌⊎◌, ℕ, zero, suc, ◌+◌, ◌<◌, ◌^◌, List, [], ◌∷◌, length, drop, Bool, true, false, not, refl, sym, ap, ◌∙◌, subst, inl, inr}
+use Rattle.std.proofs.Common.{arith}
 use Rattle.std.specs.Prelude.{Option, Some, None, is_none, Result, Ok, Err, map, ◌==◌, ◌||◌, ◌/◌, ◌%◌, nat_le, nat_lt, bytes_eq, if◌then◌else◌}
 use Rattle.std.specs.Int.{w32, to_le_bytes}
 use Rattle.std.proofs.lemmas.Bool.{cases_Bool, cond-true, cond-false, leb-false, eqb-true}
@@ -10,12 +10,11 @@ use Rattle.spec_plant.specs.Description.{Rights, Area, size_in}
 use Rattle.spec_plant.specs.Finding.{Found, found_of}
 use Rattle.spec_plant.specs.Rights.{rights_of}
 use Rattle.spec_plant.specs.World.{Plant, PlantPort, ByteName, SymbolPart}
-use Rattle.spec_formats.specs.Codes.{invalid_ams_length, unknown_ams_command, target_machine_not_found, target_port_not_found, unknown_command_id, invalid_size}
-use Rattle.spec_formats.specs.Codes.{invalid_offset, invalid_group, symbol_not_found, symbol_version_invalid}
+use Rattle.spec_formats.specs.Codes.{invalid_ams_length, unknown_ams_command, target_machine_not_found, target_port_not_found, unknown_command_id}
+use Rattle.spec_formats.specs.Codes.{invalid_size, invalid_offset, invalid_group, symbol_not_found, symbol_version_invalid}
 use Rattle.spec_formats.specs.Commands.{ADD_DEVICE_NOTIFICATION, DEVICE_NOTIFICATION, READ_WRITE}
 use Rattle.spec_formats.specs.Ranges.{Bytes, Bit, greatest_len, byte_range, bit_range, range_in}
-use Rattle.spec_formats.specs.Groups.{AreaBytes, AreaBit, ValueByHandle}
-use Rattle.spec_formats.specs.Groups.{Group, ExtendedInfoByName, SumRead, SumWrite, SumReadWrite, group_of, group_in}
+use Rattle.spec_formats.specs.Groups.{AreaBytes, AreaBit, ValueByHandle, Group, ExtendedInfoByName, SumRead, SumWrite, SumReadWrite, group_of, group_in}
 use Rattle.spec_formats.specs.Header.{AmsHeader, request_flags}
 use Rattle.spec_formats.specs.Numbers.{number32}
 use Rattle.spec_formats.specs.Request as request

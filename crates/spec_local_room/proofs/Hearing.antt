@@ -1,7 +1,7 @@
 -- What a client hears behind an answer of a link: nothing while a frame is not whole; then the answer to its only request, or the only
 -- sample of a notification; or that the peer is broken.
-use Rattle.std.proofs.Common.{◌≡◌, ◌⊎◌, ℕ, ◌+◌, ◌-◌, ◌<◌, ◌^◌, List, [], ◌∷◌, ◌++◌, length, take, drop, map}
-use Rattle.std.proofs.Common.{Bool, true, false, refl, sym, ap, ◌∙◌, inl, inr, arith}
+use Rattle.std.proofs.Common.{◌≡◌, ◌⊎◌, ℕ, ◌+◌, ◌-◌, ◌<◌, ◌^◌, List, [], ◌∷◌, ◌++◌, length, take, drop, map, Bool, true, false, refl, sym, ap, ◌∙◌, inl, inr}
+use Rattle.std.proofs.Common.{arith}
 use Rattle.std.specs.Prelude.{Some, None, filter, unwrap_or, nat_le, ◌==◌, if◌then◌else◌}
 use Rattle.std.proofs.lemmas.Bool.{cond-false}
 use Rattle.std.proofs.lemmas.Bool.Decides.{nat_tests}
@@ -23,10 +23,9 @@ use Rattle.spec_client.specs.Heard as spec
 use Rattle.spec_client.specs.PassedOver.{is_response, says_something}
 use Rattle.spec_client.specs.Unanswered.{Unanswered, TIMEOUT, is_overdue, is_outstanding_at, next_timeout, least_id, without_first, after_tick_of}
 use Rattle.spec_client.specs.Client.{Client, client_after_feed, client_after_tick, packets_left}
-use Rattle.spec_client.specs.Hearing.{Hearing, hearing, broken_hearing, is_answer, is_off_its_text}
-use Rattle.spec_client.specs.Hearing.{answer_hearing, header_hearing, packet_hearing, rest_hearing}
-use Rattle.spec_client.specs.Hearing.{with_one_taken, packets_hearing, hearing_of_samples}
-use Rattle.spec_client.specs.Hearing.{hearing_unless_broken, hearing_of_timeout, next_hearing}
+use Rattle.spec_client.specs.Hearing.{Hearing, hearing, broken_hearing, is_answer, is_off_its_text, answer_hearing, header_hearing, packet_hearing}
+use Rattle.spec_client.specs.Hearing.{rest_hearing, with_one_taken, packets_hearing, hearing_of_samples, hearing_unless_broken, hearing_of_timeout}
+use Rattle.spec_client.specs.Hearing.{next_hearing}
 use Rattle.spec_client.specs.Runner.{is_not_yet}
 use Rattle.spec_local_room.proofs.Coming.{HasHeardAll, comes, packets_come, heard_still, heard_frame}
 

@@ -1,7 +1,7 @@
 -- What an answer or a sample leads a bounded call to: it is over, or one request is sent, or it listens to one notification. At each
 -- it has less before it.
-use Rattle.std.proofs.Common.{◌≡◌, ◌⊎◌, ℕ, zero, suc, ◌+◌, ◌-◌, ◌*◌, ◌<◌, ◌≤◌, ◌^◌, List, [], ◌∷◌, ◌++◌, length, Bool}
-use Rattle.std.proofs.Common.{true, false, cond, refl, sym, ap, ◌∙◌, subst, inl, inr, arith}
+use Rattle.std.proofs.Common.{◌≡◌, ◌⊎◌, ℕ, zero, suc, ◌+◌, ◌-◌, ◌*◌, ◌<◌, ◌≤◌, ◌^◌, List, [], ◌∷◌, ◌++◌, length, Bool, true, false, cond, refl, sym, ap, ◌∙◌}
+use Rattle.std.proofs.Common.{subst, inl, inr, arith}
 use Rattle.std.specs.Prelude.{Option, Some, None, option_map, ◌==◌, ◌&&◌, ◌||◌, if◌then◌else◌}
 use Rattle.std.specs.List.{AllByRecursion, list_any}
 use Rattle.std.specs.Int.{w32, to_le_bytes}
@@ -19,27 +19,22 @@ use Rattle.spec_formats.specs.TypeEntry.{TypeEntry}
 use Rattle.spec_formats.specs.ValueText.{value_text}
 use Rattle.spec_plant.specs.TypeTexts.{type_text_of}
 use Rattle.spec_machine.proofs.Find.{test_same}
-use Rattle.spec_client.specs.Calls.{Call, Info, State, Control, Get, Set, Symbols, Watch, Show, Record}
-use Rattle.spec_client.specs.Calls.{Watching, MAX_SIZE, entry_request, value_request, handle_request}
-use Rattle.spec_client.specs.Calls.{write_request, release_request, upload_info_request, upload_request}
-use Rattle.spec_client.specs.Calls.{type_info_request, type_upload_request, addition_request}
+use Rattle.spec_client.specs.Calls.{Call, Info, State, Control, Get, Set, Symbols, Watch, Show, Record, Watching, MAX_SIZE, entry_request, value_request}
+use Rattle.spec_client.specs.Calls.{handle_request, write_request, release_request, upload_info_request, upload_request, type_info_request}
+use Rattle.spec_client.specs.Calls.{type_upload_request, addition_request}
 use Rattle.spec_client.specs.Conversation.{LoopEnd, CallEnded, end_of_stage}
 use Rattle.spec_client.specs.Entries.{is_taken, entries_in, types_in, first_of, one_entry_in}
 use Rattle.spec_client.specs.Heard.{Heard, heard_of_sample, Sampled, Ended}
 use Rattle.spec_client.specs.LeafTypes.{is_sound_text}
 use Rattle.spec_client.specs.Printed.{sample_line}
-use Rattle.spec_client.specs.Recordings.{is_recorded, has_enough, after_deletion, with_next_name, after_record_entry}
-use Rattle.spec_client.specs.Recordings.{with_notification, after_notification}
-use Rattle.spec_client.specs.Replies.{bytes_given, handle_given, after_value_read, after_entry}
-use Rattle.spec_client.specs.Replies.{after_entry_read, after_upload, after_types, after_reply, after_answer}
+use Rattle.spec_client.specs.Recordings.{is_recorded, has_enough, after_deletion, with_next_name, after_record_entry, with_notification, after_notification}
+use Rattle.spec_client.specs.Replies.{bytes_given, handle_given, after_value_read, after_entry, after_entry_read, after_upload, after_types, after_reply}
+use Rattle.spec_client.specs.Replies.{after_answer}
 use Rattle.spec_client.specs.Runner.{is_over}
-use Rattle.spec_client.specs.Stages.{Done, Recorded, Recording, ForEntry, ForNotification, ForSamples, ForDeletion}
-use Rattle.spec_client.specs.Stages.{CallEnd, Refused, BadValue, Output, ToSend, ToPrint, Purpose, ToGet}
-use Rattle.spec_client.specs.Stages.{ToSet, ToWatch, ToShow, Stage, AwaitsFacts, AwaitsState, AwaitsLast}
-use Rattle.spec_client.specs.Stages.{AwaitsEntry, AwaitsValue, AwaitsHandle, AwaitsWrite, AwaitsUploadInfo}
-use Rattle.spec_client.specs.Stages.{AwaitsUpload, AwaitsNotification, Watches, AwaitsTypeInfo, AwaitsTypes}
-use Rattle.spec_client.specs.Stages.{AwaitsLeaves, Records, Finished, FinishedRecording, Progress, progress}
-use Rattle.spec_client.specs.Stages.{stay, ended_at, bad_text}
+use Rattle.spec_client.specs.Stages.{Done, Recorded, Recording, ForEntry, ForNotification, ForSamples, ForDeletion, CallEnd, Refused, BadValue, Output}
+use Rattle.spec_client.specs.Stages.{ToSend, ToPrint, Purpose, ToGet, ToSet, ToWatch, ToShow, Stage, AwaitsFacts, AwaitsState, AwaitsLast, AwaitsEntry}
+use Rattle.spec_client.specs.Stages.{AwaitsValue, AwaitsHandle, AwaitsWrite, AwaitsUploadInfo, AwaitsUpload, AwaitsNotification, Watches, AwaitsTypeInfo}
+use Rattle.spec_client.specs.Stages.{AwaitsTypes, AwaitsLeaves, Records, Finished, FinishedRecording, Progress, progress, stay, ended_at, bad_text}
 use Rattle.spec_client.specs.Steps.{after_heard, after_sample, after_end, with_samples_left, begun}
 use Rattle.spec_client.specs.ValueReading.{made_value, is_value, are_bytes, is_text_of, value_of_text}
 use Rattle.spec_machine.specs.Access.{Addressed}

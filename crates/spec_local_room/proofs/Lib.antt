@@ -4,10 +4,10 @@ mod Turning
 mod Pieces
 mod Deciding
 mod Responding
-mod Ticking
 mod Recording
 mod RecordTurns
 mod TickingAll
+mod Ticking
 mod Leading
 mod Scenes
 mod Stepping

@@ -1,7 +1,6 @@
 -- Each answer of the machine to a bounded call, and so all of them.
-use Rattle.std.proofs.Common.{◌≡◌, ◌⊎◌, ℕ, zero, suc, ◌+◌, ◌-◌, ◌*◌, ◌<◌, ◌≤◌, ◌^◌, List, [], ◌∷◌, ◌++◌}
-use Rattle.std.proofs.Common.{length, take, drop, max, Bool, true, false, refl, sym, ap, ◌∙◌, subst, inl, inr}
-use Rattle.std.proofs.Common.{arith}
+use Rattle.std.proofs.Common.{◌≡◌, ◌⊎◌, ℕ, zero, suc, ◌+◌, ◌-◌, ◌*◌, ◌<◌, ◌≤◌, ◌^◌, List, [], ◌∷◌, ◌++◌, length, take, drop, max, Bool, true, false, refl}
+use Rattle.std.proofs.Common.{sym, ap, ◌∙◌, subst, inl, inr, arith}
 use Rattle.std.specs.Prelude.{Some, None, option_map, ◌==◌, ◌||◌, if◌then◌else◌, filter}
 use Rattle.std.proofs.lemmas.Bool.{cases_eq, cond-true, cond-false}
 use Rattle.std.proofs.lemmas.List.{append-nil, take-append-drop}
@@ -10,7 +9,7 @@ use Rattle.std.proofs.Math.Seq.{drop-append_seam}
 use Rattle.ads_base.specs.declared.peer.Peer.TheVariants as broke
 use Rattle.ads_outside.specs.declared.event.Event.TheVariants as event
 use Rattle.spec_frames.specs.Frame.{frame_bytes}
-use Rattle.spec_frames.specs.Division.{front_of}
+use Rattle.spec_frames.specs.Division.{front_of, rest_of}
 use Rattle.spec_plant.specs.World.{Plant}
 use Rattle.spec_formats.specs.Header.{AmsAddress, IsAddress}
 use Rattle.spec_machine.proofs.Find.{test_same, test_other, connection_of-append, connection_of-map, or_else}
@@ -26,18 +25,16 @@ use Rattle.spec_machine.specs.Ticks.{world_after_tick}
 use Rattle.spec_machine.specs.World.{World}
 use Rattle.spec_client.specs.Calls.{Call}
 use Rattle.spec_client.specs.Client.{Client, new_client, next_id, request_frame, client_after_feed, client_after_issue}
-use Rattle.spec_client.specs.Conversation.{LinkAnswer, Bytes, Quiet, Closed, LoopEnd, CallEnded, Budget}
-use Rattle.spec_client.specs.Conversation.{Conversation, MAX_QUIET, MAX_ANSWERS, runner_after_answer}
-use Rattle.spec_client.specs.Conversation.{conversation_after_turns, conversation_after, moment_of}
+use Rattle.spec_client.specs.Conversation.{LinkAnswer, Bytes, Quiet, Closed, LoopEnd, CallEnded, Budget, Conversation, MAX_QUIET, MAX_ANSWERS}
+use Rattle.spec_client.specs.Conversation.{runner_after_answer, conversation_after_turns, conversation_after, moment_of}
 use Rattle.spec_client.specs.Hearing.{Hearing, next_hearing}
 use Rattle.spec_client.specs.Runner.{Send, Turns, turns, is_not_yet, new_runner}
 use Rattle.spec_client.specs.Stages.{BadPeer, Stage}
 use Rattle.spec_client.specs.Steps.{begun}
 use Rattle.spec_client.proofs.TurnsUnfolded.{at}
-use Rattle.spec_local.specs.LocalCall.{Cutting, LocalScene, LOCAL_TICK, LAST_MOMENT, next_tick, answered}
-use Rattle.spec_local.specs.LocalCall.{waiting_or, waiting_bytes, bytes_taken, answer_after_tick, local_answer}
-use Rattle.spec_local.specs.LocalCall.{machine_after_pieces, scene_after, answer_in, scene_behind}
-use Rattle.spec_local.specs.LocalCall.{scene_after_answers, scene_begun}
+use Rattle.spec_local.specs.LocalCall.{Cutting, LocalScene, LOCAL_TICK, LAST_MOMENT, next_tick, answered, waiting_or, waiting_bytes, bytes_taken}
+use Rattle.spec_local.specs.LocalCall.{answer_after_tick, local_answer, machine_after_pieces, scene_after, answer_in, scene_behind, scene_after_answers}
+use Rattle.spec_local.specs.LocalCall.{scene_begun}
 use Rattle.spec_local.proofs.Scenes.{over_stays, one_more, scene_stays, scene_goes_on}
 use Rattle.spec_cutting.specs.Laws.{ClosesAlone, byte_by_byte}
 use Rattle.spec_cutting.proofs.FedTurns.{still, turns_wait}
@@ -46,14 +43,14 @@ use Rattle.spec_cutting.proofs.LocalCuts.{cuttings_are_one, links_are_one}
 use Rattle.spec_cutting.proofs.Takes.{HasOne, taken_by}
 use Rattle.spec_local_room.specs.Laws.{is_setting, closed_step, IsLocal, LocalCallsHaveRoom, LocalCallsAreOne, LocalLinksAreOne, EndsAnswered, LocalCallsEnd}
 use Rattle.spec_local_room.proofs.Coming.{no_frames, no_rest, none_short, length-frame_bytes}
-use Rattle.spec_local_room.proofs.Hearing.{IsSilent, tick_keeps, silent_hears}
+use Rattle.spec_local_room.proofs.Hearing.{IsSilent, IsSampleOf, tick_keeps, silent_hears}
 use Rattle.spec_local_room.proofs.Turning.{sends_one, IsBehind, is_behind, end_so}
+use Rattle.spec_local_room.proofs.TickingAll.{KeepsAll, Quiets, Sends, BecomesSo, HasFewSamples, TickedAll, ticked_all}
 use Rattle.spec_local_room.proofs.Ticking.{KeepsFew, Ticked, ticked}
-use Rattle.spec_local_room.proofs.TickingAll.{KeepsAll, TickedAll, ticked_all}
 use Rattle.spec_client.specs.Recordings.{is_recorded}
 use Rattle.spec_local_room.proofs.Leading.{frames_left, awaits_on, begins}
-use Rattle.spec_local_room.proofs.Scenes.{Machine, Link, Stands, Talks, Listening, ListeningAll, FRAME, Waits, Rests, Good}
-use Rattle.spec_local_room.proofs.Scenes.{issued_is, issued, issued_silent, device, asked, one_more_out}
+use Rattle.spec_local_room.proofs.Scenes.{Machine, Link, Stands, Talks, Sampling, SamplingAll, Listening, ListeningAll, FRAME, Waits, Rests, Good, issued_is}
+use Rattle.spec_local_room.proofs.Scenes.{issued, issued_silent, device, asked, one_more_out}
 use Rattle.spec_local_room.proofs.Stepping.{Given, waits_so, StepsTo, step_still, no_end}
 use Rattle.spec_local_room.proofs.Running.{take_step}
 use Rattle.spec_client.specs.PassedOver.{says_something}
@@ -240,26 +237,22 @@ talks_later me peer now later c cl stage none t = record {
 tick_frame_not_nil : (p : List ℕ) → frame_bytes p ≡ [] → ⊥
 tick_frame_not_nil p e = let n = ap (λ l. length l) e in let f = length-frame_bytes p in omega (arith, n, f)
 
--- what a tick brings, or Quiet
-tick_step : (reading : DescriptionReading) (sets : Bool) (me peer : AmsAddress) (most : ℕ) (s : Machine) (c : Conversation)
-    → IsAddress me → IsAddress peer → (x : Rests sets me peer s c)
-    → Listening me peer x.net x.k x.cl x.stage
+-- what a tick brings, or Quiet: what listens, or has such a frame, is told by the caller
+tick_step : (reading : DescriptionReading) (sets : Bool) (me peer : AmsAddress) (most : ℕ) (s : Machine) (c : Conversation) (IsSuch : List ℕ → Type 0)
+    → IsAddress me → IsAddress peer → (x : Rests sets me peer s c) → x.cl.unanswered ≡ [] → rest_of x.cl.received ≡ []
+    → let l = ticked_link reading s x.k in BecomesSo IsSuch x.k l
+    → (Quiets x.k l → Listening me peer x.net l x.cl x.stage ⊎ ListeningAll me peer x.net l x.cl x.stage)
+    → ((sends : Sends IsSuch x.k l) → rest_of x.cl.received ++ frame_bytes sends.packet ≡ frame_bytes sends.packet → 6 + length sends.packet ≤ MAX_QUEUED
+    → Sampling me peer x.net l x.cl x.stage (frame_bytes sends.packet) ⊎ SamplingAll me peer x.net l x.cl x.stage (frame_bytes sends.packet))
     → StepsTo reading sets me peer c (answer_after_tick (state_after_event (device reading)) most (tick_of reading s))
 unfolding answer_after_tick
-tick_step reading sets me peer most s c mine theirs x m =
+tick_step reading sets me peer most s c IsSuch mine theirs x none rest becomes listens samples =
     let now = x.now in
     let later = max now (next_tick now) in
     let t = tick_of reading s in
     let l = ticked_link reading s x.k in
     let moment : t.moment ≡ later = tick_moment reading s ∙ ap (λ n. max n (next_tick n)) x.stands.moment in
-    let world = world_after_tick s.world in
-    let net : x.net ≡ world.plant.net = sym (ap (λ (p : Plant). p.net) (same_plant s.world) ∙ x.stands.net_is) in
-    let time : max s.moment (next_tick s.moment) < 2 ^ 64 = moment_small s.moment (subst (λ n. n < 2 ^ 64) (sym x.stands.moment) x.stands.time) in
-    let becomes : Ticked me peer x.net m.handle x.k l
-    = subst (λ n. Ticked me peer n m.handle x.k l) (sym net)
-    (ticked reading me peer m.handle (max s.moment (next_tick s.moment)) world x.k mine theirs time m.closing x.stands.one.there m.whole
-    (subst (λ n. KeepsFew me peer n m.handle x.k.client.watches) net m.keeps)) in
-    let talks = talks_later me peer now later c x.cl x.stage m.none x.talks in
+    let talks = talks_later me peer now later c x.cl x.stage none x.talks in
     let quiet = answered (Quiet t.moment) t in
     let quietly : Stands x.net later t l x.cl.received []
     → Listening me peer x.net l x.cl x.stage ⊎ (ListeningAll me peer x.net l x.cl x.stage ⊎ (l.closing ≡ true))
@@ -268,29 +261,19 @@ tick_step reading sets me peer most s c mine theirs x m =
     subst (StepsTo reading sets me peer c)
     (sym (other_answer reading most t quiet (waits_so x.net later t l x.cl.received [] stands) ∙ ap (λ n. answered (Quiet n) t) moment))
     (quiet_step reading sets me peer x.net later t l c x.cl x.stage stands talks mode x.room) in
-    elim becomes.becomes [
+    elim becomes [
       | inl closes ↦ quietly
           (stands_ticked reading x.net now s x.k x.cl.received [] x.stands (ap bytes_of_all closes.produced ∙ x.stands.out) closes.bytes_taken)
           (inr (inr closes.closing))
       | inr (inl quiets) ↦
           quietly (stands_ticked reading x.net now s x.k x.cl.received [] x.stands (ap bytes_of_all quiets.produced ∙ x.stands.out) quiets.bytes_taken)
-          (inl (record {
-            closing = quiets.closing;
-            whole = quiets.whole;
-            entry = m.entry;
-            handle = m.handle;
-            left = m.left;
-            stage_is = m.stage_is;
-            none = m.none;
-            rest = m.rest;
-            keeps = becomes.keeps quiets.closing;
-          }))
-      | inr (inr samples) ↦
-          let p = samples.packet in
+          (elim (listens quiets) [ inl m ↦ inl m | inr m ↦ inr (inl m) ])
+      | inr (inr sends) ↦
+          let p = sends.packet in
           let stands = stands_ticked reading x.net now s x.k x.cl.received (frame_bytes p) x.stands
-          (ap bytes_of_all samples.produced ∙ one_more_out x.k.produced samples.frame x.cl.received (frame_bytes p) samples.bytes x.stands.out)
-          samples.bytes_taken in
-          let fits = samples.room in
+          (ap bytes_of_all sends.produced ∙ one_more_out x.k.produced sends.frame x.cl.received (frame_bytes p) sends.bytes x.stands.out)
+          sends.bytes_taken in
+          let fits = sends.room in
           let sum = length-frame_bytes p in
           let room = x.room in
           let few = x.talks.quiet in
@@ -303,105 +286,90 @@ tick_step reading sets me peer most s c mine theirs x m =
             w = frame_bytes p;
             stands = stands;
             talks = talks;
-            mode = inr (inl (record {
-              closing = samples.closing;
-              whole = samples.whole;
-              entry = m.entry;
-              handle = m.handle;
-              left = m.left;
-              stage_is = m.stage_is;
-              none = m.none;
-              p = p;
-              frame = ap (λ r. r ++ frame_bytes p) m.rest;
-              size = omega (arith, fits, sum);
-              sample = samples.sample;
-              keeps = becomes.keeps samples.closing;
-            }));
+            mode = inr (samples sends (ap (λ r. r ++ frame_bytes p) rest) (omega (arith, fits, sum)));
             some = tick_frame_not_nil p;
             room = omega (arith, room, fits, few);
           })
     ]
 
--- the same of a recording
-tick_all : (reading : DescriptionReading) (sets : Bool) (me peer : AmsAddress) (most : ℕ) (s : Machine) (c : Conversation)
+later_net : (reading : DescriptionReading) (sets : Bool) (me peer : AmsAddress) (s : Machine) (c : Conversation) (x : Rests sets me peer s c)
+    → (world_after_tick s.world).plant.net ≡ x.net
+later_net reading sets me peer s c x = ap (λ (p : Plant). p.net) (same_plant s.world) ∙ x.stands.net_is
+
+-- behind a tick a watch and a recording listen, or have samples
+listening_step : (reading : DescriptionReading) (sets : Bool) (me peer : AmsAddress) (most : ℕ) (s : Machine) (c : Conversation)
     → IsAddress me → IsAddress peer → (x : Rests sets me peer s c)
-    → ListeningAll me peer x.net x.k x.cl x.stage
+    → Listening me peer x.net x.k x.cl x.stage ⊎ ListeningAll me peer x.net x.k x.cl x.stage
     → StepsTo reading sets me peer c (answer_after_tick (state_after_event (device reading)) most (tick_of reading s))
-unfolding answer_after_tick
-tick_all reading sets me peer most s c mine theirs x m =
-    let now = x.now in
-    let later = max now (next_tick now) in
-    let t = tick_of reading s in
-    let l = ticked_link reading s x.k in
-    let moment : t.moment ≡ later = tick_moment reading s ∙ ap (λ n. max n (next_tick n)) x.stands.moment in
+listening_step reading sets me peer most s c mine theirs x (inl m) =
     let world = world_after_tick s.world in
-    let net : x.net ≡ world.plant.net = sym (ap (λ (p : Plant). p.net) (same_plant s.world) ∙ x.stands.net_is) in
+    let l = ticked_link reading s x.k in
+    let net = later_net reading sets me peer s c x in
+    let time : max s.moment (next_tick s.moment) < 2 ^ 64 = moment_small s.moment (subst (λ n. n < 2 ^ 64) (sym x.stands.moment) x.stands.time) in
+    let t : Ticked me peer x.net m.handle x.k l
+    = subst (λ n. Ticked me peer n m.handle x.k l) net
+    (ticked reading me peer m.handle (max s.moment (next_tick s.moment)) world x.k mine theirs time m.closing x.stands.one.there m.whole
+    (subst (λ n. KeepsFew me peer n m.handle x.k.client.watches) (sym net) m.keeps)) in
+    tick_step reading sets me peer most s c (IsSampleOf m.handle) mine theirs x m.none m.rest t.becomes
+    (λ quiets. inl (record {
+      closing = quiets.closing;
+      whole = quiets.whole;
+      entry = m.entry;
+      handle = m.handle;
+      left = m.left;
+      stage_is = m.stage_is;
+      none = m.none;
+      rest = m.rest;
+      keeps = t.keeps;
+    }))
+    (λ sends frame size. inl (record {
+      closing = sends.closing;
+      whole = sends.whole;
+      entry = m.entry;
+      handle = m.handle;
+      left = m.left;
+      stage_is = m.stage_is;
+      none = m.none;
+      p = sends.packet;
+      frame = frame;
+      size = size;
+      sample = sends.such;
+      keeps = t.keeps;
+    }))
+listening_step reading sets me peer most s c mine theirs x (inr m) =
+    let world = world_after_tick s.world in
+    let l = ticked_link reading s x.k in
+    let net = later_net reading sets me peer s c x in
     let time : max s.moment (next_tick s.moment) < 2 ^ 64 = moment_small s.moment (subst (λ n. n < 2 ^ 64) (sym x.stands.moment) x.stands.time) in
     let test = is_recorded m.recording in
-    let becomes : TickedAll me peer x.net test x.k l
-    = subst (λ n. TickedAll me peer n test x.k l) (sym net)
+    let t : TickedAll me peer x.net test x.k l
+    = subst (λ n. TickedAll me peer n test x.k l) net
     (ticked_all reading me peer test (max s.moment (next_tick s.moment)) world x.k mine theirs time m.closing x.stands.one.there m.whole
-    (subst (λ n. KeepsAll me peer n test x.k.client.watches) net m.keeps)) in
-    let talks = talks_later me peer now later c x.cl x.stage m.none x.talks in
-    let quiet = answered (Quiet t.moment) t in
-    let quietly : Stands x.net later t l x.cl.received []
-    → Listening me peer x.net l x.cl x.stage ⊎ (ListeningAll me peer x.net l x.cl x.stage ⊎ (l.closing ≡ true))
-    → StepsTo reading sets me peer c (waiting_or (state_after_event (device reading)) most t quiet (waiting_bytes t))
-    = λ stands mode.
-    subst (StepsTo reading sets me peer c)
-    (sym (other_answer reading most t quiet (waits_so x.net later t l x.cl.received [] stands) ∙ ap (λ n. answered (Quiet n) t) moment))
-    (quiet_step reading sets me peer x.net later t l c x.cl x.stage stands talks mode x.room) in
-    elim becomes.becomes [
-      | inl closes ↦ quietly
-          (stands_ticked reading x.net now s x.k x.cl.received [] x.stands (ap bytes_of_all closes.produced ∙ x.stands.out) closes.bytes_taken)
-          (inr (inr closes.closing))
-      | inr (inl quiets) ↦
-          quietly (stands_ticked reading x.net now s x.k x.cl.received [] x.stands (ap bytes_of_all quiets.produced ∙ x.stands.out) quiets.bytes_taken)
-          (inr (inl (record {
-            closing = quiets.closing;
-            whole = quiets.whole;
-            recording = m.recording;
-            stage_is = m.stage_is;
-            enough = m.enough;
-            none = m.none;
-            rest = m.rest;
-            keeps = becomes.keeps quiets.closing;
-          })))
-      | inr (inr samples) ↦
-          let p = samples.packet in
-          let stands = stands_ticked reading x.net now s x.k x.cl.received (frame_bytes p) x.stands
-          (ap bytes_of_all samples.produced ∙ one_more_out x.k.produced samples.frame x.cl.received (frame_bytes p) samples.bytes x.stands.out)
-          samples.bytes_taken in
-          let fits = samples.room in
-          let sum = length-frame_bytes p in
-          let room = x.room in
-          let few = x.talks.quiet in
-          taken_step reading sets me peer most t c quiet mine theirs (record {
-            net = x.net;
-            now = later;
-            k = l;
-            cl = x.cl;
-            stage = x.stage;
-            w = frame_bytes p;
-            stands = stands;
-            talks = talks;
-            mode = inr (inr (record {
-              closing = samples.closing;
-              whole = samples.whole;
-              recording = m.recording;
-              stage_is = m.stage_is;
-              enough = m.enough;
-              none = m.none;
-              p = p;
-              frame = ap (λ r. r ++ frame_bytes p) m.rest;
-              size = omega (arith, fits, sum);
-              samples = samples.samples;
-              keeps = becomes.keeps samples.closing;
-            }));
-            some = tick_frame_not_nil p;
-            room = omega (arith, room, fits, few);
-          })
-    ]
+    (subst (λ n. KeepsAll me peer n test x.k.client.watches) (sym net) m.keeps)) in
+    tick_step reading sets me peer most s c (HasFewSamples test (length x.k.client.watches)) mine theirs x m.none m.rest t.becomes
+    (λ quiets. inr (record {
+      closing = quiets.closing;
+      whole = quiets.whole;
+      recording = m.recording;
+      stage_is = m.stage_is;
+      enough = m.enough;
+      none = m.none;
+      rest = m.rest;
+      keeps = t.keeps;
+    }))
+    (λ sends frame size. inr (record {
+      closing = sends.closing;
+      whole = sends.whole;
+      recording = m.recording;
+      stage_is = m.stage_is;
+      enough = m.enough;
+      none = m.none;
+      p = sends.packet;
+      frame = frame;
+      size = size;
+      samples = sends.such.samples;
+      keeps = t.keeps;
+    }))
 
 shut_so : (s : Machine) (k : Link) → HasOne s k → is_to_be_shut (connection_of 1 s.connections) ≡ k.closing
 shut_so s k one = ap is_to_be_shut one.is ∙ rw one.there refl
@@ -420,10 +388,10 @@ rest_step reading sets me peer most s c mine theirs x =
     subst (StepsTo reading sets me peer c) (sym (other_answer reading most s other none)) (elim x.mode [
       | inl m ↦
           subst (StepsTo reading sets me peer c) (sym (cond-false (is_to_be_shut (connection_of 1 s.connections)) _ _ (shut ∙ m.closing)))
-          (tick_step reading sets me peer most s c mine theirs x m)
+          (listening_step reading sets me peer most s c mine theirs x (inl m))
       | inr (inl m) ↦
           subst (StepsTo reading sets me peer c) (sym (cond-false (is_to_be_shut (connection_of 1 s.connections)) _ _ (shut ∙ m.closing)))
-          (tick_all reading sets me peer most s c mine theirs x m)
+          (listening_step reading sets me peer most s c mine theirs x (inr m))
       | inr (inr closing) ↦
           subst (StepsTo reading sets me peer c) (sym (cond-true (is_to_be_shut (connection_of 1 s.connections)) _ _ (shut ∙ closing)))
           (subst (λ n. StepsTo reading sets me peer c (answered (Closed n) s)) (sym x.stands.moment)

@@ -11,9 +11,8 @@ use Rattle.spec_frames.proofs.DivisionLemmas.{frames_of-append, rest_of-append}
 use Rattle.spec_machine.specs.Connection.{Connection, with_closing, with_frame, fits, produce}
 use Rattle.spec_machine.specs.Device.{Device, Answer, Answered, Silent, Closing, FrameOutcome, Reply}
 use Rattle.spec_machine.specs.MachineState.{Exchange}
-use Rattle.spec_machine.specs.Piece.{with_received, packets_left, with_one_taken, with_client, after_answer}
-use Rattle.spec_machine.specs.Piece.{after_outcome, after_packet, after_packets, after_rest, with_piece}
-use Rattle.spec_machine.specs.Piece.{end_of_piece, after_piece}
+use Rattle.spec_machine.specs.Piece.{with_received, packets_left, with_one_taken, with_client, after_answer, after_outcome, after_packet, after_packets}
+use Rattle.spec_machine.specs.Piece.{after_rest, with_piece, end_of_piece, after_piece}
 use Rattle.spec_local_room.proofs.Coming.{AllCame, ComesBroken, comes}
 
 -- all that a connection received are frames, and all are taken

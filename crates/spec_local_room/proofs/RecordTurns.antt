@@ -12,11 +12,9 @@ use Rattle.spec_client.specs.Client.{Client, next_id, request_frame, client_afte
 use Rattle.spec_client.specs.Conversation.{CallEnded, sent_by, end_of_stage}
 use Rattle.spec_client.specs.Heard.{Sampled, heard_of_sample}
 use Rattle.spec_client.specs.Hearing.{Hearing, hearing, next_hearing}
-use Rattle.spec_client.specs.Recordings.{is_recorded, recorded_at, has_enough, after_samples}
-use Rattle.spec_client.specs.Recordings.{row_of, after_record_sample, with_sample}
+use Rattle.spec_client.specs.Recordings.{is_recorded, recorded_at, has_enough, after_samples, row_of, after_record_sample, with_sample}
 use Rattle.spec_client.specs.Runner.{Send, Keep, Turns, turns, given, is_over, is_not_yet, after_step}
-use Rattle.spec_client.specs.Stages.{Done, Output, ToSend, ToKeep, Recorded, Recording, ForSamples, ForDeletion, Stage, Records}
-use Rattle.spec_client.specs.Stages.{Progress, stay}
+use Rattle.spec_client.specs.Stages.{Done, Output, ToSend, ToKeep, Recorded, Recording, ForSamples, ForDeletion, Stage, Records, Progress, stay}
 use Rattle.spec_client.specs.Steps.{after_heard, after_sample}
 use Rattle.spec_client.proofs.TurnsUnfolded.{at}
 use Rattle.spec_cutting.proofs.FedTurns.{still, turns_given, turns_wait}

@@ -1,7 +1,7 @@
 -- What stands between a bounded call and its connection: a frame waits, or nothing does. A request that is sent where nothing waits is
 -- answered by one frame, or the connection closes.
-use Rattle.std.proofs.Common.{◌≡◌, ◌⊎◌, ℕ, ◌+◌, ◌-◌, ◌*◌, ◌<◌, ◌≤◌, ◌^◌, List, [], ◌∷◌, ◌++◌, length, Bool}
-use Rattle.std.proofs.Common.{true, false, refl, sym, ap, ◌∙◌, subst, inl, inr, arith}
+use Rattle.std.proofs.Common.{◌≡◌, ◌⊎◌, ℕ, ◌+◌, ◌-◌, ◌*◌, ◌<◌, ◌≤◌, ◌^◌, List, [], ◌∷◌, ◌++◌, length, Bool, true, false, refl, sym, ap, ◌∙◌, subst, inl, inr}
+use Rattle.std.proofs.Common.{arith}
 use Rattle.std.specs.Prelude.{Some, None, ◌==◌, nat_le, suc}
 use Rattle.std.proofs.lemmas.Bool.{cases_eq, cond-true, cond-false, leb-true}
 use Rattle.std.proofs.lemmas.Grind.{flat_map-append}
@@ -30,8 +30,7 @@ use Rattle.spec_client.specs.Client.{Client, is_full, next_id, request_packet, r
 use Rattle.spec_client.specs.Conversation.{LoopEnd, Conversation, MAX_QUIET, MAX_ANSWERS}
 use Rattle.spec_client.specs.Runner.{is_over}
 use Rattle.spec_client.specs.Recordings.{is_recorded, has_enough}
-use Rattle.spec_client.specs.Stages.{Stage, AwaitsEntry, ToWatch, AwaitsNotification, Watches}
-use Rattle.spec_client.specs.Stages.{Records, Recording, ForEntry, ForNotification, ForSamples}
+use Rattle.spec_client.specs.Stages.{Stage, AwaitsEntry, ToWatch, AwaitsNotification, Watches, Records, Recording, ForEntry, ForNotification, ForSamples}
 use Rattle.spec_formats.specs.SymbolEntry.{SymbolEntry}
 use Rattle.spec_client.specs.Calls.{entry_request}
 use Rattle.spec_client.specs.Unanswered.{Unanswered, MAX_ID, id_after, free_id, outstanding_count}
@@ -41,14 +40,12 @@ use Rattle.spec_local_room.specs.Laws.{IsAnswered}
 use Rattle.spec_local_room.proofs.Coming.{length-frame_bytes}
 use Rattle.spec_local_room.proofs.Hearing.{IsSilent, IsAnswerTo, IsSampleOf, HasSamples}
 use Rattle.spec_local_room.proofs.Pieces.{TakesWhole, Closes, Served, piece_taken, Replies}
-use Rattle.spec_local_room.proofs.Deciding.{replied, entry_keeps, addition_adds}
-use Rattle.spec_local_room.proofs.Responding.{asking, IsAsked, length-asked, decision, does, replies_so}
-use Rattle.spec_local_room.proofs.Responding.{response_so, asked_one, response_answers, GivesHandle}
-use Rattle.spec_local_room.proofs.Responding.{addition_gives, added_watches}
-use Rattle.spec_local_room.proofs.Ticking.{IsKept}
+use Rattle.spec_local_room.proofs.Deciding.{IsWatch, replied, entry_keeps, addition_adds}
+use Rattle.spec_local_room.proofs.Responding.{asking, IsAsked, length-asked, decision, does, replies_so, response_so, asked_one, response_answers}
+use Rattle.spec_local_room.proofs.Responding.{GivesHandle, addition_gives, added_watches}
 use Rattle.spec_local_room.proofs.TickingAll.{IsWatched, KeepsAll}
 use Rattle.spec_local_room.proofs.Leading.{Awaits, frames_left, awaits_on, IsShort, Asks, HadWatches}
-use Rattle.spec_local_room.proofs.Ticking.{KeepsFew}
+use Rattle.spec_local_room.proofs.Ticking.{KeepsFew, is_of}
 use Rattle.spec_machine.specs.Replies.{answer_to}
 
 abbrev pub Machine : Type 0
@@ -81,7 +78,7 @@ pub record Talks (me peer : AmsAddress) (now : ℕ) (c : Conversation) (cl : Cli
 pub record AddedOne (me peer : AmsAddress) (net : List ℕ) (ws : List (Watch (List Addressed))) (p : List ℕ) : Type 0 where
   pub w : Watch (List Addressed)
   pub is : ws ≡ w ∷ []
-  pub kept : IsKept me peer net w.handle w
+  pub kept : IsWatched me peer net (is_of w.handle) w
   pub gives : GivesHandle w.handle p
 
 -- one notification more
@@ -90,7 +87,7 @@ pub record AddedMore (me peer : AmsAddress) (net : List ℕ) (test : ℕ → Boo
   pub w : Watch (List Addressed)
   pub is : ws ≡ old ++ w ∷ []
   pub kept : KeepsAll me peer net test old
-  pub one : IsWatched me peer net (λ handle. handle == w.handle) w
+  pub one : IsWatched me peer net (is_of w.handle) w
   pub gives : GivesHandle w.handle p
 
 -- what is known of the notifications where the answer to a request is this packet
@@ -238,6 +235,17 @@ issued_silent cl r now silent = record {
 
 -- what the server then knows
 
+added_watch : (me peer : AmsAddress) (id : ℕ) (r : Request) (plant : Plant) (w : Watch (List Addressed)) → IsWatch (asking me peer id r) plant w
+    → IsWatched me peer plant.net (is_of w.handle) w
+added_watch me peer id r plant w watch = record {
+  handle = test_same w.handle w.handle refl;
+  small = watch.handle;
+  port = watch.port;
+  address = watch.address;
+  net_is = sym watch.net;
+  some = watch.some;
+}
+
 -- the notifications behind a request
 knows_behind : (reading : DescriptionReading) (me peer : AmsAddress) (world : World)
     (c : served.Client) (id : ℕ) (r : Request) (stage : Stage) (packet : List ℕ) → IsAsked me peer id r
@@ -255,7 +263,7 @@ knows_behind reading me peer world c id r (AwaitsNotification e w) packet a asks
       | inr adds ↦ inr (record {
         w = adds.w;
         is = added_watches c adds.w (decision world c me peer id r) adds.is ∙ ap (λ (ws : List (Watch (List Addressed))). ws ++ adds.w ∷ []) had;
-        kept = record { handle_is = refl; small = adds.watch.handle; port = adds.watch.port; address = adds.watch.address; net_is = sym adds.watch.net };
+        kept = added_watch me peer id r world.plant adds.w adds.watch;
         gives = addition_gives world c me peer id r packet adds a asks small answer;
       })
     ]
@@ -274,14 +282,7 @@ knows_behind reading me peer world c id r (Records (ForNotification name) x) pac
         w = adds.w;
         is = added_watches c adds.w (decision world c me peer id r) adds.is;
         kept = had;
-        one = record {
-          handle = test_same adds.w.handle adds.w.handle refl;
-          small = adds.watch.handle;
-          port = adds.watch.port;
-          address = adds.watch.address;
-          net_is = sym adds.watch.net;
-          some = adds.watch.some;
-        };
+        one = added_watch me peer id r world.plant adds.w adds.watch;
         gives = addition_gives world c me peer id r packet adds a asks small answer;
       })
     ]

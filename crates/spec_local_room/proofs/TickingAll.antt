@@ -1,12 +1,12 @@
 -- A tick gives a connection whose notifications go between the same addresses their samples in one frame, or it closes the connection,
 -- or nothing comes.
-use Rattle.std.proofs.Common.{◌≡◌, ◌⊎◌, ℕ, ◌+◌, ◌<◌, ◌≤◌, ◌^◌, List, [], ◌∷◌, ◌++◌, length, map, Bool, true, false}
-use Rattle.std.proofs.Common.{refl, sym, ap, ◌∙◌, subst, inl, inr, arith, append_assoc}
+use Rattle.std.proofs.Common.{◌≡◌, ◌⊎◌, ℕ, suc, ◌+◌, ◌<◌, ◌≤◌, ◌^◌, List, [], ◌∷◌, ◌++◌, length, map, Bool, true, false, refl, sym, ap, ◌∙◌, subst, inl, inr}
+use Rattle.std.proofs.Common.{arith, append_assoc}
 use Rattle.std.specs.Prelude.{Some, flat_map, ◌&&◌, ◌||◌, if◌then◌else◌}
 use Rattle.std.specs.Int.{w32, w64, to_le_bytes}
 use Rattle.std.specs.List.{AllByRecursion}
 use Rattle.std.proofs.lemmas.Bool.{cases_Bool, cond-true, cond-false, leb-true}
-use Rattle.std.proofs.lemmas.List.{append-nil, length-append, drop_at}
+use Rattle.std.proofs.lemmas.List.{append-nil, length-append, length-map, drop_at}
 use Rattle.spec_frames.specs.Frame.{frame_bytes}
 use Rattle.spec_plant.specs.World.{Block}
 use Rattle.spec_formats.specs.Codes.{no_error}
@@ -24,15 +24,14 @@ use Rattle.spec_machine.specs.Connection.{Connection, MAX_QUEUED, with_closing, 
 use Rattle.spec_machine.specs.Device.{Produced}
 use Rattle.spec_machine.specs.Events.{connection_after_tick}
 use Rattle.spec_machine.specs.Piece.{with_client}
-use Rattle.spec_machine.specs.Stamps.{SampleGroup, goes_with, group_of_sample, grouped, stamp_payload, notification_packet}
-use Rattle.spec_machine.specs.Stamps.{notification_frame, frames_of_samples, samples_at, watches_after_tick}
+use Rattle.spec_machine.specs.Stamps.{SampleGroup, goes_with, group_of_sample, grouped, stamp_payload, notification_packet, notification_frame}
+use Rattle.spec_machine.specs.Stamps.{frames_of_samples, samples_at, watches_after_tick}
 use Rattle.spec_machine.specs.Ticks.{client_after_tick}
 use Rattle.spec_machine.specs.Watches.{Watch, AddressedSample, is_due, is_sent, addressed_sample, samples_of}
 use Rattle.spec_machine.specs.World.{World}
 use Rattle.spec_local_room.proofs.Coming.{length-frame_bytes}
 use Rattle.spec_local_room.proofs.Hearing.{IsAmong, HasSamples, same_address}
 use Rattle.spec_local_room.proofs.Pieces.{TakesWhole, Closes}
-use Rattle.spec_local_room.proofs.Ticking.{Quiets}
 
 -- a notification between these addresses, over this NetId, whose handle passes a test and which watches something
 pub record IsWatched (me peer : AmsAddress) (net : List ℕ) (test : ℕ → Bool) (w : Watch (List Addressed)) : Type 0 where
@@ -66,7 +65,25 @@ watches_all me peer net test memory now (w ∷ ws) all =
       watches_all me peer net test memory now ws all.1,
     )
 
+length-watches_after_tick : (memory : List Block) (now : ℕ) (ws : List (Watch (List Addressed))) → length (watches_after_tick memory now ws) ≡ length ws
+unfolding watches_after_tick
+length-watches_after_tick memory now ws = length-map ws _
+
 -- the samples of a tick
+
+one_at_most : (s : AddressedSample) (b : Bool) → length (if b then s ∷ [] else []) ≤ 1
+one_at_most s true = omega arith
+one_at_most s false = omega arith
+
+length-samples_at : (memory : List Block) (now : ℕ) (ws : List (Watch (List Addressed))) → length (samples_at memory now ws) ≤ length ws
+unfolding samples_at
+length-samples_at memory now [] = omega arith
+length-samples_at memory now (w ∷ ws) =
+    let bytes = values_at memory w.watched in
+    let one : length (samples_of now bytes w) ≤ 1 = one_at_most (addressed_sample bytes w) (is_due now w && is_sent bytes w) in
+    let sum = length-append (samples_of now bytes w) (samples_at memory now ws) in
+    let rest = length-samples_at memory now ws in
+    omega (arith, one, sum, rest)
 
 -- a sample that goes from one address to the other
 record GoesSo (me peer : AmsAddress) (net : List ℕ) (test : ℕ → Bool) (s : AddressedSample) : Type 0 where
@@ -138,9 +155,11 @@ grouped_all : (me peer : AmsAddress) (net : List ℕ) (test : ℕ → Bool) (s :
 unfolding grouped
 grouped_all me peer net test s ss all = grouped_on me peer net test (group_of_sample s) ss all.1 all.0.port all.0.address
 
-record OneFrame (me peer : AmsAddress) (net : List ℕ) (test : ℕ → Bool) (now : ℕ) (frames : List Produced) : Type 0 where
+-- one frame, of no more samples than this
+record OneFrame (me peer : AmsAddress) (net : List ℕ) (test : ℕ → Bool) (now most : ℕ) (frames : List Produced) : Type 0 where
   first : AddressedSample
   others : List AddressedSample
+  few : suc (length others) ≤ most
   all : AllByRecursion (GoesSo me peer net test) (first ∷ others)
   is : frames ≡ notification_frame net now (group_of_all first others) ∷ []
 
@@ -148,13 +167,15 @@ no_frames : (net : List ℕ) (now : ℕ) → frames_of_samples net now [] ≡ []
 unfolding frames_of_samples grouped
 no_frames net now = refl
 
-frames_so : (me peer : AmsAddress) (net : List ℕ) (test : ℕ → Bool) (now : ℕ) (ss : List AddressedSample) → AllByRecursion (GoesSo me peer net test) ss
-    → (frames_of_samples net now ss ≡ []) ⊎ OneFrame me peer net test now (frames_of_samples net now ss)
+frames_so : (me peer : AmsAddress) (net : List ℕ) (test : ℕ → Bool) (now most : ℕ) (ss : List AddressedSample)
+    → AllByRecursion (GoesSo me peer net test) ss → length ss ≤ most
+    → (frames_of_samples net now ss ≡ []) ⊎ OneFrame me peer net test now most (frames_of_samples net now ss)
 unfolding frames_of_samples
-frames_so me peer net test now [] all = inl (no_frames net now)
-frames_so me peer net test now (s ∷ ss) all = inr (record {
+frames_so me peer net test now most [] all few = inl (no_frames net now)
+frames_so me peer net test now most (s ∷ ss) all few = inr (record {
   first = s;
   others = ss;
+  few = few;
   all = all;
   is = ap (map (notification_frame net now)) (grouped_all me peer net test s ss all);
 })
@@ -260,7 +281,7 @@ all_among : (me peer : AmsAddress) (net : List ℕ) (test : ℕ → Bool) (ss : 
 all_among me peer net test [] all = tt
 all_among me peer net test (s ∷ ss) all = (all.0.among, all_among me peer net test ss all.1)
 
-samples_read : (me peer : AmsAddress) (net : List ℕ) (test : ℕ → Bool) (now : ℕ) (s : AddressedSample) (ss : List AddressedSample)
+abbrev samples_read : (me peer : AmsAddress) (net : List ℕ) (test : ℕ → Bool) (now : ℕ) (s : AddressedSample) (ss : List AddressedSample)
     → IsAddress me → IsAddress peer → AllByRecursion (GoesSo me peer net test) (s ∷ ss) → now < 2 ^ 64
     → length (packet_for net now (group_of_all s ss)) < 2 ^ 30 → HasSamples test (packet_for net now (group_of_all s ss))
 samples_read me peer net test now s ss mine other all time small =
@@ -287,7 +308,15 @@ samples_read me peer net test now s ss mine other all time small =
 
 -- the connection behind a tick
 
-pub record SamplesCome (test : ℕ → Bool) (k l : Connection Client) : Type 0 where
+pub record Quiets {C : Type 0} (k l : Connection C) : Type 0 where
+  pub closing : l.closing ≡ false
+  pub produced : l.produced ≡ k.produced
+  pub bytes_taken : l.bytes_taken ≡ k.bytes_taken
+  pub gone : l.gone ≡ k.gone
+  pub whole : TakesWhole l
+
+-- one frame is produced, whose packet is such
+pub record Sends (IsSuch : List ℕ → Type 0) (k l : Connection Client) : Type 0 where
   pub packet : List ℕ
   pub closing : l.closing ≡ false
   pub frame : Produced
@@ -297,18 +326,28 @@ pub record SamplesCome (test : ℕ → Bool) (k l : Connection Client) : Type 0 
   pub gone : l.gone ≡ k.gone
   pub whole : TakesWhole l
   pub room : queued_of k + length (frame_bytes packet) ≤ MAX_QUEUED
-  pub samples : HasSamples test packet
+  pub such : IsSuch packet
+
+abbrev pub BecomesSo : (List ℕ → Type 0) → Connection Client → Connection Client → Type 0
+BecomesSo IsSuch k l = Closes k l ⊎ (Quiets k l ⊎ Sends IsSuch k l)
+
+-- the packet has samples, no more than this
+pub record HasFewSamples (test : ℕ → Bool) (most : ℕ) (p : List ℕ) : Type 0 where
+  pub samples : HasSamples test p
+  pub few : suc (length samples.others) ≤ most
 
 pub record TickedAll (me peer : AmsAddress) (net : List ℕ) (test : ℕ → Bool) (k l : Connection Client) : Type 0 where
-  pub becomes : Closes k l ⊎ (Quiets k l ⊎ SamplesCome test k l)
-  pub keeps : l.closing ≡ false → KeepsAll me peer net test l.client.watches
+  pub becomes : BecomesSo (HasFewSamples test (length k.client.watches)) k l
+  pub keeps : KeepsAll me peer net test l.client.watches
+  pub as_many : length l.client.watches ≡ length k.client.watches
 
 produced_tick : (me peer : AmsAddress) (net : List ℕ) (test : ℕ → Bool) (now : ℕ) (s : AddressedSample) (ss : List AddressedSample)
     (k : Connection Client) (client : Client) → IsAddress me → IsAddress peer → AllByRecursion (GoesSo me peer net test) (s ∷ ss) → now < 2 ^ 64
-    → k.closing ≡ false → TakesWhole k → KeepsAll me peer net test client.watches
+    → k.closing ≡ false → TakesWhole k → suc (length ss) ≤ length k.client.watches
+    → KeepsAll me peer net test client.watches → length client.watches ≡ length k.client.watches
     → TickedAll me peer net test k (produce (notification_frame net now (group_of_all s ss)) (with_client client k))
 unfolding produce
-produced_tick me peer net test now s ss k client mine other all time is_open whole keeps =
+produced_tick me peer net test now s ss k client mine other all time is_open whole few keeps as_many =
     let frame = notification_frame net now (group_of_all s ss) in
     let l = with_client client k in
     elim (cases_Bool (fits frame l)) [
@@ -327,31 +366,39 @@ produced_tick me peer net test now s ss k client mine other all time is_open who
               gone = refl;
               whole = record { rest = whole.rest; taken = whole.taken };
               room = le;
-              samples = samples_read me peer net test now s ss mine other all time (omega (arith, le, sum));
+              such = record {
+                samples = samples_read me peer net test now s ss mine other all time (omega (arith, le, sum));
+                few = let same = length-map ss (λ (x : AddressedSample). x.sample) in omega (arith, same, few);
+              };
             }));
-            keeps = λ on. keeps;
+            keeps = keeps;
+            as_many = as_many;
           })
       | inr full ↦
           let same : (if l.closing then l else if fits frame l then with_frame frame l else with_closing l) ≡ with_closing l = rw (is_open, full) refl in
           subst (λ (x : Connection Client). TickedAll me peer net test k x) (sym same) (record {
             becomes = inl (record { closing = refl; produced = refl; bytes_taken = refl; gone = refl });
-            keeps = λ on. keeps;
+            keeps = keeps;
+            as_many = as_many;
           })
     ]
 
 outcome_tick : (me peer : AmsAddress) (net : List ℕ) (test : ℕ → Bool) (now : ℕ) (k : Connection Client) (client : Client) (frames : List Produced)
-    → IsAddress me → IsAddress peer → now < 2 ^ 64 → k.closing ≡ false → TakesWhole k → KeepsAll me peer net test client.watches
-    → (frames ≡ []) ⊎ OneFrame me peer net test now frames → TickedAll me peer net test k (produce_all frames (with_client client k))
+    → IsAddress me → IsAddress peer → now < 2 ^ 64 → k.closing ≡ false → TakesWhole k
+    → KeepsAll me peer net test client.watches → length client.watches ≡ length k.client.watches
+    → (frames ≡ []) ⊎ OneFrame me peer net test now (length k.client.watches) frames
+    → TickedAll me peer net test k (produce_all frames (with_client client k))
 unfolding produce_all
-outcome_tick me peer net test now k client frames mine other time is_open whole keeps (inl none) =
+outcome_tick me peer net test now k client frames mine other time is_open whole keeps as_many (inl none) =
     subst (λ (fs : List Produced). TickedAll me peer net test k (produce_all fs (with_client client k))) (sym none) (record {
       becomes = inr (inl (record
           { closing = is_open; produced = refl; bytes_taken = refl; gone = refl; whole = record { rest = whole.rest; taken = whole.taken } }));
-      keeps = λ on. keeps;
+      keeps = keeps;
+      as_many = as_many;
     })
-outcome_tick me peer net test now k client frames mine other time is_open whole keeps (inr one) =
+outcome_tick me peer net test now k client frames mine other time is_open whole keeps as_many (inr one) =
     subst (λ (fs : List Produced). TickedAll me peer net test k (produce_all fs (with_client client k))) (sym one.is)
-    (produced_tick me peer net test now one.first one.others k client mine other one.all time is_open whole keeps)
+    (produced_tick me peer net test now one.first one.others k client mine other one.all time is_open whole one.few keeps as_many)
 
 pub ticked_all : (reading : DescriptionReading) (me peer : AmsAddress) (test : ℕ → Bool) (now : ℕ) (world : World) (k : Connection Client)
     → IsAddress me → IsAddress peer → now < 2 ^ 64 → k.closing ≡ false → k.gone ≡ false → TakesWhole k
@@ -360,8 +407,10 @@ pub ticked_all : (reading : DescriptionReading) (me peer : AmsAddress) (test : �
 unfolding connection_after_tick client_after_tick
 ticked_all reading me peer test now world k mine other time is_open there whole keeps =
     let deaf : (k.closing || k.gone) ≡ false = rw (is_open, there) refl in
+    let ws = k.client.watches in
     let o = client_after_tick now world k.client in
     subst (λ (x : Connection Client). TickedAll me peer world.plant.net test k x) (sym (cond-false (k.closing || k.gone) _ _ deaf))
     (outcome_tick me peer world.plant.net test now k o.client o.frames mine other time is_open whole
-    (watches_all me peer world.plant.net test world.memory now k.client.watches keeps)
-    (frames_so me peer world.plant.net test now _ (samples_go me peer world.plant.net test world.memory now k.client.watches keeps)))
+    (watches_all me peer world.plant.net test world.memory now ws keeps) (length-watches_after_tick world.memory now ws)
+    (frames_so me peer world.plant.net test now (length ws) (samples_at world.memory now ws)
+    (samples_go me peer world.plant.net test world.memory now ws keeps) (length-samples_at world.memory now ws)))

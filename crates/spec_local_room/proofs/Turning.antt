@@ -9,11 +9,9 @@ use Rattle.spec_client.specs.Hearing.{Hearing, next_hearing}
 use Rattle.spec_client.specs.Stages.{BadPeer, Output, ToSend, ToPrint, ToKeep, Stage}
 use Rattle.spec_client.specs.Steps.{after_heard}
 use Rattle.spec_client.specs.Runner.{Runner, Send, Print, Turns, turns, given, is_over, is_not_yet, after_step, runner_after_hearing}
-use Rattle.spec_client.specs.Conversation.{LinkAnswer, Bytes, Quiet, Closed, LoopEnd, CallEnded, Budget}
-use Rattle.spec_client.specs.Conversation.{MAX_QUIET, MAX_ANSWERS, Conversation, moment_of, quiet_after}
-use Rattle.spec_client.specs.Conversation.{sent_by, end_of_stage, runner_after_answer, with_answer}
-use Rattle.spec_client.specs.Conversation.{conversation_after_turns, conversation_going_on, conversation_after}
-use Rattle.spec_client.specs.Conversation.{unless_ended, ended_by, end_by_answer}
+use Rattle.spec_client.specs.Conversation.{LinkAnswer, Bytes, Quiet, Closed, LoopEnd, CallEnded, Budget, MAX_QUIET, MAX_ANSWERS, Conversation, moment_of}
+use Rattle.spec_client.specs.Conversation.{quiet_after, sent_by, end_of_stage, runner_after_answer, with_answer, conversation_after_turns}
+use Rattle.spec_client.specs.Conversation.{conversation_going_on, conversation_after, unless_ended, ended_by, end_by_answer}
 use Rattle.spec_client.proofs.TurnsUnfolded.{at}
 use Rattle.spec_cutting.proofs.FedTurns.{turns_given, turns_over, turns_wait, turns_hear}
 use Rattle.spec_local.proofs.Scenes.{going_on}

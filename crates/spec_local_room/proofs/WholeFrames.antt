@@ -31,7 +31,7 @@ use Rattle.spec_local_room.proofs.Hearing.{IsSilent, FedWhole, silent_hears, ans
 use Rattle.spec_local_room.proofs.TickingAll.{IsWatched, KeepsAll, all-append}
 use Rattle.spec_local_room.proofs.Turning.{over_stays_over, sends_one, hears_so, IsBehind, is_behind}
 use Rattle.spec_local_room.proofs.Pieces.{TakesWhole}
-use Rattle.spec_local_room.proofs.Ticking.{KeepsFew}
+use Rattle.spec_local_room.proofs.Ticking.{KeepsFew, is_of}
 use Rattle.spec_local_room.proofs.Leading.{Awaits, awaits_on, frames_left, HasWatches, IsOver, at_end, leads, Asks, HadWatches, IsShort, Leads}
 use Rattle.spec_local_room.proofs.Leading.{is_recorded_or, kept_as, first_true, second_true}
 use Rattle.spec_local_room.proofs.Scenes.{Machine, Link, Stands, Knows, Answering, FRAME, AddedMore, Listening, ListeningAll, Waits, EndsSo, issued}
@@ -219,7 +219,7 @@ all_kept me peer net r ws p h reply (inr more) read got =
     let given = more.gives h reply read got in
     let olds = kept_as me peer net (is_recorded r) (is_recorded_or r reply) more.old
     (λ n passes. first_true (is_recorded r n) (handle_given reply == n) false passes) more.kept in
-    let one = kept_as me peer net (λ n. n == more.w.handle) (is_recorded_or r reply) (more.w ∷ [])
+    let one = kept_as me peer net (is_of more.w.handle) (is_recorded_or r reply) (more.w ∷ [])
     (λ n passes. second_true (is_recorded r n) (handle_given reply == n)
     (test_same (handle_given reply) n (given ∙ sym (eqb-true n more.w.handle passes)))) (more.one, tt) in
     subst (KeepsAll me peer net (is_recorded_or r reply)) (sym more.is)
@@ -235,18 +235,13 @@ has_watches me peer net stage ws p h o knows read got = tt
 handle_kept : (me peer : AmsAddress) (net : List ℕ) (entry : SymbolEntry) (watching : Watching)
     (ws : List (Watch (List Addressed))) (p : List ℕ) (h : AmsHeader) (r : Reply) → Knows me peer net (AwaitsNotification entry watching) ws p
     → header_of p ≡ Some h → reply_of h.command (payload_of p) ≡ Some r → KeepsFew me peer net (handle_given r) ws
-handle_kept me peer net entry watching ws p h r (inl none) read got = inl none
-handle_kept me peer net entry watching ws p h r (inr one) read got = inr (record {
-  w = one.w;
-  is = one.is;
-  kept = record {
-    handle_is = sym (one.gives h r read got);
-    small = one.kept.small;
-    port = one.kept.port;
-    address = one.kept.address;
-    net_is = one.kept.net_is;
-  };
-})
+handle_kept me peer net entry watching ws p h r (inl none) read got =
+    (subst (KeepsAll me peer net (is_of (handle_given r))) (sym none) tt, let l = ap (λ l. length l) none in omega (arith, l))
+handle_kept me peer net entry watching ws p h r (inr one) read got =
+    let given = one.gives h r read got in
+    let same : is_of one.w.handle ≡ is_of (handle_given r) = ap is_of (sym given) in
+    let kept : KeepsAll me peer net (is_of (handle_given r)) (one.w ∷ []) = (subst (λ test. IsWatched me peer net test one.w) same one.kept, tt) in
+    (subst (KeepsAll me peer net (is_of (handle_given r))) (sym one.is) kept, let l = ap (λ l. length l) one.is in omega (arith, l))
 
 count_is : (n : ℕ) → 1 ≤ n → n ≡ suc (n - 1)
 count_is zero least = absurd (omega arith)
