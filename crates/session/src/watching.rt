@@ -142,10 +142,10 @@ impl Session {
     }
 }
 
-fn mode_named(code: u32) -> Option<Mode>
-    ensures { option_map mode_meant result ≡ mode_of code }
+fn mode_named(mode: u32) -> Option<Mode>
+    ensures { option_map mode_meant result ≡ mode_of mode }
 {
-    match code {
+    match mode {
         3 => Some(Mode::Cycle),
         4 => Some(Mode::Change),
         _ => None,
