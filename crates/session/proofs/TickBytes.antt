@@ -1,12 +1,11 @@
 -- What a check finds in a range of a port.
-use Rattle.std.proofs.Common.{◌≡◌, ℕ, ◌+◌, ◌/◌, ◌%◌, ◌^◌, ◌<◌, ◌≤◌, List, [], ◌∷◌, length, get_or, Option, Some, None, Ok, refl, sym, ap, subst, ◌∙◌, arith}
+use Rattle.std.proofs.Common.{◌≡◌, ℕ, ◌/◌, ◌%◌, ◌^◌, ◌<◌, ◌≤◌, List, [], ◌∷◌, length, get_or, Option, Some, None, refl, sym, ap, subst, ◌∙◌, arith}
 use Rattle.std.proofs.Math.Nat.{div-eq_of_lt}
 use Rattle.std.proofs.Math.Pow.{pow_mono}
 use Rattle.spec_plant.specs.Description.{Area}
 use Rattle.spec_plant.specs.Named.{port_numbered}
 use Rattle.spec_plant.specs.World.{PlantPort}
 use Rattle.spec_formats.specs.Ranges.{Range, Bytes, Bit}
-use Rattle.spec_machine.specs.Reach.{addressed_by_range}
 use Rattle.spec_machine.specs.World.{World, names_at, numbers_from}
 use Rattle.port_device.proofs.PortsLemmas.{found_is_held}
 use Rattle.port_device.specs.Holds.{HoldsPort, HoldsPorts, HoldsFound}
