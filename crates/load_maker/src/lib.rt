@@ -5,6 +5,7 @@ mod description;
 mod lines;
 mod load;
 mod requests;
+mod room;
 mod turns;
 mod watches;
 

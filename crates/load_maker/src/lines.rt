@@ -1,11 +1,12 @@
 //! Lines of a script.
 
-ghost use Rattle.std.specs.Prelude.{◌≡◌, ◌++◌, OnOk};
+ghost use Rattle.std.specs.Prelude.{◌≡◌, ◌≤◌, ◌++◌, length, OnOk};
 ghost use Rattle.std.specs.Fmt.{decimal};
 ghost use Rattle.hex.specs.Hex.{encode_lower};
 ghost use Rattle.load_maker.specs.MadeLines.{line_text, Opens, Sends, Ticks};
 
 use ads_base::{NoMemory, Octets};
+use itoa::Buffer;
 use std::alloc::Global;
 
 /// Appends a line that opens a connection.
@@ -42,8 +43,8 @@ fn put_counted(alloc: Global, out: &mut Octets, word: &[u8], number: u64) -> Res
     ensures { OnOk result (out.new ≡ out.old ++ (word.now ++ decimal number)) }
 {
     out.put(alloc, word)?;
-    let digits = number.to_string(alloc)?;
-    out.put(alloc, digits.as_bytes())?;
+    let mut digits = Buffer::new();
+    out.put(alloc, digits.format(number).as_bytes())?;
     Ok(())
 }
 
@@ -51,7 +52,24 @@ fn put_counted(alloc: Global, out: &mut Octets, word: &[u8], number: u64) -> Res
 fn put_hex(alloc: Global, out: &mut Octets, bytes: &[u8]) -> Result<(), NoMemory>
     ensures { OnOk result (out.new ≡ out.old ++ encode_lower bytes.now) }
 {
-    let digits = hex::encode(alloc, bytes)?;
-    out.put(alloc, digits.as_bytes())?;
-    Ok(())
+    let mut left = bytes;
+    while 100 < left.len() {
+        let (first, behind) = left.split_at(100);
+        put_digits(alloc, out, first)?;
+        left = behind;
+    }
+    put_digits(alloc, out, left)
+}
+
+// The hex digits of so few bytes that they have room on the stack.
+fn put_digits(alloc: Global, out: &mut Octets, bytes: &[u8]) -> Result<(), NoMemory>
+    requires { length bytes.now ≤ 100 }
+    ensures { OnOk result (out.new ≡ out.old ++ encode_lower bytes.now) }
+{
+    let mut room = [0; 200];
+    let digits = &mut room[..2 * bytes.len()];
+    match hex::encode_to_slice(bytes, digits) {
+        Ok(()) => out.put(alloc, digits),
+        Err(_) => unreachable!(),
+    }
 }

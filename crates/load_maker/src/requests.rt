@@ -1,65 +1,63 @@
 //! Requests of the clients, each in a frame of its own on a line of its own.
 
-ghost use Rattle.std.specs.Prelude.{◌≡◌, ◌≤◌, ◌<◌, ◌++◌, length, OnOk, IfOk};
-ghost use Rattle.spec_formats.specs.Header.{request_flags};
+ghost use Rattle.std.specs.Prelude.{◌≡◌, ◌≤◌, ◌++◌, length, OnOk};
+ghost use Rattle.spec_formats.specs.Header.{request_flags, header_bytes};
 ghost use Rattle.spec_formats.specs.Request.{command_of, request_bytes};
 ghost use Rattle.ads_commands.specs.Request.{IsWritable, request_meant};
 ghost use Rattle.ams_header.specs.Header.{ams_header_of};
 ghost use Rattle.load_maker.specs.MadeLines.{line_text};
-ghost use Rattle.load_maker.specs.LoadScript.{plant_address, client_address, request_packet, request_line};
+ghost use Rattle.load_maker.specs.LoadScript.{plant_address, client_address, request_line};
 
 use crate::lines::put_sent;
+use crate::room::Room;
 use ads_base::{AmsAddr, NetId, NoMemory, Octets};
 use ads_commands::{Request, put_request};
 use ams_header::{Header, put};
 use ams_tcp::put_frame;
 use std::alloc::Global;
 
-/// Appends the line of a client's request with this invoke id. `command` is the request's.
-#[tactic(auto, unfolding(crate::specs::LoadScript::request_packet))]
+/// Appends the line of a client's request with this invoke id. `command` is the request's, and `len` the length of its
+/// payload. What the room holds is replaced.
 pub fn put_request_line(
     alloc: Global,
+    room: &mut Room,
     out: &mut Octets,
     client: u8,
     id: u32,
     command: u16,
+    len: u32,
     request: &Request<'_>,
 ) -> Result<(), NoMemory>
     requires writable { IsWritable request.now }
     requires command { command ≡ command_of (request_meant request.now) }
-    requires short { length (request_bytes (request_meant request.now)) ≤ 1000 }
+    requires len { len ≡ length (request_bytes (request_meant request.now)) }
+    requires short { len ≤ 1000 }
     ensures { OnOk result (out.new ≡ out.old ++ line_text (request_line client id (request_meant request.now))) }
 {
-    let ams = packet_of(alloc, client, id, command, request)?;
-    let mut frame = Octets::new(alloc);
-    put_frame(alloc, ams.as_slice(), &mut frame)?;
-    put_sent(alloc, out, u32::from(client), frame.as_slice())?;
+    let header = header_of(client, id, command, len);
+    put_packet(alloc, &mut room.packet, &header, request)?;
+    room.frame.cut(0);
+    put_frame(alloc, room.packet.as_slice(), &mut room.frame)?;
+    put_sent(alloc, out, u32::from(client), room.frame.as_slice())?;
     Ok(())
 }
 
-// The AMS packet of a request.
-#[tactic(auto, unfolding(crate::specs::LoadScript::request_packet))]
-fn packet_of(
+// The AMS packet of a request, in place of what stood there.
+fn put_packet(
     alloc: Global,
-    client: u8,
-    id: u32,
-    command: u16,
+    packet: &mut Octets,
+    header: &Header,
     request: &Request<'_>,
-) -> Result<Octets, NoMemory>
+) -> Result<(), NoMemory>
     requires writable { IsWritable request.now }
-    requires command { command ≡ command_of (request_meant request.now) }
-    requires short { length (request_bytes (request_meant request.now)) ≤ 1000 }
-    ensures { IfOk result (λ ams. ams ≡ request_packet client id (request_meant request.now)) }
+    ensures { OnOk result (packet.new ≡ header_bytes (ams_header_of header.now) ++ request_bytes (request_meant request.now)) }
 {
-    let mut payload = Octets::new(alloc);
-    put_request(alloc, request, &mut payload)?;
-    let header = header_of(client, id, command, payload.len() as u32);
     let mut head = [0; 32];
-    put(&header, &mut head);
-    let mut ams = Octets::new(alloc);
-    ams.put(alloc, &head)?;
-    ams.put(alloc, payload.as_slice())?;
-    Ok(ams)
+    put(header, &mut head);
+    packet.cut(0);
+    packet.put(alloc, &head)?;
+    put_request(alloc, request, packet)?;
+    Ok(())
 }
 
 fn header_of(client: u8, id: u32, command: u16, len: u32) -> Header

@@ -8,6 +8,7 @@ ghost use Rattle.load_maker.specs.LoadScript.{DATA, request_line, turn_request, 
 
 use crate::lines::put_tick;
 use crate::requests::put_request_line;
+use crate::room::Room;
 use ads_base::{NoMemory, Octets};
 use ads_commands::Request;
 use index_groups::PROCESS_BYTES;
@@ -18,10 +19,11 @@ pub fn put_turns(alloc: Global, out: &mut Octets, n: u32) -> Result<(), NoMemory
     requires { n ≤ 100000 }
     ensures { OnOk result (out.new ≡ out.old ++ script_text (first_turns n n)) }
 {
+    let mut room = Room::new(alloc);
     let mut x = u64::from(n);
     for i in 0..n {
         x = next_number(x);
-        put_turn(alloc, out, x, i + 1)?;
+        put_turn(alloc, &mut room, out, x, i + 1)?;
     }
     Ok(())
 }
@@ -35,11 +37,17 @@ fn next_number(x: u64) -> u64
 }
 
 // The i-th request, whose number is x, and the tick behind it.
-fn put_turn(alloc: Global, out: &mut Octets, x: u64, i: u32) -> Result<(), NoMemory>
+fn put_turn(
+    alloc: Global,
+    room: &mut Room,
+    out: &mut Octets,
+    x: u64,
+    i: u32,
+) -> Result<(), NoMemory>
     requires { i ≤ 100000 }
     ensures { OnOk result (out.new ≡ out.old ++ script_text (turn_of x i)) }
 {
-    put_access(alloc, out, x, i)?;
+    put_access(alloc, room, out, x, i)?;
     put_tenth(alloc, out, i)?;
     Ok(())
 }
@@ -55,21 +63,28 @@ fn put_tenth(alloc: Global, out: &mut Octets, i: u32) -> Result<(), NoMemory>
     }
 }
 
-fn put_access(alloc: Global, out: &mut Octets, x: u64, i: u32) -> Result<(), NoMemory>
+fn put_access(
+    alloc: Global,
+    room: &mut Room,
+    out: &mut Octets,
+    x: u64,
+    i: u32,
+) -> Result<(), NoMemory>
     requires { i ≤ 100000 }
     ensures { OnOk result (out.new ≡ out.old ++ line_text (request_line (x % 4 + 1) (10 + i) (turn_request x i))) }
 {
     let client = (x % 4) as u8 + 1;
     let symbol = (x / 4 % 100) as u32;
     if x / 400 % 2 == 0 {
-        put_read(alloc, out, client, symbol, i)
+        put_read(alloc, room, out, client, symbol, i)
     } else {
-        put_write(alloc, out, client, symbol, i)
+        put_write(alloc, room, out, client, symbol, i)
     }
 }
 
 fn put_read(
     alloc: Global,
+    room: &mut Room,
     out: &mut Octets,
     client: u8,
     symbol: u32,
@@ -84,11 +99,12 @@ fn put_read(
         offset: 4 * symbol,
         len: 4,
     };
-    put_request_line(alloc, out, client, 10 + i, 2, &request)
+    put_request_line(alloc, room, out, client, 10 + i, 2, 12, &request)
 }
 
 fn put_write(
     alloc: Global,
+    room: &mut Room,
     out: &mut Octets,
     client: u8,
     symbol: u32,
@@ -104,5 +120,5 @@ fn put_write(
         offset: 4 * symbol,
         bytes: &value,
     };
-    put_request_line(alloc, out, client, 10 + i, 3, &request)
+    put_request_line(alloc, room, out, client, 10 + i, 3, 16, &request)
 }

@@ -5,6 +5,7 @@ ghost use Rattle.load_maker.specs.MadeLines.{line_text, script_text};
 ghost use Rattle.load_maker.specs.LoadScript.{clients, watch_line, watch_lines};
 
 use crate::requests::put_request_line;
+use crate::room::Room;
 use ads_base::{NoMemory, Octets};
 use ads_commands::Request;
 use index_groups::PROCESS_BYTES;
@@ -14,25 +15,37 @@ use std::alloc::Global;
 pub fn put_watches(alloc: Global, out: &mut Octets) -> Result<(), NoMemory>
     ensures { OnOk result (out.new ≡ out.old ++ script_text (flat_map watch_lines clients)) }
 {
-    put_watches_of(alloc, out, 1)?;
-    put_watches_of(alloc, out, 2)?;
-    put_watches_of(alloc, out, 3)?;
-    put_watches_of(alloc, out, 4)?;
+    let mut room = Room::new(alloc);
+    put_watches_of(alloc, &mut room, out, 1)?;
+    put_watches_of(alloc, &mut room, out, 2)?;
+    put_watches_of(alloc, &mut room, out, 3)?;
+    put_watches_of(alloc, &mut room, out, 4)?;
     Ok(())
 }
 
-fn put_watches_of(alloc: Global, out: &mut Octets, client: u8) -> Result<(), NoMemory>
+fn put_watches_of(
+    alloc: Global,
+    room: &mut Room,
+    out: &mut Octets,
+    client: u8,
+) -> Result<(), NoMemory>
     requires some { 0 < client }
     requires four { client ≤ 4 }
     ensures { OnOk result (out.new ≡ out.old ++ script_text (watch_lines client)) }
 {
     for j in 0..10 {
-        put_watch(alloc, out, client, j)?;
+        put_watch(alloc, room, out, client, j)?;
     }
     Ok(())
 }
 
-fn put_watch(alloc: Global, out: &mut Octets, client: u8, j: u32) -> Result<(), NoMemory>
+fn put_watch(
+    alloc: Global,
+    room: &mut Room,
+    out: &mut Octets,
+    client: u8,
+    j: u32,
+) -> Result<(), NoMemory>
     requires some { 0 < client }
     requires four { client ≤ 4 }
     requires few { j < 10 }
@@ -46,5 +59,5 @@ fn put_watch(alloc: Global, out: &mut Octets, client: u8, j: u32) -> Result<(), 
         delay: 0,
         cycle: 0,
     };
-    put_request_line(alloc, out, client, j + 1, 6, &request)
+    put_request_line(alloc, room, out, client, j + 1, 6, 40, &request)
 }
