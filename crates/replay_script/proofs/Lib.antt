@@ -1,4 +1,5 @@
 pub mod LineLemmas
+pub mod PlaceLemmas
 pub mod DigitLemmas
 pub mod ByteLemmas
 pub mod GrammarLemmas

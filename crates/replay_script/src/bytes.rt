@@ -1,6 +1,6 @@
 //! Bytes as hex words in a script.
 
-ghost use Rattle.std.specs.Prelude.{◌≡◌, IfOk};
+ghost use Rattle.std.specs.Prelude.{◌≡◌, ◌++◌, IfOk, OnOk};
 ghost use Rattle.spec_machine.specs.ScriptLines.{words_of};
 ghost use Rattle.spec_machine.specs.ScriptWords.{bytes_of_words};
 ghost use Rattle.replay_script.specs.Lines.{AppendsWord};
@@ -35,10 +35,22 @@ fn append_word(alloc: Global, bytes: &mut Octets, word: &[u8]) -> Result<bool, N
     }
     match hex::decode(alloc, word) {
         Ok(decoded) => {
-            bytes.put(alloc, decoded.as_slice())?;
+            put_decoded(alloc, bytes, decoded)?;
             Ok(true)
         }
         Err(FromHexError::OutOfMemory) => Err(NoMemory),
         Err(_) => Ok(false),
     }
+}
+
+// Appends the bytes of a word. Those of the first word are taken as they are, without a copy.
+fn put_decoded(alloc: Global, bytes: &mut Octets, decoded: Vec<u8>) -> Result<(), NoMemory>
+    ensures { OnOk result (bytes.new ≡ bytes.old ++ decoded.items) }
+{
+    if bytes.len() == 0 {
+        *bytes = Octets::from_vec(decoded);
+        return Ok(());
+    }
+    bytes.put(alloc, decoded.as_slice())?;
+    Ok(())
 }

@@ -5,6 +5,8 @@ ghost use Rattle.std.specs.Option.{option_copied};
 ghost use Rattle.spec_machine.specs.ScriptLines as script;
 ghost use Rattle.replay_script.specs.Lines.{words_behind};
 
+use memchr::memchr;
+
 /// The first line with its end, and what follows it.
 pub fn first_line(bytes: &[u8]) -> (&[u8], &[u8])
     requires { 0 < length bytes.now }
@@ -45,5 +47,5 @@ pub fn first_word(text: &[u8]) -> (&[u8], Option<&[u8]>)
 fn place_of(bytes: &[u8], byte: u8) -> Option<usize>
     ensures { result ≡ position (λ b. b == byte) bytes.now }
 {
-    bytes.iter().position(|b| *b == byte)
+    memchr(byte, bytes)
 }
