@@ -1,16 +1,15 @@
 -- The numbers of the connections that are to be served, in the code and in the machine.
 use Rattle.std.proofs.Common.{◌≡◌, ℕ, zero, suc, ◌+◌, ◌-◌, ◌<◌, ◌≤◌, List, [], ◌∷◌, ◌++◌, length, take, get_or}
-use Rattle.std.proofs.Common.{Bool, true, false, not, cond, refl, sym, ap, ◌∙◌, subst, inl, inr, zero-add}
+use Rattle.std.proofs.Common.{Bool, false, not, cond, refl, sym, ap, ◌∙◌, subst, inl, inr, zero-add}
 use Rattle.std.proofs.Common.{add-one, arith}
 use Rattle.std.specs.Prelude.{◌||◌, ◌&&◌, filter, is_some, slice_get, Option, Some, None}
 use Rattle.std.specs.Option.{option_map}
 use Rattle.std.specs.Map.{keys_of}
 use Rattle.std.proofs.lemmas.Bool.{cases_lt}
-use Rattle.std.proofs.lemmas.List.{append-nil, take_all}
+use Rattle.std.proofs.lemmas.List.{append-nil}
 use Rattle.std.proofs.lemmas.List.Elements.{filter-append}
 use Rattle.std.proofs.lemmas.Option.{slice_get-get_or, slice_get_within, slice_get_past}
 use Rattle.signals.specs.Wave.{Wave}
-use Rattle.spec_machine.specs.Connection.{connection_of}
 use Rattle.spec_machine.specs.MachineState.{present_numbers}
 use Rattle.spec_machine.specs.Offers.{is_among, waiting_of, waiting_at}
 use Rattle.ads_served.specs.Due.{is_due}

@@ -2,7 +2,7 @@
 use Rattle.std.proofs.Common.{◌≡◌, ℕ, ◌+◌, List, [], ◌∷◌, ◌++◌, length, take, arith, drop, Bool, true, false, cond, not, refl, sym, ap, ◌∙◌, subst}
 use Rattle.std.specs.Prelude.{Result, Ok, Err, OnOk}
 use Rattle.std.proofs.lemmas.List.{take-append-le, take_all}
-use Rattle.std.proofs.lemmas.Bool.{true≢false, cond-true, cond-false, or_left, or_from}
+use Rattle.std.proofs.lemmas.Bool.{cond-true, cond-false, or_left, or_from}
 use Rattle.spec_frames.specs.Frame.{frame_bytes}
 use Rattle.spec_frames.specs.Division.{front_of, frames_of, rest_of, is_broken}
 use Rattle.ads_base.specs.declared.net_id.NetId.{NetId}
@@ -28,13 +28,15 @@ use Rattle.session.specs.declared.taken.Taken.TheVariants as taken
 use Rattle.server_core.specs.declared.summary.Summary.{Summary}
 use Rattle.server_core.specs.declared.device.Device.{Device}
 use Rattle.server_core.specs.Served.{served, World, Client, ServedConnection, ServedExchange}
-use Rattle.server_core.specs.Conns.{Conn}
+use Rattle.server_core.specs.Conns.{Conn, conn_of, conn_over}
+use Rattle.server_core.specs.declared.turned.Turned.{Turned}
+use Rattle.server_core.specs.declared.waiting.Waiting.{Waiting}
 use Rattle.server_core.specs.Counts.{Counts, replies_of, samples_of}
 use Rattle.server_core.specs.ConnStands.{history_of, Stands, Goes}
 use Rattle.server_core.specs.HoldsWorld.{HoldsWorld, IsConnected}
 use Rattle.server_core.specs.Taking.{answered, settled, Takes, TakesSome, Produces}
 use Rattle.server_core.proofs.CountLemmas.{same_count, same_counts, then_counts, one_more}
-use Rattle.server_core.proofs.StreamLemmas.{packet_is_next, rest_is_open, rest_is_broken, after_frame, after_not_yet, after_broken, own_mark}
+use Rattle.server_core.proofs.StreamLemmas.{packet_is_next, rest_is_open, rest_is_broken, after_frame, own_mark}
 use Rattle.server_core.proofs.ProduceLemmas.{SameStream, produce-stream, counts_closing, stands_with_closing}
 
 -- the device takes a packet as the session does
@@ -125,6 +127,24 @@ settled-broken x none rest =
 pub kept_client : (plant : Plant) (c : Client) (s t : SessionState) → t ≡ record s { stream = t.stream } → StandsFor plant c s → StandsFor plant c t
 kept_client plant c s t keeps st =
     subst (λ (held : SessionState). StandsFor plant c held) (sym keeps) (record { handles = st.handles; additions = st.additions; watches = st.watches })
+
+-- a session whose stream is lent stands for the same client, whatever stream is thought there
+pub client_over : (plant : Plant) (c : Client) (s : SessionState) (held : Held) → StandsFor plant c s → StandsFor plant c (record s { stream = held })
+client_over plant c s held st = record { handles = st.handles; additions = st.additions; watches = st.watches }
+
+pub client_under : (plant : Plant) (c : Client) (s : SessionState) (held : Held) → StandsFor plant c (record s { stream = held }) → StandsFor plant c s
+client_under plant c s held st = record { handles = st.handles; additions = st.additions; watches = st.watches }
+
+-- the stream that a session lends is the one that it had
+pub lent_stream : (t : Turned) (lent : SessionState) (stream : Held) (e : ℕ × Waiting) → stream ≡ t.session.stream
+    → lent ≡ (let s = t.session in record s { stream = lent.stream }) → conn_over stream (record t { session = lent }) e ≡ conn_of t e
+lent_stream t lent stream e same keeps =
+    ap (λ (s : SessionState). conn_over stream (record t { session = s }) e) keeps ∙ ap (λ (held : Held). conn_over held t e) same
+
+-- and the one that is given back is its own again
+pub stream_back : (t : Turned) (back : SessionState) (stream : Held) (e : ℕ × Waiting)
+    → back ≡ (let s = t.session in record s { stream = stream }) → conn_over stream t e ≡ conn_of (record t { session = back }) e
+stream_back t back stream e is = ap (λ (s : SessionState). conn_of (record t { session = s }) e) (sym is)
 
 -- the session gave a frame
 pub taken_one : (plant : Plant) (conn mid : Conn) (k : ServedConnection) (packet : List ℕ) → Stands plant conn k
@@ -329,40 +349,23 @@ pub goes_still : (new : Conn) (d : Device) (s t : Summary) (x : ServedExchange) 
 goes_still new d s t x l held stands counted gone = record { stands = stands; holds = held; plant = refl; signals = refl; counted = counted; gone = gone }
 
 -- the rest is open: nothing changes
-pub takes_open : (conn new : Conn) (d : Device) (s : Summary) (x : ServedExchange) → HoldsWorld d x.world → Stands x.world.plant conn x.connection
-    → cut.NotYet ≡ answer_of (history_of conn x.connection) → Represents new.session.stream (after_next (history_of conn x.connection))
-    → new.session ≡ (let held = conn.session in record held { stream = new.session.stream })
-    → new.number ≡ conn.number → new.out ≡ conn.out → new.closing ≡ conn.closing
-    → Goes new d s s x (settled x)
-takes_open conn new d s x held st answer stream keeps number out closing =
+pub takes_open : (conn : Conn) (d : Device) (s : Summary) (x : ServedExchange) → HoldsWorld d x.world → Stands x.world.plant conn x.connection
+    → cut.NotYet ≡ answer_of (history_of conn x.connection) → Goes conn d s s x (settled x)
+takes_open conn d s x held st answer =
     let rest = rest_is_open (history_of conn x.connection) answer in
     let end : settled x ≡ x = settled-open x rest.none_left rest.rest in
-    subst (λ z. Goes new d s s x z) (sym end) (goes_still new d s s x x.connection held (record {
-      number = number ∙ st.number;
-      stream = after_not_yet new.session.stream (history_of conn x.connection) answer stream;
-      client = λ is_open. kept_client x.world.plant x.connection.client conn.session new.session keeps (st.client is_open);
-      waiting = out ∙ st.waiting;
-      bytes_taken = st.bytes_taken;
-      closing = closing ∙ st.closing;
-    }) (same_counts s x.connection) refl)
+    subst (λ z. Goes conn d s s x z) (sym end) (goes_still conn d s s x x.connection held st (same_counts s x.connection) refl)
 
 -- the rest is broken: the connection closes
 pub takes_broken : (conn new : Conn) (d : Device) (s : Summary) (x : ServedExchange) → HoldsWorld d x.world → Stands x.world.plant conn x.connection
-    → cut.Broken ≡ answer_of (history_of conn x.connection) → Represents new.session.stream (after_next (history_of conn x.connection))
-    → new.session ≡ (let held = conn.session in record held { stream = new.session.stream })
-    → new.number ≡ conn.number → new.out ≡ conn.out → new.closing ≡ true
+    → cut.Broken ≡ answer_of (history_of conn x.connection)
+    → new.number ≡ conn.number → new.session ≡ conn.session → new.out ≡ conn.out → new.closing ≡ true
     → Goes new d s s x (settled x)
-takes_broken conn new d s x held st answer stream keeps number out closing =
+takes_broken conn new d s x held st answer number session out closing =
     let rest = rest_is_broken (history_of conn x.connection) answer in
     let end : settled x ≡ record x { connection = with_closing x.connection } = settled-broken x rest.none_left rest.rest in
-    subst (λ z. Goes new d s s x z) (sym end) (goes_still new d s s x (with_closing x.connection) held (record {
-      number = number ∙ st.number;
-      stream = after_broken new.session.stream (history_of conn x.connection) answer stream;
-      client = λ is_open. absurd (true≢false is_open);
-      waiting = out ∙ st.waiting;
-      bytes_taken = st.bytes_taken;
-      closing = closing;
-    }) (counts_closing s x.connection) refl)
+    subst (λ z. Goes new d s s x z) (sym end) (goes_still new d s s x (with_closing x.connection) held
+    (stands_with_closing x.world.plant conn new x.connection st number session out closing) (counts_closing s x.connection) refl)
 
 pub none_taken : (conn : Conn) (d : Device) (s : Summary) (x : ServedExchange) → HoldsWorld d x.world
     → Stands x.world.plant conn x.connection → x.connection.closing ≡ false → TakesSome conn d s s x

@@ -1,8 +1,8 @@
 -- Which connections are idle while one is touched, opened or gone.
-use Rattle.std.proofs.Common.{◌≡◌, ◌≢◌, ℕ, zero, suc, ◌+◌, ◌<◌, ◌≤◌, List, [], ◌∷◌, ◌++◌, length, set, take}
-use Rattle.std.proofs.Common.{drop, Bool, true, false, cond, refl, sym, ap, ◌∙◌, subst, inl, inr, nat_eq}
+use Rattle.std.proofs.Common.{◌≡◌, ◌≢◌, ℕ, zero, suc, ◌+◌, ◌<◌, ◌≤◌, List, [], ◌∷◌, ◌++◌, length, set}
+use Rattle.std.proofs.Common.{Bool, true, false, cond, refl, sym, ap, ◌∙◌, subst, inl, inr, nat_eq}
 use Rattle.std.proofs.Common.{add-one, arith}
-use Rattle.std.specs.Prelude.{◌||◌, is_some, remove, slice_get, Option, Some, None, Result, Ok, Err, OnOk, OnErr}
+use Rattle.std.specs.Prelude.{◌||◌, is_some, remove, slice_get, None, Result, Ok, Err, OnOk, OnErr}
 use Rattle.std.proofs.lemmas.Bool.{cases_lt}
 use Rattle.indexmap.specs.IndexMap.{set_value_at, insert_entry}
 use Rattle.out_queue.specs.Queue.{front_of}

@@ -1,5 +1,6 @@
 -- The connections that a core keeps, as one list: each with its number, its session, and what waits for it.
 use Rattle.std.specs.Prelude.{ℕ, List, [], ◌∷◌, Bool}
+use Rattle.ams_tcp.specs.Held.{Held}
 use Rattle.session.specs.SessionState.{SessionState}
 use Rattle.server_core.specs.declared.turned.Turned.{Turned}
 use Rattle.server_core.specs.declared.waiting.Waiting.{Waiting}
@@ -14,6 +15,10 @@ pub record Conn : Type 0 where
 
 abbrev pub conn_of : Turned → ℕ × Waiting → Conn
 conn_of t e = record { number = e.0; session = t.session; out = e.1.out; closing = t.skip; blocked = e.1.blocked }
+
+-- the same, where the stream of the session is lent, and this is what stands in it
+abbrev pub conn_over : Held → Turned → ℕ × Waiting → Conn
+conn_over held t e = conn_of (record t { session = (let s = t.session in record s { stream = held }) }) e
 
 -- sessions and what waits for them stand at equal places
 abbrev pub conns_of : List Turned → List (ℕ × Waiting) → List Conn

@@ -21,11 +21,10 @@ ghost use Rattle.server_core.specs.Serves.{Serves, HasCounts, Follows, HasFailed
 use crate::clients::Clients;
 use crate::device::Device;
 use crate::events::take_event;
-use crate::rooms::Rooms;
 use crate::server::Server;
 use crate::sources::Sources;
 use crate::{Outcome, Summary};
-use ads_base::{ListOf, NoMemory};
+use ads_base::{ListOf, NoMemory, Octets};
 use ads_outside::{Event, ReloadNotes};
 use net_routes::Routes;
 use port_device::Ports;
@@ -74,7 +73,7 @@ impl<S: Sources> Core<S> {
                 clients: Clients::new(alloc),
                 summary: Summary::nothing(),
                 notes: ReloadNotes::new(alloc),
-                rooms: Rooms::new(alloc),
+                room: Octets::new(alloc),
             },
             signals,
             failed: false,

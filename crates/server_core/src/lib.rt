@@ -14,7 +14,6 @@ mod gate;
 mod laws;
 mod outcome;
 mod reloading;
-mod rooms;
 mod server;
 mod sources;
 mod summary;

@@ -12,9 +12,8 @@ ghost use Rattle.server_core.specs.Places.{offer_among, offers_among};
 use crate::Summary;
 use crate::clients::Clients;
 use crate::device::Device;
-use crate::rooms::Rooms;
 use crate::taking::take_piece;
-use ads_base::NoMemory;
+use ads_base::{NoMemory, Octets};
 use ads_outside::ReloadNotes;
 use std::alloc::Global;
 
@@ -25,7 +24,8 @@ pub(crate) struct Server {
     pub(crate) clients: Clients,
     pub(crate) summary: Summary,
     pub(crate) notes: ReloadNotes,
-    pub(crate) rooms: Rooms,
+    /// The room of the last answer, of whatever connection, which the next one takes. What stands there is not looked at.
+    pub(crate) room: Octets,
 }
 
 impl Server {
@@ -82,7 +82,7 @@ impl Server {
             waiting,
             &mut self.device,
             &mut self.summary,
-            &mut self.rooms,
+            &mut self.room,
             bytes,
         )
     }

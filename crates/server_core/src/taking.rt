@@ -5,32 +5,33 @@ ghost use Rattle.spec_frames.specs.Frame.{IsAmsPacket};
 ghost use Rattle.spec_machine.specs.Device.{Reply};
 ghost use Rattle.spec_machine.specs.Piece.{after_piece};
 ghost use Rattle.spec_plant.specs.World.{Plant};
+ghost use Rattle.ams_tcp.specs.Held.{Held};
 ghost use Rattle.server_core.specs.Served.{served, ServedConnection, ServedExchange};
-ghost use Rattle.server_core.specs.Conns.{conn_of};
+ghost use Rattle.server_core.specs.Conns.{conn_of, conn_over};
 ghost use Rattle.server_core.specs.ConnStands.{Stands, Goes};
 ghost use Rattle.server_core.specs.HoldsWorld.{HoldsWorld, IsConnected};
 ghost use Rattle.server_core.specs.Taking.{answered, Takes, Produces, KeepsDevice};
 
 use crate::Summary;
 use crate::device::Device;
-use crate::rooms::Rooms;
 use crate::turned::Turned;
 use crate::waiting::Waiting;
 use ads_base::{NoMemory, Octets};
-use ams_tcp::Cut;
+use ams_tcp::{Peeked, Splitter};
 use out_queue::Pushed;
 use session::Taken;
 use std::alloc::Global;
 use std::mem;
 
-/// A piece comes in, and all frames that are whole by then are taken.
+/// A piece comes in, and all frames that are whole by then are taken. The session lends its stream meanwhile, so no packet is
+/// copied.
 pub(crate) fn take_piece(
     alloc: Global,
     turned: &mut Turned,
     waiting: &mut Waiting,
     device: &mut Device,
     summary: &mut Summary,
-    rooms: &mut Rooms,
+    room: &mut Octets,
     bytes: &[u8],
 ) -> Result<(), NoMemory>
     requires { turned.old.skip ≡ false → IsConnected device.old turned.old.session }
@@ -43,55 +44,80 @@ pub(crate) fn take_piece(
     if turned.skip {
         return Ok(());
     }
-    turned.session.feed(alloc, bytes)?;
-    while take_next(alloc, turned, waiting, device, summary, rooms)? {}
+    let mut stream = turned.session.lend_stream(alloc);
+    let taken = take_fed(
+        alloc,
+        &mut stream,
+        turned,
+        waiting,
+        device,
+        summary,
+        room,
+        bytes,
+    );
+    turned.session.take_back(stream);
+    taken
+}
+
+// The same for a connection that is not closing, whose stream is lent.
+fn take_fed(
+    alloc: Global,
+    stream: &mut Splitter,
+    turned: &mut Turned,
+    waiting: &mut Waiting,
+    device: &mut Device,
+    summary: &mut Summary,
+    room: &mut Octets,
+    bytes: &[u8],
+) -> Result<(), NoMemory>
+    requires { IsConnected device.old turned.old.session }
+    ensures goes { OnOk result ((n : ℕ) (x : ServedExchange) → HoldsWorld device.old x.world
+        → Stands x.world.plant (conn_over stream.old turned.old (n, waiting.old)) x.connection
+        → x.connection.closing ≡ false → x.connection.gone ≡ false
+        → Goes (conn_over stream.new turned.new (n, waiting.new)) device.new summary.old summary.new x (after_piece served bytes.now x)) }
+    ensures marks { waiting.new.blocked ≡ waiting.old.blocked }
+    ensures device { KeepsDevice device.old device.new }
+{
+    stream.feed(alloc, bytes)?;
+    while take_next(alloc, stream, turned, waiting, device, summary, room)? {}
     Ok(())
 }
 
 // The next frame is taken; false where no more is to be taken.
 fn take_next(
     alloc: Global,
+    stream: &mut Splitter,
     turned: &mut Turned,
     waiting: &mut Waiting,
     device: &mut Device,
     summary: &mut Summary,
-    rooms: &mut Rooms,
+    room: &mut Octets,
 ) -> Result<bool, NoMemory>
     requires { IsConnected device.old turned.old.session }
     ensures takes { IfOk result (λ more. (n : ℕ) (x : ServedExchange) → HoldsWorld device.old x.world
-        → Stands x.world.plant (conn_of turned.old (n, waiting.old)) x.connection → x.connection.closing ≡ false
-        → Takes more (conn_of turned.new (n, waiting.new)) device.new summary.old summary.new x) }
+        → Stands x.world.plant (conn_over stream.old turned.old (n, waiting.old)) x.connection → x.connection.closing ≡ false
+        → Takes more (conn_over stream.new turned.new (n, waiting.new)) device.new summary.old summary.new x) }
     ensures connected { OnOk result (IsConnected device.new turned.new.session) }
-    ensures shorter { IfOk result (λ more. IsTrue more
-        → length turned.new.session.stream.rest < length turned.old.session.stream.rest) }
+    ensures shorter { IfOk result (λ more. IsTrue more → length stream.new.rest < length stream.old.rest) }
     ensures marks { waiting.new.blocked ≡ waiting.old.blocked }
     ensures device { KeepsDevice device.old device.new }
 {
-    let room = mem::replace(&mut rooms.packet, Octets::new(alloc));
-    match turned.session.next_in(alloc, room)? {
-        Cut::Frame(packet) => {
+    match stream.peek() {
+        Peeked::Frame(packet) => {
             summary.count_request();
-            answer(
-                alloc,
-                turned,
-                waiting,
-                device,
-                summary,
-                packet.as_slice(),
-                &mut rooms.reply,
-            )?;
-            rooms.packet = packet;
+            answer(alloc, turned, waiting, device, summary, packet, room)?;
+            stream.pass_frame();
             Ok(!turned.skip)
         }
-        Cut::NotYet => Ok(false),
-        Cut::Broken => {
+        Peeked::NotYet => Ok(false),
+        Peeked::Broken => {
             turned.skip = true;
             Ok(false)
         }
     }
 }
 
-// A packet that was taken is answered.
+// A packet that is taken is answered, whatever stream it came from.
 fn answer(
     alloc: Global,
     turned: &mut Turned,
@@ -103,11 +129,10 @@ fn answer(
 ) -> Result<(), NoMemory>
     requires packet { IsAmsPacket packet.now }
     requires connected { IsConnected device.old turned.old.session }
-    ensures goes { OnOk result ((n : ℕ) (x : ServedExchange) → HoldsWorld device.old x.world
-        → Stands x.world.plant (conn_of turned.old (n, waiting.old)) x.connection → x.connection.closing ≡ false
-        → Goes (conn_of turned.new (n, waiting.new)) device.new summary.old summary.new x (answered packet.now x)) }
+    ensures goes { OnOk result ((held : Held) (n : ℕ) (x : ServedExchange) → HoldsWorld device.old x.world
+        → Stands x.world.plant (conn_over held turned.old (n, waiting.old)) x.connection → x.connection.closing ≡ false
+        → Goes (conn_over held turned.new (n, waiting.new)) device.new summary.old summary.new x (answered packet.now x)) }
     ensures connected { OnOk result (IsConnected device.new turned.new.session) }
-    ensures stream { turned.new.session.stream ≡ turned.old.session.stream }
     ensures marks { waiting.new.blocked ≡ waiting.old.blocked }
     ensures device { KeepsDevice device.old device.new }
 {
@@ -142,9 +167,9 @@ fn reply(
     frame: &[u8],
 ) -> Result<(), NoMemory>
     requires { 0 < length frame.now }
-    ensures produces { OnOk result ((plant : Plant) (n : ℕ) (k : ServedConnection)
-        → Stands plant (conn_of turned.old (n, waiting.old)) k → k.closing ≡ false
-        → Produces plant (conn_of turned.new (n, waiting.new)) summary.old summary.new (Reply frame.now) k) }
+    ensures produces { OnOk result ((held : Held) (plant : Plant) (n : ℕ) (k : ServedConnection)
+        → Stands plant (conn_over held turned.old (n, waiting.old)) k → k.closing ≡ false
+        → Produces plant (conn_over held turned.new (n, waiting.new)) summary.old summary.new (Reply frame.now) k) }
     ensures session { turned.new.session ≡ turned.old.session }
     ensures marks { waiting.new.blocked ≡ waiting.old.blocked }
 {

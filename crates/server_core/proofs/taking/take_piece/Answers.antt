@@ -1,12 +1,10 @@
 use Rattle.std.proofs.Common.{◌≡◌, refl, ◌∙◌, sym, subst}
-use Rattle.spec_machine.specs.Piece.{with_piece, after_piece}
+use Rattle.spec_machine.specs.Piece.{after_piece}
 use Rattle.server_core.specs.Served.{served, ServedExchange}
-use Rattle.server_core.specs.Conns.{conn_of}
-use Rattle.server_core.specs.ConnStands.{Stands, history_of, Goes}
-use Rattle.server_core.specs.Taking.{settled, Takes}
+use Rattle.server_core.specs.Conns.{Conn, conn_of}
+use Rattle.server_core.specs.ConnStands.{Stands, Goes}
 use Rattle.server_core.proofs.CountLemmas.{same_counts}
-use Rattle.server_core.proofs.TakingLemmas.{none_taken, takes_more, takes_all, then_goes, goes_still, fed}
-use Rattle.server_core.proofs.TakingLemmas.{after_piece-closing, after_piece-settled, kept_client}
+use Rattle.server_core.proofs.TakingLemmas.{goes_still, after_piece-closing, kept_client, lent_stream, stream_back, on_ok}
 use Rattle.server_core.proofs.taking.take_piece.Goals as goal
 
 pub returns-then-turned-clause-goes : goal.returns-then-turned-clause-goes
@@ -16,69 +14,24 @@ returns-then-turned-clause-goes c = λ n x held s there.
     subst (λ (z : ServedExchange). Goes conn c.args.device.now c.args.summary.now c.args.summary.now x z) same
     (goes_still conn c.args.device.now c.args.summary.now c.args.summary.now x x.connection held s (same_counts c.args.summary.now x.connection) refl)
 
-pub loop-init : goal.loop-init
-loop-init c = record {
-  marks = refl;
-  device = record { net = refl; routes = refl; signals = refl; moment = refl };
-  connected = record {
-    world = (c.requires c.if-turned.false).world;
-    client = (c.requires c.if-turned.false).client;
-    held = (c.requires c.if-turned.false).held;
-    stands = kept_client (c.requires c.if-turned.false).world.plant
-        (c.requires c.if-turned.false).client c.args.turned.now.session c.feed.new.self c.feed.ensures.keeps
-        (c.requires c.if-turned.false).stands;
-  };
-  takes = λ n x held s is_open. none_taken _ c.args.device.now c.args.summary.now x held s is_open;
-}
-
-pub loop-preserved : goal.loop-preserved
-loop-preserved c = record {
-  marks = c.in_ok-take_next.ensures.marks ∙ c.loop.invariant.marks;
-  device = record {
-    net = c.in_ok-take_next.ensures.device.net ∙ c.loop.invariant.device.net;
-    routes = c.in_ok-take_next.ensures.device.routes ∙ c.loop.invariant.device.routes;
-    signals = c.in_ok-take_next.ensures.device.signals ∙ c.loop.invariant.device.signals;
-    moment = c.in_ok-take_next.ensures.device.moment ∙ c.loop.invariant.device.moment;
-  };
-  connected = c.in_ok-take_next.ensures.connected;
-  takes = λ n x held s is_open.
-      let first = c.loop.invariant.takes n x held s is_open in
-      let plant = first.goes.plant in
-      let more = c.in_ok-take_next.ensures.takes n first.next first.goes.holds
-      (subst (λ p. Stands p (conn_of c.loop.turned (n, c.loop.waiting)) first.next.connection) (sym plant) first.goes.stands) first.is_open in
-      takes_more (conn_of c.loop.turned (n, c.loop.waiting)) _ c.loop.device
-      c.take_next.new.device c.args.summary.now c.loop.summary c.take_next.new.summary x first
-      (subst (λ b. Takes b (conn_of c.take_next.new.turned (n, c.take_next.new.waiting))
-      c.take_next.new.device c.loop.summary c.take_next.new.summary first.next) c.if-branch.true more);
-}
+pub take_fed-taken-requires : goal.take_fed-taken-requires
+take_fed-taken-requires c =
+    let k = c.requires c.if-turned.false in
+    record {
+      world = k.world;
+      client = k.client;
+      held = k.held;
+      stands = kept_client k.world.plant k.client c.args.turned.now.session c.lend_stream-stream.new.self c.lend_stream-stream.ensures.keeps k.stands;
+    }
 
 pub returns-clause-goes : goal.returns-clause-goes
-returns-clause-goes c = λ n x held s there.
-    let conn = conn_of c.args.turned.now (n, c.args.waiting.now) in
-    let mid = conn_of (let t = c.args.turned.now in record t { session = c.feed.new.self }) (n, c.args.waiting.now) in
-    let new = conn_of c.take_next.new.turned (n, c.take_next.new.waiting) in
-    let d = c.args.device.now in
-    let e = c.take_next.new.device in
-    let piece = c.args.bytes.now in
-    let is_open = sym s.closing ∙ c.if-turned.false in
-    let come = fed conn mid d c.args.summary.now x piece held s
-    (c.in_ok-feed.ensures.ok (history_of conn x.connection) s.stream) c.feed.ensures.keeps refl refl refl in
-    let first = c.loop.invariant.takes n (with_piece piece x) held come.stands is_open in
-    let last = c.in_ok-take_next.ensures.takes n first.next first.goes.holds
-    (subst (λ p. Stands p (conn_of c.loop.turned (n, c.loop.waiting)) first.next.connection) (sym first.goes.plant) first.goes.stands) first.is_open in
-    let all = takes_all (conn_of c.loop.turned (n, c.loop.waiting)) new c.loop.device e
-    c.args.summary.now c.loop.summary c.take_next.new.summary (with_piece piece x) first
-    (subst (λ b. Takes b new e c.loop.summary c.take_next.new.summary first.next) c.if-branch.false last) in
-    subst (λ (z : ServedExchange). Goes new e c.args.summary.now c.take_next.new.summary x z) (after_piece-settled piece x is_open there)
-    (then_goes mid new d e c.args.summary.now c.args.summary.now c.take_next.new.summary x (with_piece piece x) (settled (with_piece piece x)) come all)
-
-pub returns-clause-marks : goal.returns-clause-marks
-returns-clause-marks c = c.in_ok-take_next.ensures.marks ∙ c.loop.invariant.marks
-
-pub returns-clause-device : goal.returns-clause-device
-returns-clause-device c = record {
-  net = c.take_next.ensures.device.net ∙ c.loop.invariant.device.net;
-  routes = c.take_next.ensures.device.routes ∙ c.loop.invariant.device.routes;
-  signals = c.take_next.ensures.device.signals ∙ c.loop.invariant.device.signals;
-  moment = c.take_next.ensures.device.moment ∙ c.loop.invariant.device.moment;
-}
+returns-clause-goes c =
+    on_ok c.take_fed-taken.result (λ goes. λ n x held s there.
+    let t = c.args.turned.now in
+    let lent = lent_stream t c.lend_stream-stream.new.self c.lend_stream-stream.result (n, c.args.waiting.now)
+    c.lend_stream-stream.ensures.stream c.lend_stream-stream.ensures.keeps in
+    let back = stream_back c.take_fed-taken.new.turned c.take_back.new.self c.take_fed-taken.new.stream (n, c.take_fed-taken.new.waiting) c.take_back.ensures in
+    let over = subst (λ (conn : Conn). Stands x.world.plant conn x.connection) (sym lent) s in
+    let end = after_piece served c.args.bytes.now x in
+    subst (λ (conn : Conn). Goes conn c.take_fed-taken.new.device c.args.summary.now c.take_fed-taken.new.summary x end) back
+    (goes n x held over (sym s.closing ∙ c.if-turned.false) there)) c.take_fed-taken.ensures.goes
