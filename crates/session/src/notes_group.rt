@@ -1,7 +1,8 @@
 //! The samples that go from one port to one address, written into their frame.
 
-ghost use Rattle.std.specs.Prelude.{◌≡◌, ◌+◌, ◌<◌, ◌≤◌, ◌++◌, length, IfOk, OnOk};
+ghost use Rattle.std.specs.Prelude.{◌≡◌, ◌+◌, ◌<◌, ◌≤◌, ◌++◌, length, bytes_eq, IfOk, OnOk};
 ghost use Rattle.std.specs.Int.{w32, to_le_bytes};
+ghost use Rattle.spec_formats.specs.Header.{is_same_address};
 ghost use Rattle.spec_formats.specs.Notification.{sample_bytes};
 ghost use Rattle.notify_table.specs.Specs.{address_of};
 ghost use Rattle.session.specs.NoteFrames.{produced_of, IsNoteFrame};
@@ -21,6 +22,9 @@ const MOST_SAMPLES: usize = 512;
 
 // How many bytes a sample of four bytes has.
 const SAMPLE_OF_FOUR: usize = 12;
+
+// How many bytes a sample of two bytes has.
+const SAMPLE_OF_TWO: usize = 10;
 
 /// Samples from a port to an address. Contracts see how many they are, and their text.
 #[derive(Drop)]
@@ -69,10 +73,11 @@ impl NoteGroup {
     pub fn is_for(&self, port: u16, to: AmsAddr) -> bool
         ensures { result ≡ is_group_for port (address_of to) self.now }
     {
-        self.port == port && self.to == to
+        self.port == port && are_same(to, self.to)
     }
 
     /// Adds a sample. After want of memory a part of it may stand there.
+    #[inline(always)]
     pub fn add(&mut self, alloc: Global, handle: u32, bytes: &[u8]) -> Result<(), NoMemory>
         requires few { self.old.count < 512 }
         requires short { length bytes.now ≤ 2048 }
@@ -104,6 +109,21 @@ impl NoteGroup {
     }
 }
 
+// Whether two addresses are the same. Their bytes are compared one by one in place, where arrays are by a call.
+fn are_same(a: AmsAddr, b: AmsAddr) -> bool
+    ensures { result ≡ is_same_address (address_of a) (address_of b) }
+{
+    are_same_nets(a.net.bytes, b.net.bytes) && a.port == b.port
+}
+
+fn are_same_nets(a: [u8; 6], b: [u8; 6]) -> bool
+    ensures { result ≡ bytes_eq a b }
+{
+    let [a0, a1, a2, a3, a4, a5] = a;
+    let [b0, b1, b2, b3, b4, b5] = b;
+    a0 == b0 && a1 == b1 && a2 == b2 && a3 == b3 && a4 == b4 && a5 == b5
+}
+
 // Appends a sample. After want of memory a part of it may stand there.
 fn put_sample(alloc: Global, handle: u32, bytes: &[u8], out: &mut Octets) -> Result<(), NoMemory>
     requires { length bytes.now ≤ 2048 }
@@ -111,9 +131,12 @@ fn put_sample(alloc: Global, handle: u32, bytes: &[u8], out: &mut Octets) -> Res
     ensures longer { length out.old ≤ length out.new }
     ensures short { length out.new ≤ length out.old + 2056 }
 {
-    // Most samples have four bytes, and are appended in one step.
+    // Most samples have four or two bytes, and are appended in one step.
     if let Some(four) = bytes.as_array::<4>() {
         return out.put_array(alloc, &sample_of_four(handle, *four));
+    }
+    if let Some(two) = bytes.as_array::<2>() {
+        return out.put_array(alloc, &sample_of_two(handle, *two));
     }
     out.put_array(alloc, &sample_head(handle, bytes.len() as u32))?;
     out.put(alloc, bytes)?;
@@ -136,4 +159,13 @@ fn sample_of_four(handle: u32, bytes: [u8; 4]) -> [u8; SAMPLE_OF_FOUR]
     let [h0, h1, h2, h3, l0, l1, l2, l3] = sample_head(handle, 4);
     let [b0, b1, b2, b3] = bytes;
     [h0, h1, h2, h3, l0, l1, l2, l3, b0, b1, b2, b3]
+}
+
+// A sample of two bytes.
+fn sample_of_two(handle: u32, bytes: [u8; 2]) -> [u8; SAMPLE_OF_TWO]
+    ensures { result ≡ sample_bytes (sample handle bytes) }
+{
+    let [h0, h1, h2, h3, l0, l1, l2, l3] = sample_head(handle, 2);
+    let [b0, b1] = bytes;
+    [h0, h1, h2, h3, l0, l1, l2, l3, b0, b1]
 }
