@@ -1,5 +1,5 @@
 -- Bytes compared as one number.
-use Rattle.std.proofs.Common.{◌≡◌, ℕ, List, true, refl, sym, ap, ◌∙◌, nat_eq, bytes_eq, inl, inr}
+use Rattle.std.proofs.Common.{◌≡◌, ℕ, List, refl, sym, ap, ◌∙◌, nat_eq, bytes_eq, inl, inr}
 use Rattle.std.specs.Int.{Width, from_le_bytes, to_le_bytes}
 use Rattle.std.proofs.lemmas.Bool.{cases_Bool, eq-eqb, ne_eqb, false≢true}
 use Rattle.std.proofs.lemmas.Slice.Eq.{bytes_eq-Decides}
