@@ -17,10 +17,11 @@ use ads_base::NoMemory;
 use std::alloc::Global;
 use std::thread::Threads;
 
-// A list is halved so often, so that at most eight threads check sessions at once.
-const LEVELS: u32 = 3;
+// A list is halved so often, so that at most two threads check sessions at once. Each further join costs the processor more
+// than its checks take.
+const LEVELS: u32 = 1;
 
-// From so many due notifications on: a millisecond of checks. Seven joins cost about as much.
+// From so many due notifications on: some 0.3 milliseconds of checks. A join costs about half of that.
 const THREADS_FROM: u128 = 8_192;
 
 /// A tick: each signal steps, the due notifications of each connection that is not closing are checked, and the
@@ -54,10 +55,10 @@ pub(crate) fn tick<T: Threads + Sync, S: Sources>(
     server.clients.deliver(alloc, &mut server.summary)
 }
 
-// How often a list is halved: three times where so many checks are due that threads pay, else not at all.
+// How often a list is halved: once where so many checks are due that a thread pays, else not at all.
 fn levels_for(list: &[Turned], now: u64) -> u32
     ensures few { due_checks now list.now < 8192 → result ≡ 0 }
-    ensures many { 8192 ≤ due_checks now list.now → result ≡ 3 }
+    ensures many { 8192 ≤ due_checks now list.now → result ≡ 1 }
 {
     if count_due(list, now) < THREADS_FROM {
         0
