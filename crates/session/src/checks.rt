@@ -142,9 +142,9 @@ fn stop_by_address(h: &Header, net: NetId, no_route: bool, no_port: bool, no_req
     stop_by_command(h, no_request)
 }
 
-// Whether two NetIds are the same: compared as a number of four bytes and one of two, where arrays are compared byte by byte.
+/// Whether two NetIds are the same: compared as a number of four bytes and one of two, where arrays are compared byte by byte.
 #[inline(always)]
-fn is_same_net(left: NetId, right: NetId) -> bool
+pub(crate) fn is_same_net(left: NetId, right: NetId) -> bool
     ensures { result ≡ bytes_eq left.bytes right.bytes }
 {
     get32(&left.bytes, 0) == get32(&right.bytes, 0)

@@ -1,6 +1,6 @@
 //! The samples that go from one port to one address, written into their frame.
 
-ghost use Rattle.std.specs.Prelude.{◌≡◌, ◌+◌, ◌<◌, ◌≤◌, ◌++◌, length, bytes_eq, IfOk, OnOk};
+ghost use Rattle.std.specs.Prelude.{◌≡◌, ◌+◌, ◌<◌, ◌≤◌, ◌++◌, length, IfOk, OnOk};
 ghost use Rattle.std.specs.Int.{w32, to_le_bytes};
 ghost use Rattle.spec_formats.specs.Header.{is_same_address};
 ghost use Rattle.spec_formats.specs.Notification.{sample_bytes};
@@ -9,6 +9,7 @@ ghost use Rattle.session.specs.NoteFrames.{produced_of, IsNoteFrame};
 ghost use Rattle.session.specs.NoteGroups.{is_group_for, no_samples, group_with, sample, frame_of_group};
 
 use crate::NoteFrame;
+use crate::checks::is_same_net;
 use crate::notes_head::{HEAD, put_head};
 use ads_base::{AmsAddr, NetId, NoMemory, Octets};
 use std::alloc::Global;
@@ -109,19 +110,11 @@ impl NoteGroup {
     }
 }
 
-// Whether two addresses are the same. Their bytes are compared one by one in place, where arrays are by a call.
+// Whether two addresses are the same.
 fn are_same(a: AmsAddr, b: AmsAddr) -> bool
     ensures { result ≡ is_same_address (address_of a) (address_of b) }
 {
-    are_same_nets(a.net.bytes, b.net.bytes) && a.port == b.port
-}
-
-fn are_same_nets(a: [u8; 6], b: [u8; 6]) -> bool
-    ensures { result ≡ bytes_eq a b }
-{
-    let [a0, a1, a2, a3, a4, a5] = a;
-    let [b0, b1, b2, b3, b4, b5] = b;
-    a0 == b0 && a1 == b1 && a2 == b2 && a3 == b3 && a4 == b4 && a5 == b5
+    is_same_net(a.net, b.net) && a.port == b.port
 }
 
 // Appends a sample. After want of memory a part of it may stand there.
