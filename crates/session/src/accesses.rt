@@ -9,7 +9,7 @@ ghost use Rattle.session.specs.Asks.{SomeAsks};
 use crate::asker::Asker;
 use crate::groups::is_sum;
 use crate::replies::{number_in, read_reply, read_write_reply};
-use crate::requests::{ReadWriteRequest, WriteRequest};
+use crate::requests::{ReadRequest, ReadWriteRequest, WriteRequest};
 use crate::{Session, writing};
 use ads_base::{NoMemory, Octets, put32};
 use port_device::Port;
@@ -24,26 +24,15 @@ impl Session {
         alloc: Global,
         port: &Port,
         ams_port: u16,
-        group: u32,
-        offset: u32,
-        len: u32,
+        asked: &ReadRequest,
         out: &mut Octets,
     ) -> Result<(), NoMemory>
         requires some { SomeAsks port.now self.now.handles }
         requires number { ams_port ≡ port.now.number }
         ensures { OnOk result ((a : Asking) → AsksSession a port.now self.now
-            → Runs a (format.Read group offset len) out.old out.new port.now self.now) }
+            → Runs a (format.Read asked.now.group asked.now.offset asked.now.len) out.old out.new port.now self.now) }
     {
-        read_reply(
-            alloc,
-            &self.handles,
-            port,
-            ams_port,
-            group,
-            offset,
-            len,
-            out,
-        )
+        read_reply(alloc, &self.handles, port, ams_port, asked, out)
     }
 
     /// Writes, and appends the result.
@@ -85,16 +74,6 @@ impl Session {
         if is_sum(asked.group) {
             return self.sum(alloc, port, asker, asked, out);
         }
-        read_write_reply(
-            alloc,
-            &mut self.handles,
-            port,
-            asker.number,
-            asked.group,
-            asked.offset,
-            asked.len,
-            asked.bytes,
-            out,
-        )
+        read_write_reply(alloc, &mut self.handles, port, asker.number, asked, out)
     }
 }

@@ -1,9 +1,8 @@
 //! A single ReadWrite of a client at a port: one of a packet, or a part of a sum.
 
 ghost use Rattle.std.specs.Prelude.{◌≡◌, ◌+◌, ◌≤◌, length, IfOk, OnOk, OnErr};
-ghost use Rattle.spec_formats.specs.Groups.{HandleByName};
 ghost use Rattle.spec_formats.specs.Request.{ReadWrite};
-ghost use Rattle.spec_machine.specs.ByName.{read_write_group, grant_act};
+ghost use Rattle.spec_machine.specs.ByName.{grant_act};
 ghost use Rattle.spec_machine.specs.Client as client;
 ghost use Rattle.port_device.specs.Answers.{AnswersAct};
 ghost use Rattle.port_device.specs.PortMemory.{PortMemory};
@@ -12,6 +11,7 @@ ghost use Rattle.session.specs.Asks.{Asks, SomeAsks};
 ghost use Rattle.session.specs.Grants.{IsPlaceNamed, handle_act};
 
 use crate::groups::is_handle_by_name;
+use crate::requests::ReadWriteRequest;
 use ads_base::{NoMemory, Octets, put32};
 use port_device::Port;
 use return_codes::Code;
@@ -25,25 +25,22 @@ pub(crate) fn read_write(
     handles: &mut Handles,
     port: &Port,
     ams_port: u16,
-    group: u32,
-    offset: u32,
-    len: u32,
-    bytes: &[u8],
+    asked: &ReadWriteRequest<'_>,
     out: &mut Octets,
 ) -> Result<Result<(), Code>, NoMemory>
     requires some { SomeAsks port.now handles.old }
     requires number { ams_port ≡ port.now.number }
     ensures answer { IfOk result (λ answer. (a : Asking) → Asks a port.now handles.old
-        → AnswersAct a.world (act_asked a (ReadWrite group offset len bytes.now)) answer out.old out.new) }
+        → AnswersAct a.world (act_asked a (ReadWrite asked.now.group asked.now.offset asked.now.len asked.now.bytes.now)) answer out.old out.new) }
     ensures leaves { OnOk result ((a : Asking) → Asks a port.now handles.old
-        → Asks (asking_after a (ReadWrite group offset len bytes.now)) port.now handles.new) }
-    ensures asked { OnOk result (length out.new ≤ length out.old + len) }
+        → Asks (asking_after a (ReadWrite asked.now.group asked.now.offset asked.now.len asked.now.bytes.now)) port.now handles.new) }
+    ensures asked { OnOk result (length out.new ≤ length out.old + asked.now.len) }
     ensures no_memory { OnErr result (out.new ≡ out.old) }
 {
-    if is_handle_by_name(group) {
-        return grant(alloc, handles, port, ams_port, len, bytes, out);
+    if is_handle_by_name(asked.group) {
+        return grant(alloc, handles, port, ams_port, asked, out);
     }
-    port.ask(alloc, group, len, bytes, out)
+    port.ask(alloc, asked.group, asked.len, asked.bytes, out)
 }
 
 // A handle of 4 bytes for what a name leads to: 0x705 for a length below 4, 0x710 where it leads to nothing, then 0x700 where
@@ -53,21 +50,20 @@ fn grant(
     handles: &mut Handles,
     port: &Port,
     ams_port: u16,
-    len: u32,
-    name: &[u8],
+    asked: &ReadWriteRequest<'_>,
     out: &mut Octets,
 ) -> Result<Result<(), Code>, NoMemory>
     requires number { ams_port ≡ port.now.number }
     ensures answer { IfOk result (λ answer. (a : Asking) → Asks a port.now handles.old
-        → AnswersAct a.world (handle_act a len name.now) answer out.old out.new) }
+        → AnswersAct a.world (handle_act a asked.now.len asked.now.bytes.now) answer out.old out.new) }
     ensures leaves { OnOk result ((a : Asking) → Asks a port.now handles.old
-        → Asks (after_act a (handle_act a len name.now)) port.now handles.new) }
+        → Asks (after_act a (handle_act a asked.now.len asked.now.bytes.now)) port.now handles.new) }
     ensures no_memory { OnErr result (out.new ≡ out.old) }
 {
-    if len < 4 {
+    if asked.len < 4 {
         return Ok(Err(Code::C705));
     }
-    match port.place(name) {
+    match port.place(asked.bytes) {
         Ok(place) => grant_place(alloc, handles, ams_port, place, out),
         Err(code) => Ok(Err(code)),
     }

@@ -12,6 +12,7 @@ ghost use Rattle.session.specs.Asking.{Asking};
 ghost use Rattle.session.specs.Asks.{Asks, SomeAsks, LooksUp};
 ghost use Rattle.session.specs.StandsFor.{KeptFor};
 
+use crate::requests::ReadRequest;
 use ads_base::{NoMemory, Octets};
 use port_device::Port;
 use return_codes::Code;
@@ -28,25 +29,24 @@ pub(crate) fn look(handles: &Handles, ams_port: u16, handle: u32) -> Result<Plac
     handles.look(handle, ams_port)
 }
 
-/// Appends the first bytes of a value by its handle.
+/// Appends the first bytes of a value by its handle, which is the offset that was asked for.
 pub(crate) fn read_value(
     alloc: Global,
     handles: &Handles,
     port: &Port,
     ams_port: u16,
-    handle: u32,
-    len: u32,
+    asked: &ReadRequest,
     out: &mut Octets,
 ) -> Result<Result<(), Code>, NoMemory>
     requires some { SomeAsks port.now handles.now }
     requires number { ams_port ≡ port.now.number }
     ensures answer { IfOk result (λ answer. (a : Asking) → Asks a port.now handles.now
         → AnswersAct a.world (read_act (addressed_by_status a.asker.port.number
-        (machine.kept_status a.client.handles handle a.asker.port.number) len)) answer out.old out.new) }
+        (machine.kept_status a.client.handles asked.now.offset a.asker.port.number) asked.now.len)) answer out.old out.new) }
     ensures no_memory { OnErr result (out.new ≡ out.old) }
 {
-    match look(handles, ams_port, handle) {
-        Ok(place) => port.read_place(alloc, place, len, out),
+    match look(handles, ams_port, asked.offset) {
+        Ok(place) => port.read_place(alloc, place, asked.len, out),
         Err(code) => Ok(Err(code)),
     }
 }

@@ -8,6 +8,7 @@ ghost use Rattle.session.specs.Asks.{Asks, SomeAsks};
 
 use crate::groups::is_value_by_handle;
 use crate::looking::read_value;
+use crate::requests::ReadRequest;
 use ads_base::{NoMemory, Octets};
 use port_device::Port;
 use return_codes::Code;
@@ -22,20 +23,18 @@ pub(crate) fn read(
     handles: &Handles,
     port: &Port,
     ams_port: u16,
-    group: u32,
-    offset: u32,
-    len: u32,
+    asked: &ReadRequest,
     out: &mut Octets,
 ) -> Result<Result<(), Code>, NoMemory>
     requires some { SomeAsks port.now handles.now }
     requires number { ams_port ≡ port.now.number }
     ensures answer { IfOk result (λ answer. (a : Asking) → Asks a port.now handles.now
-        → AnswersAct a.world (act_asked a (Read group offset len)) answer out.old out.new) }
-    ensures asked { OnOk result (length out.new ≤ length out.old + len) }
+        → AnswersAct a.world (act_asked a (Read asked.now.group asked.now.offset asked.now.len)) answer out.old out.new) }
+    ensures asked { OnOk result (length out.new ≤ length out.old + asked.now.len) }
     ensures no_memory { OnErr result (out.new ≡ out.old) }
 {
-    if is_value_by_handle(group) {
-        return read_value(alloc, handles, port, ams_port, offset, len, out);
+    if is_value_by_handle(asked.group) {
+        return read_value(alloc, handles, port, ams_port, asked, out);
     }
-    port.read(alloc, group, offset, len, out)
+    port.read(alloc, asked.group, asked.offset, asked.len, out)
 }

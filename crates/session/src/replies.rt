@@ -9,6 +9,7 @@ ghost use Rattle.sum_commands.specs.Parts.{code_in};
 ghost use Rattle.session.specs.Asking.{Asking, outcome_asked, asking_after};
 ghost use Rattle.session.specs.Asks.{Asks, SomeAsks};
 
+use crate::requests::{ReadRequest, ReadWriteRequest};
 use crate::room::{put_room, write_at};
 use crate::{granting, reading};
 use ads_base::{NoMemory, Octets};
@@ -47,20 +48,20 @@ pub(crate) fn read_reply(
     alloc: Global,
     handles: &Handles,
     port: &Port,
-    number: u16,
-    group: u32,
-    offset: u32,
-    len: u32,
+    ams_port: u16,
+    asked: &ReadRequest,
     out: &mut Octets,
 ) -> Result<(), NoMemory>
     requires some { SomeAsks port.now handles.now }
-    requires number { number ≡ port.now.number }
+    requires number { ams_port ≡ port.now.number }
     ensures { OnOk result ((a : Asking) → Asks a port.now handles.now
-        → out.new ≡ out.old ++ reply_payload READ (outcome_asked a (Read group offset len))) }
+        → out.new ≡ out.old ++ reply_payload READ (outcome_asked a (Read asked.now.group asked.now.offset asked.now.len))) }
 {
     let start = out.len();
     put_room(alloc, out, FRONT)?;
-    let answer = reading::read(alloc, handles, port, number, group, offset, len, out)?;
+    // Read, so that its range is known.
+    let _len = asked.len;
+    let answer = reading::read(alloc, handles, port, ams_port, asked, out)?;
     fill_front(out, start, number_in(answer));
     Ok(())
 }
@@ -70,25 +71,22 @@ pub(crate) fn read_write_reply(
     alloc: Global,
     handles: &mut Handles,
     port: &Port,
-    number: u16,
-    group: u32,
-    offset: u32,
-    len: u32,
-    bytes: &[u8],
+    ams_port: u16,
+    asked: &ReadWriteRequest<'_>,
     out: &mut Octets,
 ) -> Result<(), NoMemory>
     requires some { SomeAsks port.now handles.old }
-    requires number { number ≡ port.now.number }
+    requires number { ams_port ≡ port.now.number }
     ensures reply { OnOk result ((a : Asking) → Asks a port.now handles.old
-        → out.new ≡ out.old ++ reply_payload READ_WRITE (outcome_asked a (ReadWrite group offset len bytes.now))) }
+        → out.new ≡ out.old ++ reply_payload READ_WRITE (outcome_asked a (ReadWrite asked.now.group asked.now.offset asked.now.len asked.now.bytes.now))) }
     ensures leaves { OnOk result ((a : Asking) → Asks a port.now handles.old
-        → Asks (asking_after a (ReadWrite group offset len bytes.now)) port.now handles.new) }
+        → Asks (asking_after a (ReadWrite asked.now.group asked.now.offset asked.now.len asked.now.bytes.now)) port.now handles.new) }
 {
     let start = out.len();
     put_room(alloc, out, FRONT)?;
-    let answer = granting::read_write(
-        alloc, handles, port, number, group, offset, len, bytes, out,
-    )?;
+    // Read, so that its range is known.
+    let _len = asked.len;
+    let answer = granting::read_write(alloc, handles, port, ams_port, asked, out)?;
     fill_front(out, start, number_in(answer));
     Ok(())
 }

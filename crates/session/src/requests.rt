@@ -1,5 +1,13 @@
 //! What requests ask for, each as one value.
 
+/// What Read asks for.
+#[derive(Clone, Copy)]
+pub(crate) struct ReadRequest {
+    pub(crate) group: u32,
+    pub(crate) offset: u32,
+    pub(crate) len: u32,
+}
+
 /// What Write asks for.
 #[derive(Clone, Copy)]
 pub(crate) struct WriteRequest<'a> {

@@ -15,7 +15,7 @@ ghost use Rattle.session.specs.Asks.{SomeAsks};
 use crate::Session;
 use crate::asker::Asker;
 use crate::replies::number_in;
-use crate::requests::{NoteRequest, ReadWriteRequest, WriteRequest};
+use crate::requests::{NoteRequest, ReadRequest, ReadWriteRequest, WriteRequest};
 use ads_base::{NoMemory, Octets, put16, put32};
 use ads_commands::{DeviceFacts, Reply, Request, put_reply};
 use port_device::Port;
@@ -44,7 +44,8 @@ impl Session {
         match request {
             Request::DeviceInfo => self.info(alloc, port, out),
             Request::Read { group, offset, len } => {
-                self.read(alloc, port, asker.number, group, offset, len, out)
+                let asked = ReadRequest { group, offset, len };
+                self.read(alloc, port, asker.number, &asked, out)
             }
             Request::Write {
                 group,

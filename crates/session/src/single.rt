@@ -1,7 +1,7 @@
 //! The single requests that the parts of a sum are.
 
 use crate::asker::Asker;
-use crate::requests::WriteRequest;
+use crate::requests::{ReadRequest, ReadWriteRequest, WriteRequest};
 use crate::{granting, reading, writing};
 use ads_base::{NoMemory, Octets};
 use port_device::Port;
@@ -39,16 +39,9 @@ impl PartService for Single<'_> {
         len: u32,
         out: &mut Octets,
     ) -> Result<Result<(), Code>, NoMemory> {
-        reading::read(
-            alloc,
-            &*self.handles,
-            &*self.port,
-            self.asker.number,
-            group,
-            offset,
-            len,
-            out,
-        )
+        let asked = ReadRequest { group, offset, len };
+        let number = self.asker.number;
+        reading::read(alloc, &*self.handles, &*self.port, number, &asked, out)
     }
 
     fn write(&mut self, group: u32, offset: u32, bytes: &[u8]) -> Result<(), Code> {
@@ -69,16 +62,13 @@ impl PartService for Single<'_> {
         bytes: &[u8],
         out: &mut Octets,
     ) -> Result<Result<(), Code>, NoMemory> {
-        granting::read_write(
-            alloc,
-            &mut *self.handles,
-            &*self.port,
-            self.asker.number,
+        let asked = ReadWriteRequest {
             group,
             offset,
-            read_len,
+            len: read_len,
             bytes,
-            out,
-        )
+        };
+        let number = self.asker.number;
+        granting::read_write(alloc, &mut *self.handles, &*self.port, number, &asked, out)
     }
 }

@@ -1,6 +1,6 @@
 //! What the checks of a tick find.
 
-ghost use Rattle.std.specs.Prelude.{◌≡◌, ◌+◌, ◌/◌, ◌%◌, ◌^◌, [], ◌∷◌, length};
+ghost use Rattle.std.specs.Prelude.{◌≡◌, ◌/◌, ◌%◌, ◌^◌, [], ◌∷◌, length};
 ghost use Rattle.spec_plant.specs.Named.{port_numbered};
 ghost use Rattle.spec_formats.specs.Ranges.{Bytes, Bit};
 ghost use Rattle.spec_machine.specs.World.{World};

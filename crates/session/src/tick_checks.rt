@@ -1,6 +1,6 @@
 //! The checks of a tick.
 
-ghost use Rattle.std.specs.Prelude.{◌≡◌, ◌+◌, ◌<◌, ◌≤◌, length, map, All, Some, IsTrue, IsSomeAnd, IfOk, OnOk, option_map};
+ghost use Rattle.std.specs.Prelude.{◌≡◌, ◌+◌, ◌<◌, ◌≤◌, length, map, All, Some, IsTrue, IsSomeAnd, IfOk, OnOk};
 ghost use Rattle.std.specs.List.Sorted.{IsStrictlyIncreasing};
 ghost use Rattle.spec_plant.specs.Named.{port_numbered};
 ghost use Rattle.spec_machine.specs.Stamps.{frames_of_samples};

@@ -1,9 +1,7 @@
 //! A single Write of a client at a port: one of a packet, or a part of a sum.
 
-ghost use Rattle.std.specs.Prelude.{◌≡◌, length};
+ghost use Rattle.std.specs.Prelude.{◌≡◌};
 ghost use Rattle.spec_formats.specs.Request.{Write};
-ghost use Rattle.spec_machine.specs.Handles.{kept_status};
-ghost use Rattle.spec_machine.specs.Reach.{addressed_by_status};
 ghost use Rattle.spec_machine.specs.Writes as machine;
 ghost use Rattle.type_layout.specs.Descriptions.{rights_of};
 ghost use Rattle.port_device.specs.Endings.{IsAsker, KeepsDescription};

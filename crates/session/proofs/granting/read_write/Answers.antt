@@ -14,36 +14,42 @@ use Rattle.session.proofs.granting.read_write.Goals as goal
 
 pub returns-then-is_handle_by_name-clause-answer : goal.returns-then-is_handle_by_name-clause-answer
 returns-then-is_handle_by_name-clause-answer c =
-    answer-along c.args.port.now c.args.handles.now (λ a. handle_act a c.args.len c.args.bytes.now)
-    (λ a. act_asked a (ReadWrite c.args.group c.args.offset c.args.len c.args.bytes.now)) c.grant.result _ _
-    (λ a. asks-handle a c.args.group c.args.offset c.args.len c.args.bytes.now (sym c.if-is_handle_by_name.ensures)) c.grant.ensures.answer
+    let asked = c.args.asked.now in
+    answer-along c.args.port.now c.args.handles.now (λ a. handle_act a asked.len asked.bytes.now)
+    (λ a. act_asked a (ReadWrite asked.group asked.offset asked.len asked.bytes.now)) c.grant.result _ _
+    (λ a. asks-handle a asked.group asked.offset asked.len asked.bytes.now (sym c.if-is_handle_by_name.ensures)) c.grant.ensures.answer
 
 pub returns-then-is_handle_by_name-clause-leaves : goal.returns-then-is_handle_by_name-clause-leaves
 returns-then-is_handle_by_name-clause-leaves c =
-    asked-leaves c.args.port.now c.args.handles.now _ c.args.group c.args.offset c.args.len c.args.bytes.now c.grant.result
+    let asked = c.args.asked.now in
+    asked-leaves c.args.port.now c.args.handles.now _ asked.group asked.offset asked.len asked.bytes.now c.grant.result
     (sym c.if-is_handle_by_name.ensures) c.grant.ensures.leaves
 
 pub returns-then-is_handle_by_name-clause-asked : goal.returns-then-is_handle_by_name-clause-asked
 returns-then-is_handle_by_name-clause-asked c =
-    read_write-asked c.args.port.now c.args.handles.now c.args.group c.args.offset c.args.len c.args.bytes.now c.grant.result _ _ c.requires.some
+    let asked = c.args.asked.now in
+    read_write-asked c.args.port.now c.args.handles.now asked.group asked.offset asked.len asked.bytes.now c.grant.result _ _ c.requires.some
     (returns-then-is_handle_by_name-clause-answer c)
 
 pub returns-clause-answer : goal.returns-clause-answer
 returns-clause-answer c =
+    let asked = c.args.asked.now in
     answer-along c.args.port.now c.args.handles.now
-    (λ a. read_write_group a.client a.asker.port (without_handles (group_of c.args.group)) c.args.len c.args.bytes.now)
-    (λ a. act_asked a (ReadWrite c.args.group c.args.offset c.args.len c.args.bytes.now)) c.ask.result _ _
-    (λ a. asks-port a c.args.group c.args.offset c.args.len c.args.bytes.now (sym c.if-is_handle_by_name.ensures))
+    (λ a. read_write_group a.client a.asker.port (without_handles (group_of asked.group)) asked.len asked.bytes.now)
+    (λ a. act_asked a (ReadWrite asked.group asked.offset asked.len asked.bytes.now)) c.ask.result _ _
+    (λ a. asks-port a asked.group asked.offset asked.len asked.bytes.now (sym c.if-is_handle_by_name.ensures))
     (port-answer c.args.port.now c.args.handles.now
-    (λ (w : World) (x : Client) (p : PlantPort). read_write_group x p (without_handles (group_of c.args.group)) c.args.len c.args.bytes.now)
+    (λ (w : World) (x : Client) (p : PlantPort). read_write_group x p (without_handles (group_of asked.group)) asked.len asked.bytes.now)
     c.ask.result _ _ c.ask.ensures.answer)
 
 pub returns-clause-leaves : goal.returns-clause-leaves
 returns-clause-leaves c =
-    port-leaves c.args.port.now c.args.handles.now c.args.group c.args.offset c.args.len c.args.bytes.now c.ask.result
+    let asked = c.args.asked.now in
+    port-leaves c.args.port.now c.args.handles.now asked.group asked.offset asked.len asked.bytes.now c.ask.result
     (sym c.if-is_handle_by_name.ensures)
 
 pub returns-clause-asked : goal.returns-clause-asked
 returns-clause-asked c =
-    read_write-asked c.args.port.now c.args.handles.now c.args.group c.args.offset c.args.len c.args.bytes.now c.ask.result _ _ c.requires.some
+    let asked = c.args.asked.now in
+    read_write-asked c.args.port.now c.args.handles.now asked.group asked.offset asked.len asked.bytes.now c.ask.result _ _ c.requires.some
     (returns-clause-answer c)

@@ -6,10 +6,12 @@ read_place-requires c = c.in-Ok.ensures.placed c.args.port.now c.requires.some c
 
 pub returns-in-Ok-clause-answer : goal.returns-in-Ok-clause-answer
 returns-in-Ok-clause-answer c =
-    value-read c.args.port.now c.args.handles.now c.args.ams_port c.args.handle c.args.len c.in-Ok.place _ _ _ c.requires.number
+    let asked = c.args.asked.now in
+    value-read c.args.port.now c.args.handles.now c.args.ams_port asked.offset asked.len c.in-Ok.place _ _ _ c.requires.number
     c.in-Ok.ensures.looks c.read_place.ensures.answer
 
 pub returns-in-Err-clause-answer : goal.returns-in-Err-clause-answer
 returns-in-Err-clause-answer c =
-    value-refused c.args.port.now c.args.handles.now c.args.ams_port c.args.handle c.args.len c.in-Err.code _ c.requires.number
+    let asked = c.args.asked.now in
+    value-refused c.args.port.now c.args.handles.now c.args.ams_port asked.offset asked.len c.in-Err.code _ c.requires.number
     c.in-Err.ensures.looks

@@ -14,27 +14,31 @@ use Rattle.session.proofs.reading.read.Goals as goal
 
 pub returns-then-is_value_by_handle-clause-answer : goal.returns-then-is_value_by_handle-clause-answer
 returns-then-is_value_by_handle-clause-answer c =
+    let asked = c.args.asked.now in
     answer-along c.args.port.now c.args.handles.now
-    (λ a. read_act (addressed_by_status a.asker.port.number (kept_status a.client.handles c.args.offset a.asker.port.number) c.args.len))
-    (λ a. act_asked a (Read c.args.group c.args.offset c.args.len)) c.read_value.result _ _
-    (λ a. read-by-handle a c.args.group c.args.offset c.args.len (sym c.if-is_value_by_handle.ensures)) c.read_value.ensures.answer
+    (λ a. read_act (addressed_by_status a.asker.port.number (kept_status a.client.handles asked.offset a.asker.port.number) asked.len))
+    (λ a. act_asked a (Read asked.group asked.offset asked.len)) c.read_value.result _ _
+    (λ a. read-by-handle a asked.group asked.offset asked.len (sym c.if-is_value_by_handle.ensures)) c.read_value.ensures.answer
 
 pub returns-then-is_value_by_handle-clause-asked : goal.returns-then-is_value_by_handle-clause-asked
 returns-then-is_value_by_handle-clause-asked c =
-    read-asked c.args.port.now c.args.handles.now c.args.group c.args.offset c.args.len c.read_value.result _ _ c.requires.some
+    let asked = c.args.asked.now in
+    read-asked c.args.port.now c.args.handles.now asked.group asked.offset asked.len c.read_value.result _ _ c.requires.some
     (returns-then-is_value_by_handle-clause-answer c)
 
 pub returns-clause-answer : goal.returns-clause-answer
 returns-clause-answer c =
+    let asked = c.args.asked.now in
     answer-along c.args.port.now c.args.handles.now
-    (λ a. read_group (setup_of a.world) a.client a.asker.port (without_handles (group_of c.args.group)) c.args.offset c.args.len)
-    (λ a. act_asked a (Read c.args.group c.args.offset c.args.len)) c.read.result _ _
-    (λ a. read-by-port a c.args.group c.args.offset c.args.len (sym c.if-is_value_by_handle.ensures))
+    (λ a. read_group (setup_of a.world) a.client a.asker.port (without_handles (group_of asked.group)) asked.offset asked.len)
+    (λ a. act_asked a (Read asked.group asked.offset asked.len)) c.read.result _ _
+    (λ a. read-by-port a asked.group asked.offset asked.len (sym c.if-is_value_by_handle.ensures))
     (port-answer c.args.port.now c.args.handles.now
-    (λ (w : World) (x : Client) (p : PlantPort). read_group (setup_of w) x p (without_handles (group_of c.args.group)) c.args.offset c.args.len)
+    (λ (w : World) (x : Client) (p : PlantPort). read_group (setup_of w) x p (without_handles (group_of asked.group)) asked.offset asked.len)
     c.read.result _ _ c.read.ensures.answer)
 
 pub returns-clause-asked : goal.returns-clause-asked
 returns-clause-asked c =
-    read-asked c.args.port.now c.args.handles.now c.args.group c.args.offset c.args.len c.read.result _ _ c.requires.some
+    let asked = c.args.asked.now in
+    read-asked c.args.port.now c.args.handles.now asked.group asked.offset asked.len c.read.result _ _ c.requires.some
     (returns-clause-answer c)
