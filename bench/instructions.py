@@ -1,0 +1,117 @@
+#!/usr/bin/env python3
+"""How many instructions `ads serve` takes for a request, by valgrind's callgrind: a figure that other work on the machine does not change.
+
+    python3 bench/instructions.py PROGRAM [--top N]     a table (Markdown); with --top, the N functions that cost most of a request of each kind
+
+The plant and the requests are those of bench/serve.py. Eight connections each send 32 requests of a kind at once and wait for all replies; that is a round. Each kind is
+run for 4 rounds and for 20, and the difference of both counts, over the requests of 16 rounds, is what a request costs: the start, the handles and most ticks fall out.
+Copies of the C library and its malloc are in the count. Every reply's length and result are looked at; bytes are compared by serve.py.
+"""
+import argparse
+import contextlib
+import os
+import pathlib
+import random
+import re
+import signal
+import socket
+import subprocess
+import sys
+import tempfile
+
+sys.dont_write_bytecode = True
+import serve  # noqa: E402
+from random_runs import toml_of  # noqa: E402
+
+CONNECTIONS, DEPTH, ROUNDS = 8, 32, (4, 20)
+KINDS = {"state": "s", "read of 4 bytes": "r", "by handle": "h", "write by group": "w", "write by handle": "W", "sum of 100 reads": "S",
+         "mixture": "rswhrhsWrhrwshrSWhrs"}
+
+
+def frames(k, asked, first_id):
+    """One text of frames of connection k, a frame a request."""
+    head = serve.model.net_of(serve.NET) + serve.model.u16(851) + serve.model.net_of(serve.ME) + serve.model.u16(32905 + k)
+    text = b""
+    for number, (command, payload) in enumerate(asked, first_id):
+        ams = head + serve.model.u16(command) + serve.model.u16(4) + serve.words(len(payload), 0, number) + payload
+        text += bytes(2) + serve.words(len(ams)) + ams
+    return text
+
+
+def replies(conn, count):
+    """Takes so many frames off a connection; ends the run where one tells an error."""
+    text = b""
+    while count:
+        while len(text) < 6 or len(text) < 6 + int.from_bytes(text[2:6], "little"):
+            more = conn.recv(1 << 20)
+            if not more:
+                sys.exit("the server closed a connection")
+            text += more
+        end = 6 + int.from_bytes(text[2:6], "little")
+        if any(text[30:34]) or any(text[38:42]):
+            sys.exit(f"a reply with an error: {text[:end].hex()}")
+        text, count = text[end:], count - 1
+
+
+def free_port():
+    with socket.socket() as it:
+        it.bind(("127.0.0.1", 0))
+        return it.getsockname()[1]
+
+
+def counted(program, kinds, rounds):
+    """The file of callgrind for so many rounds."""
+    port = free_port()
+    log = f"callgrind.{rounds}"
+    command = ["valgrind", "--tool=callgrind", f"--callgrind-out-file={log}", program, "serve", "plant.toml", "--events", str(2 ** 64 - 1),
+               "--listen", f"127.0.0.1:{port}"]
+    with subprocess.Popen(command, stdout=subprocess.PIPE, stderr=subprocess.DEVNULL) as server, contextlib.ExitStack() as stack:
+        if server.stdout.readline() != b"listening\n":
+            sys.exit("the server does not listen")
+        conns = [stack.enter_context(socket.create_connection(("127.0.0.1", port))) for _ in range(CONNECTIONS)]
+        for k, conn in enumerate(conns):
+            names = [f"v{serve.OWN * k + i}".encode() for i in range(serve.OWN)]
+            conn.sendall(frames(k, [(9, serve.words(0xF003, 0, 4, len(name)) + name) for name in names], 1))
+            replies(conn, len(names))
+        for number in range(rounds):
+            for k, conn in enumerate(conns):
+                r = random.Random(f"{k} {number}")
+                asked = [serve.request(kinds[i % len(kinds)], serve.OWN * k, r) for i in range(DEPTH * number, DEPTH * (number + 1))]
+                conn.sendall(frames(k, asked, 1000 + DEPTH * number))
+            for conn in conns:
+                replies(conn, DEPTH)
+        server.send_signal(signal.SIGTERM)
+    return log
+
+
+def total(log):
+    return int(re.search(r"^(?:summary|totals): (\d+)", pathlib.Path(log).read_text(), re.M)[1])
+
+
+def by_function(log):
+    said = subprocess.run(["callgrind_annotate", "--threshold=100", log], capture_output=True, text=True, check=True).stdout
+    return {name: int(count.replace(",", "")) for count, name in re.findall(r"^\s*([\d,]+) \([^)]*\)\s+\S*?:(.*?)(?: \[.*)?$", said, re.M)}
+
+
+def main():
+    it = argparse.ArgumentParser(description=__doc__, formatter_class=argparse.RawDescriptionHelpFormatter)
+    it.add_argument("program", type=os.path.abspath)
+    it.add_argument("--top", type=int, default=0)
+    given = it.parse_args()
+    asked = CONNECTIONS * DEPTH * (ROUNDS[1] - ROUNDS[0])
+    print("| kind | instructions a request |\n|---|---|")
+    with tempfile.TemporaryDirectory() as room:
+        os.chdir(room)
+        pathlib.Path("plant.toml").write_text(toml_of(serve.plant(0, serve.SYMBOLS)))
+        for name, kinds in KINDS.items():
+            few, many = (counted(given.program, kinds, rounds) for rounds in ROUNDS)
+            print(f"| {name} | {(total(many) - total(few)) / asked:,.0f} |", flush=True)
+            if given.top:
+                before, after = by_function(few), by_function(many)
+                cost = {name: (after[name] - before.get(name, 0)) / asked for name in after}
+                for function in sorted(cost, key=cost.get, reverse=True)[:given.top]:
+                    print(f"    {cost[function]:8.0f}  {function[:140]}")
+
+
+if __name__ == "__main__":
+    main()
