@@ -1,5 +1,6 @@
 pub mod CallLemmas
 pub mod AskLemmas
+pub mod FitLemmas
 pub mod LocalLemmas
 pub mod RecordLemmas
 pub mod RecordedRows

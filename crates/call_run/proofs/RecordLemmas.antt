@@ -68,6 +68,29 @@ opened_ends x answer s out out_new link old opened new counts rows later failed 
   ended = ended;
 })
 
+-- a recording is the same one by another name of its call
+opened_same : {O : Type 0} (x y : ℕ → Calling) (answer : KeeperOpen) (s : Status) (out out_new : SinkState) (link : LinkUse O) (opened new : KeeperState)
+    (still : Type 0) → ((n : ℕ) → x n ≡ y n) → BehindOpening answer (λ n. EndsRecorded (x n) s out out_new link opened new) still s out out_new
+    → BehindOpening answer (λ n. EndsRecorded (y n) s out out_new link opened new) still s out out_new
+opened_same x y (open_.Ready n) s out out_new link opened new still same (inl (room, e)) =
+    inl (room, subst (λ z. EndsRecorded z s out out_new link opened new) (same n) e)
+opened_same x y (open_.Ready n) s out out_new link opened new still same (inr h) = inr h
+opened_same x y open_.Failed s out out_new link opened new still same h = h
+opened_same x y open_.Memory s out out_new link opened new still same h = h
+
+pub recorded_same : {O : Type 0} (x y : ℕ → Calling) (s : Status) (out out_new : SinkState) (link : LinkUse O) (keeper : KeeperUse)
+    → ((n : ℕ) → x n ≡ y n) → EndsRecording x s out out_new link keeper → EndsRecording y s out out_new link keeper
+recorded_same x y s out out_new link keeper same (inl h) = inl h
+recorded_same x y s out out_new link keeper same (inr h) = inr (record {
+  answer = h.answer;
+  opened = h.opened;
+  counts = h.counts;
+  rows = h.rows;
+  later = h.later;
+  failed = h.failed;
+  ended = opened_same x y h.answer s out out_new link h.opened keeper.new (LeavesLink link × (keeper.new ≡ h.opened)) same h.ended;
+})
+
 -- no recording ends before it began
 recorded_not_before : (answer : Result RecordEnd NoMemory) (s : Status) (old new : SinkState) → PrintsRecorded answer s old new → IsBeforeRun s → ⊥
 recorded_not_before (Ok (recorded.Loop e)) s old new printed is = answer_not_before (Ok e) s old new printed is

@@ -1,12 +1,13 @@
 -- What a client's call leaves in the link and in the sink, and with which status it ends.
-use Rattle.std.specs.Prelude.{◌≡◌, ◌⊎◌, ℕ, List, Some, Result, Ok, Err}
+use Rattle.std.specs.Prelude.{◌≡◌, ◌⊎◌, Some, Result, Ok, Err}
 use Rattle.ads_base.specs.declared.no_memory.NoMemory.{NoMemory}
 use Rattle.ads_outside.specs.Puts.{Appends, AppendsPart}
 use Rattle.ads_outside.specs.Rose.{Rose}
 use Rattle.ads_outside.specs.SinkState.{SinkState, NeverFalls}
 use Rattle.spec_client.specs.Conversation.{LoopEnd, CallEnded, Budget, Conversation}
 use Rattle.spec_client.specs.Stages.{CallEnd, Done, Refused, BadPeer, BadValue, TimedOut}
-use Rattle.spec_local.specs.LocalCall.{Cutting, local_call, local_call_within}
+use Rattle.spec_local.specs.LocalCall.{Cutting, local_call}
+use Rattle.spec_local_room.specs.Laws.{is_setting, IsAnswered}
 use Rattle.spec_server.specs.Server.{server, server_start}
 use Rattle.client_loop.specs.Called.{Calling, AfterCall}
 use Rattle.client_loop.specs.declared.loop_end.LoopEnd as loop
@@ -52,18 +53,16 @@ abbrev pub local_conversation : LocalCalling → Cutting → Conversation
 local_conversation x cutting =
     local_call server cutting (server_start x.description x.waves) x.me (peer_of_local x) x.call
 
--- with some cutting the call ends so, and its text was put
+-- However its answers are cut, the call ends so, and its text was put. It ends by no timeout, and for a text that is no value only
+-- where it sets one.
 pub record LocalTalks (x : LocalCalling) (ended : LoopEnd) (out out_new : SinkState) : Type 0 where
-  pub cutting : Cutting
-  pub end_is : (local_conversation x cutting).end ≡ Some ended
-  pub text : Appends out.held out_new.held (local_conversation x cutting).text
+  pub end_is : (cutting : Cutting) → (local_conversation x cutting).end ≡ Some ended
+  pub answered : IsAnswered (is_setting x.call) ended
+  pub text : (cutting : Cutting) → Appends out.held out_new.held (local_conversation x cutting).text
 
--- with some cutting, some first bytes of the call's text behind so many answers were put
-pub record LocalBreaksOff (x : LocalCalling) (out out_new : SinkState) : Type 0 where
-  pub cutting : Cutting
-  pub count : ℕ
-  pub text : AppendsPart out.held out_new.held
-      (local_call_within server cutting count (server_start x.description x.waves) x.me (peer_of_local x) x.call).text
+-- however its answers are cut, some first bytes of its text were put
+abbrev pub LocalBreaksOff : LocalCalling → SinkState → SinkState → Type 0
+LocalBreaksOff x out out_new = (cutting : Cutting) → AppendsPart out.held out_new.held (local_conversation x cutting).text
 
 -- what a local call leaves in the sink, by how it ended; no link fails
 abbrev pub AfterLocal : Result loop.LoopEnd NoMemory → LocalCalling → SinkState → SinkState → Type 0

@@ -2,5 +2,7 @@ pub mod RecordRows
 pub mod CallUses
 pub mod Calling
 pub mod Recording
+pub mod Between
 pub mod CallEnds
+pub mod AskedFrom
 pub mod RecordedFrom

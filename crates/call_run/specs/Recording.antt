@@ -9,8 +9,8 @@ use Rattle.spec_samples.specs.Row.{Row}
 use Rattle.spec_client.specs.Conversation.{LoopEnd, CallEnded, Budget}
 use Rattle.spec_client.specs.Stages.{Done, entries_taken}
 use Rattle.spec_client.specs.TotalLines.{total_lines}
-use Rattle.spec_local.specs.LocalCall.{Cutting, local_call_within}
-use Rattle.spec_server.specs.Server.{server, server_start}
+use Rattle.spec_local.specs.LocalCall.{Cutting}
+use Rattle.spec_local_room.specs.Laws.{is_setting, IsAnswered}
 use Rattle.client_replies.specs.Stages.{end_meant}
 use Rattle.client_replies.specs.declared.stage.CallEnd.TheVariants as call_end
 use Rattle.client_loop.specs.Called.{Calling}
@@ -24,7 +24,7 @@ use Rattle.sample_store.specs.declared.keeper_open.KeeperOpen.TheVariants as ope
 use Rattle.sample_store.specs.Keeper.{KeeperState, Counts}
 use Rattle.run_tasks.specs.declared.status.Status.{Status}
 use Rattle.run_tasks.specs.declared.status.Status.TheVariants as status
-use Rattle.run_tasks.specs.Asking.{LocalCalling, peer_of_local}
+use Rattle.run_tasks.specs.Asking.{LocalCalling}
 use Rattle.call_run.specs.Calling.{PrintsAnswer, local_conversation}
 use Rattle.run_tasks.specs.Ending.{line_alone}
 use Rattle.run_tasks.specs.Prints.{PutsMemoryLine, PrintsEnding}
@@ -50,21 +50,18 @@ pub record EndsRecorded {O : Type 0} (x : Calling) (s : Status) (out out_new : S
   pub later : IsLater (outlets out keeper) (outlets between keeper_new)
   pub prints : PrintsRecorded answer s between out_new
 
--- with some cutting the recording ends so, and all its rows were put
+-- However its answers are cut, the recording ends so, and all its rows were put. It ends by no timeout, and never for a text that is no
+-- value, since it sets none.
 pub record LocalRecordsAll (x : LocalCalling) (ended : LoopEnd) (out out_new : Outlets) : Type 0 where
-  pub cutting : Cutting
-  pub end_is : (local_conversation x cutting).end ≡ Some ended
-  pub text : Appends out.sink.held out_new.sink.held (local_conversation x cutting).text
-  pub rows : Adds out.keeper.rows out_new.keeper.rows (local_conversation x cutting).kept
+  pub end_is : (cutting : Cutting) → (local_conversation x cutting).end ≡ Some ended
+  pub answered : IsAnswered (is_setting x.call) ended
+  pub text : (cutting : Cutting) → Appends out.sink.held out_new.sink.held (local_conversation x cutting).text
+  pub rows : (cutting : Cutting) → Adds out.keeper.rows out_new.keeper.rows (local_conversation x cutting).kept
 
--- with some cutting, behind so many answers, some first ones of its rows were put
+-- however its answers are cut, some first bytes of its text and some first ones of its rows were put
 pub record LocalRecordsSome (x : LocalCalling) (out out_new : Outlets) : Type 0 where
-  pub cutting : Cutting
-  pub count : ℕ
-  pub text : AppendsPart out.sink.held out_new.sink.held
-      (local_call_within server cutting count (server_start x.description x.waves) x.me (peer_of_local x) x.call).text
-  pub rows : AddsPart out.keeper.rows out_new.keeper.rows
-      (local_call_within server cutting count (server_start x.description x.waves) x.me (peer_of_local x) x.call).kept
+  pub text : (cutting : Cutting) → AppendsPart out.sink.held out_new.sink.held (local_conversation x cutting).text
+  pub rows : (cutting : Cutting) → AddsPart out.keeper.rows out_new.keeper.rows (local_conversation x cutting).kept
 
 -- it is done, and the lines of its entries were put, whole or in part; they are of all rows, where rows are told
 pub record LocalRecordsDone (IsPut : Option (List ℕ) → Option (List ℕ) → List ℕ → Type 0) (x : LocalCalling) (out out_new : Outlets)
@@ -72,8 +69,8 @@ pub record LocalRecordsDone (IsPut : Option (List ℕ) → Option (List ℕ) →
   pub before : SinkState
   pub all : LocalRecordsAll x (CallEnded Done) out (outlets before out_new.keeper)
   pub lines : List ℕ
-  pub are_lines : (rows : List Row) → out_new.keeper.rows ≡ Some rows
-      → lines ≡ total_lines rows (entries_taken (local_conversation x all.cutting).runner.stage)
+  pub are_lines : (cutting : Cutting) (rows : List Row) → out_new.keeper.rows ≡ Some rows
+      → lines ≡ total_lines rows (entries_taken (local_conversation x cutting).runner.stage)
   pub put : IsPut before.held out_new.sink.held lines
 
 -- what a recording in the same process leaves, by how it ended; no link fails

@@ -1,29 +1,27 @@
-//! A client asks a server: over the link, or that of a description in the same process.
+//! A client asks the server of a description in the same process.
 
 ghost use Rattle.std.specs.Prelude.{◌<◌, ◌^◌, ◌≡◌, [], List, length};
 ghost use Rattle.ads_outside.specs.Named.{bytes_of};
 ghost use Rattle.ads_outside.specs.Rose.{Rose};
 ghost use Rattle.spec_plant.specs.Description as plant;
 ghost use Rattle.spec_server.specs.Server.{server_start};
-ghost use Rattle.client_loop.specs.Called.{calling};
 ghost use Rattle.local_link.specs.Link.{IsTold};
 ghost use Rattle.server_core.specs.CoreState.{started};
 ghost use Rattle.server_core.specs.Serves.{Serves};
 ghost use Rattle.signals.specs.Wave.{Wave};
-ghost use Rattle.run_tasks.specs.Asking.{asked_address, call_asked, local_calling, own_address};
-ghost use Rattle.call_run.specs.Calling.{EndsCall, EndsLocalCall};
+ghost use Rattle.run_tasks.specs.Asking.{local_calling};
+ghost use Rattle.call_run.specs.Calling.{EndsLocalCall};
 ghost use Rattle.call_run.specs.CallEnds.{AsksBy};
 ghost use Rattle.run_tasks.specs.Fits.{FitsClient, FitsClientTask};
 ghost use Rattle.run_tasks.specs.Outcomes.{IsNoReadFault};
 ghost use Rattle.run_tasks.specs.Readings.{OverFile, ReadsOne};
-ghost use Rattle.call_run.specs.CallUses.{link_used};
 ghost use Rattle.run_tasks.specs.Verdict.{verdict_of_file, verdict_of_local};
 
-use crate::address::{asked_addr, own_addr};
+use crate::address::call_addrs;
 use crate::call_end::print_answer;
 use crate::client_call::call_of;
 use ads_base::{NetId, NoMemory};
-use ads_outside::{Files, Link, Sink};
+use ads_outside::{Files, Sink};
 use cli_words::{ClientWords, Text};
 use client_loop::run_call;
 use local_link::{LocalLink, OnThreads, Steps};
@@ -36,32 +34,6 @@ use std::thread::Threads;
 
 /// What a link in the same process is connected to.
 const LOCAL_ADDRESS: &str = "";
-
-/// A client asks the server with this NetId over the link, which is connected to `to`.
-pub fn ask_over_link<L: Link, S: Sink>(
-    alloc: Global,
-    what: &ClientTask,
-    client: &ClientWords,
-    net: NetId,
-    to: &Text,
-    link: &mut L,
-    out: &mut S,
-) -> Status
-    requires what { FitsClientTask what.now }
-    requires client { FitsClient client.now }
-    ensures ends { EndsCall (calling (own_address client.now) (asked_address net client.now) (call_asked what.now) to.now) result
-        (S.state out.old) (S.state out.new) (link_used L.tells L.state link.old link.new) }
-{
-    match call_of(alloc, what) {
-        Err(NoMemory) => end_without_memory(out),
-        Ok(call) => {
-            let me = own_addr(client);
-            let peer = asked_addr(net, client);
-            let answer = run_call(alloc, call, me, peer, to.as_str(), link, out);
-            print_answer(alloc, answer, out)
-        }
-    }
-}
 
 /// A client asks the server of the description of a file, in the same process.
 #[tactic(auto, using(spec_persistent::proofs::StoredLemmas::accepted_may_begin))]
@@ -160,9 +132,16 @@ fn ask_link<P: Steps, S: Sink, G: Sources>(
     match call_of(alloc, what) {
         Err(NoMemory) => end_without_memory(out),
         Ok(call) => {
-            let me = own_addr(client);
-            let peer = asked_addr(net, client);
-            let answer = run_call(alloc, call, me, peer, LOCAL_ADDRESS, link, out);
+            let addrs = call_addrs(net, client);
+            let answer = run_call(
+                alloc,
+                call,
+                addrs.own,
+                addrs.asked,
+                LOCAL_ADDRESS,
+                link,
+                out,
+            );
             print_answer(alloc, answer, out)
         }
     }

@@ -2,12 +2,14 @@
 #![tactic(auto)]
 
 mod address;
-mod ask;
+mod ask_link;
+mod ask_locally;
+mod asking;
 mod call_end;
 mod client_call;
 mod record_link;
 mod record_locally;
 mod recording;
 
-pub use crate::ask::{ask_locally, ask_over_link};
+pub use crate::asking::ask;
 pub use crate::recording::record;

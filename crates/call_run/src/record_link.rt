@@ -4,15 +4,16 @@ ghost use Rattle.std.specs.Prelude.{◌≡◌, ◌≤◌, ◌+◌, IfOk};
 ghost use Rattle.client_calls.specs.Recording.{CanRecord, record_meant};
 ghost use Rattle.sample_store.specs.Keeper.{AreNumbered, Counts};
 ghost use Rattle.run_tasks.specs.Fits.{FitsRecord};
-ghost use Rattle.run_tasks.specs.RecordAsked.{call_recorded, recording_to};
+ghost use Rattle.run_tasks.specs.RecordAsked.{call_recorded};
+ghost use Rattle.call_run.specs.Between.{recording_between};
 ghost use Rattle.call_run.specs.RecordRows.{AddsRows};
 ghost use Rattle.call_run.specs.Recording.{EndsBehind, EndsRecorded, EndsRecording, PrintsRecorded};
 ghost use Rattle.call_run.specs.CallUses.{keeper_used, link_used};
 
-use crate::address::{asked_addr, own_addr};
+use crate::address::CallAddrs;
 use crate::call_end::print_answer;
 use crate::client_call::{bytes_of, mode_of};
-use ads_base::{NetId, NoMemory};
+use ads_base::NoMemory;
 use ads_outside::{Link, Sink};
 use cli_words::Text;
 use client_loop::{Names, RecordEnd, RecordSpec, run_record};
@@ -23,25 +24,25 @@ use std::alloc::Global;
 /// How many rows a table may have that more are put into.
 const MOST_ROWS: u64 = 9_223_372_036_853_775_807;
 
-/// A client records from the server with this NetId over the link, which is connected to `to`. Nothing but the keeper is
-/// called where its table is not opened, or has more than 9,223,372,036,853,775,807 rows.
+/// A client records between these addresses over the link, which is connected to `to`. Nothing but the keeper is called
+/// where its table is not opened, or has more than 9,223,372,036,853,775,807 rows.
 #[tactic(auto, using(crate::proofs::RecordedRows::adds_none))]
 pub fn record_over<L: Link, S: Sink, K: Keeper>(
     alloc: Global,
     what: &RecordTask,
-    net: NetId,
+    addrs: CallAddrs,
     to: &str,
     link: &mut L,
     out: &mut S,
     keeper: &mut K,
 ) -> Status
     requires what { FitsRecord what.now }
-    ensures ends { EndsRecording (recording_to what.now net to.now) result (S.state out.old) (S.state out.new)
+    ensures ends { EndsRecording (recording_between what.now addrs to.now) result (S.state out.old) (S.state out.new)
         (link_used L.tells L.state link.old link.new) (keeper_used K.state keeper.old keeper.new) }
     ensures grows { AddsRows (K.state keeper.old).rows (K.state keeper.new).rows }
 {
     match keeper.open(what.store.as_str()) {
-        KeeperOpen::Ready(rows) => record_behind(alloc, what, net, to, rows, link, out, keeper),
+        KeeperOpen::Ready(rows) => record_behind(alloc, what, addrs, to, rows, link, out, keeper),
         KeeperOpen::Failed => print_line(alloc, Status::KeeperFault, out),
         KeeperOpen::Memory => end_without_memory(out),
     }
@@ -52,7 +53,7 @@ pub fn record_over<L: Link, S: Sink, K: Keeper>(
 fn record_behind<L: Link, S: Sink, K: Keeper>(
     alloc: Global,
     what: &RecordTask,
-    net: NetId,
+    addrs: CallAddrs,
     to: &str,
     rows: u64,
     link: &mut L,
@@ -62,12 +63,12 @@ fn record_behind<L: Link, S: Sink, K: Keeper>(
     requires what { FitsRecord what.now }
     requires numbers { AreNumbered (K.state keeper.old).rows }
     requires counts { Counts (KeeperOpen.Ready rows) (K.state keeper.old).rows }
-    ensures ends { EndsBehind rows (recording_to what.now net to.now) result (S.state out.old) (S.state out.new)
+    ensures ends { EndsBehind rows (recording_between what.now addrs to.now) result (S.state out.old) (S.state out.new)
         (link_used L.tells L.state link.old link.new) (K.state keeper.old) (K.state keeper.new) }
     ensures grows { AddsRows (K.state keeper.old).rows (K.state keeper.new).rows }
 {
     if rows <= MOST_ROWS {
-        record_into(alloc, what, net, to, rows, link, out, keeper)
+        record_into(alloc, what, addrs, to, rows, link, out, keeper)
     } else {
         print_line(alloc, Status::StoreLimit, out)
     }
@@ -78,7 +79,7 @@ fn record_behind<L: Link, S: Sink, K: Keeper>(
 fn record_into<L: Link, S: Sink, K: Keeper>(
     alloc: Global,
     what: &RecordTask,
-    net: NetId,
+    addrs: CallAddrs,
     to: &str,
     rows: u64,
     link: &mut L,
@@ -89,7 +90,7 @@ fn record_into<L: Link, S: Sink, K: Keeper>(
     requires room { rows ≤ 9223372036853775807 }
     requires numbers { AreNumbered (K.state keeper.old).rows }
     requires counts { Counts (KeeperOpen.Ready rows) (K.state keeper.old).rows }
-    ensures ends { EndsRecorded (recording_to what.now net to.now rows) result (S.state out.old) (S.state out.new)
+    ensures ends { EndsRecorded (recording_between what.now addrs to.now rows) result (S.state out.old) (S.state out.new)
         (link_used L.tells L.state link.old link.new) (K.state keeper.old) (K.state keeper.new) }
     ensures grows { AddsRows (K.state keeper.old).rows (K.state keeper.new).rows }
 {
@@ -97,9 +98,17 @@ fn record_into<L: Link, S: Sink, K: Keeper>(
         Err(NoMemory) => end_without_memory(out),
         Ok(names) => {
             let spec = spec_of(what, rows);
-            let me = own_addr(&what.client);
-            let peer = asked_addr(net, &what.client);
-            let answer = run_record(alloc, &names, spec, me, peer, to, link, out, keeper);
+            let answer = run_record(
+                alloc,
+                &names,
+                spec,
+                addrs.own,
+                addrs.asked,
+                to,
+                link,
+                out,
+                keeper,
+            );
             print_recorded(alloc, answer, out)
         }
     }

@@ -19,6 +19,7 @@ ghost use Rattle.call_run.specs.Recording.{EndsLocalRecording};
 ghost use Rattle.call_run.specs.CallUses.{keeper_used};
 ghost use Rattle.run_tasks.specs.Verdict.{verdict_of_file, verdict_of_recorded_text};
 
+use crate::address::call_addrs;
 use crate::record_link::record_over;
 use ads_base::{NetId, NoMemory};
 use ads_outside::{Files, Sink};
@@ -135,5 +136,6 @@ fn record_link<P: Steps, S: Sink, K: Keeper, G: Sources>(
     ensures grows { AddsRows (K.state keeper.old).rows (K.state keeper.new).rows }
     ensures run { IsBeforeRun result → ⊥ }
 {
-    record_over(alloc, what, net, LOCAL_ADDRESS, link, out, keeper)
+    let addrs = call_addrs(net, &what.client);
+    record_over(alloc, what, addrs, LOCAL_ADDRESS, link, out, keeper)
 }

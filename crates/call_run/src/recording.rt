@@ -9,6 +9,7 @@ ghost use Rattle.call_run.specs.RecordRows.{AddsRows};
 ghost use Rattle.call_run.specs.RecordedFrom.{RecordsFrom};
 ghost use Rattle.call_run.specs.CallUses.{keeper_used, link_used};
 
+use crate::address::call_addrs;
 use crate::record_link::record_over;
 use crate::record_locally::record_locally;
 use ads_outside::{Files, Link, Sink};
@@ -45,7 +46,8 @@ pub fn record<T: Threads + Sync, F: Files, L: Link, S: Sink, K: Keeper, G: Sourc
 {
     match &what.client.peer {
         PeerWords::To { to, net } => {
-            record_over(alloc, what, *net, to.as_str(), link, out, keeper)
+            let addrs = call_addrs(*net, &what.client);
+            record_over(alloc, what, addrs, to.as_str(), link, out, keeper)
         }
         PeerWords::Local(description) => record_locally(
             rt,

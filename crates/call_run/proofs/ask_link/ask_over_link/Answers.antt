@@ -3,7 +3,7 @@ use Rattle.client_loop.specs.Called.{calling}
 use Rattle.run_tasks.specs.Asking.{asked_address, call_asked, own_address}
 use Rattle.call_run.proofs.CallLemmas.{call_ends, same_calling}
 use Rattle.call_run.proofs.AskLemmas.{never_called}
-use Rattle.call_run.proofs.ask.ask_over_link.Goals as goal
+use Rattle.call_run.proofs.ask_link.ask_over_link.Goals as goal
 
 pub returns-in-Err : goal.returns-in-Err
 returns-in-Err g c = record {
@@ -19,6 +19,6 @@ returns-in-Ok g c = record {
       (g.S.Sink.state c.print_answer.new.out)
       (g.L.Link.tells c.args.link.now) (g.L.Link.tells c.run_call-answer.new.link) (g.L.Link.state c.args.link.now)
       (g.L.Link.state c.run_call-answer.new.link)
-      (same_calling _ _ _ _ _ _ _ _ c.own_addr-me.ensures c.asked_addr-peer.ensures c.in-Ok.ensures.meant c.as_str.ensures)
+      (same_calling _ _ _ _ _ _ _ _ c.call_addrs-addrs.ensures.own c.call_addrs-addrs.ensures.asked c.in-Ok.ensures.meant c.as_str.ensures)
       c.run_call-answer.ensures.called c.run_call-answer.ensures.out_later c.print_answer.ensures;
 }

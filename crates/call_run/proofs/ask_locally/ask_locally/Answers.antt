@@ -11,7 +11,7 @@ use Rattle.run_tasks.proofs.EndLemmas.{wants_described, ends_as_told, ends_read}
 use Rattle.run_tasks.proofs.ReadLemmas.{reads_one}
 use Rattle.call_run.specs.Calling.{EndsLocalCall}
 use Rattle.call_run.proofs.AskLemmas.{asks_wanting, asks_here}
-use Rattle.call_run.proofs.ask.ask_locally.Goals as goal
+use Rattle.call_run.proofs.ask_locally.ask_locally.Goals as goal
 
 pub returns-in-Err-clause-ends : goal.returns-in-Err-clause-ends
 returns-in-Err-clause-ends g c =

@@ -1,7 +1,7 @@
 -- The table was opened.
 use Rattle.std.proofs.Common.{refl}
 use Rattle.sample_store.specs.declared.keeper_open.KeeperOpen.TheVariants as open_
-use Rattle.run_tasks.specs.RecordAsked.{recording_to}
+use Rattle.call_run.specs.Between.{recording_between}
 use Rattle.call_run.specs.CallUses.{link_used}
 use Rattle.call_run.proofs.RecordLemmas.{leaves_link, opened_ends}
 use Rattle.call_run.proofs.RecordedRows.{adds_opened, adds_unchanged}
@@ -9,7 +9,7 @@ use Rattle.call_run.proofs.record_link.record_over.Goals as goal
 
 pub returns-in-Ready-clause-ends : goal.returns-in-Ready-clause-ends
 returns-in-Ready-clause-ends g c =
-    opened_ends (recording_to c.args.what.now c.args.net c.args.to.now) (open_.Ready c.in-Ready.rows) c.record_behind.result
+    opened_ends (recording_between c.args.what.now c.args.addrs c.args.to.now) (open_.Ready c.in-Ready.rows) c.record_behind.result
     (g.S.Sink.state c.args.out.now) (g.S.Sink.state c.record_behind.new.out)
     (link_used g.L.Link.tells g.L.Link.state c.args.link.now c.record_behind.new.link) (g.K.Keeper.state c.args.keeper.now)
     (g.K.Keeper.state c.«open».new.self) (g.K.Keeper.state c.record_behind.new.keeper) c.in-Ready.ensures.counts c.in-Ready.ensures.rows
@@ -17,7 +17,7 @@ returns-in-Ready-clause-ends g c =
 
 pub returns-in-Failed-clause-ends : goal.returns-in-Failed-clause-ends
 returns-in-Failed-clause-ends g c =
-    opened_ends (recording_to c.args.what.now c.args.net c.args.to.now) open_.Failed c.print_line.result
+    opened_ends (recording_between c.args.what.now c.args.addrs c.args.to.now) open_.Failed c.print_line.result
     (g.S.Sink.state c.args.out.now) (g.S.Sink.state c.print_line.new.out)
     (link_used g.L.Link.tells g.L.Link.state c.args.link.now c.args.link.now) (g.K.Keeper.state c.args.keeper.now)
     (g.K.Keeper.state c.«open».new.self) (g.K.Keeper.state c.«open».new.self) c.in-Failed.ensures.counts c.in-Failed.ensures.rows
@@ -26,7 +26,7 @@ returns-in-Failed-clause-ends g c =
 
 pub returns-in-Memory-clause-ends : goal.returns-in-Memory-clause-ends
 returns-in-Memory-clause-ends g c =
-    opened_ends (recording_to c.args.what.now c.args.net c.args.to.now) open_.Memory c.end_without_memory.result
+    opened_ends (recording_between c.args.what.now c.args.addrs c.args.to.now) open_.Memory c.end_without_memory.result
     (g.S.Sink.state c.args.out.now) (g.S.Sink.state c.end_without_memory.new.out)
     (link_used g.L.Link.tells g.L.Link.state c.args.link.now c.args.link.now) (g.K.Keeper.state c.args.keeper.now)
     (g.K.Keeper.state c.«open».new.self) (g.K.Keeper.state c.«open».new.self) c.in-Memory.ensures.counts c.in-Memory.ensures.rows
