@@ -1,13 +1,13 @@
 -- What the end of a client's call says of its cause.
 use Rattle.std.proofs.Common.{◌≡◌, ◌≤◌, Some, inl, inr, subst, sym, ◌∙◌, refl}
-use Rattle.std.specs.Prelude.{◌⊎◌, Result, Ok, Err}
+use Rattle.std.specs.Prelude.{◌⊎◌, Bool, Result, Ok, Err}
 use Rattle.ads_base.specs.declared.no_memory.NoMemory.{NoMemory}
 use Rattle.ads_outside.specs.LinkState.{LinkState}
 use Rattle.ads_outside.specs.Rose.{Rose}
 use Rattle.ads_outside.specs.SinkState.{SinkState}
 use Rattle.spec_client.specs.Conversation.{LoopEnd, CallEnded, Budget}
 use Rattle.spec_client.specs.Stages.{CallEnd, Done, Refused, BadPeer, BadValue, TimedOut}
-use Rattle.spec_client.specs.Calls.{Call}
+use Rattle.spec_local_room.specs.Laws.{is_setting, IsAnswered}
 use Rattle.client_loop.specs.Called.{Calling, AfterCall, Talks}
 use Rattle.client_loop.specs.declared.loop_end.LoopEnd as loop
 use Rattle.client_loop.specs.declared.loop_end.LoopEnd.TheVariants as end
@@ -16,7 +16,7 @@ use Rattle.run_tasks.specs.declared.status.Status.{Status}
 use Rattle.run_tasks.specs.declared.status.Status.TheVariants as status
 use Rattle.run_tasks.specs.Asking.{LocalCalling}
 use Rattle.call_run.specs.Calling.{EndsCall, AfterLocal, EndsLocalCall, LocalTalks, PrintsAnswer, status_of_call, status_of_loop}
-use Rattle.ads_run.specs.Causes.{CauseOfCall, IsEndOfCall, IsEndOfLocal, IsNoLinkEnd}
+use Rattle.ads_run.specs.Causes.{CauseOfCall, IsEndOfCall, IsEndOfLocal, IsLocalEnd}
 use Rattle.run_tasks.specs.Ending.{Ending, line_alone}
 use Rattle.run_tasks.specs.Prints.{PrintsEnding}
 use Rattle.call_run.specs.CallUses.{LinkUse}
@@ -124,25 +124,27 @@ pub call_facts : {O : Type 0} (x : Calling) (s : Status) (out out_new : SinkStat
 call_facts x s out out_new link h = facts_at x h.answer s out h.between out_new link h.called h.later.faults h.prints
 
 -- a call in the same process
-no_loss : (e : CallEnd) → IsNoLinkEnd (status_of_call e)
-no_loss Done = tt
-no_loss (Refused code) = tt
-no_loss (BadPeer peer) = tt
-no_loss BadValue = tt
-no_loss (TimedOut sent now) = tt
+local_cause : (sets : Bool) (e : CallEnd) → IsAnswered sets (CallEnded e) → IsLocalEnd sets (status_of_call e)
+local_cause sets Done h = tt
+local_cause sets (Refused code) h = tt
+local_cause sets (BadPeer peer) h = tt
+local_cause sets BadValue h = h
+local_cause sets (TimedOut sent now) h = h
 
 local_at : (x : LocalCalling) (answer : Result loop.LoopEnd NoMemory) (s : Status) (out between out_new : SinkState) → AfterLocal answer x out between
-    → out.faults ≤ between.faults → PrintsAnswer answer s between out_new → CallFacts IsNoLinkEnd s out out_new
+    → out.faults ≤ between.faults → PrintsAnswer answer s between out_new → CallFacts (IsLocalEnd (is_setting x.call)) s out out_new
 local_at x (Ok (end.Call e)) s out between out_new called later printed =
-    told_facts IsNoLinkEnd (status_of_call (end_meant e)) s out between out_new (no_loss (end_meant e)) tt tt (no_writing (end_meant e))
-    (no_usage (end_meant e)) later printed
+    told_facts (IsLocalEnd (is_setting x.call)) (status_of_call (end_meant e)) s out between out_new
+    (local_cause (is_setting x.call) (end_meant e) called.answered) tt tt (no_writing (end_meant e)) (no_usage (end_meant e)) later printed
 local_at x (Ok end.Budget) s out between out_new called later printed =
-    told_facts IsNoLinkEnd status.Budget s out between out_new tt tt tt (λ e. (cc)) (λ e. (cc)) later printed
+    told_facts (IsLocalEnd (is_setting x.call)) status.Budget s out between out_new tt tt tt (λ e. (cc)) (λ e. (cc)) later printed
 local_at x (Ok end.LinkFault) s out between out_new called later printed = absurd called
-local_at x (Ok end.WriteFault) s out between out_new called later printed = unwritten_facts IsNoLinkEnd s out between out_new tt printed.0 printed.1 called.0
-local_at x (Err e) s out between out_new called later printed = wanting_facts IsNoLinkEnd s out out_new tt printed.0
+local_at x (Ok end.WriteFault) s out between out_new called later printed =
+    unwritten_facts (IsLocalEnd (is_setting x.call)) s out between out_new tt printed.0 printed.1 called.0
+local_at x (Err e) s out between out_new called later printed = wanting_facts (IsLocalEnd (is_setting x.call)) s out out_new tt printed.0
 
-pub local_facts : (x : LocalCalling) (s : Status) (out out_new : SinkState) → EndsLocalCall x s out out_new → CallFacts IsNoLinkEnd s out out_new
+pub local_facts : (x : LocalCalling) (s : Status) (out out_new : SinkState) → EndsLocalCall x s out out_new
+    → CallFacts (IsLocalEnd (is_setting x.call)) s out out_new
 local_facts x s out out_new h = local_at x h.answer s out h.between out_new h.called h.later.faults h.prints
 
 -- where nothing failed, a call ends as its conversation, or memory was wanting
@@ -177,7 +179,7 @@ pub own_call : {O : Type 0} (x : Calling) (s : Status) (out out_new : SinkState)
 own_call x s out out_new link no_fault no_loss h = own_at x h.answer s out h.between out_new link no_fault no_loss h.called h.later.faults h.prints
 
 local_end : (x : LocalCalling) (e : LoopEnd) (s : Status) (out out_new : SinkState) → LocalTalks x e out out_new → s ≡ status_of_loop e → IsEndOfLocal x s
-local_end x e s out out_new talks is = record { cutting = talks.cutting; ended = e; end_is = talks.end_is; status = is }
+local_end x e s out out_new talks is = record { ended = e; end_is = talks.end_is; answered = talks.answered; status = is }
 
 own_local_at : (x : LocalCalling) (answer : Result loop.LoopEnd NoMemory) (s : Status) (out between out_new : SinkState)
     → (Rose out.faults out_new.faults → ⊥)

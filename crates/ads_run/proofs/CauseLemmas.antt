@@ -1,6 +1,6 @@
 -- What the end of a run says of its cause.
 use Rattle.std.proofs.Common.{◌≡◌, rules, ℕ, List, Option, Some, None, inl, inr, subst, ap, sym, ◌∙◌, refl, zero, length}
-use Rattle.std.specs.Prelude.{◌≤◌}
+use Rattle.std.specs.Prelude.{◌≤◌, Bool}
 use Rattle.signals.specs.Wave.{Wave}
 use Rattle.ads_outside.specs.declared.end.End.{End}
 use Rattle.ads_outside.specs.declared.end.End.TheVariants as end
@@ -14,6 +14,7 @@ use Rattle.ads_outside.specs.SinkState.{SinkState}
 use Rattle.ads_outside.specs.WireState.{WireHistory, listened}
 use Rattle.spec_plant.specs.Description.{Description}
 use Rattle.spec_rules.specs.TextVerdict.{TextVerdict, Described, Breaks, NoDocument, text_verdict}
+use Rattle.spec_local_room.specs.Laws.{is_setting}
 use Rattle.spec_store.specs.Slots.{Standing}
 use Rattle.serve_loop.specs.Leads.{events_in}
 use Rattle.serve_loop.specs.TurnTaken.{raised_by}
@@ -32,7 +33,7 @@ use Rattle.client_loop.specs.Called.{calling}
 use Rattle.run_tasks.specs.declared.client_task.ClientTask.{ClientTask}
 use Rattle.run_tasks.specs.Asking.{local_calling, call_asked, own_address, asked_address}
 use Rattle.run_tasks.specs.declared.record_task.RecordTask.{RecordTask}
-use Rattle.ads_run.specs.Causes.{CauseOfRecord, CauseOfAsking, CauseOfKeeping, CauseOfService, IsNoLinkEnd, HasCause, EndsOfWire, TakesAll, FailsOfWire}
+use Rattle.ads_run.specs.Causes.{CauseOfRecord, CauseOfAsking, CauseOfKeeping, CauseOfService, IsLocalEnd, HasCause, EndsOfWire, TakesAll, FailsOfWire}
 use Rattle.run_tasks.specs.Ending.{Ending, line_alone}
 use Rattle.ads_run.specs.Ends.{RunsSo, RunsBy}
 use Rattle.run_tasks.specs.KeepAsked.{Keeping, keeping}
@@ -45,7 +46,9 @@ use Rattle.run_tasks.specs.RecordAsked.{recording_to, local_recording}
 use Rattle.ads_run.specs.RecordCauses.{CauseOfLocalRecording}
 use Rattle.call_run.specs.CallUses.{KeeperUse}
 use Rattle.ads_run.specs.Uses.{Uses}
-use Rattle.run_tasks.specs.Verdict.{verdict_of_recorded, verdict_of_recorded_text, verdict_of_record, Verdict, ended, prints, over_store, verdict_of_file, verdict_of_served, verdict_of_service, verdict_of_task, verdict_of_called, verdict_of_local, verdict_of_ask}
+use Rattle.run_tasks.specs.Verdict.{verdict_of_recorded, verdict_of_recorded_text, verdict_of_record, Verdict, ended, prints, over_store}
+use Rattle.run_tasks.specs.Verdict.{verdict_of_file, verdict_of_served, verdict_of_service, verdict_of_task, verdict_of_called, verdict_of_local}
+use Rattle.run_tasks.specs.Verdict.{verdict_of_ask}
 use Rattle.ads_run.proofs.RecordCauseLemmas.{recording_facts}
 use Rattle.ads_run.proofs.RecordLocalEnds.{local_recording_facts}
 use Rattle.ads_run.proofs.CallCauseLemmas.{CallFacts, ending_told, told_facts, wanting_facts, unwritten_facts, call_facts, local_facts}
@@ -249,16 +252,19 @@ served_facts signals machine d l limit first s u h =
     (λ k. ending_told C (line_alone status.TooLong) s u.out u.out u.out_new tt tt tt (λ e. (cc)) (λ e. (cc)) (same_faults u.out) k.0)
     (λ bytes k. judged_facts (record { listen = l; name = d; first = bytes }) machine limit s u (text_verdict signals bytes) k) h
 
-ended_facts : (st s : Status) (out out_new : SinkState) → IsNoLinkEnd st → (st ≡ status.WriteFault → ⊥) → (st ≡ status.Usage → ⊥)
-    → PrintsEnding (line_alone st) s out out_new → CallFacts IsNoLinkEnd s out out_new
-ended_facts st s out out_new cause no_fault no_usage printed =
-    told_facts IsNoLinkEnd st s out out out_new cause tt tt no_fault no_usage (search rules) printed
+-- of a client's call in the same process, which may set a value
+ended_facts : (sets : Bool) (st s : Status) (out out_new : SinkState) → IsLocalEnd sets st → (st ≡ status.WriteFault → ⊥) → (st ≡ status.Usage → ⊥)
+    → PrintsEnding (line_alone st) s out out_new → CallFacts (IsLocalEnd sets) s out out_new
+ended_facts sets st s out out_new cause no_fault no_usage printed =
+    told_facts (IsLocalEnd sets) st s out out out_new cause tt tt no_fault no_usage (search rules) printed
 
 described_facts : {O : Type 0} (waves : List Wave) (what : ClientTask) (client : ClientWords) (s : Status) (u : Uses O) (v : TextVerdict)
-    → RunsSo (verdict_of_called waves what client v) s u → CallFacts IsNoLinkEnd s u.out u.out_new
+    → RunsSo (verdict_of_called waves what client v) s u → CallFacts (IsLocalEnd (is_setting (call_asked what))) s u.out u.out_new
 described_facts waves what client s u (Described d) h = local_facts (local_calling d waves what client) s u.out u.out_new h
-described_facts waves what client s u (Breaks n item) h = ended_facts (status.BadDescription n item) s u.out u.out_new tt (λ e. (cc)) (λ e. (cc)) h.0
-described_facts waves what client s u NoDocument h = ended_facts (status.BadDescription 0 0) s u.out u.out_new tt (λ e. (cc)) (λ e. (cc)) h.0
+described_facts waves what client s u (Breaks n item) h =
+    ended_facts (is_setting (call_asked what)) (status.BadDescription n item) s u.out u.out_new tt (λ e. (cc)) (λ e. (cc)) h.0
+described_facts waves what client s u NoDocument h =
+    ended_facts (is_setting (call_asked what)) (status.BadDescription 0 0) s u.out u.out_new tt (λ e. (cc)) (λ e. (cc)) h.0
 
 -- of a client's command
 asked_facts : {O : Type 0} (waves : List Wave) (what : ClientTask) (client : ClientWords) (p : PeerWords) (first : List NamedFile) (s : Status) (u : Uses O)
@@ -266,9 +272,10 @@ asked_facts : {O : Type 0} (waves : List Wave) (what : ClientTask) (client : Cli
 asked_facts waves what client (peer.To to net) first s u h =
     call_facts (calling (own_address client) (asked_address net client) (call_asked what) to) s u.out u.out_new u.link h
 asked_facts waves what client (peer.Local name) first s u h =
-    of_file (λ v. RunsSo v s u → CallFacts IsNoLinkEnd s u.out u.out_new) (verdict_of_local waves what client) (bytes_of first name)
-    (λ k. ended_facts status.ReadFault s u.out u.out_new tt (λ e. (cc)) (λ e. (cc)) k.0)
-    (λ k. ended_facts status.TooLong s u.out u.out_new tt (λ e. (cc)) (λ e. (cc)) k.0)
+    let sets = is_setting (call_asked what) in
+    of_file (λ v. RunsSo v s u → CallFacts (IsLocalEnd sets) s u.out u.out_new) (verdict_of_local waves what client) (bytes_of first name)
+    (λ k. ended_facts sets status.ReadFault s u.out u.out_new tt (λ e. (cc)) (λ e. (cc)) k.0)
+    (λ k. ended_facts sets status.TooLong s u.out u.out_new tt (λ e. (cc)) (λ e. (cc)) k.0)
     (λ bytes k. described_facts waves what client s u (text_verdict (length waves) bytes) k) h
 
 -- of a recording
@@ -280,7 +287,7 @@ local_recording_told st s out out_new keeper cause no_fault no_usage printed =
 
 recorded_described_facts : {O : Type 0} (waves : List Wave) (what : RecordTask) (s : Status) (u : Uses O) (v : TextVerdict)
     → RunsSo (verdict_of_recorded waves what v) s u → CallFacts (λ t. CauseOfLocalRecording t u.keeper.old u.keeper.new) s u.out u.out_new
-recorded_described_facts waves what s u (Described d) h = local_recording_facts (local_recording d waves what) s u.out u.out_new u.keeper h
+recorded_described_facts waves what s u (Described d) h = local_recording_facts (local_recording d waves what) (λ n. refl) s u.out u.out_new u.keeper h
 recorded_described_facts waves what s u (Breaks n item) h =
     local_recording_told (status.BadDescription n item) s u.out u.out_new u.keeper tt (λ e. (cc)) (λ e. (cc)) h.0
 recorded_described_facts waves what s u NoDocument h =

@@ -1,6 +1,6 @@
 -- What the end of a recording in the same process says of its cause.
-use Rattle.std.proofs.Common.{◌≡◌, ◌≤◌, ℕ, List, Option, Some, inl, inr, refl}
-use Rattle.std.specs.Prelude.{◌⊎◌, Result, Ok, Err}
+use Rattle.std.proofs.Common.{◌≡◌, ◌≤◌, ℕ, List, Option, Some, inl, inr, refl, sym, ◌∙◌}
+use Rattle.std.specs.Prelude.{◌⊎◌, Bool, false, true, Result, Ok, Err}
 use Rattle.ads_base.specs.declared.no_memory.NoMemory.{NoMemory}
 use Rattle.ads_outside.specs.Rose.{Rose}
 use Rattle.ads_outside.specs.SinkState.{SinkState}
@@ -8,6 +8,7 @@ use Rattle.spec_samples.specs.Row.{Row}
 use Rattle.spec_client.specs.Conversation.{LoopEnd, CallEnded, Budget}
 use Rattle.spec_client.specs.Stages.{CallEnd, Done, Refused, BadPeer, BadValue, TimedOut}
 use Rattle.spec_local.specs.LocalCall.{Cutting}
+use Rattle.spec_local_room.specs.Laws.{is_setting, IsAnswered}
 use Rattle.client_loop.specs.Outlets.{Outlets, outlets}
 use Rattle.client_replies.specs.declared.stage.CallEnd as call_end_type
 use Rattle.client_replies.specs.declared.stage.CallEnd.TheVariants as call_end
@@ -34,67 +35,76 @@ use Rattle.ads_run.proofs.RecordCauseLemmas.{same_faults, failed_at_opening, Own
 abbrev Cause : KeeperUse → Status → Type 0
 Cause keeper s = CauseOfLocalRecording s keeper.old keeper.new
 
-cause_of_end : (e : CallEnd) (keeper : KeeperUse) → Cause keeper (status_of_call e)
-cause_of_end Done keeper = tt
-cause_of_end (Refused code) keeper = tt
-cause_of_end (BadPeer peer) keeper = tt
-cause_of_end BadValue keeper = tt
-cause_of_end (TimedOut sent now) keeper = tt
+-- which sets no value
+cause_of_end : (sets : Bool) → sets ≡ false → (e : CallEnd) (keeper : KeeperUse) → IsAnswered sets (CallEnded e) → Cause keeper (status_of_call e)
+cause_of_end sets none Done keeper h = tt
+cause_of_end sets none (Refused code) keeper h = tt
+cause_of_end sets none (BadPeer peer) keeper h = tt
+cause_of_end sets none BadValue keeper h = let is : sets ≡ true = h in let same : true ≡ false = sym is ∙ none in cc
+cause_of_end sets none (TimedOut sent now) keeper h = h
 
-recorded_facts : (x : LocalCalling) (answer : Result RecordEnd NoMemory) (s : Status) (out between out_new : SinkState) (keeper : KeeperUse)
-    (opened : KeeperState) → keeper.old.faults ≤ opened.faults → AfterLocalRecord answer x (outlets out opened) (outlets between keeper.new)
-    → out.faults ≤ between.faults → PrintsRecorded answer s between out_new → CallFacts (Cause keeper) s out out_new
-recorded_facts x (Ok (recorded.Loop (end.Call e))) s out between out_new keeper opened before called later printed =
-    told_facts (Cause keeper) (status_of_call (end_meant e)) s out between out_new (cause_of_end (end_meant e) keeper) tt tt (no_writing (end_meant e))
-    (no_usage (end_meant e)) later printed
-recorded_facts x (Ok (recorded.Loop end.Budget)) s out between out_new keeper opened before called later printed =
+-- a recording that ended so, however its answers are cut
+record LocalEnded (x : LocalCalling) (e : LoopEnd) : Type 0 where
+  is : (cutting : Cutting) → (local_conversation x cutting).end ≡ Some e
+  answered : IsAnswered (is_setting x.call) e
+
+local_ended : (x : LocalCalling) (e : call_end_type.CallEnd) (out out_new : Outlets) → AfterLocalRecord (Ok (recorded.Loop (end.Call e))) x out out_new
+    → LocalEnded x (CallEnded (end_meant e))
+local_ended x call_end.Done out out_new h = record { is = h.all.end_is; answered = h.all.answered }
+local_ended x (call_end.Refused code) out out_new h = record { is = h.end_is; answered = h.answered }
+local_ended x (call_end.BadPeer peer) out out_new h = record { is = h.end_is; answered = h.answered }
+local_ended x call_end.BadValue out out_new h = record { is = h.end_is; answered = h.answered }
+local_ended x (call_end.TimedOut sent now) out out_new h = record { is = h.end_is; answered = h.answered }
+
+recorded_facts : (x : LocalCalling) → is_setting x.call ≡ false → (answer : Result RecordEnd NoMemory) (s : Status) (out between out_new : SinkState)
+    (keeper : KeeperUse) (opened : KeeperState) → keeper.old.faults ≤ opened.faults
+    → AfterLocalRecord answer x (outlets out opened) (outlets between keeper.new) → out.faults ≤ between.faults
+    → PrintsRecorded answer s between out_new → CallFacts (Cause keeper) s out out_new
+recorded_facts x none (Ok (recorded.Loop (end.Call e))) s out between out_new keeper opened before called later printed =
+    told_facts (Cause keeper) (status_of_call (end_meant e)) s out between out_new
+    (cause_of_end (is_setting x.call) none (end_meant e) keeper (local_ended x e (outlets out opened) (outlets between keeper.new) called).answered)
+    tt tt (no_writing (end_meant e)) (no_usage (end_meant e)) later printed
+recorded_facts x none (Ok (recorded.Loop end.Budget)) s out between out_new keeper opened before called later printed =
     told_facts (Cause keeper) status.Budget s out between out_new tt tt tt (λ e. (cc)) (λ e. (cc)) later printed
-recorded_facts x (Ok (recorded.Loop end.LinkFault)) s out between out_new keeper opened before called later printed = absurd called
-recorded_facts x (Ok (recorded.Loop end.WriteFault)) s out between out_new keeper opened before called later printed =
+recorded_facts x none (Ok (recorded.Loop end.LinkFault)) s out between out_new keeper opened before called later printed = absurd called
+recorded_facts x none (Ok (recorded.Loop end.WriteFault)) s out between out_new keeper opened before called later printed =
     unwritten_facts (Cause keeper) s out between out_new tt printed.0 printed.1 called.0
-recorded_facts x (Ok recorded.KeeperFault) s out between out_new keeper opened before called later printed =
+recorded_facts x none (Ok recorded.KeeperFault) s out between out_new keeper opened before called later printed =
     told_facts (Cause keeper) status.KeeperFault s out between out_new
     (rose_from keeper.old.faults opened.faults keeper.new.faults before called.0) tt tt (λ e. (cc)) (λ e. (cc)) later printed
-recorded_facts x (Err e) s out between out_new keeper opened before called later printed = wanting_facts (Cause keeper) s out out_new tt printed.0
+recorded_facts x none (Err e) s out between out_new keeper opened before called later printed = wanting_facts (Cause keeper) s out out_new tt printed.0
 
-opened_facts : (x : ℕ → LocalCalling) (answer : KeeperOpen) (s : Status) (out out_new : SinkState) (keeper : KeeperUse) (opened : KeeperState)
-    → Counts answer keeper.old.rows → keeper.old.faults ≤ opened.faults → (answer ≡ open_.Failed → Rose keeper.old.faults opened.faults)
+opened_facts : (x : ℕ → LocalCalling) → ((n : ℕ) → is_setting (x n).call ≡ false) → (answer : KeeperOpen) (s : Status) (out out_new : SinkState)
+    (keeper : KeeperUse) (opened : KeeperState) → Counts answer keeper.old.rows → keeper.old.faults ≤ opened.faults
+    → (answer ≡ open_.Failed → Rose keeper.old.faults opened.faults)
     → BehindOpening answer (λ n. EndsLocalRecorded (x n) s out out_new opened keeper.new) (Unit {0} × (keeper.new ≡ opened)) s out out_new
     → CallFacts (Cause keeper) s out out_new
-opened_facts x (open_.Ready n) s out out_new keeper opened counts before failed (inl (room, e)) =
-    recorded_facts (x n) e.answer s out e.between out_new keeper opened before e.called e.later.sink.faults e.prints
-opened_facts x (open_.Ready n) s out out_new keeper opened counts before failed (inr (full, still, printed)) =
+opened_facts x none (open_.Ready n) s out out_new keeper opened counts before failed (inl (room, e)) =
+    recorded_facts (x n) (none n) e.answer s out e.between out_new keeper opened before e.called e.later.sink.faults e.prints
+opened_facts x none (open_.Ready n) s out out_new keeper opened counts before failed (inr (full, still, printed)) =
     told_facts (Cause keeper) status.StoreLimit s out out out_new (record { count = n; counts = counts; full = full }) tt tt
     (λ e. (cc)) (λ e. (cc)) (same_faults out) printed
-opened_facts x open_.Failed s out out_new keeper opened counts before failed (still, printed) =
+opened_facts x none open_.Failed s out out_new keeper opened counts before failed (still, printed) =
     told_facts (Cause keeper) status.KeeperFault s out out out_new
     (failed_at_opening keeper.old opened keeper.new still.1 (failed refl)) tt tt (λ e. (cc)) (λ e. (cc)) (same_faults out) printed
-opened_facts x open_.Memory s out out_new keeper opened counts before failed (still, is, line) = wanting_facts (Cause keeper) s out out_new tt is
+opened_facts x none open_.Memory s out out_new keeper opened counts before failed (still, is, line) = wanting_facts (Cause keeper) s out out_new tt is
 
-pub local_recording_facts : (x : ℕ → LocalCalling) (s : Status) (out out_new : SinkState) (keeper : KeeperUse) → EndsLocalRecording x s out out_new keeper
+pub local_recording_facts : (x : ℕ → LocalCalling) → ((n : ℕ) → is_setting (x n).call ≡ false) → (s : Status) (out out_new : SinkState)
+    (keeper : KeeperUse) → EndsLocalRecording x s out out_new keeper
     → CallFacts (λ t. CauseOfLocalRecording t keeper.old keeper.new) s out out_new
-local_recording_facts x s out out_new keeper (inl h) = wanting_facts (Cause keeper) s out out_new tt h.0
-local_recording_facts x s out out_new keeper (inr h) = opened_facts x h.answer s out out_new keeper h.opened h.counts h.later h.failed h.ended
-
--- a recording that ended so
-local_ended : (x : LocalCalling) (e : call_end_type.CallEnd) (out out_new : Outlets) → AfterLocalRecord (Ok (recorded.Loop (end.Call e))) x out out_new
-    → (cutting : Cutting) × ((local_conversation x cutting).end ≡ Some (CallEnded (end_meant e)))
-local_ended x call_end.Done out out_new h = (h.all.cutting, h.all.end_is)
-local_ended x (call_end.Refused code) out out_new h = (h.cutting, h.end_is)
-local_ended x (call_end.BadPeer peer) out out_new h = (h.cutting, h.end_is)
-local_ended x call_end.BadValue out out_new h = (h.cutting, h.end_is)
-local_ended x (call_end.TimedOut sent now) out out_new h = (h.cutting, h.end_is)
+local_recording_facts x none s out out_new keeper (inl h) = wanting_facts (Cause keeper) s out out_new tt h.0
+local_recording_facts x none s out out_new keeper (inr h) = opened_facts x none h.answer s out out_new keeper h.opened h.counts h.later h.failed h.ended
 
 -- where nothing failed
 local_end : (x : ℕ → LocalCalling) (n : ℕ) (e : LoopEnd) (s : Status) (rows : Option (List Row)) → Counts (open_.Ready n) rows → n ≤ MOST_ROWS
-    → (cutting : Cutting) × ((local_conversation (x n) cutting).end ≡ Some e) → s ≡ status_of_loop e → IsEndOfLocalRecording x s rows
+    → LocalEnded (x n) e → s ≡ status_of_loop e → IsEndOfLocalRecording x s rows
 local_end x n e s rows counts room h is = record {
   count = n;
   counts = counts;
   room = room;
-  cutting = h.0;
   ended = e;
-  end_is = h.1;
+  end_is = h.is;
+  answered = h.answered;
   status = is;
 }
 
@@ -109,7 +119,7 @@ own_recorded x n (Ok (recorded.Loop (end.Call e))) s out between out_new keeper 
     (local_ended (x n) e (outlets out opened) (outlets between keeper.new) called) is) later no_fault printed
 own_recorded x n (Ok (recorded.Loop end.Budget)) s out between out_new keeper opened no_fault kept counts room before called later printed =
     told_own (IsEndOfLocalRecording x s keeper.old.rows) status.Budget s out between out_new
-    (λ is. local_end x n Budget s keeper.old.rows counts room (called.cutting, called.end_is) is) later no_fault printed
+    (λ is. local_end x n Budget s keeper.old.rows counts room (record { is = called.end_is; answered = called.answered }) is) later no_fault printed
 own_recorded x n (Ok (recorded.Loop end.LinkFault)) s out between out_new keeper opened no_fault kept counts room before called later printed =
     absurd called
 own_recorded x n (Ok (recorded.Loop end.WriteFault)) s out between out_new keeper opened no_fault kept counts room before called later printed =

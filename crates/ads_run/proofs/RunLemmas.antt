@@ -4,17 +4,21 @@ use Rattle.signals.specs.Wave.{Wave}
 use Rattle.ads_outside.specs.declared.link_move.LinkMove.{LinkMove}
 use Rattle.ads_outside.specs.declared.named_file.NamedFile.{NamedFile}
 use Rattle.ads_outside.specs.LinkState.{LinkState}
+use Rattle.ads_outside.specs.Named.{bytes_of}
 use Rattle.ads_outside.specs.SinkState.{SinkState}
 use Rattle.ads_outside.specs.WireState.{WireHistory}
-use Rattle.client_loop.specs.Called.{Calling}
+use Rattle.client_loop.specs.Called.{Calling, calling}
 use Rattle.cli_words.specs.declared.client_words.ClientWords.{ClientWords}
 use Rattle.cli_words.specs.declared.client_words.PeerWords.{PeerWords}
+use Rattle.cli_words.specs.declared.client_words.PeerWords.TheVariants as peer
 use Rattle.run_tasks.specs.declared.client_task.ClientTask.{ClientTask}
 use Rattle.run_tasks.specs.declared.status.Status.{Status}
 use Rattle.run_tasks.specs.declared.status.Status.TheVariants as status
 use Rattle.run_tasks.specs.declared.task.Task.{Task}
 use Rattle.run_tasks.specs.declared.task.Task.TheVariants as task
-use Rattle.call_run.specs.Calling.{EndsCall}
+use Rattle.run_tasks.specs.Asking.{asked_address, call_asked, own_address}
+use Rattle.call_run.specs.AskedFrom.{AsksFrom}
+use Rattle.call_run.specs.Calling.{EndsCall, EndsLocalCall}
 use Rattle.run_tasks.specs.Ending.{line_alone}
 use Rattle.ads_run.specs.Ends.{RunsSo, RunsBy}
 use Rattle.run_tasks.specs.Prints.{PutsMemoryLine, PrintsEnding}
@@ -22,7 +26,8 @@ use Rattle.run_tasks.specs.Readings.{OverFile, OverFiles}
 use Rattle.run_tasks.specs.Tasks.{asked_task}
 use Rattle.call_run.specs.CallUses.{LinkUse, KeeperUse, link_used, used}
 use Rattle.ads_run.specs.Uses.{DiskUse, Uses, uses}
-use Rattle.run_tasks.specs.Verdict.{Verdict, Ends, Serves, Calls, CallsLocally, Keeps, Records, RecordsLocally, verdict_of, verdict_of_task, verdict_of_ask, ended}
+use Rattle.run_tasks.specs.Verdict.{Verdict, Ends, Serves, Calls, CallsLocally, Keeps, Records, RecordsLocally}
+use Rattle.run_tasks.specs.Verdict.{verdict_of, verdict_of_task, verdict_of_ask, verdict_of_file, verdict_of_local, ended}
 use Rattle.file_run.proofs.KeepLemmas.{IsUntouched, never_kept}
 use Rattle.call_run.proofs.RecordLemmas.{leaves_link}
 use Rattle.run_tasks.proofs.ReadingLemmas.{map_files, map_file, over_first}
@@ -71,11 +76,23 @@ runs_usage None waves failed s out out_new wire link disk keeper printed = ([], 
 runs_usage (Some files) waves failed s out out_new wire link disk keeper printed = inl (printed, refl)
 
 -- a run that called the link
-pub call_as_run : {O : Type 0} (held : Option (List NamedFile)) (x : Calling) (failed : Type 0) (s : Status) (u : Uses O)
+call_as_run : {O : Type 0} (held : Option (List NamedFile)) (x : Calling) (failed : Type 0) (s : Status) (u : Uses O)
     → EndsCall x s u.out u.out_new u.link
     → OverFiles held (λ first second. RunsBy (Calls x) failed s u)
 call_as_run None x failed s u h = ([], [], inl h)
 call_as_run (Some files) x failed s u h = inl h
+
+-- a client's run, whatever its wire and its disk
+pub asks_as_run : {O : Type 0} (held : Option (List NamedFile)) (waves : List Wave) (what : ClientTask) (client : ClientWords) (p : PeerWords)
+    (failed : Type 0) (s : Status) (out out_new : SinkState) (wire : WireHistory) (link : LinkUse O) (disk : DiskUse) (keeper : KeeperUse)
+    → AsksFrom held waves what client p failed s out out_new link
+    → OverFiles held (λ first second. RunsBy (verdict_of_ask waves what client p first) failed s (uses out out_new wire wire link disk keeper))
+asks_as_run held waves what client (peer.To to net) failed s out out_new wire link disk keeper h =
+    call_as_run held (calling (own_address client) (asked_address net client) (call_asked what) to) failed s (uses out out_new wire wire link disk keeper) h
+asks_as_run held waves what client (peer.Local name) failed s out out_new wire link disk keeper h =
+    file_as_run CallsLocally (λ x. EndsLocalCall x s out out_new) (Unit {0}) held
+    (λ files. verdict_of_file (verdict_of_local waves what client) (bytes_of files name)) failed s (uses out out_new wire wire link disk keeper)
+    (λ t. refl) (λ x k. k) h
 
 -- how the task ends is how the words end that ask for it
 pub runs_as_asked : {O : Type 0} (held : Option (List NamedFile)) (waves : List Wave) (words : List (List ℕ)) (t : Option Task) (failed : Type 0) (s : Status)
@@ -113,15 +130,6 @@ runs_without_memory None v failed s out out_new wire told state disk keeper unto
     ([], [], inl (memory_so (v [] []) s out out_new wire told state disk keeper untouched is line))
 runs_without_memory (Some files) v failed s out out_new wire told state disk keeper untouched is line =
     inl (memory_so (v files files) s out out_new wire told state disk keeper untouched is line)
-
--- a client that asks this peer
-pub runs_of_peer : {O : Type 0} (held : Option (List NamedFile)) (waves : List Wave) (what : ClientTask) (client : ClientWords) (p : PeerWords)
-    (failed : Type 0)
-    (s : Status) (u : Uses O) → client.peer ≡ p → OverFiles held (λ first second. RunsBy (verdict_of_ask waves what client p first) failed s u)
-    → OverFiles held (λ first second. RunsBy (verdict_of_task waves (Some (task.Ask what client)) first second) failed s u)
-runs_of_peer held waves what client p failed s u is runs =
-    let P : PeerWords → Type 0 = λ q. OverFiles held (λ first second. RunsBy (verdict_of_ask waves what client q first) failed s u) in
-    subst P (sym is) runs
 
 -- a run that wanted memory, and left what it was handed in as it was
 pub runs_untouched : {O S W L : Type 0} (held : Option (List NamedFile)) (v : List NamedFile → List NamedFile → Verdict) (failed : Type 0) (s : Status)

@@ -7,6 +7,7 @@ use Rattle.ads_outside.specs.WireState.{WireHistory}
 use Rattle.serve_loop.specs.TurnTaken.{raised_by}
 use Rattle.spec_client.specs.Conversation.{LinkAnswer, LoopEnd}
 use Rattle.spec_local.specs.LocalCall.{Cutting}
+use Rattle.spec_local_room.specs.Laws.{is_setting, IsAnswered}
 use Rattle.cli_words.specs.declared.client_words.ClientWords.{ClientWords}
 use Rattle.cli_words.specs.declared.client_words.PeerWords.{PeerWords}
 use Rattle.cli_words.specs.declared.client_words.PeerWords.TheVariants as peer
@@ -103,15 +104,17 @@ CauseOfCall x status.WriteFault old new = Unit {0}
 CauseOfCall x status.Memory old new = Unit {0}
 CauseOfCall x s old new = IsEndOfCall x s new
 
--- in the same process no link fails
-abbrev pub IsNoLinkEnd : Status → Type 0
-IsNoLinkEnd status.LinkFault = ⊥
-IsNoLinkEnd s = IsNoStoreEnd s
+-- in the same process no link fails and no request times out; and a text is no value only where one is set
+abbrev pub IsLocalEnd : Bool → Status → Type 0
+IsLocalEnd sets status.LinkFault = ⊥
+IsLocalEnd sets (status.TimedOut sent now) = ⊥
+IsLocalEnd sets status.BadValue = sets ≡ true
+IsLocalEnd sets s = IsNoStoreEnd s
 
 abbrev pub CauseOfAsking : ClientTask → ClientWords → PeerWords → Status → LinkState → LinkState → Type 0
 CauseOfAsking what client (peer.To to net) s old new =
     CauseOfCall (calling (own_address client) (asked_address net client) (call_asked what) to) s old new
-CauseOfAsking what client (peer.Local description) s old new = IsNoLinkEnd s
+CauseOfAsking what client (peer.Local description) s old new = IsLocalEnd (is_setting (call_asked what)) s
 
 -- why a play over a store ended so
 abbrev pub CauseOfKeeping : Status → ℕ → ℕ → Type 0
@@ -142,11 +145,11 @@ pub record NothingFailed {O : Type 0} (files files_new : FilesState) (u : Uses O
   pub storing : Rose u.disk.faults u.disk.faults_new → ⊥
   pub keeping : Rose u.keeper.old.faults u.keeper.new.faults → ⊥
 
--- the status is that of the call over the server in the same process
+-- the status is that of the call over the server in the same process, however its answers are cut
 pub record IsEndOfLocal (x : LocalCalling) (s : Status) : Type 0 where
-  pub cutting : Cutting
   pub ended : LoopEnd
-  pub end_is : (local_conversation x cutting).end ≡ Some ended
+  pub end_is : (cutting : Cutting) → (local_conversation x cutting).end ≡ Some ended
+  pub answered : IsAnswered (is_setting x.call) ended
   pub status : s ≡ status_of_loop ended
 
 -- how a run ends where nothing failed: as its verdict says, or a service is done or took all its events, a call is

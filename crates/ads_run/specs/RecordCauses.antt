@@ -4,6 +4,7 @@ use Rattle.ads_outside.specs.LinkState.{LinkState}
 use Rattle.ads_outside.specs.Rose.{Rose}
 use Rattle.spec_client.specs.Conversation.{LinkAnswer, LoopEnd}
 use Rattle.spec_local.specs.LocalCall.{Cutting}
+use Rattle.spec_local_room.specs.Laws.{is_setting, IsAnswered}
 use Rattle.spec_samples.specs.Row.{Row}
 use Rattle.client_loop.specs.Called.{Calling, over}
 use Rattle.client_loop.specs.LinkAfter.{history_over}
@@ -43,20 +44,23 @@ CauseOfRecording x status.WriteFault old new keeper keeper_new = Unit {0}
 CauseOfRecording x status.Memory old new keeper keeper_new = Unit {0}
 CauseOfRecording x s old new keeper keeper_new = IsEndOfRecording x s new keeper.rows
 
--- and in the same process, where no link fails
+-- and in the same process, where no link fails, no request times out and no value is set
 abbrev pub CauseOfLocalRecording : Status → KeeperState → KeeperState → Type 0
 CauseOfLocalRecording status.StoreLimit keeper keeper_new = IsFull keeper.rows
 CauseOfLocalRecording status.KeeperFault keeper keeper_new = Rose keeper.faults keeper_new.faults
 CauseOfLocalRecording status.StoreFault keeper keeper_new = ⊥
 CauseOfLocalRecording status.LinkFault keeper keeper_new = ⊥
+CauseOfLocalRecording (status.TimedOut sent now) keeper keeper_new = ⊥
+CauseOfLocalRecording status.BadValue keeper keeper_new = ⊥
 CauseOfLocalRecording s keeper keeper_new = Unit {0}
 
--- the status is that of the call over the server in the same process, behind as many rows as the table has
+-- the status is that of the call over the server in the same process, however its answers are cut, behind as many rows as the table
+-- has
 pub record IsEndOfLocalRecording (x : ℕ → LocalCalling) (s : Status) (rows : Option (List Row)) : Type 0 where
   pub count : ℕ
   pub counts : Counts (open_.Ready count) rows
   pub room : count ≤ MOST_ROWS
-  pub cutting : Cutting
   pub ended : LoopEnd
-  pub end_is : (local_conversation (x count) cutting).end ≡ Some ended
+  pub end_is : (cutting : Cutting) → (local_conversation (x count) cutting).end ≡ Some ended
+  pub answered : IsAnswered (is_setting (x count).call) ended
   pub status : s ≡ status_of_loop ended

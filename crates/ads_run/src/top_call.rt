@@ -22,8 +22,7 @@ ghost use Rattle.run_tasks.specs.Verdict.{verdict_of, verdict_of_task};
 
 use ads_base::NoMemory;
 use ads_outside::{Files, Link, Sink, Wire};
-use call_run::{ask_locally, ask_over_link, record};
-use cli_words::PeerWords;
+use call_run::{ask, record};
 use file_run::{keep, print_file_task, serve, serve_relay};
 use persist_store::Disk;
 use run_tasks::{Status, Task, USAGE_LINE, end_without_memory, print_and_end, task_asked};
@@ -283,19 +282,7 @@ fn run_task<T: Threads + Sync, F: Files, W: Wire, L: Link, S: Sink, D: Disk, K: 
             disk,
             signals,
         ),
-        Task::Ask { what, client } => match &client.peer {
-            PeerWords::To { to, net } => ask_over_link(alloc, what, client, *net, to, link, out),
-            PeerWords::Local(description) => ask_locally(
-                rt,
-                alloc,
-                what,
-                client,
-                description,
-                files,
-                out,
-                signals,
-            ),
-        },
+        Task::Ask { what, client } => ask(rt, alloc, what, client, files, link, out, signals),
         Task::Record(what) => record(rt, alloc, what, files, link, out, keeper, signals),
     }
 }

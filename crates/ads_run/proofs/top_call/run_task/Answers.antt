@@ -2,19 +2,15 @@
 use Rattle.std.proofs.Common.{◌≡◌, length, refl}
 use Rattle.ads_outside.specs.Named.{bytes_of}
 use Rattle.ads_outside.specs.Rose.{Rose}
-use Rattle.client_loop.specs.Called.{calling}
-use Rattle.cli_words.specs.declared.client_words.PeerWords.TheVariants as peer
 use Rattle.run_tasks.specs.declared.task.Task.TheVariants as task
-use Rattle.run_tasks.specs.Asking.{asked_address, call_asked, own_address}
-use Rattle.call_run.specs.Calling.{EndsLocalCall}
 use Rattle.file_run.specs.Keeping.{EndsKeeping}
 use Rattle.file_run.specs.Serving.{EndsService}
 use Rattle.run_tasks.specs.Service.{OfRelay}
 use Rattle.ads_run.specs.Uses.{disk_used, uses}
 use Rattle.call_run.specs.CallUses.{keeper_used, link_used}
-use Rattle.run_tasks.specs.Verdict.{CallsLocally, Keeps, Serves, over_store, verdict_of_both, verdict_of_file, verdict_of_file_task, verdict_of_serve, verdict_of_service, verdict_of_local}
-use Rattle.call_run.proofs.CallLemmas.{call_not_before}
-use Rattle.ads_run.proofs.RunLemmas.{call_as_run, file_as_run, files_as_run, runs_of_task, runs_of_peer}
+use Rattle.run_tasks.specs.Verdict.{Keeps, Serves, over_store, verdict_of_both, verdict_of_file, verdict_of_file_task}
+use Rattle.run_tasks.specs.Verdict.{verdict_of_serve, verdict_of_service}
+use Rattle.ads_run.proofs.RunLemmas.{asks_as_run, file_as_run, files_as_run, runs_of_task}
 use Rattle.ads_run.proofs.RecordRunLemmas.{records_as_run}
 use Rattle.ads_run.proofs.top_call.run_task.Goals as goal
 
@@ -69,52 +65,19 @@ returns-in-RelayServe-clause-ends g c =
     c.in-RelayServe.listen c.in-RelayServe.events) (bytes_of files c.in-RelayServe.description)) failed c.serve_relay.result u (λ same. same) (λ x h. h)
     c.serve_relay.ensures.ends)
 
-pub returns-in-To-clause-ends : goal.returns-in-To-clause-ends
-returns-in-To-clause-ends g c =
+pub returns-in-Ask-clause-ends : goal.returns-in-Ask-clause-ends
+returns-in-Ask-clause-ends g c =
     let held = (g.F.Files.state c.args.files.now).held in
     let disk = disk_used g.D.Disk.contents g.D.Disk.may_leave g.D.Disk.moment g.D.Disk.left_since g.D.Disk.fault_count c.args.disk.now c.args.disk.now in
     let keeper = keeper_used g.K.Keeper.state c.args.keeper.now c.args.keeper.now in
     let waves = g.G.Sources.waves c.args.signals in
-    let failed = Rose (g.F.Files.state c.args.files.now).faults (g.F.Files.state c.args.files.now).faults in
-    let out = g.S.Sink.state c.args.out.now in
-    let out_new = g.S.Sink.state c.ask_over_link.new.out in
+    let failed = Rose (g.F.Files.state c.args.files.now).faults (g.F.Files.state c.ask.new.files).faults in
     let wire = (g.W.Wire.state c.args.wire.now).history in
-    let what = c.in-Ask.what in
-    let client = c.in-Ask.client in
-    let link = link_used g.L.Link.tells g.L.Link.state c.args.link.now c.ask_over_link.new.link in
-    let u = uses out out_new wire wire link disk keeper in
-    runs_of_task held waves c.args.task.now (task.Ask what client) failed c.ask_over_link.result u c.in-Ask.is
-    (runs_of_peer held waves what client (peer.To c.in-To.to c.in-To.net) failed c.ask_over_link.result u c.in-To.is
-    (call_as_run held (calling (own_address client) (asked_address c.in-To.net client) (call_asked what) c.in-To.to) failed c.ask_over_link.result u
-    c.ask_over_link.ensures.ends))
-
-pub returns-in-Local-clause-ends : goal.returns-in-Local-clause-ends
-returns-in-Local-clause-ends g c =
-    let held = (g.F.Files.state c.args.files.now).held in
-    let disk = disk_used g.D.Disk.contents g.D.Disk.may_leave g.D.Disk.moment g.D.Disk.left_since g.D.Disk.fault_count c.args.disk.now c.args.disk.now in
-    let keeper = keeper_used g.K.Keeper.state c.args.keeper.now c.args.keeper.now in
-    let waves = g.G.Sources.waves c.args.signals in
-    let failed = Rose (g.F.Files.state c.args.files.now).faults (g.F.Files.state c.ask_locally.new.files).faults in
-    let out = g.S.Sink.state c.args.out.now in
-    let out_new = g.S.Sink.state c.ask_locally.new.out in
-    let wire = (g.W.Wire.state c.args.wire.now).history in
-    let what = c.in-Ask.what in
-    let client = c.in-Ask.client in
-    let link = link_used g.L.Link.tells g.L.Link.state c.args.link.now c.args.link.now in
-    let u = uses out out_new wire wire link disk keeper in
-    runs_of_task held waves c.args.task.now (task.Ask what client) failed c.ask_locally.result u c.in-Ask.is
-    (runs_of_peer held waves what client (peer.Local c.in-Local.description) failed c.ask_locally.result u c.in-Local.is
-    (file_as_run CallsLocally (λ x. EndsLocalCall x c.ask_locally.result out out_new) (Unit {0}) held
-    (λ files. verdict_of_file (verdict_of_local waves what client) (bytes_of files c.in-Local.description)) failed c.ask_locally.result u
-    (λ t. refl) (λ x h. h) c.ask_locally.ensures.ends))
-
-pub returns-in-To-clause-before_run : goal.returns-in-To-clause-before_run
-returns-in-To-clause-before_run g c = λ before. absurd
-    (call_not_before (calling (own_address c.in-Ask.client) (asked_address c.in-To.net c.in-Ask.client) (call_asked c.in-Ask.what) c.in-To.to)
-    c.ask_over_link.result
-    (g.S.Sink.state c.args.out.now) (g.S.Sink.state c.ask_over_link.new.out)
-    (link_used g.L.Link.tells g.L.Link.state c.args.link.now c.ask_over_link.new.link)
-    c.ask_over_link.ensures.ends before)
+    let link = link_used g.L.Link.tells g.L.Link.state c.args.link.now c.ask.new.link in
+    runs_of_task held waves c.args.task.now (task.Ask c.in-Ask.what c.in-Ask.client) failed c.ask.result
+    (uses (g.S.Sink.state c.args.out.now) (g.S.Sink.state c.ask.new.out) wire wire link disk keeper) c.in-Ask.is
+    (asks_as_run held waves c.in-Ask.what c.in-Ask.client c.in-Ask.client.peer failed c.ask.result
+    (g.S.Sink.state c.args.out.now) (g.S.Sink.state c.ask.new.out) wire link disk keeper c.ask.ensures.ends)
 
 pub returns-in-Keep-clause-ends : goal.returns-in-Keep-clause-ends
 returns-in-Keep-clause-ends g c =
