@@ -15,7 +15,8 @@ use Rattle.run_tasks.specs.declared.file_task.FileTask.{FileTask}
 use Rattle.run_tasks.specs.declared.file_task.FileTask.TheVariants as file_task
 use Rattle.run_tasks.specs.declared.outcome.Outcome.{Outcome}
 use Rattle.file_run.specs.declared.scripted.Scripted.{Scripted}
-use Rattle.run_tasks.specs.Verdict.{Verdict, Play, verdict_of_file, verdict_of_lines, verdict_of_script, verdict_of_described, verdict_of_both, verdict_of_load, verdict_of_file_task}
+use Rattle.run_tasks.specs.Verdict.{Verdict, Play, verdict_of_file, verdict_of_lines, verdict_of_script, verdict_of_described, verdict_of_both}
+use Rattle.run_tasks.specs.Verdict.{verdict_of_load, verdict_of_file_task}
 use Rattle.run_tasks.specs.Outcomes.{IsOutcome, Decides, HasBytes}
 use Rattle.file_run.specs.FileOutcomes.{IsScriptOf, GivesScript, GivesBoth}
 use Rattle.run_tasks.specs.Readings.{OverFile, OverFiles}

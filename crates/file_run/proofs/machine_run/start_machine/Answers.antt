@@ -21,5 +21,6 @@ returns-in-Err-clause-ends g c = λ x stands.
     let out_new = g.S.Sink.state c.start_and_tell.new.out in
     let wire_new = (g.W.Wire.state c.start_and_tell.new.wire).history in
     not_started_so _
-    (λ (between : SinkState) (started : WireHistory). RunsMachine g.M.Counting.steps g.M.Counting.counts x c.args.events c.in-Err.status between out_new started wire_new)
+    (λ (between : SinkState) (started : WireHistory).
+    RunsMachine g.M.Counting.steps g.M.Counting.counts x c.args.events c.in-Err.status between out_new started wire_new)
     c.in-Err.status (g.S.Sink.state c.args.out.now) out_new (g.W.Wire.state c.args.wire.now).history wire_new c.in-Err.ensures.err

@@ -48,7 +48,8 @@ returns-in-Ok-Err-clause-ends g c =
     let out_new = g.S.Sink.state c.print_outcome.new.out in
     let wire = (g.W.Wire.state c.args.wire.now).history in
     ends_as_told Serves (λ x. EndsService x c.print_outcome.result out out_new wire wire) (wire ≡ wire) (g.F.Files.state c.args.files.now).held
-    (λ files. verdict_of_file (verdict_of_service (length waves) OfRelay c.args.description.now c.args.listen.now c.args.events) (bytes_of files c.args.description.now))
+    (λ files. verdict_of_file (verdict_of_service (length waves) OfRelay c.args.description.now c.args.listen.now c.args.events)
+    (bytes_of files c.args.description.now))
     (Rose (g.F.Files.state c.args.files.now).faults (g.F.Files.state c.read_description.new.files).faults) c.in-Ok-Err.told c.print_outcome.result
     out out_new refl c.print_outcome.ensures
     (rw (c.in-Ok-Err.field-0-is, c.count.ensures) at
