@@ -14,7 +14,8 @@ what `rt check` kept on this machine of the same crates, so check them first.
 With --by, edits of different functions are made together in a scratch copy, and `COMMAND NAME --only FUNCTION ..` is called there by the shell: as the check of
 one function rests on the contracts of others and not on their bodies, one call tries many edits. The command says of each function of the crate, as `rattle
 check` does, whether it is proved. An edit of which that call says nothing of its own is tried once more, alone; one outside of functions is tried by
-`COMMAND NAME`. Where WRONG_LOGS names a folder, what was printed is written there, and a file NAME.txt with a line an edit.
+`COMMAND NAME`. Where WRONG_LOGS names a folder, what was printed is written there, and a file NAME.txt with a line an edit; what such a file tells as refused
+is not tried again.
 
 It prints for each crate which edits the prover refuses, which are still proved (a contract is too weak there, or the edit means the same as before), which no
 longer apply or can't be read, and which were not tried. The status is 0 where all are refused.
@@ -110,7 +111,8 @@ def function_at(crate, file, old):
         if not blocks:
             return None
         trait, name = blocks[-1]
-        names.append(f"{name}+{trait}" if trait else name)
+        # a check names a method by the module of its type, which may be another: the end of the name suffices
+        names = [f"{name}+{trait}" if trait else name]
     return "::".join(names + [head[2]])
 
 
@@ -131,9 +133,9 @@ def word_of(status, said, crate, functions):
         return "NOT TRIED (it did not end in time)"
     lines = dict(re.findall(rf"^fn {crate}::(\S+): (.*)", said, re.MULTILINE))
     if functions is None:
-        bad = sorted(name for name, line in lines.items() if line != "proved")
+        bad = sorted(name for name, line in lines.items() if line != "proved") or re.findall(r"^\./proofs/\S*?(\w+)\.antt:[\d:]+ error: `", said, re.MULTILINE)[:1]
         return f"refused ({' '.join(bad)})" if bad else "NOT REFUSED" if status == 0 else None
-    told = [lines.get(name) for name in functions]
+    told = [next((line for full, line in lines.items() if full == name or full.endswith("::" + name)), None) for name in functions]
     # one that is not proved since it calls such a one, and for no goal of its own, is told nothing of
     if any(line and line != "proved" and ("did not prove" in line or "it calls" not in line) for line in told):
         return f"refused ({' '.join(sorted(functions))})"
@@ -172,6 +174,15 @@ def one_round(command, crate, edits, room, logs):
     return {it: word_of(status, text, crate, functions[it]) for it in edits}
 
 
+def refused_before(name, logs):
+    """What a folder of logs tells as refused: edits and what was said of them."""
+    path = f"{logs}/{name}.txt"
+    if not logs or not os.path.isfile(path):
+        return {}
+    with open(path, encoding="utf-8") as it:
+        return dict(re.findall(rf"^{name}/(\S+): (refused.*)$", it.read(), re.MULTILINE))
+
+
 def tried_by(command, name, logs):
     """Tries the edits of a crate by a command."""
     said = {}
@@ -186,8 +197,11 @@ def tried_by(command, name, logs):
 
     with tempfile.TemporaryDirectory(prefix="wrong-bodies-") as room:
         scratch(room)
-        left = []
+        left, before = [], refused_before(name, logs)
         for edit in edits_of(name):
+            if edit in before:
+                said[name, edit] = before[edit]
+                continue
             why = why_not(f"crates/{name}/wrong-bodies/{edit}.edit", name)
             if why:
                 tell(edit, f"BAD EDIT ({why})")
