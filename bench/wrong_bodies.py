@@ -112,7 +112,7 @@ def function_at(crate, file, old):
             return None
         trait, name = blocks[-1]
         # a check names a method by the module of its type, which may be another: the end of the name suffices
-        names = [f"{name}+{trait}" if trait else name]
+        names = [f"{name}{trait or ''}"]
     return "::".join(names + [head[2]])
 
 
