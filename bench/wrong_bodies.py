@@ -107,7 +107,7 @@ def function_at(crate, file, old):
     if names and names[-1] == "mod":
         names = names[:-1]
     if head[1]:
-        blocks = re.findall(r"^impl(?:<.*?>)? +(?:(\w+)(?:<[^{]*?>)? for )?&?(?:mut )?(\w+)", text[: head.start()], re.MULTILINE)
+        blocks = re.findall(r"^impl(?:<.*?>)? +(?:(?:\w+::)*(\w+)(?:<[^{]*?>)? for )?&?(?:mut )?(\w+)", text[: head.start()], re.MULTILINE)
         if not blocks:
             return None
         trait, name = blocks[-1]
