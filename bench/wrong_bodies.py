@@ -112,7 +112,7 @@ def function_at(crate, file, old):
             return None
         trait, name = blocks[-1]
         # a check names a method by the module of its type, which may be another: the end of the name suffices
-        names = [f"{name}{trait or ''}"]
+        names = [f"{name[0].upper()}{name[1:]}{trait or ''}"]
     return "::".join(names + [head[2]])
 
 
@@ -120,7 +120,8 @@ def functions_of(crate, edit):
     """The functions that an edit changes; None if it changes anything else."""
     found = set()
     for file, old, _ in pairs_of(edit):
-        name = function_at(crate, file, old) if file.startswith("src/") else None
+        is_clause = old.lstrip().startswith(("ensures", "requires"))  # who calls it is proved by it
+        name = function_at(crate, file, old) if file.startswith("src/") and not is_clause else None
         if name is None:
             return None
         found.add(name)
