@@ -3,7 +3,8 @@
 
     python3 bench/killed.py PROGRAM [--times 1000] [--ticks 40] [--seed 1]
 
-PROGRAM is the built `ads`. Each run writes a persistent symbol before each tick, so each tick saves; a reader looks at the file all the while. What stands is to be a body of the run by
+PROGRAM is the built `ads`. Each run writes a persistent symbol before each tick, so each tick saves; again and again it is stopped, and a
+reader looks at the file. What stands is to be a body of the run by
 the model (bench/store.py) or what stood before, never one that is older than what was seen standing, and a run that ends prints what the model says. The last run of each ten is let
 through. Killing a process leaves what it wrote to the system: what a loss of power leaves is proved of the model of a disk, and not tried here.
 """
@@ -47,6 +48,19 @@ class Differs(Exception):
     pass
 
 
+def is_stopped(process):
+    """Waits until it is stopped; False where it has ended."""
+    while True:
+        try:
+            with open(f"/proc/{process.pid}/stat", errors="replace") as it:
+                state = it.read().rpartition(")")[2].split()[0]
+        except OSError:
+            return False
+        if state in "TZX":
+            return state == "T"
+        time.sleep(0.0001)
+
+
 def try_once(program, folder, r, ticks, let_through):
     """One run; how it ended, and how many of its bodies had come to stand."""
     path, events = os.path.join(folder, "store"), script_of(r, ticks)
@@ -59,10 +73,12 @@ def try_once(program, folder, r, ticks, let_through):
     process = subprocess.Popen([program, "keep", "plant.toml", "it.script", "store"], cwd=folder, stdout=subprocess.PIPE, stderr=subprocess.DEVNULL)
     ends, seen = time.monotonic() + r.random() * try_once.lasts, 0
     while process.poll() is None and (let_through or time.monotonic() < ends):
-        # What is read while it is written may be one slot before a save and the other behind it.
-        given = read(path)
-        if given == read(path):
-            seen = newest(given, stood, places, seen)
+        # It is stopped meanwhile: a file of a MiB that is read while it is written shows one slot before a save and the other behind it.
+        process.send_signal(signal.SIGSTOP)
+        if is_stopped(process):
+            seen = newest(read(path), stood, places, seen)
+        process.send_signal(signal.SIGCONT)
+        time.sleep(r.random() * 0.002)
     killed = process.poll() is None
     if killed:
         process.send_signal(signal.SIGKILL)
