@@ -10,6 +10,7 @@ pub mod FilesState
 pub mod SinkState
 pub mod Opened
 pub mod WireState
+pub mod Wholes
 pub mod WireAnswers
 pub mod MemWire
 pub mod LinkState

@@ -1,5 +1,6 @@
 -- What each answer of a wire says of its state.
-use Rattle.std.specs.Prelude.{◌≡◌, ℕ, ◌≤◌, List, length, take, IsTrue}
+use Rattle.std.specs.Prelude.{◌≡◌, ℕ, ◌≤◌, List, length, take, IsTrue, Bool, true, false}
+use Rattle.std.specs.List.{concat}
 use Rattle.ads_outside.specs.declared.listening.Listening.{Listening}
 use Rattle.ads_outside.specs.declared.moves.Move.TheVariants as move
 use Rattle.ads_outside.specs.declared.next.Next.{Next}
@@ -12,7 +13,8 @@ use Rattle.ads_outside.specs.declared.started.Started.{Started}
 use Rattle.ads_outside.specs.declared.started.Started.TheVariants as started
 use Rattle.ads_outside.specs.Opened.{is_new}
 use Rattle.ads_outside.specs.Rose.{Rose}
-use Rattle.ads_outside.specs.WireState.{WireState, WireHistory, logged, event_given, end_answered, listened}
+use Rattle.ads_outside.specs.Wholes.{wholes}
+use Rattle.ads_outside.specs.WireState.{WireState, WireHistory, logged, event_given, end_answered, listened, history_after}
 
 -- a start or a next event failed: both counts rose, and all else is as this history
 pub record Stops (old new : WireState) (rest : WireHistory) : Type 0 where
@@ -46,6 +48,13 @@ Takes (offer.Took n) old new c bytes = (n ≤ length bytes)
 Takes offer.Failed old new c bytes =
     (new.history ≡ logged (move.Lost c) old.history) × Rose old.faults new.faults
 Takes offer.Memory old new c bytes = Wants old new
+
+-- Whatever frames stand one behind another in a run, each is taken whole by an offer of its own; or nothing changed. Which frames
+-- they are is not said, so a wire that tells its log takes no run.
+abbrev pub TakesRun : Bool → WireState → WireState → ℕ → List ℕ → Type 0
+TakesRun true old new c run =
+    (frames : List (List ℕ)) → concat frames ≡ run → new.history ≡ history_after old.history (wholes c frames)
+TakesRun false old new c run = new ≡ old
 
 -- a connection is shut, or nothing changed
 abbrev pub Shuts : Shut → WireState → WireState → ℕ → Type 0

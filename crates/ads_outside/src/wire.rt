@@ -7,7 +7,7 @@ use crate::{Next, Offer, Shut, Started};
 /// Connections and a clock: events come from it, and connections take bytes. It may tell its log and what it was
 /// started with; real sockets do not.
 pub trait Wire {
-    ghost use Rattle.ads_outside.specs.WireAnswers.{Starts, Gives, Takes, Shuts};
+    ghost use Rattle.ads_outside.specs.WireAnswers.{Starts, Gives, Takes, TakesRun, Shuts};
     ghost use Rattle.ads_outside.specs.WireState.{WireState};
 
     /// What its calls led to, where that is told, how many of them failed, and in how many memory was wanting.
@@ -48,6 +48,19 @@ pub trait Wire {
         ensures kept { kept self.new ≡ kept self.old }
         ensures later { (state self.old).faults ≤ (state self.new).faults }
         ensures wanted { (state self.old).wants ≤ (state self.new).wants };
+
+    /// Offers frames that stand one behind another in these bytes, each by an offer of its own, where all of them are taken
+    /// whole at once. False where not, or where it has to be told which frames they are: then nothing has changed, and each is
+    /// to be offered by itself.
+    fn offer_run(&mut self, _conn: u32, _run: &[u8]) -> bool
+        requires { length _run.now < 2 ^ 32 }
+        ensures takes { TakesRun result (state self.old) (state self.new) _conn _run.now }
+        ensures kept { kept self.new ≡ kept self.old }
+        ensures later { (state self.old).faults ≤ (state self.new).faults }
+        ensures wanted { (state self.old).wants ≤ (state self.new).wants }
+    {
+        false
+    }
 
     /// Shuts a connection.
     fn shut(&mut self, conn: u32) -> Shut

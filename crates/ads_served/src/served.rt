@@ -1,7 +1,7 @@
 //! A machine that is served.
 
 ghost use denote.Param.Send.{IsSync};
-ghost use Rattle.std.specs.Prelude.{◌≡◌, ◌≤◌, ◌<◌, ℕ, List, length, Option, Some, None, OnOk, OnErr, IfOk, IfSome, IsErr};
+ghost use Rattle.std.specs.Prelude.{◌≡◌, ◌≤◌, ◌<◌, ℕ, List, length, Option, Some, None, OnOk, OnErr, IfOk, IfSome, IsSome, IsErr};
 ghost use Rattle.std.specs.Prelude.{option_copied};
 ghost use Rattle.ads_outside.specs.declared.event.Event.{Event as EventOf};
 ghost use Rattle.ads_outside.specs.declared.event.Event.TheVariants as event;
@@ -11,8 +11,10 @@ ghost use Rattle.spec_machine.specs.Connection.{MAX_QUEUED};
 ghost use Rattle.spec_machine.specs.MachineState.{MachineState};
 ghost use Rattle.spec_machine.specs.Moves.{EventStep};
 ghost use Rattle.spec_machine.specs.Running.{OpensNew, offer_at, is_to_be_shut_at};
-ghost use Rattle.ads_served.specs.Standing.{Standing, standing_after};
-ghost use Rattle.ads_served.specs.Due.{LeavesOutIdle, FitsOffer};
+ghost use Rattle.ads_outside.specs.Wholes.{wholes};
+ghost use Rattle.spec_machine.specs.Offers.{waiting_at};
+ghost use Rattle.ads_served.specs.Standing.{Standing, standing_after, standing_after_all};
+ghost use Rattle.ads_served.specs.Due.{LeavesOutIdle, FitsOffer, IsRun};
 ghost use Rattle.ads_served.specs.Opened.{AreApart, OpensAlone};
 
 use ads_base::{ListOf, NoMemory};
@@ -38,6 +40,9 @@ pub trait Served {
 
     /// What it offers to a connection.
     ghost offer_in: { Self → ℕ → Option (List ℕ) };
+
+    /// What it lends of all that waits for a connection.
+    ghost run_in: { Self → ℕ → Option (List ℕ) };
 
     /// How many offers to a connection are left at most.
     ghost offers_left: { Self → ℕ → ℕ };
@@ -79,6 +84,20 @@ pub trait Served {
         ensures follows { (x : Standing World Client) (left bytes : List ℕ) → serves self.old x → offer_in self.old conn ≡ Some left
             → length bytes ≡ n → serves self.new (standing_after steps noted x (move.Took conn (length left) bytes)) }
         ensures fewer { offers_left self.new conn < offers_left self.old conn }
+        ensures from_then_on { has_failed self.old → has_failed self.new };
+
+    /// All that waits for a connection in one run, one frame behind another; None where it is not there, nothing waits, or it
+    /// is blocked, and where what waits does not stand in one run.
+    fn run_of(&self, conn: u32) -> Option<&[u8]>
+        ensures run { option_copied result ≡ run_in self.now conn }
+        ensures machine { (x : Standing World Client) → serves self.now x → IfSome result (λ run. IsRun conn x.running run.now) }
+        ensures bound { IfSome result (λ run. length run.now ≤ MAX_QUEUED) };
+
+    /// All that waits for a connection was taken, each frame by an offer of its own.
+    fn took_run(&mut self, conn: u32)
+        requires { IsSome (run_in self.old conn) }
+        ensures follows { (x : Standing World Client) → serves self.old x
+            → serves self.new (standing_after_all steps noted x (wholes conn (waiting_at conn x.running.state))) }
         ensures from_then_on { has_failed self.old → has_failed self.new };
 
     /// Whether a connection that is there is to be shut.

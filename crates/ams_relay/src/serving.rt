@@ -1,6 +1,6 @@
 //! The relay as what a loop serves.
 
-ghost use Rattle.std.specs.Prelude.{◌≡◌, ℕ, List, OnOk};
+ghost use Rattle.std.specs.Prelude.{◌≡◌, ℕ, List, None, OnOk};
 ghost use Rattle.ads_outside.specs.declared.moves.Move.TheVariants as move;
 ghost use Rattle.spec_machine.specs.Running.{OpensNew};
 ghost use Rattle.ams_relay.specs.Relays.{RelayRunning, HoldsRunning, running_after_event};
@@ -30,6 +30,8 @@ impl Served for Relay {
     ghost serves = { StandsAt };
 
     ghost offer_in = { offer_in };
+
+    ghost run_in = { λ m c. None };
 
     ghost offers_left = { offers_in };
 
@@ -70,6 +72,12 @@ impl Served for Relay {
     fn took(&mut self, conn: u32, n: u32) {
         self.router.took(conn, n);
     }
+
+    fn run_of(&self, _conn: u32) -> Option<&[u8]> {
+        None
+    }
+
+    fn took_run(&mut self, _conn: u32) {}
 
     fn closing(&self, conn: u32) -> bool {
         self.router.closing(conn)

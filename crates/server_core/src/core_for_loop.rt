@@ -9,6 +9,7 @@ use std::alloc::Global;
 use std::thread::Threads;
 
 impl<S: Sources> Served for Core<S> {
+    ghost use Rattle.std.specs.Prelude.{None};
     ghost use Rattle.spec_machine.specs.RunText.{notes_of_event};
     ghost use Rattle.ads_served.proofs.DeviceEvents.{events_open_alone};
     ghost use Rattle.server_core.specs.Served as device;
@@ -25,6 +26,8 @@ impl<S: Sources> Served for Core<S> {
     ghost serves = { StandsAt };
 
     ghost offer_in = { offer_in };
+
+    ghost run_in = { λ m c. None };
 
     ghost offers_left = { offers_in };
 
@@ -51,6 +54,12 @@ impl<S: Sources> Served for Core<S> {
     fn took(&mut self, conn: u32, n: u32) {
         self.took(conn, n);
     }
+
+    fn run_of(&self, _conn: u32) -> Option<&[u8]> {
+        None
+    }
+
+    fn took_run(&mut self, _conn: u32) {}
 
     fn closing(&self, conn: u32) -> bool {
         self.closing(conn)
