@@ -1,6 +1,5 @@
 -- Which connections of a running machine have something to be offered, or are to be shut.
 use Rattle.std.specs.Prelude.{◌≡◌, ℕ, ◌≤◌, List, length, filter, Bool, false, ◌||◌, is_some, Option, Some, None}
-use Rattle.std.specs.List.{concat}
 use Rattle.spec_machine.specs.MachineState.{present_numbers}
 use Rattle.spec_machine.specs.Offers.{waiting_at, is_among}
 use Rattle.spec_machine.specs.Running.{Running, offer_at, is_to_be_shut_at}
@@ -10,10 +9,10 @@ abbrev pub FitsOffer : ℕ → Option (List ℕ) → Type 0
 FitsOffer n None = ⊥
 FitsOffer n (Some left) = n ≤ length left
 
--- all that waits for a connection, one frame behind another, and it is not blocked
-pub record IsRun {W C : Type 0} (c : ℕ) (x : Running W C) (run : List ℕ) : Type 0 where
+-- these frames are all that waits for a connection, and it is not blocked
+pub record IsRun {W C : Type 0} (c : ℕ) (x : Running W C) (frames : List (List ℕ)) : Type 0 where
   pub free : is_among c x.blocked ≡ false
-  pub waits : concat (waiting_at c x.state) ≡ run
+  pub waits : waiting_at c x.state ≡ frames
 
 -- nothing is offered to a connection, and it is not to be shut
 pub record IsIdle {W C : Type 0} (x : Running W C) (c : ℕ) : Type 0 where

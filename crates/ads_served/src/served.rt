@@ -2,7 +2,8 @@
 
 ghost use denote.Param.Send.{IsSync};
 ghost use Rattle.std.specs.Prelude.{◌≡◌, ◌≤◌, ◌<◌, ℕ, List, length, Option, Some, None, OnOk, OnErr, IfOk, IfSome, IsSome, IsErr};
-ghost use Rattle.std.specs.Prelude.{option_copied};
+ghost use Rattle.std.specs.Prelude.{option_copied, option_map};
+ghost use Rattle.std.specs.List.{concat};
 ghost use Rattle.ads_outside.specs.declared.event.Event.{Event as EventOf};
 ghost use Rattle.ads_outside.specs.declared.event.Event.TheVariants as event;
 ghost use Rattle.ads_outside.specs.declared.moves.Move.TheVariants as move;
@@ -12,7 +13,6 @@ ghost use Rattle.spec_machine.specs.MachineState.{MachineState};
 ghost use Rattle.spec_machine.specs.Moves.{EventStep};
 ghost use Rattle.spec_machine.specs.Running.{OpensNew, offer_at, is_to_be_shut_at};
 ghost use Rattle.ads_outside.specs.Wholes.{wholes};
-ghost use Rattle.spec_machine.specs.Offers.{waiting_at};
 ghost use Rattle.ads_served.specs.Standing.{Standing, standing_after, standing_after_all};
 ghost use Rattle.ads_served.specs.Due.{LeavesOutIdle, FitsOffer, IsRun};
 ghost use Rattle.ads_served.specs.Opened.{AreApart, OpensAlone};
@@ -41,8 +41,8 @@ pub trait Served {
     /// What it offers to a connection.
     ghost offer_in: { Self → ℕ → Option (List ℕ) };
 
-    /// What it lends of all that waits for a connection.
-    ghost run_in: { Self → ℕ → Option (List ℕ) };
+    /// The frames that it lends in one run.
+    ghost run_in: { Self → ℕ → Option (List (List ℕ)) };
 
     /// How many offers to a connection are left at most.
     ghost offers_left: { Self → ℕ → ℕ };
@@ -89,15 +89,16 @@ pub trait Served {
     /// All that waits for a connection in one run, one frame behind another; None where it is not there, nothing waits, or it
     /// is blocked, and where what waits does not stand in one run.
     fn run_of(&self, conn: u32) -> Option<&[u8]>
-        ensures run { option_copied result ≡ run_in self.now conn }
-        ensures machine { (x : Standing World Client) → serves self.now x → IfSome result (λ run. IsRun conn x.running run.now) }
+        ensures run { option_copied result ≡ option_map concat (run_in self.now conn) }
+        ensures machine { (x : Standing World Client) (frames : List (List ℕ)) → serves self.now x → run_in self.now conn ≡ Some frames
+            → IsRun conn x.running frames }
         ensures bound { IfSome result (λ run. length run.now ≤ MAX_QUEUED) };
 
     /// All that waits for a connection was taken, each frame by an offer of its own.
     fn took_run(&mut self, conn: u32)
         requires { IsSome (run_in self.old conn) }
-        ensures follows { (x : Standing World Client) → serves self.old x
-            → serves self.new (standing_after_all steps noted x (wholes conn (waiting_at conn x.running.state))) }
+        ensures follows { (x : Standing World Client) (frames : List (List ℕ)) → serves self.old x → run_in self.old conn ≡ Some frames
+            → serves self.new (standing_after_all steps noted x (wholes conn frames)) }
         ensures from_then_on { has_failed self.old → has_failed self.new };
 
     /// Whether a connection that is there is to be shut.
