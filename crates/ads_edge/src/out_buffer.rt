@@ -1,6 +1,6 @@
 //! What was taken for a peer and is still to be sent.
 
-ghost use Rattle.std.specs.Prelude.{◌≡◌, ◌≤◌, ◌==◌, ◌++◌, [], length, take, drop, min, vec_len, nat_lt, IfOk, OnErr};
+ghost use Rattle.std.specs.Prelude.{◌≡◌, ◌≤◌, ◌==◌, ◌++◌, [], length, take, drop, min, vec_len, nat_lt, true, false, IfOk, OnErr};
 
 use ads_base::NoMemory;
 use std::alloc::Global;
@@ -61,6 +61,19 @@ impl OutBuffer {
         let n = bytes.len().min(OUT_ROOM.saturating_sub(self.bytes.len()));
         self.bytes.extend_from_slice(&bytes[..n])?;
         Ok(n)
+    }
+
+    /// Takes all of these bytes; false where there is no room for all, or no memory, and then nothing has changed.
+    #[inline(always)]
+    pub(crate) fn put_all(&mut self, bytes: &[u8]) -> bool
+        ensures taken { result ≡ true → waiting self.new ≡ waiting self.old ++ bytes.now }
+        ensures room { result ≡ true → length bytes.now ≤ room_left self.old }
+        ensures refused { result ≡ false → waiting self.new ≡ waiting self.old }
+    {
+        if bytes.len() > OUT_ROOM.saturating_sub(self.bytes.len()) {
+            return false;
+        }
+        self.bytes.extend_from_slice(bytes).is_ok()
     }
 
     /// So many first bytes were sent.

@@ -190,6 +190,34 @@ impl Peers {
         }
     }
 
+    /// Offers a run of bytes to a connection, which takes all of them without a sending; false where it is not served, there is
+    /// no room for all, or no memory, and then nothing has changed.
+    #[inline(always)]
+    pub(crate) fn offer_run(&mut self, number: u32, run: &[u8]) -> bool
+        ensures refused { result ≡ false → self.new.to_send.items ≡ self.old.to_send.items }
+    {
+        let Some(place) = self.place_of(number) else {
+            return false;
+        };
+        let Some(connection) = self.connections.get_mut(place) else {
+            return false;
+        };
+        match connection.stage {
+            Stage::Served => {}
+            Stage::Failed | Stage::Leaving | Stage::Parting => return false,
+        }
+        if connection.to_send {
+            return connection.out.put_all(run);
+        }
+        // Its place in the queue is there before the bytes are taken.
+        if self.to_send.reserve(1).is_err() || !connection.out.put_all(run) {
+            return false;
+        }
+        connection.to_send = true;
+        self.to_send.push_back_reserved(number);
+        true
+    }
+
     /// The server is done with a connection: what waits for it is still sent.
     pub(crate) fn shut(&mut self, number: u32) -> Result<(), NoMemory>
         ensures to_read { self.new.to_read.items ≡ self.old.to_read.items }

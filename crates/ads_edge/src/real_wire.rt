@@ -153,6 +153,14 @@ impl<R: Net + Clock + SystemFiles + Drop> Wire for RealWire<R> {
         }
     }
 
+    #[tactic(auto, using(crate::proofs::RunLemmas::takes_run))]
+    fn offer_run(&mut self, conn: u32, run: &[u8]) -> bool {
+        match &mut self.sockets {
+            Some(sockets) => sockets.offer_run(conn, run),
+            None => false,
+        }
+    }
+
     fn shut(&mut self, conn: u32) -> Shut {
         let shut = match &mut self.sockets {
             Some(sockets) => sockets.shut(conn),

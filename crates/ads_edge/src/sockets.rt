@@ -101,6 +101,12 @@ impl Sockets {
         self.peers.offer(number, bytes)
     }
 
+    /// Offers a run of bytes to a connection; false where not all of them are taken at once, and then nothing has changed.
+    #[inline(always)]
+    pub(crate) fn offer_run(&mut self, number: u32, run: &[u8]) -> bool {
+        self.peers.offer_run(number, run)
+    }
+
     /// The server is done with a connection: what waits for it is still sent.
     pub(crate) fn shut(&mut self, number: u32) -> Result<(), NoMemory> {
         self.peers.shut(number)

@@ -1,5 +1,6 @@
 pub mod LeadLemmas
 pub mod OfferLemmas
+pub mod RunLemmas
 pub mod ServeLemmas
 pub mod PresentLemmas
 pub mod RoundLemmas

@@ -3,8 +3,8 @@
 ghost use Rattle.std.specs.Prelude.{◌≡◌, ◌≤◌, ◌<◌, IfOk, OnErr};
 ghost use Rattle.ads_outside.specs.Rose.{Rose};
 ghost use Rattle.ads_outside.specs.WireAnswers.{Wants};
-ghost use Rattle.serve_loop.specs.Leads.{Breaks};
-ghost use Rattle.serve_loop.specs.Serving.{AfterOffer, AfterOffers};
+ghost use Rattle.serve_loop.specs.Leads.{Breaks, Leads};
+ghost use Rattle.serve_loop.specs.Serving.{AfterOffer, AfterOffers, Begins};
 
 use ads_base::NoMemory;
 use ads_outside::{Offer, Wire};
@@ -37,12 +37,29 @@ pub(crate) fn offer_all<W: Wire, M: Served>(
     ensures wanted { (W.state wire.old).wants ≤ (W.state wire.new).wants }
     ensures memory { OnErr result (Rose (W.state wire.old).wants (W.state wire.new).wants) }
 {
+    offer_run(served, wire, conn);
     loop {
         match offer_one(served, wire, conn)? {
             Offered::Taken => {}
             Offered::Lost => return Ok(true),
             Offered::Nothing => return Ok(false),
         }
+    }
+}
+
+// All that waits is offered in one run; where that is not taken, or there is no run, nothing has changed.
+fn offer_run<W: Wire, M: Served>(served: &mut M, wire: &mut W, conn: u32)
+    ensures led { Leads M.steps M.noted (M.serves served.old) (M.serves served.new)
+        (W.state wire.old).history (W.state wire.new).history 0 (Begins M.steps conn) }
+    ensures kept { W.kept wire.new ≡ W.kept wire.old }
+    ensures later { (W.state wire.old).faults ≤ (W.state wire.new).faults }
+    ensures wanted { (W.state wire.old).wants ≤ (W.state wire.new).wants }
+{
+    let Some(run) = served.run_of(conn) else {
+        return;
+    };
+    if wire.offer_run(conn, run) {
+        served.took_run(conn);
     }
 }
 

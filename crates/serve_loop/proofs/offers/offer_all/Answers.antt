@@ -1,17 +1,17 @@
--- One offer behind others.
-use Rattle.std.proofs.Common.{refl, ◌∙◌}
-use Rattle.std.proofs.Math.Nat.{le_refl, le_trans}
-use Rattle.serve_loop.proofs.LeadLemmas.{leads_nowhere, leads_then, breaks_here, on_err}
-use Rattle.serve_loop.proofs.ServeLemmas.{begins_nothing, begins_begins, begins_ends, begins_all}
+-- One offer behind a run and others.
+use Rattle.std.proofs.Common.{◌∙◌}
+use Rattle.std.proofs.Math.Nat.{le_trans}
+use Rattle.serve_loop.proofs.LeadLemmas.{leads_then, breaks_here, on_err}
+use Rattle.serve_loop.proofs.ServeLemmas.{begins_begins, begins_ends, begins_all}
 use Rattle.serve_loop.proofs.WantLemmas.{rose_later}
 use Rattle.serve_loop.proofs.offers.offer_all.Goals as goal
 
 pub loop-init : goal.loop-init
 loop-init g c = record {
-  led = leads_nowhere _ _ _ _ _ _ _ refl (λ x serves. serves) (λ x serves. begins_nothing _ _ x.running);
-  kept = refl;
-  later = le_refl _;
-  wanted = le_refl _;
+  led = c.offer_run.ensures.led;
+  kept = c.offer_run.ensures.kept;
+  later = c.offer_run.ensures.later;
+  wanted = c.offer_run.ensures.wanted;
 }
 
 pub returns-in_err-offer_one-clause-no_memory : goal.returns-in_err-offer_one-clause-no_memory
