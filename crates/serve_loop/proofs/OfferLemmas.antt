@@ -1,13 +1,11 @@
 -- One offer to a connection, and the end of its offers.
 use Rattle.std.proofs.Common.{◌≡◌, ℕ, ◌≤◌, List, [], ◌∷◌, ◌++◌, length, take, true, false, refl, sym, ap, ◌∙◌, subst, inl, inr}
-use Rattle.std.specs.Prelude.{Bool, ◌⊎◌, Option, Some, None, if◌then◌else◌}
+use Rattle.std.specs.Prelude.{Bool, ◌⊎◌, Some, None, if◌then◌else◌}
 use Rattle.ads_outside.specs.declared.moves.Move.{Move}
 use Rattle.ads_outside.specs.declared.moves.Move.TheVariants as move
-use Rattle.spec_machine.specs.Connection.{Connection, connection_of}
 use Rattle.spec_machine.specs.Delivery.{AreOffers}
-use Rattle.spec_machine.specs.MachineState.{MachineState}
-use Rattle.spec_machine.specs.Moves.{EventStep, state_after_move, state_after}
-use Rattle.spec_machine.specs.Offers.{waiting_at, is_gone_at, is_among, blocked_after, blocked_after_move}
+use Rattle.spec_machine.specs.Moves.{EventStep, state_after}
+use Rattle.spec_machine.specs.Offers.{waiting_at, is_among, blocked_after, blocked_after_move}
 use Rattle.spec_machine.specs.Running.{Running, offer_at, first_frame}
 use Rattle.spec_machine.specs.Turns.{IsOffer, IsServed, Serves}
 use Rattle.spec_machine.proofs.Changes.{state_after-append}
