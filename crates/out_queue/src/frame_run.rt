@@ -1,6 +1,7 @@
 //! Frames one behind the other in one run of bytes.
 
 ghost use Rattle.std.specs.Prelude.{◌≡◌, ◌<◌, ◌≤◌, ◌↔◌, ◌^◌, [], ◌∷◌, ◌++◌, length, drop, Some, IfSome, IsNone, OnOk, OnErr};
+ghost use Rattle.std.specs.List.{concat};
 ghost use Rattle.out_queue.specs.Queue.{front_of};
 
 use ads_base::NoMemory;
@@ -69,6 +70,24 @@ impl FrameRun {
     {
         let len = *self.lens.front()?;
         Some(&self.bytes[self.gone..self.gone + len as usize])
+    }
+
+    // All frames, one behind the other.
+    #[inline(always)]
+    pub(crate) fn all(&self) -> &[u8]
+        ensures { concat self.now ≡ result.now }
+    {
+        &self.bytes[self.gone..]
+    }
+
+    // All frames are gone.
+    pub(crate) fn clear(&mut self)
+        ensures { self.new ≡ [] }
+    {
+        self.lens.clear();
+        self.bytes.clear();
+        self.bytes.shrink_to(MOST_SPARE);
+        self.gone = 0;
     }
 
     // The first frame is gone. No other byte moves.

@@ -92,6 +92,25 @@ impl OutQueue {
         Some(&frame[self.taken..])
     }
 
+    /// All that waits, one frame behind another.
+    pub fn run(&self) -> Option<&[u8]>
+        ensures empty { IsNone result ↔ (self.now ≡ []) }
+        ensures all { IfSome result (λ run. concat self.now ≡ run.now) }
+        ensures bound { IfSome result (λ run. length run.now ≤ QUEUE_LIMIT) }
+    {
+        let _ = self.frames.front()?;
+        Some(&self.frames.all()[self.taken..])
+    }
+
+    /// All that waits was taken.
+    pub fn clear(&mut self)
+        ensures { self.new ≡ [] }
+    {
+        self.frames.clear();
+        self.taken = 0;
+        self.bytes = 0;
+    }
+
     /// Takes bytes of the first frame, which is gone once it is taken whole. No other byte moves.
     pub fn took(&mut self, n: u32)
         requires { FitsFront n self.old }
