@@ -16,6 +16,7 @@ pub mod NumbersDue
 pub mod Forgotten
 pub mod OpenLemmas
 pub mod WaitLemmas
+pub mod RunLemmas
 pub mod PieceLemmas
 pub mod DeliverLemmas
 pub mod CoreLemmas

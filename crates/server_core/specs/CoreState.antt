@@ -1,5 +1,5 @@
 -- What a core stands for: a state of the machine that it serves, and the connections that are blocked.
-use Rattle.std.specs.Prelude.{List, []}
+use Rattle.std.specs.Prelude.{List, [], ◌∷◌}
 use Rattle.signals.specs.Wave.{Wave}
 use Rattle.ads_outside.specs.declared.event.Event.{Event}
 use Rattle.ads_outside.specs.declared.moves.Move.{Move}
@@ -19,6 +19,10 @@ started description signals = record { state = server_start description signals;
 
 abbrev pub after_move : CoreState → Move → CoreState
 after_move x m = running_after served_step x m
+
+abbrev pub after_moves : CoreState → List Move → CoreState
+after_moves x [] = x
+after_moves x (m ∷ ms) = after_moves (after_move x m) ms
 
 abbrev pub after_event : CoreState → Event → CoreState
 after_event x e = after_move x (move.Event e)

@@ -14,7 +14,7 @@ use Rattle.server_core.specs.Counts.{counts_in}
 use Rattle.server_core.specs.ConnStands.{Stands}
 use Rattle.server_core.specs.HoldsWorld.{HoldsState}
 use Rattle.server_core.specs.CoreState.{CoreState}
-use Rattle.server_core.specs.Places.{offer_among, offers_among}
+use Rattle.server_core.specs.Places.{offer_among, run_among, offers_among}
 
 -- what a core is: what it serves, the waves of its signals, and whether memory was wanting
 pub record CoreView : Type 0 where
@@ -99,6 +99,10 @@ HasFailed core = core.failed ≡ true
 -- what the core offers to a connection
 abbrev pub offer_in : CoreView → ℕ → Option (List ℕ)
 offer_in core c = offer_among core.server.entries c
+
+-- the frames that the core lends of a connection in one run
+abbrev pub run_in : CoreView → ℕ → Option (List (List ℕ))
+run_in core c = run_among core.server.entries c
 
 -- how many offers are left to a connection at most
 abbrev pub offers_in : CoreView → ℕ → ℕ

@@ -9,11 +9,10 @@ use std::alloc::Global;
 use std::thread::Threads;
 
 impl<S: Sources> Served for Core<S> {
-    ghost use Rattle.std.specs.Prelude.{None};
     ghost use Rattle.spec_machine.specs.RunText.{notes_of_event};
     ghost use Rattle.ads_served.proofs.DeviceEvents.{events_open_alone};
     ghost use Rattle.server_core.specs.Served as device;
-    ghost use Rattle.server_core.specs.Serves.{StandsAt, HasFailed, offer_in, offers_in};
+    ghost use Rattle.server_core.specs.Serves.{StandsAt, HasFailed, offer_in, run_in, offers_in};
 
     ghost World = { device.World };
 
@@ -27,7 +26,7 @@ impl<S: Sources> Served for Core<S> {
 
     ghost offer_in = { offer_in };
 
-    ghost run_in = { λ m c. None };
+    ghost run_in = { run_in };
 
     ghost offers_left = { offers_in };
 
@@ -55,11 +54,13 @@ impl<S: Sources> Served for Core<S> {
         self.took(conn, n);
     }
 
-    fn run_of(&self, _conn: u32) -> Option<&[u8]> {
-        None
+    fn run_of(&self, conn: u32) -> Option<&[u8]> {
+        self.run_of(conn)
     }
 
-    fn took_run(&mut self, _conn: u32) {}
+    fn took_run(&mut self, conn: u32) {
+        self.took_run(conn);
+    }
 
     fn closing(&self, conn: u32) -> bool {
         self.closing(conn)

@@ -1,22 +1,24 @@
 //! The core: the machine over the connections that are there.
 
-ghost use Rattle.std.specs.Prelude.{◌≡◌, ◌≤◌, ◌<◌, ◌^◌, ◌++◌, [], ℕ, List, length, filter, slice_get, IfOk, OnOk, OnErr, IfSome, IsErr, Some, option_copied};
+ghost use Rattle.std.specs.Prelude.{◌≡◌, ◌≤◌, ◌<◌, ◌^◌, ◌++◌, [], ℕ, List, length, filter, slice_get, IfOk, OnOk, OnErr, IfSome, IsErr, IsSome, Some, option_copied, option_map};
+ghost use Rattle.std.specs.List.{concat};
 ghost use Rattle.type_layout.specs.Descriptions.{description_of};
 ghost use Rattle.spec_persistent.specs.Otherwise.{MayBegin};
 ghost use Rattle.ads_outside.specs.declared.moves.Move.TheVariants as move;
+ghost use Rattle.ads_outside.specs.Wholes.{wholes};
 ghost use Rattle.spec_machine.specs.MachineState.{present_numbers};
 ghost use Rattle.spec_machine.specs.Outcomes.{outcome_of_event};
 ghost use Rattle.spec_machine.specs.RunText.{notes_of_event};
 ghost use Rattle.spec_machine.specs.Summary.{summary_of};
 ghost use Rattle.out_queue.specs.Queue.{QUEUE_LIMIT};
 ghost use Rattle.port_device.specs.Holds.{HoldsPorts};
-ghost use Rattle.ads_served.specs.Due.{is_due};
+ghost use Rattle.ads_served.specs.Due.{is_due, IsRun};
 ghost use Rattle.server_core.specs.Counts.{counts_in};
-ghost use Rattle.server_core.specs.CoreState.{CoreState, started, after_event, after_move, OpensNew};
+ghost use Rattle.server_core.specs.CoreState.{CoreState, started, after_event, after_move, after_moves, OpensNew};
 ghost use Rattle.server_core.specs.CoreState.{offer_at, is_to_be_shut_at};
 ghost use Rattle.server_core.specs.Served.{served};
 ghost use Rattle.server_core.specs.Outcomes.{outcome_of};
-ghost use Rattle.server_core.specs.Serves.{Serves, HasCounts, Follows, HasFailed, offer_in, offers_in, FitsOffer};
+ghost use Rattle.server_core.specs.Serves.{Serves, HasCounts, Follows, HasFailed, offer_in, run_in, offers_in, FitsOffer};
 
 use crate::clients::Clients;
 use crate::device::Device;
@@ -137,6 +139,28 @@ impl<S: Sources> Core<S> {
         ensures from_then_on { HasFailed self.old → HasFailed self.new }
     {
         self.server.took(conn, n);
+    }
+
+    /// All frames that wait for a connection, one behind another; None where it is not there, nothing waits, or it is blocked.
+    pub fn run_of(&self, conn: u32) -> Option<&[u8]>
+        ensures run { option_copied result ≡ option_map concat (run_in self.now conn) }
+        ensures machine { (x : CoreState) (frames : List (List ℕ)) → Serves self.now x → run_in self.now conn ≡ Some frames
+            → IsRun conn x frames }
+        ensures bound { IfSome result (λ run. length run.now ≤ QUEUE_LIMIT) }
+    {
+        self.server.run_of(conn)
+    }
+
+    /// All frames that were lent of a connection were taken, each by an offer of its own.
+    #[inline(always)]
+    pub fn took_run(&mut self, conn: u32)
+        requires { IsSome (run_in self.old conn) }
+        ensures follows { (x : CoreState) (frames : List (List ℕ)) → Serves self.old x → run_in self.old conn ≡ Some frames
+            → Follows self.old self.new x (after_moves x (wholes conn frames)) }
+        ensures notes { self.new.server.notes ≡ self.old.server.notes }
+        ensures from_then_on { HasFailed self.old → HasFailed self.new }
+    {
+        self.server.took_run(conn);
     }
 
     /// Whether a connection that is there is to be shut.

@@ -1,13 +1,15 @@
 //! All that a core keeps but its signals.
 
-ghost use Rattle.std.specs.Prelude.{◌≡◌, ◌≤◌, ◌<◌, ℕ, List, length, slice_get, OnOk, IfSome, IsSomeAnd, option_copied};
+ghost use Rattle.std.specs.Prelude.{◌≡◌, ◌≤◌, ◌<◌, ℕ, List, length, slice_get, OnOk, IfSome, IsSomeAnd, option_copied, option_map, Some};
+ghost use Rattle.std.specs.List.{concat};
 ghost use Rattle.signals.specs.Wave.{Wave};
 ghost use Rattle.ads_outside.specs.declared.event.Event.TheVariants as event;
 ghost use Rattle.ads_outside.specs.declared.moves.Move.TheVariants as move;
+ghost use Rattle.ads_outside.specs.Wholes.{wholes};
 ghost use Rattle.spec_machine.specs.MachineState.{present_numbers};
 ghost use Rattle.out_queue.specs.Queue.{QUEUE_LIMIT};
-ghost use Rattle.server_core.specs.CoreState.{CoreState, after_event, after_move, OpensNew, is_to_be_shut_at};
-ghost use Rattle.server_core.specs.Places.{offer_among, offers_among};
+ghost use Rattle.server_core.specs.CoreState.{CoreState, after_event, after_move, after_moves, OpensNew, is_to_be_shut_at};
+ghost use Rattle.server_core.specs.Places.{offer_among, run_among, offers_among};
 
 use crate::Summary;
 use crate::clients::Clients;
@@ -138,6 +140,30 @@ impl Server {
             return None;
         }
         waiting.out.front()
+    }
+
+    /// All frames that wait for a connection, one behind another, unless it is blocked.
+    pub(crate) fn run_of(&self, connection: u32) -> Option<&[u8]>
+        ensures run { option_copied result ≡ option_map concat (run_among self.now.clients.waiting.entries connection) }
+        ensures bound { IfSome result (λ run. length run.now ≤ QUEUE_LIMIT) }
+    {
+        let i = self.clients.place_of(connection)?;
+        let waiting = &self.clients.waiting[i];
+        waiting.run()
+    }
+
+    /// All frames that waited for a connection were taken whole.
+    pub(crate) fn took_run(&mut self, connection: u32)
+        ensures follows { (waves : List Wave) (x : CoreState) (frames : List (List ℕ)) → ServesEach (view_of self.old) waves x
+            → run_among self.old.clients.waiting.entries connection ≡ Some frames
+            → FollowsEach (view_of self.old) (view_of self.new) waves x (after_moves x (wholes connection frames)) }
+        ensures notes { self.new.notes ≡ self.old.notes }
+    {
+        if let Some(i) = self.clients.place_of(connection) {
+            self.clients.touched = self.clients.touched.with(i);
+            let waiting = &mut self.clients.waiting[i];
+            waiting.took_run();
+        }
     }
 
     /// Whether a connection that is there is to be shut.

@@ -1,8 +1,10 @@
 //! What waits for one connection.
 
-ghost use Rattle.std.specs.Prelude.{◌≡◌, length, nat_lt, false};
-ghost use Rattle.out_queue.specs.Queue.{frames_after};
+ghost use Rattle.std.specs.Prelude.{◌≡◌, ◌≤◌, [], length, nat_lt, false, IfSome, option_copied, option_map};
+ghost use Rattle.std.specs.List.{concat};
+ghost use Rattle.out_queue.specs.Queue.{QUEUE_LIMIT, frames_after};
 ghost use Rattle.server_core.specs.ConnStands.{FitsFirst, first_left};
+ghost use Rattle.server_core.specs.Places.{run_of_waiting};
 ghost use Rattle.server_core.specs.Touched.{is_offered};
 
 use out_queue::OutQueue;
@@ -28,6 +30,26 @@ impl Waiting {
         let short = (n as usize) < left.len();
         self.out.took(n);
         self.blocked = short;
+    }
+
+    /// All frames, one behind another, unless it is blocked.
+    pub(crate) fn run(&self) -> Option<&[u8]>
+        ensures run { option_copied result ≡ option_map concat (run_of_waiting self.now) }
+        ensures bound { IfSome result (λ run. length run.now ≤ QUEUE_LIMIT) }
+    {
+        if self.blocked {
+            return None;
+        }
+        self.out.run()
+    }
+
+    /// All frames were taken whole.
+    pub(crate) fn took_run(&mut self)
+        ensures out { self.new.out ≡ [] }
+        ensures free { self.new.blocked ≡ false }
+    {
+        self.out.clear();
+        self.free();
     }
 
     /// Whether something is offered: a frame waits, and the connection is not blocked.
