@@ -16,10 +16,10 @@ const MAX_LEN: u32 = 2_000_000;
 
 /// What an access to a byte, bit or size group names, where the areas have these sizes, or the code that refuses it.
 ///
-/// | groups | offset | refused by |
+/// | groups | offset | refused by, in this order |
 /// |---|---|---|
-/// | 0x4020 memory, 0x4040 data, 0xF020 inputs, 0xF030 outputs | the first byte | 0x703 above the size, then 0x705 where the end is above the size or the length above 2,000,000 |
-/// | 0x4021, 0xF021, 0xF031: one bit | byte number times 8 plus bit number | 0x703 where the byte number is not below the size, then 0x705 for a length other than 1 |
+/// | 0x4020 memory, 0x4040 data, 0xF020 inputs, 0xF030 outputs | the first byte | 0x703 above the size, 0x705 for an end above it or a length above 2,000,000 |
+/// | 0x4021, 0xF021, 0xF031: one bit | byte number times 8 plus bit number | 0x703 for a byte number not below the size, 0x705 for a length other than 1 |
 /// | 0x4025, 0x4045, 0xF025, 0xF035: the size | not looked at | 0x705 for a length below 4 |
 /// | any other | | 0x702 |
 ///
