@@ -13,4 +13,5 @@ pub parts-more : (out new left first behind all : List ℕ) (count : ℕ) → ou
     → first ≡ take count left → behind ≡ drop count left → new ≡ out ++ encode_lower first → new ++ encode_lower behind ≡ all
 parts-more out new left first behind all count so_far front back more =
     rw (more, front, back) (append_assoc out (encode_lower (take count left)) (encode_lower (drop count left))
-    ∙ (ap (λ xs. out ++ xs) (sym (encode_with-append lower_digits (take count left) (drop count left)) ∙ ap encode_lower (take-append-drop count left)) ∙ so_far))
+    ∙ (ap (λ xs. out ++ xs)
+    (sym (encode_with-append lower_digits (take count left) (drop count left)) ∙ ap encode_lower (take-append-drop count left)) ∙ so_far))
