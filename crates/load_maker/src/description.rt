@@ -5,6 +5,7 @@ ghost use Rattle.toml.specs.Data.{table, push_item};
 ghost use Rattle.toml.specs.View.{table_view, items_of, items_view};
 ghost use Rattle.load_maker.specs.LoadDescription.{symbol_name, symbol_table, symbol_tables, route_table, route_tables, port_table, load_table};
 
+use crate::numbers::{PLANT_PORT, SYMBOL_LEN};
 use ads_base::NoMemory;
 use std::alloc::Global;
 use table_text::{push_table, set_array, set_number, set_text};
@@ -43,7 +44,7 @@ fn port(alloc: Global, symbols: Vec<Value>) -> Result<Table, NoMemory>
     set_number(alloc, &mut made, "major", 1)?;
     set_number(alloc, &mut made, "minor", 0)?;
     set_text(alloc, &mut made, "name", "Load")?;
-    set_number(alloc, &mut made, "port", 851)?;
+    set_number(alloc, &mut made, "port", i64::from(PLANT_PORT))?;
     set_array(alloc, &mut made, "symbol", symbols)?;
     Ok(made)
 }
@@ -97,7 +98,7 @@ fn symbol(alloc: Global, i: u32) -> Result<Table, NoMemory>
     let mut made = Table::new(alloc);
     set_text(alloc, &mut made, "area", "data")?;
     set_text(alloc, &mut made, "name", name.as_str())?;
-    set_number(alloc, &mut made, "offset", i64::from(4 * i))?;
+    set_number(alloc, &mut made, "offset", i64::from(SYMBOL_LEN * i))?;
     set_text(alloc, &mut made, "type", "DINT")?;
     Ok(made)
 }

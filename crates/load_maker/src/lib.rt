@@ -4,6 +4,7 @@
 mod description;
 mod lines;
 mod load;
+mod numbers;
 mod requests;
 mod room;
 mod turns;

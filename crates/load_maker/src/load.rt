@@ -10,6 +10,7 @@ ghost use Rattle.load_maker.specs.LoadDescription.{load_table, load_description}
 
 use crate::description::load_table;
 use crate::lines::{put_open, put_tick};
+use crate::numbers::TICK;
 use crate::turns::put_turns;
 use crate::watches::put_watches;
 use ads_base::{NoMemory, Octets};
@@ -58,7 +59,7 @@ fn load_script(alloc: Global, n: u32) -> Result<Octets, NoMemory>
     put_watches(alloc, &mut script)?;
     put_turns(alloc, &mut script, n)?;
     let turns = u64::from(n);
-    put_tick(alloc, &mut script, 100_000 * (turns + 1))?;
+    put_tick(alloc, &mut script, TICK * (turns + 1))?;
     Ok(script)
 }
 

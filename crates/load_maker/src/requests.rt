@@ -9,6 +9,7 @@ ghost use Rattle.load_maker.specs.MadeLines.{line_text};
 ghost use Rattle.load_maker.specs.LoadScript.{plant_address, client_address, request_line};
 
 use crate::lines::put_sent;
+use crate::numbers::{CLIENT_PORTS, PLANT_PORT, REQUEST};
 use crate::room::Room;
 use ads_base::{AmsAddr, NetId, NoMemory, Octets};
 use ads_commands::{Request, put_request};
@@ -76,16 +77,16 @@ fn header_of(client: u8, id: u32, command: u16, len: u32) -> Header
             net: NetId {
                 bytes: [5, 1, 2, 3, 1, 1],
             },
-            port: 851,
+            port: PLANT_PORT,
         },
         source: AmsAddr {
             net: NetId {
                 bytes: [10, 0, 0, client, 1, 1],
             },
-            port: 32768 + u16::from(client),
+            port: CLIENT_PORTS + u16::from(client),
         },
         command,
-        flags: 4,
+        flags: REQUEST,
         len,
         error: 0,
         id,

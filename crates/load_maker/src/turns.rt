@@ -7,6 +7,7 @@ ghost use Rattle.load_maker.specs.MadeLines.{line_text, script_text};
 ghost use Rattle.load_maker.specs.LoadScript.{DATA, request_line, turn_request, tick_lines, turn_of, first_turns};
 
 use crate::lines::put_tick;
+use crate::numbers::{READ, READ_LEN, SYMBOL_LEN, TICK, WRITE, WRITE_LEN};
 use crate::requests::put_request_line;
 use crate::room::Room;
 use ads_base::{NoMemory, Octets};
@@ -57,7 +58,7 @@ fn put_tenth(alloc: Global, out: &mut Octets, i: u32) -> Result<(), NoMemory>
     ensures { OnOk result (out.new ≡ out.old ++ script_text (tick_lines i)) }
 {
     if i % 10 == 0 {
-        put_tick(alloc, out, 100_000 * u64::from(i))
+        put_tick(alloc, out, TICK * u64::from(i))
     } else {
         Ok(())
     }
@@ -96,10 +97,10 @@ fn put_read(
 {
     let request = Request::Read {
         group: PROCESS_BYTES,
-        offset: 4 * symbol,
-        len: 4,
+        offset: SYMBOL_LEN * symbol,
+        len: SYMBOL_LEN,
     };
-    put_request_line(alloc, room, out, client, 10 + i, 2, 12, &request)
+    put_request_line(alloc, room, out, client, 10 + i, READ, READ_LEN, &request)
 }
 
 fn put_write(
@@ -117,8 +118,8 @@ fn put_write(
     let value = i.to_le_bytes();
     let request = Request::Write {
         group: PROCESS_BYTES,
-        offset: 4 * symbol,
+        offset: SYMBOL_LEN * symbol,
         bytes: &value,
     };
-    put_request_line(alloc, room, out, client, 10 + i, 3, 16, &request)
+    put_request_line(alloc, room, out, client, 10 + i, WRITE, WRITE_LEN, &request)
 }

@@ -4,6 +4,7 @@ ghost use Rattle.std.specs.Prelude.{◌≡◌, ◌≤◌, ◌<◌, ◌++◌, fla
 ghost use Rattle.load_maker.specs.MadeLines.{line_text, script_text};
 ghost use Rattle.load_maker.specs.LoadScript.{clients, watch_line, watch_lines};
 
+use crate::numbers::{ADD, ADD_LEN, ON_CHANGE, SYMBOL_LEN};
 use crate::requests::put_request_line;
 use crate::room::Room;
 use ads_base::{NoMemory, Octets};
@@ -53,11 +54,11 @@ fn put_watch(
 {
     let request = Request::Add {
         group: PROCESS_BYTES,
-        offset: 4 * (25 * (u32::from(client) - 1) + j),
-        len: 4,
-        mode: 4,
+        offset: SYMBOL_LEN * (25 * (u32::from(client) - 1) + j),
+        len: SYMBOL_LEN,
+        mode: ON_CHANGE,
         delay: 0,
         cycle: 0,
     };
-    put_request_line(alloc, room, out, client, j + 1, 6, 40, &request)
+    put_request_line(alloc, room, out, client, j + 1, ADD, ADD_LEN, &request)
 }
