@@ -1,5 +1,5 @@
 -- Worked examples of the verdict, by computation.
-use Rattle.std.proofs.Common.{◌≡◌, refl, true, Some, Err, is_ok, option_map}
+use Rattle.std.proofs.Common.{◌≡◌, ℕ, List, ◌++◌, refl, true, Some, Err, is_ok, option_map}
 use Rattle.std.specs.Prelude.{codes}
 use Rattle.toml.specs.Parse.{parse_document}
 use Rattle.toml.proofs.OnLiterals.{toml_on_literals}
@@ -25,10 +25,20 @@ unfolding toml_on_literals route_in member_in value_in structure_in enumeration_
     wrong_signal trees_behind trees_of type_align greatest_align type_size members_end type_depth greatest_depth type_text digits decode_pairs
 schema_alone = refl
 
+-- a plant of one port with three symbols, of which the second begins here
+abbrev plant_with_axis_at : List ℕ → List ℕ
+plant_with_axis_at axis =
+    codes "schema = 1\nnet = \"5.1.2.3.1.1\"\n[[route]]\nnet = \"192.168.0.9.1.1\"\nrights = \"control\"\n"
+    ++ codes "[[route]]\nnet = \"192.168.0.10.1.1\"\nrights = \"read\"\n[[type]]\nname = \"Axis\"\nmember = [\n"
+    ++ codes "  { name = \"active\", type = \"BOOL\" },\n  { name = \"pos\", type = \"DINT\" },\n  { name = \"label\", type = \"STRING(5)\" },\n]\n"
+    ++ codes "[[port]]\nport = 851\nname = \"Plc30 App\"\nmajor = 3\nminor = 1\nbuild = 1711\ninputs = 16\noutputs = 16\nmemory = 32\ndata = 128\n"
+    ++ codes "[[port.symbol]]\nname = \"Main.count\"\ntype = \"DINT\"\narea = \"data\"\noffset = 0\ninitial = \"2a000000\"\n"
+    ++ codes "[[port.symbol]]\nname = \"Main.axis\"\ntype = \"ARRAY [1..3] OF Axis\"\narea = \"data\"\noffset = "
+    ++ axis
+    ++ codes "\n[[port.symbol]]\nname = \"Main.wave\"\ntype = \"UINT\"\narea = \"data\"\noffset = 64\nsignal = 2\n"
+
 -- a symbol that covers a byte of the one before it
-overlap : option_map (table_verdict 3)
-    (parse_document (codes
-    "schema = 1\nnet = \"5.1.2.3.1.1\"\n[[route]]\nnet = \"192.168.0.9.1.1\"\nrights = \"control\"\n[[route]]\nnet = \"192.168.0.10.1.1\"\nrights = \"read\"\n[[type]]\nname = \"Axis\"\nmember = [\n  { name = \"active\", type = \"BOOL\" },\n  { name = \"pos\", type = \"DINT\" },\n  { name = \"label\", type = \"STRING(5)\" },\n]\n[[port]]\nport = 851\nname = \"Plc30 App\"\nmajor = 3\nminor = 1\nbuild = 1711\ninputs = 16\noutputs = 16\nmemory = 32\ndata = 128\n[[port.symbol]]\nname = \"Main.count\"\ntype = \"DINT\"\narea = \"data\"\noffset = 0\ninitial = \"2a000000\"\n[[port.symbol]]\nname = \"Main.axis\"\ntype = \"ARRAY [1..3] OF Axis\"\narea = \"data\"\noffset = 2\n[[port.symbol]]\nname = \"Main.wave\"\ntype = \"UINT\"\narea = \"data\"\noffset = 64\nsignal = 2\n"))
+overlap : option_map (table_verdict 3) (parse_document (plant_with_axis_at (codes "2")))
     ≡ Some (Err (record { number = 12; item = 1 }))
 unfolding toml_on_literals route_in member_in value_in structure_in enumeration_in type_in symbol_in port_in document_in shape_of_text types_behind
     wrong_schema wrong_net wrong_rights wrong_type_name wrong_part wrong_size wrong_port wrong_upload wrong_name wrong_type wrong_place wrong_content
@@ -36,9 +46,7 @@ unfolding toml_on_literals route_in member_in value_in structure_in enumeration_
 overlap = refl
 
 -- a signal that is not there
-no_signal : option_map (table_verdict 2)
-    (parse_document (codes
-    "schema = 1\nnet = \"5.1.2.3.1.1\"\n[[route]]\nnet = \"192.168.0.9.1.1\"\nrights = \"control\"\n[[route]]\nnet = \"192.168.0.10.1.1\"\nrights = \"read\"\n[[type]]\nname = \"Axis\"\nmember = [\n  { name = \"active\", type = \"BOOL\" },\n  { name = \"pos\", type = \"DINT\" },\n  { name = \"label\", type = \"STRING(5)\" },\n]\n[[port]]\nport = 851\nname = \"Plc30 App\"\nmajor = 3\nminor = 1\nbuild = 1711\ninputs = 16\noutputs = 16\nmemory = 32\ndata = 128\n[[port.symbol]]\nname = \"Main.count\"\ntype = \"DINT\"\narea = \"data\"\noffset = 0\ninitial = \"2a000000\"\n[[port.symbol]]\nname = \"Main.axis\"\ntype = \"ARRAY [1..3] OF Axis\"\narea = \"data\"\noffset = 8\n[[port.symbol]]\nname = \"Main.wave\"\ntype = \"UINT\"\narea = \"data\"\noffset = 64\nsignal = 2\n"))
+no_signal : option_map (table_verdict 2) (parse_document (plant_with_axis_at (codes "8")))
     ≡ Some (Err (record { number = 14; item = 2 }))
 unfolding toml_on_literals route_in member_in value_in structure_in enumeration_in type_in symbol_in port_in document_in shape_of_text types_behind
     wrong_schema wrong_net wrong_rights wrong_type_name wrong_part wrong_size wrong_port wrong_upload wrong_name wrong_type wrong_place wrong_content
@@ -46,9 +54,7 @@ unfolding toml_on_literals route_in member_in value_in structure_in enumeration_
 no_signal = refl
 
 -- a plant that keeps the rules
-plant : option_map (λ t. is_ok (table_verdict 3 t))
-    (parse_document (codes
-    "schema = 1\nnet = \"5.1.2.3.1.1\"\n[[route]]\nnet = \"192.168.0.9.1.1\"\nrights = \"control\"\n[[route]]\nnet = \"192.168.0.10.1.1\"\nrights = \"read\"\n[[type]]\nname = \"Axis\"\nmember = [\n  { name = \"active\", type = \"BOOL\" },\n  { name = \"pos\", type = \"DINT\" },\n  { name = \"label\", type = \"STRING(5)\" },\n]\n[[port]]\nport = 851\nname = \"Plc30 App\"\nmajor = 3\nminor = 1\nbuild = 1711\ninputs = 16\noutputs = 16\nmemory = 32\ndata = 128\n[[port.symbol]]\nname = \"Main.count\"\ntype = \"DINT\"\narea = \"data\"\noffset = 0\ninitial = \"2a000000\"\n[[port.symbol]]\nname = \"Main.axis\"\ntype = \"ARRAY [1..3] OF Axis\"\narea = \"data\"\noffset = 8\n[[port.symbol]]\nname = \"Main.wave\"\ntype = \"UINT\"\narea = \"data\"\noffset = 64\nsignal = 2\n")) ≡ Some true
+plant : option_map (λ t. is_ok (table_verdict 3 t)) (parse_document (plant_with_axis_at (codes "8"))) ≡ Some true
 unfolding toml_on_literals route_in member_in value_in structure_in enumeration_in type_in symbol_in port_in document_in shape_of_text types_behind
     wrong_schema wrong_net wrong_rights wrong_type_name wrong_part wrong_size wrong_port wrong_upload wrong_name wrong_type wrong_place wrong_content
     wrong_signal trees_behind trees_of type_align greatest_align type_size members_end type_depth greatest_depth type_text digits decode_pairs
