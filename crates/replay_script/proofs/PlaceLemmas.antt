@@ -11,7 +11,8 @@ fails false h = refl
 
 pub first_place : (p : ℕ → Bool) (xs : List ℕ) (r : Option ℕ) → IsFirstByte p xs r → r ≡ position p xs
 first_place p xs None h =
-    let past = position_or_len_is p xs (length xs) 0 (omega arith) (λ k within. fails _ (h k (omega arith) within)) (λ within. absurd (omega (arith, within))) in
+    let past = position_or_len_is p xs (length xs) 0 (omega arith) (λ k within. fails _ (h k (omega arith) within))
+    (λ within. absurd (omega (arith, within))) in
     rw (past, le-ltb (length xs) (length xs) (omega arith)) refl
 first_place p xs (Some k) h =
     let high = h.0.high in
