@@ -1,3 +1,4 @@
 pub mod DecimalLemmas
 pub mod NetLemmas
 pub mod OctetsLemmas
+pub mod SameNets

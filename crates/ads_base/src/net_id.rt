@@ -1,10 +1,10 @@
 //! The AMS NetId, six bytes.
 
-ghost use Rattle.std.specs.Prelude.{◌≡◌, ◌≢◌, ◌<◌, ℕ, List, ◌++◌, ◌∷◌, IfSome, IsNone, SomeIff, OnOk, OnErr};
+ghost use Rattle.std.specs.Prelude.{◌≡◌, ◌≢◌, ◌<◌, ℕ, List, ◌++◌, ◌∷◌, IfSome, IsNone, SomeIff, OnOk, OnErr, bytes_eq};
 ghost use Rattle.std.specs.Fmt.{decimal};
 ghost use Rattle.ads_base.specs.Decimal.{IsOnlyRest};
 
-use crate::{NoMemory, Octets, read_decimal, split_decimal};
+use crate::{NoMemory, Octets, get16, get32, read_decimal, split_decimal};
 use std::alloc::Global;
 
 /// An AMS NetId: six bytes, written as six decimal numbers joined by full stops, as `5.1.2.3.1.1`.
@@ -43,6 +43,16 @@ impl NetId {
         let text = format!(in alloc; "{a}.{b}.{c}.{d}.{e}.{f}")?;
         out.put(alloc, text.as_bytes())?;
         Ok(())
+    }
+
+    /// Whether it is the same as another: compared as a number of four bytes and one of two, where arrays are compared byte
+    /// by byte.
+    #[inline(always)]
+    pub fn is(self, other: NetId) -> bool
+        ensures { result ≡ bytes_eq self.bytes other.bytes }
+    {
+        get32(&self.bytes, 0) == get32(&other.bytes, 0)
+            && get16(&self.bytes, 4) == get16(&other.bytes, 4)
     }
 }
 

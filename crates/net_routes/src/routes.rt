@@ -73,11 +73,8 @@ impl Routes {
     {
         match self.by_net.get_index(i) {
             Some((there, rights)) => {
-                if *there == net.bytes {
-                    Some(*rights)
-                } else {
-                    None
-                }
+                let machine = NetId { bytes: *there };
+                if machine.is(net) { Some(*rights) } else { None }
             }
             None => None,
         }

@@ -27,4 +27,3 @@ pub mod OtherPorts
 pub mod ActPuts
 pub mod TakeLemmas
 pub mod NumberTests
-pub mod NetLemmas

@@ -1,6 +1,6 @@
 //! The checks of an AMS packet, in their order.
 
-ghost use Rattle.std.specs.Prelude.{◌≡◌, List, ℕ, Bool, IfOk, bytes_eq};
+ghost use Rattle.std.specs.Prelude.{◌≡◌, List, ℕ, Bool, IfOk};
 ghost use Rattle.std.specs.Result.{result_ok};
 ghost use Rattle.spec_formats.specs.Header.{header_of, payload_of};
 ghost use Rattle.spec_formats.specs.Request as format;
@@ -15,7 +15,7 @@ ghost use Rattle.session.specs.PacketChecks.{Examines, HasPassed, HasParts, stop
 ghost use Rattle.session.specs.Takes.{HasAddress};
 
 use crate::examined::{Examined, Stop};
-use ads_base::{NetId, get16, get32};
+use ads_base::NetId;
 use ads_commands::{ReadFault, Request, read_request};
 use ams_header::{Header, read};
 use net_routes::Routes;
@@ -133,22 +133,13 @@ fn stop_by_address(h: &Header, net: NetId, no_route: bool, no_port: bool, no_req
     if no_route {
         return Stop::Close;
     }
-    if !is_same_net(h.target.net, net) {
+    if !h.target.net.is(net) {
         return Stop::Error(Code::C7);
     }
     if no_port {
         return Stop::Error(Code::C6);
     }
     stop_by_command(h, no_request)
-}
-
-/// Whether two NetIds are the same: compared as a number of four bytes and one of two, where arrays are compared byte by byte.
-#[inline(always)]
-pub(crate) fn is_same_net(left: NetId, right: NetId) -> bool
-    ensures { result ≡ bytes_eq left.bytes right.bytes }
-{
-    get32(&left.bytes, 0) == get32(&right.bytes, 0)
-        && get16(&left.bytes, 4) == get16(&right.bytes, 4)
 }
 
 // What is asked.

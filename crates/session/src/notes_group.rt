@@ -9,7 +9,6 @@ ghost use Rattle.session.specs.NoteFrames.{produced_of, IsNoteFrame};
 ghost use Rattle.session.specs.NoteGroups.{is_group_for, no_samples, group_with, sample, frame_of_group};
 
 use crate::NoteFrame;
-use crate::checks::is_same_net;
 use crate::notes_head::{HEAD, put_head};
 use ads_base::{AmsAddr, NetId, NoMemory, Octets};
 use std::alloc::Global;
@@ -114,7 +113,7 @@ impl NoteGroup {
 fn are_same(a: AmsAddr, b: AmsAddr) -> bool
     ensures { result ≡ is_same_address (address_of a) (address_of b) }
 {
-    is_same_net(a.net, b.net) && a.port == b.port
+    a.net.is(b.net) && a.port == b.port
 }
 
 // Appends a sample. After want of memory a part of it may stand there.
