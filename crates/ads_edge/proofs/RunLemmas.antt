@@ -11,7 +11,8 @@ use Rattle.ads_outside.specs.WireState.{WireState, WireHistory, history_after, l
 -- no move is logged
 not_logged : (h : WireHistory) (m : Move) → h.log ≡ None → logged m h ≡ h
 not_logged h m e =
-    ap (λ (log : Option (List Move)). record h { log = option_map (λ ms. ms ++ m ∷ []) log }) e ∙ ap (λ (log : Option (List Move)). record h { log = log }) (sym e)
+    ap (λ (log : Option (List Move)). record h { log = option_map (λ ms. ms ++ m ∷ []) log }) e
+    ∙ ap (λ (log : Option (List Move)). record h { log = log }) (sym e)
 
 none_logged : (h : WireHistory) (c : ℕ) (frames : List (List ℕ)) → h.log ≡ None → history_after h (wholes c frames) ≡ h
 unfolding history_after
