@@ -14,6 +14,7 @@ pub mod SpendLemmas
 pub mod RememberLemmas
 pub mod TakingLemmas
 pub mod MoveLemmas
+pub mod RunLemmas
 pub mod PromiseLemmas
 pub mod WayLemmas
 pub mod OwnLemmas

@@ -1,5 +1,5 @@
 -- The connections that the code keeps, found by their numbers, and how one of them changes.
-use Rattle.std.specs.Prelude.{◌≡◌, ◌≢◌, ℕ, ◌<◌, ◌≤◌, List, [], length, slice_get, slice_index_or, Bool, false, ◌==◌, if◌then◌else◌}
+use Rattle.std.specs.Prelude.{◌≡◌, ◌≢◌, ℕ, ◌<◌, ◌≤◌, List, [], ◌∷◌, length, slice_get, slice_index_or, Bool, false, ◌==◌, if◌then◌else◌}
 use Rattle.std.specs.Prelude.{Option, Some, None, IsSomeAnd, unwrap_or, is_some}
 use Rattle.std.specs.Map.{keys_of, values_of, lookup}
 use Rattle.indexmap.specs.IndexMap.{set_value_at}
@@ -55,6 +55,15 @@ offer_of_peer p = if p.blocked then None else front_of p.out
 
 abbrev pub is_offered : Peer → Bool
 is_offered p = is_some (offer_of_peer p)
+
+-- frames that are lent in one run: all of them, where there is one
+abbrev pub some_frames : List (List ℕ) → Option (List (List ℕ))
+some_frames [] = None
+some_frames (f ∷ fs) = Some (f ∷ fs)
+
+-- what is lent of a connection: the frames that wait for it, unless it is blocked
+abbrev pub run_of_peer : Peer → Option (List (List ℕ))
+run_of_peer p = if p.blocked then None else some_frames p.out
 
 -- how many frames wait for it, unless it is blocked
 abbrev pub offers_of_peer : Peer → ℕ

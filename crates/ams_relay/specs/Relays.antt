@@ -1,5 +1,5 @@
 -- A relay stands for a running machine.
-use Rattle.std.specs.Prelude.{◌≡◌, ℕ, List, [], ◌++◌, true, false, Option, Some, None}
+use Rattle.std.specs.Prelude.{◌≡◌, ℕ, List, [], ◌∷◌, ◌++◌, true, false, Option, Some, None}
 use Rattle.ads_outside.specs.declared.end.End.{End}
 use Rattle.ads_outside.specs.declared.event.Event.{Event}
 use Rattle.ads_outside.specs.declared.moves.Move.{Move}
@@ -13,7 +13,7 @@ use Rattle.spec_relay.specs.RelayPromises.{RelayKeepsPromisesAt}
 use Rattle.ams_relay.specs.declared.router.Relay.{Relay}
 use Rattle.ams_relay.specs.declared.router.Router.{Router}
 use Rattle.ams_relay.specs.Holds.{Holds}
-use Rattle.ams_relay.specs.Peers.{peer_in, read_in, offer_of_peer, offers_of_peer}
+use Rattle.ams_relay.specs.Peers.{peer_in, read_in, offer_of_peer, run_of_peer, offers_of_peer}
 
 abbrev pub RelayStanding : Type 0
 RelayStanding = Standing RelayWorld Owned
@@ -23,6 +23,10 @@ RelayRunning = Running RelayWorld Owned
 
 abbrev pub running_after_event : RelayRunning → Event → RelayRunning
 running_after_event x e = running_after relay_after_event x (move.Event e)
+
+abbrev pub running_after_all : RelayRunning → List Move → RelayRunning
+running_after_all x [] = x
+running_after_all x (m ∷ ms) = running_after_all (running_after relay_after_event x m) ms
 
 -- a router stands for a running machine
 abbrev pub HoldsRunning : Router → RelayRunning → Type 0
@@ -49,6 +53,10 @@ HasFailed relay = relay.failed ≡ true
 -- what the relay offers to a connection
 abbrev pub offer_in : Relay → ℕ → Option (List ℕ)
 offer_in relay c = read_in offer_of_peer None (peer_in c relay.router.peers.entries)
+
+-- the frames that the relay lends of a connection in one run
+abbrev pub run_in : Relay → ℕ → Option (List (List ℕ))
+run_in relay c = read_in run_of_peer None (peer_in c relay.router.peers.entries)
 
 -- how many offers are left to a connection at most
 abbrev pub offers_in : Relay → ℕ → ℕ

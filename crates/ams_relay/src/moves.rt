@@ -1,9 +1,11 @@
 //! What is offered to connections, and what of it was taken.
 
-ghost use Rattle.std.specs.Prelude.{◌≡◌, ◌≤◌, ◌<◌, ℕ, List, length, None, Some, IfSome, IsSomeAnd, option_copied};
+ghost use Rattle.std.specs.Prelude.{◌≡◌, ◌≤◌, ◌<◌, ℕ, List, length, None, Some, IfSome, IsSomeAnd, option_copied, option_map};
+ghost use Rattle.std.specs.List.{concat};
 ghost use Rattle.out_queue.specs.Queue.{QUEUE_LIMIT};
 ghost use Rattle.ads_outside.specs.declared.event.Event.TheVariants as event;
 ghost use Rattle.ads_outside.specs.declared.moves.Move.TheVariants as move;
+ghost use Rattle.ads_outside.specs.Wholes.{wholes};
 ghost use Rattle.spec_machine.specs.Moves.{state_after_move};
 ghost use Rattle.spec_machine.specs.Offers.{blocked_after_move};
 ghost use Rattle.spec_machine.specs.Running.{is_to_be_shut};
@@ -11,7 +13,8 @@ ghost use Rattle.spec_machine.specs.Connection.{connection_of};
 ghost use Rattle.spec_relay.specs.RelayState.{RelayState};
 ghost use Rattle.spec_relay.specs.RelayMoves.{relay_after_event};
 ghost use Rattle.ams_relay.specs.Holds.{Holds};
-ghost use Rattle.ams_relay.specs.Peers.{peer_in, read_in, offer_of_peer, offers_of_peer};
+ghost use Rattle.ams_relay.specs.Peers.{peer_in, read_in, offer_of_peer, run_of_peer, offers_of_peer};
+ghost use Rattle.ams_relay.specs.Relays.{RelayRunning, HoldsRunning, running_after_all};
 
 use crate::router::Router;
 
@@ -53,6 +56,28 @@ impl Router {
             return None;
         }
         peer.out.front()
+    }
+
+    /// All frames that wait for a connection, one behind another, unless it is blocked.
+    pub(crate) fn run_of(&self, number: u32) -> Option<&[u8]>
+        ensures run { option_copied result ≡ option_map concat (read_in run_of_peer None (peer_in number self.now.peers.entries)) }
+        ensures bound { IfSome result (λ run. length run.now ≤ QUEUE_LIMIT) }
+    {
+        let i = self.place_of(number)?;
+        let peer = &self.peers[i];
+        peer.run()
+    }
+
+    /// All frames that were lent of a connection were taken, each by an offer of its own.
+    pub(crate) fn took_run(&mut self, number: u32)
+        ensures { (x : RelayRunning) (frames : List (List ℕ)) → HoldsRunning self.old x
+            → read_in run_of_peer None (peer_in number self.old.peers.entries) ≡ Some frames
+            → HoldsRunning self.new (running_after_all x (wholes number frames)) }
+    {
+        if let Some(i) = self.place_of(number) {
+            self.peers[i].out.clear();
+            self.touched = self.touched.with(number);
+        }
     }
 
     /// Whether a connection that is there is to be shut.

@@ -1,8 +1,9 @@
 //! One connection that is there.
 
-ghost use Rattle.std.specs.Prelude.{◌≡◌, length, nat_lt, IfOk};
-ghost use Rattle.out_queue.specs.Queue.{frames_after};
-ghost use Rattle.ams_relay.specs.Peers.{IsFresh, FitsFirst, first_left, is_offered};
+ghost use Rattle.std.specs.Prelude.{◌≡◌, ◌≤◌, length, nat_lt, IfOk, IfSome, option_copied, option_map};
+ghost use Rattle.std.specs.List.{concat};
+ghost use Rattle.out_queue.specs.Queue.{QUEUE_LIMIT, frames_after};
+ghost use Rattle.ams_relay.specs.Peers.{IsFresh, FitsFirst, first_left, is_offered, run_of_peer};
 ghost use Rattle.ams_relay.specs.Touched.{is_due_peer};
 
 use crate::asked::Asked;
@@ -51,6 +52,17 @@ impl Peer {
         let short = (n as usize) < left.len();
         self.out.took(n);
         self.blocked = short;
+    }
+
+    /// All frames that wait, one behind another, unless it is blocked.
+    pub(crate) fn run(&self) -> Option<&[u8]>
+        ensures run { option_copied result ≡ option_map concat (run_of_peer self.now) }
+        ensures bound { IfSome result (λ run. length run.now ≤ QUEUE_LIMIT) }
+    {
+        if self.blocked {
+            return None;
+        }
+        self.out.run()
     }
 
     /// Whether something is offered, or the connection is to be shut.

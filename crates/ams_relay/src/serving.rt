@@ -1,6 +1,6 @@
 //! The relay as what a loop serves.
 
-ghost use Rattle.std.specs.Prelude.{◌≡◌, ℕ, List, None, OnOk};
+ghost use Rattle.std.specs.Prelude.{◌≡◌, ℕ, List, OnOk};
 ghost use Rattle.ads_outside.specs.declared.moves.Move.TheVariants as move;
 ghost use Rattle.spec_machine.specs.Running.{OpensNew};
 ghost use Rattle.ams_relay.specs.Relays.{RelayRunning, HoldsRunning, running_after_event};
@@ -16,7 +16,7 @@ use std::thread::Threads;
 impl Served for Relay {
     ghost use Rattle.spec_relay.specs.RelayState.{RelayWorld, Owned};
     ghost use Rattle.spec_relay.specs.RelayMoves.{relay_after_event};
-    ghost use Rattle.ams_relay.specs.Relays.{StandsAt, HasFailed, nothing_noted, offer_in, offers_in};
+    ghost use Rattle.ams_relay.specs.Relays.{StandsAt, HasFailed, nothing_noted, offer_in, run_in, offers_in};
     ghost use Rattle.spec_relay.proofs.OpenedAlone.{relay_opens_alone};
 
     ghost World = { RelayWorld };
@@ -31,7 +31,7 @@ impl Served for Relay {
 
     ghost offer_in = { offer_in };
 
-    ghost run_in = { λ m c. None };
+    ghost run_in = { run_in };
 
     ghost offers_left = { offers_in };
 
@@ -73,11 +73,13 @@ impl Served for Relay {
         self.router.took(conn, n);
     }
 
-    fn run_of(&self, _conn: u32) -> Option<&[u8]> {
-        None
+    fn run_of(&self, conn: u32) -> Option<&[u8]> {
+        self.router.run_of(conn)
     }
 
-    fn took_run(&mut self, _conn: u32) {}
+    fn took_run(&mut self, conn: u32) {
+        self.router.took_run(conn);
+    }
 
     fn closing(&self, conn: u32) -> bool {
         self.router.closing(conn)

@@ -1,0 +1,6 @@
+use Rattle.ams_relay.proofs.RunLemmas.{stands_wholes}
+use Rattle.ams_relay.proofs.serving.RelayServed.took_run.Goals as goal
+
+pub returns-clause-follows : goal.returns-clause-follows
+returns-clause-follows c = λ x frames s some.
+    stands_wholes _ c.args.conn frames x s.working (c.took_run.ensures x.running frames s.holds some) s.notes
