@@ -1,6 +1,6 @@
 -- Names of requests, and the places of what they lead to.
 use Rattle.std.proofs.Common.{◌≡◌, ◌≢◌, ℕ, zero, suc, ◌+◌, List, [], ◌∷◌, map, length, get_or, take, true, refl, sym, ◌∙◌, ap, subst, arith}
-use Rattle.std.specs.Prelude.{Option, Some, None, Ok, Err, slice_get, option_map, option_and_then, ◌==◌, if◌then◌else◌}
+use Rattle.std.specs.Prelude.{Option, Some, None, Ok, Err, slice_get, option_map, option_and_then, IfSome, ◌==◌, if◌then◌else◌}
 use Rattle.name_paths.specs.Path.{Step, steps_of}
 use Rattle.std.proofs.lemmas.Option.{slice_get-map}
 use Rattle.return_codes.specs.declared.code.Code.TheVariants.{C710}
@@ -69,12 +69,19 @@ found_placed types symbols name table (Some led) found e is_found same =
       ends = omega (arith, at_, offset, len, size, lies);
     }
 
-pub place_is_placed : (m : PortMemory) (port : Port) (name : List ℕ) (found : Found) → IsTableOf m.types port m.table
+place_is_placed : (m : PortMemory) (port : Port) (name : List ℕ) (found : Found) → IsTableOf m.types port m.table
     → Finds m.types (map (plant_symbol m.types) port.symbols) (found_of (map (plant_symbol m.types) port.symbols) name) (Some found)
     → IsPlaceOf m.table found.place
 place_is_placed m port name found table is_found =
     found_placed m.types port.symbols name m.table (found_of (map (plant_symbol m.types) port.symbols) name) found refl is_found
     (ap (λ (t : SymbolTable). t.symbols) table.same)
+
+-- where something is found, it is bytes of a symbol of the table
+pub placed_where_found : (m : PortMemory) (port : Port) (name : List ℕ) (o : Option Found) → IsTableOf m.types port m.table
+    → Finds m.types (map (plant_symbol m.types) port.symbols) (found_of (map (plant_symbol m.types) port.symbols) name) o
+    → IfSome o (λ (found : Found). IsPlaceOf m.table found.place)
+placed_where_found m port name None table is_found = tt
+placed_where_found m port name (Some found) table is_found = place_is_placed m port name found table is_found
 
 -- a name that ends in NUL, and one that does not
 

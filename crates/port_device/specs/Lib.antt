@@ -4,6 +4,7 @@ pub mod Answers
 pub mod Endings
 pub mod Changed
 pub mod Groups
+pub mod Accesses
 pub mod PersistentRows
 pub mod Behind
 pub mod Rows

@@ -18,7 +18,7 @@ use Rattle.port_device.specs.Marks.{AreMarks}
 abbrev pub memory_in : Inside → PortMemory
 memory_in p = record {
   types = types_of (arc_value p.types);
-  number = p.number;
+  number = p.ams_port;
   facts = facts_of p.facts;
   table = p.table;
   version = p.version;

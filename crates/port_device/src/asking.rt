@@ -1,6 +1,6 @@
 //! What is asked by name: a value, an info, and an entry.
 
-ghost use Rattle.std.specs.Prelude.{◌≡◌, ◌≤◌, ◌++◌, IfOk, OnOk, OnErr};
+ghost use Rattle.std.specs.Prelude.{◌≡◌, ◌++◌, IfOk, OnOk, OnErr};
 ghost use Rattle.std.specs.Int.{w32, to_le_bytes};
 ghost use Rattle.spec_plant.specs.World.{PlantPort};
 ghost use Rattle.spec_formats.specs.Groups.{group_of, ValueByName, InfoByName};

@@ -62,7 +62,7 @@ pub(crate) fn first_port(
     let shared = Arc::try_clone(types)?;
     Ok(Port {
         types: shared,
-        number: d.port,
+        ams_port: d.port,
         facts: d.facts,
         sizes: d.sizes,
         table,

@@ -2,8 +2,7 @@
 
 ghost use Rattle.std.specs.Prelude.{◌≡◌, ℕ, ◌+◌, ◌*◌, ◌<◌, ◌≤◌, length, get_or, true, false, All, IfOk, IsTrue};
 ghost use Rattle.spec_plant.specs.Accepted.{image_size, IMAGE_LIMIT};
-ghost use Rattle.spec_plant.specs.Description.{size_in};
-ghost use Rattle.type_layout.specs.Descriptions.{area_of, sizes_of};
+ghost use Rattle.type_layout.specs.Descriptions.{sizes_of};
 ghost use Rattle.symbol_table.specs.Rows.{symbol_of_row, symbols_of_rows};
 ghost use Rattle.port_device.specs.Marks.{is_guarded_row, is_marked, AreMarks, IsMarked, IsWithinRow, KeepsMarks, SetsMarks};
 

@@ -1,6 +1,6 @@
 //! Where a reload puts the symbols that it keeps.
 
-ghost use Rattle.std.specs.Prelude.{◌≡◌, ◌≤◌, ◌+◌, ◌++◌, List, length, map, All, IfOk, OnOk, IfSome, option_map};
+ghost use Rattle.std.specs.Prelude.{◌≡◌, ◌≤◌, ◌+◌, ◌++◌, List, length, All, IfOk, OnOk, IfSome, option_map};
 ghost use Rattle.spec_plant.specs.Listed.{NamedType};
 ghost use Rattle.spec_machine.specs.World.{World};
 ghost use Rattle.spec_machine.specs.NumberedPlaces.{AreKeptSymbols, KeptSymbol};
@@ -68,20 +68,20 @@ impl Port {
             → All (HasTypes types) new.now.ports → kept_symbols_of kept.new
             ≡ kept_symbols_of kept.old ++ entries_of self.now (memory_numbered self.now.number new.now.ports)) }
     {
-        match new.find(self.number) {
+        match new.find(self.ams_port) {
             None => Ok(()),
             Some(now) => {
-                put_entries(alloc, self.number, self.table.symbols(), now, same, kept)?;
+                put_entries(alloc, self.ams_port, self.table.symbols(), now, same, kept)?;
                 Ok(())
             }
         }
     }
 
-    // The entry of a symbol with a number, which was of a port with this number, where it is kept here.
+    // The entry of a symbol with a number, which was of this AMS port, where it is kept here.
     fn entry_of(
         &self,
         alloc: Global,
-        port: u16,
+        ams_port: u16,
         number: u32,
         row: &SymbolRow,
         same: &SameTypes,
@@ -90,7 +90,7 @@ impl Port {
         ensures fits { IfOk result (λ entry. IfSome entry IsKeptPlace) }
         ensures entry { IfOk result (λ entry. (before : List NamedType) → AreCompared before self.now.types same.now
             → IsTypedRow before row.now
-            → option_map kept_symbol_of entry ≡ entry_of before self.now port number (symbol_of_row row.now)) }
+            → option_map kept_symbol_of entry ≡ entry_of before self.now ams_port number (symbol_of_row row.now)) }
     {
         match self.table.named(alloc, row.name.as_slice())? {
             None => Ok(None),
@@ -98,7 +98,7 @@ impl Port {
                 let new = &self.table.symbols()[place as usize];
                 if have_same_type(same, row, new) {
                     Ok(Some(KeptPlace {
-                        port,
+                        port: ams_port,
                         from: whole_place(number, row),
                         to: whole_place(place, new),
                     }))
@@ -113,7 +113,7 @@ impl Port {
 // Appends the entries of the symbols of a port that a new one keeps.
 fn put_entries(
     alloc: Global,
-    port: u16,
+    ams_port: u16,
     rows: &[SymbolRow],
     now: &Port,
     same: &SameTypes,
@@ -125,10 +125,10 @@ fn put_entries(
     ensures fit { OnOk result (All IsKeptPlace kept.new) }
     ensures kept { OnOk result ((before : List NamedType) → AreCompared before now.now.types same.now
         → All (IsTypedRow before) rows.now → kept_symbols_of kept.new
-        ≡ kept_symbols_of kept.old ++ entries_from before now.now port 0 (symbols_of_rows rows.now)) }
+        ≡ kept_symbols_of kept.old ++ entries_from before now.now ams_port 0 (symbols_of_rows rows.now)) }
 {
     for (number, row) in rows.iter().enumerate() {
-        let entry = now.entry_of(alloc, port, number as u32, row, same)?;
+        let entry = now.entry_of(alloc, ams_port, number as u32, row, same)?;
         put_entry(alloc, entry, kept)?;
     }
     Ok(())

@@ -1,6 +1,6 @@
 //! What a name leads to.
 
-ghost use Rattle.std.specs.Prelude.{◌≡◌, ◌<◌, List, map, IfOk};
+ghost use Rattle.std.specs.Prelude.{◌≡◌, ◌<◌, map, IfOk, IfSome};
 ghost use Rattle.spec_plant.specs.Description as plant;
 ghost use Rattle.spec_plant.specs.Finding.{found_of, found_of_steps, without_nul};
 ghost use Rattle.spec_plant.specs.World.{PlantPort, plant_symbol};
@@ -28,7 +28,6 @@ impl Port {
             → FindsPlace w p (found_of p.symbols name.now) result }
         ensures placed { IfOk result (IsPlaceOf self.now.table) }
     {
-        let _known = &self.table;
         match self.find(name) {
             Some(found) => Ok(found.place),
             None => Err(Code::C710),
@@ -37,9 +36,10 @@ impl Port {
 
     /// What a name leads to.
     pub(crate) fn find<'a>(&'a self, name: &[u8]) -> Option<Found<'a>>
-        ensures { (port : plant.Port) → IsTableOf self.now.types port self.now.table
+        ensures found { (port : plant.Port) → IsTableOf self.now.types port self.now.table
             → Finds self.now.types (map (plant_symbol self.now.types) port.symbols)
             (found_of (map (plant_symbol self.now.types) port.symbols) name.now) result }
+        ensures placed { IfSome result (λ found. IsPlaceOf self.now.table found.place) }
     {
         match Path::read(without_nul(name)) {
             Some(path) => find_in::<Brand>(&self.table, &self.types, &path, Blank::new(1)),

@@ -7,7 +7,8 @@ ghost use Rattle.spec_store.specs.BodyText.{entry_bytes, body_text, is_body_text
 ghost use Rattle.symbol_table.specs.Rows.{symbol_of_row};
 ghost use Rattle.type_layout.specs.Spelled.{Extends};
 ghost use Rattle.port_device.specs.Holds.{HoldsPorts};
-ghost use Rattle.port_device.specs.PersistentRows.{head_bytes, value_bytes, stored_entry, row_entries, rows_entries, port_entries, ports_entries, IsStoredRow, HasNumber};
+ghost use Rattle.port_device.specs.PersistentRows.{head_bytes, value_bytes, stored_entry, row_entries, rows_entries, port_entries, ports_entries};
+ghost use Rattle.port_device.specs.PersistentRows.{IsStoredRow, HasNumber};
 
 use crate::areas::bytes_of;
 use crate::{Port, Ports};
@@ -72,7 +73,7 @@ impl Port {
         ensures number { HasNumber self.now }
     {
         // Read, so that its range is known.
-        let _number = self.number;
+        let _ams_port = self.ams_port;
         count_rows(self.table.symbols())
     }
 
@@ -94,7 +95,7 @@ impl Port {
         let mut form = Octets::new(alloc);
         put_form(alloc, &self.types, row.kind.as_ref(), &mut form)?;
         let bytes = bytes_of(&self.image, &self.sizes, row.area, row.at, row.len);
-        put_head(alloc, self.number, row.name.as_slice(), out)?;
+        put_head(alloc, self.ams_port, row.name.as_slice(), out)?;
         put_value(alloc, form.as_slice(), bytes, out)
     }
 }
@@ -144,13 +145,13 @@ fn append_row(alloc: Global, port: &Port, row: &SymbolRow, out: &mut Octets) -> 
 }
 
 // Port 2, name length 2, name.
-fn put_head(alloc: Global, port: u16, name: &[u8], out: &mut Octets) -> Result<(), NoMemory>
+fn put_head(alloc: Global, ams_port: u16, name: &[u8], out: &mut Octets) -> Result<(), NoMemory>
     requires short { length name.now ≤ 255 }
-    ensures ok { OnOk result (out.new ≡ out.old ++ head_bytes port name.now) }
-    ensures number { port < 2 ^ 16 }
+    ensures ok { OnOk result (out.new ≡ out.old ++ head_bytes ams_port name.now) }
+    ensures number { ams_port < 2 ^ 16 }
     ensures no_memory { OnErr result (Extends out.old out.new) }
 {
-    put16(alloc, out, port)?;
+    put16(alloc, out, ams_port)?;
     put16(alloc, out, name.len() as u16)?;
     out.put(alloc, name)?;
     Ok(())

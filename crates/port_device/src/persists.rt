@@ -16,7 +16,8 @@ ghost use Rattle.type_layout.specs.NamedTypes.{types_of};
 ghost use Rattle.type_layout.specs.Shapes.{kind_of, shape_of_ref};
 ghost use Rattle.port_device.specs.Behind.{behind, sized_form};
 ghost use Rattle.port_device.specs.Holds.{HoldsPorts};
-ghost use Rattle.port_device.specs.PersistentRows.{head_bytes, value_bytes, stored_entry, row_entries, rows_entries, port_entries, ports_entries, IsStoredRow, HasNumber};
+ghost use Rattle.port_device.specs.PersistentRows.{head_bytes, value_bytes, stored_entry, row_entries, rows_entries, port_entries, ports_entries};
+ghost use Rattle.port_device.specs.PersistentRows.{IsStoredRow, HasNumber};
 
 use crate::areas::bytes_of;
 use crate::persistent::count_all;
@@ -96,7 +97,7 @@ impl Port {
         ensures { IfOk result (λ rest. option_map (λ r. r.now) rest
             ≡ behind (entry_bytes (stored_entry self.now (symbol_of_row row.now))) bytes.now) }
     {
-        match behind_head(self.number, row.name.as_slice(), bytes) {
+        match behind_head(self.ams_port, row.name.as_slice(), bytes) {
             Some(rest) => {
                 let value = bytes_of(&self.image, &self.sizes, row.area, row.at, row.len);
                 behind_typed(alloc, &self.types, row.kind.as_ref(), value, rest)
@@ -147,11 +148,11 @@ fn behind_row<'a>(
 }
 
 // Behind port 2, name length 2, name.
-fn behind_head<'a>(port: u16, name: &[u8], bytes: &'a [u8]) -> Option<&'a [u8]>
+fn behind_head<'a>(ams_port: u16, name: &[u8], bytes: &'a [u8]) -> Option<&'a [u8]>
     requires short { length name.now ≤ 255 }
-    ensures { option_map (λ r. r.now) result ≡ behind (head_bytes port name.now) bytes.now }
+    ensures { option_map (λ r. r.now) result ≡ behind (head_bytes ams_port name.now) bytes.now }
 {
-    let word = word_of(port, name.len() as u16);
+    let word = word_of(ams_port, name.len() as u16);
     behind_both(&word.to_le_bytes(), name, bytes)
 }
 

@@ -17,7 +17,7 @@ use type_layout::{DeviceFacts4, Sizes, Types};
 #[derive(Drop)]
 pub struct Port {
     pub(crate) types: Arc<Types, Global>,
-    pub(crate) number: u16,
+    pub(crate) ams_port: u16,
     pub(crate) facts: DeviceFacts4,
     pub(crate) sizes: Sizes,
     pub(crate) table: Table,

@@ -102,5 +102,5 @@ fn place_of(ports: &[Port], ams_port: u16) -> usize
 fn has_number(port: &Port, ams_port: u16) -> bool
     ensures { result ≡ (port.now.number == ams_port) }
 {
-    port.number == ams_port
+    port.ams_port == ams_port
 }

@@ -10,6 +10,7 @@ ghost use Rattle.spec_machine.specs.Client as client;
 ghost use Rattle.spec_machine.specs.Reads.{fixed_reply, read_group};
 ghost use Rattle.type_layout.specs.Descriptions.{area_of};
 ghost use Rattle.index_groups.specs.Access.{IsWithin, range_meant};
+ghost use Rattle.port_device.specs.Accesses.{AnswersRead};
 ghost use Rattle.port_device.specs.Answers.{AnswersAct, HasRoom, ReadsRange, IsPlaceOf, IsNamed, IsRefusedRange, place_read_act, range_read_act};
 ghost use Rattle.port_device.specs.Groups.{without_handles};
 ghost use Rattle.port_device.specs.Holds.{HoldsPort};
@@ -67,8 +68,7 @@ impl Port {
         len: u32,
         out: &mut Octets,
     ) -> Result<Result<(), Code>, NoMemory>
-        ensures answer { IfOk result (λ answer. (w : World) (c : client.Client) (p : PlantPort) → HoldsPort w p self.now
-            → AnswersAct w (read_group (setup_of w) c p (without_handles (group_of group)) offset len) answer out.old out.new) }
+        ensures answer { IfOk result (λ answer. AnswersRead self.now group offset len answer out.old out.new) }
         ensures no_memory { OnErr result (out.new ≡ out.old) }
     {
         match reach(&self.sizes, group, offset, len) {
@@ -87,8 +87,7 @@ impl Port {
         len: u32,
         out: &mut Octets,
     ) -> Result<Result<(), Code>, NoMemory>
-        ensures answer { IfOk result (λ answer. (w : World) (c : client.Client) (p : PlantPort) → HoldsPort w p self.now
-            → AnswersAct w (read_group (setup_of w) c p (without_handles (group_of group)) offset len) answer out.old out.new) }
+        ensures answer { IfOk result (λ answer. AnswersRead self.now group offset len answer out.old out.new) }
         ensures no_memory { OnErr result (out.new ≡ out.old) }
     {
         self.read_by(alloc, group, offset, len, out)

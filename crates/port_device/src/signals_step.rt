@@ -1,7 +1,6 @@
 //! A tick: each signal steps once, and the low bytes of its value become those of the symbol that it writes.
 
-ghost use Rattle.std.specs.Prelude.{◌≡◌, ◌+◌, ◌≤◌, length, map, take, slice_get, Some};
-ghost use Rattle.std.specs.Int.{w64, to_le_bytes};
+ghost use Rattle.std.specs.Prelude.{◌≡◌, ◌+◌, ◌≤◌, length, map};
 ghost use Rattle.spec_plant.specs.Accepted.{image_size, IMAGE_LIMIT};
 ghost use Rattle.spec_plant.specs.Description.{size_in};
 ghost use Rattle.type_layout.specs.Descriptions.{area_of, sizes_of};
@@ -25,8 +24,11 @@ impl Ports {
     /// A tick: each signal of the bank steps once, in order, and the low bytes of its value become those of the symbol that
     /// it writes. Only symbols that signals write are touched.
     pub fn step_signals(&mut self, bank: &mut Bank)
-        ensures ports { (w : World) → HoldsPorts w self.old → w.signals ≡ waves_of (λ b. (⟦<dyn Signal as Signal>⟧ b.vtable).wave b.value) bank.old → HoldsPorts (world_after_tick w) self.new }
-        ensures bank { waves_of (λ b. (⟦<dyn Signal as Signal>⟧ b.vtable).wave b.value) bank.new ≡ map wave_after_step (waves_of (λ b. (⟦<dyn Signal as Signal>⟧ b.vtable).wave b.value) bank.old) }
+        ensures ports { (w : World) → HoldsPorts w self.old
+            → w.signals ≡ waves_of (λ b. (⟦<dyn Signal as Signal>⟧ b.vtable).wave b.value) bank.old
+            → HoldsPorts (world_after_tick w) self.new }
+        ensures bank { waves_of (λ b. (⟦<dyn Signal as Signal>⟧ b.vtable).wave b.value) bank.new
+            ≡ map wave_after_step (waves_of (λ b. (⟦<dyn Signal as Signal>⟧ b.vtable).wave b.value) bank.old) }
     {
         step_all(self.ports.as_mut_slice(), bank);
     }
@@ -34,7 +36,8 @@ impl Ports {
 
 fn step_all(ports: &mut [Port], bank: &mut Bank)
     ensures ports { ports.new ≡ ports_after_steps 0 (waves_of (λ b. (⟦<dyn Signal as Signal>⟧ b.vtable).wave b.value) bank.old) ports.old }
-    ensures bank { waves_of (λ b. (⟦<dyn Signal as Signal>⟧ b.vtable).wave b.value) bank.new ≡ map wave_after_step (waves_of (λ b. (⟦<dyn Signal as Signal>⟧ b.vtable).wave b.value) bank.old) }
+    ensures bank { waves_of (λ b. (⟦<dyn Signal as Signal>⟧ b.vtable).wave b.value) bank.new
+        ≡ map wave_after_step (waves_of (λ b. (⟦<dyn Signal as Signal>⟧ b.vtable).wave b.value) bank.old) }
 {
     for signal in 0..bank.count() {
         let value = bank.step(signal);

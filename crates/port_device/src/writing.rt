@@ -10,6 +10,7 @@ ghost use Rattle.spec_machine.specs.Client as client;
 ghost use Rattle.spec_machine.specs.Writes.{Asker, write_act, write_group, control_act};
 ghost use Rattle.spec_machine.specs.WritableBytes.{MayWriteSymbolsAt};
 ghost use Rattle.type_layout.specs.Descriptions.{area_of, rights_of};
+ghost use Rattle.port_device.specs.Accesses.{EndsWrite};
 ghost use Rattle.port_device.specs.Answers.{IsPlaceOf, IsNamed};
 ghost use Rattle.port_device.specs.Endings.{EndsAs, IsAsker, KeepsDescription, place_write_act};
 ghost use Rattle.port_device.specs.Groups.{written_by_port};
@@ -74,9 +75,7 @@ impl Port {
         rights: Rights,
         source: NetId,
     ) -> Result<(), Code>
-        ensures answer { (w : World) (c : client.Client) (k : Asker) → HoldsPort w k.port self.old
-            → IsAsker k (rights_of rights) source.bytes
-            → EndsAs w k.port (write_group c k (written_by_port (group_of group)) offset bytes.now) result self.new }
+        ensures answer { EndsWrite self.old group offset bytes.now (rights_of rights) source.bytes result self.new }
         ensures err { OnErr result (self.new ≡ self.old) }
         ensures keeps { KeepsDescription self.old self.new }
     {
@@ -104,9 +103,7 @@ impl Port {
         rights: Rights,
         source: NetId,
     ) -> Result<(), Code>
-        ensures answer { (w : World) (c : client.Client) (k : Asker) → HoldsPort w k.port self.old
-            → IsAsker k (rights_of rights) source.bytes
-            → EndsAs w k.port (write_group c k (written_by_port (group_of group)) offset bytes.now) result self.new }
+        ensures answer { EndsWrite self.old group offset bytes.now (rights_of rights) source.bytes result self.new }
         ensures err { OnErr result (self.new ≡ self.old) }
         ensures keeps { KeepsDescription self.old self.new }
     {
@@ -132,6 +129,7 @@ impl Port {
         if !may_write(rights) {
             return Err(Code::C704);
         }
+        // Read, so that the place is known to lie in its area.
         let _known = &self.table;
         if bytes.len() > place.len as usize {
             return Err(Code::C705);

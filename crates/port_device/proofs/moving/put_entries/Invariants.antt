@@ -13,6 +13,6 @@ abbrev pub invariant-loop-number : goal.invariant-loop-number
 invariant-loop-number l = record {
   fit : All IsKeptPlace l.kept;
   left : (before : List NamedType) → AreCompared before l.now.types l.same → All (IsTypedRow before) l.rows
-      → kept_symbols_of l.kept ++ entries_from before l.now l.port l.number (symbols_of_rows (drop l.number l.rows))
-      ≡ kept_symbols_of l.initial.kept ++ entries_from before l.now l.port 0 (symbols_of_rows l.rows);
+      → kept_symbols_of l.kept ++ entries_from before l.now l.ams_port l.number (symbols_of_rows (drop l.number l.rows))
+      ≡ kept_symbols_of l.initial.kept ++ entries_from before l.now l.ams_port 0 (symbols_of_rows l.rows);
 }

@@ -9,7 +9,7 @@ pub returns : goal.returns
 returns c =
     let name = c.args.name.now in
     let short = c.requires.short in
-    let fits = c.ranges.port.fits in
-    let word : c.to_le_bytes.result ≡ to_le_bytes w16 c.args.port ++ to_le_bytes w16 (length name) =
-    c.to_le_bytes.ensures ∙ ap (to_le_bytes w32) c.word_of-word.ensures ∙ word-halves c.args.port (length name) fits (omega (arith, short)) in
+    let fits = c.ranges.ams_port.fits in
+    let word : c.to_le_bytes.result ≡ to_le_bytes w16 c.args.ams_port ++ to_le_bytes w16 (length name) =
+    c.to_le_bytes.ensures ∙ ap (to_le_bytes w32) c.word_of-word.ensures ∙ word-halves c.args.ams_port (length name) fits (omega (arith, short)) in
     c.behind_both.ensures ∙ ap (λ t. behind (t ++ name) c.args.bytes.now) word

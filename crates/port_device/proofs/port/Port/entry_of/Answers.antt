@@ -41,14 +41,14 @@ returns-then-have_same_type-clause-entry c = λ before.
     let symbol = row-symbol c.symbols.result.now m.table.symbols c.in-Some.place new c.symbols.ensures.rows there in
     let from_ = c.whole_place.ensures in
     let to_ = c.whole_place-then-have_same_type.ensures in
-    let e : KeptSymbol = kept_symbol_of (record { port = c.args.port; from = c.whole_place.result; to = c.whole_place-then-have_same_type.result }) in
+    let e : KeptSymbol = kept_symbol_of (record { port = c.args.ams_port; from = c.whole_place.result; to = c.whole_place-then-have_same_type.result }) in
     let P : PortMemory
     → Type 0 = λ x. AreCompared before x.types c.args.same.now → IsTypedRow before c.args.row.now → ◌≡◌ {A = Option KeptSymbol} (Some e)
-    (entry_of before x c.args.port c.args.number s) in
+    (entry_of before x c.args.ams_port c.args.number s) in
     subst P c.self.view_is (λ compared typed.
     let new_typed = typed_row m.types m.table c.symbols.result.now c.in-Some.place new with_ c.symbols.ensures.rows there in
     let same = sym (c.have_same_type.ensures.same before m.types compared typed new_typed) ∙ c.if-have_same_type.true in
-    rw (from_, to_) (sym (entry-some before m c.args.port c.args.number s c.in-Some.place (symbol_of_row new) true number symbol same)))
+    rw (from_, to_) (sym (entry-some before m c.args.ams_port c.args.number s c.in-Some.place (symbol_of_row new) true number symbol same)))
 
 pub returns-else-have_same_type-clause-entry : goal.returns-else-have_same_type-clause-entry
 returns-else-have_same_type-clause-entry c = λ before.
@@ -63,8 +63,8 @@ returns-else-have_same_type-clause-entry c = λ before.
     let symbol = row-symbol c.symbols.result.now m.table.symbols c.in-Some.place new c.symbols.ensures.rows there in
     let P : PortMemory
     → Type 0 = λ x. AreCompared before x.types c.args.same.now → IsTypedRow before c.args.row.now → ◌≡◌ {A = Option KeptSymbol} None
-    (entry_of before x c.args.port c.args.number s) in
+    (entry_of before x c.args.ams_port c.args.number s) in
     subst P c.self.view_is (λ compared typed.
     let new_typed = typed_row m.types m.table c.symbols.result.now c.in-Some.place new with_ c.symbols.ensures.rows there in
     let same = sym (c.have_same_type.ensures.same before m.types compared typed new_typed) ∙ c.if-have_same_type.false in
-    sym (entry-some before m c.args.port c.args.number s c.in-Some.place (symbol_of_row new) false number symbol same))
+    sym (entry-some before m c.args.ams_port c.args.number s c.in-Some.place (symbol_of_row new) false number symbol same))

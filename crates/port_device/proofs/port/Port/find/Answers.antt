@@ -10,11 +10,11 @@ use Rattle.symbol_table.specs.FoundPlaces.{Finds}
 use Rattle.symbol_table.specs.Tables.{IsTableOf}
 use Rattle.port_device.specs.PortMemory.{PortMemory}
 use Rattle.port_device.specs.Ports.{memory_in}
-use Rattle.port_device.proofs.NameLemmas.{found_by_path, found_by_none}
+use Rattle.port_device.proofs.NameLemmas.{found_by_path, found_by_none, placed_where_found}
 use Rattle.port_device.proofs.port.Port.find.Goals as goal
 
-pub returns-in-Some : goal.returns-in-Some
-returns-in-Some c = λ port table.
+pub returns-in-Some-clause-found : goal.returns-in-Some-clause-found
+returns-in-Some-clause-found c = λ port table.
     let m : PortMemory = memory_in c.self.inside in
     let symbols = map (plant_symbol m.types) port.symbols in
     let T : PortMemory → Type 0 = λ x. IsTableOf x.types port x.table in
@@ -28,8 +28,15 @@ returns-in-Some c = λ port table.
     let e = ap steps_of (sym c.without_nul.ensures) ∙ sym c.read.ensures ∙ c.in-Some.is in
     subst Q c.self.view_is (subst P (found_by_path symbols c.args.name.now _ e) (finds (subst T (sym c.self.view_is) table)))
 
-pub returns-in-None : goal.returns-in-None
-returns-in-None c = λ port table.
+pub returns-in-Some-clause-placed : goal.returns-in-Some-clause-placed
+returns-in-Some-clause-placed c =
+    let T : PortMemory → Type 0 = λ x. IsTableOf x.types c.self.invariant.port x.table in
+    let table = subst T c.self.view_is c.self.invariant.table in
+    placed_where_found c.args.self.now c.self.invariant.port c.args.name.now c.find_in.result table
+    (returns-in-Some-clause-found c c.self.invariant.port table)
+
+pub returns-in-None-clause-found : goal.returns-in-None-clause-found
+returns-in-None-clause-found c = λ port table.
     let symbols = map (plant_symbol c.args.self.now.types) port.symbols in
     let P : Option plant.Found → Type 0 = λ o. Finds c.args.self.now.types symbols o None in
     let e = ap steps_of (sym c.without_nul.ensures) ∙ sym c.read.ensures ∙ c.in-None.is in

@@ -15,11 +15,11 @@ returns-in_ok-put_info-in-Some-clause-answer c = λ w d p h.
     let enough = c.if-len-lt12.false in
     info_found w d p c.args.self.now.types c.args.len c.args.name.now c.args.out.now c.put_info.new.out c.in-Some.found (found_of p.symbols c.args.name.now)
     (is_false (nat_lt c.args.len 12) (λ t. omega (arith, ltb-true c.args.len 12 t, enough))) refl
-    (finds_at_port w p c.args.self.now c.args.name.now (Some c.in-Some.found) h (c.in-Some.ensures h.port h.table)) c.in_ok-put_info-in-Some.ensures.ok
+    (finds_at_port w p c.args.self.now c.args.name.now (Some c.in-Some.found) h (c.in-Some.ensures.found h.port h.table)) c.in_ok-put_info-in-Some.ensures.ok
 
 pub returns-in-None-clause-answer : goal.returns-in-None-clause-answer
 returns-in-None-clause-answer c = λ w d p h.
     let enough = c.if-len-lt12.false in
     info_unknown w d p c.args.self.now.types c.args.len c.args.name.now c.args.out.now (found_of p.symbols c.args.name.now)
     (is_false (nat_lt c.args.len 12) (λ t. omega (arith, ltb-true c.args.len 12 t, enough))) refl
-    (finds_at_port w p c.args.self.now c.args.name.now None h (c.in-None.ensures h.port h.table))
+    (finds_at_port w p c.args.self.now c.args.name.now None h (c.in-None.ensures.found h.port h.table))
