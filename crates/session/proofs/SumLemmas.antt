@@ -194,7 +194,7 @@ some-state s some = let a = some.asking in record {
   first = a.client;
 }
 
-pub stands-some : (s : declared.Single) (some : SomeAsks s.port.now s.handles.now) → s.asker.number ≡ s.port.now.number → IsSingle s (some-state s some)
+pub stands-some : (s : declared.Single) (some : SomeAsks s.port.now s.handles.now) → s.asker.ams_port ≡ s.port.now.number → IsSingle s (some-state s some)
 stands-some s some number = record {
   asks = record { held = some.asks.held; handles = some.asks.handles };
   asker = record { net_is = refl; rights_are = refl };
@@ -203,7 +203,7 @@ stands-some s some number = record {
   notes = record { additions = refl; watches = refl };
 }
 
-pub stands-for-some : (s : declared.Single) (some : SomeAsks s.port.now s.handles.now) → s.asker.number ≡ s.port.now.number → StandsForSome IsSingle s
+pub stands-for-some : (s : declared.Single) (some : SomeAsks s.port.now s.handles.now) → s.asker.ams_port ≡ s.port.now.number → StandsForSome IsSingle s
 stands-for-some s some number = record { state = some-state s some; stands = stands-some s some number }
 
 -- what stands behind a sum is no shorter than what stood there

@@ -29,7 +29,7 @@ pub record StillLent (begun s : Single) : Type 0 where
 pub record IsSingle (s : Single) (x : SumState) : Type 0 where
   pub asks : Asks x.asking s.port.now s.handles.now
   pub asker : IsAsker x.asking.asker (rights_of s.asker.rights) s.asker.source.net.bytes
-  pub number : s.asker.number ≡ s.port.now.number
+  pub number : s.asker.ams_port ≡ s.port.now.number
   pub lent : StillLent x.begun s
   pub notes : SameNotes x.first x.asking.client
 

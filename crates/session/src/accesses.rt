@@ -32,7 +32,7 @@ impl Session {
         ensures { OnOk result ((a : Asking) → AsksSession a port.now self.now
             → Runs a (format.Read asked.now.group asked.now.offset asked.now.len) out.old out.new port.now self.now) }
     {
-        read_reply(alloc, &self.handles, port, ams_port, asked, out)
+        read_reply(alloc, &self.handles, port, ams_port, *asked, out)
     }
 
     /// Writes, and appends the result.
@@ -45,7 +45,7 @@ impl Session {
         out: &mut Octets,
     ) -> Result<(), NoMemory>
         requires some { SomeAsks port.old self.old.handles }
-        requires number { asker.number ≡ port.old.number }
+        requires number { asker.ams_port ≡ port.old.number }
         ensures runs { OnOk result ((a : Asking) → AsksSession a port.old self.old → IsFrom a asker.source asker.rights
             → Runs a (format.Write asked.now.group asked.now.offset asked.now.bytes.now) out.old out.new port.new self.new) }
         ensures keeps { KeepsDescription port.old port.new }
@@ -65,7 +65,7 @@ impl Session {
         out: &mut Octets,
     ) -> Result<(), NoMemory>
         requires some { SomeAsks port.old self.old.handles }
-        requires number { asker.number ≡ port.old.number }
+        requires number { asker.ams_port ≡ port.old.number }
         ensures runs { OnOk result ((a : Asking) → AsksSession a port.old self.old → IsFrom a asker.source asker.rights
             → Runs a (format.ReadWrite asked.now.group asked.now.offset asked.now.len asked.now.bytes.now) out.old out.new port.new self.new) }
         ensures keeps { KeepsDescription port.old port.new }
@@ -74,6 +74,6 @@ impl Session {
         if is_sum(asked.group) {
             return self.sum(alloc, port, asker, asked, out);
         }
-        read_write_reply(alloc, &mut self.handles, port, asker.number, asked, out)
+        read_write_reply(alloc, &mut self.handles, port, asker.ams_port, *asked, out)
     }
 }

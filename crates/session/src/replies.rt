@@ -49,19 +49,17 @@ pub(crate) fn read_reply(
     handles: &Handles,
     port: &Port,
     ams_port: u16,
-    asked: &ReadRequest,
+    asked: ReadRequest,
     out: &mut Octets,
 ) -> Result<(), NoMemory>
     requires some { SomeAsks port.now handles.now }
     requires number { ams_port ≡ port.now.number }
     ensures { OnOk result ((a : Asking) → Asks a port.now handles.now
-        → out.new ≡ out.old ++ reply_payload READ (outcome_asked a (Read asked.now.group asked.now.offset asked.now.len))) }
+        → out.new ≡ out.old ++ reply_payload READ (outcome_asked a (Read asked.group asked.offset asked.len))) }
 {
     let start = out.len();
     put_room(alloc, out, FRONT)?;
-    // Read, so that its range is known.
-    let _len = asked.len;
-    let answer = reading::read(alloc, handles, port, ams_port, asked, out)?;
+    let answer = reading::read(alloc, handles, port, ams_port, &asked, out)?;
     fill_front(out, start, number_in(answer));
     Ok(())
 }
@@ -72,21 +70,20 @@ pub(crate) fn read_write_reply(
     handles: &mut Handles,
     port: &Port,
     ams_port: u16,
-    asked: &ReadWriteRequest<'_>,
+    asked: ReadWriteRequest<'_>,
     out: &mut Octets,
 ) -> Result<(), NoMemory>
     requires some { SomeAsks port.now handles.old }
     requires number { ams_port ≡ port.now.number }
     ensures reply { OnOk result ((a : Asking) → Asks a port.now handles.old
-        → out.new ≡ out.old ++ reply_payload READ_WRITE (outcome_asked a (ReadWrite asked.now.group asked.now.offset asked.now.len asked.now.bytes.now))) }
+        → out.new ≡ out.old ++ reply_payload READ_WRITE
+        (outcome_asked a (ReadWrite asked.entry.group asked.entry.offset asked.entry.len asked.entry.bytes.now))) }
     ensures leaves { OnOk result ((a : Asking) → Asks a port.now handles.old
-        → Asks (asking_after a (ReadWrite asked.now.group asked.now.offset asked.now.len asked.now.bytes.now)) port.now handles.new) }
+        → Asks (asking_after a (ReadWrite asked.entry.group asked.entry.offset asked.entry.len asked.entry.bytes.now)) port.now handles.new) }
 {
     let start = out.len();
     put_room(alloc, out, FRONT)?;
-    // Read, so that its range is known.
-    let _len = asked.len;
-    let answer = granting::read_write(alloc, handles, port, ams_port, asked, out)?;
+    let answer = granting::read_write(alloc, handles, port, ams_port, &asked, out)?;
     fill_front(out, start, number_in(answer));
     Ok(())
 }

@@ -1,5 +1,7 @@
 //! What requests ask for, each as one value.
 
+ghost use Rattle.std.specs.Prelude.{◌≡◌};
+
 /// What Read asks for.
 #[derive(Clone, Copy)]
 pub(crate) struct ReadRequest {
@@ -16,6 +18,19 @@ pub(crate) struct WriteRequest<'a> {
     pub(crate) bytes: &'a [u8],
 }
 
+impl<'a> WriteRequest<'a> {
+    #[inline(always)]
+    pub(crate) fn new(group: u32, offset: u32, bytes: &'a [u8]) -> WriteRequest<'a>
+        ensures { result ≡ record { group = group; offset = offset; bytes = bytes.entry } }
+    {
+        WriteRequest {
+            group,
+            offset,
+            bytes,
+        }
+    }
+}
+
 /// What ReadWrite asks for. Where the group is that of a sum, its offset is how many parts it has.
 #[derive(Clone, Copy)]
 pub(crate) struct ReadWriteRequest<'a> {
@@ -23,6 +38,20 @@ pub(crate) struct ReadWriteRequest<'a> {
     pub(crate) offset: u32,
     pub(crate) len: u32,
     pub(crate) bytes: &'a [u8],
+}
+
+impl<'a> ReadWriteRequest<'a> {
+    #[inline(always)]
+    pub(crate) fn new(group: u32, offset: u32, len: u32, bytes: &'a [u8]) -> ReadWriteRequest<'a>
+        ensures { result ≡ record { group = group; offset = offset; len = len; bytes = bytes.entry } }
+    {
+        ReadWriteRequest {
+            group,
+            offset,
+            len,
+            bytes,
+        }
+    }
 }
 
 /// What AddDeviceNotification asks for. The greatest delay is not looked at.
@@ -33,4 +62,19 @@ pub(crate) struct NoteRequest {
     pub(crate) len: u32,
     pub(crate) mode: u32,
     pub(crate) cycle: u32,
+}
+
+impl NoteRequest {
+    #[inline(always)]
+    pub(crate) fn new(group: u32, offset: u32, len: u32, mode: u32, cycle: u32) -> NoteRequest
+        ensures { result ≡ record { group = group; offset = offset; len = len; mode = mode; cycle = cycle } }
+    {
+        NoteRequest {
+            group,
+            offset,
+            len,
+            mode,
+            cycle,
+        }
+    }
 }

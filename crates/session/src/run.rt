@@ -35,7 +35,7 @@ impl Session {
         out: &mut Octets,
     ) -> Result<(), NoMemory>
         requires some { SomeAsks port.old self.old.handles }
-        requires number { asker.number ≡ port.old.number }
+        requires number { asker.ams_port ≡ port.old.number }
         ensures runs { OnOk result ((a : Asking) → AsksSession a port.old self.old → IsFrom a asker.source asker.rights
             → Runs a (request_meant request.entry) out.old out.new port.new self.new) }
         ensures keeps { KeepsDescription port.old port.new }
@@ -45,18 +45,14 @@ impl Session {
             Request::DeviceInfo => self.info(alloc, port, out),
             Request::Read { group, offset, len } => {
                 let asked = ReadRequest { group, offset, len };
-                self.read(alloc, port, asker.number, &asked, out)
+                self.read(alloc, port, asker.ams_port, &asked, out)
             }
             Request::Write {
                 group,
                 offset,
                 bytes,
             } => {
-                let asked = WriteRequest {
-                    group,
-                    offset,
-                    bytes,
-                };
+                let asked = WriteRequest::new(group, offset, bytes);
                 self.write(alloc, port, asker, &asked, out)
             }
             Request::State => self.state(alloc, port, out),
@@ -73,16 +69,10 @@ impl Session {
                 delay: _,
                 cycle,
             } => {
-                let asked = NoteRequest {
-                    group,
-                    offset,
-                    len,
-                    mode,
-                    cycle,
-                };
+                let asked = NoteRequest::new(group, offset, len, mode, cycle);
                 self.add(alloc, port, asker, &asked, out)
             }
-            Request::Delete { handle } => self.delete(alloc, asker.number, handle, out),
+            Request::Delete { handle } => self.delete(alloc, asker.ams_port, handle, out),
             Request::Note(_) => self.note(alloc, out),
             Request::ReadWrite {
                 group,
@@ -90,12 +80,7 @@ impl Session {
                 read_len,
                 bytes,
             } => {
-                let asked = ReadWriteRequest {
-                    group,
-                    offset,
-                    len: read_len,
-                    bytes,
-                };
+                let asked = ReadWriteRequest::new(group, offset, read_len, bytes);
                 self.read_write(alloc, port, asker, &asked, out)
             }
         }
@@ -148,7 +133,7 @@ impl Session {
         out: &mut Octets,
     ) -> Result<(), NoMemory>
         requires some { SomeAsks port.now self.old.handles }
-        requires number { asker.number ≡ port.now.number }
+        requires number { asker.ams_port ≡ port.now.number }
         ensures runs { OnOk result ((a : Asking) (delay : ℕ) → AsksSession a port.now self.old → IsFrom a asker.source asker.rights
             → Runs a (format.AddDeviceNotification asked.now.group asked.now.offset asked.now.len asked.now.mode delay asked.now.cycle)
             out.old out.new port.now self.new) }

@@ -40,8 +40,8 @@ impl PartService for Single<'_> {
         out: &mut Octets,
     ) -> Result<Result<(), Code>, NoMemory> {
         let asked = ReadRequest { group, offset, len };
-        let number = self.asker.number;
-        reading::read(alloc, &*self.handles, &*self.port, number, &asked, out)
+        let ams_port = self.asker.ams_port;
+        reading::read(alloc, &*self.handles, &*self.port, ams_port, &asked, out)
     }
 
     fn write(&mut self, group: u32, offset: u32, bytes: &[u8]) -> Result<(), Code> {
@@ -68,7 +68,14 @@ impl PartService for Single<'_> {
             len: read_len,
             bytes,
         };
-        let number = self.asker.number;
-        granting::read_write(alloc, &mut *self.handles, &*self.port, number, &asked, out)
+        let ams_port = self.asker.ams_port;
+        granting::read_write(
+            alloc,
+            &mut *self.handles,
+            &*self.port,
+            ams_port,
+            &asked,
+            out,
+        )
     }
 }

@@ -35,7 +35,7 @@ impl Session {
         out: &mut Octets,
     ) -> Result<(), NoMemory>
         requires some { SomeAsks port.old self.old.handles }
-        requires number { asker.number ≡ port.old.number }
+        requires number { asker.ams_port ≡ port.old.number }
         requires sum { IsSumGroup asked.now.group }
         ensures runs { OnOk result ((a : Asking) → AsksSession a port.old self.old → IsFrom a asker.source asker.rights
             → Runs a (format.ReadWrite asked.now.group asked.now.offset asked.now.len asked.now.bytes.now) out.old out.new port.new self.new) }
@@ -63,7 +63,7 @@ fn run_parts(
     out: &mut Octets,
 ) -> Result<Result<(), Code>, NoMemory>
     requires some { SomeAsks single.old.port.now single.old.handles.now }
-    requires number { single.old.asker.number ≡ single.old.port.now.number }
+    requires number { single.old.asker.ams_port ≡ single.old.port.now.number }
     requires sum { IsSumGroup asked.now.group }
     ensures handles { single.new.handles.ghost_name ≡ single.old.handles.ghost_name }
     ensures port { single.new.port.ghost_name ≡ single.old.port.ghost_name }

@@ -119,7 +119,7 @@ impl Session {
         out.cut(0);
         put_room(alloc, &mut out, HEADERS)?;
         let asker = Asker {
-            number: h.target.port,
+            ams_port: h.target.port,
             source: h.source,
             rights,
         };

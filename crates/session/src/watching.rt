@@ -54,7 +54,7 @@ impl Session {
         asked: &NoteRequest,
     ) -> Result<Result<u32, Code>, NoMemory>
         requires some { SomeAsks port.now self.old.handles }
-        requires number { asker.number ≡ port.now.number }
+        requires number { asker.ams_port ≡ port.now.number }
         ensures adds { IfOk result (λ answer. (a : Asking) (delay : ℕ) → HoldsPort a.world a.asker.port port.now
             → StandsFor a.world.plant a.client self.old → a.asker.address ≡ address_of asker.source
             → AddsAs a (act_asked a (AddDeviceNotification asked.now.group asked.now.offset asked.now.len asked.now.mode delay asked.now.cycle))
@@ -80,7 +80,7 @@ impl Session {
     // The notification that is asked for, or the code that refuses it before the limits are looked at.
     fn spec_asked(&self, port: &Port, asker: Asker, asked: &NoteRequest) -> Result<Spec, Code>
         requires some { SomeAsks port.now self.now.handles }
-        requires number { asker.number ≡ port.now.number }
+        requires number { asker.ams_port ≡ port.now.number }
         ensures asked { (a : Asking) (delay : ℕ) → Asks a port.now self.now.handles → a.asker.address ≡ address_of asker.source
             → IsSpecAsked a (act_asked a (AddDeviceNotification asked.now.group asked.now.offset asked.now.len asked.now.mode delay asked.now.cycle))
             result }
@@ -100,7 +100,7 @@ impl Session {
         mode: Mode,
     ) -> Result<Spec, Code>
         requires some { SomeAsks port.now self.now.handles }
-        requires number { asker.number ≡ port.now.number }
+        requires number { asker.ams_port ≡ port.now.number }
         requires mode { Some (mode_meant mode) ≡ mode_of asked.now.mode }
         ensures asked { (a : Asking) (delay : ℕ) → Asks a port.now self.now.handles → a.asker.address ≡ address_of asker.source
             → IsSpecAsked a (act_asked a (AddDeviceNotification asked.now.group asked.now.offset asked.now.len asked.now.mode delay asked.now.cycle))
@@ -110,13 +110,13 @@ impl Session {
         if asked.len > MOST_BYTES {
             return Err(Code::C717);
         }
-        match watched(&self.handles, port, asker.number, asked) {
+        match watched(&self.handles, port, asker.ams_port, asked) {
             Ok(reach) => {
                 if asked.len == 0 {
                     return Err(Code::C705);
                 }
                 Ok(Spec {
-                    port: asker.number,
+                    port: asker.ams_port,
                     to: asker.source,
                     reach,
                     mode,

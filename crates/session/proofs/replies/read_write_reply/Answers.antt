@@ -6,7 +6,7 @@ use Rattle.session.proofs.replies.read_write_reply.Goals as goal
 
 pub fill_front-requires-clause-there : goal.fill_front-requires-clause-there
 fill_front-requires-clause-there c =
-    let asked = c.args.asked.now in
+    let asked = c.args.asked in
     let a = c.requires.some.asking in
     let grown = answer-grows a.world (act_asked a (ReadWrite asked.group asked.offset asked.len asked.bytes.now))
     c.in_ok-answer.answer _ _ (c.in_ok-answer.ensures.answer a c.requires.some.asks) in
@@ -14,7 +14,7 @@ fill_front-requires-clause-there c =
 
 pub returns-clause-reply : goal.returns-clause-reply
 returns-clause-reply c = λ a asks.
-    let asked = c.args.asked.now in
+    let asked = c.args.asked in
     answer-filled a.world (act_asked a (ReadWrite asked.group asked.offset asked.len asked.bytes.now))
     c.in_ok-answer.answer c.args.out.now c.put_room.new.out c.read_write.new.out c.fill_front.new.out c.len-start.result
     c.number_in.result (c.in_ok-answer.ensures.answer a asks) c.number_in.ensures

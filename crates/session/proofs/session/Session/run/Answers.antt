@@ -1,6 +1,8 @@
 use Rattle.std.proofs.Common.{sym, subst}
 use Rattle.ads_commands.specs.declared.request.Request.{Request}
 use Rattle.ads_commands.specs.Request.{request_meant}
+use Rattle.spec_formats.specs.Request as format
+use Rattle.session.specs.declared.requests.NoteRequest.{NoteRequest}
 use Rattle.session.specs.Runs.{Runs}
 use Rattle.session.proofs.RunLemmas.{ok-then}
 use Rattle.session.proofs.session.Session.run.Goals as goal
@@ -13,7 +15,9 @@ returns-in-Control-clause-runs c = ok-then c.control.result _ _ (λ said a h fro
 pub returns-in-Add-clause-runs : goal.returns-in-Add-clause-runs
 returns-in-Add-clause-runs c = ok-then c.add.result _ _ (λ said a h from.
     let R : Request → Type 0 = λ q. Runs a (request_meant q) c.args.out.now c.add.new.out c.args.port.now c.add.new.self in
-    subst R (sym c.in-Add.is) (said a c.in-Add.delay h from)) c.add.ensures.runs
+    let N : NoteRequest → Type 0 = λ x. Runs a (format.AddDeviceNotification x.group x.offset x.len x.mode c.in-Add.delay x.cycle)
+    c.args.out.now c.add.new.out c.args.port.now c.add.new.self in
+    subst R (sym c.in-Add.is) (subst N c.new-asked-in-Add.ensures (said a c.in-Add.delay h from))) c.add.ensures.runs
 
 pub returns-in-Note-clause-runs : goal.returns-in-Note-clause-runs
 returns-in-Note-clause-runs c = ok-then c.note.result _ _ (λ said a h from.
