@@ -8,7 +8,8 @@ use sqlite::{Alter, Connection, Error, Row, Transaction, params};
 pub fn make_tables<S: Alter>(conn: &mut Connection<S>) -> Result<(), Error> {
     conn.execute_batch(
         "CREATE TABLE IF NOT EXISTS sample (number BLOB NOT NULL UNIQUE, name BLOB NOT NULL, time BLOB NOT NULL, bytes BLOB NOT NULL) STRICT;
-         CREATE TABLE IF NOT EXISTS total (name BLOB NOT NULL UNIQUE, count INTEGER NOT NULL, last BLOB NOT NULL, time BLOB NOT NULL, bytes BLOB NOT NULL) STRICT;",
+         CREATE TABLE IF NOT EXISTS total (name BLOB NOT NULL UNIQUE, count INTEGER NOT NULL, last BLOB NOT NULL,
+             time BLOB NOT NULL, bytes BLOB NOT NULL) STRICT;",
     )
 }
 
