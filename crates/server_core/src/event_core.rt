@@ -1,6 +1,7 @@
 //! The core: the machine over the connections that are there.
 
-ghost use Rattle.std.specs.Prelude.{◌≡◌, ◌≤◌, ◌<◌, ◌^◌, ◌++◌, [], ℕ, List, length, filter, slice_get, IfOk, OnOk, OnErr, IfSome, IsErr, IsSome, Some, option_copied, option_map};
+ghost use Rattle.std.specs.Prelude.{◌≡◌, ◌≤◌, ◌<◌, ◌^◌, ◌++◌, [], ℕ, List, length, filter, slice_get, IfOk, OnOk, OnErr, IfSome, IsErr};
+ghost use Rattle.std.specs.Prelude.{IsSome, Some, option_copied, option_map};
 ghost use Rattle.std.specs.List.{concat};
 ghost use Rattle.type_layout.specs.Descriptions.{description_of};
 ghost use Rattle.spec_persistent.specs.Otherwise.{MayBegin};
