@@ -1,5 +1,7 @@
 -- What comes of a packet, by what its checks said.
-use Rattle.std.proofs.Common.{◌≡◌, ◌≤◌, ℕ, List, [], ◌∷◌, ◌++◌, length, drop, true, false, cond, refl, sym, ◌∙◌, ap, subst, drop_at, arith, length-append}
+use Rattle.std.proofs.Common.{◌≡◌, ◌+◌, ℕ, List, [], ◌∷◌, ◌++◌, length, take, drop, true, false, cond, refl, sym, ◌∙◌, ap, subst, append-nil}
+use Rattle.ads_base.specs.Octets.{Extends}
+use Rattle.ads_base.proofs.OctetsLemmas.{Extends-same, Extends-append}
 use Rattle.ads_base.specs.declared.ams_addr.AmsAddr.{AmsAddr}
 use Rattle.ams_header.specs.Header.{address_of, ams_header_of}
 use Rattle.ams_header.specs.declared.header.Header as declared
@@ -8,7 +10,6 @@ use Rattle.ads_commands.specs.Request.{request_meant}
 use Rattle.type_layout.specs.declared.description.Rights.{Rights}
 use Rattle.type_layout.specs.Descriptions.{rights_of}
 use Rattle.session.specs.declared.examined.Examined.TheVariants as examined
-use Rattle.std.proofs.lemmas.List.{drop_all}
 use Rattle.std.specs.Prelude.{Bool, Option, Some, None, is_some, Result, Ok, Err, IfOk, ◌==◌}
 use Rattle.std.proofs.lemmas.Bool.{eqb-true, false≢true}
 use Rattle.ads_base.specs.declared.no_memory.NoMemory.{NoMemory}
@@ -39,6 +40,7 @@ use Rattle.port_device.specs.Holds.{HoldsPort, HoldsPorts, HoldsFound}
 use Rattle.port_device.proofs.PortsLemmas.{found_is_held}
 use Rattle.session.specs.declared.taken.Taken.{Taken}
 use Rattle.session.specs.declared.taken.Taken.TheVariants as taken
+use Rattle.session.specs.declared.told.Told.{Told}
 use Rattle.session.specs.Answered.{AnswersAsked, IsErrorFrame, IsRefusedFrame}
 use Rattle.session.specs.Asking.{Asking}
 use Rattle.session.specs.Asks.{SomeAsks}
@@ -47,8 +49,9 @@ use Rattle.session.specs.Runs.{AsksSession, IsFrom, Runs, decision_of, ending_of
 use Rattle.session.specs.Served.{IsServed}
 use Rattle.session.specs.SessionState.{SessionState}
 use Rattle.session.specs.StandsFor.{StandsFor}
-use Rattle.session.specs.Takes.{Takes, IsAnswer, outcome_of_packet}
+use Rattle.session.specs.Takes.{Takes, IsAnswer, outcome_of_packet, taken_of}
 use Rattle.session.proofs.ActPuts.{request-at}
+use Rattle.session.proofs.FrameLemmas.{behind-old, frame-behind, kept-front}
 use Rattle.session.proofs.OtherPorts.{ports-held}
 
 -- the port that was found is held
@@ -111,16 +114,16 @@ some-asks ports s number m served found =
 -- the answer to the request of a packet
 
 pub answers-asked : (a : Asking) (h : AmsHeader) (r : Request) (ports : PortsMemory)
-    (number : ℕ) (m m' : PortMemory) (s s' : SessionState) (room out frame : List ℕ)
+    (number : ℕ) (m m' : PortMemory) (s s' : SessionState) (start : ℕ) (old room out new : List ℕ)
     → HoldsPorts a.world ports → port_numbered number a.world.plant.ports ≡ Some a.asker.port
-    → Runs a r room out m' s' → length room ≡ 38 → frame ≡ frame_bytes (response_packet h no_error (drop 38 out))
-    → AnswersAsked a h r (taken.Answer frame) (with_port ports number m') s'
-answers-asked a h r ports number m m' s s' room out frame held found runs long is_frame =
+    → Runs a r room out m' s' → start ≡ length old → length room ≡ length old + 38 → take start out ≡ old
+    → new ≡ take start out ++ frame_bytes (response_packet h no_error (drop (start + 38) out))
+    → AnswersAsked a h r (taken.Answer (drop (length old) new)) (with_port ports number m') s'
+answers-asked a h r ports number m m' s s' start old room out new held found runs is_start long kept is_new =
     let p = a.asker.port in
     let payload = reply_payload (command_of r) (ending_of (decision_of a r) a.world.memory) in
-    let behind : drop 38 out ≡ payload = ap (drop 38) runs.reply ∙ drop_at room payload 38 long in
     record {
-      answered = is_frame ∙ ap (λ x. frame_bytes (response_packet h no_error x)) behind;
+      answered = behind-old old _ new (frame-behind h no_error start old room out payload new is_start long runs.reply kept is_new);
       held = ports-held a.world ports number p m' (acts_in (decision_of a r)) held found (port_number number a.world.plant.ports p found)
           (request-at (setup_of a.world) a.client a.asker r) runs.after.held;
       stands = runs.after.stands;
@@ -217,25 +220,29 @@ takes-refused w c ams frame h ports s held stands is_header is is_frame =
 
 -- frames of the two refusals
 
-pub error-framed : (h : AmsHeader) (code : Code) (n : ℕ) (out : List ℕ) (r : Result (List ℕ) NoMemory) → length out ≡ 38 → n ≡ number_of code
-    → IfOk r (λ frame. frame ≡ frame_bytes (response_packet h n (drop 38 out))) → IfOk r (IsErrorFrame h code)
-error-framed h code n out (Ok frame) long is framed =
-    framed ∙ ap (λ x. frame_bytes (response_packet h n x)) (drop_all 38 out (omega (arith, long))) ∙ ap (λ x. frame_bytes (response_packet h x [])) is
-error-framed h code n out (Err no_memory) long is framed = tt
+pub error-behind : (h : AmsHeader) (code : Code) (n start : ℕ) (old room new : List ℕ) → start ≡ length old → length room ≡ length old + 38
+    → take (length old) room ≡ old → n ≡ number_of code → new ≡ take start room ++ frame_bytes (response_packet h n (drop (start + 38) room))
+    → new ≡ old ++ frame_bytes (response_packet h (number_of code) [])
+error-behind h code n start old room new is_start long begins is is_new =
+    let kept = kept-front old room room start is_start long begins (Extends-same room room refl) in
+    frame-behind h n start old room room [] new is_start long (sym (append-nil room)) kept is_new
+    ∙ ap (λ x. old ++ frame_bytes (response_packet h x [])) is
 
-pub refused-framed : (h : AmsHeader) (room out payload : List ℕ) (r : Result (List ℕ) NoMemory) → length room ≡ 38 → out ≡ room ++ payload
-    → payload ≡ reply_payload h.command (record { code = invalid_size; bytes = [] })
-    → IfOk r (λ frame. frame ≡ frame_bytes (response_packet h 0 (drop 38 out))) → IfOk r (IsRefusedFrame h)
-refused-framed h room out payload (Ok frame) long is is_payload framed =
-    framed ∙ ap (λ x. frame_bytes (response_packet h 0 x)) (ap (drop 38) is ∙ drop_at room payload 38 long ∙ is_payload)
-refused-framed h room out payload (Err no_memory) long is is_payload framed = tt
+pub refused-behind : (h : AmsHeader) (start : ℕ) (old room out payload new : List ℕ) → start ≡ length old → length room ≡ length old + 38
+    → take (length old) room ≡ old → out ≡ room ++ payload → payload ≡ reply_payload h.command (record { code = invalid_size; bytes = [] })
+    → new ≡ take start out ++ frame_bytes (response_packet h no_error (drop (start + 38) out))
+    → new ≡ old ++ frame_bytes (response_packet h no_error (reply_payload h.command (record { code = invalid_size; bytes = [] })))
+refused-behind h start old room out payload new is_start long begins is_out is_payload is_new =
+    let kept = kept-front old room out start is_start long begins (Extends-append room room payload out (Extends-same room room refl) is_out) in
+    frame-behind h no_error start old room out payload new is_start long is_out kept is_new
+    ∙ ap (λ x. old ++ frame_bytes (response_packet h no_error x)) is_payload
 
 -- the payload of a reply stands behind the room of the headers
-pub long-enough : (ports : PortsMemory) (number : ℕ) (m m' : PortMemory)
+pub extends-room : (ports : PortsMemory) (number : ℕ) (m m' : PortMemory)
     (s s' : SessionState) (source : AmsAddr) (rights : Rights) (r : Request) (room out : List ℕ)
-    → IsServed ports s → memory_numbered number ports.ports ≡ Some m → length room ≡ 38
-    → ((a : Asking) → AsksSession a m s → IsFrom a source rights → Runs a r room out m' s') → 38 ≤ length out
-long-enough ports number m m' s s' source rights r room out served found long runs =
+    → IsServed ports s → memory_numbered number ports.ports ≡ Some m
+    → ((a : Asking) → AsksSession a m s → IsFrom a source rights → Runs a r room out m' s') → Extends room out
+extends-room ports number m m' s s' source rights r room out served found runs =
     let own = found-port served.world ports number m served.held found in
     let a : Asking = record {
       world = served.world;
@@ -244,18 +251,24 @@ long-enough ports number m m' s s' source rights r room out served found long ru
     } in
     let said = runs a (record { held = own.held; stands = served.stands }) (record { address = refl; rights_are = refl }) in
     let payload = reply_payload (command_of r) (ending_of (decision_of a r) a.world.memory) in
-    omega (arith, ap length said.reply, length-append room payload, long)
+    Extends-append room room payload out (Extends-same room room refl) said.reply
 
 -- a packet that passed the checks is answered
-pub if-asked : (H : World → Type 0) (ams : List ℕ) (h : declared.Header) (rights : Rights)
+pub if-asked : (H : World → Type 0) (ams bytes : List ℕ) (h : declared.Header) (rights : Rights)
     (request : meant.Request) (ports ports' : PortsMemory) (s s' : SessionState)
-    (r : Result Taken NoMemory)
+    (r : Result Told NoMemory)
     → ((w : World) (c : Client) → HoldsPorts w ports → H w → Examines w c ams (examined.Asked h rights request))
-    → IfOk r (λ answer. (a : Asking) → HoldsPorts a.world ports → StandsFor a.world.plant a.client s → IsFrom a h.source rights
-    → port_numbered h.target.port a.world.plant.ports ≡ Some a.asker.port → AnswersAsked a (ams_header_of h) (request_meant request) answer ports' s')
-    → IfOk r (λ answer. (w : World) (c : Client) → HoldsPorts w ports → StandsFor w.plant c s → H w → Takes (outcome_of_packet w c ams) answer ports' s')
-if-asked H ams h rights request ports ports' s s' (Ok answer) says answers = λ w c held stands address.
+    → IfOk r (λ told. (a : Asking) → HoldsPorts a.world ports → StandsFor a.world.plant a.client s → IsFrom a h.source rights
+    → port_numbered h.target.port a.world.plant.ports ≡ Some a.asker.port
+    → AnswersAsked a (ams_header_of h) (request_meant request) (taken_of told bytes) ports' s')
+    → IfOk r (λ told. (w : World) (c : Client) → HoldsPorts w ports → StandsFor w.plant c s → H w
+    → Takes (outcome_of_packet w c ams) (taken_of told bytes) ports' s')
+if-asked H ams bytes h rights request ports ports' s s' (Ok told) says answers = λ w c held stands address.
     let said = says w c held address in
-    takes-asked w c ams (ams_header_of h) _ (request_meant request) answer ports' s' said.0 said.1.1
+    takes-asked w c ams (ams_header_of h) _ (request_meant request) (taken_of told bytes) ports' s' said.0 said.1.1
     (answers _ held stands (record { address = refl; rights_are = refl }) said.1.1.found)
-if-asked H ams h rights request ports ports' s s' (Err no_memory) says answers = tt
+if-asked H ams bytes h rights request ports ports' s s' (Err no_memory) says answers = tt
+
+-- bytes that were none are all appended
+pub behind-nothing : (old new : List ℕ) → old ≡ [] → drop (length old) new ≡ new
+behind-nothing old new none = ap (λ x. drop (length x) new) none

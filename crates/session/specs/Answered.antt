@@ -1,5 +1,5 @@
 -- The answers of a session to packets, by what their checks said. No public clause cites this file.
-use Rattle.std.specs.Prelude.{◌≡◌, List, [], ℕ}
+use Rattle.std.specs.Prelude.{◌≡◌, ◌≤◌, ◌<◌, ◌^◌, ℕ, List, [], ◌++◌, length, drop}
 use Rattle.return_codes.specs.declared.code.Code.{Code}
 use Rattle.return_codes.specs.Code.{number_of}
 use Rattle.spec_frames.specs.Frame.{frame_bytes}
@@ -17,6 +17,12 @@ use Rattle.session.specs.Runs.{decision_of, ending_of, after_acts}
 use Rattle.session.specs.SessionState.{SessionState}
 use Rattle.session.specs.StandsFor.{StandsFor}
 use Rattle.session.specs.Takes.{IsAnswer}
+
+-- a frame stands behind the old bytes, with a header and a length that fits 32 bits
+pub record AppendsFrame (old new : List ℕ) : Type 0 where
+  pub begins : new ≡ old ++ drop (length old) new
+  pub headed : 38 ≤ length (drop (length old) new)
+  pub short : length (drop (length old) new) < 2 ^ 32
 
 abbrev pub IsErrorFrame : AmsHeader → Code → List ℕ → Type 0
 IsErrorFrame h code frame = frame ≡ frame_bytes (response_packet h (number_of code) [])

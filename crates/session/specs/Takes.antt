@@ -1,5 +1,5 @@
 -- What a session makes of an AMS packet, against the machine.
-use Rattle.std.specs.Prelude.{◌≡◌, ℕ, ◌<◌, ◌≤◌, ◌^◌, List, length}
+use Rattle.std.specs.Prelude.{◌≡◌, ℕ, ◌<◌, ◌≤◌, ◌^◌, List, ◌++◌, length, drop}
 use Rattle.spec_frames.specs.Frame.{frame_bytes}
 use Rattle.spec_plant.specs.Description.{Route}
 use Rattle.spec_plant.specs.Rights.{rights_of}
@@ -13,6 +13,8 @@ use Rattle.port_device.specs.PortMemory.{PortsMemory}
 use Rattle.port_device.specs.Holds.{HoldsPorts}
 use Rattle.session.specs.declared.taken.Taken.{Taken}
 use Rattle.session.specs.declared.taken.Taken.TheVariants as taken
+use Rattle.session.specs.declared.told.Told.{Told}
+use Rattle.session.specs.declared.told.Told.TheVariants as told
 use Rattle.session.specs.SessionState.{SessionState}
 use Rattle.session.specs.StandsFor.{StandsFor}
 
@@ -31,6 +33,17 @@ IsAnswer (Answered packet) (taken.Answer frame) = frame ≡ frame_bytes packet
 IsAnswer Silent taken.Silent = Unit {0}
 IsAnswer Closing taken.Close = Unit {0}
 IsAnswer _ _ = ⊥
+
+-- the answer that is told of, whose frame is these bytes
+abbrev pub taken_of : Told → List ℕ → Taken
+taken_of told.Answer frame = taken.Answer frame
+taken_of told.Silent frame = taken.Silent
+taken_of told.Close frame = taken.Close
+
+-- the frame of an answer stands behind the bytes, which else are as they were
+abbrev pub AppendsAnswer : Told → List ℕ → List ℕ → Type 0
+AppendsAnswer told.Answer old new = new ≡ old ++ drop (length old) new
+AppendsAnswer _ old new = new ≡ old
 
 -- what comes of a packet: its answer, and ports and session that stand for the world and the client after it
 pub record Takes (o : FrameOutcome World Client) (answer : Taken) (ports : PortsMemory) (s : SessionState) : Type 0 where

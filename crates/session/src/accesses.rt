@@ -1,6 +1,7 @@
 //! The request of a packet that reads or writes is run: Read, Write and ReadWrite.
 
-ghost use Rattle.std.specs.Prelude.{◌≡◌, OnOk};
+ghost use Rattle.std.specs.Prelude.{◌≡◌, OnOk, OnErr};
+ghost use Rattle.ads_base.specs.Octets.{Extends};
 ghost use Rattle.spec_formats.specs.Request as format;
 ghost use Rattle.port_device.specs.Endings.{KeepsDescription};
 ghost use Rattle.session.specs.Asking.{Asking};
@@ -29,8 +30,9 @@ impl Session {
     ) -> Result<(), NoMemory>
         requires some { SomeAsks port.now self.now.handles }
         requires number { ams_port ≡ port.now.number }
-        ensures { OnOk result ((a : Asking) → AsksSession a port.now self.now
+        ensures runs { OnOk result ((a : Asking) → AsksSession a port.now self.now
             → Runs a (format.Read asked.now.group asked.now.offset asked.now.len) out.old out.new port.now self.now) }
+        ensures no_memory { OnErr result (Extends out.old out.new) }
     {
         read_reply(alloc, &self.handles, port, ams_port, *asked, out)
     }
@@ -50,6 +52,7 @@ impl Session {
             → Runs a (format.Write asked.now.group asked.now.offset asked.now.bytes.now) out.old out.new port.new self.new) }
         ensures keeps { KeepsDescription port.old port.new }
         ensures stream { self.new.stream ≡ self.old.stream }
+        ensures no_memory { OnErr result (Extends out.old out.new) }
     {
         let answer = writing::write(&mut self.handles, port, asker, asked);
         put32(alloc, out, number_in(answer))
@@ -70,6 +73,7 @@ impl Session {
             → Runs a (format.ReadWrite asked.now.group asked.now.offset asked.now.len asked.now.bytes.now) out.old out.new port.new self.new) }
         ensures keeps { KeepsDescription port.old port.new }
         ensures stream { self.new.stream ≡ self.old.stream }
+        ensures no_memory { OnErr result (Extends out.old out.new) }
     {
         if is_sum(asked.group) {
             return self.sum(alloc, port, asker, asked, out);

@@ -29,9 +29,11 @@ mod taken;
 mod tick;
 mod tick_bytes;
 mod tick_checks;
+mod told;
 mod watching;
 mod writing;
 
 pub use notes::{FrameList, NoteFrame};
 pub use session::Session;
 pub use taken::Taken;
+pub use told::Told;

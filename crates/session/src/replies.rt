@@ -1,7 +1,8 @@
 //! The payloads of replies that have data: Read and ReadWrite.
 
-ghost use Rattle.std.specs.Prelude.{◌≡◌, ◌≤◌, ◌+◌, ◌-◌, ◌++◌, length, take, drop, OnOk};
+ghost use Rattle.std.specs.Prelude.{◌≡◌, ◌≤◌, ◌+◌, ◌-◌, ◌++◌, length, take, drop, OnOk, OnErr};
 ghost use Rattle.std.specs.Int.{w32, to_le_bytes};
+ghost use Rattle.ads_base.specs.Octets.{Extends};
 ghost use Rattle.spec_formats.specs.Request.{Read, ReadWrite};
 ghost use Rattle.spec_machine.specs.Answers.{READ, READ_WRITE};
 ghost use Rattle.spec_machine.specs.Replies.{reply_payload};
@@ -54,8 +55,9 @@ pub(crate) fn read_reply(
 ) -> Result<(), NoMemory>
     requires some { SomeAsks port.now handles.now }
     requires number { ams_port ≡ port.now.number }
-    ensures { OnOk result ((a : Asking) → Asks a port.now handles.now
+    ensures reply { OnOk result ((a : Asking) → Asks a port.now handles.now
         → out.new ≡ out.old ++ reply_payload READ (outcome_asked a (Read asked.group asked.offset asked.len))) }
+    ensures no_memory { OnErr result (Extends out.old out.new) }
 {
     let start = out.len();
     put_room(alloc, out, FRONT)?;
@@ -80,6 +82,7 @@ pub(crate) fn read_write_reply(
         (outcome_asked a (ReadWrite asked.entry.group asked.entry.offset asked.entry.len asked.entry.bytes.now))) }
     ensures leaves { OnOk result ((a : Asking) → Asks a port.now handles.old
         → Asks (asking_after a (ReadWrite asked.entry.group asked.entry.offset asked.entry.len asked.entry.bytes.now)) port.now handles.new) }
+    ensures no_memory { OnErr result (Extends out.old out.new) }
 {
     let start = out.len();
     put_room(alloc, out, FRONT)?;

@@ -1,6 +1,7 @@
 //! The request of a packet that passed the checks is run, and its reply's payload written.
 
-ghost use Rattle.std.specs.Prelude.{◌≡◌, ℕ, List, OnOk};
+ghost use Rattle.std.specs.Prelude.{◌≡◌, ℕ, List, OnOk, OnErr};
+ghost use Rattle.ads_base.specs.Octets.{Extends};
 ghost use Rattle.spec_formats.specs.Request as format;
 ghost use Rattle.ads_commands.specs.Reply.{facts_meant};
 ghost use Rattle.ads_commands.specs.Request.{request_meant};
@@ -40,6 +41,7 @@ impl Session {
             → Runs a (request_meant request.entry) out.old out.new port.new self.new) }
         ensures keeps { KeepsDescription port.old port.new }
         ensures stream { self.new.stream ≡ self.old.stream }
+        ensures no_memory { OnErr result (Extends out.old out.new) }
     {
         match request {
             Request::DeviceInfo => self.info(alloc, port, out),
@@ -88,8 +90,9 @@ impl Session {
 
     // What the device tells of itself.
     fn info(&self, alloc: Global, port: &Port, out: &mut Octets) -> Result<(), NoMemory>
-        ensures { OnOk result ((a : Asking) → AsksSession a port.now self.now
+        ensures runs { OnOk result ((a : Asking) → AsksSession a port.now self.now
             → Runs a format.ReadDeviceInfo out.old out.new port.now self.now) }
+        ensures no_memory { OnErr result (Extends out.old out.new) }
     {
         let told = told_of(port.facts());
         put_reply(alloc, &Reply::Info(0, told), out)
@@ -97,8 +100,9 @@ impl Session {
 
     // The two state words.
     fn state(&self, alloc: Global, port: &Port, out: &mut Octets) -> Result<(), NoMemory>
-        ensures { OnOk result ((a : Asking) → AsksSession a port.now self.now
+        ensures runs { OnOk result ((a : Asking) → AsksSession a port.now self.now
             → Runs a format.ReadState out.old out.new port.now self.now) }
+        ensures no_memory { OnErr result (Extends out.old out.new) }
     {
         let (ads, device) = port.state();
         put32(alloc, out, 0)?;
@@ -119,6 +123,7 @@ impl Session {
         ensures runs { OnOk result ((a : Asking) (source : AmsAddr) (bytes : List ℕ) → AsksSession a port.old self.now
             → IsFrom a source rights → Runs a (format.WriteControl ads device bytes) out.old out.new port.new self.now) }
         ensures keeps { KeepsDescription port.old port.new }
+        ensures no_memory { OnErr result (Extends out.old out.new) }
     {
         let answer = port.control(ads, device, rights);
         put_reply(alloc, &Reply::Control(number_in(answer)), out)
@@ -138,6 +143,7 @@ impl Session {
             → Runs a (format.AddDeviceNotification asked.now.group asked.now.offset asked.now.len asked.now.mode delay asked.now.cycle)
             out.old out.new port.now self.new) }
         ensures stream { self.new.stream ≡ self.old.stream }
+        ensures no_memory { OnErr result (Extends out.old out.new) }
     {
         match self.add_note(alloc, port, asker, asked)? {
             Ok(handle) => put_reply(alloc, &Reply::Add(0, handle), out),
@@ -155,6 +161,7 @@ impl Session {
         ensures runs { OnOk result ((a : Asking) (port : PortMemory) → ams_port ≡ port.number → AsksSession a port self.old
             → Runs a (format.DeleteDeviceNotification handle) out.old out.new port self.new) }
         ensures stream { self.new.stream ≡ self.old.stream }
+        ensures no_memory { OnErr result (Extends out.old out.new) }
     {
         let answer = self.delete_note(ams_port, handle);
         put_reply(alloc, &Reply::Delete(number_in(answer)), out)
@@ -162,8 +169,9 @@ impl Session {
 
     // A notification is stopped by the checks, and does not come here.
     fn note(&self, alloc: Global, out: &mut Octets) -> Result<(), NoMemory>
-        ensures { OnOk result ((a : Asking) (port : PortMemory) (bytes : List ℕ) → AsksSession a port self.now
+        ensures runs { OnOk result ((a : Asking) (port : PortMemory) (bytes : List ℕ) → AsksSession a port self.now
             → Runs a (format.DeviceNotification bytes) out.old out.new port self.now) }
+        ensures no_memory { OnErr result (Extends out.old out.new) }
     {
         put_reply(alloc, &Reply::Write(0), out)
     }

@@ -1,6 +1,7 @@
 //! A sum of a packet is run: its parts are single requests of one client at one port.
 
 ghost use Rattle.std.specs.Prelude.{◌≡◌, ◌≤◌, ◌+◌, ◌++◌, length, OnOk, OnErr, IfOk};
+ghost use Rattle.ads_base.specs.Octets.{Extends};
 ghost use Rattle.spec_formats.specs.Ranges.{greatest_len};
 ghost use Rattle.spec_formats.specs.Request as format;
 ghost use Rattle.sum_commands.specs.SumCommand.{sum_of, refusal_in, refused_by, sum_reply, left_by_sum};
@@ -41,6 +42,7 @@ impl Session {
             → Runs a (format.ReadWrite asked.now.group asked.now.offset asked.now.len asked.now.bytes.now) out.old out.new port.new self.new) }
         ensures keeps { KeepsDescription port.old port.new }
         ensures stream { self.new.stream ≡ self.old.stream }
+        ensures no_memory { OnErr result (Extends out.old out.new) }
     {
         let start = out.len();
         put_room(alloc, out, FRONT)?;
@@ -77,6 +79,7 @@ fn run_parts(
         → IsSingle single.new (left_by_sum state_after x (sum_of asked.now.group asked.now.offset asked.now.bytes.now)))) }
     ensures grows { IfOk result (λ answer. length out.old ≤ length out.new) }
     ensures short { IfOk result (λ answer. length out.new ≤ length out.old + greatest_len) }
+    ensures no_memory { OnErr result (out.new ≡ out.old) }
 {
     run_sum(
         alloc,

@@ -1,6 +1,6 @@
 //! An AMS packet is answered.
 
-ghost use Rattle.std.specs.Prelude.{◌≡◌, ◌≤◌, ◌<◌, ◌^◌, length, drop, IfOk, OnOk, Some};
+ghost use Rattle.std.specs.Prelude.{◌≡◌, ◌≤◌, ◌<◌, ◌^◌, ◌++◌, length, drop, IfOk, OnOk, OnErr, Some};
 ghost use Rattle.ads_base.specs.declared.ams_addr.AmsAddr.{AmsAddr};
 ghost use Rattle.spec_frames.specs.Frame.{IsAmsPacket};
 ghost use Rattle.spec_formats.specs.Request as format;
@@ -9,7 +9,7 @@ ghost use Rattle.spec_machine.specs.Client.{Client};
 ghost use Rattle.ads_commands.specs.Request.{request_meant};
 ghost use Rattle.ams_header.specs.Header.{ams_header_of};
 ghost use Rattle.port_device.specs.Holds.{HoldsPorts};
-ghost use Rattle.session.specs.Answered.{IsErrorFrame, IsRefusedFrame};
+ghost use Rattle.session.specs.Answered.{AppendsFrame, IsErrorFrame, IsRefusedFrame};
 ghost use Rattle.session.specs.Asking.{Asking};
 
 use crate::asker::Asker;
@@ -18,7 +18,7 @@ use crate::examined::Examined;
 use crate::framing::framed;
 use crate::refusing::refusal_of;
 use crate::room::{HEADERS, put_room};
-use crate::{Session, Taken};
+use crate::{Session, Taken, Told};
 use ads_base::{NetId, NoMemory, Octets};
 use ads_commands::{Request, put_reply};
 use ams_header::Header;
@@ -33,7 +33,7 @@ impl Session {
     ghost use Rattle.session.specs.Runs.{IsFrom};
     ghost use Rattle.session.specs.Served.{IsServed, KeepDescriptions};
     ghost use Rattle.session.specs.StandsFor.{StandsFor};
-    ghost use Rattle.session.specs.Takes.{HasAddress, Takes, FitsFrame, outcome_of_packet};
+    ghost use Rattle.session.specs.Takes.{AppendsAnswer, HasAddress, Takes, FitsFrame, outcome_of_packet, taken_of};
 
     /// Answers an AMS packet, and leaves the ports as its request makes them. Check after check: one whose data length is
     /// wrong, that is a response or no request, whose source has no route, or that is for another machine, another port, a
@@ -59,36 +59,48 @@ impl Session {
         ensures stream { self.new.stream ≡ self.old.stream }
         ensures keeps { KeepDescriptions ports.old ports.new }
     {
-        self.take_in(alloc, ports, routes, net, ams, Octets::new(alloc))
+        let mut frame = Octets::new(alloc);
+        match self.take_onto(alloc, ports, routes, net, ams, &mut frame)? {
+            Told::Answer => Ok(Taken::Answer(frame)),
+            Told::Silent => Ok(Taken::Silent),
+            Told::Close => Ok(Taken::Close),
+        }
     }
 
-    /// The same with the answer in the room of bytes that are no longer needed, which are let go. Who gives each answer back
-    /// for the next takes no memory once the room is as large as the answers.
-    pub fn take_in(
+    /// The same, but the frame of the answer is appended to bytes, which stay as they are where no answer is.
+    pub fn take_onto(
         &mut self,
         alloc: Global,
         ports: &mut Ports,
         routes: &Routes,
         net: NetId,
         ams: &[u8],
-        room: Octets,
-    ) -> Result<Taken, NoMemory>
+        out: &mut Octets,
+    ) -> Result<Told, NoMemory>
         requires packet { IsAmsPacket ams.now }
         requires served { IsServed ports.old self.old }
-        ensures takes { IfOk result (λ taken. (w : World) (c : Client) → HoldsPorts w ports.old → StandsFor w.plant c self.old
+        ensures takes { IfOk result (λ told. (w : World) (c : Client) → HoldsPorts w ports.old → StandsFor w.plant c self.old
             → HasAddress w.plant net.bytes routes.now
-            → Takes (outcome_of_packet w c ams.now) taken ports.new self.new) }
-        ensures fits { IfOk result FitsFrame }
+            → Takes (outcome_of_packet w c ams.now) (taken_of told (drop (length out.old) out.new)) ports.new self.new) }
+        ensures appends { IfOk result (λ told. AppendsAnswer told out.old out.new) }
+        ensures fits { IfOk result (λ told. FitsFrame (taken_of told (drop (length out.old) out.new))) }
+        ensures no_memory { OnErr result (out.new ≡ out.old) }
         ensures stream { self.new.stream ≡ self.old.stream }
         ensures keeps { KeepDescriptions ports.old ports.new }
     {
         match examined(ams, ports, routes, net) {
-            Examined::Silent => Ok(Taken::Silent),
-            Examined::Close => Ok(Taken::Close),
-            Examined::Error(h, code) => Ok(Taken::Answer(error_frame(alloc, &h, code)?)),
-            Examined::Refused(h) => Ok(Taken::Answer(refused_frame(alloc, &h)?)),
+            Examined::Silent => Ok(Told::Silent),
+            Examined::Close => Ok(Told::Close),
+            Examined::Error(h, code) => {
+                error_frame(alloc, &h, code, out)?;
+                Ok(Told::Answer)
+            }
+            Examined::Refused(h) => {
+                refused_frame(alloc, &h, out)?;
+                Ok(Told::Answer)
+            }
             Examined::Asked(h, rights, request) => {
-                self.answer(alloc, ports, &h, rights, request, room)
+                self.answer(alloc, ports, &h, rights, request, out)
             }
         }
     }
@@ -101,50 +113,67 @@ impl Session {
         h: &Header,
         rights: Rights,
         request: Request<'_>,
-        room: Octets,
-    ) -> Result<Taken, NoMemory>
+        out: &mut Octets,
+    ) -> Result<Told, NoMemory>
         requires served { IsServed ports.old self.old }
-        ensures answers { IfOk result (λ taken. (a : Asking) → HoldsPorts a.world ports.old
+        ensures answers { IfOk result (λ told. (a : Asking) → HoldsPorts a.world ports.old
             → StandsFor a.world.plant a.client self.old → IsFrom a h.now.source rights
             → port_numbered h.now.target.port a.world.plant.ports ≡ Some a.asker.port
-            → AnswersAsked a (ams_header_of h.now) (request_meant request.entry) taken ports.new self.new) }
-        ensures fits { IfOk result FitsFrame }
+            → AnswersAsked a (ams_header_of h.now) (request_meant request.entry) (taken_of told (drop (length out.old) out.new))
+            ports.new self.new) }
+        ensures appends { IfOk result (λ told. AppendsAnswer told out.old out.new) }
+        ensures fits { IfOk result (λ told. FitsFrame (taken_of told (drop (length out.old) out.new))) }
+        ensures no_memory { OnErr result (out.new ≡ out.old) }
         ensures stream { self.new.stream ≡ self.old.stream }
         ensures keeps { KeepDescriptions ports.old ports.new }
     {
         let Some(port) = ports.find_mut(h.target.port) else {
-            return Ok(Taken::Silent);
+            return Ok(Told::Silent);
         };
-        let mut out = room;
-        out.cut(0);
-        put_room(alloc, &mut out, HEADERS)?;
+        let start = out.len();
+        put_room(alloc, out, HEADERS)?;
         let asker = Asker {
             ams_port: h.target.port,
             source: h.source,
             rights,
         };
-        self.run(alloc, port, asker, request, &mut out)?;
-        Ok(Taken::Answer(framed(h, 0, out)?))
+        match self.run(alloc, port, asker, request, out) {
+            Ok(()) => {
+                framed(h, 0, start, out)?;
+                Ok(Told::Answer)
+            }
+            Err(no_memory) => {
+                out.cut(start);
+                Err(no_memory)
+            }
+        }
     }
 }
 
-// The frame of an AMS error, which has no data.
-fn error_frame(alloc: Global, h: &Header, code: Code) -> Result<Octets, NoMemory>
-    ensures frame { IfOk result (IsErrorFrame (ams_header_of h.now) code) }
-    ensures fits { IfOk result (λ frame. (38 ≤ length frame) × (length frame < 2 ^ 32)) }
+// Appends the frame of an AMS error, which has no data.
+fn error_frame(alloc: Global, h: &Header, code: Code, out: &mut Octets) -> Result<(), NoMemory>
+    ensures frame { OnOk result (IsErrorFrame (ams_header_of h.now) code (drop (length out.old) out.new)) }
+    ensures appends { OnOk result (AppendsFrame out.old out.new) }
+    ensures no_memory { OnErr result (out.new ≡ out.old) }
 {
-    let mut out = Octets::new(alloc);
-    put_room(alloc, &mut out, HEADERS)?;
-    framed(h, code.number(), out)
+    let start = out.len();
+    put_room(alloc, out, HEADERS)?;
+    framed(h, code.number(), start, out)
 }
 
-// The frame of a request that is refused for its size.
-fn refused_frame(alloc: Global, h: &Header) -> Result<Octets, NoMemory>
-    ensures frame { IfOk result (IsRefusedFrame (ams_header_of h.now)) }
-    ensures fits { IfOk result (λ frame. (38 ≤ length frame) × (length frame < 2 ^ 32)) }
+// Appends the frame of a request that is refused for its size.
+fn refused_frame(alloc: Global, h: &Header, out: &mut Octets) -> Result<(), NoMemory>
+    ensures frame { OnOk result (IsRefusedFrame (ams_header_of h.now) (drop (length out.old) out.new)) }
+    ensures appends { OnOk result (AppendsFrame out.old out.new) }
+    ensures no_memory { OnErr result (out.new ≡ out.old) }
 {
-    let mut out = Octets::new(alloc);
-    put_room(alloc, &mut out, HEADERS)?;
-    put_reply(alloc, &refusal_of(h.command), &mut out)?;
-    framed(h, 0, out)
+    let start = out.len();
+    put_room(alloc, out, HEADERS)?;
+    match put_reply(alloc, &refusal_of(h.command), out) {
+        Ok(()) => framed(h, 0, start, out),
+        Err(no_memory) => {
+            out.cut(start);
+            Err(no_memory)
+        }
+    }
 }

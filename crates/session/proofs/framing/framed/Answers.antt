@@ -7,10 +7,10 @@ use Rattle.session.proofs.framing.framed.Goals as goal
 
 pub returns-clause-frame : goal.returns-clause-frame
 returns-clause-frame c =
-    let le : c.to_le_bytes.result ≡ to_le_bytes w32 (length c.args.out - 6) = c.to_le_bytes.ensures ∙ ap (λ n. to_le_bytes w32 (n - 6)) c.len-total.ensures in
-    let header : c.put.new.out ≡ header_bytes (response_header (ams_header_of c.args.h.now) c.args.error (length c.args.out - 38)) =
-    c.put.ensures ∙ ap header_bytes (c.answer_of.ensures ∙ ap (λ n. response_header (ams_header_of c.args.h.now) c.args.error (n - 38)) c.len-total.ensures) in
+    let h = ams_header_of c.args.h.now in
+    let header : c.put.new.out ≡ header_bytes (response_header h c.args.error (c.len.result - c.args.start - 38)) =
+    c.put.ensures ∙ ap header_bytes c.answer_of.ensures in
     let long : length c.put.new.out ≡ 32 = search rules in
-    framed-is (ams_header_of c.args.h.now) c.args.error c.args.out c.write_at.new.out
-    c.write_at-2.new.out c.write_at-3.new.out (0 ∷ 0 ∷ []) c.to_le_bytes.result
-    c.put.new.out c.requires refl le header long c.write_at.ensures c.write_at-2.ensures c.write_at-3.ensures
+    framed-is h c.args.error c.args.start (c.len.result - c.args.start) c.args.out.now c.write_at.new.out c.write_at-2.new.out c.write_at-3.new.out
+    (0 ∷ 0 ∷ []) c.to_le_bytes.result c.put.new.out c.requires (ap (λ n. n - c.args.start) c.len.ensures) refl c.to_le_bytes.ensures header long
+    c.write_at.ensures c.write_at-2.ensures c.write_at-3.ensures

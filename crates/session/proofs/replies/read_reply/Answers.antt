@@ -12,8 +12,8 @@ fill_front-requires-clause-there c =
     c.in_ok-answer.answer _ _ (c.in_ok-answer.ensures.answer a c.requires.some.asks) in
     omega (arith, c.len-start.ensures, c.in_ok-put_room.ensures.long, grown)
 
-pub returns : goal.returns
-returns c = λ a asks.
+pub returns-clause-reply : goal.returns-clause-reply
+returns-clause-reply c = λ a asks.
     let asked = c.args.asked in
     answer-filled a.world (act_asked a (Read asked.group asked.offset asked.len)) c.in_ok-answer.answer
     c.args.out.now c.put_room.new.out c.read.new.out c.fill_front.new.out c.len-start.result

@@ -1,10 +1,11 @@
-use Rattle.std.proofs.Common.{◌≡◌, length, sym, refl, ap, arith, rules}
+use Rattle.std.proofs.Common.{◌≡◌, ◌++◌, sym, refl, ◌∙◌, ap, arith, rules}
 use Rattle.std.specs.Prelude.{None}
 use Rattle.ads_commands.specs.Request.{request_meant}
 use Rattle.ams_header.specs.Header.{ams_header_of}
 use Rattle.port_device.specs.PortMemory.{memory_numbered}
+use Rattle.session.proofs.FrameLemmas.{begins-old, kept-front, on-err}
 use Rattle.session.proofs.PortsKept.{keep-same, keep-with}
-use Rattle.session.proofs.TakeLemmas.{no-port, some-asks, numbered-is, same-port, answers-asked, long-enough}
+use Rattle.session.proofs.TakeLemmas.{no-port, some-asks, numbered-is, same-port, answers-asked, extends-room}
 use Rattle.session.proofs.session.Session.answer.Goals as goal
 
 pub returns-in_default-clause-answers : goal.returns-in_default-clause-answers
@@ -26,28 +27,52 @@ run-requires-clause-some c =
 pub run-requires-clause-number : goal.run-requires-clause-number
 run-requires-clause-number c = sym (numbered-is c.args.h.now.target.port c.args.ports.now.ports c.in-Some.port.now (sym c.in-Some.ensures.value))
 
-pub returns-in_err-run-clause-keeps : goal.returns-in_err-run-clause-keeps
-returns-in_err-run-clause-keeps c =
-    keep-with c.args.ports.now c.args.h.now.target.port c.in-Some.port.now c.run.new.port (sym c.in-Some.ensures.value) c.in_err-run.ensures.keeps
-
 pub framed-requires : goal.framed-requires
 framed-requires c =
-    let long : length c.put_room.new.out ≡ 38 = omega (arith, c.in_ok-put_room.ensures.long, ap length c.cut.ensures) in
-    long-enough c.args.ports.now c.args.h.now.target.port c.in-Some.port.now c.run.new.port c.args.self.now c.run.new.self c.args.h.now.source c.args.rights
-    (request_meant c.args.request) c.put_room.new.out c.run.new.out c.requires.served (sym c.in-Some.ensures.value) long c.in_ok-run.ensures.runs
+    let more = extends-room c.args.ports.now c.args.h.now.target.port c.in-Some.port.now c.run.new.port c.args.self.now c.run.new.self
+    c.args.h.now.source c.args.rights (request_meant c.args.request) c.put_room.new.out c.run.new.out c.requires.served (sym c.in-Some.ensures.value)
+    c.in-Ok.ensures.runs in
+    omega (arith, c.len-start.ensures, c.in_ok-put_room.ensures.long, more.longer)
 
-pub returns-in_err-framed-clause-keeps : goal.returns-in_err-framed-clause-keeps
-returns-in_err-framed-clause-keeps c =
-    keep-with c.args.ports.now c.args.h.now.target.port c.in-Some.port.now c.run.new.port (sym c.in-Some.ensures.value) c.in_ok-run.ensures.keeps
+pub returns-in_err-framed-in-Ok-clause-no_memory : goal.returns-in_err-framed-in-Ok-clause-no_memory
+returns-in_err-framed-in-Ok-clause-no_memory c =
+    let more = extends-room c.args.ports.now c.args.h.now.target.port c.in-Some.port.now c.run.new.port c.args.self.now c.run.new.self
+    c.args.h.now.source c.args.rights (request_meant c.args.request) c.put_room.new.out c.run.new.out c.requires.served (sym c.in-Some.ensures.value)
+    c.in-Ok.ensures.runs in
+    let kept = kept-front c.args.out.now c.put_room.new.out c.run.new.out c.len-start.result c.len-start.ensures c.in_ok-put_room.ensures.long
+    c.in_ok-put_room.ensures.begins more in
+    on-err _ _ (c.in_err-framed-in-Ok.ensures.cut ∙ kept)
 
-pub returns-clause-answers : goal.returns-clause-answers
-returns-clause-answers c = λ a held stands from found.
-    let long : length c.put_room.new.out ≡ 38 = omega (arith, c.in_ok-put_room.ensures.long, ap length c.cut.ensures) in
+pub returns-in_err-framed-in-Ok-clause-keeps : goal.returns-in_err-framed-in-Ok-clause-keeps
+returns-in_err-framed-in-Ok-clause-keeps c =
+    keep-with c.args.ports.now c.args.h.now.target.port c.in-Some.port.now c.run.new.port (sym c.in-Some.ensures.value) c.in-Ok.ensures.keeps
+
+pub returns-in_ok-framed-in-Ok-clause-answers : goal.returns-in_ok-framed-in-Ok-clause-answers
+returns-in_ok-framed-in-Ok-clause-answers c = λ a held stands from found.
+    let more = extends-room c.args.ports.now c.args.h.now.target.port c.in-Some.port.now c.run.new.port c.args.self.now c.run.new.self
+    c.args.h.now.source c.args.rights (request_meant c.args.request) c.put_room.new.out c.run.new.out c.requires.served (sym c.in-Some.ensures.value)
+    c.in-Ok.ensures.runs in
+    let kept = kept-front c.args.out.now c.put_room.new.out c.run.new.out c.len-start.result c.len-start.ensures c.in_ok-put_room.ensures.long
+    c.in_ok-put_room.ensures.begins more in
     let own = same-port a.world c.args.ports.now c.args.h.now.target.port c.in-Some.port.now a.asker.port held (sym c.in-Some.ensures.value) found in
     answers-asked a (ams_header_of c.args.h.now) (request_meant c.args.request) c.args.ports.now c.args.h.now.target.port c.in-Some.port.now c.run.new.port
-    c.args.self.now c.run.new.self c.put_room.new.out c.run.new.out c.in_ok-framed.field-0 held found
-    (c.in_ok-run.ensures.runs a (record { held = own; stands = stands }) from) long c.in_ok-framed.ensures.frame
+    c.args.self.now c.run.new.self c.len-start.result c.args.out.now c.put_room.new.out c.run.new.out c.framed.new.out held found
+    (c.in-Ok.ensures.runs a (record { held = own; stands = stands }) from) c.len-start.ensures c.in_ok-put_room.ensures.long kept
+    c.in_ok-framed-in-Ok.ensures.frame
 
-pub returns-clause-keeps : goal.returns-clause-keeps
-returns-clause-keeps c =
-    keep-with c.args.ports.now c.args.h.now.target.port c.in-Some.port.now c.run.new.port (sym c.in-Some.ensures.value) c.in_ok-run.ensures.keeps
+pub returns-in_ok-framed-in-Ok-clause-appends : goal.returns-in_ok-framed-in-Ok-clause-appends
+returns-in_ok-framed-in-Ok-clause-appends c =
+    let more = extends-room c.args.ports.now c.args.h.now.target.port c.in-Some.port.now c.run.new.port c.args.self.now c.run.new.self
+    c.args.h.now.source c.args.rights (request_meant c.args.request) c.put_room.new.out c.run.new.out c.requires.served (sym c.in-Some.ensures.value)
+    c.in-Ok.ensures.runs in
+    let kept = kept-front c.args.out.now c.put_room.new.out c.run.new.out c.len-start.result c.len-start.ensures c.in_ok-put_room.ensures.long
+    c.in_ok-put_room.ensures.begins more in
+    begins-old c.args.out.now _ c.framed.new.out (c.in_ok-framed-in-Ok.ensures.frame ∙ ap (λ x. x ++ _) kept)
+
+pub returns-in_ok-framed-in-Ok-clause-keeps : goal.returns-in_ok-framed-in-Ok-clause-keeps
+returns-in_ok-framed-in-Ok-clause-keeps c =
+    keep-with c.args.ports.now c.args.h.now.target.port c.in-Some.port.now c.run.new.port (sym c.in-Some.ensures.value) c.in-Ok.ensures.keeps
+
+pub returns-in-Err-clause-keeps : goal.returns-in-Err-clause-keeps
+returns-in-Err-clause-keeps c =
+    keep-with c.args.ports.now c.args.h.now.target.port c.in-Some.port.now c.run.new.port (sym c.in-Some.ensures.value) c.in-Err.ensures.keeps

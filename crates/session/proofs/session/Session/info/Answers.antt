@@ -3,8 +3,8 @@ use Rattle.ads_commands.specs.Reply.{facts_meant}
 use Rattle.session.proofs.RunLemmas.{ok-then, info-runs}
 use Rattle.session.proofs.session.Session.info.Goals as goal
 
-pub returns : goal.returns
-returns c =
+pub returns-clause-runs : goal.returns-clause-runs
+returns-clause-runs c =
     let build : c.told_of-told.result.build < 2 ^ 16 = search rules in
     ok-then c.put_reply.result _ _ (λ put a h.
     info-runs a c.args.port.now c.args.self.now (facts_meant c.told_of-told.result) _ _ h (c.told_of-told.ensures ∙ c.facts.ensures) build put)

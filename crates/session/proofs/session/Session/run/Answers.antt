@@ -22,7 +22,7 @@ returns-in-Add-clause-runs c = ok-then c.add.result _ _ (λ said a h from.
 pub returns-in-Note-clause-runs : goal.returns-in-Note-clause-runs
 returns-in-Note-clause-runs c = ok-then c.note.result _ _ (λ said a h from.
     let R : Request → Type 0 = λ q. Runs a (request_meant q) c.args.out.now c.note.new.out c.args.port.now c.args.self.now in
-    subst R (sym c.in-Note.is) (said a c.args.port.now c.in-Note.field-0.now h)) c.note.ensures
+    subst R (sym c.in-Note.is) (said a c.args.port.now c.in-Note.field-0.now h)) c.note.ensures.runs
 
 pub returns-in-Delete-clause-runs : goal.returns-in-Delete-clause-runs
 returns-in-Delete-clause-runs c = ok-then c.delete.result _ _ (λ said a h from.

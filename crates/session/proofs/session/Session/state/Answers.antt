@@ -4,8 +4,8 @@ use Rattle.spec_formats.specs.Reply.{written_bytes, ReadState}
 use Rattle.session.proofs.RunLemmas.{ok-then, state-runs, state-written}
 use Rattle.session.proofs.session.Session.state.Goals as goal
 
-pub returns : goal.returns
-returns c =
+pub returns-clause-runs : goal.returns-clause-runs
+returns-clause-runs c =
     let ads : c.state-ads.result.0 < 2 ^ 16 = search rules in
     let device : c.state-ads.result.1 < 2 ^ 16 = search rules in
     let code = to_le_bytes w32 0 in

@@ -1,9 +1,10 @@
+use Rattle.std.proofs.Common.{length, drop}
 use Rattle.spec_machine.specs.World.{World}
 use Rattle.ams_header.specs.Header.{ams_header_of}
 use Rattle.session.specs.Takes.{HasAddress}
 use Rattle.session.proofs.PortsKept.{keep-same}
 use Rattle.session.proofs.TakeLemmas.{takes-silent, takes-close, takes-error, takes-refused, if-asked}
-use Rattle.session.proofs.session.Session.take_in.Goals as goal
+use Rattle.session.proofs.session.Session.take_onto.Goals as goal
 
 pub returns-in_err-error_frame-in-Error-clause-keeps : goal.returns-in_err-error_frame-in-Error-clause-keeps
 returns-in_err-error_frame-in-Error-clause-keeps c = keep-same _
@@ -47,5 +48,5 @@ returns-in_ok-refused_frame-in-Refused-clause-takes c = λ w x held stands addre
 pub returns-in-Asked-clause-takes : goal.returns-in-Asked-clause-takes
 returns-in-Asked-clause-takes c =
     let H : World → Type 0 = λ w. HasAddress w.plant c.args.net.bytes c.args.routes.now in
-    if-asked H c.args.ams.now c.in-Asked.h c.in-Asked.rights c.in-Asked.request c.args.ports.now c.answer.new.ports c.args.self.now c.answer.new.self
-    c.answer.result c.in-Asked.ensures c.answer.ensures.answers
+    if-asked H c.args.ams.now (drop (length c.args.out.now) c.answer.new.out) c.in-Asked.h c.in-Asked.rights c.in-Asked.request c.args.ports.now
+    c.answer.new.ports c.args.self.now c.answer.new.self c.answer.result c.in-Asked.ensures c.answer.ensures.answers
