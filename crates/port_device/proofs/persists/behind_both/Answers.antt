@@ -1,4 +1,3 @@
-use Rattle.std.specs.Prelude.{option_map}
 use Rattle.port_device.proofs.BehindLemmas.{behind-none, behind-some}
 use Rattle.port_device.proofs.persists.behind_both.Goals as goal
 

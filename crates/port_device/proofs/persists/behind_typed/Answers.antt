@@ -4,7 +4,7 @@ use Rattle.std.specs.Int.{w32, to_le_bytes}
 use Rattle.std.specs.Borrow.{Bor}
 use Rattle.type_layout.specs.NamedTypes.{types_of}
 use Rattle.type_layout.specs.Shapes.{kind_of, shape_of_ref}
-use Rattle.port_device.specs.Behind.{behind, sized_form}
+use Rattle.port_device.specs.Behind.{behind}
 use Rattle.port_device.specs.PersistentRows.{value_bytes}
 use Rattle.port_device.proofs.BehindLemmas.{plain-form, sized-parts}
 use Rattle.port_device.proofs.persists.behind_typed.Goals as goal
