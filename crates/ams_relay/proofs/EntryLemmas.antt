@@ -1,15 +1,17 @@
 -- Peers by their numbers: where a number is found, and what a change of one leaves.
 use Rattle.std.proofs.Common.{◌≡◌, ◌≢◌, ℕ, zero, suc, ◌<◌, [], ◌∷◌, length, get_or, false, true, cond, nat_eq, refl, sym, ap, ◌∙◌, inl, inr, arith}
-use Rattle.std.specs.Prelude.{◌==◌, slice_get, Option, Some, None, option_map, IfSome, IfNone, is_some, position}
+use Rattle.std.specs.Prelude.{◌==◌, slice_get, Option, Some, None, option_map, IfSome, IfNone, is_some, not, IsSomeAnd, position}
 use Rattle.std.specs.List.{IsDistinct, AllByRecursion}
 use Rattle.std.specs.Map.{keys_of, values_of}
 use Rattle.std.proofs.lemmas.Bool.{cases_eq, cond-true, cond-false, eqb-true}
 use Rattle.std.proofs.lemmas.List.Quantifiers.{position-Some}
 use Rattle.indexmap.specs.IndexMap.{set_value_at}
 use Rattle.spec_machine.proofs.Find.{test_same, test_other}
+use Rattle.ams_tcp.specs.Held.{Held}
+use Rattle.ams_tcp.specs.History.{Represents, nothing_fed}
 use Rattle.ams_relay.specs.declared.peer.Peer.{Peer}
-use Rattle.ams_relay.specs.Peers.{Peers, peer_in, Sets, IsPlace, read_in}
-use Rattle.ams_relay.specs.Taking.{rest_of_peer, rest_in, KeepsStreams}
+use Rattle.ams_relay.specs.Peers.{Peers, peer_in, Sets, IsPlace, IsFresh, AreHere, read_in, is_lent, is_lent_in}
+use Rattle.ams_relay.specs.Taking.{KeepsStreams}
 
 pub keys_length : (es : Peers) → length (keys_of es) ≡ length es
 keys_length [] = refl
@@ -88,16 +90,46 @@ pub place_absent : (o : Option ℕ) (es : Peers) (n : ℕ) → is_some o ≡ is_
 place_absent None es n e = none_of (peer_in n es) (sym e)
 place_absent (Some i) es n e = tt
 
--- the streams of all are as long as before, where that of the one that changed is
-pub streams_set : (n : ℕ) (p q : Peer) (old new : Peers) → peer_in n old ≡ Some p → Sets n q old new → rest_of_peer q ≡ rest_of_peer p → KeepsStreams old new
+-- the streams of the same are lent, where that of the one that changed is lent as before
+pub streams_set : (n : ℕ) (p q : Peer) (old new : Peers) → peer_in n old ≡ Some p → Sets n q old new → is_lent q ≡ is_lent p → KeepsStreams old new
 streams_set n p q old new was sets same m = elim (cases_eq m n) [
-  | inl e ↦ ap (λ j. rest_in j new) e ∙ ap (λ o. read_in rest_of_peer 0 o) sets.own
-      ∙ same ∙ sym (ap (λ o. read_in rest_of_peer 0 o) was) ∙ sym (ap (λ j. rest_in j old) e)
-  | inr ne ↦ ap (λ o. read_in rest_of_peer 0 o) (sets.others m ne)
+  | inl e ↦ ap (λ j. is_lent_in j new) e ∙ ap (λ o. read_in is_lent false o) sets.own
+      ∙ same ∙ sym (ap (λ o. read_in is_lent false o) was) ∙ sym (ap (λ j. is_lent_in j old) e)
+  | inr ne ↦ ap (λ o. read_in is_lent false o) (sets.others m ne)
 ]
 
 pub streams_then : (a b c : Peers) → KeepsStreams a b → KeepsStreams b c → KeepsStreams a c
 streams_then a b c first second m = second m ∙ first m
+
+-- no stream is lent, once one that was kept is gone
+pub here_ended : (n : ℕ) (old new : Peers) → peer_in n new ≡ None → ((m : ℕ) → m ≢ n → peer_in m new ≡ peer_in m old) → AreHere old → AreHere new
+here_ended n old new none others here m = elim (cases_eq m n) [
+  | inl e ↦ ap (λ j. is_lent_in j new) e ∙ ap (λ o. read_in is_lent false o) none
+  | inr ne ↦ ap (λ o. read_in is_lent false o) (others m ne) ∙ here m
+]
+
+-- or a new one is there
+pub here_opened : (n : ℕ) (p : Peer) (old new : Peers) → IsFresh p → peer_in n new ≡ Some p
+    → ((m : ℕ) → m ≢ n → peer_in m new ≡ peer_in m old) → AreHere old → AreHere new
+here_opened n p old new fresh own others here m = elim (cases_eq m n) [
+  | inl e ↦ ap (λ j. is_lent_in j new) e ∙ ap (λ o. read_in is_lent false o) own ∙ by p.stream fresh.stream
+  | inr ne ↦ ap (λ o. read_in is_lent false o) (others m ne) ∙ here m
+]
+  where
+    by : (o : Option Held) → IsSomeAnd o (λ held. Represents held nothing_fed) → not (is_some o) ≡ false
+    by None h = absurd h
+    by (Some held) h = refl
+
+-- or the one that was lent is back
+pub here_again : (n : ℕ) (old mid kept new : Peers) → ((m : ℕ) → m ≢ n → peer_in m mid ≡ peer_in m old) → KeepsStreams mid kept
+    → ((m : ℕ) → m ≢ n → is_lent_in m new ≡ is_lent_in m kept) → is_lent_in n new ≡ false → AreHere old → AreHere new
+here_again n old mid kept new lent keeps others back here m = elim (cases_eq m n) [
+  | inl e ↦ ap (λ j. is_lent_in j new) e ∙ back
+  | inr ne ↦ others m ne ∙ keeps m ∙ ap (λ o. read_in is_lent false o) (lent m ne) ∙ here m
+]
+
+pub here_same : (old new : Peers) → new ≡ old → AreHere old → AreHere new
+here_same old new same here m = ap (λ es. is_lent_in m es) same ∙ here m
 
 -- among keys of which none is equal to one before it, the place of a number is the first
 none_before : (es : Peers) (x n i : ℕ) → AllByRecursion (λ y. nat_eq x y ≡ false) (keys_of es)

@@ -1,5 +1,5 @@
 -- What a router keeps stands for the machine after an event.
-use Rattle.std.proofs.Common.{◌≡◌, ℕ, List, sym, subst}
+use Rattle.std.proofs.Common.{◌≡◌, ℕ, List, sym, ap, ◌∙◌, subst}
 use Rattle.ads_outside.specs.declared.event.Event.{Event}
 use Rattle.ads_outside.specs.declared.event.Event.TheVariants as event
 use Rattle.ads_outside.specs.declared.moves.Move.TheVariants as move
@@ -11,6 +11,7 @@ use Rattle.spec_relay.specs.RelayState.{RelayState}
 use Rattle.spec_relay.specs.RelayMoves.{relay_after_event}
 use Rattle.ams_relay.specs.declared.router.Router.{Router}
 use Rattle.ams_relay.specs.Holds.{Holds}
+use Rattle.ams_relay.specs.Peers.{AreHere, is_lent_in}
 use Rattle.ams_relay.specs.Relays.{RelayRunning}
 use Rattle.ams_relay.specs.Touched.{OthersIdle}
 
@@ -27,6 +28,9 @@ settled old new b s same idle h = subst (λ (r : Router). Holds r b s) (sym same
   counts = h.counts;
   idle = idle h.idle;
 })
+
+pub settled_here : (old new : Router) → new ≡ record old { touched = new.touched } → AreHere old.peers.entries → AreHere new.peers.entries
+settled_here old new same here n = ap (λ (r : Router). is_lent_in n r.peers.entries) same ∙ here n
 
 -- an event was taken
 abbrev pub Taken : Router → RelayRunning → Event → Type 0

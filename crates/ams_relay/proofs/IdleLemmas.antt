@@ -27,12 +27,12 @@ idle_kept n p q old new t was sets same idle m untouched = elim (cases_eq m n) [
   | inr ne ↦ ap (read_in is_due_peer false) (sets.others m ne) ∙ idle m untouched
 ]
 
-pub idle_stream : (n : ℕ) (p : Peer) (held : Held) (old new : Router) → peer_in n old.peers.entries ≡ Some p
-    → Sets n (record p { stream = held }) old.peers.entries new.peers.entries → new.touched ≡ old.touched
+pub idle_stream : (n : ℕ) (p : Peer) (o : Option Held) (old new : Router) → peer_in n old.peers.entries ≡ Some p
+    → Sets n (record p { stream = o }) old.peers.entries new.peers.entries → new.touched ≡ old.touched
     → OthersIdle old.touched old.peers.entries → OthersIdle new.touched new.peers.entries
-idle_stream n p held old new was sets touched idle =
+idle_stream n p o old new was sets touched idle =
     subst (λ (t : Touched). OthersIdle t new.peers.entries) (sym touched)
-    (idle_kept n p (record p { stream = held }) old.peers.entries new.peers.entries old.touched was sets refl idle)
+    (idle_kept n p (record p { stream = o }) old.peers.entries new.peers.entries old.touched was sets refl idle)
 
 pub idle_ended : (n : ℕ) (old new : Peers) (t : Touched) → peer_in n new ≡ None
     → ((m : ℕ) → m ≢ n → peer_in m new ≡ peer_in m old) → OthersIdle t old → OthersIdle t new

@@ -1,6 +1,6 @@
 -- What the code keeps of a connection stands for it after each of its changes.
 use Rattle.std.proofs.Common.{◌≡◌, ℕ, ◌+◌, ◌-◌, ◌<◌, ◌≤◌, List, [], ◌∷◌, ◌++◌, length, Bool, true, false, refl, sym, ap, ◌∙◌, subst, arith}
-use Rattle.std.specs.Prelude.{map, None}
+use Rattle.std.specs.Prelude.{map, Option, Some, None, IfSome, IsSomeAnd}
 use Rattle.std.proofs.lemmas.Bool.{cond-true, cond-false, le-leb, lt-leb}
 use Rattle.std.proofs.lemmas.List.{map-append, length-append}
 use Rattle.std.proofs.lemmas.List.Concat.{flat_map-append}
@@ -10,32 +10,38 @@ use Rattle.spec_machine.specs.Offers.{left_after}
 use Rattle.spec_machine.specs.Piece.{with_received, with_one_taken}
 use Rattle.spec_machine.proofs.Waiting.{joined, joined_bytes}
 use Rattle.ams_tcp.specs.Held.{Held}
-use Rattle.ams_tcp.specs.History.{Represents, after_feed, answer_of, after_next, nothing_fed}
-use Rattle.ams_tcp.specs.declared.cut.Cut.TheVariants as cut
+use Rattle.ams_tcp.specs.History.{Represents, nothing_fed}
 use Rattle.out_queue.specs.Queue.{queued, frames_after, FitsFront}
 use Rattle.spec_relay.specs.RelayState.{RelayConnection}
 use Rattle.ams_relay.specs.declared.peer.Peer.{Peer}
-use Rattle.ams_relay.specs.Holds.{history_of, net_of, Stands}
+use Rattle.ams_relay.specs.Holds.{IsStreamOf, net_of, Stands}
 use Rattle.ams_relay.specs.Peers.{IsFresh, FitsFirst}
 use Rattle.ams_relay.proofs.QueueLemmas.{left_after-push, queued-left_after, left_after-took, took_fits, fits_front}
-use Rattle.ams_relay.proofs.StreamLemmas.{after_frame, after_not_yet, after_broken, own_mark}
+use Rattle.ams_relay.proofs.StreamLemmas.{own_mark}
 
 -- a new one
+fresh_stream : (n : ℕ) (o : Option Held) → IsSomeAnd o (λ held. Represents held nothing_fed) → IfSome o (IsStreamOf (fresh_connection None n))
+fresh_stream n None e = tt
+fresh_stream n (Some held) e = own_mark held nothing_fed e
+
 pub fresh_stands : (n : ℕ) (p : Peer) → IsFresh p → Stands p (fresh_connection None n)
 unfolding left_after
 fresh_stands n p fresh = record {
-  stream = own_mark p.stream nothing_fed fresh.stream;
+  stream = fresh_stream n p.stream fresh.stream;
   owned = ap net_of fresh.owned;
   waiting = fresh.out;
   bytes_taken = omega arith;
   closing = fresh.open_;
 }
 
+-- of a stream that is lent nothing is said
+lent_stream : (k : RelayConnection) (o : Option Held) → o ≡ None → IfSome o (IsStreamOf k)
+lent_stream k o lent = subst (λ (u : Option Held). IfSome u (IsStreamOf k)) (sym lent) tt
+
 -- a piece came in
-pub received_stands : (p : Peer) (held : Held) (piece : List ℕ) (k : RelayConnection) → Stands p k → Represents held (after_feed (history_of p k) piece)
-    → Stands (record p { stream = held }) (with_received piece k)
-received_stands p held piece k s fed = record {
-  stream = own_mark held (after_feed (history_of p k) piece) fed;
+pub received_stands : (p : Peer) (piece : List ℕ) (k : RelayConnection) → p.stream ≡ None → Stands p k → Stands p (with_received piece k)
+received_stands p piece k lent s = record {
+  stream = lent_stream (with_received piece k) p.stream lent;
   owned = s.owned;
   waiting = s.waiting;
   bytes_taken = s.bytes_taken;
@@ -43,33 +49,19 @@ received_stands p held piece k s fed = record {
 }
 
 -- the splitter gave a frame
-pub taken_stands : (p : Peer) (held : Held) (packet : List ℕ) (k : RelayConnection) → Stands p k → cut.Frame packet ≡ answer_of (history_of p k)
-    → Represents held (after_next (history_of p k)) → Stands (record p { stream = held }) (with_one_taken k)
-taken_stands p held packet k s answer stream = record {
-  stream = after_frame held (history_of p k) packet answer stream;
+pub taken_stands : (p : Peer) (k : RelayConnection) → p.stream ≡ None → Stands p k → Stands p (with_one_taken k)
+taken_stands p k lent s = record {
+  stream = lent_stream (with_one_taken k) p.stream lent;
   owned = s.owned;
   waiting = s.waiting;
   bytes_taken = s.bytes_taken;
   closing = s.closing;
 }
 
--- or none
-pub open_stands : (p : Peer) (held : Held) (k : RelayConnection) → Stands p k
-    → cut.NotYet ≡ answer_of (history_of p k) → Represents held (after_next (history_of p k))
-    → Stands (record p { stream = held }) k
-open_stands p held k s answer stream = record {
-  stream = after_not_yet held (history_of p k) answer stream;
-  owned = s.owned;
-  waiting = s.waiting;
-  bytes_taken = s.bytes_taken;
-  closing = s.closing;
-}
-
-pub broken_stands : (p : Peer) (held : Held) (k : RelayConnection) → Stands p k
-    → cut.Broken ≡ answer_of (history_of p k) → Represents held (after_next (history_of p k))
-    → Stands (record p { stream = held }) k
-broken_stands p held k s answer stream = record {
-  stream = after_broken held (history_of p k) answer stream;
+-- the stream alone is another, or is lent
+pub stream_stands : (p : Peer) (o : Option Held) (k : RelayConnection) → IfSome o (IsStreamOf k) → Stands p k → Stands (record p { stream = o }) k
+stream_stands p o k stream s = record {
+  stream = stream;
   owned = s.owned;
   waiting = s.waiting;
   bytes_taken = s.bytes_taken;

@@ -18,7 +18,7 @@ use Rattle.spec_relay.specs.RelayMoves.{relay_after_event}
 use Rattle.ams_relay.specs.declared.peer.Peer.{Peer}
 use Rattle.ams_relay.specs.declared.router.Relay.{Relay}
 use Rattle.ams_relay.specs.declared.router.Router.{Router}
-use Rattle.ams_relay.specs.Peers.{Peers, peer_in, read_in, Sets, IsPlace, first_left, offer_of_peer, some_frames, run_of_peer}
+use Rattle.ams_relay.specs.Peers.{Peers, AreHere, peer_in, read_in, Sets, IsPlace, first_left, offer_of_peer, some_frames, run_of_peer}
 use Rattle.ams_relay.specs.Relays.{RelayRunning, RelayStanding, HoldsRunning, running_after_all, nothing_noted, StandsAt}
 use Rattle.ams_relay.specs.Touched.{IsUntouched, OthersIdle}
 use Rattle.ams_relay.proofs.HoldLemmas.{peer_found}
@@ -162,9 +162,9 @@ run_absent n r x frames none some =
 
 -- no note is made of frames that are taken
 pub stands_wholes : (relay : Relay) (n : ℕ) (frames : List (List ℕ)) (x : RelayStanding) → relay.failed ≡ false
-    → HoldsRunning relay.router (running_after_all x.running (wholes n frames)) → x.notes ≡ []
+    → HoldsRunning relay.router (running_after_all x.running (wholes n frames)) → AreHere relay.router.peers.entries → x.notes ≡ []
     → StandsAt relay (standing_after_all relay_after_event nothing_noted x (wholes n frames))
 unfolding standing_after_all
-stands_wholes relay n [] x working holds notes = record { working = working; holds = holds; notes = notes }
-stands_wholes relay n (f ∷ fs) x working holds notes =
-    stands_wholes relay n fs (standing_after relay_after_event nothing_noted x (move.Took n (length f) f)) working holds (append-nil x.notes ∙ notes)
+stands_wholes relay n [] x working holds here notes = record { working = working; holds = holds; here = here; notes = notes }
+stands_wholes relay n (f ∷ fs) x working holds here notes =
+    stands_wholes relay n fs (standing_after relay_after_event nothing_noted x (move.Took n (length f) f)) working holds here (append-nil x.notes ∙ notes)

@@ -76,11 +76,3 @@ own_mark held h s = record { rest = s.rest; given = s.given; told_broken = refl 
 pub after_frame : (held : Held) (h : History) (packet : List ℕ) → cut.Frame packet ≡ answer_of h → Represents held (after_next h)
     → Represents held (record { fed = h.fed; given = h.given + 1; told_broken = held.told_broken })
 after_frame held h packet e s = own_mark held (record h { given = h.given + 1 }) (subst (λ x. Represents held (after_answer x h)) (sym e) s)
-
-pub after_not_yet : (held : Held) (h : History) → cut.NotYet ≡ answer_of h
-    → Represents held (after_next h) → Represents held (record h { told_broken = held.told_broken })
-after_not_yet held h e s = own_mark held h (subst (λ x. Represents held (after_answer x h)) (sym e) s)
-
-pub after_broken : (held : Held) (h : History) → cut.Broken ≡ answer_of h
-    → Represents held (after_next h) → Represents held (record h { told_broken = held.told_broken })
-after_broken held h e s = own_mark held (record h { told_broken = true }) (subst (λ x. Represents held (after_answer x h)) (sym e) s)

@@ -1,12 +1,14 @@
 -- Frames are taken one after another, down to a rest that is open or broken, or until their connection is closing.
-use Rattle.std.proofs.Common.{◌≡◌, ℕ, ◌+◌, List, [], ◌∷◌, length, drop, Bool, true, false, cond, refl, sym, ap, ◌∙◌, subst, arith}
-use Rattle.std.specs.Prelude.{Option, Some, None, option_map, ◌||◌}
-use Rattle.std.proofs.lemmas.Bool.{cond-true, cond-false, true≢false}
+use Rattle.std.proofs.Common.{◌≡◌, ℕ, ◌+◌, List, [], ◌∷◌, length, drop, Bool, true, false, cond, refl, sym, ap, ◌∙◌, subst, inl, inr, arith}
+use Rattle.std.specs.Prelude.{Option, Some, None, option_map, ◌||◌, not, is_some, IfSome}
+use Rattle.std.proofs.lemmas.Bool.{cond-true, cond-false, cases_eq}
 use Rattle.ads_outside.specs.declared.event.Event.TheVariants as event
 use Rattle.spec_frames.specs.Division.{front_of, frames_of, rest_of, is_broken}
+use Rattle.spec_plant.specs.Rights.{rights_of}
 use Rattle.spec_formats.specs.Header.{header_of}
 use Rattle.spec_machine.specs.Connection.{connection_of, with_closing, put_back, is_deaf}
 use Rattle.spec_machine.specs.MachineState.{after_exchange}
+use Rattle.spec_machine.specs.Offers.{is_among}
 use Rattle.spec_machine.specs.Piece.{with_received, with_one_taken, packets_left, after_rest}
 use Rattle.spec_machine.specs.Summary.{count_of}
 use Rattle.ams_tcp.specs.Held.{Held}
@@ -23,17 +25,18 @@ use Rattle.spec_relay.proofs.TakenLemmas.{progress, frame-own}
 use Rattle.ams_relay.specs.declared.peer.Peer.{Peer}
 use Rattle.ams_relay.specs.declared.router.Router.{Router}
 use Rattle.ams_relay.specs.Counts.{counts_in}
-use Rattle.ams_relay.specs.Holds.{history_of, Stands, Holds}
-use Rattle.ams_relay.specs.Peers.{peer_in, Sets}
-use Rattle.ams_relay.specs.Taking.{IsHeardAt, IsSwept, IsThere, packets_of, end_of_piece, TakesOne}
+use Rattle.ams_relay.specs.Holds.{history_of, IsStreamOf, IsPeerOf, HoldsOwners, HoldsAsked, Holds}
+use Rattle.ams_relay.specs.Peers.{Peers, peer_in, read_in, is_lent, is_lent_in, Sets}
+use Rattle.ams_relay.specs.Taking.{IsHeardAt, IsSwept, KeepsStreams, packets_of, end_of_piece, HoldsWith, TakesOne}
+use Rattle.ams_relay.specs.Touched.{OthersIdle}
 use Rattle.ams_relay.proofs.HoldLemmas.{Found, peer_found, peer_absent, holds_changed, holds_counted, holds_swept}
 use Rattle.ams_relay.proofs.IdleLemmas.{idle_stream}
 use Rattle.ams_relay.proofs.ListLemmas.{filter-finer}
 use Rattle.ams_relay.proofs.OwnerLemmas.{some_same}
-use Rattle.ams_relay.proofs.PeerLemmas.{received_stands, taken_stands, open_stands, broken_stands}
+use Rattle.ams_relay.proofs.PeerLemmas.{received_stands, taken_stands, stream_stands}
 use Rattle.ams_relay.proofs.RequestLemmas.{is_heard_in, hearing, heard_of_parts}
 use Rattle.ams_relay.proofs.StateLemmas.{Quiet, changed-nothing, changed-length, changed-more-frames, frames_in}
-use Rattle.ams_relay.proofs.StreamLemmas.{packet_is_next, rest_is_open, rest_is_broken}
+use Rattle.ams_relay.proofs.StreamLemmas.{packet_is_next, rest_is_open, rest_is_broken, own_mark, after_frame as one_given}
 
 -- nothing more is taken of a connection that is closing
 frames-closing : (c : ℕ) (k : RelayConnection) (packets : List (List ℕ)) (s : RelayState)
@@ -113,19 +116,30 @@ behind c packet k s found is_open = by (connection_of c (after_frame c packet s)
         }
 
 -- one frame is taken, and the end is the same
-pub takes_frame : (c : ℕ) (packet : List ℕ) (k : RelayConnection) (new : Router) (b : List ℕ) (s : RelayState)
+pub takes_frame : (c : ℕ) (packet : List ℕ) (k : RelayConnection) (held given : Held) (new : Router) (b : List ℕ) (s : RelayState)
     → connection_of c s.connections ≡ Some k → k.closing ≡ false → k.gone ≡ false
-    → packets_left k ≡ packet ∷ drop (k.frames_taken + 1) (frames_of k.received) → Holds new b (after_frame c packet s) → TakesOne c new b s
+    → cut.Frame packet ≡ answer_of (history_of held k) → Represents given (after_next (history_of held k))
+    → is_lent_in c new.peers.entries ≡ true → Holds new b (after_frame c packet s) → TakesOne c given new b s
 unfolding after_frames
-takes_frame c packet k new b s found is_open there left h =
+takes_frame c packet k held given new b s found is_open there answer stream lent h =
     let l = behind c packet k s found is_open in
+    let left = packet_is_next (history_of held k) packet answer in
     let rest = drop (k.frames_taken + 1) (frames_of k.received) in
     let next_left : packets_of (connection_of c (after_frame c packet s).connections) ≡ rest =
     ap packets_of l.found ∙ ap (λ n. drop n (frames_of l.connection.received)) l.taken ∙ ap (λ bs. drop (k.frames_taken + 1) (frames_of bs)) l.received in
+    let one = one_given given (history_of held k) packet answer stream in
+    let fed = subst (λ (bytes : List ℕ). Represents given (record { fed = bytes; given = k.frames_taken + 1; told_broken = given.told_broken }))
+    (sym l.received) one in
     record {
       next = after_frame c packet s;
-      holds = h;
-      there = record { connection = l.connection; found = l.found; there = l.gone ∙ there };
+      holds = record {
+        holds = h;
+        lent = lent;
+        connection = l.connection;
+        found = l.found;
+        there = l.gone ∙ there;
+        stream = subst (λ (n : ℕ). Represents given (record { fed = l.connection.received; given = n; told_broken = given.told_broken })) (sym l.taken) fed;
+      };
       same_end = ap (λ ps. at_connection c after_rest (after_frames c ps (after_frame c packet s))) next_left
           ∙ sym (ap (λ ps. at_connection c after_rest (after_frames c ps s)) (ap packets_of found ∙ left));
     }
@@ -137,19 +151,38 @@ swept_is s = filter-finer (is_heard_in (hearing s.connections)) (is_heard_in (he
 one_taken_quiet : Quiet with_one_taken
 one_taken_quiet = record { stays = record { number = λ k. refl; gone = λ k. refl }; client = λ k. refl; closing = λ k. refl }
 
+-- a peer whose stream is lent
+pub record LentPeer (c : ℕ) (es : Peers) : Type 0 where
+  pub peer : Peer
+  pub was : peer_in c es ≡ Some peer
+  pub lent : peer.stream ≡ None
+
+lent_is_none : (o : Option Held) → not (is_some o) ≡ true → o ≡ None
+lent_is_none None e = refl
+lent_is_none (Some held) e = absurd (let no : false ≡ true = e in cc)
+
+pub lent_peer : (c : ℕ) (es : Peers) → is_lent_in c es ≡ true → LentPeer c es
+lent_peer c es lent = by (peer_in c es) refl
+  where
+    by : (o : Option Peer) → peer_in c es ≡ o → LentPeer c es
+    by None e = absurd (let no : false ≡ true = sym (ap (read_in is_lent false) e) ∙ lent in cc)
+    by (Some p) e = record { peer = p; was = e; lent = lent_is_none p.stream (sym (ap (read_in is_lent false) e) ∙ lent) }
+
+sets_same : (c : ℕ) (p : Peer) (es : Peers) → peer_in c es ≡ Some p → Sets c p es es
+sets_same c p es was = record { keys = refl; others = λ m ne. refl; own = was }
+
 -- a frame is taken and counted
-pub frame_taken : (c : ℕ) (packet : List ℕ) (b : List ℕ) (p : Peer) (held : Held) (old new : Router) (s : RelayState)
-    → Holds old b s → peer_in c old.peers.entries ≡ Some p
-    → ((l : RelayConnection) → Stands p l → cut.Frame packet ≡ answer_of (history_of p l))
-    → ((l : RelayConnection) → Stands p l → Represents held (after_next (history_of p l)))
-    → Sets c (record p { stream = held }) old.peers.entries new.peers.entries → new.routes ≡ old.routes → new.owners.entries ≡ old.owners.entries
+pub frame_taken : (c : ℕ) (b : List ℕ) (p : Peer) (old new : Router) (s : RelayState) → Holds old b s
+    → peer_in c old.peers.entries ≡ Some p → p.stream ≡ None
+    → new.peers.entries ≡ old.peers.entries → new.routes ≡ old.routes → new.owners.entries ≡ old.owners.entries
     → new.counts ≡ (let t = old.counts in record t { frames = count_of (t.frames + 1) }) → new.touched ≡ old.touched
     → Holds new b (with_frame_taken c s)
-frame_taken c packet b p held old new s h was answer stream sets routes owners counts touched =
+frame_taken c b p old new s h was lent peers routes owners counts touched =
     holds_swept new b (at_connection c with_one_taken s)
-    (holds_counted c with_one_taken b b p (record p { stream = held }) old new s one_taken_quiet h was sets routes owners (ap counts_in counts ∙ counted)
-    (record { stands = λ l st. taken_stands p held packet l st (answer l st) (stream l st); marked = λ e. e }) refl (λ m ne. refl)
-    (idle_stream c p held old new was sets touched h.idle))
+    (holds_counted c with_one_taken b b p p old new s one_taken_quiet h was
+    (subst (λ es. Sets c p old.peers.entries es) (sym peers) (sets_same c p old.peers.entries was)) routes owners (ap counts_in counts ∙ counted)
+    (record { stands = λ l st. taken_stands p l lent st; marked = λ e. e }) refl (λ m ne. refl)
+    (subst (λ es. OthersIdle new.touched es) (sym peers) (subst (λ u. OthersIdle u old.peers.entries) (sym touched) h.idle)))
   where
     at : Found p (connection_of c s.connections)
     at = peer_found old.peers.entries b s c p h.peers was
@@ -176,100 +209,140 @@ frame_taken c packet b p held old new s h was answer stream sets routes owners c
     counted = λ i. record { connections = connections i; frames = frames i; passed = passed i; unknown = unknown i }
 
 -- and goes its way
-pub passed_on : (c : ℕ) (packet : List ℕ) (b : List ℕ) (p : Peer) (old mid new : Router) (s : RelayState)
-    → Holds old b s → peer_in c old.peers.entries ≡ Some p → p.closing ≡ false
-    → ((l : RelayConnection) → Stands p l → cut.Frame packet ≡ answer_of (history_of p l)) → Holds mid b (with_frame_taken c s)
+pub passed_on : (c : ℕ) (packet : List ℕ) (b : List ℕ) (p : Peer) (held given : Held) (old mid new : Router) (s : RelayState)
+    → (w : HoldsWith c held old b s) → peer_in c old.peers.entries ≡ Some p → p.closing ≡ false
+    → cut.Frame packet ≡ answer_of (history_of held w.connection) → Represents given (after_next (history_of held w.connection))
+    → Holds mid b (with_frame_taken c s)
     → ((d : List ℕ) (t : RelayState) (l : RelayConnection) → Holds mid d t → IsHeardAt c l t
     → IsSwept t → Holds new d (after_header c packet l t (header_of packet)))
-    → TakesOne c new b s
+    → is_lent_in c new.peers.entries ≡ true → TakesOne c given new b s
 unfolding after_frame
-passed_on c packet b p old mid new s h was is_open answer taken pass =
-    let at = peer_found old.peers.entries b s c p h.peers was in
-    let k = at.connection in
-    let open_k : k.closing ≡ false = sym at.stands.closing ∙ is_open in
+passed_on c packet b p held given old mid new s w was is_open answer stream taken pass lent =
+    let at = peer_found old.peers.entries b s c p w.holds.peers was in
+    let k = w.connection in
+    let same_k : at.connection ≡ k = some_same at.connection k (sym at.found ∙ w.found) in
+    let open_k : k.closing ≡ false = sym (ap (λ (x : RelayConnection). x.closing) same_k) ∙ sym at.stands.closing ∙ is_open in
     let found : connection_of c (with_frame_taken c s).connections ≡ Some (with_one_taken k) =
-    changed-own c with_one_taken (λ l. refl) s ∙ ap (option_map with_one_taken) at.found in
-    let heard : IsHeardAt c (with_one_taken k) (with_frame_taken c s) = record { found = found; heard = heard_of_parts (with_one_taken k) open_k at.there } in
+    changed-own c with_one_taken (λ l. refl) s ∙ ap (option_map with_one_taken) w.found in
+    let heard : IsHeardAt c (with_one_taken k) (with_frame_taken c s) = record { found = found; heard = heard_of_parts (with_one_taken k) open_k w.there } in
     let after = pass b (with_frame_taken c s) (with_one_taken k) taken heard (swept_is (at_connection c with_one_taken s)) in
     let same : after_frame c packet s ≡ after_header c packet k (with_frame_taken c s) (header_of packet) =
-    ap (after_frame_of c packet s) at.found ∙ cond-false k.closing s (after_header c packet k (with_frame_taken c s) (header_of packet)) open_k in
-    takes_frame c packet k new b s at.found open_k at.there (packet_is_next (history_of p k) packet (answer k at.stands)) (subst (Holds new b) (sym same) after)
-
-still_quiet : Quiet (λ k. k)
-still_quiet = record { stays = record { number = λ k. refl; gone = λ k. refl }; client = λ k. refl; closing = λ k. refl }
+    ap (after_frame_of c packet s) w.found ∙ cond-false k.closing s (after_header c packet k (with_frame_taken c s) (header_of packet)) open_k in
+    takes_frame c packet k held given new b s w.found open_k w.there answer stream lent (subst (Holds new b) (sym same) after)
 
 -- a change of the stream alone, where the peer stands for the same connection
-pub stream_kept : (c : ℕ) (b : List ℕ) (p : Peer) (held : Held) (old new : Router) (s : RelayState) → Holds old b s → peer_in c old.peers.entries ≡ Some p
-    → Sets c (record p { stream = held }) old.peers.entries new.peers.entries → new.routes ≡ old.routes
+pub stream_kept : (c : ℕ) (b : List ℕ) (p : Peer) (o : Option Held) (old new : Router) (s : RelayState) → Holds old b s → peer_in c old.peers.entries ≡ Some p
+    → Sets c (record p { stream = o }) old.peers.entries new.peers.entries → new.routes ≡ old.routes
     → new.owners.entries ≡ old.owners.entries → new.counts ≡ old.counts → new.touched ≡ old.touched
-    → ((l : RelayConnection) → Stands p l → Stands (record p { stream = held }) l) → Holds new b s
-stream_kept c b p held old new s h was sets routes owners counts touched stands =
-    subst (Holds new b) (changed-nothing c (λ k. k) s (λ k e. refl))
-    (holds_changed c (λ k. k) b b p (record p { stream = held }) old new s still_quiet (λ k. refl) h was sets routes owners counts
-    (record { stands = stands; marked = λ e. e }) refl (λ m ne. refl) (idle_stream c p held old new was sets touched h.idle))
+    → ((l : RelayConnection) → connection_of c s.connections ≡ Some l → IfSome o (IsStreamOf l)) → Holds new b s
+stream_kept c b p o old new s h was sets routes owners counts touched stream =
+    let at = peer_found old.peers.entries b s c p h.peers was in
+    record {
+      routes = λ net. ap (rights_of net) routes ∙ h.routes net;
+      peers = record {
+        numbers = sets.keys ∙ h.peers.numbers;
+        each = λ m. elim (cases_eq m c) [
+          | inl e ↦ subst (λ j. IsPeerOf (peer_in j new.peers.entries) (connection_of j s.connections)) (sym e)
+              (subst (λ u. IsPeerOf u (connection_of c s.connections)) (sym sets.own)
+              (subst (λ u. IsPeerOf (Some (record p { stream = o })) u) (sym at.found)
+              (at.there, stream_stands p o at.connection (stream at.connection at.found) at.stands)))
+          | inr ne ↦ subst (λ u. IsPeerOf u (connection_of m s.connections)) (sym (sets.others m ne)) (h.peers.each m)
+        ];
+        apart = h.peers.apart;
+        marked = λ m. elim (cases_eq m c) [
+          | inl e ↦ subst (λ j. IfSome (peer_in j new.peers.entries) (λ r. r.blocked ≡ is_among j b)) (sym e)
+              (subst (λ u. IfSome u (λ r. r.blocked ≡ is_among c b)) (sym sets.own) (subst (λ u. IfSome u (λ r. r.blocked ≡ is_among c b)) was (h.peers.marked c)))
+          | inr ne ↦ subst (λ u. IfSome u (λ r. r.blocked ≡ is_among m b)) (sym (sets.others m ne)) (h.peers.marked m)
+        ];
+        known = h.peers.known;
+      };
+      owners = subst (λ os. HoldsOwners os s.connections) (sym owners) h.owners;
+      requests = λ m q k at_m found heard. elim (cases_eq m c) [
+        | inl e ↦
+            let is : record p { stream = o } ≡ q = some_same (record p { stream = o }) q (sym sets.own ∙ sym (ap (λ j. peer_in j new.peers.entries) e) ∙ at_m) in
+            subst (λ (r : Peer). HoldsAsked r.asked.items m k s) is (h.requests m p k (ap (λ j. peer_in j old.peers.entries) e ∙ was) found heard)
+        | inr ne ↦ h.requests m q k (sym (sets.others m ne) ∙ at_m) found heard
+      ];
+      named = h.named;
+      counts = ap counts_in counts ∙ h.counts;
+      idle = idle_stream c p o old new was sets touched h.idle;
+    }
+
+-- the stream is lent
+pub lent_out : (c : ℕ) (b : List ℕ) (p : Peer) (held : Held) (o : Option Held) (old new : Router) (s : RelayState) → Holds old b s → peer_in c old.peers.entries ≡ Some p
+    → p.stream ≡ Some held → o ≡ None → Sets c (record p { stream = o }) old.peers.entries new.peers.entries → new.routes ≡ old.routes
+    → new.owners.entries ≡ old.owners.entries → new.counts ≡ old.counts → new.touched ≡ old.touched → HoldsWith c held new b s
+lent_out c b p held o old new s h was is none sets_o routes owners counts touched =
+    let at = peer_found old.peers.entries b s c p h.peers was in
+    let sets : Sets c (record p { stream = None }) old.peers.entries new.peers.entries =
+    subst (λ (u : Option Held). Sets c (record p { stream = u }) old.peers.entries new.peers.entries) none sets_o in
+    record {
+      holds = stream_kept c b p None old new s h was sets routes owners counts touched (λ l found. tt);
+      lent = ap (read_in is_lent false) sets.own;
+      connection = at.connection;
+      found = at.found;
+      there = at.there;
+      stream = subst (λ (u : Option Held). IfSome u (IsStreamOf at.connection)) is at.stands.stream;
+    }
+
+-- and is here again
+pub come_back : (c : ℕ) (b : List ℕ) (p : Peer) (held : Held) (old new : Router) (s : RelayState) → HoldsWith c held old b s → peer_in c old.peers.entries ≡ Some p
+    → Sets c (record p { stream = Some held }) old.peers.entries new.peers.entries → new.routes ≡ old.routes
+    → new.owners.entries ≡ old.owners.entries → new.counts ≡ old.counts → new.touched ≡ old.touched → Holds new b s
+come_back c b p held old new s w was sets routes owners counts touched =
+    stream_kept c b p (Some held) old new s w.holds was sets routes owners counts touched
+    (λ l found. subst (λ (k : RelayConnection). IsStreamOf k held) (some_same w.connection l (sym w.found ∙ found)) w.stream)
 
 -- the rest is open
-pub ends_open : (c : ℕ) (b : List ℕ) (p : Peer) (held : Held) (old new : Router) (s : RelayState) → Holds old b s → peer_in c old.peers.entries ≡ Some p
-    → ((l : RelayConnection) → Stands p l → cut.NotYet ≡ answer_of (history_of p l))
-    → ((l : RelayConnection) → Stands p l → Represents held (after_next (history_of p l)))
-    → Sets c (record p { stream = held }) old.peers.entries new.peers.entries → new.routes ≡ old.routes
-    → new.owners.entries ≡ old.owners.entries → new.counts ≡ old.counts → new.touched ≡ old.touched
-    → Holds new b (end_of_piece c s)
-ends_open c b p held old new s h was answer stream sets routes owners counts touched =
-    let at = peer_found old.peers.entries b s c p h.peers was in
-    let rest = rest_is_open (history_of p at.connection) (answer at.connection at.stands) in
-    subst (Holds new b) (sym (end-open c at.connection s at.found rest.none_left rest.rest))
-    (stream_kept c b p held old new s h was sets routes owners counts touched (λ l st. open_stands p held l st (answer l st) (stream l st)))
+pub ends_open : (c : ℕ) (held : Held) (b : List ℕ) (r : Router) (s : RelayState) → (w : HoldsWith c held r b s)
+    → cut.NotYet ≡ answer_of (history_of held w.connection) → HoldsWith c held r b (end_of_piece c s)
+ends_open c held b r s w answer =
+    let rest = rest_is_open (history_of held w.connection) answer in
+    subst (HoldsWith c held r b) (sym (end-open c w.connection s w.found rest.none_left rest.rest)) w
 
 -- the rest is broken
-pub ends_broken : (c : ℕ) (b : List ℕ) (p : Peer) (held : Held) (old mid new : Router) (s : RelayState) → Holds old b s → peer_in c old.peers.entries ≡ Some p
-    → ((l : RelayConnection) → Stands p l → cut.Broken ≡ answer_of (history_of p l))
-    → ((l : RelayConnection) → Stands p l → Represents held (after_next (history_of p l)))
-    → Sets c (record p { stream = held }) old.peers.entries mid.peers.entries → mid.routes ≡ old.routes
-    → mid.owners.entries ≡ old.owners.entries → mid.counts ≡ old.counts → mid.touched ≡ old.touched
-    → ((d : List ℕ) (t : RelayState) → Holds mid d t → Holds new d (at_connection c with_closing t)) → Holds new b (end_of_piece c s)
-ends_broken c b p held old mid new s h was answer stream sets routes owners counts touched close =
-    let at = peer_found old.peers.entries b s c p h.peers was in
-    let rest = rest_is_broken (history_of p at.connection) (answer at.connection at.stands) in
-    subst (Holds new b) (sym (end-broken c at.connection s at.found rest.none_left rest.rest))
-    (close b s (stream_kept c b p held old mid s h was sets routes owners counts touched (λ l st. broken_stands p held l st (answer l st) (stream l st))))
+pub ends_broken : (c : ℕ) (held : Held) (b : List ℕ) (old new : Router) (s : RelayState) → (w : HoldsWith c held old b s)
+    → cut.Broken ≡ answer_of (history_of held w.connection) → Holds new b (at_connection c with_closing s)
+    → KeepsStreams old.peers.entries new.peers.entries → HoldsWith c held new b (end_of_piece c s)
+ends_broken c held b old new s w answer closed streams =
+    let rest = rest_is_broken (history_of held w.connection) answer in
+    subst (HoldsWith c held new b) (sym (end-broken c w.connection s w.found rest.none_left rest.rest)) (record {
+      holds = closed;
+      lent = streams c ∙ w.lent;
+      connection = with_closing w.connection;
+      found = changed-own c with_closing (λ l. refl) s ∙ ap (option_map with_closing) w.found;
+      there = w.there;
+      stream = w.stream;
+    })
 
 -- the connection is closing
-pub ends_closing : (c : ℕ) (b : List ℕ) (p : Peer) (r : Router) (s : RelayState) → Holds r b s
-    → peer_in c r.peers.entries ≡ Some p → p.closing ≡ true → Holds r b (end_of_piece c s)
-ends_closing c b p r s h was closing =
-    let at = peer_found r.peers.entries b s c p h.peers was in
-    subst (Holds r b) (sym (end-closing c at.connection s at.found (sym at.stands.closing ∙ closing))) h
+pub ends_closing : (c : ℕ) (held : Held) (b : List ℕ) (p : Peer) (r : Router) (s : RelayState) → HoldsWith c held r b s
+    → peer_in c r.peers.entries ≡ Some p → p.closing ≡ true → HoldsWith c held r b (end_of_piece c s)
+ends_closing c held b p r s w was closing =
+    let at = peer_found r.peers.entries b s c p w.holds.peers was in
+    subst (HoldsWith c held r b) (sym (end-closing c at.connection s at.found (sym at.stands.closing ∙ closing))) w
 
 -- or is not there
-pub ends_absent : (c : ℕ) (b : List ℕ) (r : Router) (s : RelayState) → Holds r b s → peer_in c r.peers.entries ≡ None → IsThere c s → ⊥
-ends_absent c b r s h none there =
-    true≢false (sym (peer_absent r.peers.entries b s c h.peers none there.connection there.found) ∙ there.there)
+pub ends_absent : (c : ℕ) (held : Held) (b : List ℕ) (r : Router) (s : RelayState) → HoldsWith c held r b s → peer_in c r.peers.entries ≡ None → ⊥
+ends_absent c held b r s w none = let no : false ≡ true = sym (ap (read_in is_lent false) none) ∙ w.lent in cc
 
 -- a piece comes in
 received_quiet : (piece : List ℕ) → Quiet (with_received piece)
 received_quiet piece = record { stays = record { number = λ k. refl; gone = λ k. refl }; client = λ k. refl; closing = λ k. refl }
 
-pub fed : (c : ℕ) (piece : List ℕ) (b : List ℕ) (p : Peer) (held : Held) (old new : Router) (s : RelayState)
-    → Holds old b s → peer_in c old.peers.entries ≡ Some p
-    → ((l : RelayConnection) → Stands p l → Represents held (after_feed (history_of p l) piece))
-    → Sets c (record p { stream = held }) old.peers.entries new.peers.entries → new.routes ≡ old.routes
-    → new.owners.entries ≡ old.owners.entries → new.counts ≡ old.counts → new.touched ≡ old.touched
-    → Holds new b (at_connection c (with_received piece) s)
-fed c piece b p held old new s h was stream sets routes owners counts touched =
-    holds_changed c (with_received piece) b b p (record p { stream = held }) old new s (received_quiet piece) (λ k. refl) h was sets routes owners counts
-    (record { stands = λ l st. received_stands p held piece l st (stream l st); marked = λ e. e }) refl
-    (λ m ne. refl) (idle_stream c p held old new was sets touched h.idle)
-
--- the connection of a peer that is open is there after a piece
-pub there_fed : (c : ℕ) (piece : List ℕ) (b : List ℕ) (p : Peer) (r : Router) (s : RelayState)
-    → Holds r b s → peer_in c r.peers.entries ≡ Some p → IsThere c (at_connection c (with_received piece) s)
-there_fed c piece b p r s h was =
-    let at = peer_found r.peers.entries b s c p h.peers was in
+pub fed : (c : ℕ) (piece : List ℕ) (b : List ℕ) (held given : Held) (r : Router) (s : RelayState) → (w : HoldsWith c held r b s)
+    → Represents given (after_feed (history_of held w.connection) piece) → HoldsWith c given r b (at_connection c (with_received piece) s)
+fed c piece b held given r s w stream =
+    let l = lent_peer c r.peers.entries w.lent in
     record {
-      connection = with_received piece at.connection;
-      found = changed-own c (with_received piece) (λ k. refl) s ∙ ap (option_map (with_received piece)) at.found;
-      there = at.there;
+      holds = holds_changed c (with_received piece) b b l.peer l.peer r r s (received_quiet piece) (λ k. refl) w.holds l.was
+          (sets_same c l.peer r.peers.entries l.was) refl refl refl
+          (record { stands = λ k st. received_stands l.peer piece k l.lent st; marked = λ e. e }) refl (λ m ne. refl) w.holds.idle;
+      lent = w.lent;
+      connection = with_received piece w.connection;
+      found = changed-own c (with_received piece) (λ k. refl) s ∙ ap (option_map (with_received piece)) w.found;
+      there = w.there;
+      stream = own_mark given (after_feed (history_of held w.connection) piece) stream;
     }
 
 pub piece_taken : (c : ℕ) (piece : List ℕ) (b : List ℕ) (p : Peer) (r new : Router) (s : RelayState)
@@ -320,6 +393,11 @@ piece_absent c piece b r s h none = subst (Holds r b) (sym (by (connection_of c 
         cond-true (is_deaf k) s
         (at_connection c after_rest (after_frames c (packets_left (with_received piece k)) (at_connection c (with_received piece) s))) deaf
 
+-- no frame was taken yet
+pub takes_none : (c : ℕ) (held : Held) (r : Router) (b : List ℕ) (s : RelayState) → HoldsWith c held r b s → TakesOne c held r b s
+takes_none c held r b s w = record { next = s; holds = w; same_end = refl }
+
 -- one frame more was taken
-pub then_takes : (c : ℕ) (mid new : Router) (b : List ℕ) (s : RelayState) (first : TakesOne c mid b s) → TakesOne c new b first.next → TakesOne c new b s
-then_takes c mid new b s first second = record { next = second.next; holds = second.holds; there = second.there; same_end = second.same_end ∙ first.same_end }
+pub then_takes : (c : ℕ) (held given : Held) (mid new : Router) (b : List ℕ) (s : RelayState) (first : TakesOne c held mid b s)
+    → TakesOne c given new b first.next → TakesOne c given new b s
+then_takes c held given mid new b s first second = record { next = second.next; holds = second.holds; same_end = second.same_end ∙ first.same_end }

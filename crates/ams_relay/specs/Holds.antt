@@ -5,6 +5,7 @@ use Rattle.std.specs.Prelude.{Option, Some, None, bytes_eq}
 use Rattle.std.specs.Map.{keys_of, lookup}
 use Rattle.std.specs.Global.{Vec}
 use Rattle.ads_base.specs.declared.net_id.NetId.{NetId}
+use Rattle.ams_tcp.specs.Held.{Held}
 use Rattle.ams_tcp.specs.History.{History, Represents}
 use Rattle.spec_plant.specs.Rights.{rights_of}
 use Rattle.spec_machine.specs.Connection.{connection_of, bytes_of, bytes_of_all}
@@ -23,15 +24,19 @@ use Rattle.ams_relay.specs.Peers.{Peers, peer_in}
 use Rattle.ams_relay.specs.Touched.{OthersIdle}
 
 -- what the splitter was fed, and gave
-abbrev pub history_of : Peer → RelayConnection → History
-history_of p k = record { fed = k.received; given = k.frames_taken; told_broken = p.stream.told_broken }
+abbrev pub history_of : Held → RelayConnection → History
+history_of held k = record { fed = k.received; given = k.frames_taken; told_broken = held.told_broken }
+
+-- a stream stands for what came of a connection
+abbrev pub IsStreamOf : RelayConnection → Held → Type 0
+IsStreamOf k held = Represents held (history_of held k)
 
 abbrev pub net_of : Option NetId → Option (List ℕ)
 net_of o = option_map (λ (net : NetId). net.bytes) o
 
--- what is kept of a connection stands for one of the machine
+-- what is kept of a connection stands for one of the machine; of a stream that is lent nothing is said
 pub record Stands (p : Peer) (k : RelayConnection) : Type 0 where
-  pub stream : Represents p.stream (history_of p k)
+  pub stream : IfSome p.stream (IsStreamOf k)
   pub owned : net_of p.owned ≡ k.client
   pub waiting : p.out ≡ left_after k.bytes_taken (map bytes_of k.produced)
   pub bytes_taken : k.bytes_taken ≤ length (bytes_of_all k.produced)

@@ -1,5 +1,5 @@
 -- The connections that the code keeps, found by their numbers, and how one of them changes.
-use Rattle.std.specs.Prelude.{◌≡◌, ◌≢◌, ℕ, ◌<◌, ◌≤◌, List, [], ◌∷◌, length, slice_get, slice_index_or, Bool, false, ◌==◌, if◌then◌else◌}
+use Rattle.std.specs.Prelude.{◌≡◌, ◌≢◌, ℕ, ◌<◌, ◌≤◌, List, [], ◌∷◌, length, slice_get, slice_index_or, Bool, false, not, ◌==◌, if◌then◌else◌}
 use Rattle.std.specs.Prelude.{Option, Some, None, IsSomeAnd, unwrap_or, is_some}
 use Rattle.std.specs.Map.{keys_of, values_of, lookup}
 use Rattle.indexmap.specs.IndexMap.{set_value_at}
@@ -29,7 +29,7 @@ pub record IsPlace (es : Peers) (n i : ℕ) : Type 0 where
 
 -- nothing came of it
 pub record IsFresh (p : Peer) : Type 0 where
-  pub stream : Represents p.stream nothing_fed
+  pub stream : IsSomeAnd p.stream (λ held. Represents held nothing_fed)
   pub out : p.out ≡ []
   pub owned : p.owned ≡ None
   pub asked : p.asked.items ≡ []
@@ -48,6 +48,17 @@ first_left out = unwrap_or (front_of out) []
 abbrev pub read_in : {X : Type 0} → (Peer → X) → X → Option Peer → X
 read_in read none None = none
 read_in read none (Some p) = read p
+
+-- the stream of a peer is lent
+abbrev pub is_lent : Peer → Bool
+is_lent p = not (is_some p.stream)
+
+abbrev pub is_lent_in : ℕ → Peers → Bool
+is_lent_in n es = read_in is_lent false (peer_in n es)
+
+-- no stream is lent
+abbrev pub AreHere : Peers → Type 0
+AreHere es = (n : ℕ) → is_lent_in n es ≡ false
 
 -- what a connection is offered: what is left of its first frame, unless it is blocked
 abbrev pub offer_of_peer : Peer → Option (List ℕ)

@@ -13,7 +13,7 @@ use Rattle.spec_relay.specs.RelayPromises.{RelayKeepsPromisesAt}
 use Rattle.ams_relay.specs.declared.router.Relay.{Relay}
 use Rattle.ams_relay.specs.declared.router.Router.{Router}
 use Rattle.ams_relay.specs.Holds.{Holds}
-use Rattle.ams_relay.specs.Peers.{peer_in, read_in, offer_of_peer, run_of_peer, offers_of_peer}
+use Rattle.ams_relay.specs.Peers.{AreHere, peer_in, read_in, offer_of_peer, run_of_peer, offers_of_peer}
 
 abbrev pub RelayStanding : Type 0
 RelayStanding = Standing RelayWorld Owned
@@ -44,6 +44,7 @@ nothing_noted s e = []
 pub record StandsAt (relay : Relay) (x : RelayStanding) : Type 0 where
   pub working : relay.failed ≡ false
   pub holds : Holds relay.router x.running.blocked x.running.state
+  pub here : AreHere relay.router.peers.entries
   pub notes : x.notes ≡ []
 
 -- after want of memory

@@ -1,6 +1,7 @@
 -- How a router takes the frames of a connection. No public clause cites this file.
 use Rattle.std.specs.Prelude.{◌≡◌, ◌≢◌, ℕ, List, [], length, Bool, true, false, not, ◌||◌, ◌==◌, is_some, Option, Some, None}
 use Rattle.spec_plant.specs.Rights.{rights_of}
+use Rattle.ams_tcp.specs.Held.{Held}
 use Rattle.ads_base.specs.declared.net_id.NetId.{NetId}
 use Rattle.spec_formats.specs.Header.{AmsHeader}
 use Rattle.spec_machine.specs.Connection.{connection_of}
@@ -12,8 +13,8 @@ use Rattle.spec_relay.specs.RelayMoves.{after_frames}
 use Rattle.ams_relay.specs.declared.asked.Asked.{Asked}
 use Rattle.ams_relay.specs.declared.peer.Peer.{Peer}
 use Rattle.ams_relay.specs.declared.router.Router.{Router}
-use Rattle.ams_relay.specs.Holds.{Owners, owner_in, Holds}
-use Rattle.ams_relay.specs.Peers.{Peers, peer_in, read_in}
+use Rattle.ams_relay.specs.Holds.{Owners, owner_in, IsStreamOf, Holds}
+use Rattle.ams_relay.specs.Peers.{Peers, peer_in, read_in, is_lent_in}
 
 -- a connection is there and not closing
 pub record IsHeardAt (c : ℕ) (k : RelayConnection) (s : RelayState) : Type 0 where
@@ -73,15 +74,9 @@ pub record Disowns (owned : Option NetId) (old new : Router) : Type 0 where
 abbrev pub is_refused : List ℕ → AmsHeader → RelayState → Bool
 is_refused payload h s = not (h.len == length payload) || not (is_some (rights_of h.source.net s.world.routes))
 
--- the bytes of each stream that are left to be cut are as many as before
-abbrev pub rest_of_peer : Peer → ℕ
-rest_of_peer p = length p.stream.rest
-
-abbrev pub rest_in : ℕ → Peers → ℕ
-rest_in n es = read_in rest_of_peer 0 (peer_in n es)
-
+-- the streams of the same connections are lent
 abbrev pub KeepsStreams : Peers → Peers → Type 0
-KeepsStreams old new = (n : ℕ) → rest_in n new ≡ rest_in n old
+KeepsStreams old new = (n : ℕ) → is_lent_in n new ≡ is_lent_in n old
 
 -- all frames of a connection that are left are taken, and a broken rest closes it
 abbrev pub packets_of : Option RelayConnection → List (List ℕ)
@@ -91,20 +86,22 @@ packets_of (Some k) = packets_left k
 abbrev pub end_of_piece : ℕ → RelayState → RelayState
 end_of_piece c s = at_connection c after_rest (after_frames c (packets_of (connection_of c s.connections)) s)
 
--- a connection is there
-pub record IsThere (c : ℕ) (s : RelayState) : Type 0 where
+-- a router stands for a state in which a connection is there, whose stream is lent
+pub record HoldsWith (c : ℕ) (held : Held) (r : Router) (b : List ℕ) (s : RelayState) : Type 0 where
+  pub holds : Holds r b s
+  pub lent : is_lent_in c r.peers.entries ≡ true
   pub connection : RelayConnection
   pub found : connection_of c s.connections ≡ Some connection
   pub there : connection.gone ≡ false
+  pub stream : IsStreamOf connection held
 
 -- a frame was taken, and what is left leads to the same end
-pub record TakesOne (c : ℕ) (new : Router) (b : List ℕ) (s : RelayState) : Type 0 where
+pub record TakesOne (c : ℕ) (held : Held) (new : Router) (b : List ℕ) (s : RelayState) : Type 0 where
   pub next : RelayState
-  pub holds : Holds new b next
-  pub there : IsThere c next
+  pub holds : HoldsWith c held new b next
   pub same_end : end_of_piece c next ≡ end_of_piece c s
 
 -- more is to be taken, or the end is reached
-abbrev pub Takes : Bool → ℕ → Router → List ℕ → RelayState → Type 0
-Takes true c new b s = TakesOne c new b s
-Takes false c new b s = Holds new b (end_of_piece c s)
+abbrev pub Takes : Bool → ℕ → Held → Router → List ℕ → RelayState → Type 0
+Takes true c held new b s = TakesOne c held new b s
+Takes false c held new b s = HoldsWith c held new b (end_of_piece c s)

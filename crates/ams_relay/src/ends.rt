@@ -9,7 +9,7 @@ ghost use Rattle.spec_relay.specs.RelayState.{RelayState};
 ghost use Rattle.spec_relay.specs.RelayMoves.{relay_after_event};
 ghost use Rattle.spec_relay.specs.Routing.{at_connection};
 ghost use Rattle.ams_relay.specs.Holds.{Holds};
-ghost use Rattle.ams_relay.specs.Peers.{peer_in};
+ghost use Rattle.ams_relay.specs.Peers.{AreHere, peer_in};
 ghost use Rattle.ams_relay.specs.Taking.{Disowns, KeepsStreams};
 
 use crate::peer::Peer;
@@ -22,6 +22,7 @@ impl Router {
     pub(crate) fn open(&mut self, alloc: Global, number: u32) -> Result<(), NoMemory>
         ensures follows { OnOk result ((b : List ℕ) (s : RelayState) → Holds self.old b s → connection_of number s.connections ≡ None
             → Holds self.new b (relay_after_event s (event.Opened number))) }
+        ensures here { OnOk result (AreHere self.old.peers.entries → AreHere self.new.peers.entries) }
     {
         match self.place_of(number) {
             Some(_) => Ok(()),
@@ -31,8 +32,9 @@ impl Router {
 
     fn open_new(&mut self, alloc: Global, number: u32) -> Result<(), NoMemory>
         requires { peer_in number self.old.peers.entries ≡ None }
-        ensures { OnOk result ((b : List ℕ) (s : RelayState) → Holds self.old b s → connection_of number s.connections ≡ None
+        ensures follows { OnOk result ((b : List ℕ) (s : RelayState) → Holds self.old b s → connection_of number s.connections ≡ None
             → Holds self.new b (relay_after_event s (event.Opened number))) }
+        ensures here { OnOk result (AreHere self.old.peers.entries → AreHere self.new.peers.entries) }
     {
         let peer = Peer::fresh(alloc)?;
         let _ = self.peers.insert(number, peer)?;
@@ -62,6 +64,7 @@ impl Router {
     pub(crate) fn end(&mut self, number: u32)
         ensures follows { (b : List ℕ) (s : RelayState) → Holds self.old b s
             → Holds self.new b (after_exchange (connection_of number s.connections) with_gone s) }
+        ensures here { AreHere self.old.peers.entries → AreHere self.new.peers.entries }
     {
         let Some(peer) = self.peers.shift_remove(&number) else {
             return;

@@ -15,6 +15,7 @@ ghost use Rattle.spec_relay.specs.RelayMoves.{relay_after_event};
 ghost use Rattle.ams_relay.specs.Holds.{Holds};
 ghost use Rattle.ams_relay.specs.Peers.{peer_in, read_in, offer_of_peer, run_of_peer, offers_of_peer};
 ghost use Rattle.ams_relay.specs.Relays.{RelayRunning, HoldsRunning, running_after_all};
+ghost use Rattle.ams_relay.specs.Taking.{KeepsStreams};
 
 use crate::router::Router;
 
@@ -23,6 +24,7 @@ impl Router {
     pub(crate) fn writable(&mut self, number: u32)
         ensures follows { (b : List ℕ) (s : RelayState) → Holds self.old b s
             → Holds self.new (blocked_after_move b (move.Event (event.Writable number))) (relay_after_event s (event.Writable number)) }
+        ensures streams { KeepsStreams self.old.peers.entries self.new.peers.entries }
     {
         if let Some(i) = self.place_of(number) {
             self.peers[i].blocked = false;
@@ -37,6 +39,7 @@ impl Router {
             → read_in offer_of_peer None (peer_in number self.old.peers.entries) ≡ Some left → length bytes ≡ n
             → Holds self.new (blocked_after_move b (move.Took number (length left) bytes))
             (state_after_move relay_after_event s (move.Took number (length left) bytes)) }
+        ensures streams { KeepsStreams self.old.peers.entries self.new.peers.entries }
         ensures fewer { read_in offers_of_peer 0 (peer_in number self.new.peers.entries) < read_in offers_of_peer 0 (peer_in number self.old.peers.entries) }
     {
         if let Some(i) = self.place_of(number) {
@@ -70,9 +73,10 @@ impl Router {
 
     /// All frames that were lent of a connection were taken, each by an offer of its own.
     pub(crate) fn took_run(&mut self, number: u32)
-        ensures { (x : RelayRunning) (frames : List (List ℕ)) → HoldsRunning self.old x
+        ensures follows { (x : RelayRunning) (frames : List (List ℕ)) → HoldsRunning self.old x
             → read_in run_of_peer None (peer_in number self.old.peers.entries) ≡ Some frames
             → HoldsRunning self.new (running_after_all x (wholes number frames)) }
+        ensures streams { KeepsStreams self.old.peers.entries self.new.peers.entries }
     {
         if let Some(i) = self.place_of(number) {
             self.peers[i].out.clear();

@@ -16,7 +16,8 @@ use std::collections::VecDeque;
 /// A connection that is there: what came of it, what waits for it, and the requests that it waits for.
 #[derive(Drop)]
 pub(crate) struct Peer {
-    pub(crate) stream: Splitter,
+    // None while it is lent.
+    pub(crate) stream: Option<Splitter>,
     pub(crate) out: OutQueue,
     pub(crate) owned: Option<NetId>,
     // The oldest first. Some may be of connections that are closing or gone by now.
@@ -32,7 +33,7 @@ impl Peer {
         ensures { IfOk result IsFresh }
     {
         Ok(Peer {
-            stream: Splitter::new(alloc)?,
+            stream: Some(Splitter::new(alloc)?),
             out: OutQueue::new(alloc)?,
             owned: None,
             asked: VecDeque::new(alloc),

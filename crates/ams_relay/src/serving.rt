@@ -3,6 +3,7 @@
 ghost use Rattle.std.specs.Prelude.{◌≡◌, ℕ, List, OnOk};
 ghost use Rattle.ads_outside.specs.declared.moves.Move.TheVariants as move;
 ghost use Rattle.spec_machine.specs.Running.{OpensNew};
+ghost use Rattle.ams_relay.specs.Peers.{AreHere};
 ghost use Rattle.ams_relay.specs.Relays.{RelayRunning, HoldsRunning, running_after_event};
 
 use crate::Relay;
@@ -97,8 +98,9 @@ impl Served for Relay {
 impl Router {
     // An event is taken. A tick and a reload change nothing.
     fn take_event(&mut self, alloc: Global, event: &Event) -> Result<(), NoMemory>
-        ensures { OnOk result ((x : RelayRunning) → HoldsRunning self.old x → OpensNew x event.now
+        ensures follows { OnOk result ((x : RelayRunning) → AreHere self.old.peers.entries → HoldsRunning self.old x → OpensNew x event.now
             → HoldsRunning self.new (running_after_event x event.now)) }
+        ensures here { OnOk result (AreHere self.old.peers.entries → AreHere self.new.peers.entries) }
     {
         self.settle();
         match event {

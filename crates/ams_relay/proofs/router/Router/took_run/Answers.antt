@@ -5,8 +5,8 @@ use Rattle.ams_relay.specs.Peers.{peer_in}
 use Rattle.ams_relay.proofs.RunLemmas.{run_taken, run_absent}
 use Rattle.ams_relay.proofs.router.Router.took_run.Goals as goal
 
-pub returns-in-Some : goal.returns-in-Some
-returns-in-Some c = λ x frames h some.
+pub returns-in-Some-clause-follows : goal.returns-in-Some-clause-follows
+returns-in-Some-clause-follows c = λ x frames h some.
     let old = c.args.self.now in
     let n = c.args.number in
     let p = c.index_mut.result.now in
@@ -15,5 +15,5 @@ returns-in-Some c = λ x frames h some.
     let q : Peer = record p { out = c.clear.new.self } in
     run_taken n c.in-Some.i p q old _ x frames place h was some (ap (λ o. record p { out = o }) c.clear.ensures) (place.sets q) refl refl refl c.with-self.ensures
 
-pub returns-in_default : goal.returns-in_default
-returns-in_default c = λ x frames h some. run_absent c.args.number c.args.self.now x frames c.in_default.ensures.absent some
+pub returns-in_default-clause-follows : goal.returns-in_default-clause-follows
+returns-in_default-clause-follows c = λ x frames h some. run_absent c.args.number c.args.self.now x frames c.in_default.ensures.absent some
