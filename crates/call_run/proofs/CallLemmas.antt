@@ -5,7 +5,6 @@ use Rattle.ads_base.specs.declared.no_memory.NoMemory.{NoMemory}
 use Rattle.ads_outside.specs.declared.link_move.LinkMove.{LinkMove}
 use Rattle.ads_outside.specs.LinkState.{LinkState}
 use Rattle.ads_outside.specs.SinkState.{SinkState, NeverFalls}
-use Rattle.spec_client.specs.Conversation.{LoopEnd, Budget}
 use Rattle.spec_client.specs.Stages.{CallEnd, Done, Refused, BadPeer, BadValue, TimedOut}
 use Rattle.spec_formats.specs.Header.{AmsAddress}
 use Rattle.spec_client.specs.Calls.{Call}

@@ -1,6 +1,6 @@
 -- A call over the server in the same process that words ask for is between two addresses, and no greater than words allow.
-use Rattle.std.proofs.Common.{◌≡◌, ℕ, List, [], ◌∷◌, ap, subst}
-use Rattle.spec_formats.specs.Header.{AmsAddress, IsAddress}
+use Rattle.std.proofs.Common.{◌≡◌, ℕ, List, [], ◌∷◌, subst}
+use Rattle.spec_formats.specs.Header.{IsAddress}
 use Rattle.spec_local_room.specs.Laws.{HasShortNames, IsBounded}
 use Rattle.spec_plant.specs.Description.{Description}
 use Rattle.signals.specs.Wave.{Wave}

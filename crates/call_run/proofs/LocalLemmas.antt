@@ -1,21 +1,21 @@
 -- A call over the link to a server in the same process is the local call.
-use Rattle.std.proofs.Common.{◌≡◌, ◌≤◌, ℕ, zero, suc, true, List, [], ◌∷◌, ◌++◌, take, Some, None, inl, inr, subst, ap, sym, ◌∙◌, refl, arith}
-use Rattle.std.specs.Prelude.{Option, Result, Ok, Err, is_some, length}
+use Rattle.std.proofs.Common.{◌≡◌, ℕ, zero, suc, true, List, [], ◌∷◌, ◌++◌, take, Some, None, inl, inr, subst, ap, sym, ◌∙◌, refl, arith}
+use Rattle.std.specs.Prelude.{Option, Result, Ok, Err, is_some}
 use Rattle.ads_base.specs.declared.no_memory.NoMemory.{NoMemory}
 use Rattle.ads_outside.specs.Puts.{Appends, AppendsPart}
 use Rattle.ads_outside.specs.Rose.{Rose}
 use Rattle.ads_outside.specs.SinkState.{SinkState, NeverFalls}
 use Rattle.spec_machine.specs.Connection.{connection_of}
-use Rattle.spec_client.specs.Conversation.{LinkAnswer, LoopEnd, CallEnded, Budget, Conversation}
+use Rattle.spec_client.specs.Conversation.{LinkAnswer, LoopEnd, CallEnded, Budget}
 use Rattle.spec_client.specs.CallLog.{call_log_up_to}
 use Rattle.spec_local.specs.LocalCall.{Cutting}
 use Rattle.spec_local.specs.LinkLog.{IsLogOf}
 use Rattle.spec_local.proofs.LinkLogs.{first_parts, call_logs_begin}
 use Rattle.spec_cutting.specs.Joining.{IsSameCall}
-use Rattle.spec_local_room.specs.Laws.{IsLocal, BeginsCall, is_setting, IsAnswered, EndsAnswered}
+use Rattle.spec_local_room.specs.Laws.{IsLocal, BeginsCall, is_setting, IsAnswered}
 use Rattle.spec_local_room.proofs.LocalAnswers.{local_links_are_one, local_calls_end}
 use Rattle.spec_local_room.proofs.Beginnings.{local_links_begin}
-use Rattle.spec_server.specs.Server.{read_description, server, server_start}
+use Rattle.spec_server.specs.Server.{read_description, server_start}
 use Rattle.client_loop.specs.Called.{Calling, calling, over, AfterCall, Talks, BreaksOff}
 use Rattle.client_loop.specs.declared.loop_end.LoopEnd as loop
 use Rattle.client_loop.specs.declared.loop_end.LoopEnd.TheVariants as end

@@ -1,17 +1,17 @@
 -- A recording over the link to a server in the same process is the local one.
-use Rattle.std.proofs.Common.{◌≡◌, ℕ, List, [], ◌++◌, take, Option, Some, None, inl, inr, subst, ap, sym, ◌∙◌}
-use Rattle.std.specs.Prelude.{Result, Ok, Err, is_some, length}
+use Rattle.std.proofs.Common.{◌≡◌, ℕ, List, [], ◌++◌, take, Option, Some, inl, inr, subst, ap, sym, ◌∙◌}
+use Rattle.std.specs.Prelude.{Result, Ok, Err, is_some}
 use Rattle.ads_base.specs.declared.no_memory.NoMemory.{NoMemory}
 use Rattle.ads_outside.specs.Puts.{Appends, AppendsPart}
 use Rattle.ads_outside.specs.SinkState.{SinkState}
 use Rattle.spec_samples.specs.Row.{Row}
 use Rattle.spec_client.specs.CallLog.{call_log_up_to}
-use Rattle.spec_client.specs.Conversation.{LoopEnd, CallEnded, Budget, Conversation}
-use Rattle.spec_client.specs.Stages.{Done, Refused, BadPeer, BadValue, TimedOut, entries_taken}
+use Rattle.spec_client.specs.Conversation.{LoopEnd, CallEnded, Budget}
+use Rattle.spec_client.specs.Stages.{Done, Refused, BadPeer, BadValue, TimedOut}
 use Rattle.spec_client.specs.TotalLines.{total_lines}
 use Rattle.spec_local.specs.LocalCall.{Cutting}
 use Rattle.spec_local.proofs.LinkLogs.{first_parts, call_logs_begin}
-use Rattle.client_loop.specs.Called.{Calling, over}
+use Rattle.client_loop.specs.Called.{Calling}
 use Rattle.client_loop.specs.Outlets.{Outlets, outlets, Adds, AddsPart}
 use Rattle.client_loop.specs.Recorded.{AfterRecord, RecordsAll, RecordsSome, RecordsDone}
 use Rattle.client_replies.specs.declared.stage.CallEnd.TheVariants as call_end

@@ -1,5 +1,5 @@
 -- What a recording leaves, over the link or of a server in the same process, as its words name it.
-use Rattle.std.specs.Prelude.{List, ℕ, Option}
+use Rattle.std.specs.Prelude.{List, Option}
 use Rattle.ads_outside.specs.declared.named_file.NamedFile.{NamedFile}
 use Rattle.ads_outside.specs.Named.{bytes_of}
 use Rattle.ads_outside.specs.SinkState.{SinkState}

@@ -1,5 +1,5 @@
 -- The file gives no description that is accepted, or samples of its server are recorded.
-use Rattle.std.proofs.Common.{refl, length, subst, sym, Ok, Err}
+use Rattle.std.proofs.Common.{refl, length, subst, sym}
 use Rattle.ads_outside.specs.Named.{bytes_of}
 use Rattle.ads_outside.specs.Rose.{Rose}
 use Rattle.type_layout.specs.Descriptions.{description_of}
