@@ -9,7 +9,6 @@ use Rattle.spec_plant.specs.Description.{Description}
 use Rattle.spec_machine.specs.ScriptLine.{ScriptLine}
 use Rattle.spec_rules.specs.TextVerdict.{TextVerdict, Described, text_verdict}
 use Rattle.spec_server.specs.Server.{server_script}
-use Rattle.symbol_file.specs.declared.fault.DescFault.TheVariants as fault
 use Rattle.ads_base.specs.declared.no_memory.NoMemory.{NoMemory}
 use Rattle.run_tasks.specs.declared.file_task.FileTask.{FileTask}
 use Rattle.run_tasks.specs.declared.file_task.FileTask.TheVariants as file_task

@@ -21,7 +21,7 @@ use Rattle.file_run.specs.FileOutcomes.{IsOfKeeping, PrintsPlay}
 use Rattle.run_tasks.specs.Prints.{PutsMemoryLine}
 use Rattle.run_tasks.specs.Readings.{Names, OverFiles, ReadsBoth}
 use Rattle.keep_play.specs.KeptDisk.{DiskUse}
-use Rattle.run_tasks.specs.Verdict.{Keeps, ended, over_store, verdict_of_both}
+use Rattle.run_tasks.specs.Verdict.{Keeps, over_store, verdict_of_both}
 use Rattle.run_tasks.proofs.VerdictLemmas.{of_both}
 use Rattle.run_tasks.proofs.EndLemmas.{prints_same, any_files, wants_endings}
 use Rattle.run_tasks.proofs.ReadLemmas.{some_of_two}

@@ -23,7 +23,6 @@ use Rattle.file_run.specs.Machine.{RunsMachine, StandsAnew}
 use Rattle.run_tasks.specs.Prints.{PutsMemoryLine, PrintsEnding}
 use Rattle.run_tasks.specs.Service.{counts_and_line}
 use Rattle.file_run.specs.Serving.{StopsBehind, AddsToLog, CannotPut, CannotRun, IsStarted, EndsStarted}
-use Rattle.run_tasks.specs.Verdict.{ended}
 
 -- the log grew by the moves
 added : (old new : WireHistory) (ms : List Move) → new.log ≡ (history_after old ms).log → AddsToLog old.log new.log ms

@@ -17,7 +17,7 @@ use Rattle.run_tasks.specs.declared.status.Status.TheVariants as status
 use Rattle.file_run.specs.declared.scripted.Scripted.{Scripted}
 use Rattle.run_tasks.specs.Ending.{line_alone}
 use Rattle.run_tasks.specs.Prints.{PutsMemoryLine, PrintsEnding}
-use Rattle.run_tasks.specs.Verdict.{Verdict, Play, ended}
+use Rattle.run_tasks.specs.Verdict.{Verdict, Play}
 use Rattle.run_tasks.specs.Outcomes.{Decides, IsOfFile, IsOutcome}
 
 -- a verdict is what is made of these lines; or the outcome is the verdict's

@@ -1,5 +1,5 @@
 -- The file gives no description that is accepted, or it is told of.
-use Rattle.std.proofs.Common.{ap, Ok, Err}
+use Rattle.std.proofs.Common.{ap}
 use Rattle.ads_outside.specs.Rose.{Rose}
 use Rattle.type_layout.specs.Descriptions.{description_of}
 use Rattle.run_tasks.specs.declared.status.Status.TheVariants as status

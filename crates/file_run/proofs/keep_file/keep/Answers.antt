@@ -1,5 +1,5 @@
 -- A reading that ends the run is told; what was read is played.
-use Rattle.std.proofs.Common.{Ok, Err, length}
+use Rattle.std.proofs.Common.{length}
 use Rattle.ads_outside.specs.Rose.{Rose}
 use Rattle.type_layout.specs.Descriptions.{description_of}
 use Rattle.keep_play.specs.KeptDisk.{disk_used}

@@ -1,5 +1,4 @@
 -- What is printed is of the play as it ended.
-use Rattle.std.proofs.Common.{subst}
 use Rattle.type_layout.specs.Descriptions.{description_of}
 use Rattle.keep_play.specs.KeptDisk.{disk_used}
 use Rattle.file_run.proofs.KeepLemmas.{kept_printed}

@@ -1,5 +1,5 @@
 -- The file gives no description that is accepted, or its relay is served.
-use Rattle.std.proofs.Common.{◌≡◌, refl, length, Ok, Err}
+use Rattle.std.proofs.Common.{◌≡◌, refl, length}
 use Rattle.ads_outside.specs.Named.{bytes_of}
 use Rattle.ads_outside.specs.Rose.{Rose}
 use Rattle.type_layout.specs.Descriptions.{description_of}

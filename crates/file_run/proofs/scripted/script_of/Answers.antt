@@ -1,5 +1,5 @@
 -- The lines that were read are those of the bytes.
-use Rattle.std.proofs.Common.{◌∙◌, sym, Ok, Err}
+use Rattle.std.proofs.Common.{◌∙◌, Ok, Err}
 use Rattle.spec_machine.specs.BuiltLines.{all_lines}
 use Rattle.replay_script.proofs.FreshLemmas.{script_fresh}
 use Rattle.file_run.proofs.GivenLemmas.{lines_of_script}
