@@ -1,5 +1,6 @@
 pub mod CallLemmas
 pub mod AskLemmas
+pub mod LocalCoreLemmas
 pub mod FitLemmas
 pub mod LocalLemmas
 pub mod RecordLemmas

@@ -3,6 +3,7 @@ pub mod CallUses
 pub mod Calling
 pub mod Recording
 pub mod Between
+pub mod LocalCore
 pub mod CallEnds
 pub mod AskedFrom
 pub mod RecordedFrom

@@ -12,6 +12,9 @@ use cli_words::ClientWords;
 /// The AMS port of the client itself.
 const CLIENT_PORT: u16 = 32905;
 
+/// What a link in the same process is connected to.
+pub const LOCAL_ADDRESS: &str = "";
+
 /// The address of the client itself, and the one that it asks.
 #[derive(Clone, Copy)]
 pub struct CallAddrs {

@@ -17,26 +17,21 @@ ghost use Rattle.run_tasks.specs.Outcomes.{IsNoReadFault};
 ghost use Rattle.run_tasks.specs.Readings.{OverFile, ReadsOne};
 ghost use Rattle.run_tasks.specs.Verdict.{verdict_of_file, verdict_of_local};
 
-use crate::address::call_addrs;
+use crate::address::{LOCAL_ADDRESS, call_addrs};
 use crate::call_end::print_answer;
 use crate::client_call::call_of;
+use crate::local_core::core_of_file;
 use ads_base::{NetId, NoMemory};
 use ads_outside::{Files, Sink};
 use cli_words::{ClientWords, Text};
 use client_loop::run_call;
 use local_link::{LocalLink, OnThreads, Steps};
-use run_tasks::{
-    Accepted, ClientTask, Status, end_without_memory, print_outcome, read_description,
-};
+use run_tasks::{ClientTask, Status, end_without_memory};
 use server_core::{Core, Sources};
 use std::alloc::Global;
 use std::thread::Threads;
 
-/// What a link in the same process is connected to.
-const LOCAL_ADDRESS: &str = "";
-
 /// A client asks the server of the description of a file, in the same process.
-#[tactic(auto, using(spec_persistent::proofs::StoredLemmas::accepted_may_begin))]
 pub fn ask_locally<T: Threads + Sync, F: Files, S: Sink, G: Sources>(
     rt: &T,
     alloc: Global,
@@ -57,20 +52,9 @@ pub fn ask_locally<T: Threads + Sync, F: Files, S: Sink, G: Sources>(
     ensures held { (F.state files.new).held ≡ (F.state files.old).held }
     ensures read_fault { result ≡ Status.ReadFault → Rose (F.state files.old).faults (F.state files.new).faults }
 {
-    match read_description(alloc, description, signals.count() as u32, files) {
-        Err(NoMemory) => end_without_memory(out),
-        Ok(Err(told)) => print_outcome(out, told),
-        Ok(Ok(read)) => {
-            let Accepted {
-                bytes: _bytes,
-                description,
-            } = read;
-            let net = description.net;
-            match Core::build(alloc, description, signals) {
-                Err(NoMemory) => end_without_memory(out),
-                Ok(core) => ask_core(rt, alloc, what, client, net, core, out),
-            }
-        }
+    match core_of_file(alloc, description, files, out, signals) {
+        Err(status) => status,
+        Ok((net, core)) => ask_core(rt, alloc, what, client, net, core, out),
     }
 }
 

@@ -7,6 +7,7 @@ mod ask_locally;
 mod asking;
 mod call_end;
 mod client_call;
+mod local_core;
 mod record_link;
 mod record_locally;
 mod recording;

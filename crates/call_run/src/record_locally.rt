@@ -19,26 +19,22 @@ ghost use Rattle.call_run.specs.Recording.{EndsLocalRecording};
 ghost use Rattle.call_run.specs.CallUses.{keeper_used};
 ghost use Rattle.run_tasks.specs.Verdict.{verdict_of_file, verdict_of_recorded_text};
 
-use crate::address::call_addrs;
+use crate::address::{LOCAL_ADDRESS, call_addrs};
+use crate::local_core::core_of_file;
 use crate::record_link::record_over;
-use ads_base::{NetId, NoMemory};
+use ads_base::NetId;
 use ads_outside::{Files, Sink};
 use cli_words::Text;
 use local_link::{LocalLink, OnThreads, Steps};
-use run_tasks::{
-    Accepted, RecordTask, Status, end_without_memory, print_outcome, read_description,
-};
+use run_tasks::{RecordTask, Status};
 use sample_store::Keeper;
 use server_core::{Core, Sources};
 use std::alloc::Global;
 use std::thread::Threads;
 
-/// What a link in the same process is connected to.
-const LOCAL_ADDRESS: &str = "";
-
 /// A client records from the server of the description of a file, in the same process. The keeper is called only where the
 /// description is accepted.
-#[tactic(auto, using(spec_persistent::proofs::StoredLemmas::accepted_may_begin, crate::proofs::RecordedRows::adds_none))]
+#[tactic(auto, using(crate::proofs::RecordedRows::adds_none))]
 pub fn record_locally<T: Threads + Sync, F: Files, S: Sink, K: Keeper, G: Sources>(
     rt: &T,
     alloc: Global,
@@ -61,20 +57,9 @@ pub fn record_locally<T: Threads + Sync, F: Files, S: Sink, K: Keeper, G: Source
     ensures grows { AddsRows (K.state keeper.old).rows (K.state keeper.new).rows }
     ensures before_run { IsBeforeRun result → keeper.new ≡ keeper.old }
 {
-    match read_description(alloc, description, signals.count() as u32, files) {
-        Err(NoMemory) => end_without_memory(out),
-        Ok(Err(told)) => print_outcome(out, told),
-        Ok(Ok(read)) => {
-            let Accepted {
-                bytes: _bytes,
-                description,
-            } = read;
-            let net = description.net;
-            match Core::build(alloc, description, signals) {
-                Err(NoMemory) => end_without_memory(out),
-                Ok(core) => record_core(rt, alloc, what, net, core, out, keeper),
-            }
-        }
+    match core_of_file(alloc, description, files, out, signals) {
+        Err(status) => status,
+        Ok((net, core)) => record_core(rt, alloc, what, net, core, out, keeper),
     }
 }
 
