@@ -82,7 +82,7 @@ pub place_found : (o : Option ℕ) (es : Peers) (n : ℕ) → o ≡ position (λ
 place_found None es n e = tt
 place_found (Some i) es n e = place_at es n i (sym e)
 
-none_of : {X : Type 0} (o : Option X) → is_some o ≡ false → o ≡ None
+pub none_of : {X : Type 0} (o : Option X) → is_some o ≡ false → o ≡ None
 none_of None e = refl
 none_of (Some x) e = cc
 

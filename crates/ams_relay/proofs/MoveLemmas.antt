@@ -29,7 +29,7 @@ use Rattle.ams_relay.proofs.HoldLemmas.{peer_found, peer_absent, holds_changed}
 use Rattle.ams_relay.proofs.OwnerLemmas.{some_same}
 use Rattle.ams_relay.proofs.PeerLemmas.{frame_stands, took_stands, fits_room, fits_over, produce-fits, produce-over, produce-closing}
 use Rattle.ams_relay.proofs.RequestLemmas.{heard_of_parts, deaf_closing, deaf_gone}
-use Rattle.ams_relay.proofs.StateLemmas.{Quiet, changed-nothing}
+use Rattle.ams_relay.proofs.StateLemmas.{Quiet, changed-nothing, frame_quiet}
 
 still_quiet : Quiet (λ k. k)
 still_quiet = record { stays = record { number = λ k. refl; gone = λ k. refl }; client = λ k. refl; closing = λ k. refl }
@@ -301,9 +301,6 @@ given_closing n b packet p r s h was closing =
     let same = some_same k at.connection (sym e ∙ at.found) in
     cond-false k.gone k (produce (framed packet) k) (ap (λ (x : RelayConnection). x.gone) same ∙ at.there)
     ∙ produce-closing (framed packet) k (ap (λ (x : RelayConnection). x.closing) same ∙ sym at.stands.closing ∙ closing)) ∙ nothing n s)) h
-
-frame_quiet : (packet : List ℕ) → Quiet (with_frame (framed packet))
-frame_quiet packet = record { stays = record { number = λ k. refl; gone = λ k. refl }; client = λ k. refl; closing = λ k. refl }
 
 pub given_fitting : (n : ℕ) (b : List ℕ) (packet : List ℕ) (p q : Peer) (old new : Router) (s : RelayState)
     → Holds old b s → peer_in n old.peers.entries ≡ Some p → p.closing ≡ false

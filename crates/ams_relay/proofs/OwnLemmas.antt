@@ -19,6 +19,7 @@ use Rattle.ams_relay.specs.Holds.{net_of, AreOwn, HoldsAsked, HoldsRequests, Hol
 use Rattle.ams_relay.specs.Peers.{Peers, peer_in, Sets}
 use Rattle.ams_relay.specs.Touched.{OthersIdle}
 use Rattle.ams_relay.specs.Taking.{IsHeardAt, number_of}
+use Rattle.ams_relay.proofs.EntryLemmas.{none_of}
 use Rattle.ams_relay.proofs.HoldLemmas.{Kept, peer_kept, peers_changed, named_at, counts_changed, asked_kept}
 use Rattle.ams_relay.proofs.OwnerLemmas.{bytes_same, some_same, owner_is, owners_own}
 use Rattle.ams_relay.proofs.RequestLemmas.{hearing, AreSame, same_heard, heard_changed, heard_parts}
@@ -67,10 +68,6 @@ is_some-option_map f (Some x) = refl
 pub owned_some : (o : Option NetId) → is_some o ≡ true → (net : NetId) × (o ≡ Some net)
 owned_some None e = absurd (true≢false (sym e))
 owned_some (Some net) e = (net, refl)
-
-pub none_of : {X : Type 0} (o : Option X) → is_some o ≡ false → o ≡ None
-none_of None e = refl
-none_of (Some x) e = cc
 
 -- it owned it before
 pub owned_already : (c : ℕ) (b : List ℕ) (net : List ℕ) (owned : NetId) (k : RelayConnection) (p : Peer) (r : Router) (s : RelayState)

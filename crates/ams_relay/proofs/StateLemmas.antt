@@ -5,12 +5,12 @@ use Rattle.std.specs.List.{IsDistinct, AllByRecursion}
 use Rattle.std.specs.Map.{keys_of, remove_entry}
 use Rattle.std.proofs.lemmas.Bool.{cases_Bool, cases_eq, cond-true, cond-false, not_from_true, not_from_false}
 use Rattle.std.proofs.lemmas.List.Sums.{sum-map, sum_by-cons}
-use Rattle.spec_machine.specs.Connection.{connection_of, put_back}
+use Rattle.spec_machine.specs.Connection.{connection_of, put_back, with_frame}
 use Rattle.spec_machine.specs.MachineState.{present_numbers, after_exchange}
 use Rattle.spec_machine.proofs.Find.{test_same, test_other, or_else, connection_of-append, number_of_found}
 use Rattle.ads_served.specs.Opened.{AreApart}
 use Rattle.spec_relay.specs.RelayState.{Owned, RelayConnection, RelayState}
-use Rattle.spec_relay.specs.Routing.{at_connection}
+use Rattle.spec_relay.specs.Routing.{at_connection, framed}
 use Rattle.ams_relay.specs.Peers.{Peers}
 
 -- the connections that are there
@@ -132,6 +132,10 @@ pub record Quiet (f : RelayConnection → RelayConnection) : Type 0 where
   pub stays : Stays f
   pub client : (k : RelayConnection) → (f k).client ≡ k.client
   pub closing : (k : RelayConnection) → (f k).closing ≡ k.closing
+
+-- a frame that fits leaves who is heard
+pub frame_quiet : (packet : List ℕ) → Quiet (with_frame (framed packet))
+frame_quiet packet = record { stays = record { number = λ k. refl; gone = λ k. refl }; client = λ k. refl; closing = λ k. refl }
 
 -- a change of one connection, by the list
 pub changed-list : (n : ℕ) (f : RelayConnection → RelayConnection) (s : RelayState) (P : List RelayConnection → Type 0)

@@ -25,7 +25,7 @@ use Rattle.ams_relay.proofs.HoldLemmas.{peers_same}
 use Rattle.ams_relay.proofs.OwnerLemmas.{some_same}
 use Rattle.ams_relay.proofs.PeerLemmas.{produce-fits}
 use Rattle.ams_relay.proofs.RequestLemmas.{heard_changed, heard_parts}
-use Rattle.ams_relay.proofs.StateLemmas.{Quiet}
+use Rattle.ams_relay.proofs.StateLemmas.{frame_quiet}
 
 -- one more frame was given to a connection, or has an unknown target
 pub passed_counted : (old new : Router) (b : List ℕ) (s : RelayState) → new ≡ record old { counts = new.counts }
@@ -140,10 +140,6 @@ way_refused c d head packet new b s some room h = by (owner_of head.target.net s
         (subst (Holds new b) (sym
         (cond-false (has_room (framed packet) (connection_of d s.connections))
         (with_passed (with_request_of c d head (given_to d packet s))) (after_unknown c head (given_to d packet s)) room)) h)
-
--- a frame that fits leaves who is heard
-frame_quiet : (packet : List ℕ) → Quiet (with_frame (framed packet))
-frame_quiet packet = record { stays = record { number = λ k. refl; gone = λ k. refl }; client = λ k. refl; closing = λ k. refl }
 
 and_second : (a b : Bool) → (a && b) ≡ true → b ≡ true
 and_second true b e = e

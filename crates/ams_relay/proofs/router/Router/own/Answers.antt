@@ -4,7 +4,8 @@ use Rattle.ams_relay.specs.declared.peer.Peer.{Peer}
 use Rattle.ams_relay.specs.Holds.{owner_in}
 use Rattle.ams_relay.specs.Peers.{peer_in}
 use Rattle.ams_relay.proofs.IdleLemmas.{idle_kept}
-use Rattle.ams_relay.proofs.OwnLemmas.{owned_some, owned_already, owns_now, none_of}
+use Rattle.ams_relay.proofs.EntryLemmas.{none_of}
+use Rattle.ams_relay.proofs.OwnLemmas.{owned_some, owned_already, owns_now}
 use Rattle.ams_relay.proofs.OwnerLemmas.{some_same, owner_kept}
 use Rattle.ams_relay.proofs.router.Router.own.Goals as goal
 
