@@ -21,7 +21,7 @@ use Rattle.spec_client.specs.Hearing.{samples_hearing, notification_hearing, hea
 use Rattle.spec_client.specs.Hearing.{rest_hearing, with_one_taken, packets_hearing, hearing_of_samples}
 use Rattle.spec_client.specs.Hearing.{hearing_unless_broken, hearing_of_timeout, next_hearing}
 
-either : {X : Type 0} (P : X → Type 0) (b : Bool) (x y : X) → P x → P y → P (if b then x else y)
+pub either : {X : Type 0} (P : X → Type 0) (b : Bool) (x y : X) → P x → P y → P (if b then x else y)
 either P true x y first second = first
 either P false x y first second = second
 

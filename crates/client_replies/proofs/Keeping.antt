@@ -27,12 +27,8 @@ use Rattle.spec_client.specs.Steps.{with_samples_left, after_watched_sample, aft
 use Rattle.spec_client.specs.ValueReading.{value_of_text}
 use Rattle.value_text.proofs.ValuesFound.{values_found}
 use Rattle.client_replies.specs.Sound.{AreSendable, HasShortData, HasShortNames, asked_count, most_asked}
-use Rattle.client_replies.proofs.Answering.{answers}
+use Rattle.client_replies.proofs.Answering.{answers, either}
 use Rattle.client_replies.proofs.RecordingKeeps.{Keeps, keeps_recording_end, keeps_record_reply, keeps_record_sample, keeps_record_end}
-
-either : {X : Type 0} (P : X → Type 0) (b : Bool) (x y : X) → P x → P y → P (if b then x else y)
-either P true x y first second = first
-either P false x y first second = second
 
 abbrev Ends : Progress → Type 0
 Ends p = Keeps 0 p
