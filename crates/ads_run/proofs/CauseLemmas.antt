@@ -49,7 +49,7 @@ use Rattle.ads_run.specs.Uses.{Uses}
 use Rattle.run_tasks.specs.Verdict.{verdict_of_recorded, verdict_of_recorded_text, verdict_of_record, Verdict, ended, prints, over_store}
 use Rattle.run_tasks.specs.Verdict.{verdict_of_file, verdict_of_served, verdict_of_service, verdict_of_task, verdict_of_called, verdict_of_local}
 use Rattle.run_tasks.specs.Verdict.{verdict_of_ask}
-use Rattle.ads_run.proofs.RecordCauseLemmas.{recording_facts}
+use Rattle.ads_run.proofs.RecordCauseLemmas.{recording_facts, same_faults}
 use Rattle.ads_run.proofs.RecordLocalEnds.{local_recording_facts}
 use Rattle.ads_run.proofs.CallCauseLemmas.{CallFacts, ending_told, told_facts, wanting_facts, unwritten_facts, call_facts, local_facts}
 use Rattle.run_tasks.proofs.VerdictLemmas.{Holds, of_both, of_file, of_file_task}
@@ -199,9 +199,6 @@ run_facts service end.LinkFault moves s out between out_new wire wire_new later 
     (fault_cause service moves wire wire_new made) tt tt (λ e. (cc)) (λ e. (cc)) later printed
 run_facts service end.Memory moves s out between out_new wire wire_new later made printed =
     wanting_facts (ServiceCause service.limit wire wire_new) s out out_new tt printed.0
-
-same_faults : (out : SinkState) → out.faults ≤ out.faults
-same_faults out = search rules
 
 -- of a service
 service_facts : (service : Service) (s : Status) (out out_new : SinkState) (wire wire_new : WireHistory) → EndsService service s out out_new wire wire_new
