@@ -71,6 +71,9 @@ behind-old old frame new is = ap (drop (length old)) is ∙ drop_at old frame (l
 pub begins-old : (old frame new : List ℕ) → new ≡ old ++ frame → new ≡ old ++ drop (length old) new
 begins-old old frame new is = is ∙ ap (λ x. old ++ x) (sym (behind-old old frame new is))
 
+pub begins-kept : (old front frame new : List ℕ) → new ≡ front ++ frame → front ≡ old → new ≡ old ++ drop (length old) new
+begins-kept old front frame new is kept = begins-old old frame new (is ∙ ap (λ x. x ++ frame) kept)
+
 pub appends-frame : (start : ℕ) (old frame new : List ℕ) → start ≡ length old → new ≡ old ++ frame
     → (start + 38 ≤ length new) × (length new < start + 2 ^ 32) → AppendsFrame old new
 appends-frame start old frame new is_start is fits = record {

@@ -1,6 +1,6 @@
 //! An AMS packet is answered.
 
-ghost use Rattle.std.specs.Prelude.{◌≡◌, ◌≤◌, ◌<◌, ◌^◌, ◌++◌, length, drop, IfOk, OnOk, OnErr, Some};
+ghost use Rattle.std.specs.Prelude.{◌≡◌, length, drop, IfOk, OnOk, OnErr, Some};
 ghost use Rattle.ads_base.specs.declared.ams_addr.AmsAddr.{AmsAddr};
 ghost use Rattle.spec_frames.specs.Frame.{IsAmsPacket};
 ghost use Rattle.spec_formats.specs.Request as format;

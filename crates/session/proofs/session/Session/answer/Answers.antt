@@ -1,9 +1,9 @@
-use Rattle.std.proofs.Common.{◌≡◌, ◌++◌, sym, refl, ◌∙◌, ap, arith, rules}
+use Rattle.std.proofs.Common.{◌≡◌, sym, refl, ◌∙◌, arith, rules}
 use Rattle.std.specs.Prelude.{None}
 use Rattle.ads_commands.specs.Request.{request_meant}
 use Rattle.ams_header.specs.Header.{ams_header_of}
 use Rattle.port_device.specs.PortMemory.{memory_numbered}
-use Rattle.session.proofs.FrameLemmas.{begins-old, kept-front, on-err}
+use Rattle.session.proofs.FrameLemmas.{begins-kept, kept-front, on-err}
 use Rattle.session.proofs.PortsKept.{keep-same, keep-with}
 use Rattle.session.proofs.TakeLemmas.{no-port, some-asks, numbered-is, same-port, answers-asked, extends-room}
 use Rattle.session.proofs.session.Session.answer.Goals as goal
@@ -67,7 +67,7 @@ returns-in_ok-framed-in-Ok-clause-appends c =
     c.in-Ok.ensures.runs in
     let kept = kept-front c.args.out.now c.put_room.new.out c.run.new.out c.len-start.result c.len-start.ensures c.in_ok-put_room.ensures.long
     c.in_ok-put_room.ensures.begins more in
-    begins-old c.args.out.now _ c.framed.new.out (c.in_ok-framed-in-Ok.ensures.frame ∙ ap (λ x. x ++ _) kept)
+    begins-kept c.args.out.now _ _ c.framed.new.out c.in_ok-framed-in-Ok.ensures.frame kept
 
 pub returns-in_ok-framed-in-Ok-clause-keeps : goal.returns-in_ok-framed-in-Ok-clause-keeps
 returns-in_ok-framed-in-Ok-clause-keeps c =
