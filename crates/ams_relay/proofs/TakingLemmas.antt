@@ -251,7 +251,8 @@ stream_kept c b p o old new s h was sets routes owners counts touched stream =
         apart = h.peers.apart;
         marked = λ m. elim (cases_eq m c) [
           | inl e ↦ subst (λ j. IfSome (peer_in j new.peers.entries) (λ r. r.blocked ≡ is_among j b)) (sym e)
-              (subst (λ u. IfSome u (λ r. r.blocked ≡ is_among c b)) (sym sets.own) (subst (λ u. IfSome u (λ r. r.blocked ≡ is_among c b)) was (h.peers.marked c)))
+              (subst (λ u. IfSome u (λ r. r.blocked ≡ is_among c b)) (sym sets.own)
+              (subst (λ u. IfSome u (λ r. r.blocked ≡ is_among c b)) was (h.peers.marked c)))
           | inr ne ↦ subst (λ u. IfSome u (λ r. r.blocked ≡ is_among m b)) (sym (sets.others m ne)) (h.peers.marked m)
         ];
         known = h.peers.known;
@@ -259,7 +260,8 @@ stream_kept c b p o old new s h was sets routes owners counts touched stream =
       owners = subst (λ os. HoldsOwners os s.connections) (sym owners) h.owners;
       requests = λ m q k at_m found heard. elim (cases_eq m c) [
         | inl e ↦
-            let is : record p { stream = o } ≡ q = some_same (record p { stream = o }) q (sym sets.own ∙ sym (ap (λ j. peer_in j new.peers.entries) e) ∙ at_m) in
+            let is : record p { stream = o } ≡ q =
+            some_same (record p { stream = o }) q (sym sets.own ∙ sym (ap (λ j. peer_in j new.peers.entries) e) ∙ at_m) in
             subst (λ (r : Peer). HoldsAsked r.asked.items m k s) is (h.requests m p k (ap (λ j. peer_in j old.peers.entries) e ∙ was) found heard)
         | inr ne ↦ h.requests m q k (sym (sets.others m ne) ∙ at_m) found heard
       ];
@@ -269,7 +271,8 @@ stream_kept c b p o old new s h was sets routes owners counts touched stream =
     }
 
 -- the stream is lent
-pub lent_out : (c : ℕ) (b : List ℕ) (p : Peer) (held : Held) (o : Option Held) (old new : Router) (s : RelayState) → Holds old b s → peer_in c old.peers.entries ≡ Some p
+pub lent_out : (c : ℕ) (b : List ℕ) (p : Peer) (held : Held) (o : Option Held) (old new : Router) (s : RelayState) → Holds old b s
+    → peer_in c old.peers.entries ≡ Some p
     → p.stream ≡ Some held → o ≡ None → Sets c (record p { stream = o }) old.peers.entries new.peers.entries → new.routes ≡ old.routes
     → new.owners.entries ≡ old.owners.entries → new.counts ≡ old.counts → new.touched ≡ old.touched → HoldsWith c held new b s
 lent_out c b p held o old new s h was is none sets_o routes owners counts touched =
@@ -286,7 +289,8 @@ lent_out c b p held o old new s h was is none sets_o routes owners counts touche
     }
 
 -- and is here again
-pub come_back : (c : ℕ) (b : List ℕ) (p : Peer) (held : Held) (old new : Router) (s : RelayState) → HoldsWith c held old b s → peer_in c old.peers.entries ≡ Some p
+pub come_back : (c : ℕ) (b : List ℕ) (p : Peer) (held : Held) (old new : Router) (s : RelayState) → HoldsWith c held old b s
+    → peer_in c old.peers.entries ≡ Some p
     → Sets c (record p { stream = Some held }) old.peers.entries new.peers.entries → new.routes ≡ old.routes
     → new.owners.entries ≡ old.owners.entries → new.counts ≡ old.counts → new.touched ≡ old.touched → Holds new b s
 come_back c b p held old new s w was sets routes owners counts touched =

@@ -47,10 +47,12 @@ returns-in-Reload-clause-follows c = λ x here h opens.
     subst (Taken new x) (sym c.in-Reload.is) (reload_taken new x _ start)
 
 pub returns-in-Opened-clause-here : goal.returns-in-Opened-clause-here
-returns-in-Opened-clause-here c = on_ok c.open.result (λ e here. e (settled_here c.args.self.now c.settle.new.self c.settle.ensures.same here)) c.open.ensures.here
+returns-in-Opened-clause-here c =
+    on_ok c.open.result (λ e here. e (settled_here c.args.self.now c.settle.new.self c.settle.ensures.same here)) c.open.ensures.here
 
 pub returns-in-Piece-clause-here : goal.returns-in-Piece-clause-here
-returns-in-Piece-clause-here c = on_ok c.piece.result (λ e here. e (settled_here c.args.self.now c.settle.new.self c.settle.ensures.same here)) c.piece.ensures.here
+returns-in-Piece-clause-here c =
+    on_ok c.piece.result (λ e here. e (settled_here c.args.self.now c.settle.new.self c.settle.ensures.same here)) c.piece.ensures.here
 
 pub returns-in-Closed-clause-here : goal.returns-in-Closed-clause-here
 returns-in-Closed-clause-here c = λ here. c.end.ensures.here (settled_here c.args.self.now c.settle.new.self c.settle.ensures.same here)

@@ -1,9 +1,9 @@
-use Rattle.std.proofs.Common.{◌≡◌, false, refl, sym, ap, ◌∙◌}
+use Rattle.std.proofs.Common.{◌≡◌, refl, sym, ap, ◌∙◌}
 use Rattle.std.specs.Prelude.{Some}
 use Rattle.ams_relay.specs.declared.peer.Peer.{Peer}
 use Rattle.ams_relay.specs.Holds.{history_of}
 use Rattle.ams_relay.specs.Peers.{peer_in}
-use Rattle.ams_relay.proofs.TakingLemmas.{LentPeer, lent_peer, ends_closing, ends_absent, frame_taken, passed_on, ends_open, ends_broken}
+use Rattle.ams_relay.proofs.TakingLemmas.{lent_peer, ends_closing, ends_absent, frame_taken, passed_on, ends_open, ends_broken}
 use Rattle.ams_relay.proofs.OwnerLemmas.{some_same}
 use Rattle.ams_relay.proofs.router.Router.take_next.Goals as goal
 

@@ -13,7 +13,8 @@ returns-in-Some-clause-follows c = λ x frames h some.
     let place = c.in-Some.ensures.found in
     let was : peer_in n old.peers.entries ≡ Some p = place.value ∙ c.index_mut.ensures.value in
     let q : Peer = record p { out = c.clear.new.self } in
-    run_taken n c.in-Some.i p q old _ x frames place h was some (ap (λ o. record p { out = o }) c.clear.ensures) (place.sets q) refl refl refl c.with-self.ensures
+    run_taken n c.in-Some.i p q old _ x frames place h was some (ap (λ o. record p { out = o }) c.clear.ensures)
+    (place.sets q) refl refl refl c.with-self.ensures
 
 pub returns-in_default-clause-follows : goal.returns-in_default-clause-follows
 returns-in_default-clause-follows c = λ x frames h some. run_absent c.args.number c.args.self.now x frames c.in_default.ensures.absent some
