@@ -1,7 +1,8 @@
 #!/usr/bin/env python3
 """What the gate costs: processor time of each crate under `rt ci`, against a budget.
 
-    python3 bench/gate.py       runs `rt ci` at the top of the clone where it is called; rt proves all from nothing
+    python3 bench/gate.py              runs `rt ci` at the top of the clone where it is called; what earlier runs passed on this machine is kept, and costs nothing
+    python3 bench/gate.py --anew       runs `rt ci --anew`, which proves and tries all from nothing: the figures of docs/PROVING.md
 
 What rt says is passed on. When it has ended, a table (Markdown) tells for each crate the processor seconds of
 
@@ -166,11 +167,11 @@ def tell(rows):
 
 
 def main():
-    if len(sys.argv) > 1:
+    if sys.argv[1:] not in ([], ["--anew"]):
         print(__doc__, file=sys.stderr)
         return 2
     begun = time.time()
-    status, lines, watch = watched(["rt", "ci"])
+    status, lines, watch = watched(["rt", "ci", *sys.argv[1:]])
     tell(watch.rows())
     spent = resource.getrusage(resource.RUSAGE_CHILDREN)
     minutes = (spent.ru_utime + spent.ru_stime) / 60

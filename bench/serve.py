@@ -4,6 +4,7 @@
     python3 bench/serve.py PROGRAM [--quick] [--plot FILE.svg]     requests: a table (Markdown), and a drawing of the mixture
     python3 bench/serve.py PROGRAM --notes [--quick]               notifications: 512 on each of 64 connections, of a symbol that changes at each tick of 10 ms
     python3 bench/serve.py PROGRAM --minutes M                     the program's memory in M minutes of the mixture on 64 connections
+    python3 bench/serve.py PROGRAM --minutes M --reloads           the same with a reload each second, and of the 64 connections 16 with 512 notifications each
 
 PROGRAM is crates/ads/out/ads, which `rt run -- selftest ../../examples/state.script` in crates/ads builds; gcc builds the C server and the load (bench/serve_client.c).
 
@@ -33,7 +34,7 @@ from random_runs import toml_of  # noqa: E402
 
 HERE = os.path.dirname(os.path.abspath(__file__))
 NET, ME = "5.1.2.3.1.1", "192.168.0.9.1.1"
-SYMBOLS, OWN, CONNECTIONS, NOTES = 6400, 100, 64, 512
+SYMBOLS, OWN, CONNECTIONS, NOTES, WATCHING = 6400, 100, 64, 512, 16
 RAMP = 4 * SYMBOLS
 LOADS = {"read of 4 bytes": "r" * 500, "sum of 100 reads": "S" * 50, "mixture": "rswhrhsWrhrwshrSWhrs" * 25}
 
@@ -86,6 +87,7 @@ def plan_of_load(k, kinds):
 
 
 def plan_all(plan_of):
+    pathlib.Path("plan").unlink(missing_ok=True)
     pathlib.Path("plan").write_bytes(b"".join(map(plan_of, range(CONNECTIONS))))
 
 
@@ -166,17 +168,50 @@ def notes(bench):
     print(f"\nAll there are: {100 * CONNECTIONS * NOTES:,} samples a second. Processor time: {ratio:.2f} times that of the C server.")
 
 
-def memory(bench, minutes):
+def resident(process):
+    """What a process holds of memory, in KiB."""
+    return int(pathlib.Path(f"/proc/{process.pid}/status").read_text().partition("VmRSS:")[2].split()[0])
+
+
+def memory(bench, minutes, reloads):
+    """The mixture without end; with reloads on 48 connections, beside 16 that are told of the symbol that changes at each tick."""
+    asking, server, held, version = CONNECTIONS - WATCHING if reloads else CONNECTIONS, bench.servers[0], [], 0
     plan_all(lambda k: plan_of_load(k, LOADS["mixture"]))
-    server, held = bench.servers[0], []
-    client = bench.load(server, CONNECTIONS, 32, 60 * minutes + 2)
-    for second in range(0, int(60 * minutes) + 1, 30):
-        time.sleep(30 if second else 1)
-        if client.poll() is not None:
-            break
-        held.append(int(pathlib.Path(f"/proc/{server[1].pid}/status").read_text().partition("VmRSS:")[2].split()[0]))
-        print(f"{second:5} s: {held[-1]:,} KiB", flush=True)
-    print(f"{figures(server, client)[0]:,.0f} requests a second; grown by {held[-1] - held[0]} KiB, of these {held[-1] - held[len(held) // 2]} in the second half")
+    clients = [bench.load(server, asking, 32, 60 * minutes + 2)]
+    if reloads:
+        plan_all(lambda k: plan(k, [(6, words(0x4040, RAMP, 2, 4, 0, 0) + bytes(16))] * NOTES, [], 1))
+        clients.append(bench.load(server, WATCHING, 0, 60 * minutes + 2))
+    began = time.monotonic()
+    while all(client.poll() is None for client in clients) and time.monotonic() - began <= 60 * minutes:
+        time.sleep(1)
+        version += reloads
+        if reloads:
+            change_description(version)
+        if time.monotonic() - began >= 30 * len(held):
+            held.append(resident(server[1]))
+            print(f"{time.monotonic() - began:5.0f} s: {held[-1]:,} KiB", flush=True)
+    for client, what in zip(clients, ("requests", "samples")):
+        rate, _, gap = figures(server, client)
+        print(f"{rate:,.0f} {what} a second" + (f", longest gap between two frames {gap:.1f} ms" if what == "samples" else ""))
+    if reloads:
+        print(f"{version:,} descriptions were written; version in the end {version_of(server)}")
+    print(f"grown by {held[-1] - held[0]} KiB, of these {held[-1] - held[len(held) // 2]} in the second half")
+
+
+def change_description(version):
+    """Another description takes the place of the one that is served: a symbol that nobody asks begins with other bytes."""
+    description = plant(0, SYMBOLS)
+    description["port"][0]["symbol"][SYMBOLS - 1]["initial"] = version.to_bytes(4, "little").hex()
+    pathlib.Path("plant.new").write_text(toml_of(description))
+    os.replace("plant.new", "plant.toml")
+
+
+def version_of(server):
+    """How often the description of a server was replaced, modulo 256, as its symbol version tells."""
+    ams = model.net_of(NET) + model.u16(851) + model.net_of(ME) + model.u16(40000) + model.u16(2) + model.u16(4) + words(12, 0, 1) + words(0xF008, 0, 1)
+    with socket.create_connection(("127.0.0.1", int(server[0])), timeout=10) as s:
+        s.sendall(bytes(2) + words(len(ams)) + ams)
+        return s.recv(100)[-1]
 
 
 def drawing(title, lines):
@@ -210,6 +245,7 @@ def main():
     it.add_argument("--plot", type=os.path.abspath)
     it.add_argument("--notes", action="store_true")
     it.add_argument("--minutes", type=float)
+    it.add_argument("--reloads", action="store_true")
     given = it.parse_args()
     signal.signal(signal.SIGTERM, lambda *_: sys.exit("ended"))
     print(f"{os.cpu_count()} processors, load average {os.getloadavg()[0]:.1f}\n")
@@ -218,7 +254,7 @@ def main():
         if given.notes:
             notes(bench)
         elif given.minutes:
-            memory(bench, given.minutes)
+            memory(bench, given.minutes, given.reloads)
         else:
             requests(bench, given.plot)
 
