@@ -1,5 +1,4 @@
 use Rattle.std.proofs.Common.{◌≡◌, refl, rules, [], ◌∷◌, ap, ◌∙◌, length, ◌-◌}
-use Rattle.std.specs.Int.{w32, to_le_bytes}
 use Rattle.ams_header.specs.Header.{ams_header_of}
 use Rattle.spec_formats.specs.Header.{header_bytes, response_header}
 use Rattle.session.proofs.FrameLemmas.{framed-is}
