@@ -1,2 +1,3 @@
 mod Examples
 pub mod RunLemmas
+pub mod OpenLemmas

@@ -1,8 +1,9 @@
 //! Frames one behind the other in one run of bytes.
 
-ghost use Rattle.std.specs.Prelude.{◌≡◌, ◌<◌, ◌≤◌, ◌↔◌, ◌^◌, [], ◌∷◌, ◌++◌, length, drop, Some, IfSome, IsNone, OnOk, OnErr};
+ghost use Rattle.std.specs.Prelude.{◌≡◌, ◌+◌, ◌<◌, ◌≤◌, ◌↔◌, ◌^◌, [], ◌∷◌, ◌++◌, length, drop, sum, Some, IfSome, IsNone, OnOk, OnErr};
 ghost use Rattle.std.specs.List.{concat};
 ghost use Rattle.out_queue.specs.Queue.{front_of};
+ghost use Rattle.out_queue.specs.Runs.{frames_in, AreParts};
 
 use ads_base::NoMemory;
 use std::alloc::Global;
@@ -48,6 +49,23 @@ impl FrameRun {
             lens: VecDeque::new(alloc),
             gone: 0,
         }
+    }
+
+    // The frames that stand so in a run of bytes.
+    pub(crate) fn of(bytes: Vec<u8>, lens: VecDeque<u32>, gone: usize) -> FrameRun
+        requires { gone + sum lens.items ≡ length bytes.items }
+        ensures { result ≡ frames_in lens.items (drop gone bytes.items) }
+    {
+        FrameRun { bytes, lens, gone }
+    }
+
+    // The run of bytes, how long each frame is, and how many bytes are gone, of which there are few.
+    pub(crate) fn into_parts(mut self) -> (Vec<u8>, VecDeque<u32>, usize)
+        ensures { AreParts self result.0.items result.1.items result.2 }
+    {
+        self.move_up();
+        let FrameRun { bytes, lens, gone } = self;
+        (bytes, lens, gone)
     }
 
     // Puts a frame behind the others.

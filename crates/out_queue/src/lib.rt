@@ -2,6 +2,8 @@
 #![tactic(auto)]
 
 mod frame_run;
+mod open_queue;
 mod out_queue;
 
+pub use open_queue::OpenQueue;
 pub use out_queue::{MAX_QUEUED, OutQueue, Pushed};

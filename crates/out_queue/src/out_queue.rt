@@ -2,8 +2,11 @@
 ghost use Rattle.std.specs.Prelude.{◌≡◌, ◌+◌, ◌<◌, ◌≤◌, ◌↔◌, [], ◌∷◌, ◌++◌, length, drop, IsSome, IfSome, IsNone, OnErr, Ok, IfOk};
 ghost use Rattle.std.specs.List.{concat};
 ghost use Rattle.out_queue.specs.Queue.{QUEUE_LIMIT, queued, front_of, FitsFront, frames_after};
+ghost use Rattle.out_queue.specs.Kept.{left_of, CanStand};
+ghost use Rattle.out_queue.specs.Open.{IsOpen, frames_of, tail_of};
 
 use crate::frame_run::FrameRun;
+use crate::open_queue::OpenQueue;
 use ads_base::{NoMemory, Octets};
 use std::alloc::Global;
 use std::marker::Model;
@@ -52,6 +55,39 @@ impl OutQueue {
             taken: 0,
             bytes: 0,
         })
+    }
+
+    // The queue of which so many bytes of the first frame were taken, and so many bytes wait.
+    pub(crate) fn of(frames: FrameRun, taken: usize, bytes: usize) -> OutQueue
+        requires { CanStand taken bytes frames }
+        ensures { result ≡ left_of taken frames }
+    {
+        OutQueue {
+            frames,
+            taken,
+            bytes,
+        }
+    }
+
+    /// Opens the queue, so that bytes may be written behind its frames. No memory is taken.
+    pub fn open(self) -> OpenQueue
+        ensures open { IsOpen result }
+        ensures frames { frames_of result ≡ self }
+        ensures tail { tail_of result ≡ [] }
+    {
+        let OutQueue {
+            frames,
+            taken,
+            bytes,
+        } = self;
+        let (run, lens, gone) = frames.into_parts();
+        OpenQueue {
+            bytes: Octets::from_vec(run),
+            lens,
+            gone,
+            taken,
+            queued: bytes,
+        }
     }
 
     /// Puts a frame behind the others, unless more than 4,194,304 bytes would wait.
