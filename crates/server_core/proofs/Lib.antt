@@ -25,3 +25,4 @@ pub mod AskedLemmas
 pub mod TickLemmas
 pub mod ReloadLemmas
 pub mod CheckLemmas
+pub mod WrittenLemmas

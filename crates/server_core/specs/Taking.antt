@@ -1,9 +1,11 @@
 -- Frames are taken one after another. No public clause cites this file.
-use Rattle.std.specs.Prelude.{◌≡◌, List, ℕ, Bool, true, false}
+use Rattle.std.specs.Prelude.{◌≡◌, List, [], ℕ, Bool, true, false}
 use Rattle.spec_plant.specs.World.{Plant}
 use Rattle.spec_machine.specs.Device.{Produced}
 use Rattle.spec_machine.specs.Connection.{produce}
 use Rattle.spec_machine.specs.Piece.{packets_left, after_packets, after_answer, with_client, end_of_piece}
+use Rattle.out_queue.specs.Open.{IsOpen, tail_of}
+use Rattle.out_queue.specs.declared.open_queue.OpenQueue.{OpenQueue}
 use Rattle.server_core.specs.declared.summary.Summary.{Summary}
 use Rattle.server_core.specs.declared.device.Device.{Device}
 use Rattle.server_core.specs.Served.{served, ServedConnection, ServedExchange}
@@ -44,3 +46,8 @@ pub record KeepsDevice (old new : Device) : Type 0 where
   pub routes : new.routes ≡ old.routes
   pub signals : new.signals ≡ old.signals
   pub moment : new.moment ≡ old.moment
+
+-- a queue that is open, with nothing written behind its frames
+pub record IsClear (queue : OpenQueue) : Type 0 where
+  pub is_open : IsOpen queue
+  pub tail : tail_of queue ≡ []

@@ -27,7 +27,7 @@ use crate::events::take_event;
 use crate::server::Server;
 use crate::sources::Sources;
 use crate::{Outcome, Summary};
-use ads_base::{ListOf, NoMemory, Octets};
+use ads_base::{ListOf, NoMemory};
 use ads_outside::{Event, ReloadNotes};
 use net_routes::Routes;
 use port_device::Ports;
@@ -76,7 +76,6 @@ impl<S: Sources> Core<S> {
                 clients: Clients::new(alloc),
                 summary: Summary::nothing(),
                 notes: ReloadNotes::new(alloc),
-                room: Octets::new(alloc),
             },
             signals,
             failed: false,

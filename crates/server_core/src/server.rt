@@ -15,7 +15,7 @@ use crate::Summary;
 use crate::clients::Clients;
 use crate::device::Device;
 use crate::taking::take_piece;
-use ads_base::{NoMemory, Octets};
+use ads_base::NoMemory;
 use ads_outside::ReloadNotes;
 use std::alloc::Global;
 
@@ -26,8 +26,6 @@ pub(crate) struct Server {
     pub(crate) clients: Clients,
     pub(crate) summary: Summary,
     pub(crate) notes: ReloadNotes,
-    /// The room of the last answer, of whatever connection, which the next one takes. What stands there is not looked at.
-    pub(crate) room: Octets,
 }
 
 impl Server {
@@ -84,7 +82,6 @@ impl Server {
             waiting,
             &mut self.device,
             &mut self.summary,
-            &mut self.room,
             bytes,
         )
     }

@@ -1,7 +1,7 @@
 use Rattle.std.proofs.Common.{refl, ◌∙◌, sym, subst}
 use Rattle.spec_machine.specs.Piece.{with_piece}
 use Rattle.server_core.specs.Served.{ServedExchange}
-use Rattle.server_core.specs.Conns.{conn_over}
+use Rattle.server_core.specs.Conns.{conn_over, waits_in}
 use Rattle.server_core.specs.ConnStands.{Stands, history_of, Goes}
 use Rattle.server_core.specs.Taking.{settled, Takes}
 use Rattle.server_core.proofs.TakingLemmas.{none_taken, takes_more, takes_all, then_goes, fed, after_piece-settled}
@@ -9,15 +9,14 @@ use Rattle.server_core.proofs.taking.take_fed.Goals as goal
 
 pub loop-init : goal.loop-init
 loop-init c = record {
-  marks = refl;
   device = record { net = refl; routes = refl; signals = refl; moment = refl };
-  connected = c.requires;
-  takes = λ n x held s is_open. none_taken _ c.args.device.now c.args.summary.now x held s is_open;
+  connected = c.requires.connected;
+  queue = c.requires.queue;
+  takes = λ w x held s is_open. none_taken _ c.args.device.now c.args.summary.now x held s is_open;
 }
 
 pub loop-preserved : goal.loop-preserved
 loop-preserved c = record {
-  marks = c.in_ok-take_next.ensures.marks ∙ c.loop.invariant.marks;
   device = record {
     net = c.in_ok-take_next.ensures.device.net ∙ c.loop.invariant.device.net;
     routes = c.in_ok-take_next.ensures.device.routes ∙ c.loop.invariant.device.routes;
@@ -25,39 +24,37 @@ loop-preserved c = record {
     moment = c.in_ok-take_next.ensures.device.moment ∙ c.loop.invariant.device.moment;
   };
   connected = c.in_ok-take_next.ensures.connected;
-  takes = λ n x held s is_open.
-      let first = c.loop.invariant.takes n x held s is_open in
-      let so_far = conn_over c.loop.stream c.loop.turned (n, c.loop.waiting) in
-      let more = c.in_ok-take_next.ensures.takes n first.next first.goes.holds
+  queue = c.take_next.ensures.queue;
+  takes = λ w x held s is_open.
+      let first = c.loop.invariant.takes w x held s is_open in
+      let so_far = conn_over c.loop.stream c.loop.turned (waits_in w c.loop.queue) in
+      let more = c.in_ok-take_next.ensures.takes w first.next first.goes.holds
       (subst (λ p. Stands p so_far first.next.connection) (sym first.goes.plant) first.goes.stands) first.is_open in
       takes_more so_far _ c.loop.device
       c.take_next.new.device c.args.summary.now c.loop.summary c.take_next.new.summary x first
-      (subst (λ b. Takes b (conn_over c.take_next.new.stream c.take_next.new.turned (n, c.take_next.new.waiting))
+      (subst (λ b. Takes b (conn_over c.take_next.new.stream c.take_next.new.turned (waits_in w c.take_next.new.queue))
       c.take_next.new.device c.loop.summary c.take_next.new.summary first.next) c.if-branch.true more);
 }
 
 pub returns-clause-goes : goal.returns-clause-goes
-returns-clause-goes c = λ n x held s is_open there.
-    let conn = conn_over c.args.stream.now c.args.turned.now (n, c.args.waiting.now) in
-    let mid = conn_over c.feed.new.self c.args.turned.now (n, c.args.waiting.now) in
-    let new = conn_over c.take_next.new.stream c.take_next.new.turned (n, c.take_next.new.waiting) in
+returns-clause-goes c = λ w x held s is_open there.
+    let conn = conn_over c.args.stream.now c.args.turned.now (waits_in w c.args.queue.now) in
+    let mid = conn_over c.feed.new.self c.args.turned.now (waits_in w c.args.queue.now) in
+    let new = conn_over c.take_next.new.stream c.take_next.new.turned (waits_in w c.take_next.new.queue) in
     let d = c.args.device.now in
     let e = c.take_next.new.device in
     let piece = c.args.bytes.now in
     let come = fed conn mid d c.args.summary.now x piece held s
     (c.in_ok-feed.ensures.ok (history_of conn x.connection) s.stream) refl refl refl refl in
-    let first = c.loop.invariant.takes n (with_piece piece x) held come.stands is_open in
-    let so_far = conn_over c.loop.stream c.loop.turned (n, c.loop.waiting) in
-    let last = c.in_ok-take_next.ensures.takes n first.next first.goes.holds
+    let first = c.loop.invariant.takes w (with_piece piece x) held come.stands is_open in
+    let so_far = conn_over c.loop.stream c.loop.turned (waits_in w c.loop.queue) in
+    let last = c.in_ok-take_next.ensures.takes w first.next first.goes.holds
     (subst (λ p. Stands p so_far first.next.connection) (sym first.goes.plant) first.goes.stands) first.is_open in
     let all = takes_all so_far new c.loop.device e
     c.args.summary.now c.loop.summary c.take_next.new.summary (with_piece piece x) first
     (subst (λ b. Takes b new e c.loop.summary c.take_next.new.summary first.next) c.if-branch.false last) in
     subst (λ (z : ServedExchange). Goes new e c.args.summary.now c.take_next.new.summary x z) (after_piece-settled piece x is_open there)
     (then_goes mid new d e c.args.summary.now c.args.summary.now c.take_next.new.summary x (with_piece piece x) (settled (with_piece piece x)) come all)
-
-pub returns-clause-marks : goal.returns-clause-marks
-returns-clause-marks c = c.in_ok-take_next.ensures.marks ∙ c.loop.invariant.marks
 
 pub returns-clause-device : goal.returns-clause-device
 returns-clause-device c = record {
