@@ -5,7 +5,8 @@ use Rattle.ads_outside.specs.declared.moves.Move.{Move}
 use Rattle.ads_outside.specs.declared.moves.Move.TheVariants as move
 use Rattle.ads_outside.specs.declared.reload_note.ReloadNote.{ReloadNote}
 use Rattle.spec_machine.specs.MachineState.{MachineState}
-use Rattle.spec_machine.specs.Moves.{EventStep}
+use Rattle.spec_machine.specs.Moves.{EventStep, state_after}
+use Rattle.spec_machine.specs.Offers.{blocked_after}
 use Rattle.spec_machine.specs.Running.{Running, running_after}
 
 -- what is noted of an event in a state
@@ -23,6 +24,10 @@ noted_of_move noted s (move.Event e) = noted s e
 noted_of_move noted s (move.Took c offered bytes) = []
 noted_of_move noted s (move.Lost c) = []
 noted_of_move noted s (move.Shut c) = []
+
+abbrev pub running_after_all : {W C : Type 0} → EventStep W C → Running W C → List Move → Running W C
+running_after_all step x ms =
+    record { state = state_after step x.state ms; blocked = blocked_after x.blocked ms }
 
 abbrev pub standing_after : {W C : Type 0} → EventStep W C → Noting W C → Standing W C → Move → Standing W C
 standing_after step noted x m = record {

@@ -16,19 +16,21 @@ use Rattle.ams_relay.specs.Peers.{Peers, peer_in, read_in, IsPlace, offer_of_pee
 use Rattle.ams_relay.specs.declared.router.Router.{Router}
 use Rattle.ams_relay.specs.Holds.{Holds}
 use Rattle.ams_relay.specs.Touched.{AreDistinct, is_due_peer, due_in, OthersIdle, AreIdleBut, number_if_due, numbers_due}
-use Rattle.ams_relay.proofs.EntryLemmas.{IsFirst, first_of_key, value_there, keys_length}
+use Rattle.ams_relay.proofs.EntryLemmas.{value_there}
+use Rattle.spec_connections.specs.Entries.{IsEntry}
+use Rattle.spec_connections.proofs.EntryLemmas.{entry_of_key, keys_length}
 use Rattle.ams_relay.proofs.ListLemmas.{filter-append}
 use Rattle.ams_relay.proofs.MoveLemmas.{offer_is, closing_there, closing_absent}
 use Rattle.ams_relay.proofs.StateLemmas.{numbers-distinct}
 
 -- what stands at a place
 record Stand (es : Peers) (i : ℕ) (e : ℕ × Peer) : Type 0 where
-  pub first : IsFirst es e.0 i
+  pub first : IsEntry es e.0 i
   pub due : due_in e.0 es ≡ is_due_peer e.1
 
 stand_at : (es : Peers) (i : ℕ) (e : ℕ × Peer) → IsDistinct nat_eq (keys_of es) → slice_get es i ≡ Some e → Stand es i e
 stand_at es i e distinct at =
-    let first = first_of_key es e.0 i distinct (ap (option_map (λ (x : ℕ × Peer). x.0)) at) in
+    let first = entry_of_key es e.0 i distinct (ap (option_map (λ (x : ℕ × Peer). x.0)) at) in
     record {
       first = first;
       due = ap (read_in is_due_peer false)
@@ -36,7 +38,7 @@ stand_at es i e distinct at =
     }
 
 -- a number stands at one place
-one_place : (es : Peers) (n i k : ℕ) → ((d : ℕ) → get_or (keys_of es) i d ≡ n) → ((j d : ℕ) → j < i → get_or (keys_of es) j d ≢ n) → IsFirst es n k → k ≡ i
+one_place : (es : Peers) (n i k : ℕ) → ((d : ℕ) → get_or (keys_of es) i d ≡ n) → ((j d : ℕ) → j < i → get_or (keys_of es) j d ≢ n) → IsEntry es n k → k ≡ i
 one_place es n i k number first other = elim (cases_lt k i) [
   | inl below ↦ absurd (first k 0 below (other.number 0))
   | inr above ↦ elim (cases_lt i k) [
@@ -48,7 +50,7 @@ one_place es n i k number first other = elim (cases_lt k i) [
 -- whoever stands elsewhere has another number
 elsewhere : (es : Peers) (n i k : ℕ) (e : ℕ × Peer) → IsDistinct nat_eq (keys_of es) → IsPlace es n i → slice_get es k ≡ Some e → k ≢ i → e.0 ≢ n
 elsewhere es n i k e distinct place at ne same =
-    ne (one_place es n i k place.number place.first (subst (λ m. IsFirst es m k) same (stand_at es k e distinct at).first))
+    ne (one_place es n i k place.number place.first (subst (λ m. IsEntry es m k) same (stand_at es k e distinct at).first))
 
 -- and nobody has a number that is not there
 nowhere : (es : Peers) (n k : ℕ) (e : ℕ × Peer) → IsDistinct nat_eq (keys_of es) → peer_in n es ≡ None → slice_get es k ≡ Some e → e.0 ≢ n
@@ -177,7 +179,7 @@ there (e ∷ es) zero below none = (let no : ◌≡◌ {A = Option (ℕ × Peer)
 there (e ∷ es) (suc n) below none = there es n (omega (arith, below)) none
 
 -- those that are due, by their numbers
-longer : (es : Peers) (n : ℕ) (e : ℕ × Peer) → IsFirst es e.0 n → take (suc n) (keys_of es) ≡ take n (keys_of es) ++ e.0 ∷ []
+longer : (es : Peers) (n : ℕ) (e : ℕ × Peer) → IsEntry es e.0 n → take (suc n) (keys_of es) ≡ take n (keys_of es) ++ e.0 ∷ []
 longer es n e first =
     let next : suc n ≡ n + 1 = omega arith in
     ap (λ m. take m (keys_of es)) next ∙ take_more (keys_of es) n 0 (omega (arith, first.within, keys_length es))

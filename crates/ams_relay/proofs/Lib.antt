@@ -1,8 +1,6 @@
 pub mod EntryLemmas
 pub mod StateLemmas
 pub mod ListLemmas
-pub mod QueueLemmas
-pub mod StreamLemmas
 pub mod PeerLemmas
 pub mod OwnerLemmas
 pub mod IdleLemmas

@@ -1,9 +1,9 @@
 -- What is offered to connections, what of it was taken, and frames that are given.
 use Rattle.std.proofs.Common.{◌≡◌, ◌≢◌, ℕ, ◌+◌, ◌<◌, ◌≤◌, List, [], ◌∷◌, ◌++◌, length, Bool, true, false, cond}
-use Rattle.std.proofs.Common.{not, Bor, refl, sym, ap, ◌∙◌, subst, inl, inr, arith}
-use Rattle.std.specs.Prelude.{Option, Some, None, option_copied, map, drop, filter, nat_lt, ◌||◌}
-use Rattle.std.specs.Prelude.{◌&&◌, ◌==◌, IsNone, IfSome, IsSomeAnd, unwrap_or}
-use Rattle.std.proofs.lemmas.Bool.{cases_Bool, cases_eq, cond-true, cond-false, or_left, ltb-false}
+use Rattle.std.proofs.Common.{not, refl, sym, ap, ◌∙◌, subst, inl, inr, arith}
+use Rattle.std.specs.Prelude.{Option, Some, None, map, filter, nat_lt, ◌||◌}
+use Rattle.std.specs.Prelude.{◌&&◌, ◌==◌, IfSome, IsSomeAnd, unwrap_or}
+use Rattle.std.proofs.lemmas.Bool.{cases_eq, cond-true, cond-false, or_left}
 use Rattle.ads_outside.specs.declared.event.Event.TheVariants as event
 use Rattle.ads_outside.specs.declared.moves.Move.TheVariants as move
 use Rattle.spec_frames.specs.Frame.{frame_bytes}
@@ -14,13 +14,15 @@ use Rattle.spec_machine.specs.Offers.{is_among, left_after, waiting_of, waiting_
 use Rattle.spec_machine.specs.Running.{Running, first_frame, offer_at, is_to_be_shut}
 use Rattle.spec_machine.proofs.Find.{test_same, test_other}
 use Rattle.out_queue.specs.Queue.{queued, front_of, frames_after}
+use Rattle.spec_connections.proofs.OfferLemmas.{is_offer, fits_first}
 use Rattle.spec_relay.specs.RelayState.{RelayWorld, Owned, RelayConnection, RelayState}
 use Rattle.spec_relay.specs.RelayMoves.{relay_after_event}
 use Rattle.spec_relay.specs.Routing.{at_connection, framed, has_room, delivered, given_to}
 use Rattle.ams_relay.specs.declared.peer.Peer.{Peer}
 use Rattle.ams_relay.specs.declared.router.Router.{Router}
 use Rattle.ams_relay.specs.Holds.{Stands, HoldsPeers, HoldsOwners, HoldsRequests, Holds}
-use Rattle.ams_relay.specs.Peers.{peer_in, read_in, Sets, FitsFirst, first_left, offer_of_peer, offers_of_peer}
+use Rattle.ams_relay.specs.Peers.{peer_in, read_in, Sets, offer_of_peer}
+use Rattle.spec_connections.specs.Offering.{FitsFirst, first_left}
 use Rattle.ams_relay.specs.Touched.{OthersIdle}
 use Rattle.ams_relay.specs.Counts.{counts_in}
 use Rattle.spec_plant.specs.Rights.{rights_of}
@@ -110,50 +112,6 @@ took-same : (short : Bool) (n : ℕ) (bs : List ℕ) → is_among n bs ≡ false
 took-same false n bs free = sym free
 took-same true n bs free = sym (or_left (n == n) (is_among n bs) (test_same n n refl))
 
--- what is offered: it is not blocked, and its first frame is there
-record IsOffer (p : Peer) (left : List ℕ) : Type 0 where
-  pub free : p.blocked ≡ false
-  pub front : front_of p.out ≡ Some left
-
-is_offer : (p : Peer) (left : List ℕ) → offer_of_peer p ≡ Some left → IsOffer p left
-is_offer p left e = elim (cases_Bool p.blocked) [
-  | inl blocked ↦ absurd (let both = sym (cond-true p.blocked None (front_of p.out) blocked) ∙ e in cc)
-  | inr free ↦ record { free = free; front = sym (cond-false p.blocked None (front_of p.out) free) ∙ e }
-]
-
-pub fits_first : (n : ℕ) (p : Peer) → IsSomeAnd (offer_of_peer p) (λ left. n ≤ length left) → FitsFirst n p.out
-fits_first n p h = elim (cases_Bool p.blocked) [
-  | inl blocked ↦ absurd (subst (λ o. IsSomeAnd o (λ left. n ≤ length left)) (cond-true p.blocked None (front_of p.out) blocked) h)
-  | inr free ↦ subst (λ o. IsSomeAnd o (λ left. n ≤ length left)) (cond-false p.blocked None (front_of p.out) free) h
-]
-
--- fewer offers are left once bytes of one were taken
-pub fewer_left : (n : ℕ) (w u : Peer) → IsSomeAnd (offer_of_peer w) (λ left. n ≤ length left)
-    → u.out ≡ frames_after n w.out → u.blocked ≡ nat_lt n (length (first_left w.out))
-    → offers_of_peer u < offers_of_peer w
-fewer_left n w u h out blocked = elim (cases_Bool w.blocked) [
-  | inl b ↦ absurd (subst (λ o. IsSomeAnd o (λ left. n ≤ length left)) (cond-true w.blocked None (front_of w.out) b) h)
-  | inr free ↦
-      let fits = subst (λ o. IsSomeAnd o (λ left. n ≤ length left)) (cond-false w.blocked None (front_of w.out) free) h in
-      let before = cond-false w.blocked 0 (length w.out) free in
-      let after = ap (λ b. cond b 0 (length u.out)) blocked ∙ ap (λ (fs : List (List ℕ)). cond (nat_lt n (length (first_left w.out))) 0 (length fs)) out in
-      let less = by w.out fits in
-      omega (arith, before, after, less)
-]
-  where
-    by : (fs : List (List ℕ)) → IsSomeAnd (front_of fs) (λ left. n ≤ length left)
-        → cond (nat_lt n (length (first_left fs))) 0 (length (frames_after n fs)) < length fs
-    by [] h = absurd h
-    by (f ∷ fs) h = elim (cases_Bool (nat_lt n (length f))) [
-      | inl t ↦ let e = cond-true (nat_lt n (length f)) 0 (length (frames_after n (f ∷ fs))) t in omega (arith, e)
-      | inr t ↦
-          let not_less = ltb-false n (length f) t in
-          let e = cond-false (nat_lt n (length f)) 0 (length (frames_after n (f ∷ fs))) t in
-          let whole : (length f == n) ≡ true = test_same (length f) n (omega (arith, h, not_less)) in
-          let gone = ap (λ (gs : List (List ℕ)). length gs) (cond-true (length f == n) fs (drop n f ∷ fs) whole) in
-          omega (arith, e, gone)
-    ]
-
 took_quiet : (m : ℕ) → Quiet (λ k. record k { bytes_taken = k.bytes_taken + m })
 took_quiet m = record { stays = record { number = λ k. refl; gone = λ k. refl }; client = λ k. refl; closing = λ k. refl }
 
@@ -167,8 +125,8 @@ pub took_at : (n : ℕ) (b : List ℕ) (p q : Peer) (m : ℕ) (left bytes : List
 unfolding state_after_move
 took_at n b p q m left bytes old new s h was sets is fits offered taken routes owners counts idle =
     let at = peer_found old.peers.entries b s n p h.peers was in
-    let offer = is_offer p left offered in
-    let first = fits_first m p fits in
+    let offer = is_offer p.blocked p.out left offered in
+    let first = fits_first m p.blocked p.out fits in
     let j = length bytes in
     let short = nat_lt j (length left) in
     let out_is : frames_after m p.out ≡ frames_after j p.out = ap (λ i. frames_after i p.out) (sym taken) in
@@ -197,11 +155,6 @@ took_at n b p q m left bytes old new s h was sets is fits offered taken routes o
         (cond-false k.gone x (record x { connection = record k { bytes_taken = k.bytes_taken + j } }) e)
 
 -- what the code offers is what the machine offers
-pub front_is : (r : Option (Bor (List ℕ))) (out : List (List ℕ)) → (IsNone r → out ≡ [])
-    → IfSome r (λ left. front_of out ≡ Some left.now) → option_copied r ≡ front_of out
-front_is None out empty first = sym (ap front_of (empty refl))
-front_is (Some left) out empty first = sym first
-
 first_is : (fs : List (List ℕ)) → front_of fs ≡ first_frame fs
 first_is [] = refl
 first_is (f ∷ fs) = refl

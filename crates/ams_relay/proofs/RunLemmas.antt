@@ -1,55 +1,31 @@
 -- All frames that wait for a connection are lent in one run, and taken, each whole.
-use Rattle.std.proofs.Common.{◌≡◌, ◌≢◌, ℕ, ◌≤◌, List, [], ◌∷◌, length, drop, true, false, Bor}
-use Rattle.std.proofs.Common.{refl, sym, ap, ◌∙◌, subst, inl, inr, arith, append-nil}
-use Rattle.std.specs.Prelude.{◌==◌, ◌↔◌, nat_lt, map, Option, Some, None, IsNone, IsSomeAnd, IfSome, option_copied, option_map}
-use Rattle.std.specs.List.{concat}
-use Rattle.std.proofs.lemmas.Bool.{cases_Bool, le-ltb, eq-eqb, cond-true, cond-false}
+use Rattle.std.proofs.Common.{◌≡◌, ◌≢◌, ℕ, ◌≤◌, List, [], ◌∷◌, length, false}
+use Rattle.std.proofs.Common.{refl, sym, ap, ◌∙◌, subst, arith, append-nil}
+use Rattle.std.specs.Prelude.{nat_lt, map, Option, Some, None, IsSomeAnd, IfSome}
+use Rattle.std.proofs.lemmas.Bool.{cond-false}
 use Rattle.indexmap.specs.IndexMap.{set_value_at, hasher_of, spare}
 use Rattle.indexmap.specs.Layout.{hash_map}
 use Rattle.ads_outside.specs.declared.moves.Move.TheVariants as move
 use Rattle.ads_outside.specs.Wholes.{wholes}
 use Rattle.ads_served.specs.Due.{IsRun}
-use Rattle.ads_served.specs.Standing.{standing_after, standing_after_all}
+use Rattle.ads_served.specs.Standing.{running_after_all, standing_after, standing_after_all}
 use Rattle.spec_machine.specs.Connection.{bytes_of}
-use Rattle.spec_machine.specs.Offers.{is_among, left_after, waiting_of, waiting_at}
+use Rattle.spec_machine.specs.Moves.{state_after}
+use Rattle.spec_machine.specs.Offers.{blocked_after, is_among, left_after, waiting_of, waiting_at}
 use Rattle.spec_machine.specs.Running.{running_after}
 use Rattle.out_queue.specs.Queue.{front_of, frames_after}
+use Rattle.spec_connections.proofs.LentLemmas.{IsLent, is_lent, whole_after, not_short}
 use Rattle.spec_relay.specs.RelayMoves.{relay_after_event}
 use Rattle.ams_relay.specs.declared.peer.Peer.{Peer}
 use Rattle.ams_relay.specs.declared.router.Relay.{Relay}
 use Rattle.ams_relay.specs.declared.router.Router.{Router}
-use Rattle.ams_relay.specs.Peers.{Peers, AreHere, peer_in, read_in, Sets, IsPlace, first_left, offer_of_peer, some_frames, run_of_peer}
-use Rattle.ams_relay.specs.Relays.{RelayRunning, RelayStanding, HoldsRunning, running_after_all, nothing_noted, StandsAt}
+use Rattle.ams_relay.specs.Peers.{Peers, AreHere, peer_in, read_in, Sets, IsPlace, offer_of_peer, run_of_peer}
+use Rattle.spec_connections.specs.Offering.{first_left}
+use Rattle.ams_relay.specs.Relays.{RelayRunning, RelayStanding, HoldsRunning, nothing_noted, StandsAt}
 use Rattle.ams_relay.specs.Touched.{IsUntouched, OthersIdle}
 use Rattle.ams_relay.proofs.HoldLemmas.{peer_found}
 use Rattle.ams_relay.proofs.IdleLemmas.{idle_touched}
 use Rattle.ams_relay.proofs.MoveLemmas.{took_at}
-
--- all of a queue, as a reference
-pub run_is : (r : Option (Bor (List ℕ))) (out : List (List ℕ)) → (IsNone r ↔ (out ≡ [])) → IfSome r (λ run. concat out ≡ run.now)
-    → option_copied r ≡ option_map concat (some_frames out)
-run_is None out empty all = sym (ap (λ fs. option_map concat (some_frames fs)) (empty.0 refl))
-run_is (Some run) [] empty all = absurd (let e : true ≡ false = empty.1 refl in cc)
-run_is (Some run) (f ∷ fs) empty all = ap Some (sym all)
-
--- what is lent: it is not blocked, these frames wait, and there is one
-pub record IsLent (p : Peer) (frames : List (List ℕ)) : Type 0 where
-  pub free : p.blocked ≡ false
-  pub out : p.out ≡ frames
-  pub some : some_frames frames ≡ Some frames
-
-frames_are : (fs frames : List (List ℕ)) → some_frames fs ≡ Some frames → fs ≡ frames
-frames_are [] frames e = absurd (let none : ◌≡◌ {A = Option (List (List ℕ))} None (Some frames) = e in cc)
-frames_are (f ∷ fs) frames e = let all : ◌≡◌ {A = Option (List (List ℕ))} (Some (f ∷ fs)) (Some frames) = e in cc
-
-is_lent : (p : Peer) (frames : List (List ℕ)) → run_of_peer p ≡ Some frames → IsLent p frames
-is_lent p frames e = elim (cases_Bool p.blocked) [
-  | inl blocked ↦ absurd (let both = sym (cond-true p.blocked None (some_frames p.out) blocked) ∙ e in cc)
-  | inr free ↦
-      let some : some_frames p.out ≡ Some frames = sym (cond-false p.blocked None (some_frames p.out) free) ∙ e in
-      let out = frames_are p.out frames some in
-      record { free = free; out = out; some = sym (ap some_frames out) ∙ some }
-]
 
 -- the frames that are lent are those of the machine that wait, and it is not blocked there
 pub run_waits : (n : ℕ) (r : Router) (x : RelayRunning) (frames : List (List ℕ)) → HoldsRunning r x
@@ -59,7 +35,7 @@ run_waits n r x frames h some = by (peer_in n r.peers.entries) refl some
     by : (o : Option Peer) → peer_in n r.peers.entries ≡ o → read_in run_of_peer None o ≡ Some frames → IsRun n x frames
     by None e lent = absurd (let none : ◌≡◌ {A = Option (List (List ℕ))} None (Some frames) = lent in cc)
     by (Some p) e lent =
-        let is = is_lent p frames lent in
+        let is = is_lent p.blocked p.out frames lent in
         let at = peer_found r.peers.entries x.blocked x.state n p h.peers e in
         let mark : p.blocked ≡ is_among n x.blocked = subst (λ o. IfSome o (λ q. q.blocked ≡ is_among n x.blocked)) e (h.peers.marked n) in
         let waits : waiting_at n x.state ≡ p.out =
@@ -74,13 +50,6 @@ sets_between n p q es old new first second = record {
   others = λ m other. second.others m other ∙ sym (first.others m other);
   own = second.own;
 }
-
--- a frame that is taken whole is gone, and that does not block
-whole_after : (f : List ℕ) (fs : List (List ℕ)) → frames_after (length f) (f ∷ fs) ≡ fs
-whole_after f fs = cond-true (length f == length f) fs (drop (length f) f ∷ fs) (eq-eqb (length f) (length f) refl)
-
-not_short : (n : ℕ) → nat_lt n n ≡ false
-not_short n = le-ltb n n (omega arith)
 
 -- this peer became that one in a router, and whoever else was touched stays so
 record Becomes (n : ℕ) (p q : Peer) (old new : Router) : Type 0 where
@@ -113,7 +82,8 @@ whole_at n p f fs old new x h free waits b =
 wholes_at : (n i : ℕ) (es : Peers) (p : Peer) (f : List ℕ) (fs : List (List ℕ)) (old new : Router) (x : RelayRunning)
     → IsPlace es n i → Sets n p es old.peers.entries → Sets n (record p { out = [] }) es new.peers.entries → HoldsRunning old x
     → p.blocked ≡ false → p.out ≡ f ∷ fs → Becomes n p (record p { out = [] }) old new
-    → HoldsRunning new (running_after_all x (wholes n (f ∷ fs)))
+    → HoldsRunning new (running_after_all relay_after_event x (wholes n (f ∷ fs)))
+unfolding state_after blocked_after
 wholes_at n i es p f [] old new x place first last h free waits b = whole_at n p f [] old new x h free waits b
 wholes_at n i es p f (g ∷ gs) old new x place first last h free waits b =
     let q : Peer = record p { out = g ∷ gs } in
@@ -142,29 +112,29 @@ pub run_taken : (n i : ℕ) (p q : Peer) (old new : Router) (x : RelayRunning) (
     → HoldsRunning old x → peer_in n old.peers.entries ≡ Some p → read_in run_of_peer None (peer_in n old.peers.entries) ≡ Some frames
     → q ≡ record p { out = [] } → Sets n q old.peers.entries new.peers.entries
     → new.routes ≡ old.routes → new.owners.entries ≡ old.owners.entries → new.counts ≡ old.counts
-    → ((m : ℕ) → IsUntouched new.touched m → IsUntouched old.touched m × (m ≢ n)) → HoldsRunning new (running_after_all x (wholes n frames))
+    → ((m : ℕ) → IsUntouched new.touched m → IsUntouched old.touched m × (m ≢ n)) → HoldsRunning new (running_after_all relay_after_event x (wholes n frames))
 run_taken n i p q old new x frames place h was some is sets routes owners counts touched =
-    by frames (is_lent p frames (sym (ap (read_in run_of_peer None) was) ∙ some))
+    by frames (is_lent p.blocked p.out frames (sym (ap (read_in run_of_peer None) was) ∙ some))
   where
     empty : Sets n (record p { out = [] }) old.peers.entries new.peers.entries
     empty = subst (λ (r : Peer). Sets n r old.peers.entries new.peers.entries) is sets
 
-    by : (gs : List (List ℕ)) → IsLent p gs → HoldsRunning new (running_after_all x (wholes n gs))
+    by : (gs : List (List ℕ)) → IsLent p.blocked p.out gs → HoldsRunning new (running_after_all relay_after_event x (wholes n gs))
     by [] lent = absurd (let none : ◌≡◌ {A = Option (List (List ℕ))} None (Some []) = lent.some in cc)
     by (f ∷ fs) lent = wholes_at n i old.peers.entries p f fs old new x place (record { keys = refl; others = λ m other. refl; own = was }) empty h
         lent.free lent.out (record { was = was; sets = empty; routes = routes; owners = owners; counts = counts; touched = touched })
 
 -- nothing is lent of one that is not there
 pub run_absent : (n : ℕ) (r : Router) (x : RelayRunning) (frames : List (List ℕ)) → peer_in n r.peers.entries ≡ None
-    → read_in run_of_peer None (peer_in n r.peers.entries) ≡ Some frames → HoldsRunning r (running_after_all x (wholes n frames))
+    → read_in run_of_peer None (peer_in n r.peers.entries) ≡ Some frames → HoldsRunning r (running_after_all relay_after_event x (wholes n frames))
 run_absent n r x frames none some =
     absurd (let both : ◌≡◌ {A = Option (List (List ℕ))} None (Some frames) = sym (ap (read_in run_of_peer None) none) ∙ some in cc)
 
 -- no note is made of frames that are taken
 pub stands_wholes : (relay : Relay) (n : ℕ) (frames : List (List ℕ)) (x : RelayStanding) → relay.failed ≡ false
-    → HoldsRunning relay.router (running_after_all x.running (wholes n frames)) → AreHere relay.router.peers.entries → x.notes ≡ []
+    → HoldsRunning relay.router (running_after_all relay_after_event x.running (wholes n frames)) → AreHere relay.router.peers.entries → x.notes ≡ []
     → StandsAt relay (standing_after_all relay_after_event nothing_noted x (wholes n frames))
-unfolding standing_after_all
+unfolding standing_after_all state_after blocked_after
 stands_wholes relay n [] x working holds here notes = record { working = working; holds = holds; here = here; notes = notes }
 stands_wholes relay n (f ∷ fs) x working holds here notes =
     stands_wholes relay n fs (standing_after relay_after_event nothing_noted x (move.Took n (length f) f)) working holds here (append-nil x.notes ∙ notes)

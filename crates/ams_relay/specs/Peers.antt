@@ -1,10 +1,10 @@
 -- The connections that the code keeps, found by their numbers, and how one of them changes.
-use Rattle.std.specs.Prelude.{◌≡◌, ◌≢◌, ℕ, ◌<◌, ◌≤◌, List, [], ◌∷◌, length, slice_get, slice_index_or, Bool, false, not, ◌==◌, if◌then◌else◌}
-use Rattle.std.specs.Prelude.{Option, Some, None, IsSomeAnd, unwrap_or, is_some}
+use Rattle.std.specs.Prelude.{◌≡◌, ◌≢◌, ℕ, ◌<◌, List, [], length, slice_get, slice_index_or, Bool, false, not, ◌==◌}
+use Rattle.std.specs.Prelude.{Option, Some, None, IsSomeAnd, is_some}
 use Rattle.std.specs.Map.{keys_of, values_of, lookup}
 use Rattle.indexmap.specs.IndexMap.{set_value_at}
 use Rattle.ams_tcp.specs.History.{Represents, nothing_fed}
-use Rattle.out_queue.specs.Queue.{front_of}
+use Rattle.spec_connections.specs.Offering.{offer_of, offers_of, run_of}
 use Rattle.ams_relay.specs.declared.peer.Peer.{Peer}
 
 abbrev pub Peers : Type 0
@@ -36,14 +36,6 @@ pub record IsFresh (p : Peer) : Type 0 where
   pub open_ : p.closing ≡ false
   pub free : p.blocked ≡ false
 
--- at most the bytes that are left of the first frame
-abbrev pub FitsFirst : ℕ → List (List ℕ) → Type 0
-FitsFirst n out = IsSomeAnd (front_of out) (λ left. n ≤ length left)
-
--- what is left of the first frame
-abbrev pub first_left : List (List ℕ) → List ℕ
-first_left out = unwrap_or (front_of out) []
-
 -- what is read of the peer of a number
 abbrev pub read_in : {X : Type 0} → (Peer → X) → X → Option Peer → X
 read_in read none None = none
@@ -62,20 +54,15 @@ AreHere es = (n : ℕ) → is_lent_in n es ≡ false
 
 -- what a connection is offered: what is left of its first frame, unless it is blocked
 abbrev pub offer_of_peer : Peer → Option (List ℕ)
-offer_of_peer p = if p.blocked then None else front_of p.out
+offer_of_peer p = offer_of p.blocked p.out
 
 abbrev pub is_offered : Peer → Bool
 is_offered p = is_some (offer_of_peer p)
 
--- frames that are lent in one run: all of them, where there is one
-abbrev pub some_frames : List (List ℕ) → Option (List (List ℕ))
-some_frames [] = None
-some_frames (f ∷ fs) = Some (f ∷ fs)
-
 -- what is lent of a connection: the frames that wait for it, unless it is blocked
 abbrev pub run_of_peer : Peer → Option (List (List ℕ))
-run_of_peer p = if p.blocked then None else some_frames p.out
+run_of_peer p = run_of p.blocked p.out
 
 -- how many frames wait for it, unless it is blocked
 abbrev pub offers_of_peer : Peer → ℕ
-offers_of_peer p = if p.blocked then 0 else length p.out
+offers_of_peer p = offers_of p.blocked p.out

@@ -1,5 +1,5 @@
 -- A relay stands for a running machine.
-use Rattle.std.specs.Prelude.{◌≡◌, ℕ, List, [], ◌∷◌, ◌++◌, true, false, Option, Some, None}
+use Rattle.std.specs.Prelude.{◌≡◌, ℕ, List, [], ◌++◌, true, false, Option, Some, None}
 use Rattle.ads_outside.specs.declared.end.End.{End}
 use Rattle.ads_outside.specs.declared.event.Event.{Event}
 use Rattle.ads_outside.specs.declared.moves.Move.{Move}
@@ -23,10 +23,6 @@ RelayRunning = Running RelayWorld Owned
 
 abbrev pub running_after_event : RelayRunning → Event → RelayRunning
 running_after_event x e = running_after relay_after_event x (move.Event e)
-
-abbrev pub running_after_all : RelayRunning → List Move → RelayRunning
-running_after_all x [] = x
-running_after_all x (m ∷ ms) = running_after_all (running_after relay_after_event x m) ms
 
 -- a router stands for a running machine
 abbrev pub HoldsRunning : Router → RelayRunning → Type 0

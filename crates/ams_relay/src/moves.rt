@@ -10,11 +10,12 @@ ghost use Rattle.spec_machine.specs.Moves.{state_after_move};
 ghost use Rattle.spec_machine.specs.Offers.{blocked_after_move};
 ghost use Rattle.spec_machine.specs.Running.{is_to_be_shut};
 ghost use Rattle.spec_machine.specs.Connection.{connection_of};
+ghost use Rattle.ads_served.specs.Standing.{running_after_all};
 ghost use Rattle.spec_relay.specs.RelayState.{RelayState};
 ghost use Rattle.spec_relay.specs.RelayMoves.{relay_after_event};
 ghost use Rattle.ams_relay.specs.Holds.{Holds};
 ghost use Rattle.ams_relay.specs.Peers.{peer_in, read_in, offer_of_peer, run_of_peer, offers_of_peer};
-ghost use Rattle.ams_relay.specs.Relays.{RelayRunning, HoldsRunning, running_after_all};
+ghost use Rattle.ams_relay.specs.Relays.{RelayRunning, HoldsRunning};
 ghost use Rattle.ams_relay.specs.Taking.{KeepsStreams};
 
 use crate::router::Router;
@@ -75,7 +76,7 @@ impl Router {
     pub(crate) fn took_run(&mut self, number: u32)
         ensures follows { (x : RelayRunning) (frames : List (List ℕ)) → HoldsRunning self.old x
             → read_in run_of_peer None (peer_in number self.old.peers.entries) ≡ Some frames
-            → HoldsRunning self.new (running_after_all x (wholes number frames)) }
+            → HoldsRunning self.new (running_after_all relay_after_event x (wholes number frames)) }
         ensures streams { KeepsStreams self.old.peers.entries self.new.peers.entries }
     {
         if let Some(i) = self.place_of(number) {

@@ -3,7 +3,8 @@
 ghost use Rattle.std.specs.Prelude.{◌≡◌, ◌≤◌, length, nat_lt, IfOk, IfSome, option_copied, option_map};
 ghost use Rattle.std.specs.List.{concat};
 ghost use Rattle.out_queue.specs.Queue.{QUEUE_LIMIT, frames_after};
-ghost use Rattle.ams_relay.specs.Peers.{IsFresh, FitsFirst, first_left, is_offered, run_of_peer};
+ghost use Rattle.ams_relay.specs.Peers.{IsFresh, is_offered, run_of_peer};
+ghost use Rattle.spec_connections.specs.Offering.{FitsFirst, first_left};
 ghost use Rattle.ams_relay.specs.Touched.{is_due_peer};
 
 use crate::asked::Asked;

@@ -9,9 +9,8 @@ use Rattle.spec_machine.specs.MachineState.{MachineState}
 use Rattle.spec_machine.specs.Moves.{EventStep, state_after_move, state_after}
 use Rattle.spec_machine.specs.Offers.{blocked_after}
 use Rattle.spec_machine.specs.Running.{Running}
-use Rattle.ads_served.specs.Standing.{Standing, Noting, standing_after, standing_after_all}
+use Rattle.ads_served.specs.Standing.{Standing, Noting, standing_after, standing_after_all, running_after_all}
 use Rattle.serve_loop.specs.Leads.{Leads, Breaks, serves_any, events_in}
-use Rattle.serve_loop.specs.Serving.{running_after_all}
 
 pub standing-append : {W C : Type 0} (step : EventStep W C) (noted : Noting W C) (x : Standing W C) (ms ns : List Move)
     → standing_after_all step noted x (ms ++ ns) ≡ standing_after_all step noted (standing_after_all step noted x ms) ns

@@ -11,7 +11,8 @@ use Rattle.spec_machine.specs.Turns.{IsOffer, IsServed, Serves}
 use Rattle.spec_machine.proofs.Changes.{state_after-append}
 use Rattle.spec_machine.proofs.Emptied.{took-gone}
 use Rattle.std.proofs.lemmas.List.{length-take-le}
-use Rattle.serve_loop.specs.Serving.{running_after_all, Begins, Ends, BeginsAll}
+use Rattle.ads_served.specs.Standing.{running_after_all}
+use Rattle.serve_loop.specs.Serving.{Begins, Ends, BeginsAll}
 
 -- what is offered is the first frame that waits, and the connection is not blocked
 pub record Offers_ {W C : Type 0} (x : Running W C) (c : ℕ) (left : List ℕ) : Type 0 where

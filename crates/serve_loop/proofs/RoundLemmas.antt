@@ -17,7 +17,8 @@ use Rattle.spec_machine.specs.Turns.{Serves, ServesEach}
 use Rattle.spec_machine.proofs.Find.{test_same}
 use Rattle.ads_served.specs.Due.{IsIdle, LeavesOutIdle}
 use Rattle.ads_served.specs.Opened.{AreApart}
-use Rattle.serve_loop.specs.Serving.{running_after_all, ServesOne, Ends, EndsWhereThere, ServesAll, ServesAllOf}
+use Rattle.ads_served.specs.Standing.{running_after_all}
+use Rattle.serve_loop.specs.Serving.{ServesOne, Ends, EndsWhereThere, ServesAll, ServesAllOf}
 use Rattle.serve_loop.proofs.LeadLemmas.{AreOffers-append}
 use Rattle.serve_loop.proofs.OfferLemmas.{none_at, running-append}
 use Rattle.serve_loop.proofs.ServeLemmas.{IsSameAt, same_then, serves-other, to_be_shut}

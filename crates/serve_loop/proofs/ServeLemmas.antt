@@ -13,9 +13,9 @@ use Rattle.spec_machine.specs.Running.{Running, offer_at, is_to_be_shut, is_to_b
 use Rattle.spec_machine.specs.Turns.{Serves}
 use Rattle.spec_machine.proofs.Changes.{exchange_other, with_took-number, with_gone-number, state_after-append}
 use Rattle.spec_machine.proofs.Find.{test_other}
-use Rattle.ads_served.specs.Standing.{Standing, Noting, standing_after_all}
+use Rattle.ads_served.specs.Standing.{Standing, Noting, standing_after_all, running_after_all}
 use Rattle.serve_loop.specs.Leads.{Leads}
-use Rattle.serve_loop.specs.Serving.{running_after_all, ServesOne, Begins, BeginsAll, Ends, EndsWhereThere}
+use Rattle.serve_loop.specs.Serving.{ServesOne, Begins, BeginsAll, Ends, EndsWhereThere}
 use Rattle.serve_loop.proofs.LeadLemmas.{AreOffers-append, standing-running}
 use Rattle.serve_loop.proofs.OfferLemmas.{none_at, running-append}
 

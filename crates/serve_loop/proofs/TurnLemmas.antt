@@ -21,11 +21,11 @@ use Rattle.spec_machine.specs.Running.{Running, OpensNew}
 use Rattle.spec_machine.specs.Turns.{LogTurn, moves_of_turn, AreTurns}
 use Rattle.spec_machine.proofs.Emptied.{or_false}
 use Rattle.ads_served.specs.Opened.{HasNumbersIn, OpensAlone}
-use Rattle.ads_served.specs.Standing.{Standing, Noting, standing_after, standing_after_all}
+use Rattle.ads_served.specs.Standing.{Standing, Noting, standing_after, standing_after_all, running_after_all}
 use Rattle.ads_served.proofs.DeviceEvents.{exchange-none}
 use Rattle.serve_loop.specs.declared.turn_end.TurnEnd.{TurnEnd}
 use Rattle.serve_loop.specs.Leads.{Leads, Breaks}
-use Rattle.serve_loop.specs.Serving.{running_after_all, ServesAll}
+use Rattle.serve_loop.specs.Serving.{ServesAll}
 use Rattle.serve_loop.specs.TurnTaken.{StandsOver, ComesBy, IsTurnOf, turn_of_event, TakesEvent, Stays}
 use Rattle.serve_loop.specs.TurnTaken.{BreaksTurn, AfterTurn, AreTurnsOf, TakesTurns, EndsBefore}
 use Rattle.serve_loop.proofs.LeadLemmas.{leads_nowhere, leads_then, breaks_nowhere, breaks_then, AreOffers-append, standing-running}

@@ -6,19 +6,15 @@ use Rattle.ads_outside.specs.WireState.{WireHistory}
 use Rattle.spec_machine.specs.Delivery.{AreOffers}
 use Rattle.spec_machine.specs.MachineState.{present_numbers}
 use Rattle.spec_machine.specs.Moves.{EventStep, state_after}
-use Rattle.spec_machine.specs.Offers.{blocked_after, is_gone_at}
+use Rattle.spec_machine.specs.Offers.{is_gone_at}
 use Rattle.spec_machine.specs.Running.{Running, offer_at}
 use Rattle.spec_machine.specs.Turns.{Serves, ServesEach}
 use Rattle.ads_served.specs.Due.{LeavesOutIdle}
 use Rattle.ads_served.specs.Opened.{AreApart}
-use Rattle.ads_served.specs.Standing.{Standing, Noting}
+use Rattle.ads_served.specs.Standing.{Standing, Noting, running_after_all}
 use Rattle.serve_loop.specs.declared.offers.Offered.{Offered}
 use Rattle.serve_loop.specs.declared.offers.Offered.TheVariants as offered
 use Rattle.serve_loop.specs.Leads.{Leads}
-
-abbrev pub running_after_all : {W C : Type 0} → EventStep W C → Running W C → List Move → Running W C
-running_after_all step x ms =
-    record { state = state_after step x.state ms; blocked = blocked_after x.blocked ms }
 
 -- moves that serve a connection
 abbrev pub ServesOne : {W C : Type 0} → EventStep W C → ℕ → Running W C → List Move → Type 0

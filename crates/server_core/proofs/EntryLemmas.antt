@@ -1,31 +1,18 @@
 -- Entries of a map by their numbers: where a number is found, and what an insertion adds.
 use Rattle.std.proofs.Common.{◌≡◌, ◌≢◌, ◌⊎◌, ℕ, zero, suc, ◌+◌, ◌<◌, ◌≤◌, List, [], ◌∷◌, ◌++◌, length, get_or}
-use Rattle.std.proofs.Common.{false, refl, sym, ap, ◌∙◌, inl, inr, nat_eq, true, arith}
+use Rattle.std.proofs.Common.{false, refl, sym, ap, ◌∙◌, inl, inr, nat_eq, arith}
 use Rattle.std.specs.Prelude.{◌==◌, not, nat_lt, take, slice_get, option_map, Option, Some, None, IfSome, IfNone, position}
-use Rattle.std.specs.List.{prefix_len, IsDistinct, AllByRecursion}
+use Rattle.std.specs.List.{prefix_len}
 use Rattle.std.specs.Map.{keys_of, values_of}
-use Rattle.std.proofs.lemmas.Bool.{cases_Bool, cond-true, cond-false, ltb-false, not_from_true, not_from_false, eqb-true}
+use Rattle.std.proofs.lemmas.Bool.{cases_Bool, cond-true, cond-false, ltb-false, not_from_true, not_from_false}
 use Rattle.std.proofs.lemmas.List.{take_more, take_all}
 use Rattle.std.proofs.lemmas.Option.{slice_get-map, slice_get_within, get_or_from_slice_get}
-use Rattle.std.proofs.lemmas.List.Quantifiers.{position-Some}
 use Rattle.indexmap.specs.IndexMap.{insert_entry, set_value_at}
 use Rattle.spec_machine.proofs.Find.{test_same, test_other}
 use Rattle.server_core.specs.declared.waiting.Waiting.{Waiting}
 use Rattle.server_core.specs.Entries.{IsEntry, IsNoEntry}
 use Rattle.server_core.specs.Places.{read_among}
-
-keys_length : (es : List (ℕ × Waiting)) → length (keys_of es) ≡ length es
-keys_length [] = refl
-keys_length (e ∷ es) = ap suc (keys_length es)
-
-found_at : (es : List (ℕ × Waiting)) (n i : ℕ) → position (λ k. n == k) (keys_of es) ≡ Some i → IsEntry es n i
-found_at es n i e =
-    let at = position-Some (λ k. n == k) (keys_of es) i in
-    record {
-      within = omega (arith, (at 0 e).0, keys_length es);
-      number = λ d. sym (eqb-true n (get_or (keys_of es) i d) (at d e).1);
-      first = λ k d below same. let no = sym ((at d e).2 k below) ∙ test_same n (get_or (keys_of es) k d) (sym same) in cc;
-    }
+use Rattle.spec_connections.proofs.EntryLemmas.{keys_length, found_at, entry_behind}
 
 -- what holds of each key behind the first, and of the first
 none_of_all : (j : ℕ) (js : List ℕ) (n : ℕ) → (n == j) ≡ false
@@ -91,14 +78,6 @@ entry_or_not es n = by (position (λ k. n == k) (keys_of es)) refl
         let value = value_at es i place.within in
         inl (record { i = i; place = place; waiting = value.0; value = value.1 })
 
--- the entry behind the first
-entry_behind : (e : ℕ × Waiting) (es : List (ℕ × Waiting)) (n i : ℕ) → IsEntry (e ∷ es) n (suc i) → IsEntry es n i
-entry_behind e es n i at = record {
-  within = omega (arith, at.within);
-  number = at.number;
-  first = λ k d below. at.first (suc k) d (omega (arith, below));
-}
-
 -- what is read there
 pub read_at : {X : Type 0} (read : Waiting → X) (none : X) (es : List (ℕ × Waiting)) (n i : ℕ) (w : Waiting)
     → IsEntry es n i → slice_get (values_of es) i ≡ Some w
@@ -139,40 +118,3 @@ keys_next es i n o read some =
 
 pub keys_all : (es : List (ℕ × Waiting)) (i : ℕ) → length es ≤ i → take i (keys_of es) ≡ keys_of es
 keys_all es i past = take_all i (keys_of es) (omega (arith, past, keys_length es))
-
--- among keys of which none is equal to one before it, the place of a number is the first
-none_before : (es : List (ℕ × Waiting)) (x n i : ℕ) → AllByRecursion (λ y. nat_eq x y ≡ false) (keys_of es)
-    → option_map (λ (e : ℕ × Waiting). e.0) (slice_get es i) ≡ Some n → x ≢ n
-none_before [] x n i none there same = absurd (let e : ◌≡◌ {A = Option ℕ} None (Some n) = there in cc)
-none_before (e ∷ es) x n zero none there same =
-    let some : ◌≡◌ {A = Option ℕ} (Some e.0) (Some n) = there in
-    let at : e.0 ≡ n = cc in
-    let yes : nat_eq x e.0 ≡ true = test_same x e.0 (same ∙ sym at) in
-    let not_there : nat_eq x e.0 ≡ false = none.0 in
-    cc
-none_before (e ∷ es) x n (suc i) none there same = none_before es x n i none.1 there same
-
-first_or_later : (e : ℕ × Waiting) (es : List (ℕ × Waiting)) (n i : ℕ) → e.0 ≢ n → ((k d : ℕ) → k < i → get_or (keys_of es) k d ≢ n)
-    → (k d : ℕ) → k < suc i → get_or (keys_of (e ∷ es)) k d ≢ n
-first_or_later e es n i head rest zero d below same = head same
-first_or_later e es n i head rest (suc k) d below same = rest k d (omega (arith, below)) same
-
-pub entry_of_key : (es : List (ℕ × Waiting)) (n i : ℕ) → IsDistinct nat_eq (keys_of es)
-    → option_map (λ (e : ℕ × Waiting). e.0) (slice_get es i) ≡ Some n → IsEntry es n i
-unfolding IsDistinct
-entry_of_key [] n i distinct there = absurd (let e : ◌≡◌ {A = Option ℕ} None (Some n) = there in cc)
-entry_of_key (e ∷ es) n zero distinct there =
-    let some : ◌≡◌ {A = Option ℕ} (Some e.0) (Some n) = there in
-    let at : e.0 ≡ n = cc in
-    record {
-      within = omega arith;
-      number = λ d. at;
-      first = λ k d below same. absurd (omega (arith, below));
-    }
-entry_of_key (e ∷ es) n (suc i) distinct there =
-    let rest = entry_of_key es n i distinct.1 there in
-    record {
-      within = omega (arith, rest.within);
-      number = λ d. rest.number d;
-      first = λ k d below. first_or_later e es n i (none_before es e.0 n i distinct.0 there) rest.first k d below;
-    }

@@ -1,7 +1,4 @@
-pub mod QueueLemmas
 pub mod CountLemmas
-pub mod StreamLemmas
-pub mod StateLemmas
 pub mod SumLemmas
 pub mod PlaceLemmas
 pub mod ConnLemmas

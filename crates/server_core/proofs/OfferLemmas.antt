@@ -1,38 +1,33 @@
 -- What is read of a core, in the code and in the machine.
-use Rattle.std.proofs.Common.{◌≡◌, ℕ, ◌<◌, ◌≤◌, List, [], ◌∷◌, length, map, get_or, Bool, true, false, not}
-use Rattle.std.proofs.Common.{cond, Bor, refl, sym, ap, ◌∙◌, subst, inl, inr, arith}
-use Rattle.std.specs.Prelude.{◌&&◌, nat_lt, drop, ◌==◌, Option, Some, None, IsNone, IsSomeAnd, IfSome, option_copied, slice_get}
+use Rattle.std.proofs.Common.{◌≡◌, ℕ, List, [], map, get_or, Bool, true, false, not}
+use Rattle.std.proofs.Common.{cond, refl, sym, ap, ◌∙◌, inl, inr, arith}
+use Rattle.std.specs.Prelude.{◌&&◌, Some, None, slice_get}
 use Rattle.std.specs.Option.{option_map}
 use Rattle.std.specs.Map.{keys_of}
-use Rattle.std.proofs.lemmas.Bool.{cases_Bool, ltb-false, cond-true, cond-false}
+use Rattle.std.proofs.lemmas.Bool.{cond-true, cond-false}
 use Rattle.std.proofs.lemmas.Option.{slice_get-map, get_or_from_slice_get}
 use Rattle.signals.specs.Wave.{Wave}
 use Rattle.spec_machine.specs.Connection.{bytes_of}
 use Rattle.spec_machine.specs.MachineState.{present_numbers}
 use Rattle.spec_machine.specs.Offers.{is_among, waiting_of, waiting_at, left_after}
 use Rattle.spec_plant.specs.World.{Plant}
-use Rattle.out_queue.specs.Queue.{front_of, frames_after}
+use Rattle.out_queue.specs.Queue.{front_of}
 use Rattle.server_core.specs.declared.turned.Turned.{Turned}
 use Rattle.server_core.specs.declared.waiting.Waiting.{Waiting}
 use Rattle.server_core.specs.Served.{ServedConnection}
 use Rattle.server_core.specs.Conns.{Conn, conn_of}
-use Rattle.server_core.specs.ConnStands.{Stands, FitsFirst, first_left}
+use Rattle.server_core.specs.ConnStands.{Stands}
 use Rattle.server_core.specs.CoreState.{CoreState, offer_at, is_to_be_shut, is_to_be_shut_at}
 use Rattle.server_core.specs.Entries.{IsEntry, IsNoEntry}
-use Rattle.server_core.specs.Places.{offer_of_waiting, offer_among, offers_of_waiting}
+use Rattle.server_core.specs.Places.{offer_of_waiting, offer_among}
 use Rattle.server_core.specs.ServerView.{ServerView}
-use Rattle.server_core.specs.Serves.{present, ServesEach, conns_in}
+use Rattle.server_core.specs.Serves.{ServesEach, conns_in}
+use Rattle.spec_connections.specs.Present.{present}
 use Rattle.server_core.proofs.ConnLemmas.{conn_here, conns_numbers, conns_length, entry_is_place, first_conn, no_entry_is_absent, some_turned}
 use Rattle.server_core.proofs.EntryLemmas.{HasEntry, entry_or_not, read_at, read_absent}
 use Rattle.server_core.proofs.PlaceLemmas.{IsNotThere, not_there, numbers-same}
 use Rattle.server_core.proofs.ServeLemmas.{served_at}
 use Rattle.server_core.proofs.StandLemmas.{at_mark}
-
--- the front of a queue, as a reference
-pub front_is : (r : Option (Bor (List ℕ))) (out : List (List ℕ)) → (IsNone r → out ≡ [])
-    → IfSome r (λ left. front_of out ≡ Some left.now) → option_copied r ≡ front_of out
-front_is None out empty first = sym (ap front_of (empty refl))
-front_is (Some left) out empty first = sym first
 
 -- what waits for a connection that is there
 pub waiting_there : (plant : Plant) (conn : Conn) (k : ServedConnection) → Stands plant conn k → k.gone ≡ false → waiting_of (Some k) ≡ conn.out
@@ -73,50 +68,6 @@ offer_is v waves x n s = elim (entry_or_not v.entries n) [
   | inr none ↦ read_absent offer_of_waiting None v.entries n none
       ∙ sym (no_offer (is_among n x.blocked) (waiting_at n x.state) (nothing_waits n x (absent_there v waves x n s none)))
 ]
-
--- what is offered: it is not blocked, and its first frame is there
-pub record IsOffer (w : Waiting) (left : List ℕ) : Type 0 where
-  pub free : w.blocked ≡ false
-  pub front : front_of w.out ≡ Some left
-
-pub is_offer : (w : Waiting) (left : List ℕ) → offer_of_waiting w ≡ Some left → IsOffer w left
-is_offer w left e = elim (cases_Bool w.blocked) [
-  | inl blocked ↦ absurd (let both = sym (cond-true w.blocked None (front_of w.out) blocked) ∙ e in cc)
-  | inr free ↦ record { free = free; front = sym (cond-false w.blocked None (front_of w.out) free) ∙ e }
-]
-
-pub fits_first : (n : ℕ) (w : Waiting) → IsSomeAnd (offer_of_waiting w) (λ left. n ≤ length left) → FitsFirst n w.out
-fits_first n w h = elim (cases_Bool w.blocked) [
-  | inl blocked ↦ absurd (subst (λ o. IsSomeAnd o (λ left. n ≤ length left)) (cond-true w.blocked None (front_of w.out) blocked) h)
-  | inr free ↦ subst (λ o. IsSomeAnd o (λ left. n ≤ length left)) (cond-false w.blocked None (front_of w.out) free) h
-]
-
--- fewer offers are left once bytes of one were taken
-pub fewer_left : (n : ℕ) (w u : Waiting) → IsSomeAnd (offer_of_waiting w) (λ left. n ≤ length left)
-    → u.out ≡ frames_after n w.out → u.blocked ≡ nat_lt n (length (first_left w.out))
-    → offers_of_waiting u < offers_of_waiting w
-fewer_left n w u h out blocked = elim (cases_Bool w.blocked) [
-  | inl b ↦ absurd (subst (λ o. IsSomeAnd o (λ left. n ≤ length left)) (cond-true w.blocked None (front_of w.out) b) h)
-  | inr free ↦
-      let fits = subst (λ o. IsSomeAnd o (λ left. n ≤ length left)) (cond-false w.blocked None (front_of w.out) free) h in
-      let before = cond-false w.blocked 0 (length w.out) free in
-      let after = ap (λ b. cond b 0 (length u.out)) blocked ∙ ap (λ (fs : List (List ℕ)). cond (nat_lt n (length (first_left w.out))) 0 (length fs)) out in
-      let less = by w.out fits in
-      omega (arith, before, after, less)
-]
-  where
-    by : (fs : List (List ℕ)) → IsSomeAnd (front_of fs) (λ left. n ≤ length left)
-        → cond (nat_lt n (length (first_left fs))) 0 (length (frames_after n fs)) < length fs
-    by [] h = absurd h
-    by (f ∷ fs) h = elim (cases_Bool (nat_lt n (length f))) [
-      | inl t ↦ let e = cond-true (nat_lt n (length f)) 0 (length (frames_after n (f ∷ fs))) t in omega (arith, e)
-      | inr t ↦
-          let not_less = ltb-false n (length f) t in
-          let e = cond-false (nat_lt n (length f)) 0 (length (frames_after n (f ∷ fs))) t in
-          let whole : (length f == n) ≡ true = grind (arith, h, not_less) in
-          let gone = ap (λ (gs : List (List ℕ)). length gs) (cond-true (length f == n) fs (drop n f ∷ fs) whole) in
-          omega (arith, e, gone)
-    ]
 
 -- whether it is to be shut
 pub closing_found : (v : ServerView) (waves : List Wave) (x : CoreState) (n i : ℕ) (t : Turned)

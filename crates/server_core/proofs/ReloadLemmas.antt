@@ -49,7 +49,8 @@ use Rattle.server_core.specs.Reloading.{Refuses, reloaded, Exchanges, Accepts}
 use Rattle.server_core.specs.Served.{served, World, ServedConnection, ServedState}
 use Rattle.session.specs.Reloading.{AreMoves, IsReloadable}
 use Rattle.server_core.specs.ServerView.{ServerView, view_of}
-use Rattle.server_core.specs.Serves.{present, EachStands, StandsEach, ServesEach, ServesSome, IsServing, FollowsEach}
+use Rattle.server_core.specs.Serves.{EachStands, StandsEach, ServesEach, ServesSome, IsServing, FollowsEach}
+use Rattle.spec_connections.specs.Present.{present}
 use Rattle.server_core.proofs.AskedLemmas.{all_follow, counted_all}
 use Rattle.server_core.proofs.ServeLemmas.{held_on}
 use Rattle.server_core.proofs.TickLemmas.{all_cons}

@@ -1,10 +1,9 @@
 -- All frames that wait of a connection are lent in one run, and taken, each whole.
-use Rattle.std.proofs.Common.{◌≡◌, ℕ, zero, suc, ◌<◌, ◌≤◌, List, [], ◌∷◌, length, drop, get_or, true, false, Bor}
+use Rattle.std.proofs.Common.{◌≡◌, ℕ, zero, suc, ◌<◌, ◌≤◌, List, [], ◌∷◌, length, get_or, true, false}
 use Rattle.std.proofs.Common.{refl, sym, ap, ◌∙◌, subst, inl, inr, arith, append-nil}
-use Rattle.std.specs.Prelude.{◌==◌, ◌↔◌, nat_lt, slice_get, Option, Some, None, IsNone, IsSome, IsSomeAnd, IfSome, option_copied, option_map}
-use Rattle.std.specs.List.{concat}
-use Rattle.std.specs.Map.{keys_of, values_of}
-use Rattle.std.proofs.lemmas.Bool.{cases_Bool, le-ltb, eq-eqb, cond-true, cond-false}
+use Rattle.std.specs.Prelude.{nat_lt, slice_get, Option, Some, None, IsSome, IsSomeAnd}
+use Rattle.std.specs.Map.{values_of}
+use Rattle.std.proofs.lemmas.Bool.{cond-false}
 use Rattle.indexmap.specs.IndexMap.{set_value_at}
 use Rattle.indexmap.specs.Layout.{length-set_value_at}
 use Rattle.signals.specs.Wave.{Wave}
@@ -12,15 +11,18 @@ use Rattle.ads_outside.specs.declared.moves.Move.TheVariants as move
 use Rattle.ads_outside.specs.Wholes.{wholes}
 use Rattle.ads_served.specs.Due.{IsRun}
 use Rattle.ads_served.specs.Standing.{Standing, Noting, standing_after, standing_after_all}
-use Rattle.spec_machine.specs.Offers.{is_among, waiting_of, waiting_at}
+use Rattle.spec_machine.specs.Moves.{state_after}
+use Rattle.spec_machine.specs.Offers.{blocked_after, is_among, waiting_of, waiting_at}
 use Rattle.out_queue.specs.Queue.{front_of, frames_after}
+use Rattle.spec_connections.proofs.EntryLemmas.{keys_set}
+use Rattle.spec_connections.proofs.LentLemmas.{IsLent, is_lent, whole_after, not_short}
 use Rattle.server_core.specs.declared.waiting.Waiting.{Waiting}
 use Rattle.server_core.specs.Served.{World, Client, served_step}
 use Rattle.server_core.specs.Conns.{Conn, conn_of}
-use Rattle.server_core.specs.ConnStands.{first_left}
+use Rattle.spec_connections.specs.Offering.{first_left}
 use Rattle.server_core.specs.CoreState.{CoreState, after_move, after_moves}
 use Rattle.server_core.specs.Entries.{IsEntry, IsNoEntry}
-use Rattle.server_core.specs.Places.{offer_of_waiting, offer_among, some_frames, run_of_waiting, run_among}
+use Rattle.server_core.specs.Places.{offer_of_waiting, offer_among, run_of_waiting, run_among}
 use Rattle.server_core.specs.ServerView.{ServerView}
 use Rattle.server_core.specs.Serves.{CoreView, Serves, ServesEach, ServesSome, HasCounts, FollowsEach, StandsAt, conns_in}
 use Rattle.server_core.proofs.ConnLemmas.{conn_here, entry_is_place, some_turned}
@@ -30,35 +32,9 @@ use Rattle.server_core.proofs.ServeLemmas.{served_at}
 use Rattle.server_core.proofs.StandLemmas.{at_mark}
 use Rattle.server_core.proofs.WaitLemmas.{with_waiting, took_at}
 
--- all of a queue, as a reference
-pub run_is : (r : Option (Bor (List ℕ))) (out : List (List ℕ)) → (IsNone r ↔ (out ≡ [])) → IfSome r (λ run. concat out ≡ run.now)
-    → option_copied r ≡ option_map concat (some_frames out)
-run_is None out empty all = sym (ap (λ fs. option_map concat (some_frames fs)) (empty.0 refl))
-run_is (Some run) [] empty all = absurd (let e : true ≡ false = empty.1 refl in cc)
-run_is (Some run) (f ∷ fs) empty all = ap Some (sym all)
-
--- what is lent: it is not blocked, these frames wait, and there is one
-pub record IsLent (w : Waiting) (frames : List (List ℕ)) : Type 0 where
-  pub free : w.blocked ≡ false
-  pub out : w.out ≡ frames
-  pub some : some_frames frames ≡ Some frames
-
-frames_are : (fs frames : List (List ℕ)) → some_frames fs ≡ Some frames → fs ≡ frames
-frames_are [] frames e = absurd (let none : ◌≡◌ {A = Option (List (List ℕ))} None (Some frames) = e in cc)
-frames_are (f ∷ fs) frames e = let all : ◌≡◌ {A = Option (List (List ℕ))} (Some (f ∷ fs)) (Some frames) = e in cc
-
-pub is_lent : (w : Waiting) (frames : List (List ℕ)) → run_of_waiting w ≡ Some frames → IsLent w frames
-is_lent w frames e = elim (cases_Bool w.blocked) [
-  | inl blocked ↦ absurd (let both = sym (cond-true w.blocked None (some_frames w.out) blocked) ∙ e in cc)
-  | inr free ↦
-      let some : some_frames w.out ≡ Some frames = sym (cond-false w.blocked None (some_frames w.out) free) ∙ e in
-      let out = frames_are w.out frames some in
-      record { free = free; out = out; some = sym (ap some_frames out) ∙ some }
-]
-
 -- the frames that are lent are those of the machine that wait, and it is not blocked there
 run_found : (v : ServerView) (waves : List Wave) (x : CoreState) (n : ℕ) (frames : List (List ℕ))
-    → ServesEach v waves x → (e : HasEntry v.entries n) → IsLent e.waiting frames → IsRun n x frames
+    → ServesEach v waves x → (e : HasEntry v.entries n) → IsLent e.waiting.blocked e.waiting.out frames → IsRun n x frames
 run_found v waves x n frames s e lent =
     let i = e.i in
     let conns = conns_in v in
@@ -77,16 +53,11 @@ pub run_waits : (v : ServerView) (waves : List Wave) (x : CoreState) (n : ℕ) (
     → ServesEach v waves x → run_among v.entries n ≡ Some frames → IsRun n x frames
 run_waits v waves x n frames s some = elim (entry_or_not v.entries n) [
   | inl e ↦ run_found v waves x n frames s e
-      (is_lent e.waiting frames (sym (read_at run_of_waiting None v.entries n e.i e.waiting e.place e.value) ∙ some))
+      (is_lent e.waiting.blocked e.waiting.out frames (sym (read_at run_of_waiting None v.entries n e.i e.waiting e.place e.value) ∙ some))
   | inr none ↦ absurd (let both = sym (read_absent run_of_waiting None v.entries n none) ∙ some in cc)
 ]
 
 -- another that waits at a place
-keys_set : (es : List (ℕ × Waiting)) (i : ℕ) (w : Waiting) → keys_of (set_value_at es i w) ≡ keys_of es
-keys_set [] i w = refl
-keys_set (e ∷ es) zero w = refl
-keys_set (e ∷ es) (suc i) w = ap (λ ks. e.0 ∷ ks) (keys_set es i w)
-
 value_set : (es : List (ℕ × Waiting)) (i : ℕ) (w : Waiting) → i < length es → slice_get (values_of (set_value_at es i w)) i ≡ Some w
 value_set [] i w below = absurd (omega (arith, below))
 value_set (e ∷ es) zero w below = refl
@@ -103,13 +74,6 @@ entry_set es n i w at = record {
   number = λ d. ap (λ (ks : List ℕ). get_or ks i d) (keys_set es i w) ∙ at.number d;
   first = λ k d below same. at.first k d below (sym (ap (λ (ks : List ℕ). get_or ks k d) (keys_set es i w)) ∙ same);
 }
-
--- a frame that is taken whole is gone, and that does not block
-whole_after : (f : List ℕ) (fs : List (List ℕ)) → frames_after (length f) (f ∷ fs) ≡ fs
-whole_after f fs = cond-true (length f == length f) fs (drop (length f) f ∷ fs) (eq-eqb (length f) (length f) refl)
-
-not_short : (n : ℕ) → nat_lt n n ≡ false
-not_short n = le-ltb n n (omega arith)
 
 -- the first of the frames that wait is taken whole
 whole_at : (v : ServerView) (waves : List Wave) (x : CoreState) (n i : ℕ) (a b : Waiting) (f : List ℕ) (fs : List (List ℕ))
@@ -134,6 +98,7 @@ wholes_at : (v : ServerView) (waves : List Wave) (x : CoreState) (n i : ℕ) (a 
     → ServesEach v waves x → IsEntry v.entries n i → slice_get (values_of v.entries) i ≡ Some a
     → a.blocked ≡ false → a.out ≡ f ∷ fs → b.out ≡ [] → b.blocked ≡ false
     → FollowsEach v (with_waiting v i b) waves x (after_moves x (wholes n (f ∷ fs)))
+unfolding state_after blocked_after
 wholes_at v waves x n i a b f [] serves place value free waits out open_ = whole_at v waves x n i a b f [] serves place value free waits out open_
 wholes_at v waves x n i a b f (g ∷ gs) serves place value free waits out open_ =
     let mid : Waiting = record a { out = g ∷ gs } in
@@ -152,9 +117,9 @@ pub run_taken : (v : ServerView) (waves : List Wave) (x : CoreState) (n i : ℕ)
     → run_among v.entries n ≡ Some frames → b.out ≡ [] → b.blocked ≡ false
     → FollowsEach v (with_waiting v i b) waves x (after_moves x (wholes n frames))
 run_taken v waves x n i a b frames serves place value some out open_ =
-    by frames (is_lent a frames (sym (read_at run_of_waiting None v.entries n i a place value) ∙ some))
+    by frames (is_lent a.blocked a.out frames (sym (read_at run_of_waiting None v.entries n i a place value) ∙ some))
   where
-    by : (gs : List (List ℕ)) → IsLent a gs → FollowsEach v (with_waiting v i b) waves x (after_moves x (wholes n gs))
+    by : (gs : List (List ℕ)) → IsLent a.blocked a.out gs → FollowsEach v (with_waiting v i b) waves x (after_moves x (wholes n gs))
     by [] lent = absurd (let none : ◌≡◌ {A = Option (List (List ℕ))} None (Some []) = lent.some in cc)
     by (f ∷ fs) lent = wholes_at v waves x n i a b f fs serves place value lent.free lent.out out open_
 
@@ -179,7 +144,7 @@ run_some v w waves n s lent follows = by (run_among v.entries n) refl lent
 pub stands_wholes : (noted : Noting World Client) (core : CoreView) (n : ℕ) (frames : List (List ℕ)) (x : Standing World Client)
     → Serves core (after_moves x.running (wholes n frames)) → HasCounts core (after_moves x.running (wholes n frames))
     → core.server.notes ≡ x.notes → StandsAt core (standing_after_all served_step noted x (wholes n frames))
-unfolding standing_after_all
+unfolding standing_after_all state_after blocked_after
 stands_wholes noted core n [] x serves counted notes = record { serves = serves; counted = counted; notes = notes }
 stands_wholes noted core n (f ∷ fs) x serves counted notes =
     stands_wholes noted core n fs (standing_after served_step noted x (move.Took n (length f) f)) serves counted (notes ∙ sym (append-nil x.notes))

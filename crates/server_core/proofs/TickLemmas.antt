@@ -26,7 +26,8 @@ use Rattle.server_core.specs.Delivering.{Outcomes, after_given, DeliversAll}
 use Rattle.server_core.specs.HoldsWorld.{HoldsState}
 use Rattle.server_core.specs.Served.{served, World, ServedConnection, ServedState}
 use Rattle.server_core.specs.ServerView.{ServerView}
-use Rattle.server_core.specs.Serves.{EachStands, ServesEach, ServesSome, FollowsEach, present}
+use Rattle.server_core.specs.Serves.{EachStands, ServesEach, ServesSome, FollowsEach}
+use Rattle.spec_connections.specs.Present.{present}
 use Rattle.server_core.proofs.AskedLemmas.{all_follow, counted_all}
 
 -- what holds of the first and of the others

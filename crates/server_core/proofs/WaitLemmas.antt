@@ -17,7 +17,8 @@ use Rattle.out_queue.specs.Queue.{frames_after, FitsFront}
 use Rattle.server_core.specs.declared.waiting.Waiting.{Waiting}
 use Rattle.server_core.specs.Served.{ServedConnection, ServedState}
 use Rattle.server_core.specs.Conns.{Conn, conn_of}
-use Rattle.server_core.specs.ConnStands.{Stands, FitsFirst, first_left}
+use Rattle.server_core.specs.ConnStands.{Stands}
+use Rattle.spec_connections.specs.Offering.{FitsFirst, first_left}
 use Rattle.server_core.specs.CoreState.{CoreState, after_event, after_move}
 use Rattle.server_core.specs.Entries.{IsEntry, IsNoEntry}
 use Rattle.server_core.specs.Places.{offer_of_waiting, offer_among}
@@ -26,12 +27,12 @@ use Rattle.server_core.specs.Serves.{ServesEach, FollowsEach, conns_in}
 use Rattle.server_core.proofs.ConnLemmas.{conn_here, some_turned, no_entry_is_absent, entry_is_place}
 use Rattle.server_core.proofs.CountLemmas.{same_counts}
 use Rattle.server_core.proofs.EntryLemmas.{read_at}
-use Rattle.server_core.proofs.OfferLemmas.{is_offer, fits_first}
-use Rattle.server_core.proofs.QueueLemmas.{left_after-took, took_fits, fits_front}
+use Rattle.spec_connections.proofs.OfferLemmas.{is_offer, fits_first}
+use Rattle.spec_connections.proofs.QueueLemmas.{left_after-took, took_fits, fits_front}
 use Rattle.server_core.proofs.ServeLemmas.{served_at, waiting_follows}
 use Rattle.server_core.proofs.StandLemmas.{stands_writable, writable_list, writable-other, writable-same}
 use Rattle.server_core.proofs.StandLemmas.{at_mark, blocked_list, took-other, took-same, took_exchange}
-use Rattle.server_core.proofs.StateLemmas.{put_back-itself}
+use Rattle.spec_connections.proofs.StateLemmas.{put_back-itself}
 
 -- the same view with another that waits at a place
 abbrev pub with_waiting : ServerView → ℕ → Waiting → ServerView
@@ -104,8 +105,8 @@ took_at v waves x n i a b m left bytes serves place value offered taken fits out
     let at_entry = entry_is_place v.sessions v.entries n i serves.aligned place in
     let at = served_at v waves x n i d serves place in
     let read = read_at offer_of_waiting None v.entries n i a place value in
-    let offer = is_offer a left (sym read ∙ offered) in
-    let first = fits_first m a (subst (λ o. IsSomeAnd o (λ (l : List ℕ). m ≤ length l)) read fits) in
+    let offer = is_offer a.blocked a.out left (sym read ∙ offered) in
+    let first = fits_first m a.blocked a.out (subst (λ o. IsSomeAnd o (λ (l : List ℕ). m ≤ length l)) read fits) in
     let q = length bytes in
     let short = nat_lt q (length left) in
     let out_q : b.out ≡ frames_after q a.out = out ∙ ap (λ j. frames_after j a.out) (sym taken) in

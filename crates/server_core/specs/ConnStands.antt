@@ -1,11 +1,10 @@
 -- What the code keeps of a connection stands for a connection of the machine.
 -- No public clause cites this file.
-use Rattle.std.specs.Prelude.{◌≡◌, ℕ, ◌≤◌, false, List, [], length, map, IsSomeAnd, unwrap_or}
+use Rattle.std.specs.Prelude.{◌≡◌, ◌≤◌, false, length, map}
 use Rattle.spec_plant.specs.World.{Plant}
 use Rattle.ams_tcp.specs.History.{History, Represents}
 use Rattle.spec_machine.specs.Connection.{bytes_of, bytes_of_all}
 use Rattle.spec_machine.specs.Offers.{left_after}
-use Rattle.out_queue.specs.Queue.{front_of}
 use Rattle.session.specs.StandsFor.{StandsFor}
 use Rattle.server_core.specs.declared.summary.Summary.{Summary}
 use Rattle.server_core.specs.declared.device.Device.{Device}
@@ -37,11 +36,3 @@ pub record Goes (new : Conn) (device : Device) (old_counts new_counts : Summary)
   pub signals : after.world.signals ≡ before.world.signals
   pub counted : Counts old_counts new_counts before.connection after.connection
   pub gone : after.connection.gone ≡ before.connection.gone
-
--- at most the bytes that are left of the first frame
-abbrev pub FitsFirst : ℕ → List (List ℕ) → Type 0
-FitsFirst n out = IsSomeAnd (front_of out) (λ left. n ≤ length left)
-
--- what is left of the first frame
-abbrev pub first_left : List (List ℕ) → List ℕ
-first_left out = unwrap_or (front_of out) []

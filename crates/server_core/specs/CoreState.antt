@@ -1,5 +1,5 @@
 -- What a core stands for: a state of the machine that it serves, and the connections that are blocked.
-use Rattle.std.specs.Prelude.{List, [], ◌∷◌}
+use Rattle.std.specs.Prelude.{List, []}
 use Rattle.signals.specs.Wave.{Wave}
 use Rattle.ads_outside.specs.declared.event.Event.{Event}
 use Rattle.ads_outside.specs.declared.moves.Move.{Move}
@@ -8,6 +8,7 @@ use Rattle.spec_plant.specs.Description.{Description}
 use Rattle.spec_machine.specs.Running.{Running, running_after}
 pub use Rattle.spec_machine.specs.Running.{OpensNew, offer_at, is_to_be_shut, is_to_be_shut_at}
 use Rattle.spec_server.specs.Server.{server_start}
+use Rattle.ads_served.specs.Standing.{running_after_all}
 use Rattle.server_core.specs.Served.{World, Client, served_step}
 
 abbrev pub CoreState : Type 0
@@ -21,8 +22,7 @@ abbrev pub after_move : CoreState → Move → CoreState
 after_move x m = running_after served_step x m
 
 abbrev pub after_moves : CoreState → List Move → CoreState
-after_moves x [] = x
-after_moves x (m ∷ ms) = after_moves (after_move x m) ms
+after_moves x ms = running_after_all served_step x ms
 
 abbrev pub after_event : CoreState → Event → CoreState
 after_event x e = after_move x (move.Event e)

@@ -1,19 +1,14 @@
 -- What is kept of connections by their numbers, and how it changes. No public clause cites this file.
-use Rattle.std.specs.Prelude.{◌≡◌, ◌≢◌, ℕ, ◌<◌, List, [], ◌∷◌, ◌++◌, length, slice_index_or, remove, All, false}
+use Rattle.std.specs.Prelude.{◌≡◌, ◌≢◌, ℕ, ◌<◌, List, [], ◌∷◌, ◌++◌, length, remove, All, false}
 use Rattle.std.specs.Map.{keys_of}
 use Rattle.spec_plant.specs.World.{Plant}
 use Rattle.spec_machine.specs.Client.{new_client}
 use Rattle.ams_tcp.specs.History.{Represents, nothing_fed}
 use Rattle.session.specs.StandsFor.{StandsFor}
+pub use Rattle.spec_connections.specs.Entries.{IsEntry}
 use Rattle.server_core.specs.declared.turned.Turned.{Turned}
 use Rattle.server_core.specs.declared.waiting.Waiting.{Waiting}
 use Rattle.server_core.specs.declared.clients.Clients.{Clients}
-
--- the first entry of this number stands here
-pub record IsEntry (es : List (ℕ × Waiting)) (n i : ℕ) : Type 0 where
-  pub within : i < length es
-  pub number : (d : ℕ) → slice_index_or (keys_of es) i d ≡ n
-  pub first : (k : ℕ) (d : ℕ) → k < i → slice_index_or (keys_of es) k d ≢ n
 
 abbrev pub IsNoEntry : List (ℕ × Waiting) → ℕ → Type 0
 IsNoEntry es n = All (λ k. k ≢ n) (keys_of es)

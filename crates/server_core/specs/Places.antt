@@ -1,7 +1,7 @@
 -- The connections of the code as a list, found by their numbers.
 use Rattle.std.specs.Prelude.{◌≡◌, ◌≢◌, ℕ, ◌<◌, List, [], ◌∷◌, length, slice_index_or, All}
-use Rattle.std.specs.Prelude.{◌==◌, if◌then◌else◌, Option, Some, None}
-use Rattle.out_queue.specs.Queue.{front_of}
+use Rattle.std.specs.Prelude.{◌==◌, if◌then◌else◌, Option, None}
+use Rattle.spec_connections.specs.Offering.{offer_of, offers_of, run_of}
 use Rattle.server_core.specs.declared.waiting.Waiting.{Waiting}
 use Rattle.server_core.specs.Conns.{Conn}
 
@@ -21,26 +21,21 @@ read_among read none (e ∷ es) n = if e.0 == n then read e.1 else read_among re
 
 -- what a connection is offered: what is left of its first frame, unless it is blocked
 abbrev pub offer_of_waiting : Waiting → Option (List ℕ)
-offer_of_waiting w = if w.blocked then None else front_of w.out
+offer_of_waiting w = offer_of w.blocked w.out
 
 abbrev pub offer_among : List (ℕ × Waiting) → ℕ → Option (List ℕ)
 offer_among es n = read_among offer_of_waiting None es n
 
--- frames that are lent in one run: all of them, where there is one
-abbrev pub some_frames : List (List ℕ) → Option (List (List ℕ))
-some_frames [] = None
-some_frames (f ∷ fs) = Some (f ∷ fs)
-
 -- what is lent of a connection: the frames that wait for it, unless it is blocked
 abbrev pub run_of_waiting : Waiting → Option (List (List ℕ))
-run_of_waiting w = if w.blocked then None else some_frames w.out
+run_of_waiting w = run_of w.blocked w.out
 
 abbrev pub run_among : List (ℕ × Waiting) → ℕ → Option (List (List ℕ))
 run_among es n = read_among run_of_waiting None es n
 
 -- how many frames wait for it, unless it is blocked
 abbrev pub offers_of_waiting : Waiting → ℕ
-offers_of_waiting w = if w.blocked then 0 else length w.out
+offers_of_waiting w = offers_of w.blocked w.out
 
 abbrev pub offers_among : List (ℕ × Waiting) → ℕ → ℕ
 offers_among es n = read_among offers_of_waiting 0 es n

@@ -1,7 +1,8 @@
 -- A core stands for a state of the machine.
-use Rattle.std.specs.Prelude.{◌≡◌, ℕ, List, [], ◌∷◌, ◌≤◌, length, filter, not, is_some, true, false, Bool, Option, None, IsSomeAnd}
+use Rattle.std.specs.Prelude.{◌≡◌, ℕ, List, [], ◌∷◌, ◌≤◌, length, filter, is_some, true, false, Bool, Option, None, IsSomeAnd}
 use Rattle.signals.specs.Wave.{Wave}
 use Rattle.spec_plant.specs.World.{Plant}
+use Rattle.spec_connections.specs.Present.{present}
 use Rattle.spec_machine.specs.Connection.{connection_of}
 use Rattle.spec_machine.specs.Offers.{is_among}
 use Rattle.spec_machine.specs.Summary.{summary_of}
@@ -23,8 +24,6 @@ pub record CoreView : Type 0 where
   pub failed : Bool
 
 -- the connections that are there
-abbrev pub present : List ServedConnection → List ServedConnection
-present ks = filter (λ (k : ServedConnection). not k.gone) ks
 
 abbrev pub EachStands : Plant → List Conn → List ServedConnection → Type 0
 EachStands plant [] [] = Unit {0}

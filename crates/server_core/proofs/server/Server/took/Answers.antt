@@ -4,7 +4,7 @@ use Rattle.std.specs.Prelude.{IsSomeAnd}
 use Rattle.server_core.specs.ServerView.{view_of}
 use Rattle.server_core.specs.Places.{offer_of_waiting, offers_of_waiting, offers_among}
 use Rattle.server_core.proofs.EntryLemmas.{read_at, read_absent, read_set}
-use Rattle.server_core.proofs.OfferLemmas.{fits_first, fewer_left}
+use Rattle.spec_connections.proofs.OfferLemmas.{fits_first, fewer_left}
 use Rattle.server_core.proofs.WaitLemmas.{took_at}
 use Rattle.server_core.proofs.server.Server.took.Goals as goal
 
@@ -13,7 +13,7 @@ took-requires c =
     let w = c.index_mut-waiting.result.now in
     let read = read_at offer_of_waiting None c.args.self.now.clients.waiting.entries
     c.args.connection c.in-Some.i w c.in-Some.ensures.found c.index_mut-waiting.ensures.value in
-    fits_first c.args.n w (subst (λ o. IsSomeAnd o (λ (left : List ℕ). c.args.n ≤ length left)) read c.requires)
+    fits_first c.args.n w.blocked w.out (subst (λ o. IsSomeAnd o (λ (left : List ℕ). c.args.n ≤ length left)) read c.requires)
 
 pub returns-in-Some-clause-follows : goal.returns-in-Some-clause-follows
 returns-in-Some-clause-follows c = λ waves x left bytes s offered taken.
@@ -28,7 +28,7 @@ returns-in-Some-clause-fewer c =
     let read = read_at offer_of_waiting None es c.args.connection c.in-Some.i w c.in-Some.ensures.found c.index_mut-waiting.ensures.value in
     let before = read_at offers_of_waiting 0 es c.args.connection c.in-Some.i w c.in-Some.ensures.found c.index_mut-waiting.ensures.value in
     let after = read_set offers_of_waiting 0 es c.args.connection c.in-Some.i c.took.new.self c.in-Some.ensures.found in
-    let less = fewer_left c.args.n w c.took.new.self
+    let less = fewer_left c.args.n w.blocked c.took.new.self.blocked w.out c.took.new.self.out
     (subst (λ o. IsSomeAnd o (λ (left : List ℕ). c.args.n ≤ length left)) read c.requires) c.took.ensures.out c.took.ensures.blocked in
     subst (λ (m : ℕ). m < offers_among es c.args.connection) (sym after) (subst (λ (m : ℕ). offers_of_waiting c.took.new.self < m) (sym before) less)
 
