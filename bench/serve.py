@@ -4,16 +4,18 @@
     python3 bench/serve.py PROGRAM [--quick] [--plot FILE.svg]     requests: a table (Markdown), and a drawing of the mixture
     python3 bench/serve.py PROGRAM --notes [--quick]               notifications: 512 on each of 64 connections, of a symbol that changes at each tick of 10 ms
     python3 bench/serve.py PROGRAM --minutes M                     the program's memory in M minutes of the mixture on 64 connections
-    python3 bench/serve.py PROGRAM --minutes M --reloads           the same with a reload each second, and of the 64 connections 16 with 512 notifications each
+    python3 bench/serve.py PROGRAM --minutes M --reloads           the same with a reload each second, and of the 64 connections 16 with 512 notifications each; in the
+                                                                   times between their frames, what the host kept of the processors (bench/stolen.c, by root)
 
 PROGRAM is crates/ads/out/ads, which `rt run -- selftest ../../examples/state.script` in crates/ads builds; gcc builds the C server and the load (bench/serve_client.c).
 
 The plant has 6,400 symbols of four bytes. Each connection asks over loopback for 100 of its own. What it must be told comes from bench/model.py: a wrong byte, or five
-seconds of nothing, ends the run with the connection and the byte. Of 20 requests of the mixture 6 are reads by group, 5 reads by handle, 2 writes by group, 2 writes
+seconds of nothing (a minute with --minutes), ends the run with the connection and the byte. Of 20 requests of the mixture 6 are reads by group, 5 reads by handle, 2 writes by group, 2 writes
 by handle, 4 states, and one a sum of 100 reads. Each figure is the median of five turns, in which both servers come one after the other, and each ratio the median of the turns'
 ratios; with --quick of one short turn. Processor time is that of all threads of the server. Other work on the machine spoils all figures, so its load average is told first.
 """
 import argparse
+import bisect
 import contextlib
 import itertools
 import math
@@ -97,13 +99,13 @@ class Bench:
     def __init__(self, stack, program, quick, command="serve", description=None):
         self.stack, self.quick, self.client = stack, quick, f"./{command}_client"
         os.chdir(stack.enter_context(tempfile.TemporaryDirectory()))
-        for name in (f"{command}_limit", f"{command}_client"):
+        for name in (f"{command}_limit", f"{command}_client", "stolen"):
             subprocess.run(["gcc", "-O2", "-pthread", "-o", name, f"{HERE}/{name}.c"], check=True)
         pathlib.Path("plant.toml").write_text(toml_of(description or plant(0, SYMBOLS)))
         self.servers = [self.serve([program, command, "plant.toml", "--events", str(2 ** 64 - 1), "--listen"], "127.0.0.1:"), self.serve([f"./{command}_limit"], "")]
 
     def start(self, command, **more):
-        process = subprocess.Popen(command, stdout=subprocess.PIPE, **more)
+        process = subprocess.Popen(command, **{"stdout": subprocess.PIPE, **more})
         self.stack.callback(process.wait)
         self.stack.callback(process.kill)
         return process
@@ -133,15 +135,20 @@ class Bench:
     def turn(self, number, numbers):
         """The figures of both servers, loaded one after the other, the C server first each second time."""
         order = self.servers[:: -1 if number % 2 else 1]
-        told = [figures(server, self.load(server, *numbers)) for server in order]
-        return told[:: -1 if number % 2 else 1]
+        turn = [figures(server, self.load(server, *numbers)) for server in order]
+        return turn[:: -1 if number % 2 else 1]
+
+
+def told(server, client):
+    """The numbers of each line that a load printed."""
+    said = client.stdout.read().splitlines()
+    if client.wait():
+        sys.exit(f"{server[1].args[0]} under {' '.join(client.args)}: status {client.returncode}")
+    return [[float(it) for it in line.split()] for line in said]
 
 
 def figures(server, client):
-    said = client.stdout.read().split()
-    if client.wait():
-        sys.exit(f"{server[1].args[0]} under {' '.join(client.args)}: status {client.returncode}")
-    count, took, cost, *gap = map(float, said)
+    count, took, cost, *gap = told(server, client)[-1]
     return count / took, 1e9 * cost / max(count, 1), *(1e3 * it for it in gap)
 
 
@@ -181,6 +188,7 @@ def memory(bench, minutes, reloads):
     if reloads:
         plan_all(lambda k: plan(k, [(6, words(0x4040, RAMP, 2, 4, 0, 0) + bytes(16))] * NOTES, [], 1))
         clients.append(bench.load(server, WATCHING, 0, 60 * minutes + 2))
+        watch = bench.start("./stolen", stdout=open("stolen.txt", "w"))
     began = time.monotonic()
     while all(client.poll() is None for client in clients) and time.monotonic() - began <= 60 * minutes:
         time.sleep(1)
@@ -191,11 +199,40 @@ def memory(bench, minutes, reloads):
             held.append(resident(server[1]))
             print(f"{time.monotonic() - began:5.0f} s: {held[-1]:,} KiB", flush=True)
     for client, what in zip(clients, ("requests", "samples")):
-        rate, _, gap = figures(server, client)
-        print(f"{rate:,.0f} {what} a second" + (f", longest gap between two frames {gap:.1f} ms" if what == "samples" else ""))
+        *gaps, (count, took, *_) = told(server, client)
+        print(f"{count:,.0f} {what}, {count / took:,.0f} a second")
     if reloads:
+        tell_gaps(gaps, None if watch.poll() else stretches(pathlib.Path("stolen.txt")))
         print(f"{version:,} descriptions were written; version in the end {version_of(server)}")
     print(f"grown by {held[-1] - held[0]} KiB, of these {held[-1] - held[len(held) // 2]} in the second half")
+
+
+def stretches(file):
+    """When no or not each processor could be used, one such stretch behind another."""
+    joined = []
+    for begin, end in sorted(tuple(map(float, line.split())) for line in file.read_text().splitlines()[:-1]):
+        if joined and begin <= joined[-1][1]:
+            joined[-1][1] = max(end, joined[-1][1])
+        else:
+            joined.append([begin, end])
+    return joined
+
+
+def tell_gaps(gaps, stolen):
+    """Of the times of more than 50 ms between two frames of a connection the longest, and what of each was within a stretch in which the host kept a processor."""
+    print(f"{len(gaps):,} times more than 50 ms between two frames of a connection, at most {1e3 * max((end - begin for begin, end in gaps), default=0):.1f} ms")
+    if stolen is None:
+        print("whether the host kept processors is not known: only root may watch that")
+        return
+    ends = [end for _, end in stolen]
+    left = []
+    for begin, end in gaps:
+        first = bisect.bisect(ends, begin)
+        kept = itertools.takewhile(lambda it: it[0] < end, stolen[first:])
+        left.append((end - begin - sum(min(end, to) - max(begin, since) for since, to in kept), end - begin))
+    most, of = max(left, default=(0, 0))
+    print(f"the host kept a processor {len(stolen):,} times, {sum(end - begin for begin, end in stolen):.1f} s in all, at most {1e3 * max((end - begin for begin, end in stolen), default=0):.1f} ms")
+    print(f"but for these the longest time between two frames was {1e3 * most:.1f} ms (of {1e3 * of:.1f})")
 
 
 def change_description(version):

@@ -3,7 +3,8 @@
 //     serve_client PORT PROCESS CONNECTIONS DEPTH SECONDS <PLAN
 //
 // It prints how many replies came, in how many seconds, and the processor seconds of PROCESS meanwhile. With a DEPTH of 0 it asks for nothing, and prints so of samples
-// of notifications, and the longest time between two frames of a connection.
+// of notifications, and the longest time between two frames of a connection; above that a line for each time of more than 50 ms, when it began and ended by the monotonic
+// clock (of connections to which it was the same time, the longest). Five seconds of nothing end it, and where it goes on for more than a minute, a minute of nothing.
 //
 // The plan says of each connection: its own size; how many requests are asked once, in the beginning; how many there are with those behind, which are asked again and
 // again; where each of them begins, and its reply; then the bytes. Where notifications are added, a last reply to no request is the frame of a tick.
@@ -19,7 +20,7 @@
 #include <time.h>
 #include <unistd.h>
 
-enum { MOST = 64, ROOM = 262144 };
+enum { MOST = 64, ROOM = 262144, GAPS = 1 << 17 };
 
 static struct connection {
     int socket;
@@ -29,7 +30,9 @@ static struct connection {
     uint64_t bytes, replies, moment;
     double last; // when the last frame of a tick came
 } connections[MOST];
-static uint32_t plans[1 << 24], count, depth, workers;
+static uint32_t plans[1 << 24], count, depth, workers, patience = 5; // seconds of nothing
+static struct gap { double from, to; } gaps[GAPS];
+static uint32_t found;
 static double until, longest;
 
 static double now(clockid_t clock) {
@@ -55,6 +58,16 @@ static void compare(struct connection *c, const uint8_t *got, uint32_t size) {
     must(same == size, c, what);
 }
 
+// Between two frames of a connection was so much time.
+static void gap(double from, double to) {
+    struct gap *last = gaps + (found ? found - 1 : 0);
+    if (to - from > longest) longest = to - from;
+    if (to - from <= 0.05) return;
+    if (found && from < last->to) {
+        if (to - from > last->to - last->from) *last = (struct gap){from, to};
+    } else if (found < GAPS) gaps[found++] = (struct gap){from, to};
+}
+
 // The frame of a tick is the plan's, but for its moment, which rises, and the value of its samples, which is one more than the last. Frames that come while
 // notifications are still added have fewer samples, and are passed over.
 static void tick(struct connection *c, const uint8_t *got, uint32_t size) {
@@ -62,7 +75,7 @@ static void tick(struct connection *c, const uint8_t *got, uint32_t size) {
     uint8_t *want = c->wants + c->begin[c->heard].want, *end = c->wants + c->begin[c->heard + 1].want;
     uint64_t before = c->moment;
     uint16_t value;
-    if (c->last && told - c->last > longest) longest = told - c->last;
+    if (c->last) gap(c->last, told);
     c->last = told;
     if (c->heard < c->once) { c->bytes += size; return; }
     memcpy(&c->moment, got + 46, 8);
@@ -109,16 +122,17 @@ static int hear(struct connection *c) {
 // The connections first, first + workers.. ask what is asked once; or, if they have, what is asked again and again.
 static void *work(void *first) {
     struct epoll_event found[MOST];
-    int events = epoll_create1(0), open = 0;
+    int events = epoll_create1(0), open = 0, idle = 0;
     for (struct connection *c = connections + (uintptr_t)first; c < connections + count; c += workers) {
         epoll_ctl(events, EPOLL_CTL_ADD, c->socket, &(struct epoll_event){.events = EPOLLIN, .data.ptr = c});
         ask(c, c->asked ? depth : c->once);
         open += c->flying > 0;
     }
     while (open || now(CLOCK_MONOTONIC) < until) {
-        int n = epoll_wait(events, found, MOST, 5000);
-        for (struct connection *c = connections + (uintptr_t)first; n <= 0 && c < connections + count; c += workers)
-            must(open && !c->flying, c, "nothing for five seconds");
+        int n = epoll_wait(events, found, MOST, 100);
+        idle = n > 0 ? 0 : idle + 1; // a wait in which the machine stood still is one, too
+        for (struct connection *c = connections + (uintptr_t)first; idle >= 10 * (int)patience && c < connections + count; c += workers)
+            must(open && !c->flying, c, "nothing came for so long");
         for (int i = 0; i < n; i++) open -= hear(found[i].data.ptr);
     }
     close(events);
@@ -150,15 +164,17 @@ int main(int words, char **word) {
     for (uint32_t i = 0; i < count; i++) connections[i].replies = 0;
     workers = depth && count > 1 ? 2 : 1;
     double from = now(CLOCK_MONOTONIC), before = now(spent);
-    longest = 0;
+    longest = found = 0;
     until = from + atof(word[5]);
+    if (until - from > 60) patience = 60;
     if (workers > 1) pthread_create(&other, 0, work, (void *)1);
     work(0);
     if (workers > 1) pthread_join(other, 0);
     double took = now(CLOCK_MONOTONIC) - from, cost = now(spent) - before;
     for (struct connection *c = connections; c < connections + count; c++) {
         replies += c->replies;
-        if (!depth && until - c->last > longest) longest = until - c->last;
+        if (!depth) gap(c->last, until);
     }
+    for (uint32_t i = 0; i < found; i++) printf("%f %f\n", gaps[i].from, gaps[i].to);
     printf("%llu %f %f %f\n", (unsigned long long)replies, took, cost, longest);
 }
