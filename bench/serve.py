@@ -93,19 +93,23 @@ def plan_all(plan_of):
     pathlib.Path("plan").write_bytes(b"".join(map(plan_of, range(CONNECTIONS))))
 
 
+def compile_c(name):
+    subprocess.run(["gcc", "-O2", "-pthread", "-o", name, f"{HERE}/{name}.c"], check=True)
+
+
 class Bench:
     """Both servers, the C server last, and loads of them; all in a folder of their own, until the stack ends them."""
 
     def __init__(self, stack, program, quick, command="serve", description=None):
         self.stack, self.quick, self.client = stack, quick, f"./{command}_client"
         os.chdir(stack.enter_context(tempfile.TemporaryDirectory()))
-        for name in (f"{command}_limit", f"{command}_client", "stolen"):
-            subprocess.run(["gcc", "-O2", "-pthread", "-o", name, f"{HERE}/{name}.c"], check=True)
+        for name in (f"{command}_limit", f"{command}_client"):
+            compile_c(name)
         pathlib.Path("plant.toml").write_text(toml_of(description or plant(0, SYMBOLS)))
         self.servers = [self.serve([program, command, "plant.toml", "--events", str(2 ** 64 - 1), "--listen"], "127.0.0.1:"), self.serve([f"./{command}_limit"], "")]
 
-    def start(self, command, **more):
-        process = subprocess.Popen(command, **{"stdout": subprocess.PIPE, **more})
+    def start(self, command, stdout=subprocess.PIPE, **more):
+        process = subprocess.Popen(command, stdout=stdout, **more)
         self.stack.callback(process.wait)
         self.stack.callback(process.kill)
         return process
@@ -188,6 +192,7 @@ def memory(bench, minutes, reloads):
     if reloads:
         plan_all(lambda k: plan(k, [(6, words(0x4040, RAMP, 2, 4, 0, 0) + bytes(16))] * NOTES, [], 1))
         clients.append(bench.load(server, WATCHING, 0, 60 * minutes + 2))
+        compile_c("stolen")
         watch = bench.start("./stolen", stdout=open("stolen.txt", "w"))
     began = time.monotonic()
     while all(client.poll() is None for client in clients) and time.monotonic() - began <= 60 * minutes:
@@ -198,11 +203,14 @@ def memory(bench, minutes, reloads):
         if time.monotonic() - began >= 30 * len(held):
             held.append(resident(server[1]))
             print(f"{time.monotonic() - began:5.0f} s: {held[-1]:,} KiB", flush=True)
+    stolen = stretches(pathlib.Path("stolen.txt")) if reloads and watch.poll() is None else []
+    if reloads:
+        tell_stolen(stolen, watch.poll() is None)
     for client, what in zip(clients, ("requests", "samples")):
         *gaps, (count, took, *_) = told(server, client)
         print(f"{count:,.0f} {what}, {count / took:,.0f} a second")
     if reloads:
-        tell_gaps(gaps, None if watch.poll() else stretches(pathlib.Path("stolen.txt")))
+        tell_gaps(gaps, stolen)
         print(f"{version:,} descriptions were written; version in the end {version_of(server)}")
     print(f"grown by {held[-1] - held[0]} KiB, of these {held[-1] - held[len(held) // 2]} in the second half")
 
@@ -210,7 +218,7 @@ def memory(bench, minutes, reloads):
 def stretches(file):
     """When no or not each processor could be used, one such stretch behind another."""
     joined = []
-    for begin, end in sorted(tuple(map(float, line.split())) for line in file.read_text().splitlines()[:-1]):
+    for begin, end in sorted(tuple(map(float, line.split())) for line in file.read_text().splitlines()):
         if joined and begin <= joined[-1][1]:
             joined[-1][1] = max(end, joined[-1][1])
         else:
@@ -218,12 +226,23 @@ def stretches(file):
     return joined
 
 
-def tell_gaps(gaps, stolen):
-    """Of the times of more than 50 ms between two frames of a connection the longest, and what of each was within a stretch in which the host kept a processor."""
-    print(f"{len(gaps):,} times more than 50 ms between two frames of a connection, at most {1e3 * max((end - begin for begin, end in gaps), default=0):.1f} ms")
-    if stolen is None:
+def longest(times):
+    """In ms."""
+    return 1e3 * max((end - begin for begin, end in times), default=0)
+
+
+def tell_stolen(stolen, watched):
+    """What the host kept of the processors; in the last minute too, since a load that heard nothing may have ended there."""
+    if not watched:
         print("whether the host kept processors is not known: only root may watch that")
         return
+    last = [it for it in stolen if it[1] > time.monotonic() - 70]
+    print(f"the host kept a processor {len(stolen):,} times, {sum(end - begin for begin, end in stolen):.1f} s in all, at most {longest(stolen):.1f} ms (in the last minute {longest(last):.1f})")
+
+
+def tell_gaps(gaps, stolen):
+    """Of the times of more than 50 ms between two frames of a connection the longest, with and without what the host kept of each."""
+    print(f"{len(gaps):,} times more than 50 ms between two frames of a connection, at most {longest(gaps):.1f} ms")
     ends = [end for _, end in stolen]
     left = []
     for begin, end in gaps:
@@ -231,8 +250,7 @@ def tell_gaps(gaps, stolen):
         kept = itertools.takewhile(lambda it: it[0] < end, stolen[first:])
         left.append((end - begin - sum(min(end, to) - max(begin, since) for since, to in kept), end - begin))
     most, of = max(left, default=(0, 0))
-    print(f"the host kept a processor {len(stolen):,} times, {sum(end - begin for begin, end in stolen):.1f} s in all, at most {1e3 * max((end - begin for begin, end in stolen), default=0):.1f} ms")
-    print(f"but for these the longest time between two frames was {1e3 * most:.1f} ms (of {1e3 * of:.1f})")
+    print(f"without what the host kept of each at most {1e3 * most:.1f} ms (of {1e3 * of:.1f})")
 
 
 def change_description(version):

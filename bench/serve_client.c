@@ -130,9 +130,9 @@ static void *work(void *first) {
     }
     while (open || now(CLOCK_MONOTONIC) < until) {
         int n = epoll_wait(events, found, MOST, 100);
-        idle = n > 0 ? 0 : idle + 1; // a wait in which the machine stood still is one, too
+        idle = n > 0 ? 0 : idle + 1; // waits are counted, and not the time, so that a machine that stands still is no fault
         for (struct connection *c = connections + (uintptr_t)first; idle >= 10 * (int)patience && c < connections + count; c += workers)
-            must(open && !c->flying, c, "nothing came for so long");
+            must(open && !c->flying, c, patience == 5 ? "nothing for five seconds" : "nothing for a minute");
         for (int i = 0; i < n; i++) open -= hear(found[i].data.ptr);
     }
     close(events);

@@ -1,4 +1,4 @@
-// When the host of a virtual machine keeps its processors for itself: `stolen` prints, in seconds of the monotonic clock, when each such stretch of more than ten
+// The steal time of a virtual machine, that is, when its host keeps the processors for others: `stolen` prints, in seconds of the monotonic clock, when each such stretch of more than ten
 // milliseconds began and ended. On each processor a thread of the highest priority sleeps a millisecond at a time; where it wakes late, nothing could run there.
 // It ends with its parent, and at once with 1 where it may not have that priority (only root may).
 #define _GNU_SOURCE
