@@ -43,10 +43,14 @@ def taken(server, folder, place):
     out, _, status = tool("deploy.py", moved, place, *server.words())
     see(status == 0 and "these very bytes already" in out, f"deploy.py of the same bytes: {out}")
     other_net = changed(folder, "net.toml", ('net = "5.1.2.3.1.1"', 'net = "6.6.6.6.1.1"'))
-    out, err, status = tool("deploy.py", other_net, place, *server.words())
+    kept(place, text_of(place), 3, "1 of these lines take something away, and nothing was moved", other_net, place, *server.words())
+    out, err, status = tool("deploy.py", other_net, place, *server.words(), "--yes")
     see(status == 0 and "version 2 became 3" in out, f"deploy.py of another NetId: {out}{err}")
-    out, err, status = tool("deploy.py", PLANT, place, *server.words(net="6.6.6.6.1.1"))
-    see(status == 0 and "version 3 became 4" in out, f"deploy.py back: {out}{err}")
+    see(text_of(place + ".before") == text_of(moved), "the description before is not kept beside the new one")
+    out, err, status = tool("deploy.py", place, "--rollback", *server.words(net="6.6.6.6.1.1"))
+    see(status == 0 and "version 3 became 4" in out and text_of(place) == text_of(moved), f"deploy.py --rollback: {out}{err}")
+    out, err, status = tool("deploy.py", PLANT, place, *server.words())
+    see(status == 0 and "moved: Main.count of port 851: from data byte 100 to data byte 0" in out and "version 4 became 5" in out, f"deploy.py back: {out}{err}")
 
 
 def stays_out(server, folder, place):
@@ -71,13 +75,55 @@ def stays_out(server, folder, place):
     see(text_of(aside) == text_of(other), "the description stands where it was to stand")
 
 
-def tried(program):
-    refused(1, "DESCRIPTION and PLACE and --to", "deploy.py")
+# A change of plant.toml, what the plan says of it, and whether something is lost.
+PLANNED = [
+    ([("offset = 0", "offset = 100")], ["6 symbols keep value, handles and notifications, 1 of them at another place",
+     "moved: Main.count of port 851: from data byte 0 to data byte 100; handles and notifications go on, clients by index offset reach other bytes"], False),
+    ([('type = "UINT"', 'type = "DINT"')], ["5 symbols keep value, handles and notifications",
+     "value lost: Main.wave of port 851: its type was UINT and is DINT, so it begins anew; its handles are refused with 0x711, its notifications end"], True),
+    ([('type = "STRING(5)"', 'type = "STRING(6)"')], ["value lost: Main.axis of port 851: member label of Axis was STRING(5) and is STRING(6), so it begins anew; "
+     "its handles are refused with 0x711, its notifications end"], True),
+    ([('name = "pos"', 'name = "POS"')], ["6 symbols keep value, handles and notifications", "nothing else changes for a client"], False),
+    ([('name = "Flags.bits"', 'name = "Flags.other"')], ["gone: Flags.bits of port 851: its value is lost, its handles are refused with 0x711, its notifications end",
+     "new: Flags.other of port 851"], True),
+    ([('rights = "control"', 'rights = "read"')], [f"rights taken away: {ME} had control and has read"], True),
+    ([('rights = "read"', 'rights = "write"')], ["rights given: 192.168.0.10.1.1 had read and has write"], False),
+    ([('net = "192.168.0.10.1.1"', 'net = "192.168.0.11.1.1"')], ["route taken away: 192.168.0.10.1.1 is turned away at its next request; "
+     "until then it goes on receiving notifications", "rights given: 192.168.0.11.1.1 may read"], True),
+    ([("port = 851", "port = 852")], ["port gone: 851: requests to it are answered 0x6 target port not found; its 6 symbols, their handles and notifications end",
+     "new port: 852 with 6 symbols"], True),
+    ([("persistent = true\n", "")], ["saved no more: Main.title of port 851: it is persistent no more, so its value is saved no more"], True),
+    ([("signal = 2", "read_only = true")], ["read-only now: Main.wave of port 851: no client may write it any more"], True),
+    ([("schema = 1", "schema = 2"), ('signal = 2', f'writers = ["{ME}"]')], [f"writers taken away: Main.wave of port 851: written by every route that may write, and now by {ME} alone"], True),
+]
+
+
+def planned(program, folder):
+    """What --plan says; it moves nothing, and needs no server."""
+    for number, (pairs, lines, is_loss) in enumerate(PLANNED):
+        out, err, status = tool("deploy.py", changed(folder, f"planned{number}.toml", *pairs), PLANT, "--plan")
+        see(status == (3 if is_loss else 0) and all(line in out.splitlines() for line in lines), f"the plan of {pairs}: status {status}: {out}{err}")
+    script, store = os.path.join(folder, "keep.script"), os.path.join(folder, "store")
+    shutil.copy(os.path.join(EXAMPLES, "keep.script"), script)
+    see(run_program(program, "keep", PLANT, script, store)[1] == 0, "no store was written")
+    out, _, status = tool("deploy.py", changed(folder, "same.toml", ("offset = 0", "offset = 104")), PLANT, "--plan", "--store", store)
+    see(status == 0 and "store: 1 of 1 values fit the new description" in out.splitlines(), f"a plan with a store: {out}")
+    out, _, status = tool("deploy.py", changed(folder, "other.toml", ('type = "STRING(7)"', 'type = "STRING(6)"'), ('initial = "4d69780000000000"', "")), PLANT, "--plan", "--store", store)
+    see(status == 3 and "stored value dropped: Main.title of port 851: its type is another" in out.splitlines(), f"a plan that drops a stored value: {out}")
+    refused(4, "No such file", "deploy.py", PLANT, PLANT, "--plan", "--store", os.path.join(folder, "nothing"))
+
+
+def tried(program, _size):
+    refused(1, "DESCRIPTION is wanted", "deploy.py")
+    refused(1, "--to and --netid and --me are wanted", "deploy.py", "a", "b")
+    refused(1, "--rollback goes with PLACE alone", "deploy.py", "a", "b", "--rollback")
     refused(1, "--wait is a number", "deploy.py", "a", "b", "--to", "x", "--netid", NET, "--me", ME, "--wait", "no")
     with tempfile.TemporaryDirectory() as folder:
         place = os.path.join(folder, "plant.toml")
         shutil.copy(PLANT, place)
+        planned(program, folder)
+        refused(4, "no description was deployed over another", "deploy.py", place, "--rollback", "--to", "127.0.0.1:1", "--netid", NET, "--me", ME)
         with Served(program, place) as server:
             taken(server, folder, place)
             stays_out(server, folder, place)
-    return "four descriptions taken, among them another NetId; nine kept out of the place"
+    return f"five descriptions taken, among them another NetId and a rollback; ten kept out of the place; {len(PLANNED) + 2} plans"

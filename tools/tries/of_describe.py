@@ -166,7 +166,7 @@ def of_served(program, folder):
             see('net = "10.0.0.1.1.1"\nrights = "read"' in file.read(), "describe.py --route")
 
 
-def tried(program):
+def tried(program, _size):
     with tempfile.TemporaryDirectory() as folder:
         text, _ = round_trip(program, folder, PLANT)
         see("#" not in text.split("\n", 1)[1], f"plant.toml is described with nothing left out: {text}")

@@ -73,7 +73,7 @@ def bad_words(folder):
         refused(3, f"is no log of this script: {part}", "frames.py", "words", PLANT, os.path.join(EXAMPLES, "plant.script"), name)
 
 
-def tried(program):
+def tried(program, _size):
     out, _, status = tool("frames.py", "play", PLANT, WORDS, "--expect", "--program", program)
     see(status == 0, f"requests.words is answered otherwise:\n{out}")
     with tempfile.TemporaryDirectory() as folder:

@@ -92,8 +92,8 @@ def wrong_words():
     refused(4, "Is a directory", "why.py", "/")
 
 
-def tried(program, seed, count):
-    found = Counter()
+def tried(program, size):
+    found, count, seed = Counter(), size.of(1000, 200), size.seed
     with tempfile.TemporaryDirectory() as folder, concurrent.futures.ThreadPoolExecutor(4) as pool:
         examples(program, folder)
         wrong_words()

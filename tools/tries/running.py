@@ -15,7 +15,26 @@ class Wrong(Exception):
     """What differs from what must come."""
 
 
+class Size:
+    """How much of random inputs is tried, and from which seed."""
+
+    def __init__(self, quick, seed=1):
+        self.quick, self.seed = quick, seed
+
+    def of(self, whole, quick):
+        return quick if self.quick else whole
+
+
+LOOKS = [0]
+
+
+def looks():
+    """How often this process has looked at what a tool does."""
+    return LOOKS[0]
+
+
 def see(holds, what):
+    LOOKS[0] += 1
     if not holds:
         raise Wrong(what)
 
