@@ -28,7 +28,7 @@ use Rattle.spec_machine.specs.Replies.{performed}
 use Rattle.spec_machine.specs.Ticks.{signal_puts, world_after_tick, client_after_tick}
 use Rattle.spec_machine.specs.Reloads.{is_kept, world_after_reload, client_reloaded}
 use Rattle.spec_machine.specs.AdsDevice.{DescriptionReading, reloading, ads_device, server_step}
-use Rattle.spec_laws.specs.Isolation.{start}
+use Rattle.spec_laws.specs.Isolation.{start_in}
 use Rattle.spec_laws.specs.Soundness.{Each, IsSoundPlant, ReadsAccepted}
 use Rattle.spec_laws.specs.Reachable.{IsPlaced, IsPlacedStatus, IsPlacedHandle, IsThereAt, IsWatchThere, ConnectionFits, AllFits, EveryStateFits}
 use Rattle.spec_laws.proofs.Memory.{same_part-true}
@@ -394,7 +394,7 @@ all-fits s g = record {
 }
 
 pub every_state_fits : EveryStateFits
-every_state_fits reading h d signals accepted log =
+every_state_fits reading h profile d signals accepted log =
     let sound = accepted_are_sound d (length signals) accepted in
-    all-fits (state_after (server_step reading) (start d signals) log)
-    (log-good reading h log (start d signals) (record { sound = sound; memory = alike_itself (first_memory (plant_of d)); all = tt }))
+    all-fits (state_after (server_step reading) (start_in profile d signals) log)
+    (log-good reading h log (start_in profile d signals) (record { sound = sound; memory = alike_itself (first_memory (plant_of d)); all = tt }))
