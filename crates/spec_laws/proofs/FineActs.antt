@@ -35,7 +35,8 @@ use Rattle.spec_formats.specs.Codes.{no_more_notifications}
 use Rattle.spec_formats.specs.SymbolEntry.{entry_bytes}
 use Rattle.spec_machine.specs.Entries.{entry_of_part}
 use Rattle.spec_machine.specs.ByName.{MAX_NUMBER}
-use Rattle.spec_machine.specs.Requests.{MAX_WATCHES, next_watch, add_watch, add_reached, add_act, act_of}
+use Rattle.spec_machine.specs.Meanings.{meant_by}
+use Rattle.spec_machine.specs.Requests.{MAX_WATCHES, next_watch, add_watch, add_reached, add_act, plain_act, act_of}
 use Rattle.spec_laws.specs.Soundness.{Each, IsSoundSymbol, IsSoundPlant}
 use Rattle.spec_laws.specs.Reachable.{IsPlaced, IsPlacedStatus, IsPlacedHandle}
 use Rattle.spec_laws.proofs.FirstMemory.{IsNamed, port_sound, symbol-named, area-named}

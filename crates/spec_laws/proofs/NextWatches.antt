@@ -23,7 +23,8 @@ use Rattle.spec_machine.specs.Reach.{reach_of}
 use Rattle.spec_machine.specs.Reads.{fixed_reply, read_act, read_group}
 use Rattle.spec_machine.specs.Writes.{Asker, write_act, write_group, control_act}
 use Rattle.spec_machine.specs.ByName.{MAX_NUMBER, place_of, grant_act, value_act, info_of, if_found, read_write_group}
-use Rattle.spec_machine.specs.Requests.{MAX_WATCHED, MAX_WATCHES, next_watch, add_watch, add_reached, add_act, act_of}
+use Rattle.spec_machine.specs.Meanings.{meant_by}
+use Rattle.spec_machine.specs.Requests.{MAX_WATCHED, MAX_WATCHES, next_watch, add_watch, add_reached, add_act, plain_act, act_of}
 
 abbrev pub NextEffect : Client → Effect → Type 0
 NextEffect c NoEffect = Unit {0}

@@ -32,6 +32,7 @@ use Rattle.spec_formats.specs.SymbolEntry.{entry_bytes}
 use Rattle.spec_machine.specs.Entries.{symbol_upload_of, type_upload_of, upload_info_of, upload_info_with_types_of, entry_of_part}
 use Rattle.spec_machine.specs.Writes.{Asker, write_act, release_act, write_group, control_act}
 use Rattle.spec_machine.specs.ByName.{place_of, grant_act, value_act, info_of, read_write_group}
+use Rattle.spec_machine.specs.Meanings.{meant_by}
 use Rattle.spec_machine.specs.Requests.{next_watch, add_watch, add_reached, add_act, plain_act, act_of}
 use Rattle.spec_machine.specs.Sums.{SumRequest, sum_of_reads, sum_of_writes, sum_of_read_writes, given_in_turn}
 use Rattle.spec_machine.specs.Decisions.{Decision, NoAnswer, EndConnection, AmsError, Perform, refuse}
