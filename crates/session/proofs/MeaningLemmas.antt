@@ -1,7 +1,9 @@
 -- What a request means to the port that is asked, and that what is done of it is done of the request.
-use Rattle.std.proofs.Common.{◌≡◌, ℕ, List, [], ◌∷◌, true, false, refl, sym, ap, subst, ◌∙◌}
-use Rattle.std.specs.Prelude.{min, ◌==◌, cond, Option, Some, None, option_and_then, Result, Ok, Err, IfOk, OnOk, take, length}
-use Rattle.std.proofs.lemmas.Bool.{false≢true}
+use Rattle.std.proofs.Common.{◌≡◌, ℕ, ◌<◌, List, [], ◌∷◌, Bool, true, false, cond, length, take, drop, get_or, refl, sym, ap, subst, ◌∙◌, arith, inl, inr}
+use Rattle.std.specs.Prelude.{min, ◌==◌, nat_lt, position, Option, Some, None, option_and_then, Result, Ok, Err, IfOk, OnOk}
+use Rattle.std.specs.List.{before_first, position_or_len}
+use Rattle.std.proofs.lemmas.Bool.{cases_Bool, false≢true, ltb-false, cond-true, cond-false}
+use Rattle.std.proofs.lemmas.List.{take_all}
 use Rattle.ads_base.specs.declared.no_memory.NoMemory.{NoMemory}
 use Rattle.return_codes.specs.declared.code.Code.{Code}
 use Rattle.spec_plant.specs.World.{PlantPort}
@@ -14,7 +16,8 @@ use Rattle.spec_machine.specs.Answers.{if_answered, answered_group, READ, READ_W
 use Rattle.spec_machine.specs.Client as client
 use Rattle.spec_machine.specs.Handles.{HandleStatus, Never, Released, Outdated, Live, kept_status}
 use Rattle.spec_machine.specs.ByName.{place_of}
-use Rattle.spec_machine.specs.Meanings.{len_by_status, len_by_handle, read_len_in, len_found, len_by_name, meant_name, name_by_group, meant_by}
+use Rattle.spec_machine.specs.Meanings.{len_by_status, len_by_handle, read_len_in, len_found, len_by_name, behind_stop, meant_name, name_by_group}
+use Rattle.spec_machine.specs.Meanings.{without_context, mode_in, meant_by}
 use Rattle.spec_machine.specs.Requests.{act_of}
 use Rattle.spec_machine.proofs.Meanings.{meant-strict}
 use Rattle.symbol_table.specs.declared.place.Place.{Place}
@@ -165,6 +168,41 @@ is-named group bytes is = named-by (group_of group) bytes is
 pub is-no-name : (group : ℕ) (bytes : List ℕ) → takes_name (group_of group) ≡ false → bytes ≡ name_by_group (answered_group READ_WRITE group) bytes
 unfolding answered_group
 is-no-name group bytes is = unnamed-by (group_of group) bytes is
+
+pub at_first : (p : ℕ → Bool) (xs : List ℕ) (i : ℕ) → position p xs ≡ Some i → take i xs ≡ before_first p xs
+at_first p xs i e = go (nat_lt (position_or_len p xs) (length xs)) e
+  where
+    go : (b : Bool) → cond b (Some (position_or_len p xs)) None ≡ Some i → take i xs ≡ before_first p xs
+    go true found = let same : position_or_len p xs ≡ i = cc in ap (λ n. take n xs) (sym same)
+    go false found = absurd cc
+
+pub before_all : (p : ℕ → Bool) (xs : List ℕ) → position p xs ≡ None → xs ≡ before_first p xs
+before_all p xs e = elim (cases_Bool (nat_lt (position_or_len p xs) (length xs))) [
+    | inl t ↦ absurd (let some : Some (position_or_len p xs) ≡ None = rw t at e in cc)
+    | inr t ↦ let past = ltb-false (position_or_len p xs) (length xs) t in sym (take_all (position_or_len p xs) xs past)
+  ]
+
+pub stop_none : (xs : List ℕ) → length xs ≡ 0 → xs ≡ behind_stop xs
+stop_none [] none = refl
+stop_none (c ∷ cs) none = absurd (omega (arith, none))
+
+pub stop_other : (xs : List ℕ) → 0 < length xs → (get_or xs 0 0 == 46) ≡ false → xs ≡ behind_stop xs
+stop_other [] some other = absurd (omega (arith, some))
+stop_other (c ∷ cs) some other = sym (cond-false (c == 46) cs (c ∷ cs) other)
+
+pub stop_first : (xs : List ℕ) → 0 < length xs → (get_or xs 0 0 == 46) ≡ true → drop 1 xs ≡ behind_stop xs
+stop_first [] some first = absurd (omega (arith, some))
+stop_first (c ∷ cs) some first = sym (cond-true (c == 46) cs (c ∷ cs) first)
+
+-- a mode
+
+pub mode-strict : (x : Profile) (mode : ℕ) → is_wide x ≡ false → mode ≡ mode_in x mode
+mode-strict Strict mode f = refl
+mode-strict Wide mode f = absurd (false≢true (sym f))
+
+pub mode-wide : (x : Profile) (mode n : ℕ) → is_wide x ≡ true → n ≡ without_context mode → n ≡ mode_in x mode
+mode-wide Strict mode n t is = absurd (false≢true t)
+mode-wide Wide mode n t is = is
 
 -- the request that is meant
 

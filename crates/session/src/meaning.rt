@@ -71,7 +71,7 @@ fn up_to_nul(name: &[u8]) -> &[u8]
     ensures { result.now ≡ machine.up_to_nul name.now }
 {
     match first_nul(name) {
-        Some(at) => &name[..at],
+        Some(end) => &name[..end],
         None => name,
     }
 }

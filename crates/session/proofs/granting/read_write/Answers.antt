@@ -4,25 +4,25 @@ use Rattle.session.proofs.MeaningLemmas.{is-plain, read_write-is-meant, meant-an
 use Rattle.session.proofs.GrantLemmas.{read_write-asked}
 use Rattle.session.proofs.granting.read_write.Goals as goal
 
-pub returns-then-is_wide-clause-answer : goal.returns-then-is_wide-clause-answer
-returns-then-is_wide-clause-answer c =
+pub returns-then-not-is_wide-clause-answer : goal.returns-then-not-is_wide-clause-answer
+returns-then-not-is_wide-clause-answer c =
     let asked = c.args.asked.now in
     let r = ReadWrite asked.group asked.offset asked.len asked.bytes.now in
     meant-answers c.args.port.now c.args.handles.now r r c.read_write_plain.result _ _
-    (λ a asks. is-plain a r c.args.port.now c.args.handles.now asks (sym c.is_wide.ensures ∙ c.if-is_wide.false)) c.read_write_plain.ensures.answer
+    (λ a asks. is-plain a r c.args.port.now c.args.handles.now asks (sym c.is_wide.ensures ∙ c.if-not-is_wide.true)) c.read_write_plain.ensures.answer
 
-pub returns-then-is_wide-clause-leaves : goal.returns-then-is_wide-clause-leaves
-returns-then-is_wide-clause-leaves c =
+pub returns-then-not-is_wide-clause-leaves : goal.returns-then-not-is_wide-clause-leaves
+returns-then-not-is_wide-clause-leaves c =
     let asked = c.args.asked.now in
     let r = ReadWrite asked.group asked.offset asked.len asked.bytes.now in
     meant-leaves c.args.port.now c.args.handles.now _ r r c.read_write_plain.result
-    (λ a asks. is-plain a r c.args.port.now c.args.handles.now asks (sym c.is_wide.ensures ∙ c.if-is_wide.false)) c.read_write_plain.ensures.leaves
+    (λ a asks. is-plain a r c.args.port.now c.args.handles.now asks (sym c.is_wide.ensures ∙ c.if-not-is_wide.true)) c.read_write_plain.ensures.leaves
 
-pub returns-then-is_wide-clause-asked : goal.returns-then-is_wide-clause-asked
-returns-then-is_wide-clause-asked c =
+pub returns-then-not-is_wide-clause-asked : goal.returns-then-not-is_wide-clause-asked
+returns-then-not-is_wide-clause-asked c =
     let asked = c.args.asked.now in
     read_write-asked c.args.port.now c.args.handles.now asked.group asked.offset asked.len asked.bytes.now c.read_write_plain.result _ _ c.requires.some
-    (returns-then-is_wide-clause-answer c)
+    (returns-then-not-is_wide-clause-answer c)
 
 pub returns-clause-answer : goal.returns-clause-answer
 returns-clause-answer c =
@@ -31,7 +31,7 @@ returns-clause-answer c =
     let meant = ReadWrite asked.group asked.offset c.value_len.result c.name_meant.result.now in
     meant-answers c.args.port.now c.args.handles.now r meant c.read_write_plain-2.result _ _
     (λ a asks. read_write-is-meant a asked.group asked.offset asked.len asked.bytes.now c.value_len.result c.name_meant.result.now
-    c.args.port.now c.args.handles.now asks (sym c.is_wide.ensures ∙ c.if-is_wide.true) c.name_meant.ensures (c.value_len.ensures a c.args.handles.now asks))
+    c.args.port.now c.args.handles.now asks (sym c.is_wide.ensures ∙ c.if-not-is_wide.false) c.name_meant.ensures (c.value_len.ensures a c.args.handles.now asks))
     c.read_write_plain-2.ensures.answer
 
 pub returns-clause-leaves : goal.returns-clause-leaves
@@ -41,7 +41,7 @@ returns-clause-leaves c =
     let meant = ReadWrite asked.group asked.offset c.value_len.result c.name_meant.result.now in
     meant-leaves c.args.port.now c.args.handles.now _ r meant c.read_write_plain-2.result
     (λ a asks. read_write-is-meant a asked.group asked.offset asked.len asked.bytes.now c.value_len.result c.name_meant.result.now
-    c.args.port.now c.args.handles.now asks (sym c.is_wide.ensures ∙ c.if-is_wide.true) c.name_meant.ensures (c.value_len.ensures a c.args.handles.now asks))
+    c.args.port.now c.args.handles.now asks (sym c.is_wide.ensures ∙ c.if-not-is_wide.false) c.name_meant.ensures (c.value_len.ensures a c.args.handles.now asks))
     c.read_write_plain-2.ensures.leaves
 
 pub returns-clause-asked : goal.returns-clause-asked
