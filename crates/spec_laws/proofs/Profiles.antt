@@ -89,9 +89,9 @@ writes_are_plain d c k group offset bytes = refl
 
 at_most : (len most : ℕ) → nat_lt most (min len most) ≡ false
 at_most len most = elim (cases_Bool (nat_lt most (min len most))) [
-    | inl t ↦ absurd (let l = ltb-true most (min len most) t in omega (arith, l))
-    | inr t ↦ t
-  ]
+  | inl t ↦ absurd (let l = ltb-true most (min len most) t in omega (arith, l))
+  | inr t ↦ t
+]
 
 pub wide_reads_by_handle : WideReadsByHandle
 unfolding act_of plain_act answered_group group_of group_in read_group reach_of

@@ -262,7 +262,7 @@ record DoneAs (d : Setup) (c : Client) (k : Asker) (g : Option Group) (offset : 
   read : option_map_or is_value_group g false ≡ true → ReadsNext d c k g offset bytes m a
   -- a read of as many bytes as were written asks for as many, in either profile
   asks : option_map_or is_value_group g false ≡ true → (x : Profile)
-    → read_len_in x (client_after c (effect_of a)) k.port g offset (length bytes) ≡ length bytes
+      → read_len_in x (client_after c (effect_of a)) k.port g offset (length bytes) ≡ length bytes
 
 may : (k : Asker) (bytes : List ℕ) (Q : List Addressed → Type 0) (r : Result (List Addressed) ℕ) → ReachCase Q r
     → WriteCase Q bytes r (cond (not (may_write k.rights)) (Refusal not_permitted) (write_act k bytes r))
