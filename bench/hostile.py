@@ -4,6 +4,8 @@ well-behaved server says to a client (bench/hostile_peers.py), with what the mod
 docs/FORMATS.md shows.
 
     python3 bench/hostile.py        writes hostile_*.runs, peer_*.runs, shown.runs and shown_*.toml of crates/cases_run/data, and says how many runs each has
+    python3 bench/hostile.py --wide writes wide_*.runs and hostile_*.runs of crates/cases_wide/data: what the wide server answers otherwise (bench/wide_rows.py), and
+                                    those of the hostile runs that are plays of scripts, on it
 
 What must come is computed from the protocol alone, never from what the program prints. The counts in crates/cases_run/stdout are all runs of that program.
 """
@@ -18,8 +20,10 @@ sys.path.insert(0, HERE)
 import model  # noqa: E402
 from model import u16, u32  # noqa: E402
 
-DATA = os.path.join(HERE, "..", "crates", "cases_run", "data")
-SIGNALS = [list(range(1000)), [0] * 10 + [1] * 10, [3, 1, 4, 1, 5, 9, 2, 6]]
+# The wide server is played by cases_wide, without signals.
+WIDE = "--wide" in sys.argv[1:]
+DATA = os.path.join(HERE, "..", "crates", "cases_wide" if WIDE else "cases_run", "data")
+SIGNALS = [] if WIDE else [list(range(1000)), [0] * 10 + [1] * 10, [3, 1, 4, 1, 5, 9, 2, 6]]
 NET, ME, OTHER = "5.1.2.3.1.1", "192.168.0.9.1.1", "192.168.0.10.1.1"
 
 
@@ -71,9 +75,17 @@ def lines_of(event, plants):
 def replay(said, events, plants="plant2.toml"):
     """A run of `replay` over the plant: a comment and events."""
     script = [line for event in events for line in lines_of(event, plants)]
-    came = model.play(PLANT, SIGNALS, events)
+    came = model.play(PLANT, SIGNALS, events, WIDE)
+    if WIDE:
+        return played_wide(said, script, came)
     head = [f"# {line}" for line in said.splitlines()] + ["words replay plant.toml it.script", "file plant.toml", "from plant.toml", "file it.script"]
     return "\n".join(head + script + ["status 0", "out"] + [f"| {line}" for line in came.splitlines()]) + "\n"
+
+
+def played_wide(said, script, came):
+    """The same for cases_wide, which prints no summary."""
+    out = [f"| {line}" for line in came.splitlines()[:-1]]
+    return "\n".join([*(f"# {line}" for line in said.splitlines()), "script", *script, "out", *out]) + "\n"
 
 
 def asked(said, *frames):
@@ -466,14 +478,28 @@ def written(name, runs):
     print(f"{name}.runs: {len(made)} runs")
 
 
+# What every server is asked by scripts alone.
+SCRIPTS = {"frames": frames, "lengths": lengths, "sums": sums, "edges": edges, "limits": limits, "reloads": reloads, "offers": offers}
+
+
+def main_wide():
+    import wide_rows  # noqa: PLC0415 (it uses this file)
+
+    for name, runs in {**wide_rows.SUBJECTS, **{f"hostile_{name}": runs for name, runs in SCRIPTS.items()}}.items():
+        written(name, runs)
+    return 0
+
+
 def main():
+    if WIDE:
+        return main_wide()
     import hostile_peers  # noqa: PLC0415 (they use this file)
     import keep_runs  # noqa: PLC0415
     import record_runs  # noqa: PLC0415
     import relay_runs  # noqa: PLC0415
 
     written("shown", shown)
-    for name, runs in (("frames", frames), ("lengths", lengths), ("sums", sums), ("edges", edges), ("limits", limits), ("reloads", reloads), ("offers", offers), ("faults", faults), ("calls", calls)):
+    for name, runs in {**SCRIPTS, "faults": faults, "calls": calls}.items():
         written(f"hostile_{name}", runs)
     for name, runs in hostile_peers.SUBJECTS.items():
         written(f"peer_{name}", runs)

@@ -307,9 +307,11 @@ def packets(conn):
 
 
 class Server:
-    """A device with its clients. `signals` are the waves of the signals."""
+    """A device with its clients. `signals` are the waves of the signals; `wide` is the profile: the strict server takes requests as they are written, the wide one for
+    what TwinCAT's clients mean by them."""
 
-    def __init__(self, d, signals):
+    def __init__(self, d, signals, wide=False):
+        self.wide = wide
         self.waves, self.places = signals, [0] * len(signals)
         self.moment, self.accepted, self.refused = 0, 0, 0
         self.opened, self.requests, self.replies, self.samples = 0, 0, 0, 0
@@ -438,8 +440,7 @@ class Server:
             return bytes([port.areas[BITS_OF[group]][offset // 8] >> offset % 8 & 1])
         if group == 0xF005:
             area, at, size = self.handle(conn, port, offset)
-            if count > size:
-                raise Refused(0x705)
+            count = self.at_most(count, size)
             return bytes(port.areas[area][at:at + count])
         fixed = {
             **{it: lambda area=area: u32(len(port.areas[area])) for it, area in SIZE_OF.items()},
@@ -496,7 +497,7 @@ class Server:
             raise Refused(0x702)
         if (group == 0xF003 and most < 4) or (group == 0xF007 and most < 12):
             raise Refused(0x705)
-        it, at, kind, path, comment = port.find(given)
+        it, at, kind, path, comment = port.find(self.name(given))
         size = port.types.size(kind)
         start = it["at"] + at
         if group == 0xF003:
@@ -506,15 +507,26 @@ class Server:
             conn.handles[conn.granted] = {"port": port.number, "symbol": it["name"].lower(), "at": at, "size": size, "outdated": False}
             return u32(conn.granted)
         if group == 0xF004:
-            if most > size:
-                raise Refused(0x705)
-            return bytes(port.areas[it["area"]][start:start + most])
+            return bytes(port.areas[it["area"]][start:start + self.at_most(most, size)])
         if group == 0xF007:
             return u32(GROUP_OF[it["area"]]) + u32(start) + u32(size)
         entry = port.entry(it, at, kind, path, comment)
         if most < len(entry):
             raise Refused(0x705)
         return entry
+
+    def at_most(self, count, size):
+        """How many bytes are read of a value where so many are asked."""
+        if count > size and not self.wide:
+            raise Refused(0x705)
+        return min(count, size)
+
+    def name(self, given):
+        """The name that the data of a request is."""
+        if not self.wide:
+            return given
+        given = given.split(b"\0")[0]
+        return given[1:] if given.startswith(b".") else given
 
     def sum(self, conn, port, source, rights, group, count, most, given):
         if count > 500:
@@ -550,6 +562,7 @@ class Server:
         return results + data
 
     def add(self, conn, port, source, group, offset, count, mode, _delay, cycle):
+        mode = {5: 3, 6: 4}.get(mode, mode) if self.wide else mode
         if mode not in (3, 4):
             raise Refused(0x713)
         if count > 2048:
@@ -735,9 +748,9 @@ class Relay:
         return f"connections {self.opened} frames {self.frames} passed {self.passed} unknown {self.unknown}"
 
 
-def play(d, signals, events):
-    """What `replay` prints of these events, with its summary."""
-    return played(Server(d, signals), events)
+def play(d, signals, events, wide=False):
+    """What `replay` prints of these events, with its summary; with `wide`, what it would print of the wide server."""
+    return played(Server(d, signals, wide), events)
 
 
 def relayed(d, events):

@@ -5,6 +5,7 @@ commands over loopback to peers that answer by the model and then damage, repeat
 must be those of the model of a client (bench/client.py), and so must the rows that `record` leaves; and damaged descriptions and scripts, which must end with a status of their own and never crash or hang.
 
     python3 bench/random_runs.py [--seconds N] [--seed N] [--program PATH] [--keep FOLDER]
+    python3 bench/random_runs.py --wide PATH [..]   random scripts on the wide server alone, by the program `cases_wide` at PATH (bench/wide_runs.py)
 
 Build the program first: in crates/ads, `rt run -- selftest ../../examples/state.script`. Without --seconds it runs for a minute. A difference is told with its
 seed, and its description, script and both texts are kept in the folder of --keep. It ends with 1 where anything differed.
@@ -844,14 +845,42 @@ def has(program, folder, *words):
     return ran(program, list(words), folder)[0] != 1
 
 
+def keep(to, name, seed, said, folder):
+    """Tells of a difference, and keeps its files."""
+    kept = f"{to}/{name}_{seed}"
+    os.makedirs(kept, exist_ok=True)
+    for file in os.listdir(folder):
+        with open(os.path.join(folder, file), "rb") as one_file:
+            write(kept, file, one_file.read())
+    print(f"{name}, seed {seed}: {said}; kept in {kept}")
+
+
+def main_wide(given, program):
+    import wide_runs  # noqa: PLC0415 (it uses this file)
+
+    begun, seed, wrong = time.time(), given.seed, 0
+    with tempfile.TemporaryDirectory() as folder:
+        while time.time() - begun < given.seconds and wrong < 10:
+            said = wide_runs.one_wide(program, seed, folder)
+            if said:
+                wrong += 1
+                keep(given.keep, "wide", seed, said, folder)
+            seed += 1
+    print(f"{seed - given.seed} scripts on the wide server against the model, {wrong} wrong, seeds {given.seed} to {seed - 1}")
+    return 1 if wrong else 0
+
+
 def main():
     it = argparse.ArgumentParser(description=__doc__, formatter_class=argparse.RawDescriptionHelpFormatter)
     it.add_argument("--seconds", type=float, default=60)
     it.add_argument("--seed", type=int, default=1)
     it.add_argument("--program", default=PROGRAM)
+    it.add_argument("--wide", metavar="PATH", help="the program cases_wide")
     it.add_argument("--keep", default=os.path.join(tempfile.gettempdir(), "ads_random"))
     given = it.parse_args()
-    program, begun, seed, counts, wrong = os.path.abspath(given.program), time.time(), given.seed, dict.fromkeys(("replays", "relays", "kept", "served", "relayed", "peers", "damaged"), 0), 0
+    program, begun, seed, counts, wrong = os.path.abspath(given.wide or given.program), time.time(), given.seed, dict.fromkeys(("replays", "relays", "kept", "served", "relayed", "peers", "damaged"), 0), 0
+    if given.wide:
+        return main_wide(given, program)
     with tempfile.TemporaryDirectory() as folder:
         relays, keeps = has(program, folder, "relay", "no.toml", "no.script"), has(program, folder, "keep", "no.toml", "no.script", "no.store")
         left_out = {*(() if relays else ("relays", "relayed")), *(() if keeps else ("kept",))}
@@ -862,12 +891,7 @@ def main():
                 counts[name] += 1
                 if said:
                     wrong += 1
-                    kept = f"{given.keep}/{name}_{own}"
-                    os.makedirs(kept, exist_ok=True)
-                    for file in os.listdir(folder):
-                        with open(os.path.join(folder, file), "rb") as one_file:
-                            write(kept, file, one_file.read())
-                    print(f"{name}, seed {own}: {said}; kept in {kept}")
+                    keep(given.keep, name, own, said, folder)
             seed += 1
     print(f"{counts['replays'] + counts['relays'] + counts['kept']} scripts, {counts['served'] + counts['relayed']} plants and {counts['peers']} client commands over loopback against the models, {counts['damaged']} damaged inputs, {wrong} wrong, seeds {given.seed} to {seed - 1}")
     return 1 if wrong else 0

@@ -17,7 +17,7 @@ pub mod MovedEntries
 pub mod MovesAlike
 mod NameLemmas
 mod PartTexts
-mod PlaceLemmas
+pub mod PlaceLemmas
 mod PlaceWrites
 mod PortLemmas
 pub mod PortsLemmas

@@ -42,6 +42,7 @@ holds_after w p m act b h after = record {
   facts = h.facts;
   types = h.types;
   version = h.version;
+  profile = h.profile;
   plant_sound = h.plant_sound;
   sound = h.sound;
   holds = after;

@@ -1,3 +1,4 @@
+pub mod Profiles
 pub mod PortMemory
 pub mod Holds
 pub mod Answers

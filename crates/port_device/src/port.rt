@@ -3,7 +3,9 @@
 ghost use Rattle.std.specs.Prelude.{◌≡◌, ℕ};
 ghost use Rattle.type_layout.specs.Descriptions.{facts_of, sizes_of};
 ghost use Rattle.port_device.specs.PortMemory.{PortMemory};
+ghost use Rattle.port_device.specs.Profiles.{is_wide};
 
+use crate::Profile;
 use crate::upload::UploadSizes;
 use process_image::Image;
 use std::alloc::Global;
@@ -12,8 +14,8 @@ use std::sync::Arc;
 use symbol_table::Table;
 use type_layout::{DeviceFacts4, Sizes, Types};
 
-/// A port of a plant. Contracts see what its description says of it, the symbol version, and its bytes: the areas one behind
-/// another, and the two state words.
+/// A port of a plant. Contracts see what its description says of it, the symbol version, the profile of its server, and its
+/// bytes: the areas one behind another, and the two state words.
 #[derive(Drop)]
 pub struct Port {
     pub(crate) types: Arc<Types, Global>,
@@ -22,6 +24,7 @@ pub struct Port {
     pub(crate) sizes: Sizes,
     pub(crate) table: Table,
     pub(crate) version: u8,
+    pub(crate) profile: Profile,
     pub(crate) ads: u16,
     pub(crate) device: u16,
     pub(crate) image: Image,
@@ -58,6 +61,16 @@ impl Port {
         ensures { result ≡ self.now.version }
     {
         self.version
+    }
+
+    /// Whether the server is the wide one, which no reload changes.
+    pub fn is_wide(&self) -> bool
+        ensures { result ≡ is_wide self.now.profile }
+    {
+        match self.profile {
+            Profile::Strict => false,
+            Profile::Wide => true,
+        }
     }
 
     /// What the device tells of itself. Beckhoff Information System, "ADS Read Device Info".

@@ -5,27 +5,29 @@ ghost use Rattle.std.specs.Option.{option_copied};
 ghost use Rattle.std.specs.Borrow.{sem};
 ghost use Rattle.signals.specs.Wave.{Wave};
 ghost use Rattle.type_layout.specs.Descriptions.{description_of};
-ghost use Rattle.spec_machine.specs.World.{world_of};
+ghost use Rattle.spec_machine.specs.World.{world_of, world_in};
 ghost use Rattle.port_device.specs.PortMemory.{memory_numbered};
 ghost use Rattle.port_device.specs.Holds.{HoldsPorts, MayBeBuilt};
 ghost use Rattle.port_device.specs.PlaceOfPort.{place_numbered};
+ghost use Rattle.port_device.specs.Profiles.{profile_of};
 
-use crate::Port;
 use crate::building::first_ports;
 use crate::copying::shared_types;
 use crate::counting::types_size;
+use crate::{Port, Profile};
 use ads_base::NoMemory;
 use std::alloc::Global;
 use std::marker::Model;
 use std::sync::Arc;
 use type_layout::{Description, Types};
 
-/// The ports of a plant, in the order of the description. Contracts see the types and the symbol version, which they share,
-/// and each port.
+/// The ports of a plant, in the order of the description. Contracts see the types, the symbol version and the profile, which
+/// they share, and each port.
 #[derive(Drop)]
 pub struct Ports {
     pub(crate) types: Arc<Types, Global>,
     pub(crate) version: u8,
+    pub(crate) profile: Profile,
     pub(crate) ports: Vec<Port>,
 }
 
@@ -47,18 +49,28 @@ impl Model for Ports {
 impl Ports {
     ghost use Rattle.port_device.specs.Lends.{LendsPort};
 
-    /// The ports of an accepted description, with their first bytes, in state 5 (RUN) and with symbol version 1. Persistent
-    /// symbols may begin with other bytes than was accepted, as many as they have.
+    /// The ports of an accepted description behind the strict server, as `build_in` makes them.
     pub fn build(alloc: Global, d: &Description) -> Result<Ports, NoMemory>
         requires { MayBeBuilt (description_of d.now) }
         ensures { IfOk result (λ ports. (signals : List Wave) → HoldsPorts (world_of (description_of d.now) signals) ports) }
     {
+        Ports::build_in(alloc, Profile::Strict, d)
+    }
+
+    /// The ports of an accepted description behind a server of this profile, with their first bytes, in state 5 (RUN) and
+    /// with symbol version 1. Persistent symbols may begin with other bytes than was accepted, as many as they have.
+    pub fn build_in(alloc: Global, profile: Profile, d: &Description) -> Result<Ports, NoMemory>
+        requires { MayBeBuilt (description_of d.now) }
+        ensures { IfOk result (λ ports. (signals : List Wave)
+            → HoldsPorts (world_in (profile_of profile) (description_of d.now) signals) ports) }
+    {
         let types = shared_types(alloc, &d.types)?;
         let types_len = types_size(alloc, &types)?;
-        let ports = first_ports(alloc, &types, types_len, d.ports.as_slice(), 1)?;
+        let ports = first_ports(alloc, &types, types_len, d.ports.as_slice(), 1, profile)?;
         Ok(Ports {
             types,
             version: 1,
+            profile,
             ports,
         })
     }

@@ -6,12 +6,13 @@ use Rattle.signals.specs.Wave.{Wave}
 use Rattle.ads_outside.specs.declared.event.Event.TheVariants as event
 use Rattle.ads_outside.specs.declared.moves.Move.TheVariants as move
 use Rattle.spec_plant.specs.Description.{Description}
+use Rattle.spec_machine.specs.Profile.{Profile}
 use Rattle.spec_machine.specs.Connection.{connection_of}
-use Rattle.spec_server.specs.Server.{server_start}
+use Rattle.spec_server.specs.Server.{server_start_in}
 use Rattle.server_core.specs.declared.turned.Turned.{Turned}
 use Rattle.server_core.specs.declared.waiting.Waiting.{Waiting}
 use Rattle.server_core.specs.Conns.{Conn, conns_of}
-use Rattle.server_core.specs.CoreState.{CoreState, started, after_event, after_move}
+use Rattle.server_core.specs.CoreState.{CoreState, started_in, after_event, after_move}
 use Rattle.server_core.specs.HoldsWorld.{HoldsState}
 use Rattle.server_core.specs.Places.{offer_among}
 use Rattle.server_core.specs.ServerView.{ServerView}
@@ -43,12 +44,12 @@ pub ended_some : (v w : ServerView) (waves : List Wave) (n : ℕ) → ServesSome
 ended_some v w waves n s follows = record { state = after_event s.state (event.Closed n); serves = (follows waves s.state s.serves).serves }
 
 -- nothing was opened
-pub started_serves : (v : ServerView) (waves : List Wave) (d : Description)
-    → HoldsState v.device waves (server_start d waves) → v.sessions ≡ [] → v.entries ≡ [] → ServesEach v waves (started d waves)
+pub started_serves : (profile : Profile) (v : ServerView) (waves : List Wave) (d : Description) → HoldsState v.device waves (server_start_in profile d waves)
+    → v.sessions ≡ [] → v.entries ≡ [] → ServesEach v waves (started_in profile d waves)
 unfolding connection_of
-started_serves v waves d device sessions entries =
+started_serves profile v waves d device sessions entries =
     let none : conns_of v.sessions v.entries ≡ [] = ap (λ ts. conns_of ts v.entries) sessions in
-    let x = started d waves in
+    let x = started_in profile d waves in
     record {
       device = device;
       aligned = ap (λ (ts : List Turned). length ts) sessions ∙ sym (ap (λ (es : List (ℕ × Waiting)). length es) entries);

@@ -3,12 +3,13 @@
 ghost use Rattle.std.specs.Prelude.{◌≡◌, ◌<◌, ◌^◌, List, length, IfOk};
 ghost use Rattle.signals.specs.Wave.{Wave};
 ghost use Rattle.spec_persistent.specs.Otherwise.{MayBegin};
-ghost use Rattle.spec_server.specs.Server.{server_start};
+ghost use Rattle.spec_server.specs.Server.{server_start_in};
+ghost use Rattle.port_device.specs.Profiles.{profile_of};
 ghost use Rattle.type_layout.specs.Descriptions.{description_of};
 
 use ads_base::{NetId, NoMemory};
 use net_routes::Routes;
-use port_device::Ports;
+use port_device::{Ports, Profile};
 use std::alloc::Global;
 use type_layout::Description;
 
@@ -26,16 +27,22 @@ pub(crate) struct Device {
 impl Device {
     ghost use Rattle.server_core.specs.HoldsWorld.{HoldsState};
 
-    /// The device of a description that one with this number of signals may begin with, before any tick.
-    pub(crate) fn build(alloc: Global, d: &Description, signals: u32) -> Result<Device, NoMemory>
+    /// The device of a description that one with this number of signals may begin with, behind a server of this profile,
+    /// before any tick.
+    pub(crate) fn build(
+        alloc: Global,
+        profile: Profile,
+        d: &Description,
+        signals: u32,
+    ) -> Result<Device, NoMemory>
         requires { MayBegin (description_of d.now) signals }
         ensures { IfOk result (λ device. (waves : List Wave) → signals ≡ length waves → length waves < 2 ^ 32
-            → HoldsState device waves (server_start (description_of d.now) waves)) }
+            → HoldsState device waves (server_start_in (profile_of profile) (description_of d.now) waves)) }
     {
         Ok(Device {
             net: d.net,
             routes: Routes::build(alloc, &d.routes)?,
-            ports: Ports::build(alloc, d)?,
+            ports: Ports::build_in(alloc, profile, d)?,
             signals,
             moment: 0,
         })

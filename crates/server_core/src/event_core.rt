@@ -13,9 +13,10 @@ ghost use Rattle.spec_machine.specs.RunText.{notes_of_event};
 ghost use Rattle.spec_machine.specs.Summary.{summary_of};
 ghost use Rattle.out_queue.specs.Queue.{QUEUE_LIMIT};
 ghost use Rattle.port_device.specs.Holds.{HoldsPorts};
+ghost use Rattle.port_device.specs.Profiles.{profile_of};
 ghost use Rattle.ads_served.specs.Due.{is_due, IsRun};
 ghost use Rattle.server_core.specs.Counts.{counts_in};
-ghost use Rattle.server_core.specs.CoreState.{CoreState, started, after_event, after_move, after_moves, OpensNew};
+ghost use Rattle.server_core.specs.CoreState.{CoreState, started, started_in, after_event, after_move, after_moves, OpensNew};
 ghost use Rattle.server_core.specs.CoreState.{offer_at, is_to_be_shut_at};
 ghost use Rattle.server_core.specs.Served.{served};
 ghost use Rattle.server_core.specs.Outcomes.{outcome_of};
@@ -30,7 +31,7 @@ use crate::{Outcome, Summary};
 use ads_base::{ListOf, NoMemory};
 use ads_outside::{Event, ReloadNotes};
 use net_routes::Routes;
-use port_device::Ports;
+use port_device::{Ports, Profile};
 use std::alloc::Global;
 use std::marker::Model;
 use std::thread::Threads;
@@ -59,8 +60,7 @@ impl<S: Sources> Model for Core<S> {
 }
 
 impl<S: Sources> Core<S> {
-    /// The core of an accepted description and its signals, without a connection. Persistent symbols may begin with other
-    /// bytes than was accepted, as many as they have.
+    /// The core of an accepted description and its signals behind the strict server, as `build_in` makes it.
     pub fn build(alloc: Global, d: Description, signals: S) -> Result<Core<S>, NoMemory>
         requires few { length (S.waves signals) < 2 ^ 32 }
         requires accepted { MayBegin (description_of d) (length (S.waves signals)) }
@@ -68,8 +68,25 @@ impl<S: Sources> Core<S> {
         ensures counted { IfOk result (λ core. HasCounts core (started (description_of d) (S.waves signals))) }
         ensures notes { IfOk result (λ core. core.server.notes ≡ []) }
     {
+        Core::build_in(alloc, Profile::Strict, d, signals)
+    }
+
+    /// The core of an accepted description and its signals behind a server of this profile, without a connection. Persistent
+    /// symbols may begin with other bytes than was accepted, as many as they have.
+    pub fn build_in(
+        alloc: Global,
+        profile: Profile,
+        d: Description,
+        signals: S,
+    ) -> Result<Core<S>, NoMemory>
+        requires few { length (S.waves signals) < 2 ^ 32 }
+        requires accepted { MayBegin (description_of d) (length (S.waves signals)) }
+        ensures serves { IfOk result (λ core. Serves core (started_in (profile_of profile) (description_of d) (S.waves signals))) }
+        ensures counted { IfOk result (λ core. HasCounts core (started_in (profile_of profile) (description_of d) (S.waves signals))) }
+        ensures notes { IfOk result (λ core. core.server.notes ≡ []) }
+    {
         let count = signals.count() as u32;
-        let device = Device::build(alloc, &d, count)?;
+        let device = Device::build(alloc, profile, &d, count)?;
         Ok(Core {
             server: Server {
                 device,

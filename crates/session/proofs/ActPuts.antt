@@ -27,7 +27,8 @@ use Rattle.spec_machine.specs.Watches.{Mode}
 use Rattle.spec_machine.specs.Client.{Client, Place, names_of_place, Grants, Releases, Adds, Deletes}
 use Rattle.spec_machine.specs.Handles.{HandleStatus, Never, Released, Outdated, Live, kept_status, live_count}
 use Rattle.spec_machine.specs.Reach.{addressed_by_range, addressed_by_status, addressed_in_place, reach_of}
-use Rattle.spec_machine.specs.Requests.{MAX_WATCHED, MAX_WATCHES, mode_of, next_watch, add_watch, add_reached, add_act, is_watch_of, delete_act, act_of}
+use Rattle.spec_machine.specs.Meanings.{meant_by}
+use Rattle.spec_machine.specs.Requests.{MAX_WATCHED, MAX_WATCHES, mode_of, next_watch, add_watch, add_reached, add_act, is_watch_of, delete_act, plain_act, act_of}
 use Rattle.spec_machine.specs.Sums.{SumRequest, sum_of_reads, sum_of_writes, sum_of_read_writes, given_in_turn}
 use Rattle.spec_machine.specs.SumPackets.{acts_of, client_after_request, decide_parts, decide_read_write, decide_request}
 use Rattle.spec_machine.specs.WorldBytes.{AreAtPort}
@@ -173,23 +174,27 @@ control-at k ads device =
     go true = puts-at k.port.number (map WholeByte (state_names k.port)) (state_bytes ads device) (state-at k.port)
     go false = tt
 
-pub act-at : (d : Setup) (c : Client) (k : Asker) (r : Request) → PutsAt k.port.number (act_of d c k r)
-unfolding act_of
-act-at d c k ReadDeviceInfo = tt
-act-at d c k (Read group offset len) =
+plain-at : (d : Setup) (c : Client) (k : Asker) (r : Request) → PutsAt k.port.number (plain_act d c k r)
+unfolding plain_act
+plain-at d c k ReadDeviceInfo = tt
+plain-at d c k (Read group offset len) =
     let act = read_group d c k.port (answered_group READ group) offset len in
     nothing-at k.port.number act (idle-nothing act (read-idle d c k.port (answered_group READ group) offset len))
-act-at d c k (Write group offset bytes) = group-at c k (answered_group WRITE group) offset bytes
-act-at d c k ReadState = tt
-act-at d c k (WriteControl ads device bytes) = control-at k ads device
-act-at d c k (AddDeviceNotification group offset len mode delay cycle) =
+plain-at d c k (Write group offset bytes) = group-at c k (answered_group WRITE group) offset bytes
+plain-at d c k ReadState = tt
+plain-at d c k (WriteControl ads device bytes) = control-at k ads device
+plain-at d c k (AddDeviceNotification group offset len mode delay cycle) =
     nothing-at k.port.number (add_act c k (answered_group ADD_DEVICE_NOTIFICATION group) offset len cycle (mode_of mode))
     (add-nothing c k (answered_group ADD_DEVICE_NOTIFICATION group) offset len cycle (mode_of mode))
-act-at d c k (DeleteDeviceNotification handle) = nothing-at k.port.number (delete_act c k handle) (delete-nothing c k handle)
-act-at d c k (DeviceNotification bytes) = tt
-act-at d c k (ReadWrite group offset len bytes) =
+plain-at d c k (DeleteDeviceNotification handle) = nothing-at k.port.number (delete_act c k handle) (delete-nothing c k handle)
+plain-at d c k (DeviceNotification bytes) = tt
+plain-at d c k (ReadWrite group offset len bytes) =
     nothing-at k.port.number (read_write_group c k.port (answered_group READ_WRITE group) len bytes)
     (named-nothing c k.port (answered_group READ_WRITE group) len bytes)
+
+pub act-at : (d : Setup) (c : Client) (k : Asker) (r : Request) → PutsAt k.port.number (act_of d c k r)
+unfolding act_of
+act-at d c k r = plain-at d c k (meant_by d.profile c k.port r)
 
 -- and so do the acts of parts
 pub acts-at : (d : Setup) (c : Client) (k : Asker) (rs : List Request) → PutAllAt k.port.number (acts_of d c k rs)

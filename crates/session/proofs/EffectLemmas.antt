@@ -16,7 +16,7 @@ use Rattle.spec_machine.specs.ByName.{MAX_LIVE, MAX_NUMBER, place_of, grant_act,
 use Rattle.spec_machine.specs.Client.{Place, Client, Effect, NoEffect, Grants, Releases, Adds, Deletes, client_after}
 use Rattle.spec_machine.specs.Handles.{live_count, kept_status}
 use Rattle.spec_machine.specs.Reach.{reach_of}
-use Rattle.spec_machine.specs.Requests.{act_of}
+use Rattle.spec_machine.specs.Requests.{plain_act, act_of}
 use Rattle.spec_machine.specs.Writes.{Asker, may_write, is_releasable, release_act, write_act, write_group}
 use Rattle.spec_machine.specs.Access.{Addressed}
 use Rattle.port_device.specs.Groups.{without_handles}
@@ -54,9 +54,9 @@ permitted-effect : (k : Asker) (b : Bool) (bytes : List ℕ) (r : Result (List A
 permitted-effect k b bytes r = subst IsOfHandles (sym (permitted-quiet k b bytes r)) tt
 
 pub read-effect : (a : Asking) (group offset len : ℕ) → IsOfHandles (effect_of (act_asked a (Read group offset len)))
-unfolding act_of
+unfolding act_of plain_act
 read-effect a group offset len =
-    idle-effect (act_asked a (Read group offset len)) (read-idle (setup_of a.world) a.client a.asker.port (answered_group _ group) offset len)
+    idle-effect (act_asked a (Read group offset len)) (read-idle (setup_of a.world) a.client a.asker.port (answered_group _ group) offset _)
 
 release-effect : (c : Client) (p : PlantPort) (bytes : List ℕ) → IsOfHandles (effect_of (release_act c p bytes))
 release-effect c p bytes = go (length bytes == 4) (is_releasable (kept_status c.handles (number32 0 bytes) p.number))
@@ -80,7 +80,7 @@ group-effect c k (Some ValueByHandle) offset bytes =
 group-effect c k (Some g) offset bytes = tt
 
 pub write-effect : (a : Asking) (group offset : ℕ) (bytes : List ℕ) → IsOfHandles (effect_of (act_asked a (Write group offset bytes)))
-unfolding act_of
+unfolding act_of plain_act
 write-effect a group offset bytes = group-effect a.client a.asker (answered_group _ group) offset bytes
 
 grant-effect : (c : Client) (p : PlantPort) (place : Place) → IsOfHandles (effect_of (grant_act c p place))
@@ -107,5 +107,5 @@ named-effect c p (Some ValueByHandle) len name = tt
 named-effect c p g len name = idle-effect (read_write_group c p (without_handles g) len name) (port-idle c p g len name)
 
 pub read_write-effect : (a : Asking) (group offset len : ℕ) (bytes : List ℕ) → IsOfHandles (effect_of (act_asked a (ReadWrite group offset len bytes)))
-unfolding act_of
-read_write-effect a group offset len bytes = named-effect a.client a.asker.port (answered_group _ group) len bytes
+unfolding act_of plain_act
+read_write-effect a group offset len bytes = named-effect a.client a.asker.port (answered_group _ group) _ _

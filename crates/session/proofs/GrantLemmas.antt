@@ -27,7 +27,7 @@ use Rattle.spec_machine.specs.Client as client
 use Rattle.spec_machine.specs.Client.{names_of_place, NoEffect, Grants, client_after}
 use Rattle.spec_machine.specs.Handles.{Grant, live_count}
 use Rattle.spec_machine.specs.HandleLaws.{handles_of}
-use Rattle.spec_machine.specs.Requests.{act_of}
+use Rattle.spec_machine.specs.Requests.{plain_act}
 use Rattle.symbol_table.specs.declared.place.Place.{Place}
 use Rattle.sym_handles.specs.declared.handles.Full.{Full}
 use Rattle.sym_handles.specs.Kept.{Kept}
@@ -37,7 +37,7 @@ use Rattle.port_device.specs.Answers.{AnswersAct, FindsPlace}
 use Rattle.port_device.specs.Groups.{without_handles}
 use Rattle.port_device.specs.Holds.{HoldsPort}
 use Rattle.port_device.specs.PortMemory.{PortMemory}
-use Rattle.session.specs.Asking.{Asking, act_asked, after_act, asking_after}
+use Rattle.session.specs.Asking.{Asking, act_asked, after_act, plain_asked}
 use Rattle.session.specs.Asks.{Asks, SomeAsks}
 use Rattle.session.specs.Grants.{IsPlaceNamed, handle_act}
 use Rattle.session.specs.HandleGroups.{is_handle_by_name}
@@ -60,13 +60,13 @@ port-group c p (Some HandleByName) len name is = absurd (false≢true (sym is))
 port-group c p g len name is = refl
 
 pub asks-handle : (a : Asking) (group offset len : ℕ) (bytes : List ℕ) → is_handle_by_name (group_of group) ≡ true
-    → act_asked a (ReadWrite group offset len bytes) ≡ handle_act a len bytes
-unfolding act_of answered_group
+    → plain_asked a (ReadWrite group offset len bytes) ≡ handle_act a len bytes
+unfolding plain_act answered_group
 asks-handle a group offset len bytes is = handle-group a.client a.asker.port (group_of group) len bytes is
 
 pub asks-port : (a : Asking) (group offset len : ℕ) (bytes : List ℕ) → is_handle_by_name (group_of group) ≡ false
-    → act_asked a (ReadWrite group offset len bytes) ≡ read_write_group a.client a.asker.port (without_handles (group_of group)) len bytes
-unfolding act_of answered_group
+    → plain_asked a (ReadWrite group offset len bytes) ≡ read_write_group a.client a.asker.port (without_handles (group_of group)) len bytes
+unfolding plain_act answered_group
 asks-port a group offset len bytes is = port-group a.client a.asker.port (group_of group) len bytes is
 
 pub read_write-asked : (m : PortMemory) (kept : Kept) (group offset len : ℕ) (bytes : List ℕ)
@@ -279,21 +279,21 @@ port-idle c p g len name = tt
 
 pub port-leaves : (m : PortMemory) (kept : Kept) (group offset len : ℕ) (bytes : List ℕ) (r : Result (Result (Unit {0}) Code) NoMemory)
     → is_handle_by_name (group_of group) ≡ false
-    → OnOk r ((a : Asking) → Asks a m kept → Asks (asking_after a (ReadWrite group offset len bytes)) m kept)
+    → OnOk r ((a : Asking) → Asks a m kept → Asks (after_act a (plain_asked a (ReadWrite group offset len bytes))) m kept)
 port-leaves m kept group offset len bytes (Err no_memory) is = tt
 port-leaves m kept group offset len bytes (Ok answer) is = λ a asks.
     let act = read_write_group a.client a.asker.port (without_handles (group_of group)) len bytes in
-    leaves-along a act (act_asked a (ReadWrite group offset len bytes)) m kept (asks-port a group offset len bytes is)
+    leaves-along a act (plain_asked a (ReadWrite group offset len bytes)) m kept (asks-port a group offset len bytes is)
     (idle-leaves a act m kept (port-idle a.client a.asker.port (group_of group) len bytes) asks)
 
 -- the handle of a name, as the request
 pub asked-leaves : (m : PortMemory) (kept kept' : Kept) (group offset len : ℕ) (bytes : List ℕ) (r : Result (Result (Unit {0}) Code) NoMemory)
     → is_handle_by_name (group_of group) ≡ true
     → OnOk r ((a : Asking) → Asks a m kept → Asks (after_act a (handle_act a len bytes)) m kept')
-    → OnOk r ((a : Asking) → Asks a m kept → Asks (asking_after a (ReadWrite group offset len bytes)) m kept')
+    → OnOk r ((a : Asking) → Asks a m kept → Asks (after_act a (plain_asked a (ReadWrite group offset len bytes))) m kept')
 asked-leaves m kept kept' group offset len bytes (Err no_memory) is said = tt
 asked-leaves m kept kept' group offset len bytes (Ok answer) is said = λ a asks.
-    leaves-along a (handle_act a len bytes) (act_asked a (ReadWrite group offset len bytes)) m kept' (asks-handle a group offset len bytes is) (said a asks)
+    leaves-along a (handle_act a len bytes) (plain_asked a (ReadWrite group offset len bytes)) m kept' (asks-handle a group offset len bytes is) (said a asks)
 
 -- a refusal answers nothing, and leaves all as it was
 

@@ -15,13 +15,13 @@ use Rattle.spec_machine.specs.Client as client
 use Rattle.spec_machine.specs.Handles.{kept_status}
 use Rattle.spec_machine.specs.Reach.{reach_of, addressed_by_status}
 use Rattle.spec_machine.specs.Reads.{read_act, read_group}
-use Rattle.spec_machine.specs.Requests.{act_of}
+use Rattle.spec_machine.specs.Requests.{plain_act}
 use Rattle.sym_handles.specs.Kept.{Kept}
 use Rattle.port_device.specs.Answers.{Answers, AnswersAct}
 use Rattle.port_device.specs.Groups.{without_handles}
 use Rattle.port_device.specs.Holds.{HoldsPort}
 use Rattle.port_device.specs.PortMemory.{PortMemory}
-use Rattle.session.specs.Asking.{Asking, act_asked}
+use Rattle.session.specs.Asking.{Asking, act_asked, plain_asked}
 use Rattle.session.specs.Asks.{Asks, SomeAsks}
 use Rattle.session.specs.HandleGroups.{is_value_by_handle}
 
@@ -39,15 +39,15 @@ port-group d c p (Some ValueByHandle) offset len is = absurd (false≢true (sym 
 port-group d c p g offset len is = refl
 
 pub read-by-handle : (a : Asking) (group offset len : ℕ) → is_value_by_handle (group_of group) ≡ true
-    → act_asked a (Read group offset len)
+    → plain_asked a (Read group offset len)
     ≡ read_act (addressed_by_status a.asker.port.number (kept_status a.client.handles offset a.asker.port.number) len)
-unfolding act_of answered_group
+unfolding plain_act answered_group
 read-by-handle a group offset len is = handle-group (setup_of a.world) a.client a.asker.port (group_of group) offset len is
 
 pub read-by-port : (a : Asking) (group offset len : ℕ) → is_value_by_handle (group_of group) ≡ false
-    → act_asked a (Read group offset len)
+    → plain_asked a (Read group offset len)
     ≡ read_group (setup_of a.world) a.client a.asker.port (without_handles (group_of group)) offset len
-unfolding act_of answered_group
+unfolding plain_act answered_group
 read-by-port a group offset len is = port-group (setup_of a.world) a.client a.asker.port (group_of group) offset len is
 
 -- an answer to another name of the same act, for every client who asks

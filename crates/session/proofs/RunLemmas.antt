@@ -26,7 +26,7 @@ use Rattle.spec_machine.specs.Watches.{Watch}
 use Rattle.notify_table.specs.Table.{WatchTable}
 use Rattle.spec_machine.specs.Decisions.{Decision, Perform, Single, acts_in}
 use Rattle.spec_machine.specs.Replies.{reply_payload, reply_in_forms, outcome_in_all}
-use Rattle.spec_machine.specs.Requests.{act_of}
+use Rattle.spec_machine.specs.Requests.{plain_act, act_of}
 use Rattle.spec_machine.specs.Sums.{given_in_turn}
 use Rattle.spec_machine.specs.SumPackets.{acts_of, decide_single, decide_read_write, decide_request}
 use Rattle.spec_machine.specs.Writes.{Asker, may_control, control_act}
@@ -156,7 +156,7 @@ info-payload f fits =
 
 pub info-runs : (a : Asking) (m : PortMemory) (s : SessionState) (f : plant.Facts) (old new : List ℕ) → AsksSession a m s
     → f ≡ m.facts → f.build < 2 ^ 16 → new ≡ old ++ written_bytes (reply.ReadDeviceInfo 0 f) → Runs a ReadDeviceInfo old new m s
-unfolding act_of
+unfolding act_of plain_act
 info-runs a m s f old new h is fits put =
     let same : f ≡ a.asker.port.facts = is ∙ h.held.facts ∙ sym (ap (λ (q : PlantPort). q.facts) h.held.plant) in
     let bytes : facts_bytes f ≡ facts_bytes a.asker.port.facts ++ [] = ap facts_bytes same ∙ sym (append-nil (facts_bytes a.asker.port.facts)) in
@@ -175,7 +175,7 @@ state-payload ads device fits fits' =
 pub state-runs : (a : Asking) (m : PortMemory) (s : SessionState) (ads device : ℕ) (old new : List ℕ) → AsksSession a m s
     → ads ≡ m.bytes.ads → device ≡ m.bytes.device → ads < 2 ^ 16 → device < 2 ^ 16
     → new ≡ old ++ written_bytes (reply.ReadState 0 ads device) → Runs a ReadState old new m s
-unfolding act_of
+unfolding act_of plain_act
 state-runs a m s ads device old new h is is' fits fits' put =
     let bytes : state_bytes ads device ≡ values_at a.world.memory (map WholeByte (state_names a.asker.port)) =
     ap (λ n. state_bytes n device) is ∙ ap (λ n. state_bytes m.bytes.ads n) is' ∙ sym (reads_states a.world.memory a.asker.port m.bytes h.held.holds) in
@@ -185,7 +185,7 @@ state-runs a m s ads device old new h is is' fits fits' put =
 
 pub note-runs : (a : Asking) (m : PortMemory) (s : SessionState) (bytes old new : List ℕ) → AsksSession a m s
     → new ≡ old ++ written_bytes (reply.Write 0) → Runs a (DeviceNotification bytes) old new m s
-unfolding act_of
+unfolding act_of plain_act
 note-runs a m s bytes old new h put =
     runs-single a (DeviceNotification bytes) old new m s tt (put ∙ ap (λ x. old ++ x) (sym (note-payload (outcome_asked a (DeviceNotification bytes)))))
     (session-idle a (act_asked a (DeviceNotification bytes)) m s (refl, refl) h)
@@ -280,7 +280,7 @@ control-quiet k ads device = go (may_control k.rights) ((ads == RUN) || (ads == 
 pub control-runs : (a : Asking) (ads device n : ℕ) (bytes : List ℕ) (answer : Result (Unit {0}) Code) (m m' : PortMemory) (s : SessionState) (old new : List ℕ)
     → AsksSession a m s → EndsAs a.world a.asker.port (control_act a.asker ads device) answer m' → n ≡ code_in answer
     → new ≡ old ++ written_bytes (reply.WriteControl n) → Runs a (WriteControl ads device bytes) old new m' s
-unfolding act_of
+unfolding act_of plain_act
 control-runs a ads device n bytes answer m m' s old new h ends is put =
     let r = WriteControl ads device bytes in
     let act = act_asked a r in

@@ -23,7 +23,7 @@ use Rattle.spec_machine.specs.Client.{Client}
 use Rattle.spec_machine.specs.Reach.{reach_of}
 use Rattle.spec_machine.specs.Reads.{fixed_reply, read_act, read_group}
 use Rattle.spec_machine.specs.Entries.{symbol_upload_of, type_upload_of, upload_info_of, upload_info_with_types_of}
-use Rattle.spec_machine.specs.Requests.{act_of}
+use Rattle.spec_machine.specs.Requests.{plain_act, act_of}
 use Rattle.sum_commands.specs.Parts.{Gives, code_in}
 use Rattle.sym_handles.specs.Kept.{Kept}
 use Rattle.port_device.specs.PortMemory.{PortMemory}
@@ -95,10 +95,10 @@ read-idle d c p (Some UploadInfoWithTypes) offset len = fixed-idle len (upload_i
 read-idle d c p g offset len = reached-idle (reach_of c p g offset len)
 
 pub read-leaves : (a : Asking) (group offset len : ℕ) (m : PortMemory) (kept : Kept) → Asks a m kept → Asks (asking_after a (Read group offset len)) m kept
-unfolding act_of
+unfolding act_of plain_act
 read-leaves a group offset len m kept asks =
     idle-leaves a (act_asked a (Read group offset len)) m kept
-    (read-idle (setup_of a.world) a.client a.asker.port (answered_group _ group) offset len) asks
+    (read-idle (setup_of a.world) a.client a.asker.port (answered_group _ group) offset _) asks
 
 -- only bytes are others, twice
 pub keeps-both : (first second third : PortMemory) → KeepsDescription first second → KeepsDescription second third → KeepsDescription first third

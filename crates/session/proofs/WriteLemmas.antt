@@ -19,7 +19,7 @@ use Rattle.spec_machine.specs.Client as client
 use Rattle.spec_machine.specs.Handles.{HandleStatus, Never, Released, Outdated, Live, Release, kept_status, status_of}
 use Rattle.spec_machine.specs.HandleLaws.{AgreeingStatus, AgreeingHandles, handles_of}
 use Rattle.spec_machine.specs.Reach.{addressed_by_status, addressed_in_place, reach_of}
-use Rattle.spec_machine.specs.Requests.{act_of}
+use Rattle.spec_machine.specs.Requests.{plain_act, act_of}
 use Rattle.spec_machine.specs.Writes.{Asker, may_write, write_act, is_releasable, release_act, are_writable, write_group}
 use Rattle.spec_machine.proofs.HandleStatuses.{status_is_history}
 use Rattle.symbol_table.specs.declared.place.Place.{Place}
@@ -64,17 +64,17 @@ port-group c k g offset bytes is not_ = refl
 
 pub write-releases : (a : Asking) (group offset : ℕ) (bytes : List ℕ) → is_release (group_of group) ≡ true
     → act_asked a (Write group offset bytes) ≡ release_act a.client a.asker.port bytes
-unfolding act_of answered_group
+unfolding act_of plain_act answered_group
 write-releases a group offset bytes is = release-group a.client a.asker (group_of group) offset bytes is
 
 pub write-by-handle : (a : Asking) (group offset : ℕ) (bytes : List ℕ) → is_value_by_handle (group_of group) ≡ true
     → act_asked a (Write group offset bytes) ≡ value_write_act a offset bytes
-unfolding act_of answered_group
+unfolding act_of plain_act answered_group
 write-by-handle a group offset bytes is = value-group a.client a.asker (group_of group) offset bytes is
 
 pub write-by-port : (a : Asking) (group offset : ℕ) (bytes : List ℕ) → is_release (group_of group) ≡ false → is_value_by_handle (group_of group) ≡ false
     → act_asked a (Write group offset bytes) ≡ write_group a.client a.asker (written_by_port (group_of group)) offset bytes
-unfolding act_of answered_group
+unfolding act_of plain_act answered_group
 write-by-port a group offset bytes is not_ = port-group a.client a.asker (group_of group) offset bytes is not_
 
 -- how it ends

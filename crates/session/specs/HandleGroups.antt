@@ -1,6 +1,7 @@
 -- The groups of handles and of sums, which a session answers and no port does. No public clause cites this file.
 use Rattle.std.specs.Prelude.{Bool, true, false, Option, Some}
-use Rattle.spec_formats.specs.Groups.{Group, HandleByName, ValueByHandle, ReleaseHandle, SumRead, SumWrite, SumReadWrite}
+use Rattle.spec_formats.specs.Groups.{Group, HandleByName, ValueByHandle, ValueByName, InfoByName, ExtendedInfoByName}
+use Rattle.spec_formats.specs.Groups.{ReleaseHandle, SumRead, SumWrite, SumReadWrite}
 
 abbrev pub is_handle_by_name : Option Group → Bool
 is_handle_by_name (Some HandleByName) = true
@@ -9,6 +10,18 @@ is_handle_by_name group = false
 abbrev pub is_value_by_handle : Option Group → Bool
 is_value_by_handle (Some ValueByHandle) = true
 is_value_by_handle group = false
+
+abbrev pub is_value_by_name : Option Group → Bool
+is_value_by_name (Some ValueByName) = true
+is_value_by_name group = false
+
+-- the data is a name
+abbrev pub takes_name : Option Group → Bool
+takes_name (Some HandleByName) = true
+takes_name (Some ValueByName) = true
+takes_name (Some InfoByName) = true
+takes_name (Some ExtendedInfoByName) = true
+takes_name group = false
 
 abbrev pub is_release : Option Group → Bool
 is_release (Some ReleaseHandle) = true

@@ -6,11 +6,12 @@ ghost use Rattle.spec_machine.specs.ByName.{grant_act};
 ghost use Rattle.spec_machine.specs.Client as client;
 ghost use Rattle.port_device.specs.Answers.{AnswersAct};
 ghost use Rattle.port_device.specs.PortMemory.{PortMemory};
-ghost use Rattle.session.specs.Asking.{Asking, act_asked, asking_after, after_act};
+ghost use Rattle.session.specs.Asking.{Asking, act_asked, plain_asked, asking_after, after_act};
 ghost use Rattle.session.specs.Asks.{Asks, SomeAsks};
 ghost use Rattle.session.specs.Grants.{IsPlaceNamed, handle_act};
 
 use crate::groups::is_handle_by_name;
+use crate::meaning::{name_meant, value_len};
 use crate::requests::ReadWriteRequest;
 use ads_base::{NoMemory, Octets, put32};
 use port_device::Port;
@@ -19,7 +20,8 @@ use std::alloc::Global;
 use sym_handles::Handles;
 use symbol_table::Place;
 
-/// Grants a handle for a name, or appends what the port gives of a name. Beckhoff Information System, "ADS Read Write".
+/// Grants a handle for a name, or appends what the port gives of a name. A wide port takes a name without its NULs and one
+/// full stop in front, and gives of a value what it has, where more is asked. Beckhoff Information System, "ADS Read Write".
 pub(crate) fn read_write(
     alloc: Global,
     handles: &mut Handles,
@@ -35,6 +37,36 @@ pub(crate) fn read_write(
     ensures leaves { OnOk result ((a : Asking) → Asks a port.now handles.old
         → Asks (asking_after a (ReadWrite asked.now.group asked.now.offset asked.now.len asked.now.bytes.now)) port.now handles.new) }
     ensures asked { OnOk result (length out.new ≤ length out.old + asked.now.len) }
+    ensures no_memory { OnErr result (out.new ≡ out.old) }
+{
+    if !port.is_wide() {
+        return read_write_plain(alloc, handles, port, ams_port, asked, out);
+    }
+    let bytes = name_meant(asked.group, asked.bytes);
+    let len = value_len(port, asked.group, asked.len, bytes);
+    let meant = ReadWriteRequest {
+        group: asked.group,
+        offset: asked.offset,
+        len,
+        bytes,
+    };
+    read_write_plain(alloc, handles, port, ams_port, &meant, out)
+}
+
+// The same of a ReadWrite that is taken as it is written.
+fn read_write_plain(
+    alloc: Global,
+    handles: &mut Handles,
+    port: &Port,
+    ams_port: u16,
+    asked: &ReadWriteRequest<'_>,
+    out: &mut Octets,
+) -> Result<Result<(), Code>, NoMemory>
+    requires number { ams_port ≡ port.now.number }
+    ensures answer { IfOk result (λ answer. (a : Asking) → Asks a port.now handles.old
+        → AnswersAct a.world (plain_asked a (ReadWrite asked.now.group asked.now.offset asked.now.len asked.now.bytes.now)) answer out.old out.new) }
+    ensures leaves { OnOk result ((a : Asking) → Asks a port.now handles.old
+        → Asks (after_act a (plain_asked a (ReadWrite asked.now.group asked.now.offset asked.now.len asked.now.bytes.now))) port.now handles.new) }
     ensures no_memory { OnErr result (out.new ≡ out.old) }
 {
     if is_handle_by_name(asked.group) {

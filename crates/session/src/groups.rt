@@ -4,7 +4,7 @@ ghost use Rattle.std.specs.Prelude.{◌≡◌};
 ghost use Rattle.spec_formats.specs.Groups.{group_of};
 ghost use Rattle.session.specs.HandleGroups as groups;
 
-use index_groups::{HANDLE_BY_NAME, RELEASE_HANDLE, VALUE_BY_HANDLE};
+use index_groups::{HANDLE_BY_NAME, RELEASE_HANDLE, VALUE_BY_HANDLE, VALUE_BY_NAME};
 use port_device::{Group, group_named};
 
 /// Whether the group of a number gives a handle by a name.
@@ -19,6 +19,24 @@ pub(crate) fn is_value_by_handle(number: u32) -> bool
     ensures { result ≡ groups.is_value_by_handle (group_of number) }
 {
     number == VALUE_BY_HANDLE
+}
+
+/// Whether the group of a number gives a value by its name.
+pub(crate) fn is_value_by_name(number: u32) -> bool
+    ensures { result ≡ groups.is_value_by_name (group_of number) }
+{
+    number == VALUE_BY_NAME
+}
+
+/// Whether the data of a ReadWrite of a group is a name.
+pub(crate) fn takes_name(number: u32) -> bool
+    ensures { result ≡ groups.takes_name (group_of number) }
+{
+    match group_named(number) {
+        Some(Group::HandleByName) | Some(Group::ValueByName) => true,
+        Some(Group::InfoByName) | Some(Group::ExtendedInfoByName) => true,
+        _ => false,
+    }
 }
 
 /// Whether the group of a number releases a handle.

@@ -9,6 +9,7 @@ mod framing;
 mod granting;
 mod groups;
 mod looking;
+mod meaning;
 mod notes;
 mod notes_ended;
 mod notes_group;

@@ -3,11 +3,12 @@
 ghost use Rattle.std.specs.Prelude.{◌≡◌, ◌+◌, ◌≤◌, length, IfOk, OnOk, OnErr};
 ghost use Rattle.spec_formats.specs.Request.{Read};
 ghost use Rattle.port_device.specs.Answers.{AnswersAct};
-ghost use Rattle.session.specs.Asking.{Asking, act_asked};
+ghost use Rattle.session.specs.Asking.{Asking, act_asked, plain_asked};
 ghost use Rattle.session.specs.Asks.{Asks, SomeAsks};
 
 use crate::groups::is_value_by_handle;
 use crate::looking::read_value;
+use crate::meaning::read_len;
 use crate::requests::ReadRequest;
 use ads_base::{NoMemory, Octets};
 use port_device::Port;
@@ -15,7 +16,8 @@ use return_codes::Code;
 use std::alloc::Global;
 use sym_handles::Handles;
 
-/// Appends what Read gives: a value by its handle, or what the port gives of the group.
+/// Appends what Read gives: a value by its handle, or what the port gives of the group. A wide port gives of a value by its
+/// handle what it has, where more is asked.
 /// Beckhoff Information System, "ADS Read".
 #[inline(always)]
 pub(crate) fn read(
@@ -31,6 +33,31 @@ pub(crate) fn read(
     ensures answer { IfOk result (λ answer. (a : Asking) → Asks a port.now handles.now
         → AnswersAct a.world (act_asked a (Read asked.now.group asked.now.offset asked.now.len)) answer out.old out.new) }
     ensures asked { OnOk result (length out.new ≤ length out.old + asked.now.len) }
+    ensures no_memory { OnErr result (out.new ≡ out.old) }
+{
+    let len = read_len(handles, port, ams_port, asked);
+    let meant = ReadRequest {
+        group: asked.group,
+        offset: asked.offset,
+        len,
+    };
+    read_plain(alloc, handles, port, ams_port, &meant, out)
+}
+
+// The same of a Read that is taken as it is written.
+#[inline(always)]
+fn read_plain(
+    alloc: Global,
+    handles: &Handles,
+    port: &Port,
+    ams_port: u16,
+    asked: &ReadRequest,
+    out: &mut Octets,
+) -> Result<Result<(), Code>, NoMemory>
+    requires some { SomeAsks port.now handles.now }
+    requires number { ams_port ≡ port.now.number }
+    ensures answer { IfOk result (λ answer. (a : Asking) → Asks a port.now handles.now
+        → AnswersAct a.world (plain_asked a (Read asked.now.group asked.now.offset asked.now.len)) answer out.old out.new) }
     ensures no_memory { OnErr result (out.new ≡ out.old) }
 {
     if is_value_by_handle(asked.group) {

@@ -8,6 +8,7 @@ ghost use Rattle.spec_machine.specs.Answers.{answered_group, ADD_DEVICE_NOTIFICA
 ghost use Rattle.spec_machine.specs.Acts.{Act};
 ghost use Rattle.spec_machine.specs.Handles.{kept_status};
 ghost use Rattle.spec_machine.specs.Reach.{reach_of, addressed_by_status};
+ghost use Rattle.spec_machine.specs.Meanings.{mode_in};
 ghost use Rattle.spec_machine.specs.Requests.{mode_of};
 ghost use Rattle.notify_table.specs.Specs.{address_of, mode_meant};
 ghost use Rattle.notify_table.specs.Table.{watched_len, CanBeWatched};
@@ -23,6 +24,7 @@ use crate::Session;
 use crate::asker::Asker;
 use crate::groups::is_value_by_handle;
 use crate::looking::look;
+use crate::meaning::meant_mode;
 use crate::requests::NoteRequest;
 use ads_base::NoMemory;
 use index_groups::{Reach, reach};
@@ -40,7 +42,7 @@ impl Session {
     ///
     /// | refused by | where |
     /// |---|---|
-    /// | 0x713 | the mode is neither 3 nor 4 |
+    /// | 0x713 | the mode is neither 3 nor 4; at a wide port, nor 5 nor 6, which are taken for them |
     /// | 0x717 | more than 2,048 bytes are to be watched |
     /// | 0x702 | the group names neither bytes, a bit nor a value by handle |
     /// | 0x703, or the code of the handle | the offset lies outside, or the handle is not live |
@@ -86,7 +88,7 @@ impl Session {
             result }
         ensures watchable { IfOk result (λ spec. CanBeWatched (range_meant spec.reach)) }
     {
-        match mode_named(asked.mode) {
+        match mode_named(meant_mode(port, asked.mode)) {
             Some(mode) => self.spec_with_mode(port, asker, asked, mode),
             None => Err(Code::C713),
         }
@@ -101,7 +103,7 @@ impl Session {
     ) -> Result<Spec, Code>
         requires some { SomeAsks port.now self.now.handles }
         requires number { asker.ams_port ≡ port.now.number }
-        requires mode { Some (mode_meant mode) ≡ mode_of asked.now.mode }
+        requires mode { Some (mode_meant mode) ≡ mode_of (mode_in port.now.profile asked.now.mode) }
         ensures asked { (a : Asking) (delay : ℕ) → Asks a port.now self.now.handles → a.asker.address ≡ address_of asker.source
             → IsSpecAsked a (act_asked a (AddDeviceNotification asked.now.group asked.now.offset asked.now.len asked.now.mode delay asked.now.cycle))
             result }

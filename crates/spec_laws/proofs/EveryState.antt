@@ -28,7 +28,7 @@ use Rattle.spec_machine.specs.Replies.{performed}
 use Rattle.spec_machine.specs.Ticks.{signal_puts, world_after_tick, client_after_tick}
 use Rattle.spec_machine.specs.Reloads.{is_kept, world_after_reload, client_reloaded}
 use Rattle.spec_machine.specs.AdsDevice.{DescriptionReading, reloading, ads_device, server_step}
-use Rattle.spec_laws.specs.Isolation.{start}
+use Rattle.spec_laws.specs.Isolation.{start_in}
 use Rattle.spec_laws.specs.Soundness.{Each, IsSoundPlant, ReadsAccepted}
 use Rattle.spec_laws.specs.Reachable.{IsPlaced, IsPlacedStatus, IsPlacedHandle, IsThereAt, IsWatchThere, ConnectionFits, AllFits, EveryStateFits}
 use Rattle.spec_laws.proofs.Memory.{same_part-true}
@@ -117,13 +117,14 @@ client-kept old new so sn c f = record { handles = handles-kept old new c.handle
 abbrev ConnFits : Plant → Connection Client → Type 0
 ConnFits plant k = is_deaf k ≡ false → FitsPlant plant k.client
 
--- frames: the plant stays, the parts keep their lengths, and the client fits
+-- frames: the profile and the plant stay, the parts keep their lengths, and the client fits
 pub record Goes (x y : Exchange World Client) : Type 0 where
+  pub profile : y.world.profile ≡ x.world.profile
   pub plant : y.world.plant ≡ x.world.plant
   pub memory : Alike y.world.memory x.world.memory
 
 goes_then : (x y z : Exchange World Client) → Goes x y → Goes y z → Goes x z
-goes_then x y z p q = record { plant = q.plant ∙ p.plant; memory = alike_then z.world.memory y.world.memory x.world.memory q.memory p.memory }
+goes_then x y z p q = record { profile = q.profile ∙ p.profile; plant = q.plant ∙ p.plant; memory = alike_then z.world.memory y.world.memory x.world.memory q.memory p.memory }
 
 packet-goes : (reading : DescriptionReading) (p : List ℕ) (x : Exchange World Client) → Goes x (after_packet (ads_device reading) p x)
 unfolding after_packet performed
@@ -133,12 +134,12 @@ packet-goes reading p x = go x.connection.closing
     decision = decide (setup_of x.world) x.connection.client p
 
     go : (b : Bool) → Goes x (cond b x (after_outcome (performed decision p x.world x.connection.client) x.connection))
-    go true = record { plant = refl; memory = alike_itself x.world.memory }
-    go false = record { plant = refl; memory = acts-alike (acts_in decision) x.world.memory }
+    go true = record { profile = refl; plant = refl; memory = alike_itself x.world.memory }
+    go false = record { profile = refl; plant = refl; memory = acts-alike (acts_in decision) x.world.memory }
 
 packets-go : (reading : DescriptionReading) (ps : List (List ℕ)) (x : Exchange World Client) → Goes x (after_packets (ads_device reading) ps x)
 unfolding after_packets
-packets-go reading [] x = record { plant = refl; memory = alike_itself x.world.memory }
+packets-go reading [] x = record { profile = refl; plant = refl; memory = alike_itself x.world.memory }
 packets-go reading (p ∷ ps) x =
     let y = after_packet (ads_device reading) p x in
     goes_then x y (after_packets (ads_device reading) ps y) (packet-goes reading p x) (packets-go reading ps y)
@@ -151,9 +152,9 @@ piece-goes reading bytes x = go (is_deaf x.connection)
     y = after_packets (ads_device reading) (packets_left (with_received bytes x.connection)) (with_piece bytes x)
 
     go : (b : Bool) → Goes x (cond b x (end_of_piece y))
-    go true = record { plant = refl; memory = alike_itself x.world.memory }
+    go true = record { profile = refl; plant = refl; memory = alike_itself x.world.memory }
     go false = let g = packets-go reading (packets_left (with_received bytes x.connection)) (with_piece bytes x) in
-        record { plant = g.plant; memory = g.memory }
+        record { profile = g.profile; plant = g.plant; memory = g.memory }
 
 packet-fits : (reading : DescriptionReading) (p : List ℕ) (x : Exchange World Client) → IsSoundPlant x.world.plant → FitsPlant x.world.plant x.connection.client
     → FitsPlant x.world.plant (after_packet (ads_device reading) p x).connection.client
@@ -253,7 +254,7 @@ exchange-good f goes fits s c (Some k) e g =
     }
 
 pub gone-goes : (x : Exchange World Client) → Goes x (with_gone x)
-gone-goes x = record { plant = refl; memory = alike_itself x.world.memory }
+gone-goes x = record { profile = refl; plant = refl; memory = alike_itself x.world.memory }
 
 gone-fits : (x : Exchange World Client) → IsSoundPlant x.world.plant → ConnFits x.world.plant x.connection → ConnFits x.world.plant (with_gone x).connection
 gone-fits x sound f = λ heard. absurd (false≢true (sym heard ∙ or_true x.connection.closing))
@@ -266,9 +267,9 @@ pub took-goes : (n : ℕ) (x : Exchange World Client) → Goes x (with_took n x)
 took-goes n x =
     elim (cases_Bool x.connection.gone) [
       | inl b ↦ subst (λ (t : Bool). Goes x (cond t x (record x { connection = record x.connection { bytes_taken = x.connection.bytes_taken + n } })))
-          (sym b) (record { plant = refl; memory = alike_itself x.world.memory })
+          (sym b) (record { profile = refl; plant = refl; memory = alike_itself x.world.memory })
       | inr b ↦ subst (λ (t : Bool). Goes x (cond t x (record x { connection = record x.connection { bytes_taken = x.connection.bytes_taken + n } })))
-          (sym b) (record { plant = refl; memory = alike_itself x.world.memory })
+          (sym b) (record { profile = refl; plant = refl; memory = alike_itself x.world.memory })
     ]
 
 took-fits : (n : ℕ) (x : Exchange World Client) → IsSoundPlant x.world.plant
@@ -394,7 +395,7 @@ all-fits s g = record {
 }
 
 pub every_state_fits : EveryStateFits
-every_state_fits reading h d signals accepted log =
+every_state_fits reading h profile d signals accepted log =
     let sound = accepted_are_sound d (length signals) accepted in
-    all-fits (state_after (server_step reading) (start d signals) log)
-    (log-good reading h log (start d signals) (record { sound = sound; memory = alike_itself (first_memory (plant_of d)); all = tt }))
+    all-fits (state_after (server_step reading) (start_in profile d signals) log)
+    (log-good reading h log (start_in profile d signals) (record { sound = sound; memory = alike_itself (first_memory (plant_of d)); all = tt }))

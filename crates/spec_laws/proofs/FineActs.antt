@@ -35,7 +35,8 @@ use Rattle.spec_formats.specs.Codes.{no_more_notifications}
 use Rattle.spec_formats.specs.SymbolEntry.{entry_bytes}
 use Rattle.spec_machine.specs.Entries.{entry_of_part}
 use Rattle.spec_machine.specs.ByName.{MAX_NUMBER}
-use Rattle.spec_machine.specs.Requests.{MAX_WATCHES, next_watch, add_watch, add_reached, add_act, act_of}
+use Rattle.spec_machine.specs.Meanings.{meant_by}
+use Rattle.spec_machine.specs.Requests.{MAX_WATCHES, next_watch, add_watch, add_reached, add_act, plain_act, act_of}
 use Rattle.spec_laws.specs.Soundness.{Each, IsSoundSymbol, IsSoundPlant}
 use Rattle.spec_laws.specs.Reachable.{IsPlaced, IsPlacedStatus, IsPlacedHandle}
 use Rattle.spec_laws.proofs.FirstMemory.{IsNamed, port_sound, symbol-named, area-named}
@@ -309,16 +310,21 @@ add-fine plant c k g offset len cycle None h = act_refusal plant _
 add-fine plant c k g offset len cycle (Some mode) h =
     act_if plant _ _ _ (act_refusal plant _) (add_reached-fine plant c k mode len cycle (reach_of c k.port g offset len) h)
 
+plain-fine : (plant : Plant) (d : Setup) (c : Client) (k : Asker) → IsAsked plant k.port
+    → Each (IsPlacedHandle plant) c.handles → (r : Request) → FineAct plant (plain_act d c k r)
+unfolding plain_act
+plain-fine plant d c k i e ReadDeviceInfo = act_fixed plant _
+plain-fine plant d c k i e (Read group offset len) = read_group-fine plant d c k.port (answered_group _ group) offset len
+plain-fine plant d c k i e (Write group offset bytes) = write_group-fine plant c k (answered_group _ group) offset bytes
+plain-fine plant d c k i e ReadState = act_reading plant _
+plain-fine plant d c k i e (WriteControl ads device bytes) = control-fine plant k ads device
+plain-fine plant d c k i e (AddDeviceNotification group offset len mode delay cycle) =
+    add-fine plant c k (answered_group _ group) offset len cycle _ (reach-fine plant c k.port i e (answered_group _ group) offset len)
+plain-fine plant d c k i e (DeleteDeviceNotification handle) = act_if plant _ _ _ (act_changing plant [] (Deletes handle) tt) (act_refusal plant _)
+plain-fine plant d c k i e (DeviceNotification bytes) = act_fixed plant _
+plain-fine plant d c k i e (ReadWrite group offset len bytes) = read_write-fine plant c k.port i (answered_group _ group) len bytes
+
 pub act-fine : (plant : Plant) (d : Setup) (c : Client) (k : Asker) → IsAsked plant k.port
     → Each (IsPlacedHandle plant) c.handles → (r : Request) → FineAct plant (act_of d c k r)
 unfolding act_of
-act-fine plant d c k i e ReadDeviceInfo = act_fixed plant _
-act-fine plant d c k i e (Read group offset len) = read_group-fine plant d c k.port (answered_group _ group) offset len
-act-fine plant d c k i e (Write group offset bytes) = write_group-fine plant c k (answered_group _ group) offset bytes
-act-fine plant d c k i e ReadState = act_reading plant _
-act-fine plant d c k i e (WriteControl ads device bytes) = control-fine plant k ads device
-act-fine plant d c k i e (AddDeviceNotification group offset len mode delay cycle) =
-    add-fine plant c k (answered_group _ group) offset len cycle _ (reach-fine plant c k.port i e (answered_group _ group) offset len)
-act-fine plant d c k i e (DeleteDeviceNotification handle) = act_if plant _ _ _ (act_changing plant [] (Deletes handle) tt) (act_refusal plant _)
-act-fine plant d c k i e (DeviceNotification bytes) = act_fixed plant _
-act-fine plant d c k i e (ReadWrite group offset len bytes) = read_write-fine plant c k.port i (answered_group _ group) len bytes
+act-fine plant d c k i e r = plain-fine plant d c k i e (meant_by d.profile c k.port r)

@@ -12,7 +12,7 @@ use Rattle.spec_machine.specs.Acts.{Access, Act, Refusal, Allowed, writing}
 use Rattle.spec_machine.specs.Answers.{answered_group, WRITE}
 use Rattle.spec_machine.specs.Reach.{addressed_in_place, addressed_by_status, reach_of}
 use Rattle.spec_machine.specs.Writes.{Asker, may_write, are_writable, write_act, write_group}
-use Rattle.spec_machine.specs.Requests.{act_of}
+use Rattle.spec_machine.specs.Requests.{plain_act, act_of}
 use Rattle.spec_laws.specs.Isolation.{IsAmong}
 use Rattle.spec_laws.specs.Soundness.{Each}
 use Rattle.spec_laws.specs.ExactWrites.{WritesPlace, WritesByHandle}
@@ -131,7 +131,7 @@ group-writes c k handle place bytes access live g (inl some) e =
     ]
 
 pub writes_by_handle : WritesByHandle
-unfolding act_of
+unfolding act_of plain_act
 writes_by_handle d c k handle place bytes access memory live accepted =
     let w = group-writes c k handle place bytes access live (answered_group WRITE value_by_handle) (by_handle WRITE) accepted in
     let P : List Put → Type 0 = λ ps. WritesPlace k.port.number place bytes memory (memory_after_puts memory ps) in

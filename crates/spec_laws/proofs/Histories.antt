@@ -30,7 +30,7 @@ use Rattle.spec_machine.proofs.Find.{or_else, test_same, test_other, connection_
 use Rattle.spec_machine.proofs.Growth.{after_piece-grows, connection_after_tick-grows, connection_after_reload-grows}
 use Rattle.spec_machine.proofs.Changes.{KeepsNumber, exchange_own, exchange_other, exchange_none, with_gone-number, with_took-number}
 use Rattle.spec_machine.proofs.HandleStatuses.{status_is_history}
-use Rattle.spec_laws.specs.Isolation.{start}
+use Rattle.spec_laws.specs.Isolation.{start_in}
 use Rattle.spec_laws.specs.Histories.{handle_events_of, handle_events_of_acts, handle_events_of_reload}
 use Rattle.spec_laws.specs.Histories.{is_heard, handle_events_of_event, handle_events_of_move, handle_history}
 use Rattle.spec_laws.specs.Histories.{HandlesAreHistory}
@@ -266,7 +266,7 @@ log-handles reading c (m ∷ ms) s =
 
 pub handles_are_history : HandlesAreHistory
 unfolding connection_of
-handles_are_history reading d signals log c k found handle port =
-    let history = handle_history reading c (start d signals) log in
-    let same : k.client.handles ≡ handles_of history = sym (ap handles_in found) ∙ log-handles reading c log (start d signals) in
+handles_are_history reading profile d signals log c k found handle port =
+    let history = handle_history reading c (start_in profile d signals) log in
+    let same : k.client.handles ≡ handles_of history = sym (ap handles_in found) ∙ log-handles reading c log (start_in profile d signals) in
     ap (λ (hs : List (Handle Place)). kept_status hs handle port) same ∙ status_is_history Place history handle port

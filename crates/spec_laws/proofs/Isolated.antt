@@ -15,7 +15,7 @@ use Rattle.spec_machine.specs.Connection.{Connection, connection_of}
 use Rattle.spec_machine.specs.MachineState.{MachineState, output_of_connection}
 use Rattle.spec_machine.specs.Moves.{EventStep, with_gone, with_took, state_after_move, state_after}
 use Rattle.spec_machine.specs.Events.{moment_of_tick, connection_after_tick, connection_after_reload, after_reload, state_after_event}
-use Rattle.spec_machine.specs.World.{World, world_of, first_memory}
+use Rattle.spec_machine.specs.World.{World, world_in, first_memory}
 use Rattle.spec_machine.specs.Client.{Client}
 use Rattle.spec_machine.specs.Acts.{reads_of_act, writes_of_act, reads_of_acts, writes_of_acts}
 use Rattle.spec_machine.specs.Ticks.{signal_puts, world_after_tick}
@@ -28,7 +28,7 @@ use Rattle.spec_machine.specs.Offers.{taken_of}
 use Rattle.spec_machine.specs.Delivery.{IsPrefix}
 use Rattle.spec_machine.proofs.TurnsKept.{takes_output}
 use Rattle.spec_machine.proofs.ServerDelivers.{server_only_adds, server_takes_all}
-use Rattle.spec_laws.specs.Isolation.{IsAmong, start, IsIsolated, SeesOnlyItself, TakesAsAlone, TakesAllAsAlone}
+use Rattle.spec_laws.specs.Isolation.{IsAmong, start_in, IsIsolated, SeesOnlyItself, TakesAsAlone, TakesAllAsAlone}
 use Rattle.spec_laws.proofs.Memory.{agree-back}
 use Rattle.spec_laws.proofs.Footprints.{Each, each_left, each_right, Not, puts-agree}
 use Rattle.spec_laws.proofs.Exchanges.{with_memory}
@@ -204,27 +204,27 @@ each_not (n ∷ ns) all h = (λ i. h n i (inl refl), each_not ns all (λ x i j. 
 -- the predicate on names is "the client reads it"
 pub isolated : IsIsolated
 unfolding connection_of
-isolated reading d signals c log apart =
-    let all = reads_of reading c (start d signals) log in
-    let e : SameForClient (λ n. IsAmong n all) c (start d signals) (start d signals) =
+isolated reading profile d signals c log apart =
+    let all = reads_of reading c (start_in profile d signals) log in
+    let e : SameForClient (λ n. IsAmong n all) c (start_in profile d signals) (start_in profile d signals) =
     record { world = refl; moment = refl; memory = record { same = λ n r. refl }; connection = refl; watches = tt } in
-    let s = runs reading (λ n. IsAmong n all) c log (start d signals) (start d signals) e
-    (each_among all all (λ n i. i)) (each_not (writes_by_others reading c (start d signals) log) all apart) in
+    let s = runs reading (λ n. IsAmong n all) c log (start_in profile d signals) (start_in profile d signals) e
+    (each_among all all (λ n i. i)) (each_not (writes_by_others reading c (start_in profile d signals) log) all apart) in
     sym (ap output_of_connection s.connection)
 
 pub sees_only_itself : SeesOnlyItself
-sees_only_itself reading d signals c log other same apart also =
-    isolated reading d signals c log apart
-    ∙ ap (λ l. output_of_connection (connection_of c (state_after (server_step reading) (start d signals) l).connections)) same
-    ∙ sym (isolated reading d signals c other also)
+sees_only_itself reading profile d signals c log other same apart also =
+    isolated reading profile d signals c log apart
+    ∙ ap (λ l. output_of_connection (connection_of c (state_after (server_step reading) (start_in profile d signals) l).connections)) same
+    ∙ sym (isolated reading profile d signals c other also)
 
 pub takes_as_alone : TakesAsAlone
-takes_as_alone reading d signals c log offers apart =
+takes_as_alone reading profile d signals c log offers apart =
     let device = ads_device reading in
-    subst (IsPrefix (taken_of c log)) (isolated reading d signals c log apart)
-    (takes_output World Client (server_step reading) (world_of d signals) c log (server_only_adds World Client device) offers)
+    subst (IsPrefix (taken_of c log)) (isolated reading profile d signals c log apart)
+    (takes_output World Client (server_step reading) (world_in profile d signals) c log (server_only_adds World Client device) offers)
 
 pub takes_all_as_alone : TakesAllAsAlone
-takes_all_as_alone reading d signals c log turns whole there apart =
-    server_takes_all (ads_device reading) (world_of d signals) c log turns whole there
-    ∙ isolated reading d signals c log apart
+takes_all_as_alone reading profile d signals c log turns whole there apart =
+    server_takes_all (ads_device reading) (world_in profile d signals) c log turns whole there
+    ∙ isolated reading profile d signals c log apart

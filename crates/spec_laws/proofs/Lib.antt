@@ -25,3 +25,4 @@ pub mod TameTrees
 pub mod BitWrites
 pub mod HandleWrites
 pub mod Histories
+pub mod Profiles

@@ -31,6 +31,7 @@ use Rattle.spec_machine.specs.MachineState.{MachineState, Exchange, exchange_of,
 use Rattle.spec_machine.specs.Piece.{after_piece}
 use Rattle.spec_machine.specs.Moves.{with_gone, with_took, state_after_move, state_after}
 use Rattle.spec_machine.specs.Events.{after_reload, state_after_event}
+use Rattle.spec_machine.specs.Profile.{Profile}
 use Rattle.spec_machine.specs.World.{World}
 use Rattle.spec_plant.proofs.TextLengths.{short_comment}
 use Rattle.spec_machine.specs.Client.{Place, Client}
@@ -38,7 +39,7 @@ use Rattle.spec_machine.specs.Entries.{entry_of_symbol, symbol_upload_of, entry_
 use Rattle.spec_machine.specs.Ticks.{world_after_tick}
 use Rattle.spec_machine.specs.Reloads.{world_after_reload}
 use Rattle.spec_machine.specs.AdsDevice.{DescriptionReading, reloading, ads_device, server_step}
-use Rattle.spec_laws.specs.Isolation.{start}
+use Rattle.spec_laws.specs.Isolation.{start_in}
 use Rattle.spec_laws.specs.Soundness.{Each, ReadsAccepted}
 use Rattle.spec_laws.specs.Reachable.{IsPlaced}
 use Rattle.spec_laws.proofs.TameTypes.{IsTame, path_len, text-short, tame-steps}
@@ -250,6 +251,6 @@ log-plant P a reading h [] s g = g
 log-plant P a reading h (m ∷ ms) s g = log-plant P a reading h ms (state_after_move (server_step reading) s m) (move-plant P a reading h s m g)
 
 pub every_plant : (P : Plant → Type 0) → HoldOfAccepted P → (reading : DescriptionReading)
-    → ReadsAccepted reading → (d : Description) (signals : List Wave) → IsAccepted d (length signals)
-    → (log : List Move) → P (state_after (server_step reading) (start d signals) log).world.plant
-every_plant P a reading h d signals accepted log = log-plant P a reading h log (start d signals) (a d (length signals) accepted)
+    → ReadsAccepted reading → (profile : Profile) (d : Description) (signals : List Wave) → IsAccepted d (length signals)
+    → (log : List Move) → P (state_after (server_step reading) (start_in profile d signals) log).world.plant
+every_plant P a reading h profile d signals accepted log = log-plant P a reading h log (start_in profile d signals) (a d (length signals) accepted)

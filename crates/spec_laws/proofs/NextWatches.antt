@@ -23,7 +23,8 @@ use Rattle.spec_machine.specs.Reach.{reach_of}
 use Rattle.spec_machine.specs.Reads.{fixed_reply, read_act, read_group}
 use Rattle.spec_machine.specs.Writes.{Asker, write_act, write_group, control_act}
 use Rattle.spec_machine.specs.ByName.{MAX_NUMBER, place_of, grant_act, value_act, info_of, if_found, read_write_group}
-use Rattle.spec_machine.specs.Requests.{MAX_WATCHED, MAX_WATCHES, next_watch, add_watch, add_reached, add_act, act_of}
+use Rattle.spec_machine.specs.Meanings.{meant_by}
+use Rattle.spec_machine.specs.Requests.{MAX_WATCHED, MAX_WATCHES, next_watch, add_watch, add_reached, add_act, plain_act, act_of}
 
 abbrev pub NextEffect : Client → Effect → Type 0
 NextEffect c NoEffect = Unit {0}
@@ -120,14 +121,18 @@ control-next : (c : Client) (k : Asker) (ads device : ℕ) → NextAct c (contro
 unfolding control_act
 control-next c k ads device = next_if c _ _ _ (next_refusal c _) (next_if c _ _ _ (next_writing c _) (next_refusal c _))
 
+plain-next : (d : Setup) (c : Client) (k : Asker) (r : Request) → NextAct c (plain_act d c k r)
+unfolding plain_act
+plain-next d c k ReadDeviceInfo = next_fixed c _
+plain-next d c k (Read group offset len) = read_group-next d c k.port (answered_group _ group) offset len
+plain-next d c k (Write group offset bytes) = write_group-next c k (answered_group _ group) offset bytes
+plain-next d c k ReadState = next_reading c _
+plain-next d c k (WriteControl ads device bytes) = control-next c k ads device
+plain-next d c k (AddDeviceNotification group offset len mode delay cycle) = add-next c k (answered_group _ group) offset len cycle _
+plain-next d c k (DeleteDeviceNotification handle) = next_if c _ _ _ (next_changing c [] (Deletes handle) tt) (next_refusal c _)
+plain-next d c k (DeviceNotification bytes) = next_fixed c _
+plain-next d c k (ReadWrite group offset len bytes) = read_write-next c k.port (answered_group _ group) len bytes
+
 pub act-next : (d : Setup) (c : Client) (k : Asker) (r : Request) → NextAct c (act_of d c k r)
 unfolding act_of
-act-next d c k ReadDeviceInfo = next_fixed c _
-act-next d c k (Read group offset len) = read_group-next d c k.port (answered_group _ group) offset len
-act-next d c k (Write group offset bytes) = write_group-next c k (answered_group _ group) offset bytes
-act-next d c k ReadState = next_reading c _
-act-next d c k (WriteControl ads device bytes) = control-next c k ads device
-act-next d c k (AddDeviceNotification group offset len mode delay cycle) = add-next c k (answered_group _ group) offset len cycle _
-act-next d c k (DeleteDeviceNotification handle) = next_if c _ _ _ (next_changing c [] (Deletes handle) tt) (next_refusal c _)
-act-next d c k (DeviceNotification bytes) = next_fixed c _
-act-next d c k (ReadWrite group offset len bytes) = read_write-next c k.port (answered_group _ group) len bytes
+act-next d c k r = plain-next d c k (meant_by d.profile c k.port r)

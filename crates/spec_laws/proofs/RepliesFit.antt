@@ -32,7 +32,8 @@ use Rattle.spec_formats.specs.SymbolEntry.{entry_bytes}
 use Rattle.spec_machine.specs.Entries.{symbol_upload_of, type_upload_of, upload_info_of, upload_info_with_types_of, entry_of_part}
 use Rattle.spec_machine.specs.Writes.{Asker, write_act, release_act, write_group, control_act}
 use Rattle.spec_machine.specs.ByName.{place_of, grant_act, value_act, info_of, read_write_group}
-use Rattle.spec_machine.specs.Requests.{next_watch, add_watch, add_reached, add_act, act_of}
+use Rattle.spec_machine.specs.Meanings.{meant_by}
+use Rattle.spec_machine.specs.Requests.{next_watch, add_watch, add_reached, add_act, plain_act, act_of}
 use Rattle.spec_machine.specs.Sums.{SumRequest, sum_of_reads, sum_of_writes, sum_of_read_writes, given_in_turn}
 use Rattle.spec_machine.specs.Decisions.{Decision, NoAnswer, EndConnection, AmsError, Perform, refuse}
 use Rattle.spec_machine.specs.SumPackets.{acts_of, decide_parts, decide_single}
@@ -40,7 +41,7 @@ use Rattle.spec_machine.specs.Packets.{decide}
 use Rattle.spec_machine.specs.Replies.{outcome_in_all, answer_to, answer_of, performed}
 use Rattle.spec_machine.specs.AdsDevice.{DescriptionReading, ads_device, server_step}
 use Rattle.spec_machine.proofs.DecisionCases.{decide-cases}
-use Rattle.spec_laws.specs.Isolation.{start}
+use Rattle.spec_laws.specs.Isolation.{start_in}
 use Rattle.spec_laws.specs.Soundness.{Each, IsSoundPlant}
 use Rattle.spec_laws.specs.Reachable.{IsPlacedStatus, IsPlacedHandle, ConnectionFits}
 use Rattle.spec_laws.specs.RepliesFit.{AnswerFits, AnswersFit, RepliesFit}
@@ -139,18 +140,22 @@ read_write-limit plant c p k (Some ExtendedInfoByName) len name =
     (λ f e. fixed-within greatest_len len (entry_bytes (entry_of_part f)) (entry-short p (port-modest plant c p k) name f e))
 read_write-limit plant c p k g len name = short_refusal greatest_len _
 
+plain-limit : (d : Setup) (c : Client) (k : Asker) → IsKnown d.plant c k.port → (r : Request) → IsShort greatest_len (plain_act d c k r)
+unfolding plain_act
+plain-limit d c k i ReadDeviceInfo = let n = (port-modest d.plant c k.port i).facts in short_fixed greatest_len (facts_bytes k.port.facts) (omega (arith, n))
+plain-limit d c k i (Read group offset len) = read-limit d c k.port i (answered_group _ group) offset len
+plain-limit d c k i (Write group offset bytes) = write_group-limit greatest_len c k (answered_group _ group) offset bytes
+plain-limit d c k i ReadState = short_reading greatest_len (map WholeByte (state_names k.port)) (omega arith)
+plain-limit d c k i (WriteControl ads device bytes) = control-limit greatest_len k ads device
+plain-limit d c k i (AddDeviceNotification group offset len mode delay cycle) = add-limit c k (answered_group _ group) offset len cycle _
+plain-limit d c k i (DeleteDeviceNotification handle) =
+    short_if greatest_len _ _ _ (short_changing greatest_len [] (Deletes handle) (omega arith)) (short_refusal greatest_len _)
+plain-limit d c k i (DeviceNotification bytes) = short_fixed greatest_len [] (omega arith)
+plain-limit d c k i (ReadWrite group offset len bytes) = read_write-limit d.plant c k.port i (answered_group _ group) len bytes
+
 act-limit : (d : Setup) (c : Client) (k : Asker) → IsKnown d.plant c k.port → (r : Request) → IsShort greatest_len (act_of d c k r)
 unfolding act_of
-act-limit d c k i ReadDeviceInfo = let n = (port-modest d.plant c k.port i).facts in short_fixed greatest_len (facts_bytes k.port.facts) (omega (arith, n))
-act-limit d c k i (Read group offset len) = read-limit d c k.port i (answered_group _ group) offset len
-act-limit d c k i (Write group offset bytes) = write_group-limit greatest_len c k (answered_group _ group) offset bytes
-act-limit d c k i ReadState = short_reading greatest_len (map WholeByte (state_names k.port)) (omega arith)
-act-limit d c k i (WriteControl ads device bytes) = control-limit greatest_len k ads device
-act-limit d c k i (AddDeviceNotification group offset len mode delay cycle) = add-limit c k (answered_group _ group) offset len cycle _
-act-limit d c k i (DeleteDeviceNotification handle) =
-    short_if greatest_len _ _ _ (short_changing greatest_len [] (Deletes handle) (omega arith)) (short_refusal greatest_len _)
-act-limit d c k i (DeviceNotification bytes) = short_fixed greatest_len [] (omega arith)
-act-limit d c k i (ReadWrite group offset len bytes) = read_write-limit d.plant c k.port i (answered_group _ group) len bytes
+act-limit d c k i r = plain-limit d c k i (meant_by d.profile c k.port r)
 
 -- how many bytes a decision gives
 
@@ -237,9 +242,9 @@ all-fit reading w sound modest [] e = tt
 all-fit reading w sound modest (k ∷ ks) e = (answers-fit reading w k sound modest (e.0), all-fit reading w sound modest ks (e.1))
 
 pub replies_fit : RepliesFit
-replies_fit reading h d signals accepted log =
-    let s = state_after (server_step reading) (start d signals) log in
-    let sound = every_plant IsSoundPlant accepted_are_sound reading h d signals accepted log in
-    let modest = every_plant IsModestPlant accepted_are_modest reading h d signals accepted log in
-    let all = every_state_fits reading h d signals accepted log in
+replies_fit reading h profile d signals accepted log =
+    let s = state_after (server_step reading) (start_in profile d signals) log in
+    let sound = every_plant IsSoundPlant accepted_are_sound reading h profile d signals accepted log in
+    let modest = every_plant IsModestPlant accepted_are_modest reading h profile d signals accepted log in
+    let all = every_state_fits reading h profile d signals accepted log in
     all-fit reading s.world sound modest s.connections all.connections

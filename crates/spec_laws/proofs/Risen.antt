@@ -16,7 +16,7 @@ use Rattle.spec_machine.specs.Ticks.{client_after_tick}
 use Rattle.spec_machine.specs.Reloads.{is_kept, client_reloaded}
 use Rattle.spec_machine.specs.AdsDevice.{ads_device}
 use Rattle.spec_machine.proofs.Carried.{log-carried}
-use Rattle.spec_laws.specs.Isolation.{start}
+use Rattle.spec_laws.specs.Isolation.{start_in}
 use Rattle.spec_laws.specs.Soundness.{Each}
 use Rattle.spec_laws.specs.Rising.{AreRising, WatchesRise, SamplesRise, IsRisingGroup, HandlesRise}
 use Rattle.spec_laws.proofs.NextWatches.{NextEffect, NextAct, act-next}
@@ -158,9 +158,9 @@ grouped-rise (s ∷ ss) gs high e o = grouped-rise ss (with_sample gs s) s.sampl
 
 pub handles_rise : HandlesRise
 unfolding connection_of
-handles_rise reading d signals log c k found =
+handles_rise reading profile d signals log c k found =
     let rises = subst (MaybeKept WatchesRise) found
-    (log-carried (ads_device reading) (MaybeKept WatchesRise) (carries reading WatchesRise (rise_kept)) c log (start d signals) tt) in
+    (log-carried (ads_device reading) (MaybeKept WatchesRise) (carries reading WatchesRise (rise_kept)) c log (start_in profile d signals) tt) in
     record {
       watches = rises;
       samples = λ memory now. grouped-rise (samples_at memory now k.client.watches) [] 0 tt

@@ -18,14 +18,16 @@ use Rattle.spec_machine.specs.Access.{Addressed, WholeByte, Put, value_at}
 use Rattle.spec_machine.specs.Handles.{HandleStatus, Never, Released, Outdated, Live, kept_status}
 use Rattle.spec_machine.specs.Client.{Place, Client, Effect}
 use Rattle.spec_machine.specs.Acts.{Act, Refusal, Allowed, outcome_of, fixed_data, reading, writing, changing}
-use Rattle.spec_machine.specs.Answers.{answered_group}
+use Rattle.spec_machine.specs.Answers.{answered_group, READ, READ_WRITE}
 use Rattle.spec_machine.specs.Entries.{entry_of_part, symbol_upload_of, type_upload_of, upload_info_of, upload_info_with_types_of}
 use Rattle.std.specs.Int.{w32, to_le_bytes}
 use Rattle.spec_machine.specs.Reach.{addressed_by_range, addressed_in_place, addressed_by_status, reach_of}
 use Rattle.spec_machine.specs.Reads.{fixed_reply, read_act, read_group}
 use Rattle.spec_machine.specs.Writes.{Asker}
 use Rattle.spec_machine.specs.ByName.{place_of, grant_act, value_act, info_of, if_found, read_write_group}
-use Rattle.spec_machine.specs.Requests.{act_of}
+use Rattle.spec_machine.specs.Meanings.{read_len_in, value_len_in, name_in}
+use Rattle.spec_machine.specs.Requests.{plain_act, act_of}
+use Rattle.spec_machine.proofs.Meanings.{read_len-less, value_len-less}
 use Rattle.spec_laws.specs.RepliesFit.{NoMoreThanAsked}
 
 -- how many bytes an act gives
@@ -204,14 +206,25 @@ length-given memory (Allowed a) = length-append a.fixed (map (value_at memory) a
 pub given-short : (most : ℕ) (memory : List Block) (a : Act) → IsShort most a → length (outcome_of memory a).bytes ≤ most
 given-short most memory a h = let e = length-given memory a in let s = h.short in omega (arith, e, s)
 
+-- to the wide server a request asks no more than is written
+short_more : (few most : ℕ) (a : Act) → few ≤ most → IsShort few a → IsShort most a
+short_more few most a less h = record { short = let s = h.short in omega (arith, less, s) }
+
 pub read-act-asked : (d : Setup) (c : Client) (k : Asker) (group offset len : ℕ) → IsShort len (act_of d c k (Read group offset len))
-unfolding act_of
-read-act-asked d c k group offset len = read-asked d c k.port (answered_group _ group) offset len
+unfolding act_of plain_act
+read-act-asked d c k group offset len =
+    let meant = read_len_in d.profile c k.port (answered_group READ group) offset len in
+    short_more meant len _ (read_len-less d.profile c k.port (answered_group READ group) offset len)
+    (read-asked d c k.port (answered_group READ group) offset meant)
 
 pub read_write-act-asked : (d : Setup) (c : Client) (k : Asker) (group offset len : ℕ) (bytes : List ℕ)
     → IsShort len (act_of d c k (ReadWrite group offset len bytes))
-unfolding act_of
-read_write-act-asked d c k group offset len bytes = read_write-asked c k.port (answered_group _ group) len bytes
+unfolding act_of plain_act
+read_write-act-asked d c k group offset len bytes =
+    let name = name_in d.profile (answered_group READ_WRITE group) bytes in
+    let meant = value_len_in d.profile k.port (answered_group READ_WRITE group) name len in
+    short_more meant len _ (value_len-less d.profile k.port (answered_group READ_WRITE group) name len)
+    (read_write-asked c k.port (answered_group READ_WRITE group) meant name)
 
 pub no_more_than_asked : NoMoreThanAsked
 no_more_than_asked d c k memory = record {

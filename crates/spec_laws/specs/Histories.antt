@@ -12,6 +12,7 @@ use Rattle.spec_machine.specs.Device.{DescriptionFault}
 use Rattle.spec_machine.specs.Connection.{Connection, connection_of, is_deaf}
 use Rattle.spec_machine.specs.MachineState.{MachineState}
 use Rattle.spec_machine.specs.Moves.{state_after_move, state_after}
+use Rattle.spec_machine.specs.Profile.{Profile}
 use Rattle.spec_machine.specs.World.{World}
 use Rattle.spec_machine.specs.Handles.{HandleEvent, Grant, Release, Reload, kept_status, status_of}
 use Rattle.spec_machine.specs.Client.{Place, Client, Effect, NoEffect, Grants, Releases, Adds, Deletes, kept_place}
@@ -19,7 +20,7 @@ use Rattle.spec_machine.specs.Acts.{Act, effect_of}
 use Rattle.spec_machine.specs.Reloads.{is_kept}
 use Rattle.spec_machine.specs.AdsDevice.{DescriptionReading, server_step}
 use Rattle.spec_machine.specs.Projection.{acts_at}
-use Rattle.spec_laws.specs.Isolation.{start}
+use Rattle.spec_laws.specs.Isolation.{start_in}
 
 -- of an accepted request
 abbrev pub handle_events_of : Effect → List (HandleEvent Place)
@@ -67,8 +68,8 @@ handle_history reading c s (m ∷ ms) =
 
 -- In every state a handle has the status that this history gives it.
 abbrev pub HandlesAreHistory : Type 0
-HandlesAreHistory = (reading : DescriptionReading) (d : Description)
+HandlesAreHistory = (reading : DescriptionReading) (profile : Profile) (d : Description)
     (signals : List Wave) (log : List Move) (c : ℕ) (k : Connection Client)
-    → connection_of c (state_after (server_step reading) (start d signals) log).connections ≡ Some k
+    → connection_of c (state_after (server_step reading) (start_in profile d signals) log).connections ≡ Some k
     → (handle port : ℕ) → kept_status k.client.handles handle port
-    ≡ status_of (handle_history reading c (start d signals) log) handle port
+    ≡ status_of (handle_history reading c (start_in profile d signals) log) handle port

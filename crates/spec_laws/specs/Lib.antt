@@ -6,3 +6,4 @@ pub mod Reachable
 pub mod Rising
 pub mod RepliesFit
 pub mod Histories
+pub mod Profiles

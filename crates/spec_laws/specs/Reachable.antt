@@ -9,6 +9,7 @@ use Rattle.ads_outside.specs.declared.moves.Move.{Move}
 use Rattle.spec_machine.specs.Connection.{Connection, is_deaf}
 use Rattle.spec_machine.specs.MachineState.{MachineState}
 use Rattle.spec_machine.specs.Moves.{state_after}
+use Rattle.spec_machine.specs.Profile.{Profile}
 use Rattle.spec_machine.specs.World.{World, port_numbered, name_at}
 use Rattle.spec_machine.specs.Access.{Addressed, addressed_name}
 use Rattle.spec_machine.specs.Handles.{HandleStatus, Never, Released, Outdated, Live, Handle}
@@ -16,7 +17,7 @@ use Rattle.spec_machine.specs.Watches.{Watch}
 use Rattle.spec_machine.specs.Client.{Place, Client}
 use Rattle.spec_machine.specs.Writes.{symbol_named}
 use Rattle.spec_machine.specs.AdsDevice.{DescriptionReading, server_step}
-use Rattle.spec_laws.specs.Isolation.{start}
+use Rattle.spec_laws.specs.Isolation.{start_in}
 use Rattle.spec_laws.specs.Soundness.{Each, ReadsAccepted}
 
 -- each byte of each area of each port is there
@@ -66,5 +67,5 @@ pub record AllFits (s : MachineState World Client) : Type 0 where
 -- ones alone.
 abbrev pub EveryStateFits : Type 0
 EveryStateFits = (reading : DescriptionReading) → ReadsAccepted reading
-    → (d : Description) (signals : List Wave) → IsAccepted d (length signals) → (log : List Move)
-    → AllFits (state_after (server_step reading) (start d signals) log)
+    → (profile : Profile) (d : Description) (signals : List Wave) → IsAccepted d (length signals) → (log : List Move)
+    → AllFits (state_after (server_step reading) (start_in profile d signals) log)

@@ -13,6 +13,7 @@ use Rattle.spec_machine.specs.Device.{DescriptionFault}
 use Rattle.spec_machine.specs.Connection.{Connection, connection_of}
 use Rattle.spec_machine.specs.MachineState.{MachineState}
 use Rattle.spec_machine.specs.Moves.{state_after_move, state_after}
+use Rattle.spec_machine.specs.Profile.{Profile}
 use Rattle.spec_machine.specs.World.{World, Setup, setup_of}
 use Rattle.spec_machine.specs.Handles.{HandleStatus, Never, Released, Outdated, Live, kept_status}
 use Rattle.spec_machine.specs.Watches.{Mode}
@@ -21,6 +22,7 @@ use Rattle.spec_machine.specs.Acts.{Act, Refusal, outcome_of, outcomes_of, memor
 use Rattle.spec_machine.specs.Answers.{answered_group, READ, WRITE}
 use Rattle.spec_machine.specs.Answers.{ADD_DEVICE_NOTIFICATION}
 use Rattle.spec_machine.specs.Writes.{Asker, may_write}
+use Rattle.spec_machine.specs.Meanings.{mode_in}
 use Rattle.spec_machine.specs.Requests.{MAX_WATCHED, mode_of, act_of}
 use Rattle.spec_machine.specs.Decisions.{Decision, NoAnswer, EndConnection, AmsError, Perform}
 use Rattle.spec_machine.specs.Packets.{decide}
@@ -96,16 +98,17 @@ pub record RefusesHandle (d : Setup) (c : Client) (k : Asker) (handle code : ℕ
 abbrev pub IsRefused : Act → Type 0
 IsRefused a = (code : ℕ) × (a ≡ Refusal code)
 
--- an addition of an unknown mode, of too many bytes or of none, or of a group that additions do not have
-abbrev pub IsBadAddition : ℕ → ℕ → ℕ → Type 0
-IsBadAddition group len number =
-    (mode_of number ≡ None) ⊎ ((MAX_WATCHED < len) ⊎ ((len ≡ 0)
+-- an addition of a mode that the server does not know, of too many bytes or of none, or of a group that additions do not
+-- have
+abbrev pub IsBadAddition : Profile → ℕ → ℕ → ℕ → Type 0
+IsBadAddition profile group len number =
+    (mode_of (mode_in profile number) ≡ None) ⊎ ((MAX_WATCHED < len) ⊎ ((len ≡ 0)
     ⊎ (answered_group ADD_DEVICE_NOTIFICATION group ≡ None)))
 
 -- Such an addition is refused, and so touches no name.
 abbrev pub BadAdditionsAreRefused : Type 0
 BadAdditionsAreRefused = (d : Setup) (c : Client) (k : Asker)
-    (group offset len number delay cycle : ℕ) → IsBadAddition group len number
+    (group offset len number delay cycle : ℕ) → IsBadAddition d.profile group len number
     → IsRefused (act_of d c k (AddDeviceNotification group offset len number delay cycle))
 
 -- any access by such a handle, whatever is asked and whatever is answered

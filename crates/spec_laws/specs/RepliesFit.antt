@@ -12,13 +12,14 @@ use Rattle.spec_machine.specs.Device.{Device, Answer, Answered, Silent, Closing}
 use Rattle.spec_machine.specs.Connection.{Connection, is_deaf}
 use Rattle.spec_machine.specs.MachineState.{MachineState}
 use Rattle.spec_machine.specs.Moves.{state_after}
+use Rattle.spec_machine.specs.Profile.{Profile}
 use Rattle.spec_machine.specs.World.{World, Setup}
 use Rattle.spec_machine.specs.Client.{Client}
 use Rattle.spec_machine.specs.Acts.{outcome_of}
 use Rattle.spec_machine.specs.Writes.{Asker}
 use Rattle.spec_machine.specs.Requests.{act_of}
 use Rattle.spec_machine.specs.AdsDevice.{DescriptionReading, ads_device, server_step}
-use Rattle.spec_laws.specs.Isolation.{start}
+use Rattle.spec_laws.specs.Isolation.{start_in}
 use Rattle.spec_laws.specs.Soundness.{Each, ReadsAccepted}
 
 -- A Read and a ReadWrite, and each such part of a sum, is given at most as many bytes as it asks: in
@@ -51,6 +52,6 @@ AllAnswersFit device s = Each (AnswersFit device s.world) s.connections
 -- ones alone.
 abbrev pub RepliesFit : Type 0
 RepliesFit = (reading : DescriptionReading) → ReadsAccepted reading
-    → (d : Description) (signals : List Wave) → IsAccepted d (length signals) → (log : List Move)
+    → (profile : Profile) (d : Description) (signals : List Wave) → IsAccepted d (length signals) → (log : List Move)
     → AllAnswersFit (ads_device reading)
-    (state_after (server_step reading) (start d signals) log)
+    (state_after (server_step reading) (start_in profile d signals) log)

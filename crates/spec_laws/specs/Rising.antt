@@ -5,6 +5,7 @@ use Rattle.spec_plant.specs.Description.{Description}
 use Rattle.spec_plant.specs.World.{Block}
 use Rattle.spec_formats.specs.Notification.{Sample}
 use Rattle.ads_outside.specs.declared.moves.Move.{Move}
+use Rattle.spec_machine.specs.Profile.{Profile}
 use Rattle.spec_machine.specs.Connection.{Connection, connection_of}
 use Rattle.spec_machine.specs.Moves.{state_after}
 use Rattle.spec_machine.specs.Access.{Addressed}
@@ -12,7 +13,7 @@ use Rattle.spec_machine.specs.Watches.{Watch}
 use Rattle.spec_machine.specs.Client.{Client}
 use Rattle.spec_machine.specs.Stamps.{SampleGroup, grouped, samples_at}
 use Rattle.spec_machine.specs.AdsDevice.{DescriptionReading, server_step}
-use Rattle.spec_laws.specs.Isolation.{start}
+use Rattle.spec_laws.specs.Isolation.{start_in}
 use Rattle.spec_laws.specs.Soundness.{Each}
 
 -- notifications whose handles rise, from above a low number to a high one
@@ -41,7 +42,7 @@ pub record RisesInOrder (c : Client) : Type 0 where
       → Each IsRisingGroup (grouped [] (samples_at memory now c.watches))
 
 abbrev pub HandlesRise : Type 0
-HandlesRise = (reading : DescriptionReading) (d : Description)
+HandlesRise = (reading : DescriptionReading) (profile : Profile) (d : Description)
     (signals : List Wave) (log : List Move) (c : ℕ) (k : Connection Client)
-    → connection_of c (state_after (server_step reading) (start d signals) log).connections ≡ Some k
+    → connection_of c (state_after (server_step reading) (start_in profile d signals) log).connections ≡ Some k
     → RisesInOrder k.client

@@ -11,6 +11,8 @@ ghost use Rattle.spec_laws.specs.Soundness.{AcceptedAreSound};
 ghost use Rattle.spec_laws.specs.Reachable.{EveryStateFits};
 ghost use Rattle.spec_laws.specs.Rising.{HandlesRise};
 ghost use Rattle.spec_laws.specs.RepliesFit.{NoMoreThanAsked, RepliesFit};
+ghost use Rattle.spec_laws.specs.Profiles.{KeepsProfile, StrictIsPlain, WritesArePlain};
+ghost use Rattle.spec_laws.specs.Profiles.{WideReadsByHandle, WideReadsByName, WideModes};
 
 /// A client none of whose read or notified bytes another client writes is given, byte for byte, what it
 /// would be given if it were alone: for every table of what is answered, every description, every reading
@@ -36,7 +38,7 @@ pub fn writes_are_exact()
 
 /// A request whose result is not 0 leaves the bytes and its client as they were; so does a packet whose reply tells
 /// such a result, and one that gets an AMS error or no answer, or ends the connection; and a reload whose description is
-/// refused leaves all but its count. An addition of an unknown mode, of too many bytes or of none, or of a group that
+/// refused leaves all but its count. An addition of a mode that the server does not know, of too many bytes or of none, or of a group that
 /// additions do not have is refused.
 pub fn refusals_change_nothing()
     ensures requests { RefusalChangesNothing }
@@ -85,4 +87,16 @@ pub fn handles_rise()
 pub fn replies_fit()
     ensures asked { NoMoreThanAsked }
     ensures replies { RepliesFit }
+{}
+
+/// A server keeps its profile over every log. To the strict one each request is what is written, and a write is so to
+/// both. To the wide one a Read by a live handle and a ReadWrite by a name read their value and no byte beside it, however
+/// much they ask, and an addition in the context of a task is that without.
+pub fn profiles_differ_in_meanings()
+    ensures kept { KeepsProfile }
+    ensures strict { StrictIsPlain }
+    ensures writes { WritesArePlain }
+    ensures by_handle { WideReadsByHandle }
+    ensures by_name { WideReadsByName }
+    ensures modes { WideModes }
 {}

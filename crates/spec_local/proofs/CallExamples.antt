@@ -37,7 +37,7 @@ use Rattle.spec_machine.specs.Reach.{reach_of}
 use Rattle.spec_machine.specs.Reads.{read_group}
 use Rattle.spec_machine.specs.Reloads.{is_kept, memory_after_reload, world_after_reload, client_reloaded}
 use Rattle.spec_machine.specs.Replies.{reply_in_forms, outcome_in_all, response_packet, performed}
-use Rattle.spec_machine.specs.Requests.{act_of}
+use Rattle.spec_machine.specs.Requests.{act_of, plain_act}
 use Rattle.spec_machine.specs.Stamps.{grouped, frames_of_samples, samples_at, watches_after_tick}
 use Rattle.spec_machine.specs.SumPackets.{acts_of, decide_request}
 use Rattle.spec_machine.specs.Sums.{given_in_turn, left_in_turn, sum_refusal, packed}
@@ -108,7 +108,7 @@ unfolding name_behind comment_behind says_something type_size type_align ams_len
     client_after client_after_reload ended_of produce produce_all connection_of put_back entry_of_part connection_after_tick connection_after_reload
     state_after_event grant_in is_released_in place_after handle_in with_released handles_after state_after_move state_after left_after blocked_after
     taken_of decide after_packet after_packets after_piece reach_of read_group is_kept memory_after_reload world_after_reload client_reloaded
-    reply_in_forms outcome_in_all response_packet performed act_of grouped frames_of_samples samples_at watches_after_tick acts_of decide_request
+    reply_in_forms outcome_in_all response_packet performed act_of plain_act grouped frames_of_samples samples_at watches_after_tick acts_of decide_request
     given_in_turn left_in_turn sum_refusal packed world_after_tick client_after_tick watches_after_reload ended_watches numbers_from name_at names_at
     content_of write_group control_act conversation_after_all issued_by client_after_issue client_after_tick_of_ads_client_client
     conversation_after_turns conversation_going_on conversation_after entries_in types_in packet_hearing packets_hearing next_hearing

@@ -31,7 +31,8 @@ use Rattle.spec_machine.specs.Decisions.{Decision, NoAnswer, EndConnection, AmsE
 use Rattle.spec_machine.specs.Entries.{entry_of_part}
 use Rattle.spec_machine.specs.Packets.{Check, checks_of, checked, decide_passed, decide_header}
 use Rattle.spec_machine.specs.Reads.{fixed_reply}
-use Rattle.spec_machine.specs.Requests.{mode_of, MAX_WATCHES, next_watch, add_watch, add_reached, add_act, act_of}
+use Rattle.spec_machine.specs.Meanings.{mode_in, name_in, value_len_in}
+use Rattle.spec_machine.specs.Requests.{mode_of, MAX_WATCHES, next_watch, add_watch, add_reached, add_act, plain_act, act_of}
 use Rattle.spec_machine.specs.Sums.{SumRequest, sum_refusal, sum_of_reads, sum_of_writes, sum_of_read_writes, given_in_turn}
 use Rattle.spec_machine.specs.SumPackets.{acts_of, decide_parts, decide_read_write, decide_request}
 use Rattle.spec_machine.specs.Watches.{Watch, Mode}
@@ -186,9 +187,12 @@ entry_group = refl
 
 entry_act : (d : Setup) (c : Client) (k : Asker) (offset len : ℕ) (name : List ℕ)
     → effect_of (act_of d c k (request.ReadWrite 0xF009 offset len name)) ≡ NoEffect
-unfolding act_of read_write_group
+unfolding act_of plain_act read_write_group
 entry_act d c k offset len name =
-    ap (λ g. effect_of (read_write_group c k.port g len name)) entry_group ∙ found_keeps len (found_of k.port.symbols name)
+    let g = answered_group READ_WRITE 0xF009 in
+    let meant = name_in d.profile g name in
+    let room = value_len_in d.profile k.port g meant len in
+    ap (λ (x : Option Group). effect_of (read_write_group c k.port x room meant)) entry_group ∙ found_keeps room (found_of k.port.symbols meant)
 
 entry_decided : (d : Setup) (c : Client) (k : Asker) (offset len : ℕ) (name : List ℕ)
     → Keeps c (decide_request d c k (request.ReadWrite 0xF009 offset len name))
@@ -369,11 +373,11 @@ single_case h plant c a (inr adds) = inr (record { w = adds.w; is = ap (λ x. Pe
 addition_decided : (d : Setup) (c : Client) (h : AmsHeader) (k : Asker) (g o l m y z : ℕ)
     → k.address ≡ h.source → k.port.number ≡ h.target.port → h.target.net ≡ d.plant.net
     → AddsOrKeeps c h d.plant (decide_request d c k (request.AddDeviceNotification g o l m y z))
-unfolding decide_request act_of
+unfolding decide_request act_of plain_act
 addition_decided d c h k g o l m y z address port net =
     let r = request.AddDeviceNotification g o l m y z in
     subst (λ acts. AddsOrKeeps c h d.plant (Perform acts Single)) (sym (one_acts d c k r))
-    (single_case h d.plant c (act_of d c k r) (add_case h d.plant c k _ o l z (mode_of m) address port net))
+    (single_case h d.plant c (act_of d c k r) (add_case h d.plant c k _ o l z (mode_of (mode_in d.profile m)) address port net))
 
 pub addition_adds : (d : Setup) (c : Client) (h : AmsHeader) (payload : List ℕ) → h.flags ≡ request_flags → h.command ≡ ADD_DEVICE_NOTIFICATION
     → AddsOrKeeps c h d.plant (decide_header d c payload (Some h))

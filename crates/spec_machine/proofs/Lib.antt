@@ -24,6 +24,8 @@ mod EntryExamples
 mod PacketExamples
 mod EnumerationExamples
 mod BesideExamples
+mod WideExamples
+pub mod Meanings
 pub mod HandleStatuses
 pub mod TablesAgreed
 mod SumsInTurn

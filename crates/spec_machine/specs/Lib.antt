@@ -20,6 +20,7 @@ pub mod SummaryText
 pub mod Delivery
 pub mod Output
 pub mod Running
+pub mod Profile
 pub mod World
 pub mod Access
 pub mod Handles
@@ -32,6 +33,7 @@ pub mod Entries
 pub mod Reads
 pub mod Writes
 pub mod ByName
+pub mod Meanings
 pub mod Requests
 pub mod Sums
 pub mod Decisions

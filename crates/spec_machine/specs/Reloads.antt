@@ -33,9 +33,10 @@ block_after_reload kept old b =
 unfoldable pub memory_after_reload : Kept → List Block → List Block → List Block
 memory_after_reload kept old new = map (block_after_reload kept old) new
 
--- the version rises by one, modulo 256; signals stay where they are
+-- the version rises by one, modulo 256; signals stay where they are, and the server keeps its profile
 unfoldable pub world_after_reload : World → Description → World
 world_after_reload w d = record {
+  profile = w.profile;
   plant = plant_of d;
   version = (w.version + 1) % 256;
   signals = w.signals;

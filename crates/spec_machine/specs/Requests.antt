@@ -25,6 +25,7 @@ use Rattle.spec_machine.specs.Reach.{reach_of}
 use Rattle.spec_machine.specs.Reads.{read_group}
 use Rattle.spec_machine.specs.Writes.{Asker, write_group, control_act}
 use Rattle.spec_machine.specs.ByName.{MAX_NUMBER, read_write_group}
+use Rattle.spec_machine.specs.Meanings.{meant_by}
 
 -- ADSTRANS_SERVERCYCLE and ADSTRANS_SERVERONCHA
 abbrev pub mode_of : ℕ → Option Mode
@@ -78,18 +79,22 @@ delete_act c k handle =
     if list_any (is_watch_of k.port.number handle) c.watches then changing [] (Deletes handle)
     else Refusal notification_handle_invalid
 
--- A notification is no request; the checks of a frame do not let it come here.
-unfoldable pub act_of : Setup → Client → Asker → Request → Act
-act_of d c k ReadDeviceInfo = fixed_data (facts_bytes k.port.facts)
-act_of d c k (Read group offset len) =
+-- A request as it is written. A notification is none; the checks of a frame do not let it come here.
+unfoldable pub plain_act : Setup → Client → Asker → Request → Act
+plain_act d c k ReadDeviceInfo = fixed_data (facts_bytes k.port.facts)
+plain_act d c k (Read group offset len) =
     read_group d c k.port (answered_group READ group) offset len
-act_of d c k (Write group offset bytes) =
+plain_act d c k (Write group offset bytes) =
     write_group c k (answered_group WRITE group) offset bytes
-act_of d c k ReadState = reading (map WholeByte (state_names k.port))
-act_of d c k (WriteControl ads device bytes) = control_act k ads device
-act_of d c k (AddDeviceNotification group offset len mode delay cycle) =
+plain_act d c k ReadState = reading (map WholeByte (state_names k.port))
+plain_act d c k (WriteControl ads device bytes) = control_act k ads device
+plain_act d c k (AddDeviceNotification group offset len mode delay cycle) =
     add_act c k (answered_group ADD_DEVICE_NOTIFICATION group) offset len cycle (mode_of mode)
-act_of d c k (DeleteDeviceNotification handle) = delete_act c k handle
-act_of d c k (DeviceNotification bytes) = fixed_data []
-act_of d c k (ReadWrite group offset read_len bytes) =
+plain_act d c k (DeleteDeviceNotification handle) = delete_act c k handle
+plain_act d c k (DeviceNotification bytes) = fixed_data []
+plain_act d c k (ReadWrite group offset read_len bytes) =
     read_write_group c k.port (answered_group READ_WRITE group) read_len bytes
+
+-- what a request comes to: what the plain one does that it means to a server of this profile
+unfoldable pub act_of : Setup → Client → Asker → Request → Act
+act_of d c k r = plain_act d c k (meant_by d.profile c k.port r)

@@ -11,8 +11,10 @@ use Rattle.spec_plant.specs.World.{SymbolPart, AreaPart, StatePart, ByteName, Bl
 use Rattle.spec_plant.specs.World.{byte_or_zero}
 pub use Rattle.spec_plant.specs.Covering.{covers}
 pub use Rattle.spec_plant.specs.Named.{port_numbered}
+use Rattle.spec_machine.specs.Profile.{Profile, Strict}
 
 pub record World : Type 0 where
+  pub profile : Profile
   pub plant : Plant
   pub version : ℕ
   pub signals : List Wave
@@ -20,11 +22,12 @@ pub record World : Type 0 where
 
 -- What of the world a request is decided by: no request changes it, and no byte is in it.
 pub record Setup : Type 0 where
+  pub profile : Profile
   pub plant : Plant
   pub version : ℕ
 
 abbrev pub setup_of : World → Setup
-setup_of w = record { plant = w.plant; version = w.version }
+setup_of w = record { profile = w.profile; plant = w.plant; version = w.version }
 
 -- so many numbers, from a first one on
 unfoldable pub numbers_from : ℕ → ℕ → List ℕ
@@ -92,11 +95,16 @@ first_blocks p =
 abbrev pub first_memory : Plant → List Block
 first_memory plant = flat_map first_blocks plant.ports
 
--- the world of an accepted description
-abbrev pub world_of : Description → List Wave → World
-world_of d signals = record {
+-- the world of an accepted description, behind a server of this profile
+abbrev pub world_in : Profile → Description → List Wave → World
+world_in profile d signals = record {
+  profile = profile;
   plant = plant_of d;
   version = 1;
   signals = signals;
   memory = first_memory (plant_of d);
 }
+
+-- the same behind the strict server
+abbrev pub world_of : Description → List Wave → World
+world_of d signals = world_in Strict d signals

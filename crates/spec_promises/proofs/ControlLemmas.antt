@@ -9,7 +9,7 @@ use Rattle.spec_machine.specs.World.{Setup, RUN, STOP, state_names, state_bytes}
 use Rattle.spec_machine.specs.Access.{WholeByte, values_at, Put, puts_of, memory_after_put, memory_after_puts}
 use Rattle.spec_machine.specs.Acts.{Act, Refusal, Outcome, writing, outcome_of, memory_after}
 use Rattle.spec_machine.specs.PortBytes.{state_name}
-use Rattle.spec_machine.specs.Requests.{act_of}
+use Rattle.spec_machine.specs.Requests.{plain_act, act_of}
 use Rattle.spec_machine.specs.SumLaws.{Party, single_outcome}
 use Rattle.spec_machine.specs.Writes.{Asker, may_control, control_act}
 use Rattle.spec_laws.proofs.FirstMemory.{first-states, there_by_length}
@@ -83,7 +83,7 @@ control-case k ads device m =
 control-done : (d : Setup) (k : Asker) (p : Party) → ((i : ℕ) → i < 4 → byte_at p.memory (state_name k.port i) ≢ None) → (ads device : ℕ) (bytes : List ℕ)
     → (single_outcome d k p (WriteControl ads device bytes)).code ≡ no_error
     → StatesAreSet (record { setup = d; asker = k; before = p; request = WriteControl ads device bytes }) ads device
-unfolding act_of
+unfolding act_of plain_act
 control-done d k p there ads device bytes h =
     let act = (control-case k ads device p.memory).done h in
     let read = states-read p.memory k.port there (state_bytes ads device) refl in

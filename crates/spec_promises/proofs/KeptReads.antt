@@ -1,15 +1,17 @@
 -- A handle that a reload keeps reads what it read.
 use Rattle.std.proofs.Common.{◌≡◌, ℕ, zero, suc, ◌+◌, ◌<◌, ◌≤◌, List, [], ◌∷◌, map, length, true, false, refl, sym, ◌∙◌, ap, subst, inl, inr, arith}
-use Rattle.std.specs.Prelude.{Option, Some, Result, Ok, Err, ◌-◌, ◌==◌, nat_lt, slice_get, unwrap_or, option_map}
+use Rattle.std.specs.Prelude.{Option, Some, Result, Ok, Err, min, ◌-◌, ◌==◌, nat_lt, slice_get, unwrap_or, option_map}
 use Rattle.std.proofs.lemmas.Bool.{cases_Bool, false≢true, eqb-true, ltb-false}
 use Rattle.ads_outside.specs.declared.event.Event.TheVariants as event
 use Rattle.ads_outside.specs.declared.moves.Move.TheVariants as move
 use Rattle.spec_plant.specs.Description.{Description}
-use Rattle.spec_plant.specs.World.{Block, Part, SymbolPart, ByteName, Plant, plant_of, is_block_of, block_of, byte_at}
+use Rattle.spec_plant.specs.World.{Block, Part, SymbolPart, ByteName, Plant, PlantPort, plant_of, is_block_of, block_of, byte_at}
 use Rattle.spec_plant.proofs.BlockLemmas.{is_block-true}
 use Rattle.spec_plant.proofs.SoundLemmas.{accepted_are_sound}
-use Rattle.spec_formats.specs.Groups.{value_by_handle, group_in, group_of}
+use Rattle.spec_formats.specs.Groups.{ValueByHandle, value_by_handle, group_in, group_of}
 use Rattle.spec_formats.specs.Request.{Read}
+use Rattle.spec_machine.specs.Profile.{Profile, Strict, Wide}
+use Rattle.spec_machine.specs.Meanings.{len_by_status, read_len_in}
 use Rattle.spec_machine.specs.Device.{ClientOutcome, DescriptionFault}
 use Rattle.spec_machine.specs.Connection.{Connection, connection_of, is_deaf}
 use Rattle.spec_machine.specs.MachineState.{MachineState}
@@ -25,7 +27,7 @@ use Rattle.spec_machine.specs.Acts.{Outcome, outcome_of}
 use Rattle.spec_machine.specs.Answers.{answered_group}
 use Rattle.spec_machine.specs.Reach.{addressed_in_place, addressed_by_status, reach_of}
 use Rattle.spec_machine.specs.Reads.{read_act, read_group}
-use Rattle.spec_machine.specs.Requests.{act_of}
+use Rattle.spec_machine.specs.Requests.{plain_act, act_of}
 use Rattle.spec_machine.specs.SumLaws.{Party, single_outcome}
 use Rattle.spec_machine.specs.Writes.{Asker}
 use Rattle.spec_machine.specs.Reloads.{is_kept, memory_after_reload, world_after_reload, client_reloaded}
@@ -39,9 +41,9 @@ use Rattle.spec_laws.proofs.EveryState.{every_state_fits}
 use Rattle.spec_laws.proofs.Exchanges.{produce_all-client}
 use Rattle.spec_laws.proofs.FineActs.{kept-placed}
 use Rattle.spec_laws.proofs.FirstMemory.{symbol-named}
-use Rattle.spec_server.specs.Server.{read_description, server_device, server_after}
+use Rattle.spec_server.specs.Server.{read_description, server_device, server_after_in}
 use Rattle.spec_server.proofs.ServerProofs.{reads_descriptions}
-use Rattle.spec_promises.specs.KeptHandles.{ReadsAsBefore, ServerKeepsHandles}
+use Rattle.spec_promises.specs.KeptHandles.{ReadsAsBefore, ServerKeepsHandles, EachKeepsHandles}
 use Rattle.spec_promises.proofs.Seen.{Whole, every_state_whole, found_among}
 use Rattle.spec_promises.proofs.Lives.{after_one}
 
@@ -118,10 +120,23 @@ stays-live kept port (Live place) e f =
 abbrev read_of_place : List Block → ℕ → Place → ℕ → Outcome
 read_of_place memory port place len = outcome_of memory (read_act (addressed_in_place port place len))
 
+-- how many bytes of a place are read, where so many are asked
+abbrev len_of_place : Profile → Place → ℕ → ℕ
+len_of_place Strict place len = len
+len_of_place Wide place len = min len place.len
+
+meant-len : (x : Profile) (c : Client) (p : PlantPort) (handle len : ℕ) (place : Place) → kept_status c.handles handle p.number ≡ Live place
+    → read_len_in x c p (Some ValueByHandle) handle len ≡ len_of_place x place len
+meant-len Strict c p handle len place live = refl
+meant-len Wide c p handle len place live = ap (λ s. len_by_status s len) live
+
 reads-place : (d : Setup) (k : Asker) (p : Party) (handle len : ℕ) (place : Place) → kept_status p.client.handles handle k.port.number ≡ Live place
-    → single_outcome d k p (Read value_by_handle handle len) ≡ read_of_place p.memory k.port.number place len
-unfolding act_of answered_group group_of group_in read_group reach_of
-reads-place d k p handle len place live = ap (λ s. outcome_of p.memory (read_act (addressed_by_status k.port.number s len))) live
+    → single_outcome d k p (Read value_by_handle handle len) ≡ read_of_place p.memory k.port.number place (len_of_place d.profile place len)
+unfolding act_of plain_act answered_group group_of group_in read_group reach_of
+reads-place d k p handle len place live =
+    let meant = read_len_in d.profile p.client k.port (Some ValueByHandle) handle len in
+    ap (λ s. outcome_of p.memory (read_act (addressed_by_status k.port.number s meant))) live
+    ∙ ap (read_of_place p.memory k.port.number place) (meant-len d.profile p.client k.port handle len place live)
 
 place-kept : (old new : Plant) (m : List Block) → IsSoundPlant old → IsSoundPlant new → (port : ℕ) (place : Place) → IsPlaced old port place
     → is_kept old new port (SymbolPart place.symbol) ≡ true → (len : ℕ)
@@ -153,19 +168,21 @@ handles-after moment old new k heard =
 
 -- what is read by a handle that has one place in two states, where the place holds the same in both
 same-reading : (ds dt : Setup) (ms mt : List Block) (k l : Client) (asker later : Asker) (handle len : ℕ) (place : Place)
-    → later.port.number ≡ asker.port.number
+    → dt.profile ≡ ds.profile → later.port.number ≡ asker.port.number
     → kept_status k.handles handle asker.port.number ≡ Live place → kept_status l.handles handle later.port.number ≡ Live place
-    → read_of_place mt asker.port.number place len ≡ read_of_place ms asker.port.number place len
+    → read_of_place mt asker.port.number place (len_of_place ds.profile place len)
+    ≡ read_of_place ms asker.port.number place (len_of_place ds.profile place len)
     → single_outcome dt later (record { client = l; memory = mt }) (Read value_by_handle handle len) ≡ single_outcome ds asker
     (record { client = k; memory = ms }) (Read value_by_handle handle len)
-same-reading ds dt ms mt k l asker later handle len place port before after same =
-    let new : single_outcome dt later (record { client = l; memory = mt }) (Read value_by_handle handle len) ≡ read_of_place mt later.port.number
-    place len =
-    reads-place dt later (record { client = l; memory = mt }) handle len place after in
-    let old : single_outcome ds asker (record { client = k; memory = ms }) (Read value_by_handle handle len) ≡ read_of_place ms asker.port.number
-    place len =
-    reads-place ds asker (record { client = k; memory = ms }) handle len place before in
-    let there : read_of_place mt later.port.number place len ≡ read_of_place mt asker.port.number place len = ap (λ n. read_of_place mt n place len) port in
+same-reading ds dt ms mt k l asker later handle len place profile port before after same =
+    let most : ℕ = len_of_place ds.profile place len in
+    let new : single_outcome dt later (record { client = l; memory = mt }) (Read value_by_handle handle len) ≡ read_of_place mt later.port.number place most
+    = reads-place dt later (record { client = l; memory = mt }) handle len place after
+    ∙ ap (λ (x : Profile). read_of_place mt later.port.number place (len_of_place x place len)) profile in
+    let old : single_outcome ds asker (record { client = k; memory = ms }) (Read value_by_handle handle len) ≡ read_of_place ms asker.port.number place most
+    = reads-place ds asker (record { client = k; memory = ms }) handle len place before in
+    let there : read_of_place mt later.port.number place most ≡ read_of_place mt asker.port.number place most
+    = ap (λ n. read_of_place mt n place most) port in
     cc
 
 -- a live status has a place
@@ -187,7 +204,7 @@ reads-as-before s (Err fault) sound w fits c k l asker later h handle live live_
     let after : kept_status l.client.handles handle later.port.number ≡ Live place.0 =
     ap (kept_status l.client.handles handle) h.same_port ∙ ap (λ (x : Connection Client). kept_status x.client.handles handle asker.port.number) (sym same)
     ∙ place.1 in
-    same-reading (setup_of s.world) (setup_of s.world) s.world.memory s.world.memory k.client l.client asker later handle len place.0 h.same_port place.1
+    same-reading (setup_of s.world) (setup_of s.world) s.world.memory s.world.memory k.client l.client asker later handle len place.0 refl h.same_port place.1
     after refl
 reads-as-before s (Ok d) sound w fits c k l asker later h handle live live_later len =
     let device = server_device in
@@ -208,15 +225,19 @@ reads-as-before s (Ok d) sound w fits c k l asker later h handle live live_later
     let placed = subst (IsPlacedStatus s.world.plant port) stays.live (kept-placed s.world.plant k.client.handles handle port fit.handles) in
     let after : kept_status l.client.handles handle later.port.number ≡ Live stays.place = ap (kept_status l.client.handles handle) h.same_port ∙ status
     ∙ stays.later in
-    same-reading (setup_of s.world) (setup_of new) s.world.memory new.memory k.client l.client asker later handle len stays.place h.same_port stays.live after
-    (place-kept s.world.plant (plant_of d) s.world.memory w.sound (sound d refl) port stays.place placed stays.is_kept len)
+    same-reading (setup_of s.world) (setup_of new) s.world.memory new.memory k.client l.client asker later handle len stays.place refl h.same_port stays.live after
+    (place-kept s.world.plant (plant_of d) s.world.memory w.sound (sound d refl) port stays.place placed stays.is_kept
+    (len_of_place s.world.profile stays.place len))
 
-pub server_keeps_handles : ServerKeepsHandles
+pub each_keeps_handles : EachKeepsHandles
 unfolding state_after_move state_after_event
-server_keeps_handles d waves accepted before bytes =
-    let s = server_after d waves before in
-    subst (ReadsAsBefore s) (sym (after_one d waves before (move.Event (event.Reload bytes))))
+each_keeps_handles profile d waves accepted before bytes =
+    let s = server_after_in profile d waves before in
+    subst (ReadsAsBefore s) (sym (after_one profile d waves before (move.Event (event.Reload bytes))))
     (reads-as-before s (read_description bytes (length s.world.signals))
     (λ new e. accepted_are_sound new (length s.world.signals) (reads_descriptions bytes (length s.world.signals) new e))
-    (every_state_whole d waves accepted before)
-    (every_state_fits read_description reads_descriptions d waves accepted before).connections)
+    (every_state_whole profile d waves accepted before)
+    (every_state_fits read_description reads_descriptions profile d waves accepted before).connections)
+
+pub server_keeps_handles : ServerKeepsHandles
+server_keeps_handles d waves accepted before bytes = each_keeps_handles Strict d waves accepted before bytes

@@ -10,6 +10,7 @@ use Rattle.ads_outside.specs.declared.moves.Move.{Move}
 use Rattle.ads_outside.specs.declared.moves.Move.TheVariants as move
 use Rattle.spec_plant.specs.Description.{Description}
 use Rattle.spec_formats.specs.Header.{AmsAddress}
+use Rattle.spec_machine.specs.Profile.{Profile, Strict}
 use Rattle.spec_machine.specs.Device.{ClientOutcome, DescriptionFault}
 use Rattle.spec_machine.specs.Connection.{Connection, connection_of, fresh_connection, is_deaf}
 use Rattle.spec_machine.specs.MachineState.{MachineState, Exchange, exchange_of, after_exchange}
@@ -30,9 +31,9 @@ use Rattle.spec_machine.proofs.Carried.{took-cases}
 use Rattle.spec_laws.specs.Rising.{AreRising, WatchesRise}
 use Rattle.spec_laws.proofs.Exchanges.{produce_all-client}
 use Rattle.spec_laws.proofs.Risen.{handles_rise}
-use Rattle.spec_server.specs.Server.{read_description, server_device, server, server_start, server_after}
+use Rattle.spec_server.specs.Server.{read_description, server_device, server, server_start_in, server_after_in}
 use Rattle.spec_promises.specs.Notified.{watch_numbered, watch_of, watch_at, given_to, TickSeen, seen_at, life_of}
-use Rattle.spec_promises.specs.Notified.{GivesByCycle, IsByCycle, GivesOnChange, IsOnChange, ServerNotifies}
+use Rattle.spec_promises.specs.Notified.{GivesByCycle, IsByCycle, GivesOnChange, IsOnChange, ServerNotifies, EachNotifies}
 use Rattle.spec_promises.specs.Asked.{asked_of_piece}
 use Rattle.spec_promises.proofs.AskedLemmas.{piece-takes}
 use Rattle.spec_promises.proofs.Found.{requests-keep, found-checked, bytes-found, reload-found}
@@ -256,10 +257,10 @@ ended c h s [] e = refl
 ended c h s (m ∷ ms) e = rw e refl
 
 -- one more move
-pub after_one : (d : Description) (waves : List Wave) (log : List Move) (m : Move)
-    → server_after d waves (log ++ m ∷ []) ≡ state_after_move server (server_after d waves log) m
+pub after_one : (profile : Profile) (d : Description) (waves : List Wave) (log : List Move) (m : Move)
+    → server_after_in profile d waves (log ++ m ∷ []) ≡ state_after_move server (server_after_in profile d waves log) m
 unfolding state_after
-after_one d waves log m = state_after-append server log (m ∷ []) (server_start d waves)
+after_one profile d waves log m = state_after-append server log (m ∷ []) (server_start_in profile d waves)
 
 -- its number was given
 known : (h low : ℕ) (ws : List (Watch (List Addressed))) (high : ℕ) (w : Watch (List Addressed)) → AreRising low ws high → watch_numbered h ws ≡ Some w
@@ -275,26 +276,26 @@ known h low (x ∷ xs) high w r e =
     within low [] high r = r
     within low (x ∷ xs) high r = let a = r.0 in let l = within x.handle xs high (r.1) in omega (arith, a, l)
 
-life-follows : (d : Description) (waves : List Wave) (ms log : List Move) (c h : ℕ) (w : Watch (List Addressed))
-    → watch_at c h (server_after d waves log) ≡ Some w → Follows w (life_of c h (server_after d waves log) ms)
+life-follows : (profile : Profile) (d : Description) (waves : List Wave) (ms log : List Move) (c h : ℕ) (w : Watch (List Addressed))
+    → watch_at c h (server_after_in profile d waves log) ≡ Some w → Follows w (life_of c h (server_after_in profile d waves log) ms)
 unfolding life_of
-life-follows d waves [] log c h w e = nothing_follows w.mode w.cycle w.last w.sent
-life-follows d waves (m ∷ ms) log c h w e =
-    go (λ v there. life-follows d waves ms (log ++ m ∷ []) c h v there) (connection_of c (server_after d waves log).connections) refl e
+life-follows profile d waves [] log c h w e = nothing_follows w.mode w.cycle w.last w.sent
+life-follows profile d waves (m ∷ ms) log c h w e =
+    go (λ v there. life-follows profile d waves ms (log ++ m ∷ []) c h v there) (connection_of c (server_after_in profile d waves log).connections) refl e
   where
     s : MachineState World Client
-    s = server_after d waves log
+    s = server_after_in profile d waves log
 
     t : MachineState World Client
     t = state_after_move server s m
 
     one_more : MachineState World Client
-    one_more = server_after d waves (log ++ m ∷ [])
+    one_more = server_after_in profile d waves (log ++ m ∷ [])
 
     later : ((v : Watch (List Addressed)) → watch_at c h one_more ≡ Some v → Follows v (life_of c h one_more ms)) → (v : Watch (List Addressed))
         → Next h v (connection_of c t.connections) → Follows v (life_of c h t ms)
     later rest v (inl there) =
-        let same = after_one d waves log m in
+        let same = after_one profile d waves log m in
         let P : MachineState World Client → Type 0 = λ x. Follows v (life_of c h x ms) in
         let Q : MachineState World Client → Type 0 = λ x. watch_at c h x ≡ Some v in
         subst P same (rest v (subst Q (sym same) there))
@@ -305,18 +306,21 @@ life-follows d waves (m ∷ ms) log c h w e =
         → Follows w (option_map_or (λ (v : Watch (List Addressed)). seen_at c h s m v ++ life_of c h t ms) (watch_at c h s) [])
     go rest None q there = cc
     go rest (Some k) q there =
-        let rise = (handles_rise read_description d waves log c k q).watches in
+        let rise = (handles_rise read_description profile d waves log c k q).watches in
         let l = known h 0 k.client.watches k.client.additions w rise (lives h w k there).found in
         let next = later rest (watch_after_move s m w) (move-next h w c s k m q there rise l) in
         let is : watch_at c h s ≡ Some w = ap (watch_of h) q ∙ there in
         rw is (seen-follows c h s w k m (life_of c h t ms) q there rise next)
 
-pub server_notifies : ServerNotifies
-server_notifies d waves before after c h w there first =
-    let follows = life-follows d waves after before c h w there in
-    let life = life_of c h (server_after d waves before) after in
+pub each_notifies : EachNotifies
+each_notifies profile d waves before after c h w there first =
+    let follows = life-follows profile d waves after before c h w there in
+    let life = life_of c h (server_after_in profile d waves before) after in
     let from : FollowsFrom w.mode w.cycle None w.sent life = subst (λ (o : Option ℕ). FollowsFrom w.mode w.cycle o w.sent life) first follows in
     record {
       cyclic = λ q. subst (λ (m : Mode). FollowsFrom m w.cycle None w.sent life) q from;
       on_change = λ q. subst (λ (m : Mode). FollowsFrom m w.cycle None w.sent life) q from;
     }
+
+pub server_notifies : ServerNotifies
+server_notifies d waves before after c h w there first = each_notifies Strict d waves before after c h w there first

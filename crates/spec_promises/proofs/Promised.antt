@@ -5,6 +5,7 @@ use Rattle.ads_outside.specs.declared.event.Event.TheVariants as event
 use Rattle.ads_outside.specs.declared.moves.Move.{Move}
 use Rattle.ads_outside.specs.declared.moves.Move.TheVariants as move
 use Rattle.spec_plant.specs.Description.{Description}
+use Rattle.spec_machine.specs.Profile.{Profile, Strict}
 use Rattle.spec_machine.specs.Connection.{connection_of}
 use Rattle.spec_machine.specs.MachineState.{MachineState}
 use Rattle.spec_machine.specs.Moves.{state_after_move}
@@ -14,24 +15,24 @@ use Rattle.spec_machine.specs.Client.{Client}
 use Rattle.spec_machine.specs.Acts.{writes_of_acts}
 use Rattle.spec_machine.specs.Projection.{acts_of_move}
 use Rattle.spec_laws.specs.Soundness.{Each}
-use Rattle.spec_server.specs.Server.{read_description, server_after}
+use Rattle.spec_server.specs.Server.{read_description, server_after_in}
 use Rattle.spec_promises.specs.Asked.{Asked, asked_of_move, names_written, Leads}
-use Rattle.spec_promises.specs.Written.{IsDone, IsControlled, asked_at_move, ChangesByRequests, ServerHoldsWrites}
+use Rattle.spec_promises.specs.Written.{IsDone, IsControlled, asked_at_move, ChangesByRequests, ServerHoldsWrites, EachHoldsWrites}
 use Rattle.spec_promises.proofs.AskedLemmas.{piece-takes_at}
 use Rattle.spec_promises.proofs.Seen.{Sees, every_request_sees}
 use Rattle.spec_promises.proofs.WriteLemmas.{write_is_done}
 use Rattle.spec_promises.proofs.ControlLemmas.{control_is_done}
 use Rattle.spec_promises.proofs.Lives.{after_one}
 
-changes : (d : Description) (waves : List Wave) (before : List Move) (m : Move) → ChangesByRequests d waves before m
+changes : (profile : Profile) (d : Description) (waves : List Wave) (before : List Move) (m : Move) → ChangesByRequests profile d waves before m
 unfolding state_after_move state_after_event asked_of_move
-changes d waves before (move.Event (event.Piece c bytes)) =
-    let s = server_after d waves before in
+changes profile d waves before (move.Event (event.Piece c bytes)) =
+    let s = server_after_in profile d waves before in
     let m : Move = move.Event (event.Piece c bytes) in
     let t = piece-takes_at s bytes (connection_of c s.connections) in
-    let P : MachineState World Client → Type 0 = λ x. Leads s.world.memory (asked_at_move d waves before m) x.world.memory in
-    subst P (sym (after_one d waves before m)) t.leads
-changes d waves before m = tt
+    let P : MachineState World Client → Type 0 = λ x. Leads s.world.memory (asked_at_move profile d waves before m) x.world.memory in
+    subst P (sym (after_one profile d waves before m)) t.leads
+changes profile d waves before m = tt
 
 names : (s : MachineState World Client) (m : Move)
     → names_written (asked_of_move s m) ≡ writes_of_acts (acts_of_move read_description s m)
@@ -47,10 +48,13 @@ each_controlled : (as_ : List Asked) → Each Sees as_ → Each IsControlled as_
 each_controlled [] e = tt
 each_controlled (a ∷ as_) e = (control_is_done a (e.0), each_controlled as_ (e.1))
 
-pub server_holds_writes : ServerHoldsWrites
-server_holds_writes d waves accepted before m = record {
-  requests = changes d waves before m;
-  names = names (server_after d waves before) m;
-  writes = each_done (asked_at_move d waves before m) (every_request_sees d waves accepted before m);
-  controls = each_controlled (asked_at_move d waves before m) (every_request_sees d waves accepted before m);
+pub each_holds_writes : EachHoldsWrites
+each_holds_writes profile d waves accepted before m = record {
+  requests = changes profile d waves before m;
+  names = names (server_after_in profile d waves before) m;
+  writes = each_done (asked_at_move profile d waves before m) (every_request_sees profile d waves accepted before m);
+  controls = each_controlled (asked_at_move profile d waves before m) (every_request_sees profile d waves accepted before m);
 }
+
+pub server_holds_writes : ServerHoldsWrites
+server_holds_writes d waves accepted before m = each_holds_writes Strict d waves accepted before m

@@ -16,6 +16,7 @@ use Rattle.spec_plant.proofs.BlockLemmas.{stands_within_part}
 use Rattle.spec_plant.proofs.SoundLemmas.{accepted_are_sound, port_number}
 use Rattle.spec_formats.specs.Header.{AmsAddress, AmsHeader, header_of, payload_of}
 use Rattle.spec_formats.specs.Request.{Request, request_of}
+use Rattle.spec_machine.specs.Profile.{Profile}
 use Rattle.spec_machine.specs.Device.{DescriptionFault, FrameOutcome}
 use Rattle.spec_machine.specs.Connection.{Connection, connection_of, is_deaf}
 use Rattle.spec_machine.specs.MachineState.{MachineState, Exchange, exchange_of, after_exchange}
@@ -36,7 +37,7 @@ use Rattle.spec_machine.specs.Replies.{performed}
 use Rattle.spec_machine.specs.Ticks.{signal_puts, world_after_tick}
 use Rattle.spec_machine.specs.Reloads.{world_after_reload}
 use Rattle.spec_machine.specs.AdsDevice.{reloading}
-use Rattle.spec_laws.specs.Isolation.{start}
+use Rattle.spec_laws.specs.Isolation.{start_in}
 use Rattle.spec_laws.specs.Soundness.{Each, IsSoundPlant}
 use Rattle.spec_laws.specs.Reachable.{IsThereAt, IsWatchThere, ConnectionFits}
 use Rattle.spec_laws.proofs.Alike.{Alike, alike_itself, alike_then, puts-alike, acts-alike, reload-alike}
@@ -112,11 +113,11 @@ unfolding state_after
 log-whole [] s w = w
 log-whole (m ∷ ms) s w = log-whole ms (state_after_move server s m) (move-whole s m w)
 
-pub every_state_whole : (d : Description) (waves : List Wave)
+pub every_state_whole : (profile : Profile) (d : Description) (waves : List Wave)
     → IsAccepted d (length waves) → (log : List Move)
-    → Whole (state_after server (start d waves) log).world
-every_state_whole d waves accepted log =
-    log-whole log (start d waves)
+    → Whole (state_after server (start_in profile d waves) log).world
+every_state_whole profile d waves accepted log =
+    log-whole log (start_in profile d waves)
     (record { sound = accepted_are_sound d (length waves) accepted; memory = alike_itself (first_memory (plant_of d)) })
 
 -- what a request finds
@@ -263,9 +264,9 @@ move-sees s (move.Event (event.Piece n bytes)) w f = at-sees s bytes w f n (conn
 move-sees s m w f = tt
 
 -- each request of every log
-pub every_request_sees : (d : Description) (waves : List Wave)
+pub every_request_sees : (profile : Profile) (d : Description) (waves : List Wave)
     → IsAccepted d (length waves) → (log : List Move) (m : Move)
-    → Each Sees (asked_of_move (state_after server (start d waves) log) m)
-every_request_sees d waves accepted log m =
-    move-sees (state_after server (start d waves) log) m (every_state_whole d waves accepted log)
-    (every_state_fits read_description reads_descriptions d waves accepted log).connections
+    → Each Sees (asked_of_move (state_after server (start_in profile d waves) log) m)
+every_request_sees profile d waves accepted log m =
+    move-sees (state_after server (start_in profile d waves) log) m (every_state_whole profile d waves accepted log)
+    (every_state_fits read_description reads_descriptions profile d waves accepted log).connections

@@ -14,6 +14,7 @@ use Rattle.spec_formats.specs.Groups.{Group, AreaBytes, AreaBit, ValueByHandle, 
 use Rattle.spec_formats.specs.Ranges.{greatest_len, byte_range, bit_range, range_in}
 use Rattle.spec_formats.specs.Request.{Request, Write}
 use Rattle.spec_formats.specs.Numbers.{number32}
+use Rattle.spec_machine.specs.Profile.{Profile, Strict, Wide}
 use Rattle.spec_machine.specs.World.{Setup, numbers_from, name_at, names_at, symbol_names, content_of}
 use Rattle.spec_machine.specs.Access.{Addressed, WholeByte, OneBit, values_at, puts_of, memory_after_put, memory_after_puts}
 use Rattle.spec_machine.specs.AreaContent.{IsThere}
@@ -24,7 +25,8 @@ use Rattle.spec_machine.specs.Answers.{answered_group, if_answered, READ, WRITE}
 use Rattle.spec_machine.specs.Reach.{addressed_by_range, addressed_by_status, reach_of}
 use Rattle.spec_machine.specs.Reads.{read_act, read_group}
 use Rattle.spec_machine.specs.Writes.{Asker, may_write, are_writable, write_act, is_releasable, release_act, write_group}
-use Rattle.spec_machine.specs.Requests.{act_of}
+use Rattle.spec_machine.specs.Meanings.{len_by_status, read_len_in}
+use Rattle.spec_machine.specs.Requests.{plain_act, act_of}
 use Rattle.spec_machine.specs.SumLaws.{Party, single_outcome}
 use Rattle.spec_machine.proofs.AreaContent.{numbers-length, reads_content, writes_content}
 use Rattle.spec_machine.proofs.AreaNames.{spans_give_names}
@@ -258,6 +260,9 @@ bit-done m p area offset (v ∷ (w ∷ rest)) e there = absurd (omega (arith, e)
 record DoneAs (d : Setup) (c : Client) (k : Asker) (g : Option Group) (offset : ℕ) (bytes : List ℕ) (m : List Block) (a : Act) : Type 0 where
   holds : HoldsAt g m (memory_after m a) c k.port offset bytes
   read : option_map_or is_value_group g false ≡ true → ReadsNext d c k g offset bytes m a
+  -- a read of as many bytes as were written asks for as many, in either profile
+  asks : option_map_or is_value_group g false ≡ true → (x : Profile)
+      → read_len_in x (client_after c (effect_of a)) k.port g offset (length bytes) ≡ length bytes
 
 may : (k : Asker) (bytes : List ℕ) (Q : List Addressed → Type 0) (r : Result (List Addressed) ℕ) → ReachCase Q r
     → WriteCase Q bytes r (cond (not (may_write k.rights)) (Refusal not_permitted) (write_act k bytes r))
@@ -272,13 +277,32 @@ released c p bytes m =
     if_both (λ a. memory_after m a ≡ m) (not (length bytes == 4)) _ _ (λ t. refl)
     (λ t. if_both (λ a. memory_after m a ≡ m) (is_releasable (kept_status c.handles (number32 0 bytes) p.number)) _ _ (λ u. refl) (λ u. refl))
 
+bytes-ask : (x : Profile) (c : Client) (p : PlantPort) (area : Area) (offset len : ℕ) → read_len_in x c p (Some (AreaBytes area)) offset len ≡ len
+bytes-ask Strict c p area offset len = refl
+bytes-ask Wide c p area offset len = refl
+
+bit-asks : (x : Profile) (c : Client) (p : PlantPort) (area : Area) (offset len : ℕ) → read_len_in x c p (Some (AreaBit area)) offset len ≡ len
+bit-asks Strict c p area offset len = refl
+bit-asks Wide c p area offset len = refl
+
+handle-asks : (x : Profile) (c : Client) (p : PlantPort) (handle len : ℕ) (place : Place) → kept_status c.handles handle p.number ≡ Live place
+    → len ≤ place.len → read_len_in x c p (Some ValueByHandle) handle len ≡ len
+handle-asks Strict c p handle len place live fits = refl
+handle-asks Wide c p handle len place live fits =
+    let least : min len place.len ≡ len = omega (arith, fits) in
+    ap (λ s. len_by_status s len) live ∙ least
+
 group-done : (d : Setup) (c : Client) (k : Asker) (m : List Block) → IsAsked d.plant k.port → ((area : Area) → IsThere m k.port area)
     → Each (IsPlacedHandle d.plant) c.handles
     → (g : Option Group) (offset : ℕ) (bytes : List ℕ) → (outcome_of m (write_group c k g offset bytes)).code ≡ no_error
     → DoneAs d c k g offset bytes m (write_group c k g offset bytes)
-unfolding write_group read_group
+unfolding write_group read_group client_after
 group-done d c k m i there placed None offset bytes h = absurd (no_group h)
-group-done d c k m i there placed (Some ReleaseHandle) offset bytes h = record { holds = released c k.port bytes m; read = λ v. absurd (false≢true v) }
+group-done d c k m i there placed (Some ReleaseHandle) offset bytes h = record {
+  holds = released c k.port bytes m;
+  read = λ v. absurd (false≢true v);
+  asks = λ v. absurd (false≢true v);
+}
 group-done d c k m i there placed (Some (AreaBytes area)) offset bytes h =
     let Q : List Addressed → Type 0 = InArea k.port area offset (length bytes) in
     let r = reach_of c k.port (Some (AreaBytes area)) offset (length bytes) in
@@ -292,6 +316,7 @@ group-done d c k m i there placed (Some (AreaBytes area)) offset bytes h =
       read = λ v. reads_next d c k (Some (AreaBytes area)) offset bytes m _ w.places w.act w.reach refl
           (subst (λ ps. values_at (memory_after_puts m (puts_of ps bytes)) ps ≡ bytes) back
           (area-read k.port area offset bytes m w.fact.within (there area) port.names));
+      asks = λ v x. bytes-ask x _ k.port area offset (length bytes);
     }
 group-done d c k m i there placed (Some (AreaBit area)) offset bytes h =
     let Q : List Addressed → Type 0 = InBit k.port area offset (length bytes) in
@@ -304,6 +329,7 @@ group-done d c k m i there placed (Some (AreaBit area)) offset bytes h =
           (subst (λ ps. HoldsBit m (memory_after_puts m (puts_of ps bytes)) k.port area offset bytes) back done.holds);
       read = λ v. reads_next d c k (Some (AreaBit area)) offset bytes m _ w.places w.act w.reach refl
           (subst (λ ps. values_at (memory_after_puts m (puts_of ps bytes)) ps ≡ map (λ b. min b 1) bytes) back done.read);
+      asks = λ v x. bit-asks x _ k.port area offset (length bytes);
     }
 group-done d c k m i there placed (Some ValueByHandle) offset bytes h =
     let Q : List Addressed → Type 0 = InPlace c k.port offset (length bytes) in
@@ -324,6 +350,8 @@ group-done d c k m i there placed (Some ValueByHandle) offset bytes h =
       };
       read = λ v. reads_next d c k (Some ValueByHandle) offset bytes m _ w.places w.act w.reach refl
           (subst (λ ps. values_at (memory_after_puts m (puts_of ps bytes)) ps ≡ bytes) back values);
+      asks = λ v x. subst (λ a. read_len_in x (client_after c (effect_of a)) k.port (Some ValueByHandle) offset (length bytes) ≡ length bytes) (sym w.act)
+          (handle-asks x c k.port offset (length bytes) place w.fact.live w.fact.fits);
     }
 group-done d c k m i there placed g offset bytes h = absurd (no_group h)
 
@@ -345,15 +373,18 @@ write-done : (d : Setup) (k : Asker) (p : Party) → IsAsked d.plant k.port → 
     → Each (IsPlacedHandle d.plant) p.client.handles
     → (group offset : ℕ) (bytes : List ℕ) → (single_outcome d k p (Write group offset bytes)).code ≡ no_error
     → IsWritten (record { setup = d; asker = k; before = p; request = Write group offset bytes }) group offset bytes
-unfolding act_of
+unfolding act_of plain_act
 write-done d k p i there placed group offset bytes h =
     let g = written_group group in
     let done = group-done d p.client k p.memory i there placed g offset bytes h in
     let a = write_group p.client k g offset bytes in
     record {
       holds = done.holds;
-      read = λ v. ap (λ (x : Option Group). outcome_of (memory_after p.memory a)
-          (read_group d (client_after p.client (effect_of a)) k.port x offset (length bytes))) (read_answers group v)
+      read = λ v.
+          let c : Client = client_after p.client (effect_of a) in
+          let read : Option Group → ℕ → Outcome = λ x n. outcome_of (memory_after p.memory a) (read_group d c k.port x offset n) in
+          ap (λ (x : Option Group). read x (read_len_in d.profile c k.port x offset (length bytes))) (read_answers group v)
+          ∙ ap (read g) (done.asks v d.profile)
           ∙ done.read v;
     }
 

@@ -8,6 +8,7 @@ use Rattle.spec_plant.specs.Description.{Description}
 use Rattle.spec_plant.specs.Accepted.{IsAccepted}
 use Rattle.spec_formats.specs.Groups.{value_by_handle}
 use Rattle.spec_formats.specs.Request.{Read}
+use Rattle.spec_machine.specs.Profile.{Profile, Strict}
 use Rattle.spec_machine.specs.Connection.{Connection, connection_of, is_deaf}
 use Rattle.spec_machine.specs.MachineState.{MachineState}
 use Rattle.spec_machine.specs.World.{World, setup_of}
@@ -16,7 +17,7 @@ use Rattle.spec_machine.specs.Client.{Client}
 use Rattle.spec_machine.specs.Acts.{Outcome}
 use Rattle.spec_machine.specs.SumLaws.{single_outcome}
 use Rattle.spec_machine.specs.Writes.{Asker}
-use Rattle.spec_server.specs.Server.{server_after}
+use Rattle.spec_server.specs.Server.{server_after_in}
 
 -- what a connection reads by a handle, so many bytes
 abbrev pub read_by_handle : MachineState World Client → Connection Client → Asker → ℕ → ℕ → Outcome
@@ -39,12 +40,20 @@ ReadsAsBefore s t = (c : ℕ) (k l : Connection Client) (asker later : Asker) �
     → (len : ℕ) → read_by_handle t l later handle len ≡ read_by_handle s k asker handle len
 
 -- at a reload that follows a log
-abbrev pub KeepsHandles : Description → List Wave → List Move → List ℕ → Type 0
-KeepsHandles d waves before bytes =
-    ReadsAsBefore (server_after d waves before)
-    (server_after d waves (before ++ move.Event (event.Reload bytes) ∷ []))
+abbrev pub KeepsHandlesIn : Profile → Description → List Wave → List Move → List ℕ → Type 0
+KeepsHandlesIn profile d waves before bytes =
+    ReadsAsBefore (server_after_in profile d waves before)
+    (server_after_in profile d waves (before ++ move.Event (event.Reload bytes) ∷ []))
 
--- So at each reload of every log over an accepted description.
+-- So at each reload of every log over an accepted description, of the server of either profile.
+abbrev pub EachKeepsHandles : Type 0
+EachKeepsHandles = (profile : Profile) (d : Description) (waves : List Wave) → IsAccepted d (length waves)
+    → (before : List Move) (bytes : List ℕ) → KeepsHandlesIn profile d waves before bytes
+
+-- and so of the program `ads`, which is the strict one
+abbrev pub KeepsHandles : Description → List Wave → List Move → List ℕ → Type 0
+KeepsHandles d waves before bytes = KeepsHandlesIn Strict d waves before bytes
+
 abbrev pub ServerKeepsHandles : Type 0
 ServerKeepsHandles = (d : Description) (waves : List Wave) → IsAccepted d (length waves)
     → (before : List Move) (bytes : List ℕ) → KeepsHandles d waves before bytes

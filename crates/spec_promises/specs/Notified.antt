@@ -11,6 +11,7 @@ use Rattle.ads_outside.specs.declared.moves.Move.{Move}
 use Rattle.ads_outside.specs.declared.moves.Move.TheVariants as move
 use Rattle.spec_plant.specs.Description.{Description}
 use Rattle.spec_plant.specs.World.{Block}
+use Rattle.spec_machine.specs.Profile.{Profile, Strict}
 use Rattle.spec_machine.specs.Connection.{Connection, connection_of, is_deaf}
 use Rattle.spec_machine.specs.MachineState.{MachineState}
 use Rattle.spec_machine.specs.Moves.{state_after_move}
@@ -21,7 +22,7 @@ use Rattle.spec_machine.specs.Watches.{Watch, Cyclic, OnChange, AddressedSample}
 use Rattle.spec_machine.specs.Client.{Client}
 use Rattle.spec_machine.specs.Stamps.{samples_at}
 use Rattle.spec_machine.specs.Ticks.{world_after_tick}
-use Rattle.spec_server.specs.Server.{server, server_after}
+use Rattle.spec_server.specs.Server.{server, server_after_in}
 
 -- the notification of a handle; none of a connection that is closing or gone
 abbrev pub watch_numbered : ℕ → List (Watch (List Addressed)) → Option (Watch (List Addressed))
@@ -111,11 +112,19 @@ pub record GivesAsAsked (w : Watch (List Addressed)) (life : List TickSeen) : Ty
   pub on_change : w.mode ≡ OnChange → IsOnChange w.cycle life
 
 -- a notification that no tick has checked yet gives as it was asked, whatever comes
-abbrev pub NotifiesAfter : Description → List Wave → List Move → List Move → Type 0
-NotifiesAfter d waves before after = (c handle : ℕ) (w : Watch (List Addressed))
-    → watch_at c handle (server_after d waves before) ≡ Some w → w.last ≡ None
-    → GivesAsAsked w (life_of c handle (server_after d waves before) after)
+abbrev pub NotifiesAfterIn : Profile → Description → List Wave → List Move → List Move → Type 0
+NotifiesAfterIn profile d waves before after = (c handle : ℕ) (w : Watch (List Addressed))
+    → watch_at c handle (server_after_in profile d waves before) ≡ Some w → w.last ≡ None
+    → GivesAsAsked w (life_of c handle (server_after_in profile d waves before) after)
 
--- So in every log.
+-- So in every log, of the server of either profile.
+abbrev pub EachNotifies : Type 0
+EachNotifies = (profile : Profile) (d : Description) (waves : List Wave) (before after : List Move)
+    → NotifiesAfterIn profile d waves before after
+
+-- and so of the program `ads`, which is the strict one
+abbrev pub NotifiesAfter : Description → List Wave → List Move → List Move → Type 0
+NotifiesAfter d waves before after = NotifiesAfterIn Strict d waves before after
+
 abbrev pub ServerNotifies : Type 0
 ServerNotifies = (d : Description) (waves : List Wave) (before after : List Move) → NotifiesAfter d waves before after

@@ -13,6 +13,7 @@ use Rattle.spec_plant.specs.World.{PlantPort, Block, byte_or_zero}
 use Rattle.spec_formats.specs.Codes.{no_error}
 use Rattle.spec_formats.specs.Groups.{Group, AreaBytes, AreaBit, ValueByHandle, ReleaseHandle, is_value_group}
 use Rattle.spec_formats.specs.Request.{Read, Write, ReadState, WriteControl}
+use Rattle.spec_machine.specs.Profile.{Profile, Strict}
 use Rattle.spec_machine.specs.World.{name_at, content_of, state_names, state_bytes}
 use Rattle.spec_machine.specs.Access.{WholeByte, values_at}
 use Rattle.spec_machine.specs.Handles.{Live, kept_status}
@@ -23,7 +24,7 @@ use Rattle.spec_machine.specs.SumLaws.{single_outcome}
 use Rattle.spec_machine.specs.Projection.{acts_of_move}
 use Rattle.spec_laws.specs.ExactWrites.{IsBitPut}
 use Rattle.spec_laws.specs.Soundness.{Each}
-use Rattle.spec_server.specs.Server.{read_description, server_after}
+use Rattle.spec_server.specs.Server.{read_description, server_after_in}
 use Rattle.spec_promises.specs.Asked.{Asked, outcome_of_asked, after_asked, asked_of_move, names_written, Leads}
 
 -- the area has these bytes from the offset on, and is else as it was
@@ -95,32 +96,40 @@ abbrev pub IsControlled : Asked → Type 0
 IsControlled a = (ads device : ℕ) (bytes : List ℕ) → a.request ≡ WriteControl ads device bytes
     → (outcome_of_asked a).code ≡ no_error → StatesAreSet a ads device
 
--- the requests of a move of the log, and what they make of it
-abbrev pub asked_at_move : Description → List Wave → List Move → Move → List Asked
-asked_at_move d waves before m = asked_of_move (server_after d waves before) m
+-- the requests of a move of the log of a server, and what they make of it
+abbrev pub asked_at_move : Profile → Description → List Wave → List Move → Move → List Asked
+asked_at_move profile d waves before m = asked_of_move (server_after_in profile d waves before) m
 
-abbrev pub memory_at : Description → List Wave → List Move → List Block
-memory_at d waves log = (server_after d waves log).world.memory
+abbrev pub memory_at : Profile → Description → List Wave → List Move → List Block
+memory_at profile d waves log = (server_after_in profile d waves log).world.memory
 
 -- a piece changes the bytes by its requests, one after another
-abbrev pub ChangesByRequests : Description → List Wave → List Move → Move → Type 0
-ChangesByRequests d waves before (move.Event (event.Piece c bytes)) =
-    Leads (memory_at d waves before) (asked_at_move d waves before (move.Event (event.Piece c bytes)))
-    (memory_at d waves (before ++ move.Event (event.Piece c bytes) ∷ []))
-ChangesByRequests d waves before m = Unit {0}
+abbrev pub ChangesByRequests : Profile → Description → List Wave → List Move → Move → Type 0
+ChangesByRequests profile d waves before (move.Event (event.Piece c bytes)) =
+    Leads (memory_at profile d waves before) (asked_at_move profile d waves before (move.Event (event.Piece c bytes)))
+    (memory_at profile d waves (before ++ move.Event (event.Piece c bytes) ∷ []))
+ChangesByRequests profile d waves before m = Unit {0}
 
 -- at a move that follows a log
-pub record HoldsWrites (d : Description) (waves : List Wave) (before : List Move) (m : Move) : Type 0 where
+pub record HoldsWritesIn (profile : Profile) (d : Description) (waves : List Wave) (before : List Move) (m : Move) : Type 0 where
   -- its requests are all that it does, one after another
-  pub requests : ChangesByRequests d waves before m
+  pub requests : ChangesByRequests profile d waves before m
   -- the names that they write are those that the move may change
-  pub names : names_written (asked_at_move d waves before m)
-      ≡ writes_of_acts (acts_of_move read_description (server_after d waves before) m)
+  pub names : names_written (asked_at_move profile d waves before m)
+      ≡ writes_of_acts (acts_of_move read_description (server_after_in profile d waves before) m)
   -- and each write among them that is accepted is done, as is each control
-  pub writes : Each IsDone (asked_at_move d waves before m)
-  pub controls : Each IsControlled (asked_at_move d waves before m)
+  pub writes : Each IsDone (asked_at_move profile d waves before m)
+  pub controls : Each IsControlled (asked_at_move profile d waves before m)
 
--- So at each move of every log over an accepted description.
+-- So at each move of every log over an accepted description, of the server of either profile.
+abbrev pub EachHoldsWrites : Type 0
+EachHoldsWrites = (profile : Profile) (d : Description) (waves : List Wave) → IsAccepted d (length waves)
+    → (before : List Move) (m : Move) → HoldsWritesIn profile d waves before m
+
+-- and so of the program `ads`, which is the strict one
+abbrev pub HoldsWrites : Description → List Wave → List Move → Move → Type 0
+HoldsWrites d waves before m = HoldsWritesIn Strict d waves before m
+
 abbrev pub ServerHoldsWrites : Type 0
 ServerHoldsWrites = (d : Description) (waves : List Wave) → IsAccepted d (length waves)
     → (before : List Move) (m : Move) → HoldsWrites d waves before m

@@ -1,9 +1,9 @@
 //! What the server promises of every log, in an operator's words: its writes, its notifications, its handles.
 #![tactic(auto)]
 
-ghost use Rattle.spec_promises.specs.Written.{ServerHoldsWrites};
-ghost use Rattle.spec_promises.specs.Notified.{ServerNotifies};
-ghost use Rattle.spec_promises.specs.KeptHandles.{ServerKeepsHandles};
+ghost use Rattle.spec_promises.specs.Written.{ServerHoldsWrites, EachHoldsWrites};
+ghost use Rattle.spec_promises.specs.Notified.{ServerNotifies, EachNotifies};
+ghost use Rattle.spec_promises.specs.KeptHandles.{ServerKeepsHandles, EachKeepsHandles};
 
 /// At each accepted write of a log, by group and offset, by bit or by handle, alone or as a part of a sum, the bytes that
 /// it addresses hold afterwards the bytes that it carries, in their order, and a read that follows answers them; and at each
@@ -22,4 +22,11 @@ pub fn notifications_are_given()
 /// A handle that is live before and after a reload reads afterwards, by any who ask for it, what it read before.
 pub fn kept_handles_read_the_same()
     ensures { ServerKeepsHandles }
+{}
+
+/// The server of either profile promises the same.
+pub fn each_profile_promises()
+    ensures writes { EachHoldsWrites }
+    ensures notifications { EachNotifies }
+    ensures handles { EachKeepsHandles }
 {}

@@ -1,2 +1,3 @@
 pub mod Server
 pub mod ServerLaws
+pub mod ProfileLaws

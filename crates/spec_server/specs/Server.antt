@@ -9,7 +9,8 @@ use Rattle.spec_rules.specs.TextVerdict as text
 use Rattle.spec_machine.specs.Device.{Device, DescriptionFault, BreaksRule, NoDocument}
 use Rattle.spec_machine.specs.MachineState.{MachineState, start_of, output_of}
 use Rattle.spec_machine.specs.Moves.{EventStep, state_after}
-use Rattle.spec_machine.specs.World.{World, world_of}
+use Rattle.spec_machine.specs.Profile.{Profile, Strict}
+use Rattle.spec_machine.specs.World.{World, world_in}
 use Rattle.spec_machine.specs.Client.{Client}
 use Rattle.spec_machine.specs.BuiltLines.{all_lines}
 use Rattle.spec_machine.specs.ScriptLine.{ScriptLine}
@@ -34,15 +35,25 @@ server_device = ads_device read_description
 abbrev pub server : EventStep World Client
 server = server_step read_description
 
--- the machine over a description and signals, before any move
-abbrev pub server_start : Description → List Wave → MachineState World Client
-server_start description signals = start_of (world_of description signals)
+-- the machine of a profile over a description and signals, before any move
+abbrev pub server_start_in : Profile → Description → List Wave → MachineState World Client
+server_start_in profile description signals = start_of (world_in profile description signals)
 
--- the machine after a log
+-- the same after a log
+abbrev pub server_after_in : Profile → Description → List Wave → List Move → MachineState World Client
+server_after_in profile description signals log = state_after server (server_start_in profile description signals) log
+
+-- all bytes that a connection was given by the end of a log
+abbrev pub server_output_in : Profile → Description → List Wave → ℕ → List Move → List ℕ
+server_output_in profile description signals c log = output_of c (server_after_in profile description signals log)
+
+-- the program `ads` is the strict server
+abbrev pub server_start : Description → List Wave → MachineState World Client
+server_start description signals = server_start_in Strict description signals
+
 abbrev pub server_after : Description → List Wave → List Move → MachineState World Client
 server_after description signals log = state_after server (server_start description signals) log
 
--- all bytes that a connection was given by the end of a log
 abbrev pub server_output : Description → List Wave → ℕ → List Move → List ℕ
 server_output description signals c log = output_of c (server_after description signals log)
 

@@ -4,6 +4,8 @@
 ghost use Rattle.spec_server.specs.ServerLaws.{ReadsDescriptions, TellsReloads, ServerPlaysInTurns};
 ghost use Rattle.spec_server.specs.ServerLaws.{ServerIsIsolated, ServerTakesAsAlone};
 ghost use Rattle.spec_server.specs.ServerLaws.{ServerStateFits, ServerRepliesFit, ServerRefusesDeadHandles};
+ghost use Rattle.spec_server.specs.ProfileLaws.{ServerKeepsProfile, ServerIsStrict, EachPlaysInTurns};
+ghost use Rattle.spec_server.specs.ProfileLaws.{EachIsIsolated, EachTakesAsAlone, EachStateFits, EachRepliesFit};
 
 /// Each description that the server reads is an accepted one; a reload of any other text is told its least broken rule
 /// and the least item in it, or that it is no TOML document, and changes the count of refusals alone.
@@ -36,4 +38,16 @@ pub fn every_state_fits()
 /// A read, a write and an addition by a handle that is not live are refused, each by its code.
 pub fn dead_handles_touch_nothing()
     ensures { ServerRefusesDeadHandles }
+{}
+
+/// A server keeps its profile over every log, and that of the program `ads` is the strict one. The laws above hold of the
+/// server of either profile.
+pub fn each_profile_keeps_the_laws()
+    ensures profile { ServerKeepsProfile }
+    ensures strict { ServerIsStrict }
+    ensures turns { EachPlaysInTurns }
+    ensures alone { EachIsIsolated }
+    ensures taken { EachTakesAsAlone }
+    ensures states { EachStateFits }
+    ensures replies { EachRepliesFit }
 {}

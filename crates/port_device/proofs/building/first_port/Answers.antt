@@ -114,6 +114,7 @@ returns c =
       number = refl;
       facts = refl;
       version_is = refl;
+      profile_is = refl;
       table = is_table;
       ads = refl;
       device = refl;

@@ -1,55 +1,51 @@
-use Rattle.std.proofs.Common.{sym}
-use Rattle.spec_formats.specs.Groups.{group_of}
+use Rattle.std.proofs.Common.{sym, ◌∙◌}
 use Rattle.spec_formats.specs.Request.{ReadWrite}
-use Rattle.spec_plant.specs.World.{PlantPort}
-use Rattle.spec_machine.specs.World.{World}
-use Rattle.spec_machine.specs.ByName.{read_write_group}
-use Rattle.spec_machine.specs.Client.{Client}
-use Rattle.port_device.specs.Groups.{without_handles}
-use Rattle.session.specs.Asking.{act_asked}
-use Rattle.session.specs.Grants.{handle_act}
-use Rattle.session.proofs.ReadLemmas.{answer-along, port-answer}
-use Rattle.session.proofs.GrantLemmas.{asks-handle, asks-port, read_write-asked, asked-leaves, port-leaves}
+use Rattle.session.proofs.MeaningLemmas.{is-plain, read_write-is-meant, meant-answers, meant-leaves}
+use Rattle.session.proofs.GrantLemmas.{read_write-asked}
 use Rattle.session.proofs.granting.read_write.Goals as goal
 
-pub returns-then-is_handle_by_name-clause-answer : goal.returns-then-is_handle_by_name-clause-answer
-returns-then-is_handle_by_name-clause-answer c =
+pub returns-then-not-is_wide-clause-answer : goal.returns-then-not-is_wide-clause-answer
+returns-then-not-is_wide-clause-answer c =
     let asked = c.args.asked.now in
-    answer-along c.args.port.now c.args.handles.now (λ a. handle_act a asked.len asked.bytes.now)
-    (λ a. act_asked a (ReadWrite asked.group asked.offset asked.len asked.bytes.now)) c.grant.result _ _
-    (λ a. asks-handle a asked.group asked.offset asked.len asked.bytes.now (sym c.if-is_handle_by_name.ensures)) c.grant.ensures.answer
+    let r = ReadWrite asked.group asked.offset asked.len asked.bytes.now in
+    meant-answers c.args.port.now c.args.handles.now r r c.read_write_plain.result _ _
+    (λ a asks. is-plain a r c.args.port.now c.args.handles.now asks (sym c.is_wide.ensures ∙ c.if-not-is_wide.true)) c.read_write_plain.ensures.answer
 
-pub returns-then-is_handle_by_name-clause-leaves : goal.returns-then-is_handle_by_name-clause-leaves
-returns-then-is_handle_by_name-clause-leaves c =
+pub returns-then-not-is_wide-clause-leaves : goal.returns-then-not-is_wide-clause-leaves
+returns-then-not-is_wide-clause-leaves c =
     let asked = c.args.asked.now in
-    asked-leaves c.args.port.now c.args.handles.now _ asked.group asked.offset asked.len asked.bytes.now c.grant.result
-    (sym c.if-is_handle_by_name.ensures) c.grant.ensures.leaves
+    let r = ReadWrite asked.group asked.offset asked.len asked.bytes.now in
+    meant-leaves c.args.port.now c.args.handles.now _ r r c.read_write_plain.result
+    (λ a asks. is-plain a r c.args.port.now c.args.handles.now asks (sym c.is_wide.ensures ∙ c.if-not-is_wide.true)) c.read_write_plain.ensures.leaves
 
-pub returns-then-is_handle_by_name-clause-asked : goal.returns-then-is_handle_by_name-clause-asked
-returns-then-is_handle_by_name-clause-asked c =
+pub returns-then-not-is_wide-clause-asked : goal.returns-then-not-is_wide-clause-asked
+returns-then-not-is_wide-clause-asked c =
     let asked = c.args.asked.now in
-    read_write-asked c.args.port.now c.args.handles.now asked.group asked.offset asked.len asked.bytes.now c.grant.result _ _ c.requires.some
-    (returns-then-is_handle_by_name-clause-answer c)
+    read_write-asked c.args.port.now c.args.handles.now asked.group asked.offset asked.len asked.bytes.now c.read_write_plain.result _ _ c.requires.some
+    (returns-then-not-is_wide-clause-answer c)
 
 pub returns-clause-answer : goal.returns-clause-answer
 returns-clause-answer c =
     let asked = c.args.asked.now in
-    answer-along c.args.port.now c.args.handles.now
-    (λ a. read_write_group a.client a.asker.port (without_handles (group_of asked.group)) asked.len asked.bytes.now)
-    (λ a. act_asked a (ReadWrite asked.group asked.offset asked.len asked.bytes.now)) c.ask.result _ _
-    (λ a. asks-port a asked.group asked.offset asked.len asked.bytes.now (sym c.if-is_handle_by_name.ensures))
-    (port-answer c.args.port.now c.args.handles.now
-    (λ (w : World) (x : Client) (p : PlantPort). read_write_group x p (without_handles (group_of asked.group)) asked.len asked.bytes.now)
-    c.ask.result _ _ c.ask.ensures.answer)
+    let r = ReadWrite asked.group asked.offset asked.len asked.bytes.now in
+    let meant = ReadWrite asked.group asked.offset c.value_len.result c.name_meant.result.now in
+    meant-answers c.args.port.now c.args.handles.now r meant c.read_write_plain-2.result _ _
+    (λ a asks. read_write-is-meant a asked.group asked.offset asked.len asked.bytes.now c.value_len.result c.name_meant.result.now
+    c.args.port.now c.args.handles.now asks (sym c.is_wide.ensures ∙ c.if-not-is_wide.false) c.name_meant.ensures (c.value_len.ensures a c.args.handles.now asks))
+    c.read_write_plain-2.ensures.answer
 
 pub returns-clause-leaves : goal.returns-clause-leaves
 returns-clause-leaves c =
     let asked = c.args.asked.now in
-    port-leaves c.args.port.now c.args.handles.now asked.group asked.offset asked.len asked.bytes.now c.ask.result
-    (sym c.if-is_handle_by_name.ensures)
+    let r = ReadWrite asked.group asked.offset asked.len asked.bytes.now in
+    let meant = ReadWrite asked.group asked.offset c.value_len.result c.name_meant.result.now in
+    meant-leaves c.args.port.now c.args.handles.now _ r meant c.read_write_plain-2.result
+    (λ a asks. read_write-is-meant a asked.group asked.offset asked.len asked.bytes.now c.value_len.result c.name_meant.result.now
+    c.args.port.now c.args.handles.now asks (sym c.is_wide.ensures ∙ c.if-not-is_wide.false) c.name_meant.ensures (c.value_len.ensures a c.args.handles.now asks))
+    c.read_write_plain-2.ensures.leaves
 
 pub returns-clause-asked : goal.returns-clause-asked
 returns-clause-asked c =
     let asked = c.args.asked.now in
-    read_write-asked c.args.port.now c.args.handles.now asked.group asked.offset asked.len asked.bytes.now c.ask.result _ _ c.requires.some
+    read_write-asked c.args.port.now c.args.handles.now asked.group asked.offset asked.len asked.bytes.now c.read_write_plain-2.result _ _ c.requires.some
     (returns-clause-answer c)

@@ -1,0 +1,128 @@
+"""What the wide server answers otherwise than the strict one, and what it answers alike: requests as TwinCAT's clients send them, each with the reply that must come, by hand. bench/hostile.py
+writes them as runs of `cases_wide`, and compares each reply with that of the model of the protocol (bench/model.py)."""
+import model
+from hostile import ME, NET, OTHER, PLANT, PLANT2, ask, add, frame, lines_of, played_wide, read, u16, u32, write
+
+TITLE = bytes.fromhex("4d69780000000000")
+
+
+def reply(command, number, payload, *, error=0, to=ME):
+    ams = model.net_of(to) + u16(32905) + model.net_of(NET) + u16(851) + u16(command) + u16(5) + u32(len(payload)) + u32(error) + u32(number) + payload
+    return u16(0) + u32(len(ams)) + ams
+
+
+def given(number, data, command=2):
+    """The reply of a Read, or of a ReadWrite, with data."""
+    return reply(command, number, u32(0) + u32(len(data)) + data)
+
+
+def refused(number, code, command=2):
+    """A reply with a result alone; of a Read and a ReadWrite it has an empty length behind."""
+    return reply(command, number, u32(code) + (b"" if command in (3, 7) else u32(0)))
+
+
+def done(number, command=3):
+    return reply(command, number, u32(0))
+
+
+def handled(number, handle):
+    return given(number, u32(handle), 9)
+
+
+def added(number, handle):
+    return reply(6, number, u32(0) + u32(handle))
+
+
+def stamp(moment, *samples):
+    stamps = u32(1) + moment.to_bytes(8, "little") + u32(len(samples)) + b"".join(u32(handle) + u32(len(data)) + data for handle, data in samples)
+    payload = u32(len(stamps)) + stamps
+    ams = model.net_of(ME) + u16(32905) + model.net_of(NET) + u16(851) + u16(8) + u16(4) + u32(len(payload)) + u32(0) + u32(0) + payload
+    return u16(0) + u32(len(ams)) + ams
+
+
+def by_name(number, name, group=0xF003, most=4):
+    return ask(number, group, 0, most, name)
+
+
+def row(said, *turns):
+    """A run of one client, connection 1, and of one beside it, 2: what each event is, and the frames that come of it."""
+    events, out = [("open", 1)], []
+    for event, *frames in turns:
+        events.append(event if isinstance(event, tuple) else ("bytes", 1, event))
+        conn = event[1] if isinstance(event, tuple) and event[0] == "bytes" else 1
+        out += [it if isinstance(it, str) else f"out {conn} {it.hex()}" for it in frames]
+    came = model.play(PLANT, [], events, True)
+    wanted = "".join(line + "\n" for line in out)
+    if wanted != came.rsplit("\n", 2)[0] + "\n":
+        raise SystemExit(f"the model of the protocol and a row differ: {said}\nwanted:\n{wanted}came:\n{came}")
+    return played_wide(said, [line for event in events for line in lines_of(event, "plant2.toml")], came)
+
+
+def beside(*frames):
+    return ("bytes", 2, b"".join(frames))
+
+
+def longer():
+    first = (by_name(1, b"Main.title"), handled(1, 1))
+    whole = (read(2, 0xF005, 1, 1024), given(2, TITLE))
+    yield row("A Read by a handle of more bytes than there are gives those that are there: the size that is asked is that of a buffer.", first, whole)
+    yield row("So does a ReadWrite by a name.", (by_name(1, b"Main.count\0", 0xF004, 1024), given(1, u32(42), 9)))
+    yield row(
+        "A handle of a part reads the part, and not its symbol; fewer bytes are the first of it, and none are none.",
+        (by_name(1, b"Main.axis[2].pos"), handled(1, 1)), (write(2, 0xF005, 1, u32(7)), done(2)), (read(3, 0xF005, 1, 0xFFFFFFFF), given(3, u32(7))),
+        (read(4, 0xF005, 1, 2), given(4, b"\7\0")), (read(5, 0xF005, 1, 0), given(5, b"")))
+    yield row(
+        "As a part of a sum of reads it is filled with zeros to the asked length, so that each part stands where its client looks for it.", first,
+        (ask(2, 0xF080, 2, 1040, u32(0xF005) + u32(1) + u32(1024) + u32(0x4040) + u32(0) + u32(4)), given(2, u32(0) * 2 + TITLE + bytes(1016) + u32(42), 9)))
+    yield row(
+        "A sum that asks more of its parts than a reply can have is refused as it is by the strict server.", first,
+        (ask(2, 0xF080, 1, 0xFFFFFFFF, u32(0xF005) + u32(1) + u32(0xFFFFFFFF)), refused(2, 0x705, 9)))
+    yield row(
+        "As a part of a sum of reads and writes it tells its own length.", first,
+        (ask(2, 0xF082, 2, 1040, u32(0xF004) + u32(0) + u32(1020) + u32(10) + u32(0xF004) + u32(0) + u32(4) + u32(10) + b"Main.titleMain.count"),
+         given(2, u32(0) + u32(8) + u32(0) + u32(4) + TITLE + u32(42), 9)))
+    yield row(
+        "What stands behind the value is given to nobody who reads it, also where another machine wrote there.", first, (("open", 2),),
+        (beside(write(1, 0x4040, 80, b"\xff" * 8)), done(1)), whole)
+
+
+def alike():
+    first = (by_name(1, b"Main.title"), handled(1, 1))
+    yield row("A handle that was never given, or is released, is not found, however much is asked.", first,
+              (read(2, 0xF005, 9, 1024), refused(2, 0x710)), (write(3, 0xF006, 0, u32(1)), done(3)), (read(4, 0xF005, 1, 1024), refused(4, 0x710)))
+    yield row("A longer write is refused, and changes nothing.", first, (write(2, 0xF005, 1, bytes(9)), refused(2, 0x705, 3)), (read(3, 0xF005, 1, 1024), given(3, TITLE)))
+    yield row("A shorter write by handle writes the first bytes.", first, (write(2, 0xF005, 1, b"Hi\0"), done(2)), (read(3, 0xF005, 1, 81), given(3, b"Hi" + bytes(6))))
+    yield row("A Read by group and offset that ends behind the area is refused.", (read(1, 0x4040, 72, 1024), refused(1, 0x705)))
+    yield row("A notification by handle of more bytes than there are is refused.", first, (add(2, 0xF005, 1, 9), refused(2, 0x705, 6)))
+    yield row("A handle whose symbol a reload gives another type is outdated, however much is asked.", first, (("reload", PLANT2), "reload ok 2"), (read(2, 0xF005, 1, 1024), refused(2, 0x711)))
+    yield row("A client that may only read writes nothing.", first, (write(2, 0x4040, 0, u32(1), source=OTHER), reply(3, 2, u32(0x704), to=OTHER)))
+
+
+def reloads():
+    yield row("A reload that moves a symbol: the handle reads it there, and the server stays wide.", (by_name(1, b"Main.count"), handled(1, 1)),
+              (("reload", PLANT2), "reload ok 2"), (read(2, 0xF005, 1, 1024), given(2, u32(42))), (by_name(3, b".Main.count\0\0"), handled(3, 2)))
+
+
+def names():
+    yield row("A name in a buffer of 81 bytes, as a PLC's function block sends it.", (by_name(1, b"MAIN.COUNT" + bytes(71)), handled(1, 1)), (read(2, 0xF005, 1, 4), given(2, u32(42))))
+    yield row("One full stop in front, as global names of TwinCAT 2 have it.", (by_name(1, b".Main.count\0"), handled(1, 1)), (by_name(2, b".Main.count", 0xF004), given(2, u32(42), 9)))
+    yield row("Two full stops, NULs alone, a full stop alone and no byte are no name.", (by_name(1, b"..Main.count"), refused(1, 0x710, 9)), (by_name(2, bytes(9)), refused(2, 0x710, 9)),
+              (by_name(3, b"."), refused(3, 0x710, 9)), (by_name(4, b""), refused(4, 0x710, 9)))
+    yield row("What stands behind the first NUL is no part of the name.", (by_name(1, b"Main.count\0x\0[9]"), handled(1, 1)))
+    yield row("A full stop behind a NUL is none in front; blanks are no NULs.", (by_name(1, b"\0.Main.count"), refused(1, 0x710, 9)), (by_name(2, b"Main.count "), refused(2, 0x710, 9)))
+    yield row("An info by such a name; its room is looked at as ever.", (by_name(1, b".Main.count\0\0", 0xF007, 12), given(1, u32(0x4040) + u32(0) + u32(4), 9)),
+              (by_name(2, b".Main.count\0\0", 0xF007, 11), refused(2, 0x705, 9)))
+    yield row("Data that is no name keeps its NULs: a sum of writes.", (ask(1, 0xF081, 2, 8, u32(0x4040) + u32(0) + u32(2) + u32(0x4040) + u32(2) + u32(2) + b"\7\0\t\0"), given(1, u32(0) * 2, 9)),
+              (read(2, 0x4040, 0, 4), given(2, b"\7\0\t\0")))
+
+
+def modes():
+    yield row("Mode 6 is mode 4, on change.", (add(1, 0x4040, 0, 4, 6), added(1, 1)), (("tick", 1000), stamp(1000, (1, u32(42)))), (("tick", 2000),),
+              (write(2, 0x4040, 0, u32(7)), done(2)), (("tick", 3000), stamp(3000, (1, u32(7)))))
+    yield row("Mode 5 is mode 3, at each cycle.", (add(1, 0x4040, 0, 4, 5, 1000), added(1, 1)), (("tick", 1000), stamp(1000, (1, u32(42)))), (("tick", 1500),),
+              (("tick", 2000), stamp(2000, (1, u32(42)))))
+    for mode in (0, 1, 2, 7, 10, 0xFFFFFFFF):
+        yield row(f"Mode {mode} is none.", (add(1, 0x4040, 0, 4, mode), refused(1, 0x713, 6)))
+
+
+SUBJECTS = {"wide_longer": longer, "wide_alike": alike, "wide_reloads": reloads, "wide_names": names, "wide_modes": modes}
