@@ -9,8 +9,9 @@ line: how many samples came in S seconds (60 unless told), the mean gap between 
 moments of the samples. The program ends with 1 where the mean gap of the 10 ms cycle is above 10.5 ms (5 % above the cycle for the others), or where a moment does not lie a whole
 number of cycles behind the last.
 
-With --wall the system's wall clock is set for the server alone (bench/set_clocks.c, which gcc builds): an hour forward, and then two hours back, while
-samples come; it prints how the moments follow.
+With --wall the system's wall clock is set for the program alone (bench/set_clocks.c, which gcc builds). For a server: an hour forward, and then two hours
+back, while samples come; it prints how the moments follow. For a client: an hour forward just before each answer comes, which must time nothing out; and two
+hours back while no answer comes, which must end it after its five seconds all the same.
 """
 import argparse
 import os
@@ -20,6 +21,7 @@ import struct
 import subprocess
 import sys
 import tempfile
+import threading
 import time
 
 HERE = os.path.dirname(os.path.abspath(__file__))
@@ -154,25 +156,107 @@ def measure(program, seconds, loaded):
 
 
 def wall(program):
-    """The wall clock of the server alone is set forward and back, while a cycle of 10 ms goes on."""
-    right = True
+    """The wall clock of a server alone, and then of clients alone, is set forward and back."""
     with tempfile.TemporaryDirectory() as folder:
         shim, clocks = os.path.join(folder, "set_clocks.so"), os.path.join(folder, "clocks")
         subprocess.run(["gcc", "-O2", "-shared", "-fPIC", "-o", shim, os.path.join(HERE, "set_clocks.c")], check=True)
-        set_clock(clocks, 0)
-        server, port = start(program, env={**os.environ, "LD_PRELOAD": shim, "SET_CLOCKS": clocks})
-        try:
-            it = Cycle(port, 10)
-            listen([it], 1)
-            for name, seconds in (("an hour forward", 3600), ("two hours back", -3600)):
-                set_clock(clocks, seconds)
-                it.came, it.moments = it.came[-1:], it.moments[-1:]
-                listen([it], 10)
-                right = told_of(it, name, seconds) and right
-        finally:
-            server.kill()
-            server.wait()
+        env = {**os.environ, "LD_PRELOAD": shim, "SET_CLOCKS": clocks}
+        return all([wall_of_server(program, clocks, env), wall_of_clients(program, clocks, env)])
+
+
+def wall_of_server(program, clocks, env):
+    """The wall clock of the server is set while a cycle of 10 ms goes on."""
+    right = True
+    set_clock(clocks, 0)
+    server, port = start(program, env=env)
+    try:
+        it = Cycle(port, 10)
+        listen([it], 1)
+        for name, seconds in (("an hour forward", 3600), ("two hours back", -3600)):
+            set_clock(clocks, seconds)
+            it.came, it.moments = it.came[-1:], it.moments[-1:]
+            listen([it], 10)
+            right = told_of(it, name, seconds) and right
+    finally:
+        server.kill()
+        server.wait()
     return right
+
+
+# What is asked while the client's clock is set, and what must be printed.
+ASKED = ((["state"], "ads 5 device 0\n"), (["get", "Main.count"], "42\n"), (["set", "Main.count", "42"], "ok\n"),
+         (["watch", "Main.count", "--mode", "cycle", "--cycle", "200000", "--count", "3"], "42\n42\n42\n"))
+
+
+def wall_of_clients(program, clocks, env):
+    """The wall clock of clients is set: before each piece that the server sends, and while it sends nothing."""
+    right = True
+    server, port = start(program)
+    try:
+        for words, wanted in ASKED:
+            with between(port, lambda: set_clock(clocks, clock_of(clocks) + 3600)) as near:
+                set_clock(clocks, 0)
+                status, printed, took = ended(program, words, near, env)
+            good = (status, printed) == (0, wanted)
+            print(f"wall clock of {words[0]} an hour forward before each answer: status {status}, {took:.1f} s", flush=True)
+            right = right and good
+    finally:
+        server.kill()
+        server.wait()
+    with socket.create_server(("127.0.0.1", 0)) as silent:
+        set_clock(clocks, 0)
+        later = threading.Timer(1, set_clock, (clocks, -7200))
+        later.start()
+        status, printed, took = ended(program, ["state"], silent.getsockname()[1], env)
+        later.cancel()
+    print(f"wall clock of state two hours back without an answer: status {status}, {took:.1f} s", flush=True)
+    return right and status == 11 and 4.5 < took < 7
+
+
+def ended(program, words, port, env):
+    """The status of a client's command, what it printed, and how many seconds it took; no status where it takes 15."""
+    began = time.monotonic()
+    command = [program, *words, "--to", f"127.0.0.1:{port}", "--netid", "5.1.2.3.1.1", "--me", "192.168.0.9.1.1"]
+    try:
+        it = subprocess.run(command, env=env, stdout=subprocess.PIPE, text=True, timeout=15)
+        return it.returncode, it.stdout, time.monotonic() - began
+    except subprocess.TimeoutExpired:
+        return None, "", time.monotonic() - began
+
+
+class between:
+    """A port that passes bytes to a server's port and back, and calls before each piece that goes back."""
+
+    def __init__(self, port, call):
+        self.port, self.call, self.door = port, call, socket.create_server(("127.0.0.1", 0))
+
+    def __enter__(self):
+        threading.Thread(target=self.serve, daemon=True).start()
+        return self.door.getsockname()[1]
+
+    def __exit__(self, *_):
+        self.door.close()
+
+    def serve(self):
+        client, _ = self.door.accept()
+        server = connect(self.port)
+        threading.Thread(target=pass_on, args=(client, server, lambda: None), daemon=True).start()
+        pass_on(server, client, self.call)
+
+
+def pass_on(one, other, call):
+    try:
+        while piece := one.recv(65536):
+            call()
+            other.sendall(piece)
+        other.shutdown(socket.SHUT_WR)
+    except OSError:
+        pass
+
+
+def clock_of(clocks):
+    with open(clocks, "rb") as it:
+        return struct.unpack("<qq", it.read())[0]
 
 
 def set_clock(clocks, seconds):

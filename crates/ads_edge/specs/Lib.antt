@@ -2,7 +2,9 @@ pub mod Beats
 pub mod Came
 pub mod Connection
 pub mod Heard
+pub mod LinkClock
 pub mod Peers
+pub mod Refusal
 pub mod Sockets
 pub mod TickClock
 pub mod Turn

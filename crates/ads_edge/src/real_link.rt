@@ -2,14 +2,17 @@
 
 ghost use Rattle.std.specs.Prelude.{◌≡◌, ◌≤◌, ◌<◌, length, IfSome};
 ghost use Rattle.ads_edge.specs.Heard.{HeardWithin};
+ghost use Rattle.ads_edge.specs.LinkClock.{IsSteady};
 
 use crate::heard::Heard;
+use crate::link_clock::LinkClock;
 use crate::listening_at::address_of;
+use crate::refusal::{PROGRAM, Refusal, tell};
 use crate::wall_clock::moment;
 use ads_outside::{Connected, Link, LinkCounts, Received, Sent};
-use std::io::{ErrorKind, Read, Write};
+use std::io::{self, ErrorKind, Read, Write};
 use std::net::{Net, OpenStream, TcpStream};
-use std::time::{Clock, Duration};
+use std::time::{Clock, Duration, Instant};
 
 /// The milliseconds after which it is told that nothing came.
 const QUIET_MILLIS: u64 = 10;
@@ -21,28 +24,31 @@ const PATIENCE_SECS: u64 = 5;
 const AT_ONCE: usize = 65_536;
 
 /// TCP over the network that a runtime reaches. What it sends and receives is not told. Nothing came is answered after 10 ms;
-/// a connection that takes no byte for 5 s has failed.
+/// a connection that takes no byte for 5 s has failed. Its moments are the wall clock's when it is connected, and then go on
+/// by the steady clock. Why it can't be connected is told on standard error.
 #[derive(Drop)]
-pub struct RealLink<R: Net + Clock + Drop> {
+pub struct RealLink<R: Net + Clock + Eprint + Drop> {
     rt: R,
     stream: Option<R::Stream>,
+    clock: Option<LinkClock>,
     counts: LinkCounts,
     faults: u64,
 }
 
-impl<R: Net + Clock + Drop> RealLink<R> {
+impl<R: Net + Clock + Eprint + Drop> RealLink<R> {
     /// A link that is not connected.
     pub fn new(rt: R) -> RealLink<R> {
         RealLink {
             rt,
             stream: None,
+            clock: None,
             counts: LinkCounts::new(),
             faults: 0,
         }
     }
 }
 
-impl<R: Net + Clock + Drop> Link for RealLink<R> {
+impl<R: Net + Clock + Eprint + Drop> Link for RealLink<R> {
     ghost use Rattle.std.specs.Prelude.{List};
 
     ghost state = { λ l. record { history = l.counts; faults = l.faults } };
@@ -57,7 +63,8 @@ impl<R: Net + Clock + Drop> Link for RealLink<R> {
 
     fn connect(&mut self, to: &str) -> Connected {
         self.stream = connected(&self.rt, to);
-        let now = later_moment(&self.rt, self.counts.moment());
+        self.clock = started(&self.rt, to, self.counts.moment());
+        let now = later_moment(&self.rt, self.clock, self.counts.moment());
         match now {
             Some(now) if self.stream.is_some() => {
                 self.counts.connect(now);
@@ -87,7 +94,7 @@ impl<R: Net + Clock + Drop> Link for RealLink<R> {
             Some(stream) => came_over(stream, buf),
             None => Heard::Failed,
         };
-        let Some(now) = later_moment(&self.rt, self.counts.moment()) else {
+        let Some(now) = later_moment(&self.rt, self.clock, self.counts.moment()) else {
             self.faults = self.faults.saturating_add(1);
             self.counts.break_off();
             return Received::Failed;
@@ -114,30 +121,62 @@ impl<R: Net + Clock + Drop> Link for RealLink<R> {
     }
 }
 
-// A connection that waits 10 ms for bytes.
-fn connected<R: Net>(rt: &R, to: &str) -> Option<R::Stream> {
-    let address = address_of(to)?;
-    let patience = Duration::from_secs(PATIENCE_SECS);
-    match TcpStream::connect_timeout(rt, &address, patience) {
-        Ok(stream) => set_up(stream, patience),
-        Err(_) => None,
+// A connection that waits 10 ms for bytes. Why there is none is told on standard error.
+fn connected<R: Net + Eprint>(rt: &R, to: &str) -> Option<R::Stream> {
+    match reached(rt, to) {
+        Ok(stream) => Some(stream),
+        Err(refusal) => {
+            tell(rt, PROGRAM, to, refusal);
+            None
+        }
     }
 }
 
-fn set_up<S: OpenStream + Drop>(stream: S, patience: Duration) -> Option<S> {
-    let quiet = Duration::from_millis(QUIET_MILLIS);
-    let is_set_up = stream.set_nodelay(true).is_ok()
-        && stream.set_read_timeout(Some(quiet)).is_ok()
-        && stream.set_write_timeout(Some(patience)).is_ok();
-    if is_set_up { Some(stream) } else { None }
+fn reached<R: Net>(rt: &R, to: &str) -> Result<R::Stream, Refusal> {
+    let Some(address) = address_of(to) else {
+        return Err(Refusal::NoAddress);
+    };
+    let patience = Duration::from_secs(PATIENCE_SECS);
+    match TcpStream::connect_timeout(rt, &address, patience) {
+        Ok(stream) => match set_up(&stream, patience) {
+            Ok(()) => Ok(stream),
+            Err(error) => Err(Refusal::of(&error)),
+        },
+        Err(error) => Err(Refusal::of(&error)),
+    }
 }
 
-// This moment, or the last one where the clock stands before it.
-fn later_moment<C: Clock>(clock: &C, last: u64) -> Option<u64>
-    ensures { IfSome result (λ now. last ≤ now) }
+fn set_up<S: OpenStream>(stream: &S, patience: Duration) -> io::Result<()> {
+    let quiet = Duration::from_millis(QUIET_MILLIS);
+    stream.set_nodelay(true)?;
+    stream.set_read_timeout(Some(quiet))?;
+    stream.set_write_timeout(Some(patience))
+}
+
+// A clock that starts now, at the wall clock's moment, or the last one where the wall clock stands before it.
+fn started<R: Clock + Eprint>(rt: &R, to: &str, last: u64) -> Option<LinkClock>
+    ensures { IfSome result (λ clock. last ≤ clock.moment) }
 {
-    let now = moment(clock)?;
-    Some(now.max(last))
+    match (Instant::now(rt), moment(rt)) {
+        (Ok(start), Some(wall)) => Some(LinkClock {
+            start,
+            moment: wall.max(last),
+        }),
+        _ => {
+            tell(rt, PROGRAM, to, Refusal::NoTime);
+            None
+        }
+    }
+}
+
+// This moment, which the steady clock tells alone.
+fn later_moment<C: Clock>(rt: &C, clock: Option<LinkClock>, last: u64) -> Option<u64>
+    ensures steady { IfSome result (IsSteady clock last) }
+    ensures later { IfSome result (λ now. last ≤ now) }
+{
+    let clock = clock?;
+    let now = Instant::now(rt).ok()?;
+    Some(clock.moment_at(now).max(last))
 }
 
 // Reads once.

@@ -18,7 +18,7 @@ use std::time::Clock;
 /// that was shut stays till its peer has taken that, is gone, or takes nothing for 30 s. The named description is read again each second, and is
 /// given where it holds other bytes than last.
 #[derive(Drop)]
-pub struct RealWire<R: Net + Clock + SystemFiles + Drop> {
+pub struct RealWire<R: Net + Clock + SystemFiles + Eprint + Drop> {
     alloc: Global,
     rt: R,
     buffer: Vec<u8>,
@@ -31,7 +31,7 @@ pub struct RealWire<R: Net + Clock + SystemFiles + Drop> {
     wants: u64,
 }
 
-impl<R: Net + Clock + SystemFiles + Drop> RealWire<R> {
+impl<R: Net + Clock + SystemFiles + Eprint + Drop> RealWire<R> {
     /// A wire that is not started, with a buffer to read by.
     pub fn new(alloc: Global, rt: R) -> Result<RealWire<R>, NoMemory> {
         Ok(RealWire {
@@ -48,7 +48,7 @@ impl<R: Net + Clock + SystemFiles + Drop> RealWire<R> {
     }
 }
 
-impl<R: Net + Clock + SystemFiles + Drop> Wire for RealWire<R> {
+impl<R: Net + Clock + SystemFiles + Eprint + Drop> Wire for RealWire<R> {
     ghost use Rattle.ads_edge.specs.Sockets.{state_of_sockets};
 
     ghost state = { λ w. state_of_sockets w.last w.events w.stops w.faults w.wants };

@@ -6,6 +6,7 @@ ghost use Rattle.ads_edge.specs.Turn.{IsFault, IsOfTime, IsTick, OpensBy};
 use crate::description_watch::DescriptionWatch;
 use crate::listening_at::address_of;
 use crate::peers::Peers;
+use crate::refusal::{PROGRAM, Refusal, tell};
 use crate::tick_clock::TickClock;
 use crate::turn::Turn;
 use crate::vanished::watch_over;
@@ -16,7 +17,7 @@ use mio::net::{TcpListener, TcpStream};
 use mio::{Events, Interest, Poll, Token};
 use std::alloc::Global;
 use std::io::{self, ErrorKind};
-use std::net::Net;
+use std::net::{Net, SocketAddr};
 use std::rt::Files as SystemFiles;
 use std::time::{Clock, Duration, Instant};
 
@@ -47,17 +48,23 @@ impl Sockets {
     ghost use Rattle.ads_edge.specs.Sockets.{is_busy};
 
     /// Listens there, and watches the named file, which held these bytes. None where the address can't be listened at.
-    pub(crate) fn open<R: Net + Clock>(
+    /// Why is told on standard error.
+    pub(crate) fn open<R: Net + Clock + Eprint>(
         alloc: Global,
         rt: &R,
         listen: &str,
         name: &str,
         first: &[u8],
     ) -> Result<Option<Sockets>, NoMemory> {
-        let Some((poll, listener)) = listening(rt, listen) else {
-            return Ok(None);
+        let (poll, listener) = match listening(rt, listen) {
+            Ok(both) => both,
+            Err(refusal) => {
+                tell(rt, PROGRAM, listen, refusal);
+                return Ok(None);
+            }
         };
         let (Ok(now), Some(wall)) = (Instant::now(rt), moment(rt)) else {
+            tell(rt, PROGRAM, listen, Refusal::NoTime);
             return Ok(None);
         };
         Ok(Some(Sockets {
@@ -297,23 +304,22 @@ impl Drop for Sockets {
 }
 
 // A poll, and a socket that listens there and is polled.
-fn listening<R: Net>(rt: &R, listen: &str) -> Option<(Poll, TcpListener)> {
-    let address = address_of(listen)?;
-    match TcpListener::bind(rt, address) {
-        Ok(listener) => polled(rt, listener),
-        Err(_) => None,
+fn listening<R: Net>(rt: &R, listen: &str) -> Result<(Poll, TcpListener), Refusal> {
+    let Some(address) = address_of(listen) else {
+        return Err(Refusal::NoAddress);
+    };
+    match polled(rt, address) {
+        Ok(both) => Ok(both),
+        Err(error) => Err(Refusal::of(&error)),
     }
 }
 
-fn polled<R: Net>(rt: &R, mut listener: TcpListener) -> Option<(Poll, TcpListener)> {
-    let poll = Poll::new(rt).ok()?;
-    let registered = poll
-        .registry()
-        .register(&mut listener, DOOR, Interest::READABLE);
-    match registered {
-        Ok(()) => Some((poll, listener)),
-        Err(_) => None,
-    }
+fn polled<R: Net>(rt: &R, address: SocketAddr) -> io::Result<(Poll, TcpListener)> {
+    let mut listener = TcpListener::bind(rt, address)?;
+    let poll = Poll::new(rt)?;
+    poll.registry()
+        .register(&mut listener, DOOR, Interest::READABLE)?;
+    Ok((poll, listener))
 }
 
 // Notes what a poll told; true where someone may wait to be accepted.

@@ -11,7 +11,7 @@ ghost use Rattle.run_tasks.specs.Tasks.{asked_task};
 
 use crate::real_outside::RealOutside;
 use ads_base::NoMemory;
-use ads_edge::RealSink;
+use ads_edge::{RealSink, hold_standard_descriptors};
 use ads_outside::Sink;
 use ads_run::{Status, end_without_memory, run_program};
 use std::env;
@@ -20,8 +20,12 @@ use std::process::ExitCode;
 use std::thread::Threads;
 
 /// The status of the run over the words of the process, its standard output and the rest of its outside, with the threads
-/// that the program may start.
+/// that the program may start. What is closed of standard input, output and error gives its number to nothing that is opened;
+/// where that can't be had, nothing is run.
 pub fn status_of<T: Threads + Sync>(rt: &HostRuntime, threads: &T) -> Status {
+    if !hold_standard_descriptors() {
+        return Status::WriteFault;
+    }
     let mut out = RealSink::new(rt);
     run_real(rt, threads, words_of_process(rt), &mut out)
 }
