@@ -160,6 +160,7 @@ area = "data"
 offset = 0
 """
 REFUSED = 13
+CASES = ("cases_wire", "cases_description", "cases_device")
 
 
 def try_values(program, folder):
@@ -207,7 +208,7 @@ def count_cases():
     data, text = ROOT / "crates/cases_run/data", (ROOT / "docs/GUARANTEES.md").read_text()
     runs = {name: len([part for part in re.split(r"^----$", (data / name).read_text(), flags=re.M) if part.strip()])
             for name in (data / "runs.txt").read_text().split()}
-    figures = {"cases": int((ROOT / "crates/cases/stdout").read_text().split("\n")[-2].split()[0]), "runs": sum(runs.values()),
+    figures = {"cases": sum(int((ROOT / f"crates/{name}/stdout").read_text().split("\n")[-2].split()[0]) for name in CASES), "runs": sum(runs.values()),
                "hostile runs": sum(count for name, count in runs.items() if name.startswith(("hostile", "peer_")))}
     wrong = [name for name, count in figures.items() if f"{count:,}" not in text]
     for name in wrong:

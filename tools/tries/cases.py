@@ -1,10 +1,10 @@
-"""The cases of descriptions in crates/cases/data: texts with the answer that must come, worked out by hand from the rules. crates/cases/README.md has their form."""
+"""The cases of descriptions in crates/cases_description/data: texts with the answer that must come, worked out by hand from the rules. crates/case_sheets/README.md has their form."""
 import os
 import re
 
 from tries.running import TOOLS
 
-DATA = os.path.join(TOOLS, "..", "crates", "cases", "data")
+DATA = os.path.join(TOOLS, "..", "crates", "cases_description", "data")
 PIECE = re.compile(r'(?:"((?:[^"\\]|\\.)*)"|@([A-Za-z0-9_.]+)|([0-9a-f]+))(?:\*([0-9]+))?\+?')
 REPEAT = re.compile(r"\s*#repeat (-?[0-9]+)\.\.(-?[0-9]+) (.*)")
 

@@ -1,2 +1,0 @@
-pub mod Reload
-pub mod Register
