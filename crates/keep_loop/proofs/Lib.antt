@@ -1,7 +1,8 @@
 pub mod BodyLemmas
+pub mod PaceLemmas
 pub mod SaveLemmas
 pub mod SavingLemmas
 pub mod TurnLemmas
 pub mod KeepLemmas
-pub mod ToldLemmas
+pub mod EndLemmas
 mod WantLemmas

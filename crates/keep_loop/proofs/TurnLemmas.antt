@@ -1,5 +1,5 @@
 -- A turn more, or the end: the saves among the bodies of all moves.
-use Rattle.std.proofs.Common.{◌≡◌, ℕ, ◌+◌, List, [], ◌∷◌, ◌++◌, refl, sym, ap, ◌∙◌, subst}
+use Rattle.std.proofs.Common.{◌≡◌, ℕ, ◌+◌, ◌-◌, List, [], ◌∷◌, ◌++◌, refl, sym, ap, ◌∙◌, subst}
 use Rattle.std.specs.Prelude.{Option}
 use Rattle.ads_outside.specs.declared.event.Event.{Event}
 use Rattle.ads_outside.specs.declared.event.Event.TheVariants as event
@@ -15,9 +15,10 @@ use Rattle.serve_loop.specs.Leads.{events_in}
 use Rattle.serve_loop.specs.TurnTaken.{StandsOver, IsTurnOf, turn_of_event, TakesEvent}
 use Rattle.serve_loop.proofs.LeadLemmas.{standing-append, history-append, events-append, standing-running}
 use Rattle.serve_loop.proofs.TurnLemmas.{turns_none, turns_then}
-use Rattle.keep_loop.specs.Bodies.{BodyOf, bodies_at_event, bodies_at_ticks, bodies_of_run, saves_in}
-use Rattle.keep_loop.specs.Keeping.{BodiesOf, Keeps}
+use Rattle.keep_loop.specs.Bodies.{BodyOf, bodies_at_event, bodies_at_ticks, paced, bodies_looked_at, bodies_to_end, saves_in}
+use Rattle.keep_loop.specs.Keeping.{BodiesOf, Keeps, KeepsPaced, left_behind}
 use Rattle.keep_loop.proofs.BodyLemmas.{bodies-append, turn_bodies}
+use Rattle.keep_loop.proofs.PaceLemmas.{paced-append, left-append}
 use Rattle.keep_loop.proofs.SaveLemmas.{last_of, saves-append}
 
 pub state_played : {W C : Type 0} (step : EventStep W C) (noted : Noting W C) (x : Standing W C) (ms : List Move)
@@ -47,7 +48,7 @@ saves_more stood saves bodies more_bodies more all are adds is =
     ap (λ l. saves ++ l) (sym adds)
     ∙ (ap (λ l. l ++ saves_in (last_of stood l) more_bodies) are ∙ (sym (saves-append bodies more_bodies stood) ∙ ap (saves_in stood) (sym is)))
 
-module _ {W C : Type 0} (body_of : BodyOf W) (step : EventStep W C) (noted : Noting W C) where
+module _ {W C : Type 0} (every : ℕ) (body_of : BodyOf W) (step : EventStep W C) (noted : Noting W C) where
   -- the bodies of some moves and of a turn behind them
   bodies_then : (x y z : Standing W C) (e : Event) (tells : TurnEnd) (ms ns : List Move)
       → y.running.state ≡ state_after step x.running.state ms → z.running.state ≡ state_after step y.running.state ns
@@ -61,54 +62,77 @@ module _ {W C : Type 0} (body_of : BodyOf W) (step : EventStep W C) (noted : Not
       (ap (λ s. bodies_at_ticks body_of step s ns) (sym mid) ∙ (turn ∙ (ap (λ (s : MachineState W C). bodies_at_event e (body_of s.world)) (sym last)
       ∙ (told_bodies e (body_of z.running.state.world) ∙ ap (λ t. bodies_of_turn t (body_of z.running.state.world)) (sym kind)))))
 
+  -- those that are looked at
+  looked_then : (left now : ℕ) (bodies more all : List (List ℕ)) → all ≡ bodies ++ more → left ≡ left_behind every now bodies
+      → paced every now all ≡ paced every now bodies ++ paced every left more
+  looked_then left now bodies more all is pace =
+      ap (paced every now) is ∙ (paced-append every now bodies more ∙ ap (λ n. paced every now bodies ++ paced every n more) (sym pace))
+
+  pace_then : (left then_ now : ℕ) (bodies more all : List (List ℕ)) → all ≡ bodies ++ more → left ≡ left_behind every now bodies
+      → then_ ≡ left_behind every left more → then_ ≡ left_behind every now all
+  pace_then left then_ now bodies more all is pace next =
+      next ∙ (ap (λ n. left_behind every n more) pace ∙ (sym (left-append every now bodies more) ∙ ap (left_behind every now) (sym is)))
+
   -- a turn more
   pub keeps_then : (old_serves mid_serves new_serves : Standing W C → Type 0) (stood : Option (List ℕ))
-      (old mid new : WireHistory) (count : ℕ) (tells : TurnEnd) (saves more : List (List ℕ))
-      → Keeps step noted old_serves mid_serves (bodies_at_ticks body_of step) stood old mid count saves
+      (old mid new : WireHistory) (count left then_ : ℕ) (tells : TurnEnd) (saves more : List (List ℕ))
+      → KeepsPaced every body_of step noted old_serves mid_serves stood old mid count left saves
       → TakesEvent step noted mid_serves new_serves mid new tells
-      → ((z : Standing W C) → StandsOver new_serves new.opened z → saves_in (last_of stood saves) (bodies_of_turn tells (body_of z.running.state.world)) ≡ more)
-      → Keeps step noted old_serves new_serves (bodies_at_ticks body_of step) stood old new (count + 1) (saves ++ more)
-  keeps_then old_serves mid_serves new_serves stood old mid new count tells saves more keeps takes adds = record {
-    turns = record {
-      moves = keeps.turns.moves ++ takes.leads.moves;
-      logged = takes.leads.logged
-          ∙ (ap (λ h. history_after h takes.leads.moves) keeps.turns.logged ∙ sym (history-append old keeps.turns.moves takes.leads.moves));
-      events = events-append keeps.turns.moves takes.leads.moves
-          ∙ (ap (λ k. k + events_in takes.leads.moves) keeps.turns.events ∙ ap (λ k. count + k) takes.leads.events);
-      stands = λ x over. subst (StandsOver new_serves new.opened) (sym (standing-append step noted x keeps.turns.moves takes.leads.moves))
-          (takes.leads.stands (standing_after_all step noted x keeps.turns.moves) (keeps.turns.stands x over));
-      are = λ x over.
-          let P : Running W C → Type 0 = λ y. IsTurnOf step takes.event y takes.leads.moves in
-          turns_then step takes.event x.running keeps.turns.moves takes.leads.moves (keeps.turns.are x over)
-          (subst P (standing-running step noted x keeps.turns.moves)
-          (takes.leads.are (standing_after_all step noted x keeps.turns.moves) (keeps.turns.stands x over)));
-    };
-    are = λ x over.
-        let ms = keeps.turns.moves in
-        let ns = takes.leads.moves in
-        let y = standing_after_all step noted x ms in
-        let over_y = keeps.turns.stands x over in
-        let z = standing_after_all step noted y ns in
-        let bodies = bodies_then x y z takes.event tells ms ns (state_played step noted x ms) (state_played step noted y ns) takes.kind
-        (turn_bodies body_of step takes.event y.running ns (takes.leads.are y over_y) takes.leads.events) in
-        saves_more stood saves (bodies_at_ticks body_of step x.running.state ms) (bodies_of_turn tells (body_of z.running.state.world)) more
-        (bodies_at_ticks body_of step x.running.state (ms ++ ns)) (keeps.are x over)
-        (adds z (takes.leads.stands y over_y)) bodies;
-  }
+      → ((body : List ℕ) → then_ ≡ left_behind every left (bodies_of_turn tells body))
+      → ((z : Standing W C) → StandsOver new_serves new.opened z
+      → saves_in (last_of stood saves) (paced every left (bodies_of_turn tells (body_of z.running.state.world))) ≡ more)
+      → KeepsPaced every body_of step noted old_serves new_serves stood old new (count + 1) then_ (saves ++ more)
+  keeps_then old_serves mid_serves new_serves stood old mid new count left then_ tells saves more so_far takes next adds =
+      let keeps = so_far.keeps in
+      let ms = keeps.turns.moves in
+      let ns = takes.leads.moves in
+      let bodies = λ (x : Standing W C) (over : StandsOver old_serves old.opened x).
+      let y = standing_after_all step noted x ms in
+      bodies_then x y (standing_after_all step noted y ns) takes.event tells ms ns (state_played step noted x ms) (state_played step noted y ns)
+      takes.kind (turn_bodies body_of step takes.event y.running ns (takes.leads.are y (keeps.turns.stands x over)) takes.leads.events) in
+      record {
+        keeps = record {
+          turns = record {
+            moves = ms ++ ns;
+            logged = takes.leads.logged ∙ (ap (λ h. history_after h ns) keeps.turns.logged ∙ sym (history-append old ms ns));
+            events = events-append ms ns ∙ (ap (λ k. k + events_in ns) keeps.turns.events ∙ ap (λ k. count + k) takes.leads.events);
+            stands = λ x over. subst (StandsOver new_serves new.opened) (sym (standing-append step noted x ms ns))
+                (takes.leads.stands (standing_after_all step noted x ms) (keeps.turns.stands x over));
+            are = λ x over.
+                let P : Running W C → Type 0 = λ y. IsTurnOf step takes.event y ns in
+                turns_then step takes.event x.running ms ns (keeps.turns.are x over)
+                (subst P (standing-running step noted x ms) (takes.leads.are (standing_after_all step noted x ms) (keeps.turns.stands x over)));
+          };
+          are = λ x over.
+              let y = standing_after_all step noted x ms in
+              let z = standing_after_all step noted y ns in
+              let first = bodies_at_ticks body_of step x.running.state ms in
+              let behind = bodies_of_turn tells (body_of z.running.state.world) in
+              saves_more stood saves (bodies_looked_at every body_of step x.running.state ms) (paced every left behind) more
+              (bodies_looked_at every body_of step x.running.state (ms ++ ns)) (keeps.are x over)
+              (adds z (takes.leads.stands y (keeps.turns.stands x over)))
+              (looked_then left (every - 1) first behind (bodies_at_ticks body_of step x.running.state (ms ++ ns)) (bodies x over) (so_far.pace x over));
+        };
+        pace = λ x over.
+            let z = standing_after_all step noted (standing_after_all step noted x ms) ns in
+            let body = body_of z.running.state.world in
+            pace_then left then_ (every - 1) (bodies_at_ticks body_of step x.running.state ms) (bodies_of_turn tells body)
+            (bodies_at_ticks body_of step x.running.state (ms ++ ns)) (bodies x over) (so_far.pace x over) (next body);
+      }
 
   -- the end
   pub keeps_last : (old_serves new_serves : Standing W C → Type 0) (stood : Option (List ℕ)) (old new : WireHistory) (count : ℕ) (saves more : List (List ℕ))
-      → Keeps step noted old_serves new_serves (bodies_at_ticks body_of step) stood old new count saves
+      → Keeps step noted old_serves new_serves (bodies_looked_at every body_of step) stood old new count saves
       → ((z : Standing W C) → StandsOver new_serves new.opened z → saves_in (last_of stood saves) (body_of z.running.state.world ∷ []) ≡ more)
-      → Keeps step noted old_serves new_serves (bodies_of_run body_of step) stood old new count (saves ++ more)
+      → Keeps step noted old_serves new_serves (bodies_to_end every body_of step) stood old new count (saves ++ more)
   keeps_last old_serves new_serves stood old new count saves more keeps adds = record {
     turns = keeps.turns;
     are = λ x over.
         let ms = keeps.turns.moves in
         let y = standing_after_all step noted x ms in
-        let first = bodies_at_ticks body_of step x.running.state ms in
+        let first = bodies_looked_at every body_of step x.running.state ms in
         saves_more stood saves first (body_of y.running.state.world ∷ []) more
-        (bodies_of_run body_of step x.running.state ms) (keeps.are x over) (adds y (keeps.turns.stands x over))
+        (bodies_to_end every body_of step x.running.state ms) (keeps.are x over) (adds y (keeps.turns.stands x over))
         (ap (λ (s : MachineState W C). first ++ body_of s.world ∷ []) (sym (state_played step noted x ms)));
   }
 
@@ -130,9 +154,12 @@ module _ {W C : Type 0} (body_of : BodyOf W) (step : EventStep W C) (noted : Not
 
   -- no turn
   pub keeps_none : (serves : Standing W C → Type 0) (stood : Option (List ℕ)) (h : WireHistory)
-      → Keeps step noted serves serves (bodies_at_ticks body_of step) stood h h 0 []
-  unfolding history_after standing_after_all bodies_at_ticks saves_in
+      → KeepsPaced every body_of step noted serves serves stood h h 0 (every - 1) []
+  unfolding history_after standing_after_all bodies_at_ticks saves_in paced left_behind
   keeps_none serves stood h = record {
-    turns = record { moves = []; logged = refl; events = refl; stands = λ x over. over; are = λ x over. turns_none step x.running };
-    are = λ x over. refl;
+    keeps = record {
+      turns = record { moves = []; logged = refl; events = refl; stands = λ x over. over; are = λ x over. turns_none step x.running };
+      are = λ x over. refl;
+    };
+    pace = λ x over. refl;
   }

@@ -1,6 +1,6 @@
 -- The bodies of a run, over any machine whose world holds a body text, and the saves among them.
 -- This project's own choice.
-use Rattle.std.specs.Prelude.{ℕ, List, [], ◌∷◌, ◌++◌, Bool, false, ◌||◌, if◌then◌else◌, Option, Some, None, bytes_eq}
+use Rattle.std.specs.Prelude.{ℕ, zero, suc, ◌-◌, List, [], ◌∷◌, ◌++◌, Bool, false, ◌||◌, if◌then◌else◌, Option, Some, None, bytes_eq}
 use Rattle.ads_outside.specs.declared.event.Event.{Event}
 use Rattle.ads_outside.specs.declared.event.Event.TheVariants as event
 use Rattle.ads_outside.specs.declared.moves.Move.{Move}
@@ -35,6 +35,21 @@ bodies_at_ticks body_of step s [] = []
 bodies_at_ticks body_of step s (m ∷ ms) =
     bodies_at_move m (body_of (state_after_move step s m).world)
     ++ bodies_at_ticks body_of step (state_after_move step s m) ms
+
+-- of the bodies after the ticks each so manieth, the first of them behind so many more
+unfoldable pub paced : ℕ → ℕ → List (List ℕ) → List (List ℕ)
+paced every left [] = []
+paced every zero (body ∷ bodies) = body ∷ paced every (every - 1) bodies
+paced every (suc left) (body ∷ bodies) = paced every left bodies
+
+-- the bodies of a log that are looked at: that after each so manieth tick, in order
+abbrev pub bodies_looked_at : {W C : Type 0} → ℕ → BodyOf W → EventStep W C → MachineState W C → List Move → List (List ℕ)
+bodies_looked_at every body_of step s log = paced every (every - 1) (bodies_at_ticks body_of step s log)
+
+-- these, and the body at the log's end
+abbrev pub bodies_to_end : {W C : Type 0} → ℕ → BodyOf W → EventStep W C → MachineState W C → List Move → List (List ℕ)
+bodies_to_end every body_of step s log =
+    bodies_looked_at every body_of step s log ++ body_of (state_after step s log).world ∷ []
 
 -- the body after each tick of a log, and that at its end
 abbrev pub bodies_of_run : {W C : Type 0} → BodyOf W → EventStep W C → MachineState W C → List Move → List (List ℕ)

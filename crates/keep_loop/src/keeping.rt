@@ -1,15 +1,16 @@
-//! The loop: turns, and a save after each tick and at the end.
+//! The loop: turns, and a save after each so manieth tick and at the end.
 
 ghost use Rattle.std.specs.Prelude.{◌≡◌, ◌≤◌, ◌<◌, ◌+◌, ◌^◌, false, None};
 ghost use Rattle.ads_outside.specs.Rose.{Rose};
 ghost use Rattle.ads_served.specs.Standing.{Standing};
 ghost use Rattle.persist_store.specs.Store.{IsReady, body_of};
-ghost use Rattle.keep_loop.specs.Ending.{EndsBySave};
+ghost use Rattle.keep_loop.specs.Ending.{EndsBySave, end_of};
 ghost use Rattle.serve_loop.specs.TurnTaken.{StandsOver};
 ghost use Rattle.keep_loop.specs.Saving.{LeavesEach, StandsForSome};
 ghost use Rattle.keep_loop.specs.Keeping.{AfterKeep, TookTurns, CountsSaves, StandsAtEnd};
 ghost use Rattle.keep_loop.specs.Wanting.{WantsToKeep};
 
+use crate::run_end::RunEnd;
 use crate::save_end::SaveEnd;
 use crate::saving::save_body;
 use crate::{KeepEnd, Persistent};
@@ -19,8 +20,8 @@ use serve_loop::TurnEnd;
 use std::alloc::Global;
 use std::thread::Threads;
 
-/// Serves a wire as `serve` does, and saves the body of what is served after each turn with a tick and at the end, where it
-/// differs from the one that stands, or nothing stands.
+/// Serves a wire as `serve` does, and saves the body of what is served after each so manieth turn with a tick and at the
+/// end, where it differs from the one that stands, or nothing stands.
 pub fn keep_turns<T: Threads + Sync, W: Wire, M: Persistent, D: Disk>(
     rt: &T,
     alloc: Global,
@@ -28,14 +29,17 @@ pub fn keep_turns<T: Threads + Sync, W: Wire, M: Persistent, D: Disk>(
     wire: &mut W,
     store: &mut Store,
     disk: &mut D,
+    every: u64,
     limit: u64,
 ) -> KeepEnd
     requires some { StandsForSome (StandsOver (M.serves served.old) (W.state wire.old).history.opened) }
     requires ready { IsReady D.contents D.may_leave disk.old store.old }
     requires open { store.old.shut ≡ false }
+    requires every { 1 ≤ every }
+    requires few { limit + 1 < 2 ^ 64 }
     // The turns, the saves among the bodies of their moves, and what a stop at any moment leaves of them.
     ensures keeps { AfterKeep
-        (TookTurns result M.body_of M.steps M.noted (M.serves served.old) (M.serves served.new) (body_of store.old) (W.state wire.old) (W.state wire.new) limit)
+        (TookTurns result every M.body_of M.steps M.noted (M.serves served.old) (M.serves served.new) (body_of store.old) (W.state wire.old) (W.state wire.new) limit)
         (LeavesEach D.contents D.moment D.left_since disk.old disk.new store.old.standing)
         (CountsSaves result store.old.standing)
         (StandsAtEnd result D.contents D.may_leave disk.old disk.new store.old.standing) }
@@ -50,37 +54,45 @@ pub fn keep_turns<T: Threads + Sync, W: Wire, M: Persistent, D: Disk>(
         (M.has_failed served.new) (W.state wire.old) (W.state wire.new) limit }
 {
     let mut saved = 0u64;
+    let mut left = every - 1;
     for _taken in 0..limit {
         match served.turn(rt, alloc, wire) {
+            TurnEnd::Tick if left > 0 => left -= 1,
             TurnEnd::Tick => match save_body(alloc, served, store, disk) {
-                SaveEnd::Same => {}
-                SaveEnd::Saved => saved += 1,
+                SaveEnd::Same => left = every - 1,
+                SaveEnd::Saved => {
+                    saved += 1;
+                    left = every - 1;
+                }
                 SaveEnd::Failed => return KeepEnd::StoreFault,
                 SaveEnd::Limit => return KeepEnd::StoreLimit,
                 SaveEnd::Memory => return KeepEnd::Memory,
             },
             TurnEnd::Other => {}
-            TurnEnd::End => return save_last(alloc, served, store, disk, saved),
-            TurnEnd::LinkFault => return KeepEnd::LinkFault,
+            TurnEnd::End => return save_last(alloc, served, store, disk, RunEnd::Done, saved),
+            TurnEnd::LinkFault => {
+                return save_last(alloc, served, store, disk, RunEnd::LinkFault, saved);
+            }
             TurnEnd::Memory => return KeepEnd::Memory,
         }
     }
-    KeepEnd::Budget
+    save_last(alloc, served, store, disk, RunEnd::Budget, saved)
 }
 
-// The save at the end of a run with so many saves.
+// The save at the end of a run whose turns ended so, with so many saves.
 fn save_last<M: Persistent, D: Disk>(
     alloc: Global,
     served: &M,
     store: &mut Store,
     disk: &mut D,
+    ended: RunEnd,
     saved: u64,
 ) -> KeepEnd
     requires some { StandsForSome (M.serves served.now) }
     requires ready { IsReady D.contents D.may_leave disk.old store.old }
     requires open { store.old.shut ≡ false }
     requires few { saved + 1 < 2 ^ 64 }
-    ensures ends { EndsBySave result saved (λ body. (x : Standing M.World M.Client) → M.serves served.now x → body ≡ M.body_of x.running.state.world)
+    ensures ends { EndsBySave result ended saved (λ body. (x : Standing M.World M.Client) → M.serves served.now x → body ≡ M.body_of x.running.state.world)
         D.contents D.moment D.left_since disk.old disk.new store.old store.new }
     ensures ready { IsReady D.contents D.may_leave disk.new store.new }
     ensures untold { D.contents disk.old ≡ None → D.contents disk.new ≡ None }
@@ -88,10 +100,21 @@ fn save_last<M: Persistent, D: Disk>(
     ensures failed { result ≡ KeepEnd.StoreFault → Rose (D.fault_count disk.old) (D.fault_count disk.new) }
 {
     match save_body(alloc, served, store, disk) {
-        SaveEnd::Same => KeepEnd::Done(saved),
-        SaveEnd::Saved => KeepEnd::Done(saved + 1),
+        SaveEnd::Same => end_of(ended, saved),
+        SaveEnd::Saved => end_of(ended, saved + 1),
         SaveEnd::Failed => KeepEnd::StoreFault,
         SaveEnd::Limit => KeepEnd::StoreLimit,
         SaveEnd::Memory => KeepEnd::Memory,
+    }
+}
+
+// How a run whose turns ended so ends with so many saves.
+fn end_of(ended: RunEnd, saved: u64) -> KeepEnd
+    ensures { result ≡ end_of ended saved }
+{
+    match ended {
+        RunEnd::Done => KeepEnd::Done(saved),
+        RunEnd::LinkFault => KeepEnd::LinkFault(saved),
+        RunEnd::Budget => KeepEnd::Budget(saved),
     }
 }

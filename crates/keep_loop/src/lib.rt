@@ -1,9 +1,10 @@
-//! The loop of a server that keeps what its persistent symbols hold: turns, and saves of the body after each tick and at the end.
+//! The loop of a server that keeps what its persistent symbols hold: turns, and saves of the body after each so manieth tick and at the end.
 #![tactic(auto)]
 
 mod keep_end;
 mod keeping;
 mod persistent;
+mod run_end;
 mod save_end;
 mod saving;
 
