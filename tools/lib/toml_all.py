@@ -1,0 +1,76 @@
+"""TOML with all its faults: behind a broken statement the reader goes on at the next one. It notes the comments of the text, too."""
+import re
+
+from lib.toml_text import BARE, BLANK, Reader, TomlFault, Value, headed, put
+
+MOST_FAULTS = 200
+# What a line begins with that is a header or a pair.
+BEGINS = re.compile(r"""[ \t]*(?:\[\[?[ \t]*["'A-Za-z_]|["'A-Za-z_][A-Za-z0-9_."'-]*[ \t]*=)""")
+HEADER = re.compile(r"\[\[?[ \t]*([A-Za-z0-9_-]+(?:[ \t]*\.[ \t]*[A-Za-z0-9_-]+)*)")
+
+
+class AllReader(Reader):
+    """`faults` are all faults of the text, in its order; `doubtful` the tables of which an unreadable key may be one; `comments` the ends of the comments
+    by where they begin."""
+
+    def __init__(self, text):
+        super().__init__(text)
+        self.faults, self.doubtful, self.comments = [], [], {}
+
+    def behind_all(self, pattern, at):
+        while True:
+            it = pattern.match(self.text, at)
+            if not it:
+                return at
+            if self.text[at] == "#" and pattern is BLANK:
+                self.comments[at] = it.end()
+            at = it.end()
+
+    def statement(self, root, section, at):
+        try:
+            return super().statement(root, section, at)
+        except TomlFault as fault:
+            end = self.resumed(at, fault)
+            self.faults.append(fault)
+            if len(self.faults) == MOST_FAULTS:
+                return section, len(self.text)
+            return self.header_meant(root, at) if self.first(at) == "[" else self.key_meant(section, at), end
+
+    def resumed(self, start, fault):
+        """Where the next statement begins. A value whose end is missing ends before the line that looks like one."""
+        line = self.text.rfind("\n", 0, fault.at) + 1
+        if start < line and BEGINS.match(self.text, line):
+            first = self.text.count("\n", 0, start) + 1
+            fault.at, fault.why = line, f"before this line the value that begins in line {first} wants its closing ] or }}"
+            return line
+        while True:
+            line = self.text.find("\n", max(fault.at, line)) + 1
+            if not line:
+                return len(self.text)
+            if BEGINS.match(self.text, line):
+                return line
+
+    def header_meant(self, root, at):
+        """The table that a broken header means; one of its own where that can't be told."""
+        it, line = HEADER.match(self.text, at), self.text[at:].split("\n", 1)[0]
+        parts = re.split(r"[ \t]*\.[ \t]*", it[1]) if it else []
+        for many in (True, False) if "[[" in line or "]]" in line else (False, True):
+            try:
+                return headed(root, parts, many, at) if parts else Value("table", {}, at, "header")
+            except TomlFault:
+                continue
+        return Value("table", {}, at, "header")
+
+    def key_meant(self, section, at):
+        """The table in which a broken pair stands: its key is there, with a value that is not known; or any key may be."""
+        try:
+            parts, end = self.key(at)
+        except TomlFault:
+            bare = BARE.match(self.text, at)
+            parts, end = ([bare[0]], bare.end()) if bare else ([], at)
+        try:
+            put(section, parts, Value("broken", None, at), at)
+        except (TomlFault, IndexError):
+            if not parts:
+                self.doubtful.append(section)
+        return section
