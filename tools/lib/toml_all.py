@@ -11,11 +11,11 @@ HEADER = re.compile(r"\[\[?[ \t]*([A-Za-z0-9_-]+(?:[ \t]*\.[ \t]*[A-Za-z0-9_-]+)
 
 class AllReader(Reader):
     """`faults` are all faults of the text, in its order; `doubtful` the tables of which an unreadable key may be one; `comments` the ends of the comments
-    by where they begin."""
+    by where they begin, and `spans` the ends of the values."""
 
     def __init__(self, text):
         super().__init__(text)
-        self.faults, self.doubtful, self.comments = [], [], {}
+        self.faults, self.doubtful, self.comments, self.spans = [], [], {}, {}
 
     def behind_all(self, pattern, at):
         while True:
@@ -25,6 +25,11 @@ class AllReader(Reader):
             if self.text[at] == "#" and pattern is BLANK:
                 self.comments[at] = it.end()
             at = it.end()
+
+    def pair(self, at, deep):
+        parts, one, end = super().pair(at, deep)
+        self.spans[one.at] = end
+        return parts, one, end
 
     def statement(self, root, section, at):
         try:

@@ -1,14 +1,13 @@
 """The bytes of a value in words: as a line of tools/plant.py writes it, so that what it says is read back as the same bytes."""
-import math
 import struct
 
 from lib.durations import duration_text
 from lib.letters import letters_of, quoted
-from lib.type_texts import PLAIN
 
 SIGNED = ("SINT", "INT", "DINT", "LINT")
 BITS = ("BYTE", "WORD", "DWORD", "LWORD")
 FLOATS = {"REAL": "<f", "LREAL": "<d"}
+GREATEST = {"<f": struct.unpack("<f", b"\xff\xff\x7f\x7f")[0], "<d": float("inf")}
 
 
 def hex_words(data):
@@ -19,9 +18,10 @@ def real_words(code, data):
     """The shortest number that is read back as these bytes."""
     number = struct.unpack(code, data)[0]
     for digits in range(1, 18):
-        said = f"{number:.{digits}g}"
-        if struct.pack(code, float(said)) == data:
-            return said if said.lstrip("-") in ("inf", "nan") or "." in said or "e" in said else said + ".0"
+        said = float(f"{number:.{digits}g}")
+        if said != said or abs(said) <= GREATEST[code] or said == number:
+            if struct.pack(code, said) == data:
+                return repr(said)
     return hex_words(data)
 
 
@@ -51,6 +51,8 @@ def words_of(shape, data):
     """All of it in one line. Where filling bytes are not zero no words say it, and it is hexadecimal."""
     if shape.ends:
         inner, size = shape.of_element(), shape.of_element().size()
+        if shape.count() > 4 and data == data[:size] * shape.count():
+            return f"{{ each = {words_of(inner, data[:size])} }}"
         return "[" + ", ".join(words_of(inner, data[at:at + size]) for at in range(0, len(data), size)) + "]"
     kind, it = shape.element
     if kind == "plain":
@@ -72,14 +74,3 @@ def has_filling(named, data):
             return True
         end = own.at + own.shape.size()
     return any(data[end:])
-
-
-def is_number(text):
-    try:
-        return math.isfinite(float(text))
-    except ValueError:
-        return False
-
-
-def size_of(word):
-    return PLAIN[word][0]
