@@ -28,8 +28,13 @@ import sys
 sys.path.insert(0, os.path.dirname(os.path.abspath(__file__)))
 from lib.building import build  # noqa: E402
 from lib.files import read_bytes, write_text  # noqa: E402
+from lib.import_model import NoImport  # noqa: E402
+from lib.importing import imported  # noqa: E402
+from lib.link import net_of  # noqa: E402
+from lib.rules_nets import RIGHTS  # noqa: E402
 from lib.verdict import verdict_on  # noqa: E402
 from lib.words import Ended, number, read_words, run  # noqa: E402
+from lib.xml_tree import MOST_BYTES, XmlFault  # noqa: E402
 
 MOST = 50
 
@@ -79,6 +84,20 @@ def build_line(name, options):
     return written(built.text, options["out"], said)
 
 
+def import_file(name, options):
+    net = net_of(options["net"], "--net") if options["net"] else None
+    routes = [route.partition("=")[::2] for route in options["route"]]
+    for own, rights in routes:
+        if net_of(own, "the NetId of --route") and rights not in RIGHTS:
+            raise Ended(f"--route is NETID=RIGHTS with the rights read, write or control, and {rights!r} is none of them")
+    port = number(options["port"], "--port", 1, 65535) if options["port"] else None
+    try:
+        text, said = imported(read_bytes(name, MOST_BYTES + 1), os.path.basename(name), net, routes, port, options["offsets"])
+    except (XmlFault, NoImport) as fault:
+        raise Ended(f"{name}:{fault.line}: {fault.why}", 2) from None
+    return written(text, options["out"], [f"{options['out']}: {said}"])
+
+
 def main(words):
     (what, name), options = read_words(words, __doc__, ["build or import", "FILE"], {
         "before": "", "out": "", "net": "", "route": [], "port": "", "offsets": False})
@@ -87,7 +106,11 @@ def main(words):
         if wrong:
             raise Ended(f"{wrong[0]} is an option of import; --help says more")
         return build_line(name, options)
-    raise Ended(f"{what!r} is neither build nor import; --help says more")
+    if what != "import":
+        raise Ended(f"{what!r} is neither build nor import; --help says more")
+    if options["before"]:
+        raise Ended("--before is an option of build; --help says more")
+    return import_file(name, options)
 
 
 if __name__ == "__main__":

@@ -7,10 +7,11 @@ from lib.verdict import verdict_on
 from lib.words import Ended
 
 
-def read_bytes(name):
+def read_bytes(name, most=-1):
+    """The bytes of a file, at most so many of them."""
     try:
         with open(name, "rb") as file:
-            return file.read()
+            return file.read(most)
     except OSError as fault:
         raise Ended(f"{name}: {fault.strerror}", 4) from None
 
