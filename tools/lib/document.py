@@ -140,6 +140,8 @@ class Reading:
 
     def item(self, entry, key, wanted, place, one):
         kind = "string" if wanted == "texts" else "table"
+        if one.kind == "broken":
+            return None
         if one.kind != kind:
             self.fault(one.at, entry.who, key, f"its element {place + 1} is {TOML_WORDS[one.kind]} in place of {TOML_WORDS[kind]}")
             return None

@@ -8,7 +8,8 @@ LEFT_OUT = {"inOutVars": "it is VAR_IN_OUT, a reference", "tempVars": "it is VAR
 
 
 def read_plcopen(root):
-    given = Given("PLCopen XML export")
+    given, header = Given("PLCopen XML export"), root.first("contentHeader")
+    given.name = header.attributes.get("name", "") if header is not None else ""
     for node in root.every("dataType"):
         given.add(kind_of(node))
     for node in root.every("pou"):
@@ -58,7 +59,7 @@ def part_of(node, head=""):
     address = node.attributes.get("address", "").upper().replace(" ", "")
     part.area = {"%I": "inputs", "%Q": "outputs", "%M": "memory"}.get(address[:2], "data")
     if address[2:3] == "X":
-        part.note = f"{part.name} is one bit, {address}; a BOOL with a byte of its own stands in its place"
+        part.note = f"it is one bit, {address}; a byte of its own stands in its place"
     return part
 
 
@@ -76,9 +77,11 @@ def type_of(node):
         text, inner, why = type_of(it.first("baseType"))
         return text, [ends_of(one) for one in it.all("dimension")] + inner, why
     if it.tag in ("subrangeSigned", "subrangeUnsigned"):
-        return type_of(it.first("baseType"))
+        (text, ends, why), bounds = type_of(it.first("baseType")), it.first("range")
+        low, high = ends_of(bounds) if bounds is not None else ("?", "?")
+        return f"{text} ({low}..{high})", ends, why
     if it.tag in ("pointer", "reference"):
-        return "", [], f"it is a {it.tag}"
+        return f"{it.tag.upper()} TO {type_of(it.first('baseType'))[0]}", [], f"it is a {it.tag}"
     if it.tag in ("struct", "enum"):
         return "", [], "its type has no name"
     return it.tag, [], None

@@ -10,10 +10,11 @@ from lib.rules_nets import is_net
 from lib.rules_ports import AREAS, IMAGE_LIMITS, MOST_SYMBOLS, MOST_UPLOAD
 from lib.rules_types import LONGEST, MOST_TYPES
 from lib.type_texts import NoType, is_identifier, lower
-from lib.value_words import words_of
+from lib.value_words import spare_words
 
-IMAGE, SPELLED = max(IMAGE_LIMITS.values()), {"ä": "ae", "ö": "oe", "ü": "ue", "Ä": "Ae", "Ö": "Oe", "Ü": "Ue", "ß": "ss", "µ": "u", "°": " deg "}
-BESIDE, MOST_VALUE = 120, 4000
+SPELLED = {"ä": "ae", "ö": "oe", "ü": "ue", "Ä": "Ae", "Ö": "Oe", "Ü": "Ue", "ß": "ss", "µ": "u", "°": " deg "}
+IMAGE = max(IMAGE_LIMITS.values())
+MOST_VALUE = 4000
 
 
 def comment_of(text):
@@ -113,22 +114,27 @@ class ImportText:
                 continue
             member = next(own)
             begun = self.begun(member.shape)
-            if one[0] is not None and one[0].initial is not None:
-                begun, _ = initial_bytes(member.shape, one[0].initial, self.begun)
+            begun = self.initial(one[0], member.shape)[0] if one[0] is not None else begun
             data[member.at:member.at + len(begun)] = begun
         if any(data):
             self.defaults[named] = bytes(data)
         self.types.append(named)
 
+    def initial(self, part, shape):
+        """The bytes with which a part begins on the controller, and what of them is not carried over: an enumeration begins with its first value."""
+        if part.initial is not None:
+            return initial_bytes(shape, part.initial, self.begun)
+        kind, it = shape.element
+        first = it.number_bytes(it.values[0][1]) * shape.count() if kind == "named" and it.base else None
+        return first or self.begun(shape), []
+
     def value(self, part, shape, absent):
         """The initial value in words, None where it is what is there without it; and what of it is not carried over."""
-        if part.initial is None:
-            return None, []
-        data, faults = initial_bytes(shape, part.initial, self.begun)
+        data, faults = self.initial(part, shape)
         faults = [f"of its initial value is not carried over: {fault}" for fault in faults[:20]]
         if data == absent:
             return None, faults
-        words = words_of(shape, data)
+        words = spare_words(shape, data, self.begun)
         return (words if len(words) <= MOST_VALUE or len(words) < 2 * len(data) else f'"{data.hex()}"'), faults
 
     # Symbols.
@@ -141,7 +147,7 @@ class ImportText:
         self.take(part, shape, place)
         for named in fresh:
             self.take_type(named)
-        lines = ["", *([remark(part.note)] if part.note else []), "[[port.symbol]]", f"name = {quoted(part.name)}", f"type = {quoted(shape.text())}"]
+        lines = ["", *([remark(f"{part.name}: {part.note}")] if part.note else []), "[[port.symbol]]", f"name = {quoted(part.name)}", f"type = {quoted(shape.text())}"]
         lines += [f"area = {quoted(part.area)}"] if part.area != "data" else []
         lines += [f"offset = {place}"] if self.offsets and part.at is not None else []
         comment, named = comment_of(part.comment), shape.named()

@@ -49,10 +49,10 @@ def read_tpy(root):
     for node in root.every("Symbol"):
         part, group = part_of(node, "Type"), number_of(node.said("IGroup"))
         if part.name.startswith("."):
-            part.name = part.name[1:]
+            part.note, part.name = f"TwinCAT 2 calls it {part.name}; a name here has no full stop in front", part.name[1:]
         offset = number_of(node.said("IOffset"))
         if group in BIT_AREAS:
-            part.area, part.at, part.note = BIT_AREAS[group], None, f"{part.name} is one bit of the {BIT_AREAS[group]}; a BOOL with a byte of its own stands in its place"
+            part.area, part.at, part.note = BIT_AREAS[group], None, f"it is one bit of the {BIT_AREAS[group]}; a byte of its own stands in its place"
             part.bits = 8
         elif group in AREA_OF:
             part.area, part.at = AREA_OF[group], 8 * offset if offset is not None else None

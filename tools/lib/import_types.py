@@ -22,10 +22,11 @@ class Remark:
 
 
 class ImportTypes:
-    """`lines` has for each structure that was made its members and remarks in their order; `notes` are sentences about a type, by its name."""
+    """`lines` has for each structure that was made its members and remarks in their order; `notes` are sentences about a type, by its name; `aliases` are
+    sentences on what stands in the place of a type, by its name."""
 
     def __init__(self, given):
-        self.given, self.built, self.lines, self.notes = given, {}, {}, {}
+        self.given, self.built, self.lines, self.notes, self.aliases = given, {}, {}, {}, {}
 
     def note(self, key, said):
         self.notes.setdefault(key, {})[said] = None
@@ -45,12 +46,12 @@ class ImportTypes:
         bounds, said = split(said)
         subrange = SUBRANGE.fullmatch(said)
         if subrange:
-            part.note = part.note or f"{part.name}: the range of {said} is not kept, it is a {subrange[1].upper()} here"
+            part.note = part.note or f"the range of {said} is not kept, {subrange[1].upper()} stands here"
             said = subrange[1]
         if NONE.match(said):
             raise NoType(f"{said} is no type of a description")
         _, (kind, it) = read_type(tidy(said, []) or said.rpartition(".")[2])
-        ends = [*ends, *bounds]
+        ends = checked([*ends, *bounds])
         return joined(ends, self.of_name(it, part, bits and bits // Shape(ends, None).count()) if kind == "named" else Shape([], (kind, it)))
 
     def of_name(self, name, part, bits):
@@ -59,7 +60,7 @@ class ImportTypes:
         if kind is None and name.upper() in SIZED:
             word = SIZED[name.upper()][0 if bits == 32 else 1]
         if kind is None and word:
-            part.note = part.note or f"{part.name}: a {name.upper()} is a {word} here, its number"
+            part.note = part.note or f"{name.upper()} is no type of a description: {word} stands here, with its number"
             return Shape([], ("plain", word))
         if kind is None:
             raise NoType(f"the file has no type {name}")
@@ -72,6 +73,7 @@ class ImportTypes:
         made = self.built[key]
         if isinstance(made, NoType):
             raise NoType(f"the type {name} can't be held: {made}")
+        part.note = part.note or self.aliases.get(key)
         return made
 
     def made(self, kind):
@@ -87,7 +89,10 @@ class ImportTypes:
             return Shape([], ("named", self.structure(kind, parts)))
         if kind.values:
             return self.enumeration(kind, fault)
-        return self.named_by(kind.base, kind.ends, kind.bits, Quiet(kind.name))
+        alias = Alias()
+        shape = self.named_by(kind.base, kind.ends, kind.bits, alias)
+        self.aliases[kind.name.lower()] = alias.note
+        return shape
 
     def parts_of(self, kind):
         """The parts of a structure, those of the one that it extends first."""
@@ -112,7 +117,10 @@ class ImportTypes:
         low, high = BASES[base]
         odd = any(name_fault(name) for name, _ in kind.values) or any(number is None or not low <= number <= high for number in numbers)
         if fault or odd or len(set(names)) < len(names) or len(set(numbers)) < len(numbers) or len(names) > MOST_PARTS:
+            self.aliases[kind.name.lower()] = f"the values of {kind.name} can't be held (a name or a number is none, or stands twice): {base} stands here"
             return Shape([], ("plain", base))
+        if base != kind.base.upper():
+            self.note(kind.name, f"the base {kind.base or 'of ' + size_words(kind.bits)} is {base} here")
         return Shape([], ("named", Named.enumeration(kind.name, base, kind.values)))
 
     def structure(self, kind, parts):
@@ -131,7 +139,7 @@ class ImportTypes:
             if part.at is not None and part.at != 8 * at:
                 raise NoType(f"its member {part.name} stands at bit {part.at}, where a description can't put {shape.text()}: it is packed")
             if part.note:
-                lines.append(Remark(part.note))
+                lines.append(Remark(f"{part.name}: {part.note}"))
             seen.add(lower(part.name))
             members.append((part.name, shape, ""))
             lines.append((part, shape))
@@ -158,11 +166,9 @@ class ImportTypes:
         return self.shape(part)
 
 
-class Quiet:
-    """Whoever is asked for in the place of a part: its notes are of no one."""
-
-    def __init__(self, name):
-        self.name, self.note = name, None
+class Alias:
+    """Asked for in the place of a part: what is noted on it is a matter of each part that has it."""
+    note = None
 
 
 def filled_to(members, lines, seen, end, part, natural):
@@ -176,9 +182,13 @@ def filled_to(members, lines, seen, end, part, natural):
 
 def joined(ends, shape):
     """An array of what may be an array itself: one of as many dimensions."""
-    if len(ends) + len(shape.ends) > 3 or any(low > high or not -2 ** 31 <= low or high >= 2 ** 31 for low, high in ends):
+    return Shape(checked([*ends, *shape.ends]), shape.element) if ends else shape
+
+
+def checked(ends):
+    if len(ends) > 3 or any(low > high or not -2 ** 31 <= low or high >= 2 ** 31 for low, high in ends):
         raise NoType("its dimensions are not one to three pairs of a least and a greatest index")
-    return Shape([*ends, *shape.ends], shape.element) if ends else shape
+    return ends
 
 
 def size_words(bits):

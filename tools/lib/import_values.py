@@ -12,7 +12,7 @@ from lib.shown import shown
 from lib.type_texts import lower
 from lib.value_words import FLOATS, SIGNED
 
-BASED = re.compile(r"(2|8|16)#([0-9A-Fa-f_]+)")
+BASED = re.compile(r"([+-]?)(2|8|16)#([0-9A-Fa-f_]+)")
 TYPED = re.compile(r"(?:S|US|U|D|UD|L|UL)?INT#|(?:BYTE|WORD|DWORD|LWORD|BOOL|L?REAL)#", re.IGNORECASE)
 DECIMAL = re.compile(r"[+-]?[0-9][0-9_]*")
 REAL = re.compile(r"[+-]?[0-9][0-9_]*(?:\.[0-9_]*)?(?:[eE][+-]?[0-9]+)?")
@@ -71,7 +71,7 @@ def whole(text):
     """A number without a point; None where it is none."""
     it = BASED.fullmatch(text)
     try:
-        return int(it[2].replace("_", ""), int(it[1])) if it else int(text.replace("_", "")) if DECIMAL.fullmatch(text) and len(text) < 40 else None
+        return int(it[1] + it[3].replace("_", ""), int(it[2])) if it else int(text.replace("_", "")) if DECIMAL.fullmatch(text) and len(text) < 40 else None
     except ValueError:
         return None
 

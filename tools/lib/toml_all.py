@@ -1,7 +1,7 @@
 """TOML with all its faults: behind a broken statement the reader goes on at the next one. It notes the comments of the text, too."""
 import re
 
-from lib.toml_text import BARE, BLANK, Reader, TomlFault, Value, headed, put
+from lib.toml_text import BARE, BLANK, SPACE, Reader, TomlFault, Value, headed, put
 
 MOST_FAULTS = 200
 # What a line begins with that is a header or a pair.
@@ -40,6 +40,42 @@ class AllReader(Reader):
             if len(self.faults) == MOST_FAULTS:
                 return section, len(self.text)
             return self.header_meant(root, at) if self.first(at) == "[" else self.key_meant(section, at), end
+
+    def array(self, start, deep):
+        """An array, whose elements begin lines of their own: behind a broken one the reader goes on at the next."""
+        found, at = [], start + 1
+        while True:
+            at = begun = self.behind_all(BLANK, at)
+            if self.first(at) == "]":
+                return Value("array", found, start), at + 1
+            try:
+                one, at = self.value(at, deep)
+                found.append(one)
+                at = self.behind(at, "]", "array")
+            except TomlFault as fault:
+                at = self.next_element(begun, fault)
+                if at is None or len(self.faults) + 1 >= MOST_FAULTS:
+                    raise
+                if found[-1:] == [] or found[-1].at != begun:
+                    found.append(Value("broken", None, begun))
+                self.faults.append(fault)
+
+    def next_element(self, begun, fault):
+        """Where the next table of an array begins, or its end: the first line behind a fault that is as far from the margin, or less far; None where none is."""
+        line = self.text.rfind("\n", 0, begun) + 1
+        margin = self.text[line:begun]
+        if margin.strip(" \t") or self.first(begun) != "{":
+            return None
+        line = self.text.rfind("\n", 0, fault.at) + 1
+        line = line if line > begun else self.text.find("\n", fault.at) + 1
+        while line:
+            at = SPACE.match(self.text, line).end()
+            if (self.first(at) == "{" and self.text[line:at] == margin) or (self.first(at) == "]" and at - line < len(margin)):
+                return at
+            if BEGINS.match(self.text, line) and at - line < max(len(margin), 1):
+                return None
+            line = self.text.find("\n", line) + 1
+        return None
 
     def resumed(self, start, fault):
         """Where the next statement begins. A value whose end is missing ends before the line that looks like one."""

@@ -74,3 +74,27 @@ def has_filling(named, data):
             return True
         end = own.at + own.shape.size()
     return any(data[end:])
+
+
+def spare_words(shape, data, begun):
+    """The same without what is there anyway: members and last elements that are as `begun` makes those of a type."""
+    if shape.ends:
+        inner, size = shape.of_element(), shape.of_element().size()
+        parts = [data[at:at + size] for at in range(0, len(data), size)]
+        if len(parts) > 4 and parts == parts[:1] * len(parts):
+            return f"{{ each = {spare_words(inner, parts[0], begun)} }}"
+        while parts and parts[-1] == begun(inner):
+            parts.pop()
+        said, mark = [spare_words(inner, part, begun) for part in parts], ",\n  " if inner.named() and inner.named().members else ", "
+        return "[\n  " + mark.join(said) + ",\n]" if mark != ", " and len(said) > 1 else "[" + mark.join(said) + "]"
+    named = shape.named()
+    if not named or named.base:
+        return words_of(shape, data)
+    if has_filling(named, data):
+        return hex_words(data)
+    own, found = begun(shape), []
+    for it in named.members:
+        end = it.at + it.shape.size()
+        if data[it.at:end] != own[it.at:end]:
+            found.append(f"{it.name} = {spare_words(it.shape, data[it.at:end], begun)}")
+    return "{ " + ", ".join(found) + " }" if found else "{}"

@@ -136,9 +136,18 @@ class Lines:
             self.named.append(kind)
             lines.append(f"[[type]]\n{kind.said}")
         lines.append('[[port]]\nport = 851\nname = "Random"')
-        for place in range(rng.randrange(8)):
-            lines.append("[[port.symbol]]\n" + self.symbol(place, wanted))
-        return "\n".join(lines) + "\n", wanted
+        self.head, self.symbols = lines, [self.symbol(place, wanted) for place in range(rng.randrange(8))]
+        return self.written(self.symbols), wanted
+
+    def written(self, symbols):
+        return "\n".join([*self.head, *(f"[[port.symbol]]\n{symbol}" for symbol in symbols)]) + "\n"
+
+    def changed(self):
+        """The same line with other symbols: some gone, some new, and in another order."""
+        rng = self.rng
+        symbols = rng.sample(self.symbols, rng.randrange(len(self.symbols) + 1)) + [self.symbol(place, {}) for place in range(8, 8 + rng.randrange(4))]
+        rng.shuffle(symbols)
+        return self.written(symbols)
 
     def symbol(self, place, wanted):
         rng, kind, many = self.rng, self.kind(), self.rng.choice(("", "", "", "{1..3}", "{08..10}", "{1..2}_{1..2}"))

@@ -1,0 +1,27 @@
+"""Faults in examples/line.toml: a text of it, what stands in its place, and a part of each sentence that must come. All of them may stand there together."""
+
+FAULTS = [
+    ('net = "5.1.2.3.1.1"', 'net = "5.1.2.3"', ["is no NetId: six numbers from 0 to 255 without superfluous zeros, joined by full stops; write 5.1.2.3.1.1"]),
+    ('rights = "read"', 'rights = "reed"', ["key `rights`: 'reed' is not read, write or control; is `read` meant?"]),
+    ("number = 99", "number = 70000", ['value "Faulted" of type "Mode", key `number`: 70000 is no number of INT, -32768 to 32767; DINT holds it']),
+    ('initial = 2.5 }', "initial = 1e40 }", ['member "limit" of type "Valve", key `initial`: 1e+40 is greater than a REAL can be']),
+    ('name = "Filling line"', 'name = "Filling line of hall 1"', ["'Filling line of hall 1' has 22 bytes", ]),
+    ('type = "Mode", initial = "Running"', 'type = "Mode", initial = "Runing"', ["key `initial`: 'Runing' is no value of Mode; is Running meant?"]),
+    ('initial = 1, comment', 'initial = 40000, comment', ['"Line.active" of port 851, key `initial`: 40000 is no number of INT, -32768 to 32767; DINT holds it']),
+    ('type = "UDINT", persistent', 'type = "UDINT", persistant', ["key `persistant`: [[port.symbol]] has no such key; is `persistent` meant?"]),
+    ("initial = 1.25", 'initial = "1.25"', ["key `initial`: LREAL wants a number, as 1.5 or 20, and a text stands there; or 16 hexadecimal digits"]),
+    ('"Hall 1, Kühlung"', '"Hall 1, Kühlung und Abfüllung"', ["the text has 29 letters, and STRING(20) holds 20; make it STRING(29), or shorten it"]),
+    ('"T#8h"', '"8 h"', ["key `initial`: '8 h' is no duration; write it as T#1m30s"]),
+    ("signal = 2", "signal = 3", ["there is no signal 3; the program has 3, numbered from 0; free: 0, 1, 2"]),
+    ("volume = 500.0", "volum = 500.0", ["part [1], key `initial`: Recipe has no member 'volum'; is `volume` meant?"]),
+    ("offset = -250", "offset = -250.5", ["part [2].offset, key `initial`: INT wants a number without quotes, and a number with a point"]),
+    ("Line.valve{01..24}", "Line.valve{24..01}", ["key `name`: the range {24..01} ends below its beginning; write {01..24}"]),
+    ('writers = ["192.168.0.9.1.1"]', 'writers = ["192.168.0.9"]', ["key `writers`: '192.168.0.9' is no NetId", ]),
+    ('actual", type = "REAL"', 'actual", type = "REEL"', ["key `type`: there is no type 'REEL' in this description; is `REAL` meant?"]),
+    ("initial = true", 'initial = "yes"', ['"Drive{1..6}.fault" of port 851, key `initial`: BOOL wants true or false, and a text stands there']),
+    ('low", type = "BOOL", area = "inputs"', 'low", type = "BOOL", area = "input"', ["key `area`: 'input' is none of inputs, outputs, memory, data; is `inputs` meant?"]),
+    ('high", type', 'high" type', [": in this inline table a comma or } is wanted here"]),
+    ("initial = [20, -5, 300]", "initial = [20, -5, 300, 4]", ["ARRAY [1..3] OF INT has 3 elements, and 4 stand there; leave the others out, or make the array greater"]),
+    ("initial = -1 ", "initial = -100000 ", ["-100000 is no number of INT, -32768 to 32767; DINT holds it"]),
+    ('name = "Lamp{1..4}"', 'name = "Line.mode"', ["an earlier symbol has the name, ASCII case aside (line "]),
+]
