@@ -5,22 +5,15 @@ from lib.describing import remark
 from lib.import_types import ImportTypes, Remark
 from lib.import_values import initial_bytes
 from lib.layout import aligned
-from lib.letters import quoted
+from lib.letters import quoted, spelled
 from lib.rules_nets import is_net
 from lib.rules_ports import AREAS, IMAGE_LIMITS, MOST_SYMBOLS, MOST_UPLOAD
 from lib.rules_types import LONGEST, MOST_TYPES
 from lib.type_texts import NoType, is_identifier, lower
 from lib.value_words import spare_words
 
-SPELLED = {"ä": "ae", "ö": "oe", "ü": "ue", "Ä": "Ae", "Ö": "Oe", "Ü": "Ue", "ß": "ss", "µ": "u", "°": " deg "}
 IMAGE = max(IMAGE_LIMITS.values())
 MOST_VALUE = 4000
-
-
-def comment_of(text):
-    """A comment of at most 255 printable bytes, in one line."""
-    words = " ".join("".join(SPELLED.get(letter, letter) for letter in text).split())
-    return "".join(letter if " " <= letter <= "~" else "?" for letter in words)[:LONGEST].rstrip()
 
 
 class ImportText:
@@ -102,7 +95,7 @@ class ImportText:
                 continue
             words, faults = self.value(part, member.shape, self.begun(member.shape))
             lines += [remark(f"{part.name}: {fault}") for fault in faults]
-            comment = comment_of(part.comment)
+            comment = spelled(part.comment, LONGEST)
             lines.append(f"{{ {said}" + (f", initial = {words}" if words else "") + (f", comment = {quoted(comment)}" if comment else "") + " },")
         return lines
 
@@ -150,7 +143,7 @@ class ImportText:
         lines = ["", *([remark(f"{part.name}: {part.note}")] if part.note else []), "[[port.symbol]]", f"name = {quoted(part.name)}", f"type = {quoted(shape.text())}"]
         lines += [f"area = {quoted(part.area)}"] if part.area != "data" else []
         lines += [f"offset = {place}"] if self.offsets and part.at is not None else []
-        comment, named = comment_of(part.comment), shape.named()
+        comment, named = spelled(part.comment, LONGEST), shape.named()
         lines += [f"comment = {quoted(comment)}"] if comment else []
         lines += [f"{key} = true" for key, flag in (("persistent", part.persistent), ("read_only", part.read_only)) if flag]
         absent = named.number_bytes(named.values[0][1]) if named and named.base else self.begun(shape)
@@ -172,7 +165,7 @@ class ImportText:
         heads = {".".join(words[:count]) for count in range(1, len(words))}
         if lower(part.name) in self.names or lower(part.name) in self.heads or heads & self.names:
             raise NoType("its name, or the name of an earlier symbol, begins with the other")
-        upload = 33 + len(part.name) + len(shape.text()) + len(comment_of(part.comment))
+        upload = 33 + len(part.name) + len(shape.text()) + len(spelled(part.comment, LONGEST))
         if self.count >= MOST_SYMBOLS or self.upload + upload > MOST_UPLOAD:
             raise NoType(f"a port has at most {MOST_SYMBOLS} symbols and {MOST_UPLOAD} bytes of upload")
         taken = self.taken[part.area]

@@ -2,6 +2,7 @@
 LETTERS = [bytes([byte]).decode("cp1252", "replace") for byte in range(256)]
 LETTERS = [chr(byte) if letter == "\ufffd" else letter for byte, letter in enumerate(LETTERS)]
 BYTES = {letter: byte for byte, letter in enumerate(LETTERS)}
+SPELLED = {"ä": "ae", "ö": "oe", "ü": "ue", "Ä": "Ae", "Ö": "Oe", "Ü": "Ue", "ß": "ss", "µ": "u", "°": " deg "}
 ESCAPES = {'"': '\\"', "\\": "\\\\", "\n": "\\n", "\r": "\\r", "\t": "\\t"}
 
 
@@ -18,3 +19,9 @@ def bytes_of(text):
 def quoted(text):
     """A text as TOML writes it."""
     return '"' + "".join(ESCAPES.get(letter) or (f"\\u{ord(letter):04x}" if letter < " " or "\x7f" <= letter < "\xa0" else letter) for letter in text) + '"'
+
+
+def spelled(text, most):
+    """A text like another one in printable ASCII, in one line, of at most so many bytes."""
+    words = " ".join("".join(SPELLED.get(letter, letter) for letter in text).split())
+    return "".join(letter if " " <= letter <= "~" else "?" for letter in words)[:most].rstrip()

@@ -33,7 +33,9 @@ class LineValues:
         return begun * shape.count() if begun else bytes(shape.size())
 
     def bytes(self, shape, value, path=""):
-        """The bytes of a value; zeros where it is none, and the fault is told."""
+        """The bytes of a value; zeros where it is none, and the fault is told. What can't be read was told before."""
+        if value.kind == "broken":
+            return bytes(shape.size())
         if value.kind == "string" and len(value.data) == 2 * shape.size() and HEX.fullmatch(value.data):
             return self.hexadecimal(shape, value, path)
         if shape.ends:

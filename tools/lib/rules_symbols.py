@@ -5,7 +5,7 @@ from lib.initial_fault import initial_fault
 from lib.layout import aligned
 from lib.rules_nets import NO_NET, is_net, near, net_meant
 from lib.rules_ports import AREAS
-from lib.rules_types import LIMIT, LONGEST, comment_fault
+from lib.rules_types import LIMIT, LONGEST, comment_fault, comment_meant
 from lib.shown import shown
 from lib.type_meant import type_meant
 from lib.type_texts import NoType, is_identifier, lower
@@ -143,7 +143,7 @@ def content_faults(symbol, shape, types):
             yield found
     why = comment_fault(symbol["comment"]) if symbol["comment"] is not None else None
     if why:
-        yield symbol.broken("comment", why)
+        yield symbol.broken("comment", why, None, comment_meant(symbol["comment"]))
     writers = symbol["writers"]
     if writers is None:
         return

@@ -2,6 +2,7 @@
 import re
 
 from lib.layout import Named
+from lib.letters import spelled
 from lib.rules_nets import near
 from lib.shown import shown
 from lib.type_meant import element_in, type_meant
@@ -30,6 +31,10 @@ def comment_fault(text):
         return f"the comment has {len(text.encode())} bytes, more than {LONGEST}"
     odd = next((letter for letter in text if not " " <= letter <= "~"), None)
     return f"the comment has the character {shown(odd)}, which is not from a space to a tilde" if odd else None
+
+
+def comment_meant(text):
+    return f'as "{spelled(text, LONGEST)}"' if len(text) < 80 else None
 
 
 def wrong_type_name(d):
@@ -135,7 +140,7 @@ def members_of(it, types, members, later):
         if why:
             yield place, member.broken("name", why, None, name_meant(name))
         if what:
-            yield place, member.broken("comment", what)
+            yield place, member.broken("comment", what, None, comment_meant(comment))
         if not why and name is not None and lower(name) in seen:
             yield place, member.broken("name", "an earlier member has the name, ASCII case aside", seen[lower(name)], "give one of them another name")
         try:
