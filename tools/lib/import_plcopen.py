@@ -109,7 +109,10 @@ def take_values(kind, node):
     last, inner = -1, node.first("baseType")
     for one in node.every("value"):
         said = one.attributes.get("value")
-        last = number_of(said.partition("#")[2] if "#" in said and not said[0].isdigit() else said) if said is not None else last + 1 if last is not None else None
+        if said is not None:
+            last = number_of(said.partition("#")[2] if "#" in said and not said[0].isdigit() else said)
+        elif last is not None:
+            last += 1
         kind.values.append((one.attributes.get("name", ""), last))
     kind.base = type_of(inner)[0] if inner is not None else "INT"
 

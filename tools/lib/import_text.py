@@ -140,7 +140,8 @@ class ImportText:
         self.take(part, shape, place)
         for named in fresh:
             self.take_type(named)
-        lines = ["", *([remark(f"{part.name}: {part.note}")] if part.note else []), "[[port.symbol]]", f"name = {quoted(part.name)}", f"type = {quoted(shape.text())}"]
+        lines = ["", *([remark(f"{part.name}: {part.note}")] if part.note else [])]
+        lines += ["[[port.symbol]]", f"name = {quoted(part.name)}", f"type = {quoted(shape.text())}"]
         lines += [f"area = {quoted(part.area)}"] if part.area != "data" else []
         lines += [f"offset = {place}"] if self.offsets and part.at is not None else []
         comment, named = spelled(part.comment, LONGEST), shape.named()

@@ -6,7 +6,7 @@ from fractions import Fraction
 
 from lib.durations import NoDuration, milliseconds_of
 from lib.layout import step_into
-from lib.letters import bytes_of
+from lib.letters import bytes_of, letters_of
 from lib.line_values import own_number
 from lib.shown import shown
 from lib.type_texts import lower
@@ -16,8 +16,9 @@ BASED = re.compile(r"([+-]?)(2|8|16)#([0-9A-Fa-f_]+)")
 TYPED = re.compile(r"(?:S|US|U|D|UD|L|UL)?INT#|(?:BYTE|WORD|DWORD|LWORD|BOOL|L?REAL)#", re.IGNORECASE)
 DECIMAL = re.compile(r"[+-]?[0-9][0-9_]*")
 REAL = re.compile(r"[+-]?[0-9][0-9_]*(?:\.[0-9_]*)?(?:[eE][+-]?[0-9]+)?")
-DAY = re.compile(r"(l?dt|l?d|date_and_time|date|ldate)#([0-9]{4})-([0-9]{1,2})-([0-9]{1,2})(?:-([0-9]{1,2}):([0-9]{1,2})(?::([0-9]{1,2})(?:\.([0-9]{1,9}))?)?)?", re.IGNORECASE)
-CLOCK = re.compile(r"(l?tod|time_of_day|ltod)#([0-9]{1,2}):([0-9]{1,2})(?::([0-9]{1,2})(?:\.([0-9]{1,9}))?)?", re.IGNORECASE)
+HOURS = r"([0-9]{1,2}):([0-9]{1,2})(?::([0-9]{1,2})(?:\.([0-9]{1,9}))?)?"
+DAY = re.compile(rf"(l?dt|l?d|date_and_time|date|ldate)#([0-9]{{4}})-([0-9]{{1,2}})-([0-9]{{1,2}})(?:-{HOURS})?", re.IGNORECASE)
+CLOCK = re.compile(rf"(l?tod|time_of_day|ltod)#{HOURS}", re.IGNORECASE)
 LETTER = re.compile(r"\$([0-9A-Fa-f]{2}|[$'LlNnPpRrTt])")
 LETTERS = {"$": "$", "'": "'", "l": "\n", "n": "\r\n", "p": "\f", "r": "\r", "t": "\t"}
 STEP = re.compile(r"\.([A-Za-z_][A-Za-z0-9_]*)|\[([-0-9, ]+)\]|#([0-9]+)\*([0-9]+)")
@@ -101,7 +102,7 @@ def part_of_second(digits):
 def text_bytes(most, text):
     said = text.strip()
     if len(said) >= 2 and said[0] == said[-1] == "'":
-        said = LETTER.sub(lambda it: LETTERS.get(it[1].lower()) if it[1].lower() in LETTERS else bytes([int(it[1], 16)]).decode("cp1252", "replace"), said[1:-1])
+        said = LETTER.sub(lambda it: LETTERS.get(it[1].lower()) or letters_of(bytes([int(it[1], 16)])), said[1:-1])
     else:
         said = text
     data, odd = bytes_of(said)

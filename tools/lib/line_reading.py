@@ -1,11 +1,12 @@
-"""A line, as tools/plant.py takes it: a description in which places, sizes and numbers may be left out, values stand as people write them, and names in ranges."""
+"""A line, as tools/plant.py takes it: a description in which places, sizes and numbers may be left out, with values as people write them and names in
+ranges."""
 import copy
 import itertools
 import re
 
 from lib.document import Reading
 from lib.keys import TABLES
-from lib.rules_ports import MOST_SYMBOLS
+from lib.rules_ports import AREAS, MOST_SYMBOLS
 from lib.rules_types import MOST_PARTS
 from lib.toml_text import Value
 
@@ -13,7 +14,7 @@ ABSENT = {
     "document": {"schema": ("number", 2)},
     "member": {"initial": ("any", None)},
     "value": {"number": ("number", None)},
-    "port": {"major": ("number", 1), "minor": ("number", 0), "build": ("number", 0), **{area: ("number", None) for area in ("inputs", "outputs", "memory", "data")}},
+    "port": {"major": ("number", 1), "minor": ("number", 0), "build": ("number", 0), **{area: ("number", None) for area in AREAS}},
     "symbol": {"area": ("text", "data"), "offset": ("number", None), "initial": ("any", None)},
 }
 LINE = {kind: {**keys, **ABSENT.get(kind, {})} for kind, keys in TABLES.items()}

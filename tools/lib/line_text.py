@@ -83,8 +83,9 @@ class Writing:
 
     def symbol(self, symbol, shape):
         self.header(symbol, "[[port.symbol]]")
-        for key, said in (("name", quoted(symbol["name"])), ("type", quoted(shape.text())), ("area", quoted(symbol["area"])), ("offset", str(symbol["offset"]))):
-            self.pair(symbol, key, said)
+        for key, said in (("name", symbol["name"]), ("type", shape.text()), ("area", symbol["area"])):
+            self.pair(symbol, key, quoted(said))
+        self.pair(symbol, "offset", str(symbol["offset"]))
         if symbol["comment"] or "comment" in symbol.raw:
             self.pair(symbol, "comment", quoted(symbol["comment"]))
         for key in ("persistent", "read_only"):

@@ -87,7 +87,8 @@ class LineValues:
         try:
             number = milliseconds_of(value.data)
         except NoDuration:
-            self.fault(value.at, path, f"{shown(value.data)} is no duration", "write it as T#1m30s, of d, h, m, s and ms in this order, or as a number of milliseconds")
+            right = "write it as T#1m30s, of d, h, m, s and ms in this order, or as a number of milliseconds"
+            self.fault(value.at, path, f"{shown(value.data)} is no duration", right)
             return bytes(4)
         if number != int(number) or not 0 <= number < 2 ** 32:
             self.fault(value.at, path, f"TIME has whole milliseconds from 0 to {2 ** 32 - 1} (49 days), and {shown(value.data)} is none of these")

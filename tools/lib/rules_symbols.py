@@ -1,5 +1,6 @@
 """Description rules 10 to 14: symbols, counted through all ports. Each gives all broken items in order, with what is broken there."""
 import bisect
+import re
 
 from lib.initial_fault import initial_fault
 from lib.layout import aligned
@@ -59,7 +60,7 @@ class Names:
 
 def path_meant(name):
     """A name like a text that is none."""
-    words = ["".join(letter if letter.isascii() and letter.isalnum() or letter == "_" else "_" for letter in word.strip()) for word in name.split(".") if word.strip()]
+    words = [re.sub("[^A-Za-z0-9_]", "_", word.strip()) for word in name.split(".") if word.strip()]
     meant = ".".join(word if is_identifier(word) else "_" + word for word in words)
     return f"as {meant}" if words and len(meant) <= LONGEST and meant != name and any(letter.isalnum() for letter in meant) else None
 

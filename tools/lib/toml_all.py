@@ -61,7 +61,7 @@ class AllReader(Reader):
                 self.faults.append(fault)
 
     def next_element(self, begun, fault):
-        """Where the next table of an array begins, or its end: the first line behind a fault that is as far from the margin, or less far; None where none is."""
+        """Where the next table of an array begins, or its end: the first line behind a fault that is as far from the margin, or less; None where none is."""
         line = self.text.rfind("\n", 0, begun) + 1
         margin = self.text[line:begun]
         if margin.strip(" \t") or self.first(begun) != "{":

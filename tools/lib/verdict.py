@@ -1,4 +1,4 @@
-"""What a text is to the reader of descriptions: a description, the least broken rule with its least item, or no TOML document; and all that is wrong with it."""
+"""What a text is to the reader of descriptions: a description, the least broken rule with its least item, or no TOML document; and all that is wrong."""
 from lib.document import Broken, read_document
 from lib.initial_fault import initial_meant
 from lib.layout import NamedTypes

@@ -59,8 +59,8 @@ class Reading:
         self.parser.StartDoctypeDeclHandler = self.parser.EntityDeclHandler = self.parser.ExternalEntityRefHandler = self.refuse
 
     def refuse(self, *_):
-        raise XmlFault(self.parser.CurrentLineNumber, "it has a DOCTYPE, which no file of TwinCAT has: such a file is not read, since its entities may name other files "
-                       "or grow without end")
+        why = "it has a DOCTYPE, which no file of TwinCAT has: such a file is not read, since its entities may name other files or grow without end"
+        raise XmlFault(self.parser.CurrentLineNumber, why)
 
     def begin(self, name, attributes):
         self.count += 1

@@ -18,17 +18,19 @@ from tries.random_lines import Lines, line_of
 from tries.running import EXAMPLES, ME, PLANT, TOOLS, Served, refused, see, tool
 
 LINE = os.path.join(EXAMPLES, "line.toml")
-DATA = os.path.join(TOOLS, "tries", "data")
+DATA, CASES = os.path.join(TOOLS, "tries", "data"), os.path.join(TOOLS, "..", "crates", "cases", "data")
 FILES = (("filling.tmc", "utf-8", ()), ("filling.tpy", "iso-8859-1", ("--offsets",)), ("filling.xml", "utf-8", ()))
 KINDS = {"filling.tmc": "TwinCAT 3 module class", "filling.tpy": "TwinCAT 2 project", "filling.xml": "PLCopen XML export"}
 VALUES = {
-    "filling.tmc": (("MAIN.aRecipes[1].sTitle", "'K$FChl 1'"), ("MAIN.aRecipes[2].aOffset[3]", "-7"), ("MAIN.aRecipes[3].fVolume", "16#0000c03f"), ("MAIN.eMode", "5"),
-                    ("MAIN.aRecipes[3].eMode", "5"), ("MAIN.fSpeeds[0]", "16#0000000000003440"), ("MAIN.tDelay", "90000"), ("MAIN.dStart", "1577880000")),
+    "filling.tmc": (("MAIN.aRecipes[1].sTitle", "'K$FChl 1'"), ("MAIN.aRecipes[2].aOffset[3]", "-7"), ("MAIN.aRecipes[3].fVolume", "16#0000c03f"),
+                    ("MAIN.eMode", "5"), ("MAIN.aRecipes[3].eMode", "5"),
+                    ("MAIN.fSpeeds[0]", "16#0000000000003440"), ("MAIN.tDelay", "90000"), ("MAIN.dStart", "1577880000")),
     "filling.tpy": (("MAIN.GRID[1,1]", "7"), ("GLOBAL", "-5"), ("MAIN.TITLE", "'M$FCll'"), ("MAIN.STATE", "1")),
     "filling.xml": (("MAIN.aLevels[3]", "16#00000000000034c0"), ("MAIN.aPoints[1].x", "16#0000003f"), ("MAIN.aPoints[1].step", "11"), ("MAIN.nCount", "-31"),
                     ("MAIN.sTitle", "'M$FCll $271$27'"), ("GVL.cMost", "1000")),
 }
-LAUGHS = "<!DOCTYPE l [<!ENTITY a 'ha'>" + "".join(f"<!ENTITY {two} '{10 * f'&{one};'}'>" for one, two in zip("abcdefgh", "bcdefghi")) + "]><project>&i;</project>"
+GROWING = "".join(f"<!ENTITY {two} '{10 * f'&{one};'}'>" for one, two in zip("abcdefgh", "bcdefghi"))
+LAUGHS = f"<!DOCTYPE l [<!ENTITY a 'ha'>{GROWING}]><project>&i;</project>"
 BAD_FILES = [
     (LAUGHS, "it has a DOCTYPE"),
     ("<!DOCTYPE l [<!ENTITY a SYSTEM 'file:///etc/passwd'>]><project>&a;</project>", "it has a DOCTYPE"),
@@ -106,19 +108,20 @@ def shown_by_program(program, folder, seed, count):
     for number in range(count):
         text, wanted = line_of(f"{seed} shown", number)
         it = built_of(text)
-        name = written(folder, "shown.toml", it.text)
-        said, status = run_program(program, "check", name)
+        path = written(folder, "shown.toml", it.text)
+        said, status = run_program(program, "check", path)
         see(status == 0 and said.splitlines() == it.verdict.lines, f"check of what was built: {said}\n{it.text}")
         symbols = it.verdict.document["port"][0]["symbol"]
         for symbol in random.Random(number).sample(symbols, min(3, len(symbols))):
-            said, _ = run_program(program, "show", symbol["name"], "--local", name, "--me", ME)
-            mine = [f"{path} {value}" for path, value in wanted.items() if path == symbol["name"] or path.startswith((symbol["name"] + ".", symbol["name"] + "["))]
-            see(sorted(said.splitlines()) == sorted(mine), f"show {symbol['name']}: {said}\nand the line says {mine}\n{text}")
+            said, _ = run_program(program, "show", symbol["name"], "--local", path, "--me", ME)
+            name = symbol["name"]
+            mine = [f"{path} {value}" for path, value in wanted.items() if path == name or path.startswith((f"{name}.", f"{name}["))]
+            see(sorted(said.splitlines()) == sorted(mine), f"show {name}: {said}\nand the line says {mine}\n{text}")
 
 
 def descriptions_stay(folder):
     """Every description is a line: what it builds to is the same plant."""
-    for name in (PLANT, os.path.join(EXAMPLES, "..", "crates", "cases", "data", "areas.toml"), os.path.join(EXAMPLES, "..", "crates", "cases", "data", "mode.toml")):
+    for name in (PLANT, os.path.join(CASES, "areas.toml"), os.path.join(CASES, "mode.toml")):
         given = text_of(name)
         one, two = verdict_on(given.encode()), built_of(given).verdict
         plain = [[{key: it.values[key] for key in it.values} for it in verdict.document["port"][0]["symbol"]] for verdict in (one, two)]
@@ -263,7 +266,8 @@ def other_word(rng, text):
     """The text of one element in place of that of another one."""
     places = [at for at in range(len(text)) if text[at] == ">" and text[at + 1:at + 2] not in ("<", "\n", "")]
     one, other = rng.choice(places), rng.choice(places)
-    new = rng.choice((text[other + 1:text.index("<", other)], "", "0", "-1", "99999999999", "2147483647", "A.B", "ARRAY [1..3] OF INT", "STRING(5)", "BOOL", "E_Mode"))
+    own = text[other + 1:text.index("<", other)]
+    new = rng.choice((own, "", "0", "-1", "99999999999", "2147483647", "A.B", "ARRAY [1..3] OF INT", "STRING(5)", "BOOL", "E_Mode"))
     return text[:one + 1] + new + text[text.index("<", one):]
 
 
@@ -303,5 +307,5 @@ def tried(program, seed, count, quick=False):
         damaged_files(seed, count // 4 // share)
         wrong_words(folder)
     see(parts and built, "nothing was tried")
-    return (f"{count // share} random lines build, and their {parts} parts are read back; {faults} faults together are told; {count // 4 // share} damaged lines, "
-            f"{built} of which build; TMC, TPY and PLCopen imported; {len(BAD_FILES)} bad files")
+    return (f"{count // share} random lines build, and their {parts} parts are read back; {faults} faults together are told; "
+            f"{count // 4 // share} damaged lines, {built} of which build; TMC, TPY and PLCopen imported; {len(BAD_FILES)} bad files")

@@ -140,4 +140,5 @@ def tried(program, size):
         rules = pool.map(lambda number: agrees(program, damaged(number, seed), os.path.join(folder, f"damaged{number}.toml")), range(count))
         found.update("none" if rule is None else "syntax" if rule == 0 else f"rule {rule}" for rule in rules)
     counts = ", ".join(f"{name} {some}" for name, some in sorted(found.items()))
-    return f"{worked} cases worked out by hand; {len(ONE_CHANGE)} changes of plant.toml; {len(FAULTS) + len(ALONE)} faults, alone and together; {count} damaged descriptions agree with check: {counts}"
+    return (f"{worked} cases worked out by hand; {len(ONE_CHANGE)} changes of plant.toml; {len(FAULTS) + len(ALONE)} faults, alone and together; "
+            f"{count} damaged descriptions agree with check: {counts}")

@@ -1,4 +1,4 @@
-"""Random lines for tools/plant.py, and what must be read of each symbol of the plant that they build: the value of each plain part, as the program prints it."""
+"""Random lines for tools/plant.py, and what must be read of each symbol of the plant that they build: each plain part, as the program prints it."""
 import random
 import struct
 
