@@ -155,8 +155,8 @@ class ImportText:
     def place(self, part, shape):
         """Where the symbol is to stand, as far as it is known here."""
         if self.offsets and part.at is not None:
-            if part.at % 8:
-                raise NoType(f"it stands at bit {part.at}, and a description has no bits")
+            if part.at % 8 or part.at < 0:
+                raise NoType(f"it stands at bit {part.at}, and a description has no such place")
             return part.at // 8
         return aligned(self.ends[part.area], min(shape.align(), 8))
 
