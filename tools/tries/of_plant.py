@@ -305,21 +305,21 @@ def wrong_words(folder):
     see(text_of(place) == "as it was", "a line with a fault was written")
 
 
-def tried(program, seed, count, quick=False):
-    share = 10 if quick else 1
+def tried(program, size):
+    seed, lines, damaged = size.seed, size.of(1000, 150), size.of(250, 40)
     with tempfile.TemporaryDirectory() as folder:
-        parts = properties(seed, count // share)
-        shown_by_program(program, folder, seed, 10 // share)
         by_hand()
+        parts = properties(seed, lines)
+        shown_by_program(program, folder, seed, size.of(10, 3))
         descriptions_stay()
-        places_stay(seed, count // 4 // share)
+        places_stay(seed, damaged)
         changed_while_served(program, folder)
         faults = every_fault(folder)
-        built = damaged_lines(seed, count // 4 // share)
+        built = damaged_lines(seed, damaged)
         imports(program, folder)
         bad_files(folder)
-        damaged_files(seed, count // 4 // share)
+        damaged_files(seed, damaged)
         wrong_words(folder)
     see(parts and built, "nothing was tried")
-    return (f"{count // share} random lines build, and their {parts} parts are read back; {faults} faults together are told; "
-            f"{count // 4 // share} damaged lines, {built} of which build; TMC, TPY and PLCopen imported; {len(BAD_FILES)} bad files")
+    return (f"{lines} random lines build, and their {parts} parts are read back; {faults} faults together are told; {damaged} damaged lines, {built} of which "
+            f"build; TMC, TPY and PLCopen imported, {damaged} of them damaged; {len(BAD_FILES)} bad files")

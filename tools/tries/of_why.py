@@ -135,8 +135,8 @@ def tried(program, size):
     with tempfile.TemporaryDirectory() as folder, concurrent.futures.ThreadPoolExecutor(4) as pool:
         examples(program, folder)
         wrong_words()
-        worked = by_hand(100000 if quick else 2 ** 63)
-        together(program, folder, seed, count // 5)
+        worked = by_hand(size.of(2 ** 63, 100000))
+        together(program, folder, seed, size.of(200, 40))
         rules = pool.map(lambda number: agrees(program, damaged(number, seed), os.path.join(folder, f"damaged{number}.toml")), range(count))
         found.update("none" if rule is None else "syntax" if rule == 0 else f"rule {rule}" for rule in rules)
     counts = ", ".join(f"{name} {some}" for name, some in sorted(found.items()))
