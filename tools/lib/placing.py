@@ -1,6 +1,7 @@
 """The places of a line's symbols: as they say, as they were before, or one behind another at their natural alignment; and the sizes of the areas."""
 import bisect
 
+from lib.kept import differs
 from lib.layout import aligned
 from lib.rules_ports import AREAS
 from lib.rules_types import LIMIT
@@ -18,7 +19,7 @@ class Before:
     def place(self, port, symbol, shape):
         """The place that a symbol had, where the server keeps it and it stays in its area; None where it does not."""
         old = self.found.get((port["port"], lower(symbol["name"] or "")))
-        return old["offset"] if old and old["area"] == symbol["area"] and is_same_type(self.shapes[old], shape) else None
+        return old["offset"] if old and old["area"] == symbol["area"] and is_kept(self.shapes[old], shape) else None
 
     def end(self, port, area):
         """The end of all that stood in an area."""
@@ -37,7 +38,7 @@ class Before:
                 key = port["port"], lower(symbol["name"])
                 old = self.found.get(key)
                 seen.add(key)
-                if old is None or not is_same_type(self.shapes[old], shapes[symbol]):
+                if old is None or not is_kept(self.shapes[old], shapes[symbol]):
                     self.fresh.append(symbol)
                 elif (old["area"], old["offset"]) == (symbol["area"], symbol["offset"]):
                     self.kept.append(symbol)
@@ -46,19 +47,9 @@ class Before:
         self.gone = [symbol for key, symbol in self.found.items() if key not in seen]
 
 
-def is_same_type(one, other):
-    """Whether a server keeps a symbol of one type that gets the other: the texts are the same, and the parts of all structures in them."""
-    return one is not None and other is not None and one.text() == other.text() and has_same_parts(one, other)
-
-
-def has_same_parts(one, other):
-    if one.element[0] != "named" or other.element[0] != "named":
-        return True
-    one, other = one.element[1], other.element[1]
-    if one.base or other.base:
-        return one.base == other.base
-    return len(one.members) == len(other.members) and all(
-        lower(own.name) == lower(its.name) and own.at == its.at and is_same_type(own.shape, its.shape) for own, its in zip(one.members, other.members))
+def is_kept(old, new):
+    """Whether a server keeps a symbol of one type that gets the other one."""
+    return old is not None and new is not None and differs(old, new) is None
 
 
 class Room:
