@@ -1,10 +1,12 @@
 #!/usr/bin/env python3
-"""What a refused description broke, in words, with its lines.
+"""What a refused description broke, in words, with its lines: for whoever wrote it.
 
-    python3 tools/why.py DESCRIPTION
+    python3 tools/why.py examples/overlap.toml
 
-The first line is the very line that `ads check DESCRIPTION` prints. Behind it stand the rule in words, and for each place at which it is broken the file and
-its line, what is meant (a symbol, type, member, value, route or port), the key, and why. An accepted description has the lines of `check` alone.
+The first line is the very line that `ads check DESCRIPTION` prints. Behind it stands every fault, not the least alone: each broken rule in words, and for each
+place at which it is broken the file and its line, what is meant (a symbol, type, member, value, route or port), the key, why, and what would be right. Of one
+rule at most 20 places are printed. Where the text is no TOML document, the faults of what could be read of it follow. An accepted description has the lines of
+`check` alone.
 
 The status is that of `check`: 0 accepted, 2 refused, 4 the file can't be read, 12 it has more than 16,777,216 bytes; and 1 for wrong words.
 """
@@ -23,18 +25,13 @@ def explained(it, name):
     """The lines that say what was broken, and where."""
     if it.status == 12:
         return [f"rule 1: {WORDS[1][0]}"]
-    if it.fault:
-        at = it.fault.at
-        return ["the text is no TOML document", f"{name}:{it.places.line(at)}:{it.places.column(at)}: {it.fault.why}"]
-    if it.rule is None:
-        return []
-    words, counts = WORDS[it.rule]
-    lines = [f"rule {it.rule}: {words}" + (f" (the item: {counts})" if counts else "")]
-    for broken in it.broken[:MOST]:
-        other = f" (line {it.places.line(broken.other.at)})" if broken.other else ""
-        lines.append(f"{name}:{it.places.line(broken.at)}: {broken.who}, key `{broken.key}`: {broken.why}{other}")
-    if len(it.broken) > MOST:
-        lines.append(f"and {len(it.broken) - MOST} more")
+    lines = []
+    for rule, broken in sorted(it.found.items()):
+        words, counts = WORDS[rule] if rule else ("the text is no TOML document", None)
+        lines.append((f"rule {rule}: " if rule else "") + words + (f" (the item: {counts})" if counts and rule == it.rule else ""))
+        lines += [f"{name}:{one.said(it.places)}" for one in broken[:MOST]]
+        if len(broken) > MOST:
+            lines.append(f"and {len(broken) - MOST} more")
     return lines
 
 

@@ -31,9 +31,15 @@ HEADERS = {
 
 IN_WORDS = {"text": "a text in quotes", "number": "a number without quotes or point", "flag": "true or false", "texts": "an array of texts in quotes"}
 
+# A key that must be there, as it may stand.
+EXAMPLES = {
+    "schema": "schema = 2", "net": 'net = "5.1.2.3.1.1"', "rights": 'rights = "control"', "major": "major = 1", "minor": "minor = 0", "build": "build = 0",
+    "area": 'area = "data"', "type": 'type = "DINT"', "base": 'base = "INT"', "number": "number = 0", "offset": "offset = 0",
+}
+
 # What TOML calls the kinds.
 KIND_OF = {"text": "string", "number": "integer", "flag": "boolean"}
 TOML_WORDS = {
     "string": "a text", "integer": "a number", "float": "a number with a point or an exponent", "boolean": "true or false", "date": "a date or a time",
-    "array": "an array", "table": "a table",
+    "array": "an array", "table": "a table", "broken": "what can't be read",
 }

@@ -96,24 +96,30 @@ def aligned(at, unit):
 
 
 class NamedTypes:
-    """Named types, found by their names, ASCII case aside."""
+    """Named types, found by their names, ASCII case aside. In the place of one whose layout is not known stands None."""
 
     def __init__(self):
-        self.listed, self.found = [], {}
+        self.listed, self.found, self.whole = [], {}, set()
 
-    def add(self, named):
+    def add(self, named, name=None, whole=True):
+        """`whole` says that all of the type is known: of an enumeration its values, too."""
         self.listed.append(named)
-        self.found[lower(named.name)] = named
+        self.found.setdefault(lower(named.name if name is None else name), named)
+        if whole:
+            self.whole.add(named)
+
+    def names(self):
+        return [named.name for named in self.listed if named and named.name]
 
     def shape(self, text):
-        """The type that a text names; a NoType where there is none."""
+        """The type that a text names, None where its layout is not known; a NoType where there is none."""
         ends, (kind, it) = read_type(text)
         if kind != "named":
             return Shape(ends, (kind, it))
         named = self.found.get(lower(it))
-        if named is None:
+        if lower(it) not in self.found:
             raise NoType(f"there is no type {shown(it)} before it")
-        return Shape(ends, ("named", named))
+        return Shape(ends, ("named", named)) if named else None
 
 
 def step_into(shape, step):

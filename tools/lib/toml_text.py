@@ -223,15 +223,19 @@ class Reader:
             at = self.behind_all(BLANK, at)
             if at == len(self.text):
                 return root
-            if self.first(at) == "[":
-                section, end = self.header(root, at)
-            else:
-                parts, one, end = self.pair(at, DEEPEST)
-                put(section, parts, one, at)
-            end = SPACE.match(self.text, end).end()
-            if self.first(end) not in ("", "#", "\n", "\r"):
-                raise TomlFault(end, "a new line is wanted here")
-            at = end
+            section, at = self.statement(root, section, at)
+
+    def statement(self, root, section, at):
+        """A header or a pair: the table that goes on, and where the statement ends."""
+        if self.first(at) == "[":
+            section, end = self.header(root, at)
+        else:
+            parts, one, end = self.pair(at, DEEPEST)
+            put(section, parts, one, at)
+        end = SPACE.match(self.text, end).end()
+        if self.first(end) not in ("", "#", "\n", "\r"):
+            raise TomlFault(end, "a new line is wanted here")
+        return section, end
 
     def header(self, root, start):
         many = self.text[start:start + 2] == "[["
@@ -265,14 +269,15 @@ def number_of(word, at):
         raise TomlFault(at, f"{shown(word)} is no number")
     negative, bare = bare[:1] == "-", bare[1:] if bare[:1] in ("-", "+") else bare
     if bare in ("inf", "nan"):
-        return "float", float(bare)
+        return "float", -float(bare) if negative else float(bare)
     it = DECIMAL.fullmatch(bare)
     if not it:
-        raise TomlFault(at, f"{shown(word)} is no value: a text stands in quotes, a number has no superfluous zeros")
+        meant = f"; write {word.lower()}" if word.lower() in ("true", "false") else ""
+        raise TomlFault(at, f"{shown(word)} is no value: a text stands in quotes, a number has no superfluous zeros{meant}")
     if it[2] or it[3]:
         if float(bare) == float("inf"):
             raise TomlFault(at, f"{shown(word)} is too great")
-        return "float", float(bare)
+        return "float", -float(bare) if negative else float(bare)
     number = int(bare) if len(bare) < 20 else 2 ** 64
     return "integer", fitting(-number if negative else number, word, at)
 

@@ -4,10 +4,9 @@ import struct
 
 from lib.layout import Named, Shape, aligned
 from lib.rules_types import DEEPEST, LIMIT, MOST_PARTS, name_fault
+from lib.type_meant import STANDING
 from lib.type_texts import BASES, PLAIN, WORDS, NoType, lower, read_type
 
-# Plain types of controllers that a description has not, and what stands in their place: as many bytes, as unsigned numbers.
-STANDING = {**dict.fromkeys(("DATE", "TIME_OF_DAY", "TOD", "DATE_AND_TIME", "DT"), "UDINT"), **dict.fromkeys(("LTIME", "LDATE", "LTOD", "LDT"), "ULINT")}
 # Flags of type entries, and what a member with one of them is.
 REFERENCE, BITS, STATIC = 0x4, 0x20, 0x20000
 ODD = {REFERENCE: "a reference", BITS: "a bit field", STATIC: "a static variable"}

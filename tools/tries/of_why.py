@@ -1,6 +1,7 @@
 """why.py: what it says of each rule, and that it agrees with `check` over damaged descriptions."""
 import concurrent.futures
 import os
+import random
 import tempfile
 from collections import Counter
 
@@ -9,6 +10,7 @@ from lib.verdict import verdict_on
 from tries.cases import cases
 from tries.damage import damaged
 from tries.running import EXAMPLES, PLANT, refused, see, tool
+from tries.why_faults import ALONE, FAULTS, PLAIN
 
 # A change of plant.toml, the first line that must come, and a part of what is said.
 ONE_CHANGE = [
@@ -73,10 +75,46 @@ def examples(program, folder):
         agrees(program, given, os.path.join(folder, "text.toml"))
 
 
-def by_hand():
-    """Sees that the cases of descriptions, worked out by hand, are judged as they say."""
+def faults_are(text, faults):
+    """Sees that each fault is told in a line of its own, and that no other one is."""
+    it = verdict_on(text.encode())
+    told = [f":{broken.said(it.places)}" for broken in it.broken]
+    for _, new, parts in faults:
+        first = text.count("\n", 0, text.rindex(new)) + 1
+        for part in parts:
+            lines = [int(line.split(":")[1]) for line in told if part in line]
+            near = part != parts[0] or any(first <= line <= first + new.count("\n") + 1 for line in lines)
+            see(lines and near, f"{new!r}: {part!r} is not told at line {first}: {told}")
+    count = sum(len(parts) for _, _, parts in faults)
+    see(len(told) == count, f"{len(told)} faults are told in place of {count} ({[new for _, new, _ in faults]}): {told}")
+
+
+def planted(faults):
+    text = PLAIN
+    for old, new, _ in faults:
+        see(text.count(old) == 1, f"the description has not one {old!r}")
+        text = text.replace(old, new)
+    return text
+
+
+def together(program, folder, seed, count):
+    """Sees that of faults that are planted together every one is told, and nothing else: each alone, some at random, all at once."""
+    agrees(program, PLAIN.encode(), os.path.join(folder, "plain.toml"))
+    rng = random.Random(f"{seed} together")
+    for faults in [[one] for one in (*FAULTS, *ALONE)] + [rng.sample(FAULTS, rng.randrange(2, 12)) for _ in range(count)] + [FAULTS]:
+        faults_are(planted(faults), faults)
+    name = os.path.join(folder, "all.toml")
+    agrees(program, planted(FAULTS).encode(), name)
+    out, _, status = tool("why.py", name)
+    see(status == 2 and all(part in out for _, _, parts in FAULTS for part in parts), f"all faults: {out}")
+
+
+def by_hand(longest):
+    """Sees that the cases of descriptions, worked out by hand, are judged as they say, but for those with more bytes."""
     count = 0
     for text, signals, wanted in cases():
+        if len(text) > longest:
+            continue
         it = verdict_on(text, signals)
         said = "accepted" if it.status == 0 else "syntax" if it.rule == 0 else f"rule {it.rule or 1} item {it.item}"
         see(said == wanted, f"a case of symbol_file: {said} in place of {wanted}: {text[:300]!r}")
@@ -97,8 +135,10 @@ def tried(program, size):
     with tempfile.TemporaryDirectory() as folder, concurrent.futures.ThreadPoolExecutor(4) as pool:
         examples(program, folder)
         wrong_words()
-        worked = by_hand()
+        worked = by_hand(size.of(2 ** 63, 100000))
+        together(program, folder, seed, size.of(200, 40))
         rules = pool.map(lambda number: agrees(program, damaged(number, seed), os.path.join(folder, f"damaged{number}.toml")), range(count))
         found.update("none" if rule is None else "syntax" if rule == 0 else f"rule {rule}" for rule in rules)
     counts = ", ".join(f"{name} {some}" for name, some in sorted(found.items()))
-    return f"{worked} cases worked out by hand; {len(ONE_CHANGE)} changes of plant.toml; {count} damaged descriptions agree with check: {counts}"
+    return (f"{worked} cases worked out by hand; {len(ONE_CHANGE)} changes of plant.toml; {len(FAULTS) + len(ALONE)} faults, alone and together; "
+            f"{count} damaged descriptions agree with check: {counts}")

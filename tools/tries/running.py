@@ -39,19 +39,19 @@ def see(holds, what):
         raise Wrong(what)
 
 
-def tool(name, *words, seconds=60):
-    """What a tool prints, what it says on standard error, and its status. No tool may end by a traceback, nor fail without one sentence."""
+def tool(name, *words, seconds=60, lines=1):
+    """What a tool prints, what it says on standard error, and its status. No tool may end by a traceback, nor say more than one sentence, or so many lines."""
     it = subprocess.run([sys.executable, os.path.join(TOOLS, name), *words], stdin=subprocess.DEVNULL, capture_output=True, timeout=seconds)
     out, err = it.stdout.decode(), it.stderr.decode()
     called = f"{name} {' '.join(words)}"
     see("Traceback" not in err, f"{called}: {err[-300:]}")
-    see(len(err.splitlines()) <= 1, f"{called}: more than one line on standard error: {err[:300]}")
+    see(len(err.splitlines()) <= lines, f"{called}: more than {lines} lines on standard error: {err[:300]}")
     return out, err, it.returncode
 
 
-def refused(status, part, name, *words, seconds=60):
+def refused(status, part, name, *words, seconds=60, lines=1):
     """Sees that a tool ends with this status, and that its sentence has this part."""
-    out, err, came = tool(name, *words, seconds=seconds)
+    out, err, came = tool(name, *words, seconds=seconds, lines=lines)
     see(came == status and part in out + err, f"{name} {' '.join(words)}: status {came}, {(out + err)[-300:]!r} in place of status {status}, {part!r}")
 
 

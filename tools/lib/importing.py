@@ -1,0 +1,25 @@
+"""From a file of TwinCAT to a line: what tools/plant.py import does."""
+from lib import import_plcopen, import_twincat
+from lib.building import build
+from lib.import_model import NoImport
+from lib.import_text import ImportText
+from lib.xml_tree import read_xml
+
+READERS = {"TcModuleClass": import_twincat.read_tmc, "PlcProjectInfo": import_twincat.read_tpy, "project": import_plcopen.read_plcopen}
+PASSED = (*import_twincat.PASSED, *import_plcopen.PASSED)
+
+
+def imported(given, name, net, routes, port, offsets):
+    """The line that a file comes to, and a sentence on it."""
+    root = read_xml(given, PASSED)
+    if root.tag not in READERS:
+        source = ": it is a source of TwinCAT; import the TMC file of its project, or a PLCopen XML export" if root.tag == "TcPlcObject" else ""
+        raise NoImport(root.line, f"its root is <{root.tag[:80]}>, and not TcModuleClass (TMC), PlcProjectInfo (TPY) or project (PLCopen XML){source}")
+    found = READERS[root.tag](root)
+    writing = ImportText(found, name, net, routes, port, offsets)
+    text = writing.text()
+    built = build(text.encode(), name)
+    if built.faults:
+        raise NoImport(root.line, f"what would be written does not build: line {built.faults[0]}; that is a fault of this tool")
+    left = sum(line.startswith(("# left out", "  # left out")) for line in text.split("\n"))
+    return text, f"{writing.count} symbols and {len(writing.types)} types; {left} left out, each told in a comment"
