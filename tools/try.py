@@ -4,29 +4,31 @@
     python3 tools/try.py --quick [PROGRAM]
 
 PROGRAM is crates/ads/out/ads unless it is named. `--quick` is what the gate runs: fewer random inputs and damaged files, in at most three minutes.
-`--seed N` is the seed of random inputs (1). `--only NAME` tries one tool.
+`--seed N` is the seed of random inputs (1). `--only NAME` tries one tool; it may stand more than once. A tool's try is tools/tries/of_NAME.py.
 """
 import concurrent.futures
+import importlib
+import inspect
 import os
+import re
 import sys
 import time
 
-sys.path.insert(0, os.path.dirname(os.path.abspath(__file__)))
+HERE = os.path.dirname(os.path.abspath(__file__))
+sys.path.insert(0, HERE)
 from lib.program import program_at  # noqa: E402
 from lib.words import Ended, number, read_words, run  # noqa: E402
-from tries import of_deploy, of_describe, of_dial, of_frames, of_plant, of_program, of_why  # noqa: E402
 from tries.running import Size, Wrong, looks  # noqa: E402
 
-# Each takes the program and a Size.
-TRIES = {"program": of_program.tried, "why": of_why.tried, "plant": of_plant.tried, "frames": of_frames.tried, "describe": of_describe.tried,
-         "deploy": of_deploy.tried, "dial": of_dial.tried}
+NAMES = sorted(found[1] for found in (re.fullmatch(r"of_(\w+)\.py", name) for name in os.listdir(os.path.join(HERE, "tries"))) if found)
 
 
-def tried(name, *given):
+def tried(name, program, size):
     """What a try says, whether the tool does what it should, and how often it was looked at what it does."""
     started, before = time.monotonic(), looks()
     try:
-        said, right = TRIES[name](*given), True
+        its = importlib.import_module(f"tries.of_{name}").tried
+        said, right = its(*(program, size)[:len(inspect.signature(its).parameters)]), True
     except Wrong as wrong:
         said, right = f"WRONG: {wrong}", False
     except Exception as fault:  # a try that breaks off must not hide the others
@@ -36,12 +38,13 @@ def tried(name, *given):
 
 
 def main(words):
-    (path,), options = read_words(words, __doc__, ["[PROGRAM]"], {"seed": "1", "only": "", "quick": False})
+    (path,), options = read_words(words, __doc__, ["[PROGRAM]"], {"seed": "1", "only": [], "quick": False})
     program = program_at(path)
     size = Size(options["quick"], number(options["seed"], "--seed", 0, 10 ** 9))
-    if options["only"] and options["only"] not in TRIES:
-        raise Ended(f"--only is one of {', '.join(TRIES)}")
-    names = [options["only"]] if options["only"] else list(TRIES)
+    odd = [name for name in options["only"] if name not in NAMES]
+    if odd:
+        raise Ended(f"--only is one of {', '.join(NAMES)}, and {odd[0]!r} is none")
+    names = options["only"] or NAMES
     wrong = total = 0
     with concurrent.futures.ProcessPoolExecutor(min(len(names), 2 * (os.cpu_count() or 1))) as pool:
         for it in [pool.submit(tried, name, program, size) for name in names]:
