@@ -5,7 +5,7 @@ import struct
 import time
 
 from lib.codes import code_text
-from lib.frames import ADD, DELETE, WRITE, BadFrame, cut, frame_of
+from lib.frames import ADD, DELETE, NOTE, READ_WRITE, WRITE, BadFrame, cut, frame_of
 from lib.groups import BY_HANDLE, HANDLE, RELEASE, VERSION
 from lib.link import Link, Refused
 from lib.payloads import BadPayload, Request, read_samples
@@ -15,7 +15,7 @@ from lib.words import Ended
 
 # Bytes of a notification, notifications of a connection, unused bytes that a range may have between two symbols; parts and bytes of a sum.
 MOST_WATCHED, MOST_RANGES, GAP, MOST_PARTS, MOST_SUM = 2048, 500, 32, 400, 500000
-ON_CHANGE, READ_WRITE = 4, 9
+ON_CHANGE = 4
 
 
 class Range:
@@ -63,16 +63,13 @@ class Watched(Link):
 
     def idle(self, until, wake):
         """Waits for samples, for a wake or for a moment, whichever comes first; takes what came."""
-        ready = []
-        if not self.samples:
-            ready, _, _ = select.select([self.socket, wake], [], [], max(0.0, until - time.monotonic()))
+        self.note_all()
+        ready, _, _ = select.select([self.socket, wake], [], [], 0.0 if self.samples else max(0.0, until - time.monotonic()))
         if wake in ready:
             wake.recv(4096)
         if self.socket in ready:
             self.stream += self.received()
-            packets, self.stream, fault = cut(self.stream)
-            for frame in self.framed(packets, fault):
-                self.noted(frame)
+            self.note_all()
         came, self.samples = self.samples, []
         self.counts["samples"] += len(came)
         return came
@@ -86,16 +83,19 @@ class Watched(Link):
             raise Ended(f"{self.to} closed the connection", 9)
         return piece
 
-    def framed(self, packets, fault):
+    def note_all(self):
+        """Takes the whole frames of the stream, which are notifications, since no answer is waited for."""
+        packets, self.stream, fault = cut(self.stream)
         try:
             if fault:
                 raise fault
             frames = [frame_of(ams) for ams in packets]
         except BadFrame as wrong:
             raise Ended(f"{self.to} does not speak ADS: {wrong}", 9) from None
-        if any(frame.command != 8 for frame in frames):
-            raise Ended(f"{self.to} sent an answer that nobody asked for", 9)
-        return frames
+        for frame in frames:
+            if frame.command != NOTE:
+                raise Ended(f"{self.to} sent an answer that nobody asked for", 9)
+            self.noted(frame)
 
 
 class Watching:
@@ -200,7 +200,7 @@ class Watching:
                     return "a new description came in between: look at the value again, and write again"
                 self.link.ask(symbol.port, Request(WRITE, BY_HANDLE, handle, 0, given))
             finally:
-                self.link.ask(symbol.port, Request(WRITE, RELEASE, handle))
+                self.link.ask(symbol.port, Request(WRITE, RELEASE, 0, 0, data))
         except NoValue as fault:
             return str(fault)
         except struct.error:

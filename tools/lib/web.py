@@ -1,7 +1,7 @@
 """A small HTTP/1.1 server for pages of a tool, which hostile peers, slow ones and other pages of a browser can't harm.
 
 One request a connection. A head has at most 8,192 bytes and 64 lines, and five seconds to come; a body has a stated length; an answer that is not taken is
-given up after ten seconds. Beyond the connections that there may be, the one that is longest without a whole request gives way.
+given up after ten seconds. Beyond the connections that there may be, the one that sends or takes for the longest gives way.
 """
 import asyncio
 import ipaddress
@@ -76,25 +76,27 @@ class Web:
     """`handle(request, reader, writer)` gives an Answer, or None where it has answered by itself; `names` are hosts that the server may be called."""
 
     def __init__(self, handle, names):
-        self.handle, self.names, self.waiting, self.open, self.answers = handle, {"localhost", *(name.lower() for name in names)}, {}, 0, {}
+        self.handle, self.names, self.slow, self.open, self.answers = handle, {"localhost", *(name.lower() for name in names)}, {}, set(), {}
 
     async def start(self, host, port):
         return await asyncio.start_server(self.serve, host, port, limit=MOST_HEAD, backlog=128)
 
     async def serve(self, reader, writer):
-        self.open += 1
+        if len(self.open) >= MOST_OPEN:
+            self.give_way()
+        self.open.add(writer.transport)
         try:
-            if self.open > MOST_OPEN:
-                self.give_way()
-            answer = await self.answer(reader, writer) if self.open <= MOST_OPEN + 16 else plain(503, "too many connections are open")
+            answer = await self.answer(reader, writer)
             if answer:
                 self.answers[answer.status] = self.answers.get(answer.status, 0) + 1
+                self.slow[writer.transport] = time.monotonic()
                 writer.write(bytes_of(answer))
                 await asyncio.wait_for(self.end(reader, writer), ANSWER_SECONDS)
         except (OSError, asyncio.TimeoutError, asyncio.IncompleteReadError):
             pass
         finally:
-            self.open -= 1
+            self.slow.pop(writer.transport, None)
+            self.open.discard(writer.transport)
             writer.transport.abort()
 
     @staticmethod
@@ -110,20 +112,21 @@ class Web:
         await writer.wait_closed()
 
     def give_way(self):
-        """Ends the connection that waits longest without a whole request."""
-        oldest = min(self.waiting, key=self.waiting.get, default=None)
+        """Ends the connection that sends its request, or takes its answer, for the longest."""
+        oldest = min(self.slow, key=self.slow.get, default=None)
         if oldest is not None:
-            self.waiting.pop(oldest)
+            self.slow.pop(oldest)
+            self.open.discard(oldest)
             oldest.abort()
 
     async def answer(self, reader, writer):
-        self.waiting[writer.transport] = time.monotonic()
+        self.slow[writer.transport] = time.monotonic()
         try:
             request = await self.request(reader)
         except Bad as bad:
             return plain(bad.status, bad.why)
         finally:
-            self.waiting.pop(writer.transport, None)
+            self.slow.pop(writer.transport, None)
         try:
             answer = await self.handle(request, reader, writer)
         except Bad as bad:
