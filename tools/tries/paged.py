@@ -18,8 +18,8 @@ READER = "192.168.0.10.1.1"
 class Page:
     """page.py over a server, at a free port; `said` are its lines, and it may write none to standard error."""
 
-    def __init__(self, plant, to, *words, me=ME):
-        self.port = free_port()
+    def __init__(self, plant, to, *words, me=ME, port=None):
+        self.port = port or free_port()
         self.process = subprocess.Popen([sys.executable, os.path.join(TOOLS, "page.py"), plant, "--to", to, "--me", me, "--http", f"127.0.0.1:{self.port}", *words],
                                         stdin=subprocess.DEVNULL, stdout=subprocess.PIPE, stderr=subprocess.PIPE, text=True)
 
@@ -29,10 +29,16 @@ class Page:
         return self
 
     def __exit__(self, kind, *_):
-        self.process.terminate()
-        _, err = self.process.communicate()
+        err = self.end()
         if kind is None:
             see(err == "", f"page.py wrote to standard error: {err[-600:]}")
+
+    def end(self):
+        """Ends it, if it runs; what it wrote to standard error."""
+        if self.process.returncode is not None:
+            return ""
+        self.process.terminate()
+        return self.process.communicate()[1]
 
     def ask(self, path, method="GET", body=None, **headers):
         """The status, the headers and the body of an answer."""

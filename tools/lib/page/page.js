@@ -44,12 +44,20 @@ function listen() {
 
 function later() {
   clearTimeout(timer);
-  timer = setTimeout(listen, 2000);
+  timer = setTimeout(() => { if (!document.hidden) listen(); }, 2000);
 }
 
 setInterval(() => {
-  if (Date.now() - heard > SILENT) { alone(true); listen(); }
+  if (source && Date.now() - heard > SILENT) { alone(true); listen(); }
 }, 5000);
+
+// A page that nobody sees follows nothing: a browser has six connections to a server, for all its windows together.
+document.addEventListener("visibilitychange", () => {
+  if (!document.hidden) return listen();
+  clearTimeout(timer);
+  if (source) source.close();
+  source = null;
+});
 
 function tabled(said) {
   if (said.start !== meta("start")) return location.reload();
@@ -145,7 +153,7 @@ const filtered = () => rows.filter($("filter").value, $("moving").getAttribute("
 $("filter").addEventListener("input", filtered);
 $("filter").addEventListener("keydown", (event) => {
   if (event.key === "Escape") { $("filter").value = ""; filtered(); }
-  else if (event.key === "ArrowDown" || event.key === "Enter") { const row = document.querySelector('#rows tr[tabindex="0"]'); if (row) { row.focus(); event.preventDefault(); } }
+  else if (event.key === "ArrowDown" || event.key === "Enter") { const row = rows.first(); if (row) { row.focus(); event.preventDefault(); } }
 });
 for (const id of ["moving", "unfold"]) {
   $(id).addEventListener("click", () => {
@@ -178,4 +186,4 @@ $("theme").addEventListener("click", () => {
   themed(next);
 });
 themed(keptTheme());
-listen();
+if (!document.hidden) listen();

@@ -50,6 +50,7 @@ export class Plot {
       this.values = said.values.map(numeric).concat(rest < 0 ? [] : this.values.slice(fresh + rest));
       this.times = said.times.concat(rest < 0 ? [] : newer.slice(rest));
     } catch { /* the bar says that the page's program is gone; what comes is drawn */ }
+    this.said = null;
     if (!this.picked && this.times.length) this.choose(MINUTES.find((count) => count >= 5 || this.moment() - this.times[0] < 60000 * count));
     this.draw();
   }
@@ -226,7 +227,7 @@ export class Plot {
     this.facts.replaceChildren(...facts.map(([word, text]) => make("div", {}, make("dt", { text: word }), make("dd", { text }))));
     if (!this.said || performance.now() - this.said > 5000) {
       this.said = performance.now();
-      this.svg.setAttribute("aria-label", `${this.of.path} in the last ${this.minutes} minutes: now ${main}` + facts.map(([word, text]) => `, ${word} ${text}`).join(""));
+      this.svg.setAttribute("aria-label", `${this.of.path} in the last ${this.minutes} min: now ${main}` + facts.map(([word, text]) => `, ${word} ${text}`).join(""));
     }
   }
 

@@ -51,6 +51,10 @@ export class Rows {
     this.render();
   }
 
+  first() {
+    return [...this.rows.children].find((row) => row.of);
+  }
+
   find(key) {
     return this.leaves.find((it) => it.key === key) || null;
   }
