@@ -301,7 +301,7 @@ def gone_and_back(it, place):
     it.filter("main")
     it.between.is_open = False
     it.between.cut_off()
-    see(it.until("return document.getElementById('bar').innerText.startsWith('The server is gone since')"), "a bar says that the server is gone", it.text("bar"))
+    see(it.until("return document.getElementById('bar').innerText.startsWith('The server has been gone since')"), "a bar says that the server is gone", it.text("bar"))
     see(it.text("pill") == "no connection" and browser.script("return document.body.classList.contains('stale')"), "the values are faint", it.text("pill"))
     it.shot("gone")
     it.between.is_open = True

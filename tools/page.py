@@ -23,7 +23,7 @@ import sys
 sys.path.insert(0, os.path.dirname(os.path.abspath(__file__)))
 from lib.link import host_of, net_of  # noqa: E402
 from lib.plant import steps_of  # noqa: E402
-from lib.routes import Routes  # noqa: E402
+from lib.routes import Routes, say  # noqa: E402
 from lib.watcher import Watcher  # noqa: E402
 from lib.words import Ended, number, read_words, run  # noqa: E402
 
@@ -65,7 +65,9 @@ async def serve(routes, host, port):
     except (OSError, UnicodeError) as fault:
         raise Ended(f"{host}:{port} can't be had: {getattr(fault, 'strerror', None) or fault}", 6) from None
     routes.watcher.publish = routes.publishing(asyncio.get_running_loop())
-    print(f"http://{f'[{host}]' if ':' in host else host}:{port}/", flush=True)
+    say(f"http://{f'[{host}]' if ':' in host else host}:{port}/")
+    if routes.names and host not in ("127.0.0.1", "::1", "localhost"):
+        say(f"whoever reaches {host}:{port} may write {', '.join(path for _, path in routes.names)}")
     routes.watcher.start()
     async with server:
         await asyncio.gather(server.serve_forever(), routes.streams.beat())

@@ -23,6 +23,14 @@ def json_answer(said, status=200):
     return Answer(status, JSON, json.dumps(said, separators=(",", ":"), allow_nan=False).encode() + b"\n")
 
 
+def say(line):
+    """A line of standard output; who reads it may be gone."""
+    try:
+        print(line, flush=True)
+    except OSError:
+        pass
+
+
 def read_file(name):
     with open(os.path.join(FOLDER, name), "rb") as file:
         return file.read()
@@ -52,11 +60,11 @@ class Routes:
             self.streams.send(event("values", said))
         elif kind == "table":
             self.streams.send(self.table_event())
-            print(f"{self.watcher.to}: {len(self.watcher.table.symbols)} symbols of version {self.watcher.table.version}", flush=True)
+            say(f"{self.watcher.to}: {len(self.watcher.table.symbols)} symbols of version {self.watcher.table.version}")
         else:
             self.streams.send(event("state", said))
             if self.kept.get("why") != said["why"]:
-                print(said["why"], flush=True)
+                say(said["why"])
         self.kept["why"] = self.watcher.why
 
     async def answer(self, request, reader, writer):

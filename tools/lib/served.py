@@ -197,7 +197,7 @@ def table_of(link, plant, file, ports, generation, before):
                              f"{differing[0]}. Their types are shown as the server tells them, enumerations as numbers.")
     hidden = sum(symbol.node.more for symbol in table.symbols)
     if hidden:
-        table.notices.append(f"{hidden} values of long arrays are not shown: {MOST_OF_SYMBOL} of a symbol and {MOST_LEAVES} of all are.")
+        table.notices.append(f"{hidden:,} values of long arrays are not shown: at most {MOST_OF_SYMBOL:,} of a symbol and {MOST_LEAVES:,} in all.")
     table.close(before)
     return table
 

@@ -157,6 +157,9 @@ def form_writes(page, server):
             see(status == wanted and (status == 200 or part in why), f"{name} := {text[:30]!r}: status {status}, {why!r} in place of {wanted}, {part!r}")
             if status == 200:
                 see(rig.bytes_of(name).hex() == part, f"{name} := {text!r}: {rig.bytes_of(name).hex()} in place of {part}")
+    wanted = {"Main.mode": (-9, "Fault"), "Main.long": (-2 ** 63, None), "Main.speed": (-0.002, None), "Main.wait": (4294967295, None), "In.door": (True, None)}
+    page.until(lambda: all((page.values()[851, name]["value"], page.values()[851, name].get("word")) == it for name, it in wanted.items()),
+               f"what was written in /values.json: {wanted}")
     return len(TYPED)
 
 
@@ -179,7 +182,8 @@ def form_is_guarded(page, server):
         status, _, said = page.ask("/write", "POST", body, Content_Type="application/json", X_Token=token, Origin=origin)
         see(status == 400, f"a write with the body {body[:40]!r}: status {status}, {said[:200]!r}")
     see(get(server, "Main.count") == before, f"Main.count is {get(server, 'Main.count')} in place of {before}")
-    with Page(PLANT, server.to) as silent:
+    with Page(PLANT, server.to, "--host", "plant.example") as silent:
+        see(silent.ask("/healthz", Host="Plant.Example:80")[0] in (200, 503) and silent.ask("/healthz", Host="x.plant.example")[0] == 421, "the names of --host")
         see(silent.token() == "" and silent.write("Main.count", "666", "")[0] == 404, "a page without --write has a form")
         see(silent.token() != token and page.token() == token, "two starts have one token")
     return len(tries) + 10
@@ -337,6 +341,7 @@ def one_page(program):
         hostile = page_http.of_requests(page)
         page_http.of_slow(page)
         page_http.of_many(page)
+        page_http.of_lazy()
         see(page.is_well(), "the page after its hostile peers")
         return equal, typed, guarded, hostile
 

@@ -1,7 +1,10 @@
 """Hostile peers of page.py: requests that are none, that are too long or too slow, from other pages, and too many of them."""
+import asyncio
 import socket
 import time
 
+from lib.streams import Streams
+from lib.web import Web
 from tries.running import see
 
 
@@ -130,3 +133,31 @@ def of_many(page):
         for it in silent:
             it.close()
     return took
+
+
+def of_lazy():
+    """A browser that takes nothing of its stream is let go, and the others go on."""
+    async def played():
+        streams = Streams()
+
+        async def handle(_, reader, writer):
+            await streams.follow(reader, writer, b"")
+
+        server = await Web(handle, []).start("127.0.0.1", 0)
+        port = server.sockets[0].getsockname()[1]
+        ends = [await asyncio.open_connection("127.0.0.1", port, limit=1 << 26) for _ in range(2)]
+        for _, writer in ends:
+            writer.write(f"GET / HTTP/1.1\r\nHost: 127.0.0.1:{port}\r\n\r\n".encode())
+        while len(streams.open) < 2:
+            await asyncio.sleep(0.01)
+        ends[1][0]._transport.pause_reading()
+        for _ in range(400):
+            streams.send(bytes(100000))
+            await asyncio.sleep(0.002)
+            await ends[0][0].read(1 << 20)
+        see((len(streams.open), streams.dropped) == (1, 1), f"of a browser that reads and one that does not {len(streams.open)} are there, and {streams.dropped} was let go")
+        for _, writer in ends:
+            writer.transport.abort()
+        server.close()
+
+    asyncio.run(asyncio.wait_for(played(), 60))

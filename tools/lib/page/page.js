@@ -132,10 +132,10 @@ function tell(text, kind, milliseconds) {
 function bar() {
   const live = ours && state && state.live;
   let text = "", kind = "bad";
-  if (!ours) text = "This page's own program does not answer. The values below are the last ones; it is tried again.";
+  if (!ours) text = "This page's own program does not answer. The values below are the last ones; the page keeps trying.";
   else if (state && !state.live) {
-    text = table.g ? `The server is gone since ${clock(state.since)}: ${state.why}. The values below are the last ones; it is tried again.`
-      : `The server can't be asked: ${state.why}. It is tried again.`;
+    text = table.g ? `The server has been gone since ${clock(state.since)}: ${state.why}. The values below are the last ones; the page keeps trying.`
+      : `The server can't be asked: ${state.why}. The page keeps trying.`;
   } else if (message) ({ text, kind } = message);
   const it = $("bar");
   if (it.textContent !== text) it.textContent = text;
