@@ -279,6 +279,30 @@ def tells_of_another(program, folder):
         see("pos" in page.values()[851, "Main.axes"]["value"][0], "what is shown is not what is served")
 
 
+def far_apart(program):
+    """More symbols than notifications can watch: the rest is read in sums, and none is shown under the name of another when a description moves them."""
+    def text(shift):
+        symbols = "".join(f'[[port.symbol]]\nname = "Far.s{at}"\ntype = "DINT"\narea = "data"\noffset = {4096 * at + shift}\ninitial = "{struct.pack("<i", at).hex()}"\n'
+                          for at in range(600))
+        return (f'schema = 2\nnet = "{NET}"\n[[route]]\nnet = "{ME}"\nrights = "write"\n[[port]]\nport = 851\nname = "Far"\nmajor = 1\nminor = 0\nbuild = 0\n'
+                f"data = {4096 * 601}\n{symbols}")
+    with tempfile.TemporaryDirectory() as folder:
+        place = os.path.join(folder, "far.toml")
+        put(place, text(0))
+        with Served(program, place) as server, Page(place, server.to, "--seconds", "30") as page, Stream(page) as stream:
+            table = stream.next("table", lambda it: it["g"], 60)
+            see(table["values"] == list(range(600)), "values of sums")
+            with Rig(server) as rig:
+                rig.put("Far.s599", struct.pack("<i", -1))
+            stream.next("values", lambda it: [599, -1] in it["c"])
+            put(place, text(8))
+            seen, table = [], None
+            while table is None:
+                kind, said = stream.events.get(timeout=60)
+                table, seen = (said if kind == "table" else None), seen + (said["c"] if kind == "values" else [])
+            see(not seen and table["values"] == [*range(599), -1], f"values while a description moves all symbols: {seen[:5]}")
+
+
 def put(place, text):
     with open(place + ".new", "w", encoding="utf-8") as file:
         file.write(text)
@@ -348,8 +372,9 @@ def one_page(program):
 
 def tried(program):
     with concurrent.futures.ThreadPoolExecutor(3) as pool:
-        parts = [pool.submit(call, *given) for call, *given in ((one_page, program), (wrong_words,), (goes_and_comes, program), (takes_descriptions, program), (lying_servers,))]
-        (equal, typed, guarded, hostile), _, _, _, lies = [part.result() for part in parts]
+        parts = [pool.submit(call, *given) for call, *given in ((one_page, program), (wrong_words,), (goes_and_comes, program), (takes_descriptions, program), (far_apart, program),
+                                                          (lying_servers,))]
+        (equal, typed, guarded, hostile), *_, lies = [part.result() for part in parts]
     one, ten = one_connection(program)
     return (f"{equal} values as `ads get` prints them, {typed} typed, {guarded} writes of others kept out, {hostile} hostile requests, {lies} servers that lie; "
             f"gone and back three times; four descriptions; {one} requests in 3 s for one browser, {ten} for ten")
