@@ -219,7 +219,7 @@ def goes_and_comes(program):
         status, why = page.write("Main.count", "6", page.token())
         see(status == 503 and "can't be asked now" in why, f"a write while the server is gone: {status} {why}")
         between.is_open = True
-        stream.next("table", lambda it: it["state"]["live"], 30)
+        stream.next("table", lambda it: it["state"]["live"])
         see(page.is_well() and page.json("/history.json?name=Main.count")["values"][-2:] == [None, 5], "the past has no gap where the server was gone")
         server.process.send_signal(19)
         page.until(lambda: b"did not answer in 1 seconds" in page.ask("/healthz")[2], "the sentence for a server that hangs")
@@ -252,14 +252,14 @@ def takes_new(program, folder):
             rig.put("Main.count", struct.pack("<i", 7))
         new = text.replace('name = "Main.bits"', 'name = "Main.other"').replace('name = "Auto"', 'name = "Running"').replace("offset = 0\ninitial = \"2a000000\"", "offset = 69984")
         put(place, new)
-        table = stream.next("table", lambda it: it["g"] > first["g"] and it["state"]["version"] == 2, 30)
+        table = stream.next("table", lambda it: it["g"] > first["g"] and it["state"]["version"] == 2)
         names = [it["n"] for it in table["symbols"]]
         see("Main.other" in names and "Main.bits" not in names and ["Running", 2] in table["types"]["Mode"]["v"], f"the table of a new description: {names}")
         see(page.values()[851, "Main.count"]["value"] == 7, f"a value that moved is {page.values()[851, 'Main.count']['value']}")
         notices = table["state"]["notices"]
         see(len(notices) == 1 and notices[0].startswith("904 values of long arrays are not shown"), f"the notices: {notices}")
         put(place, text.replace('net = "5.1.2.3.1.1"', 'net = "6.6.6.6.1.1"').replace('name = "Main.count"', 'name = "Main.gone"'))
-        table = stream.next("table", lambda it: it["state"]["version"] == 3, 30)
+        table = stream.next("table", lambda it: it["state"]["version"] == 3)
         see(table["state"]["net"] == "6.6.6.6.1.1" and table["forms"] == [{"n": "Main.count", "port": None, "l": None}], f"another NetId: {table['state']}, {table['forms']}")
         status, why = page.write("Main.count", "5", page.token())
         see(status == 403 and "none of the values" in why, f"a write of a name that is gone: {status} {why}")
@@ -290,7 +290,7 @@ def far_apart(program):
         place = os.path.join(folder, "far.toml")
         put(place, text(0))
         with Served(program, place) as server, Page(place, server.to, "--seconds", "30") as page, Stream(page) as stream:
-            table = stream.next("table", lambda it: it["g"], 60)
+            table = stream.next("table", lambda it: it["g"])
             see(table["values"] == list(range(600)), "values of sums")
             with Rig(server) as rig:
                 rig.put("Far.s599", struct.pack("<i", -1))
@@ -354,7 +354,7 @@ def lying_servers():
     return len(lies) + 1
 
 
-def one_page(program):
+def one_page(program, size):
     with Served(program, PLANT) as server, Page(PLANT, server.to, *(word for name in WRITTEN for word in ("--write", name))) as page:
         page.until(page.is_well, "the server")
         equal = values_equal(page, server)
@@ -363,17 +363,19 @@ def one_page(program):
         typed = form_writes(page, server)
         rights_refuse(server)
         hostile = page_http.of_requests(page)
-        page_http.of_slow(page)
+        if not size.quick:
+            page_http.of_slow(page)
         page_http.of_many(page)
         page_http.of_lazy()
         see(page.is_well(), "the page after its hostile peers")
         return equal, typed, guarded, hostile
 
 
-def tried(program):
+def tried(program, size):
     with concurrent.futures.ThreadPoolExecutor(3) as pool:
-        parts = [pool.submit(call, *given) for call, *given in ((one_page, program), (wrong_words,), (goes_and_comes, program), (takes_descriptions, program), (far_apart, program),
-                                                          (lying_servers,))]
+        parts = [pool.submit(call, *given) for call, *given in (
+            (one_page, program, size), (wrong_words,), (goes_and_comes, program), (takes_descriptions, program), *([] if size.quick else [(far_apart, program)]),
+            (lying_servers,))]
         (equal, typed, guarded, hostile), *_, lies = [part.result() for part in parts]
     one, ten = one_connection(program)
     return (f"{equal} values as `ads get` prints them, {typed} typed, {guarded} writes of others kept out, {hostile} hostile requests, {lies} servers that lie; "

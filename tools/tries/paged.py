@@ -61,7 +61,7 @@ class Page:
     def is_well(self):
         return self.ask("/healthz")[0] == 200
 
-    def until(self, holds, what, seconds=30):
+    def until(self, holds, what, seconds=60):
         """Waits until something holds."""
         until = time.monotonic() + seconds
         while not holds():
@@ -106,7 +106,7 @@ class Stream:
             pass
         self.events.put((None, None))
 
-    def next(self, kind, holds=lambda said: True, seconds=30):
+    def next(self, kind, holds=lambda said: True, seconds=60):
         """The next event of a kind for which something holds."""
         until = time.monotonic() + seconds
         while True:
