@@ -14,7 +14,7 @@ may stand more than once), `--cycle MS` how often changes come (100), `--seconds
 /values.json has all values, /history.json?name=NAME the last minutes of one, /metrics what Prometheus reads, and /healthz the status 200 while the server
 answers, else 503.
 
-It runs until it is ended. The status is 1 for wrong words, 2 for a description that is refused, 4 for a file that can't be read, 6 where HOST:PORT can't be had.
+It runs until it is ended. The status is 1 for wrong words, 2 for a description that is refused, 4 for a file that can't be read, 6 if HOST:PORT can't be had.
 """
 import asyncio
 import os

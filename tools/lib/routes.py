@@ -1,4 +1,4 @@
-"""What a page of live values answers: its files, the values, the stream of changes, the state for other programs, and the form for values that may be written."""
+"""What a page of live values answers: its files, the values, the stream of changes, the state for other programs, and the form."""
 import asyncio
 import hmac
 import html
@@ -107,14 +107,15 @@ class Routes:
     def told(self):
         """The whole table for a browser."""
         table, state = self.watcher.table, self.watcher.state()
-        said = {"start": self.start, "now": round(1000 * time.time()), "state": state, "g": 0, "o": 0, "ports": [], "types": {}, "symbols": [], "values": [],
-                "changed": [], "forms": []}
+        said = {"start": self.start, "now": round(1000 * time.time()), "state": state, "g": 0, "o": 0, "ports": [], "types": {}, "symbols": [],
+                "values": [], "changed": [], "forms": []}
         if not table:
             return said
         with table.lock:
             types = {leaf.shape.text(): {"k": leaf.kind, "s": leaf.size, "v": values_of(leaf.shape)} for leaf in table.leaves}
-            return {**said, "g": table.generation, "o": table.order, "ports": table.ports, "types": types, "symbols": [it.told() for it in table.symbols],
-                    "values": [for_script(it) for it in table.values], "changed": [round(1000 * moment) for moment in table.changed], "forms": self.forms(table)}
+            return {**said, "g": table.generation, "o": table.order, "ports": table.ports, "types": types,
+                    "symbols": [it.told() for it in table.symbols], "values": [for_script(it) for it in table.values],
+                    "changed": [round(1000 * moment) for moment in table.changed], "forms": self.forms(table)}
 
     def forms(self, table):
         found = [(path, port, table.find(path, port)) for port, path in self.names]
@@ -135,7 +136,8 @@ class Routes:
         if not found:
             return json_answer({"why": "there is no plain value of this name: /history.json?name=Main.count"}, 404)
         times, numbers = table.points(found[1])
-        return json_answer({"name": table.leaves[found[1]].path, "port": found[0].port, "now": round(1000 * time.time()), "times": times, "values": numbers})
+        name, now = table.leaves[found[1]].path, round(1000 * time.time())
+        return json_answer({"name": name, "port": found[0].port, "now": now, "times": times, "values": numbers})
 
     # The state for other programs.
 

@@ -184,7 +184,7 @@ class Watching:
         return self.looked_at(touched, moment)
 
     def write(self, path, port, bytes_of):
-        """Writes a value by a handle, so that a new description in between can't put it elsewhere; a sentence where it is refused, None where it was written."""
+        """Writes a value by a handle, so that a new description can't put it elsewhere; a sentence where it is refused, else None."""
         found = self.table.find(path, port)
         if not found:
             return f"the server has no {path} now"

@@ -44,7 +44,8 @@ export class Forms {
     const id = "set-" + key.replace(/[^A-Za-z0-9]/g, "-"), card = { key, leaf, type, name: it.n, port: it.port, id };
     card.now = make("span", { class: "main" });
     card.said = make("output", { class: "said", for: id, "aria-live": "polite" });
-    const head = make("div", { class: "form-head" }, make("label", { for: id, class: "name", text: it.n }), make("span", { class: "type", text: leaf ? leaf.type : "" }), card.now);
+    const label = make("label", { for: id, class: "name", text: it.n }), kind = make("span", { class: "type", text: leaf ? leaf.type : "" });
+    const head = make("div", { class: "form-head" }, label, kind, card.now);
     card.form = make("form", { novalidate: true, class: "card", "aria-label": "Set " + it.n }, head);
     if (leaf) {
       card.field = this.field(id, leaf);
@@ -58,7 +59,7 @@ export class Forms {
 
   field(id, leaf) {
     const some = choices(leaf.kind);
-    if (!some) return make("input", { id, type: "text", autocomplete: "off", spellcheck: "false", placeholder: hint(leaf.kind, leaf.type), inputmode: leaf.kind.k === "number" ? "text" : false });
+    if (!some) return make("input", { id, type: "text", autocomplete: "off", spellcheck: "false", placeholder: hint(leaf.kind, leaf.type) });
     const now = shown(leaf.kind, leaf.value)[0];
     return make("select", { id }, ...some.map(([value, text]) => make("option", { value, text, selected: value === now })));
   }
@@ -86,7 +87,8 @@ export class Forms {
     const body = { name: card.name, value: card.field.value };
     if (card.port) body.port = card.port;
     try {
-      const answer = await fetch("/write", { method: "POST", headers: { "Content-Type": "application/json", "X-Token": this.token }, body: JSON.stringify(body) });
+      const headers = { "Content-Type": "application/json", "X-Token": this.token };
+      const answer = await fetch("/write", { method: "POST", headers, body: JSON.stringify(body) });
       const text = await answer.text();
       let why = text.trim();
       try { why = JSON.parse(text).why; } catch { /* a sentence stands there */ }

@@ -78,7 +78,8 @@ function news(said, before) {
   if (said.state.version === before.state.version || !before.state.live || !state || !state.live) return;
   const own = new Set(said.symbols.map((it) => it.port + " " + it.n)), old = new Set(before.symbols.map((it) => it.port + " " + it.n));
   const came = [...own].filter((key) => !old.has(key)).length, went = [...old].filter((key) => !own.has(key)).length;
-  tell(`The server has a new description, version ${said.state.version}: ${counted(came, "symbol", "symbols")} came, ${counted(went, "symbol", "symbols")} went.`, "news", 10000);
+  const moved = `${counted(came, "symbol", "symbols")} came, ${counted(went, "symbol", "symbols")} went.`;
+  tell(`The server has a new description, version ${said.state.version}: ${moved}`, "news", 10000);
 }
 
 function changed(said) {
@@ -149,21 +150,31 @@ function bar() {
 
 // What is chosen with keys and buttons.
 
-const filtered = () => rows.filter($("filter").value, $("moving").getAttribute("aria-pressed") === "true", $("unfold").getAttribute("aria-pressed") === "true");
+const isPressed = (id) => $(id).getAttribute("aria-pressed") === "true";
+const filtered = () => rows.filter($("filter").value, isPressed("moving"), isPressed("unfold"));
 $("filter").addEventListener("input", filtered);
 $("filter").addEventListener("keydown", (event) => {
-  if (event.key === "Escape") { $("filter").value = ""; filtered(); }
-  else if (event.key === "ArrowDown" || event.key === "Enter") { const row = rows.first(); if (row) { row.focus(); event.preventDefault(); } }
+  if (event.key === "Escape") {
+    $("filter").value = "";
+    filtered();
+  } else if ((event.key === "ArrowDown" || event.key === "Enter") && rows.first()) {
+    rows.first().focus();
+    event.preventDefault();
+  }
 });
 for (const id of ["moving", "unfold"]) {
   $(id).addEventListener("click", () => {
-    $(id).setAttribute("aria-pressed", $(id).getAttribute("aria-pressed") === "true" ? "false" : "true");
+    $(id).setAttribute("aria-pressed", isPressed(id) ? "false" : "true");
     filtered();
   });
 }
 document.addEventListener("keydown", (event) => {
   const typing = event.target.closest("input, select, textarea");
-  if (event.key === "/" && !typing && !event.ctrlKey && !event.metaKey && !event.altKey) { $("filter").focus(); $("filter").select(); event.preventDefault(); }
+  if (event.key === "/" && !typing && !event.ctrlKey && !event.metaKey && !event.altKey) {
+    $("filter").focus();
+    $("filter").select();
+    event.preventDefault();
+  }
   if (event.key === "Escape" && !typing) plot.close();
 });
 

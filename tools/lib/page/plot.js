@@ -92,7 +92,8 @@ export class Plot {
     this.now = make("p", { class: "plot-now" });
     this.choice = make("div", { class: "minutes", role: "radiogroup", "aria-label": "How much is drawn" });
     for (const count of MINUTES) {
-      const button = make("button", { type: "button", role: "radio", "aria-checked": count === this.minutes ? "true" : "false", tabindex: count === this.minutes ? "0" : "-1", text: count + " min" });
+      const is = count === this.minutes;
+      const button = make("button", { type: "button", role: "radio", "aria-checked": String(is), tabindex: is ? "0" : "-1", text: count + " min" });
       button.addEventListener("click", () => this.pick(count));
       button.addEventListener("keydown", (event) => this.step(event, count));
       this.choice.append(button);
@@ -103,8 +104,8 @@ export class Plot {
     this.svg.addEventListener("keydown", (event) => this.stepped(event));
     this.facts = make("dl", { class: "facts" });
     this.panel.setAttribute("aria-labelledby", "plot-title");
-    this.panel.replaceChildren(make("div", { class: "plot-head" }, make("div", { class: "plot-name" }, this.title, this.now), shut), this.choice, this.svg, this.facts,
-      this.details(it));
+    const head = make("div", { class: "plot-head" }, make("div", { class: "plot-name" }, this.title, this.now), shut);
+    this.panel.replaceChildren(head, this.choice, this.svg, this.facts, this.details(it));
     this.draw();
   }
 
@@ -187,7 +188,8 @@ export class Plot {
 
   draw() {
     if (!this.of || this.panel.hidden) return;
-    const wide = Math.max(240, this.svg.clientWidth || this.panel.clientWidth - 32), high = this.svg.clientHeight || 240, last = this.moment(), first = last - this.minutes * 60000;
+    const wide = Math.max(240, this.svg.clientWidth || this.panel.clientWidth - 32), high = this.svg.clientHeight || 240;
+    const last = this.moment(), first = last - this.minutes * 60000;
     const points = this.inside(first, last), type = this.of.kind, scale = this.scale(points, type);
     const left = Math.min(120, 16 + 7 * Math.max(3, ...scale.ticks.map(([, text]) => text.length)));
     const x = (moment) => left + (wide - left - RIGHT) * (moment - first) / (last - first);
@@ -227,7 +229,8 @@ export class Plot {
     this.facts.replaceChildren(...facts.map(([word, text]) => make("div", {}, make("dt", { text: word }), make("dd", { text }))));
     if (!this.said || performance.now() - this.said > 5000) {
       this.said = performance.now();
-      this.svg.setAttribute("aria-label", `${this.of.path} in the last ${this.minutes} min: now ${main}` + facts.map(([word, text]) => `, ${word} ${text}`).join(""));
+      const behind = facts.map(([word, text]) => `, ${word} ${text}`).join("");
+      this.svg.setAttribute("aria-label", `${this.of.path} in the last ${this.minutes} min: now ${main}${behind}`);
     }
   }
 
@@ -258,7 +261,8 @@ export class Plot {
     for (const point of points) if (point[0] <= moment) found = point;
     if (!found || found[1] === null) return;
     const value = shown(this.of.kind, this.of.kind.k === "bool" ? Boolean(found[1]) : found[1])[0], text = `${value}  at ${clock(moment)}`;
-    const onRight = this.at > wide / 2, label = drawn("text", { x: this.at + (onRight ? -8 : 8), y: ABOVE + 10, "text-anchor": onRight ? "end" : "start", class: "cross-text" }, text);
+    const [by, anchor] = this.at > wide / 2 ? [-8, "end"] : [8, "start"];
+    const label = drawn("text", { x: this.at + by, y: ABOVE + 10, "text-anchor": anchor, class: "cross-text" }, text);
     this.svg.append(drawn("line", { x1: this.at, x2: this.at, y1: ABOVE, y2: high - BELOW, class: "cross" }),
       drawn("circle", { cx: this.at, cy: y(found[1]), r: 3.5, class: "end" }), label);
   }

@@ -6,7 +6,8 @@ const MOST_ROWS = 500, MOST_PARTS = 100, LIT = 900, MOVING = 60000;
 
 function node(said, path, parent, symbol, types, leaves) {
   const it = {
-    name: said.n, path, parent, symbol, type: said.t, comment: said.c || "", leaf: said.l, at: said.a || 0, more: said.more || 0, parts: [], room: MOST_PARTS,
+    name: said.n, path, parent, symbol, type: said.t, comment: said.c || "", leaf: said.l, at: said.a || 0, more: said.more || 0, parts: [],
+    room: MOST_PARTS,
     depth: parent ? parent.depth + 1 : 0, key: symbol.port + " " + path, row: null, value: null, changed: 0, lit: 0, kind: null,
   };
   if (it.leaf !== undefined) {
@@ -107,20 +108,21 @@ export class Rows {
   preview(it) {
     const some = firstLeaves(it, [], 4), isArray = it.parts.length && it.parts[0].name.startsWith("[");
     const flat = it.parts.every((part) => part.leaf !== undefined);
-    const said = some.slice(0, 4).map((leaf) => (isArray && flat ? "" : leaf.path.slice(it.path.length).replace(/^\./, "") + " ") + shown(leaf.kind, leaf.value)[0]);
-    return said.join(", ") + (some.length > 4 || it.more ? ", …" : "");
+    const step = (leaf) => (isArray && flat ? "" : leaf.path.slice(it.path.length).replace(/^\./, "") + " ");
+    return some.slice(0, 4).map((leaf) => step(leaf) + shown(leaf.kind, leaf.value)[0]).join(", ") + (some.length > 4 || it.more ? ", …" : "");
   }
 
   // What is shown: the rows that the filter leaves, in their order.
   visible() {
     const found = [], since = this.moment() - MOVING, filtered = this.words.length || this.moving;
-    let total = 0;
+    let total = 0, symbols = 0;
     const fits = (it) => this.words.every((word) => it.words.includes(word)) && (!this.moving || it.changed > since);
     const inside = (it) => fits(it) || it.parts.some(inside);
     const walk = (it, all) => {
       const own = all || !filtered || fits(it);
       if (!own && !it.parts.some(inside)) return;
       total += 1;
+      symbols += !it.parent;
       if (found.length < this.room) found.push(it);
       if (!it.parts.length) return;
       const through = filtered && !own;
@@ -131,7 +133,7 @@ export class Rows {
       if (parts.length > it.room || it.more) found.push({ rest: it, left: Math.max(left, it.more), more: parts.length > it.room, depth: it.depth + 1 });
     };
     for (const it of this.top) walk(it, false);
-    return [found, total];
+    return [found, total, symbols];
   }
 
   isOpen(it) {
@@ -139,19 +141,25 @@ export class Rows {
   }
 
   render() {
-    const [found, total] = this.visible(), before = this.here, held = this.rows.contains(document.activeElement);
+    const [found, total, symbols] = this.visible(), before = this.here, held = this.rows.contains(document.activeElement);
     const rows = found.map((it) => (it.rest ? this.restRow(it) : it.row || this.row(it)));
     const kept = new Set(rows);
     for (const row of [...this.rows.children]) if (!kept.has(row) && row.of) row.of.row = null;
     if (rows.length !== this.rows.children.length || rows.some((row, at) => this.rows.children[at] !== row)) this.rows.replaceChildren(...rows);
     for (const row of rows) if (row.of) this.fold(row.of);
-    const symbols = found.filter((it) => !it.rest && !it.parent).length;
-    this.count.textContent = this.words.length || this.moving ? `${symbols.toLocaleString("en-US")} of ${counted(this.top.length, "symbol", "symbols")}` : counted(this.top.length, "symbol", "symbols");
-    this.empty.hidden = found.length > 0;
-    this.empty.textContent = this.top.length ? (this.moving ? "Nothing that fits has changed in the last minute." : "Nothing fits the filter.") : "No values yet.";
-    this.more.hidden = total <= this.room;
-    this.more.textContent = `Show ${Math.min(MOST_ROWS, total - this.room).toLocaleString("en-US")} of ${(total - this.room).toLocaleString("en-US")} further rows`;
+    this.tell(found, symbols, total);
     this.settle(before, held);
+  }
+
+  // How much is shown.
+  tell(found, symbols, total) {
+    const all = counted(this.top.length, "symbol", "symbols"), left = total - this.room;
+    this.count.textContent = this.words.length || this.moving ? `${symbols.toLocaleString("en-US")} of ${all}` : all;
+    this.empty.hidden = found.length > 0;
+    const nothing = this.moving ? "Nothing that fits has changed in the last minute." : "Nothing fits the filter.";
+    this.empty.textContent = this.top.length ? nothing : "No values yet.";
+    this.more.hidden = left <= 0;
+    this.more.textContent = `Show ${Math.min(MOST_ROWS, left).toLocaleString("en-US")} of ${left.toLocaleString("en-US")} further rows`;
   }
 
   // One row can be reached by Tab; it is the one that had the focus, or the first.
@@ -170,7 +178,8 @@ export class Rows {
   }
 
   row(it) {
-    const row = make("tr", { role: "row", tabindex: "-1", "aria-level": it.depth + 1, class: it.parts.length ? "whole" : isPlotted(it.kind) ? "plotted" : "still" });
+    const kind = it.parts.length ? "whole" : isPlotted(it.kind) ? "plotted" : "still";
+    const row = make("tr", { role: "row", tabindex: "-1", "aria-level": it.depth + 1, class: kind });
     const label = make("span", { class: "label" }, make("span", { class: "name", text: it.parent ? it.name.replace(/^\./, "") : it.name }));
     if (it.comment) label.append(make("span", { class: "comment", text: it.comment }));
     const mark = make("span", { class: "mark", "aria-hidden": "true" });
