@@ -96,7 +96,11 @@ class Link:
                 return self.data_of(frame)
             if frame.command != NOTE:
                 raise Ended(f"{self.to} sent a frame that answers nothing: command {frame.command}, flags 0x{frame.flags:X}, invoke id {frame.id}", 9)
+            self.noted(frame)
         raise Ended(f"{self.to} sends notifications in place of an answer", 9)
+
+    def noted(self, frame):
+        """A notification that comes in front of an answer: passed over, unless a link watches."""
 
     def data_of(self, frame):
         if frame.error:

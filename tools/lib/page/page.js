@@ -1,0 +1,200 @@
+// The page: follows the stream of changes, and keeps the table, the plot and the form.
+
+import { Forms } from "/form.js";
+import { Plot } from "/plot.js";
+import { Rows } from "/rows.js";
+import { clock, counted } from "/words.js";
+
+const $ = (id) => document.getElementById(id);
+const meta = (name) => document.querySelector(`meta[name="${name}"]`).content;
+const SILENT = 25000, THEMES = ["", "light", "dark"];
+
+let ahead = 0, source = null, heard = Date.now(), table = { g: 0, o: 0 }, state = null, ours = true, wasLive = null, timer = null;
+const moment = () => Date.now() + ahead;
+
+const plot = new Plot($("plot"), moment, (it) => {
+  rows.choose(null);
+  if (it.row && document.activeElement === document.body) it.row.focus();
+  else if (it.row) it.row.focus({ preventScroll: true });
+});
+const rows = new Rows({ rows: $("rows"), count: $("count"), empty: $("empty"), more: $("more") }, (it, row) => {
+  if (!row.classList.contains("plotted")) return;
+  if (plot.of === it) return plot.close();
+  rows.choose(it.key);
+  plot.open(it);
+}, moment);
+const forms = new Forms($("forms"), $("form-list"), meta("token"));
+
+// The stream.
+
+function listen() {
+  if (source) source.close();
+  source = new EventSource("/events");
+  heard = Date.now();
+  const on = (kind, call) => source.addEventListener(kind, (event) => { heard = Date.now(); alone(false); call(JSON.parse(event.data)); });
+  on("table", tabled);
+  on("values", changed);
+  on("state", stated);
+  on("beat", () => {});
+  source.onerror = () => {
+    alone(true);
+    if (source.readyState === EventSource.CLOSED) later();
+  };
+}
+
+function later() {
+  clearTimeout(timer);
+  timer = setTimeout(() => { if (!document.hidden) listen(); }, 2000);
+}
+
+setInterval(() => {
+  if (source && Date.now() - heard > SILENT) { alone(true); listen(); }
+}, 5000);
+
+// A page that nobody sees follows nothing: a browser has six connections to a server, for all its windows together.
+document.addEventListener("visibilitychange", () => {
+  if (!document.hidden) return listen();
+  clearTimeout(timer);
+  if (source) source.close();
+  source = null;
+});
+
+function tabled(said) {
+  if (said.start !== meta("start")) return location.reload();
+  ahead = said.now - Date.now();
+  const before = table;
+  table = said;
+  rows.take(said);
+  forms.take(said, rows.leaves);
+  const name = said.ports.map(([, own]) => own).filter(Boolean).join(", ") || "Live values";
+  $("title").textContent = name;
+  document.title = name + " – live values";
+  if (before.g && said.g !== before.g) news(said, before);
+  stated(said.state);
+  plot.moved(plot.of ? rows.find(plot.of.key) : null);
+}
+
+function news(said, before) {
+  if (said.state.version === before.state.version || !before.state.live || !state || !state.live) return;
+  const own = new Set(said.symbols.map((it) => it.port + " " + it.n)), old = new Set(before.symbols.map((it) => it.port + " " + it.n));
+  const came = [...own].filter((key) => !old.has(key)).length, went = [...old].filter((key) => !own.has(key)).length;
+  const moved = `${counted(came, "symbol", "symbols")} came, ${counted(went, "symbol", "symbols")} went.`;
+  tell(`The server has a new description, version ${said.state.version}: ${moved}`, "news", 10000);
+}
+
+function changed(said) {
+  if (said.g !== table.g || said.o <= table.o) return;
+  table.o = said.o;
+  rows.change(said.c, said.m);
+  if (plot.of) for (const [leaf, value] of said.c) if (leaf === plot.of.leaf) plot.add(said.m, value);
+  picture();
+}
+
+let waiting = false;
+function picture() {
+  if (waiting) return;
+  waiting = true;
+  requestAnimationFrame(() => {
+    waiting = false;
+    rows.paint(performance.now());
+    plot.paint();
+    forms.paint();
+  });
+}
+setInterval(picture, 250);
+setInterval(() => rows.ages(), 1000);
+
+// The state of the server and of the page's own program.
+
+function stated(said) {
+  state = said;
+  $("where").textContent = `${said.net} at ${said.to}` + (said.version === null ? "" : ` · version ${said.version}`);
+  $("notices").hidden = !said.notices.length;
+  $("notices").replaceChildren(...said.notices.map((text) => Object.assign(document.createElement("li"), { textContent: text })));
+  if (wasLive && !said.live) plot.gap(moment());
+  if (wasLive === false && said.live) tell("The server is back.", "good", 6000);
+  if (said.live || table.g) wasLive = said.live;
+  bar();
+}
+
+function alone(is) {
+  if (ours === !is) return;
+  ours = !is;
+  bar();
+}
+
+let message = null;
+function tell(text, kind, milliseconds) {
+  message = { text, kind };
+  setTimeout(() => { message = null; bar(); }, milliseconds);
+  bar();
+}
+
+function bar() {
+  const live = ours && state && state.live;
+  let text = "", kind = "bad";
+  if (!ours) text = "This page's own program does not answer. The values below are the last ones; the page keeps trying.";
+  else if (state && !state.live) {
+    text = table.g ? `The server has been gone since ${clock(state.since)}: ${state.why}. The values below are the last ones; the page keeps trying.`
+      : `The server can't be asked: ${state.why}. The page keeps trying.`;
+  } else if (message) ({ text, kind } = message);
+  const it = $("bar");
+  if (it.textContent !== text) it.textContent = text;
+  it.className = "bar " + kind;
+  it.hidden = !text;
+  document.body.classList.toggle("stale", !live && Boolean(table.g));
+  $("pill").className = "pill " + (live ? "live" : state || !ours ? "gone" : "wait");
+  const word = live ? "live" : state || !ours ? "no connection" : "connecting";
+  if ($("pill-text").textContent !== word) $("pill-text").textContent = word;
+}
+
+// What is chosen with keys and buttons.
+
+const isPressed = (id) => $(id).getAttribute("aria-pressed") === "true";
+const filtered = () => rows.filter($("filter").value, isPressed("moving"), isPressed("unfold"));
+$("filter").addEventListener("input", filtered);
+$("filter").addEventListener("keydown", (event) => {
+  if (event.key === "Escape") {
+    $("filter").value = "";
+    filtered();
+  } else if ((event.key === "ArrowDown" || event.key === "Enter") && rows.first()) {
+    rows.first().focus();
+    event.preventDefault();
+  }
+});
+for (const id of ["moving", "unfold"]) {
+  $(id).addEventListener("click", () => {
+    $(id).setAttribute("aria-pressed", isPressed(id) ? "false" : "true");
+    filtered();
+  });
+}
+document.addEventListener("keydown", (event) => {
+  const typing = event.target.closest("input, select, textarea");
+  if (event.key === "/" && !typing && !event.ctrlKey && !event.metaKey && !event.altKey) {
+    $("filter").focus();
+    $("filter").select();
+    event.preventDefault();
+  }
+  if (event.key === "Escape" && !typing) plot.close();
+});
+
+function themed(name) {
+  if (name) document.documentElement.dataset.theme = name;
+  else delete document.documentElement.dataset.theme;
+  $("theme").setAttribute("aria-label", "Colours: " + { "": "as the system has them", light: "light", dark: "dark" }[name]);
+  $("theme").title = $("theme").getAttribute("aria-label");
+}
+function keptTheme(name) {
+  try {
+    if (name === undefined) return THEMES.includes(localStorage.getItem("theme")) ? localStorage.getItem("theme") : "";
+    localStorage.setItem("theme", name);
+  } catch { /* nothing is kept where the browser keeps nothing */ }
+  return name || "";
+}
+$("theme").addEventListener("click", () => {
+  const next = THEMES[(THEMES.indexOf(document.documentElement.dataset.theme || "") + 1) % THEMES.length];
+  keptTheme(next);
+  themed(next);
+});
+themed(keptTheme());
+if (!document.hidden) listen();

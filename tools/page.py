@@ -1,0 +1,91 @@
+#!/usr/bin/env python3
+"""A page of live values of an ADS server of ours, for whoever stands before a plant with a browser and no other client.
+
+    python3 tools/page.py plant.toml --to 127.0.0.1:48898 --me 192.168.0.9.1.1
+
+serves http://127.0.0.1:8080/: all values of the server with their types, what changes, and a plot of the last minutes of each. PLANT is the description that
+the server was started with. The page is one client of the server, with the NetId `--me`, which must be a route, however many browsers look at it.
+
+`--http HOST:PORT` is where browsers find it; whoever reaches that sees all values. `--host NAME` is a name that it is called by, beside localhost and
+addresses; it may stand more than once. `--write NAME` gives a form for this value, with the rights of the route `--me`; it may stand more than once, and
+without one nothing can be written. `--netid` is the NetId of the server where it is not the description's, `--port N` an AMS port that is shown (all are; it
+may stand more than once), `--cycle MS` how often changes come (100), `--seconds` how long an answer may take (5).
+
+/values.json has all values, /history.json?name=NAME the last minutes of one, /metrics what Prometheus reads, and /healthz the status 200 while the server
+answers, else 503.
+
+It runs until it is ended. The status is 1 for wrong words, 2 for a description that is refused, 4 for a file that can't be read, 6 if HOST:PORT can't be had.
+"""
+import asyncio
+import os
+import sys
+
+sys.path.insert(0, os.path.dirname(os.path.abspath(__file__)))
+from lib.link import host_of, net_of  # noqa: E402
+from lib.plant import steps_of  # noqa: E402
+from lib.routes import Routes, say  # noqa: E402
+from lib.watcher import Watcher  # noqa: E402
+from lib.words import Ended, number, read_words, run  # noqa: E402
+
+
+def http_of(text):
+    """The address and the port at which browsers find the page."""
+    host, colon, port = text.rpartition(":")
+    if not colon or not host.strip("[]"):
+        raise Ended(f"--http is HOST:PORT, and {text!r} is not: 127.0.0.1:8080 is this machine alone, 0.0.0.0:8080 all that reach it")
+    return host.strip("[]"), number(port, "the port of --http", 1, 65535)
+
+
+def names_of(given):
+    """The values that may be written, pairs of a port, None where it is not said, and a path."""
+    found = []
+    for word in given:
+        port, colon, path = word.rpartition(":")
+        if not steps_of(path):
+            raise Ended(f"--write is the NAME of a value, such as Main.count or Main.axis[1].pos, or PORT:NAME, and {word!r} is none")
+        found.append((number(port, "the port of --write", 1, 65535) if colon else None, path))
+    return found
+
+
+def writable(watcher, names):
+    """Sees that each name that may be written is a plain value of the description."""
+    for port, path in names:
+        own = watcher.plant.ports
+        parts = [it for it in (own[number].find(path) for number in ([port] if port else own) if number in own) if it]
+        if not parts:
+            raise Ended(f"{watcher.file} has no {path}: --write names a value of it")
+        named = parts[0].shape.named()
+        if parts[0].shape.ends or (named and not named.base):
+            raise Ended(f"{path} has parts: --write names a plain value in it, such as {path}{'[1]' if parts[0].shape.ends else '.' + named.members[0].name}")
+
+
+async def serve(routes, host, port):
+    try:
+        server = await routes.web.start(host, port)
+    except (OSError, UnicodeError) as fault:
+        raise Ended(f"{host}:{port} can't be had: {getattr(fault, 'strerror', None) or fault}", 6) from None
+    routes.watcher.publish = routes.publishing(asyncio.get_running_loop())
+    say(f"http://{f'[{host}]' if ':' in host else host}:{port}/")
+    if routes.names and host not in ("127.0.0.1", "::1", "localhost"):
+        say(f"whoever reaches {host}:{port} may write {', '.join(path for _, path in routes.names)}")
+    routes.watcher.start()
+    async with server:
+        await asyncio.gather(server.serve_forever(), routes.streams.beat())
+
+
+def main(words):
+    (file,), options = read_words(words, __doc__, ["PLANT"], {
+        "to": None, "me": None, "netid": "", "http": "127.0.0.1:8080", "host": [], "write": [], "port": [], "cycle": "100", "seconds": "5"})
+    host_of(options["to"])
+    me, net = net_of(options["me"], "--me"), net_of(options["netid"], "--netid") if options["netid"] else None
+    ports = [number(port, "--port", 1, 65535) for port in options["port"]]
+    cycle, seconds = number(options["cycle"], "--cycle", 10, 60000), number(options["seconds"], "--seconds", 1, 60)
+    (host, port), names = http_of(options["http"]), names_of(options["write"])
+    watcher = Watcher(file, options["to"], me, net, ports, 10000 * cycle, seconds, None)
+    writable(watcher, names)
+    asyncio.run(serve(Routes(watcher, names, options["host"]), host, port))
+    return 0
+
+
+if __name__ == "__main__":
+    run(main)
