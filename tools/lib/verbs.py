@@ -22,6 +22,7 @@ from lib.frames import ADD, CONTROL, DELETE, INFO, READ, READ_WRITE, STATE, WRIT
 from lib.layout import Shape
 from lib.payloads import Request
 from lib.shown import shown
+from lib.value_json import NoValueOf, Raw, spread
 from lib.values import NoValue, value_bytes, value_text
 
 MODES = {"cycle": 3, "change": 4}
@@ -50,6 +51,20 @@ class Place(NamedTuple):
 
 def shape_text(shape, data):
     return value_text(shape.type_id(), data) if shape and len(data) == shape.size() else "16#" + data.hex()
+
+
+def written_bytes(place, text):
+    """The bytes of a value: as the program writes it, or in the words of tools/values.py."""
+    try:
+        return value_bytes(place.shape.type_id(), place.length, text)
+    except NoValue as fault:
+        try:
+            parts = spread("it", place.shape, Raw(text)) if place.shape.size() == place.length else []
+        except NoValueOf:
+            parts = []
+        if len(parts) != 1 or parts[0][1] is not place.shape:
+            raise fault
+        return parts[0][2]
 
 
 def number(text, what):
@@ -104,7 +119,7 @@ def written(client, word, value):
         data = data_of(value)
         return place._replace(length=len(data)), data
     try:
-        return place, value_bytes(place.shape.type_id(), place.length, value)
+        return place, written_bytes(place, value)
     except NoValue as fault:
         raise NoRequest(str(fault)) from None
 
