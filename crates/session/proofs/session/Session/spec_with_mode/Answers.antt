@@ -28,7 +28,6 @@ pub returns-else-asked-eq0-clause-asked : goal.returns-else-asked-eq0-clause-ask
 returns-else-asked-eq0-clause-asked c = rw (← c.self.view_is) (λ a delay asks address.
     asked_for a c.args.asked.now.group c.args.asked.now.offset c.args.asked.now.len c.args.asked.now.mode delay c.args.asked.now.cycle
     (record { port = c.args.asker.ams_port; to = c.args.asker.source; reach = c.in-Ok.reach; mode = c.args.mode; cycle = c.args.asked.now.cycle })
-
     (c.requires.mode ∙ ap (λ (x : Profile). mode_of (mode_in x c.args.asked.now.mode)) asks.held.profile) (omega arith) (omega arith)
     (c.in-Ok.ensures.watched a asks)
     (c.requires.number ∙ port-number a.world a.asker.port c.args.port.now asks.held) address refl)
