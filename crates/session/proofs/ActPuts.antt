@@ -28,7 +28,8 @@ use Rattle.spec_machine.specs.Client.{Client, Place, names_of_place, Grants, Rel
 use Rattle.spec_machine.specs.Handles.{HandleStatus, Never, Released, Outdated, Live, kept_status, live_count}
 use Rattle.spec_machine.specs.Reach.{addressed_by_range, addressed_by_status, addressed_in_place, reach_of}
 use Rattle.spec_machine.specs.Meanings.{meant_by}
-use Rattle.spec_machine.specs.Requests.{MAX_WATCHED, MAX_WATCHES, mode_of, next_watch, add_watch, add_reached, add_act, is_watch_of, delete_act, plain_act, act_of}
+use Rattle.spec_machine.specs.Requests.{MAX_WATCHED, MAX_WATCHES, mode_of, next_watch, add_watch, add_reached, add_act}
+use Rattle.spec_machine.specs.Requests.{is_watch_of, delete_act, plain_act, act_of}
 use Rattle.spec_machine.specs.Sums.{SumRequest, sum_of_reads, sum_of_writes, sum_of_read_writes, given_in_turn}
 use Rattle.spec_machine.specs.SumPackets.{acts_of, client_after_request, decide_parts, decide_read_write, decide_request}
 use Rattle.spec_machine.specs.WorldBytes.{AreAtPort}

@@ -178,9 +178,9 @@ at_first p xs i e = go (nat_lt (position_or_len p xs) (length xs)) e
 
 pub before_all : (p : ℕ → Bool) (xs : List ℕ) → position p xs ≡ None → xs ≡ before_first p xs
 before_all p xs e = elim (cases_Bool (nat_lt (position_or_len p xs) (length xs))) [
-    | inl t ↦ absurd (let some : Some (position_or_len p xs) ≡ None = rw t at e in cc)
-    | inr t ↦ let past = ltb-false (position_or_len p xs) (length xs) t in sym (take_all (position_or_len p xs) xs past)
-  ]
+  | inl t ↦ absurd (let some : Some (position_or_len p xs) ≡ None = rw t at e in cc)
+  | inr t ↦ let past = ltb-false (position_or_len p xs) (length xs) t in sym (take_all (position_or_len p xs) xs past)
+]
 
 pub stop_none : (xs : List ℕ) → length xs ≡ 0 → xs ≡ behind_stop xs
 stop_none [] none = refl

@@ -28,20 +28,22 @@ pub returns-clause-answer : goal.returns-clause-answer
 returns-clause-answer c =
     let asked = c.args.asked.now in
     let r = ReadWrite asked.group asked.offset asked.len asked.bytes.now in
-    let meant = ReadWrite asked.group asked.offset c.value_len.result c.name_meant.result.now in
+    let meant = ReadWrite asked.group asked.offset c.value_len-len.result c.name_meant-bytes.result.now in
     meant-answers c.args.port.now c.args.handles.now r meant c.read_write_plain-2.result _ _
-    (λ a asks. read_write-is-meant a asked.group asked.offset asked.len asked.bytes.now c.value_len.result c.name_meant.result.now
-    c.args.port.now c.args.handles.now asks (sym c.is_wide.ensures ∙ c.if-not-is_wide.false) c.name_meant.ensures (c.value_len.ensures a c.args.handles.now asks))
+    (λ a asks. read_write-is-meant a asked.group asked.offset asked.len asked.bytes.now c.value_len-len.result c.name_meant-bytes.result.now
+    c.args.port.now c.args.handles.now asks (sym c.is_wide.ensures ∙ c.if-not-is_wide.false)
+    c.name_meant-bytes.ensures (c.value_len-len.ensures a c.args.handles.now asks))
     c.read_write_plain-2.ensures.answer
 
 pub returns-clause-leaves : goal.returns-clause-leaves
 returns-clause-leaves c =
     let asked = c.args.asked.now in
     let r = ReadWrite asked.group asked.offset asked.len asked.bytes.now in
-    let meant = ReadWrite asked.group asked.offset c.value_len.result c.name_meant.result.now in
+    let meant = ReadWrite asked.group asked.offset c.value_len-len.result c.name_meant-bytes.result.now in
     meant-leaves c.args.port.now c.args.handles.now _ r meant c.read_write_plain-2.result
-    (λ a asks. read_write-is-meant a asked.group asked.offset asked.len asked.bytes.now c.value_len.result c.name_meant.result.now
-    c.args.port.now c.args.handles.now asks (sym c.is_wide.ensures ∙ c.if-not-is_wide.false) c.name_meant.ensures (c.value_len.ensures a c.args.handles.now asks))
+    (λ a asks. read_write-is-meant a asked.group asked.offset asked.len asked.bytes.now c.value_len-len.result c.name_meant-bytes.result.now
+    c.args.port.now c.args.handles.now asks (sym c.is_wide.ensures ∙ c.if-not-is_wide.false)
+    c.name_meant-bytes.ensures (c.value_len-len.ensures a c.args.handles.now asks))
     c.read_write_plain-2.ensures.leaves
 
 pub returns-clause-asked : goal.returns-clause-asked

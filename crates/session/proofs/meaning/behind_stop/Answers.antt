@@ -1,5 +1,6 @@
 use Rattle.std.proofs.Common.{length, get_or, sym, ◌∙◌, arith}
 use Rattle.std.proofs.lemmas.Bool.{eqb-true, eqb-false, eq-eqb, ne_eqb}
+use Rattle.std.proofs.lemmas.List.{take_rest}
 use Rattle.session.proofs.MeaningLemmas.{stop_none, stop_other, stop_first}
 use Rattle.session.proofs.meaning.behind_stop.Goals as goal
 
@@ -14,4 +15,4 @@ returns-then-name-ne46 c =
 pub returns : goal.returns
 returns c =
     let some = eqb-false (length c.args.name.now) 0 (sym c.is_empty.ensures ∙ c.if-is_empty.false) in
-    stop_first c.args.name.now (omega (arith, some)) (eq-eqb (get_or c.args.name.now 0 0) 46 c.if-name-ne46.false)
+    rw take_rest (stop_first c.args.name.now (omega (arith, some)) (eq-eqb (get_or c.args.name.now 0 0) 46 c.if-name-ne46.false))

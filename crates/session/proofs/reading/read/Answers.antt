@@ -6,8 +6,8 @@ use Rattle.session.proofs.reading.read.Goals as goal
 pub returns-clause-answer : goal.returns-clause-answer
 returns-clause-answer c =
     let asked = c.args.asked.now in
-    meant-answers c.args.port.now c.args.handles.now (Read asked.group asked.offset asked.len) (Read asked.group asked.offset c.read_len.result)
-    c.read_plain.result _ _ (λ a asks. read-is-meant a asked.group asked.offset asked.len c.read_len.result (c.read_len.ensures a asks))
+    meant-answers c.args.port.now c.args.handles.now (Read asked.group asked.offset asked.len) (Read asked.group asked.offset c.read_len-len.result)
+    c.read_plain.result _ _ (λ a asks. read-is-meant a asked.group asked.offset asked.len c.read_len-len.result (c.read_len-len.ensures a asks))
     c.read_plain.ensures.answer
 
 pub returns-clause-asked : goal.returns-clause-asked

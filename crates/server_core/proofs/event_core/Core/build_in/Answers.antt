@@ -10,5 +10,6 @@ invariant_of-result g c = λ e.
     let d = description_of c.args.d in
     record {
       state = started_in (profile_of c.args.profile) d waves;
-      serves = started_serves (profile_of c.args.profile) _ waves d (c.in_ok-device.ensures waves c.count-count.ensures c.requires.few) c.new.ensures.sessions c.new.ensures.waiting;
+      serves = started_serves (profile_of c.args.profile) _ waves d
+          (c.in_ok-device.ensures waves c.count-count.ensures c.requires.few) c.new.ensures.sessions c.new.ensures.waiting;
     }
