@@ -3,9 +3,9 @@
 
     python3 tools/draw.py samples.db Main.wave:UINT > wave.svg
 
-The words are FILE [NAME[:TYPE]..]: FILE is what `--store` named, and without a NAME all are drawn. TYPE is one of SINT, USINT, INT, UINT, DINT, UDINT, LINT, ULINT,
-REAL, LREAL and BOOL, which says how the bytes of the value are read; without it they are an unsigned integer of at most eight bytes, the low byte first. A value
-holds until the next one, so the line goes in steps; it has a gap where a REAL is no number or infinite.
+The words are FILE [NAME[:TYPE]..]: FILE is what `--store` named, and without a NAME all are drawn. TYPE is one of SINT, USINT, INT, UINT, DINT, UDINT,
+LINT, ULINT, REAL, LREAL and BOOL, which says how the bytes of the value are read; without it they are an unsigned integer of at most eight bytes, the low
+byte first. A value holds until the next one, so the line goes in steps; it has a gap where a REAL is no number or infinite.
 
 The status is 0 when it is drawn, 1 for wrong words, 4 if the file can't be read or is no recording, and 2 if it has no such samples.
 """

@@ -1,4 +1,4 @@
-"""draw.py: that each value of a recording of the program, and of files of every type, stands in the picture where it belongs; and what it says of files and words that are wrong."""
+"""draw.py: that each value of a recording, and of files of every type, is where it belongs; and what it says of files and words that are wrong."""
 import contextlib
 import os
 import re
@@ -11,8 +11,10 @@ from tries.of_samples import recording, same_tables
 from tries.running import PLANT, refused, see, tool
 
 # (word, form, values): the highest and the lowest of each type, and one between.
-TYPES = [("SINT", "b", (-128, 0, 127)), ("USINT", "B", (0, 1, 255)), ("BOOL", "B", (0, 1, 0)), ("INT", "h", (-32768, -1, 32767)), ("UINT", "H", (0, 300, 65535)),
-         ("DINT", "i", (-2 ** 31, 5, 2 ** 31 - 1)), ("UDINT", "I", (0, 5, 2 ** 32 - 1)), ("LINT", "q", (-2 ** 63, 0, 2 ** 63 - 1)), ("ULINT", "Q", (0, 2 ** 63, 2 ** 64 - 1)),
+TYPES = [("SINT", "b", (-128, 0, 127)), ("USINT", "B", (0, 1, 255)), ("BOOL", "B", (0, 1, 0)),
+         ("INT", "h", (-32768, -1, 32767)), ("UINT", "H", (0, 300, 65535)),
+         ("DINT", "i", (-2 ** 31, 5, 2 ** 31 - 1)), ("UDINT", "I", (0, 5, 2 ** 32 - 1)),
+         ("LINT", "q", (-2 ** 63, 0, 2 ** 63 - 1)), ("ULINT", "Q", (0, 2 ** 63, 2 ** 64 - 1)),
          ("REAL", "f", (-1.5, 0.0, 2.25)), ("LREAL", "d", (-1e308, 0.0, 1e308)), ("", "H", (7, 300, 1000))]
 
 
@@ -24,7 +26,8 @@ def filled(model, path, rows):
         for k, (name, moment, data) in enumerate(rows, 1):
             number, time = k.to_bytes(8, "big"), moment.to_bytes(8, "big")
             base.execute("INSERT INTO sample VALUES (?, ?, ?, ?)", (number, name, time, data))
-            base.execute("INSERT INTO total VALUES (?, 1, ?, ?, ?) ON CONFLICT DO UPDATE SET count = count + 1, last = ?2, time = ?3, bytes = ?4", (name, number, time, data))
+            base.execute("INSERT INTO total VALUES (?1, 1, ?2, ?3, ?4) ON CONFLICT DO UPDATE SET count = count + 1, last = ?2, time = ?3, bytes = ?4",
+                         (name, number, time, data))
         base.commit()
     return path
 
