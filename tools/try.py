@@ -14,12 +14,12 @@ import time
 sys.path.insert(0, os.path.dirname(os.path.abspath(__file__)))
 from lib.program import program_at  # noqa: E402
 from lib.words import Ended, number, read_words, run  # noqa: E402
-from tries import of_deploy, of_describe, of_dial, of_draw, of_frames, of_program, of_samples, of_why  # noqa: E402
+from tries import of_deploy, of_describe, of_dial, of_draw, of_frames, of_program, of_record, of_samples, of_snapshot, of_why  # noqa: E402
 from tries.running import Size, Wrong, looks  # noqa: E402
 
 # Each takes the program and a Size.
 TRIES = {"program": of_program.tried, "why": of_why.tried, "frames": of_frames.tried, "describe": of_describe.tried, "deploy": of_deploy.tried, "dial": of_dial.tried,
-         "samples": of_samples.tried, "draw": of_draw.tried}
+         "samples": of_samples.tried, "draw": of_draw.tried, "record": of_record.tried, "snapshot": of_snapshot.tried}
 
 
 def tried(name, *given):
