@@ -70,11 +70,15 @@ class Server:
         """The AMS error of the answer and its data; notifications are passed over."""
         header = NET + struct.pack("<H", port) + ME + struct.pack("<HHHIII", 32905, command, 4, len(data), 0, 1)
         self.socket.sendall(struct.pack("<HI", 0, len(header) + len(data)) + header + data)
+        packet = self.answer()
+        return struct.unpack("<I", packet[24:28])[0], packet[32:]
+
+    def answer(self):
+        """The next packet that is no notification: samples come whenever a cycle is over, before an answer too."""
         while True:
-            size = struct.unpack("<HI", self.take(6))[1]
-            packet = self.take(size)
+            packet = self.take(struct.unpack("<HI", self.take(6))[1])
             if packet[16:18] != b"\x08\x00":
-                return struct.unpack("<I", packet[24:28])[0], packet[32:]
+                return packet
 
     def take(self, count):
         got = b""
@@ -105,9 +109,12 @@ def try_steps(program):
         print("docs/CONNECTING.md: an array has another type id than 65")
     server.socket.sendall(bytes.fromhex("00100200000000000000"))
     try:
-        server.take(1)
+        server.answer()
         wrong += 1
         print("docs/CONNECTING.md: the router's packet was answered")
+    except socket.timeout:
+        wrong += 1
+        print("docs/CONNECTING.md: the router's packet leaves the connection open")
     except ConnectionError:
         pass
     server.stop()

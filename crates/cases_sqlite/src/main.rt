@@ -7,7 +7,7 @@ mod turns;
 use ads_base::NoMemory;
 use std::fs;
 use std::process::ExitCode;
-use turns::{Turn, take_turn};
+use turns::{Turn, take_turn, tell};
 
 /// The file of the samples, where the program runs.
 const PATH: &str = "samples.db";
@@ -29,6 +29,20 @@ fn main(rt: HostRuntime) -> ExitCode {
 
 fn tried(rt: &HostRuntime) -> Result<bool, NoMemory> {
     let begun = take_turn(rt, rt.clone()?, Turn::First);
+    let alone = tell(
+        rt,
+        "the keeper has gone: nothing stands beside the file",
+        has_no_log(rt),
+    );
     let gone_on = take_turn(rt, rt.clone()?, Turn::Second);
-    Ok(begun && gone_on)
+    let still_alone = tell(
+        rt,
+        "the other has gone too: nothing stands beside the file",
+        has_no_log(rt),
+    );
+    Ok(begun && alone && gone_on && still_alone)
+}
+
+fn has_no_log(rt: &HostRuntime) -> bool {
+    matches!(fs::exists(rt, LOG), Ok(false))
 }

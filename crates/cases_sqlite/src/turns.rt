@@ -95,7 +95,8 @@ fn totals_of_four(keeper: &mut SqliteKeeper) -> bool {
     totals(keeper, WAVE, 3, 300_000, &[4, 0]) && totals(keeper, COUNT, 1, 100_000, &[42, 0, 0, 0])
 }
 
-fn tell(rt: &HostRuntime, what: &str, holds: bool) -> bool {
+/// Prints what was tried, and whether it came as wanted.
+pub fn tell(rt: &HostRuntime, what: &str, holds: bool) -> bool {
     let _ = println!(rt; "{what}: {}", if holds { "yes" } else { "no" });
     holds
 }

@@ -4,20 +4,20 @@ ghost use Rattle.std.specs.Prelude.{◌≡◌, ◌≤◌, None, IfOk, length};
 ghost use Rattle.ads_outside.specs.Rose.{Rose};
 
 use persist_store::{Disk, DiskOpen, DiskRead, Synced, Wrote};
-use std::fs::{OpenFile, OpenOptions};
+use std::fs::{self, OpenFile, OpenOptions};
 use std::io::{self, ErrorKind, Read, Seek, SeekFrom, Write};
-use std::rt::Files;
+use std::rt::{Alloc, Files};
 
 /// A file on a disk of the system, by its path. What it holds, and what a stop of the machine leaves of it, is not told. A
 /// call before an opening that is done fails.
 #[derive(Drop)]
-pub struct RealDisk<R: Files + Drop> {
+pub struct RealDisk<R: Files + Alloc + Drop> {
     rt: R,
     file: Option<R::File>,
     faults: u64,
 }
 
-impl<R: Files + Drop> RealDisk<R> {
+impl<R: Files + Alloc + Drop> RealDisk<R> {
     /// No file is open.
     pub fn new(rt: R) -> RealDisk<R> {
         RealDisk {
@@ -36,7 +36,7 @@ fn count(faults: &mut u64)
     *faults = faults.saturating_add(1);
 }
 
-impl<R: Files + Drop> Disk for RealDisk<R> {
+impl<R: Files + Alloc + Drop> Disk for RealDisk<R> {
     ghost use Rattle.std.specs.Prelude.{None};
 
     ghost contents = { λ d. None };
@@ -104,15 +104,18 @@ impl<R: Files + Drop> Disk for RealDisk<R> {
     }
 }
 
-// Opens the file at a path, and tells how many bytes it has. One that is not there is made empty, and its folder brought to
-// the disk, so that it is there after a stop.
-fn opened<R: Files>(rt: &R, path: &str) -> io::Result<(R::File, u64)> {
+// Opens the file at a path, and tells how many bytes it has. One that is not there is made empty, and its folder, which is
+// that of the file to which a link leads, brought to the disk, so that it is there after a stop.
+fn opened<R: Files + Alloc>(rt: &R, path: &str) -> io::Result<(R::File, u64)> {
     let file = OpenOptions::new()
         .read(true)
         .write(true)
         .create(true)
         .open(rt, path)?;
-    let folder = OpenOptions::new().read(true).open(rt, folder_of(path))?;
+    let real = fs::canonicalize(rt, path)?;
+    let folder = OpenOptions::new()
+        .read(true)
+        .open(rt, folder_of(real.as_str()))?;
     folder.sync_all()?;
     let len = file.metadata()?.len();
     Ok((file, len))

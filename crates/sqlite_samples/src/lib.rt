@@ -1,6 +1,7 @@
 //! Recorded samples in an SQLite file.
 #![tactic(auto)]
 
+mod base;
 mod sqlite_keeper;
 mod statements;
 mod tables;

@@ -3,16 +3,23 @@
 ghost use Rattle.std.specs.Prelude.{◌≡◌, ◌≤◌, None};
 ghost use Rattle.ads_outside.specs.Rose.{Rose};
 
-use crate::tables::{open_tables, put_row, total_of};
-use sample_store::{Keeper, KeeperOpen, Kept, Row, Totalled};
-use sqlite::{Connection, Error, ErrorCode, File, FileStore};
+use crate::base::{Base, close_base, open_base, write_back};
+use crate::tables::{put_row, total_of};
+use sample_store::{Keeper, KeeperOpen, Kept, Row, Total, Totalled};
+use sqlite::{Error, ErrorCode};
+
+/// No file was opened.
+const UNOPENED: Error = Error::SqliteFailure(ErrorCode::CannotOpen);
 
 /// Samples in an SQLite file, in two tables. Each put is one transaction. It tells nothing of its rows, and counts each
-/// refused statement as a fault.
-#[derive(Drop)]
+/// refused statement as a fault. Before the first total behind a put, and when it goes, SQLite's log is written back into
+/// the file and taken away.
 pub struct SqliteKeeper {
     rt: HostRuntime,
-    conn: Option<Connection<FileStore<File>>>,
+    path: String,
+    conn: Option<Base>,
+    // Whether rows were written since the file was opened.
+    is_written: bool,
     faults: u64,
 }
 
@@ -21,8 +28,96 @@ impl SqliteKeeper {
     pub fn new(rt: HostRuntime) -> SqliteKeeper {
         SqliteKeeper {
             rt,
+            path: String::new(rt.alloc()),
             conn: None,
+            is_written: false,
             faults: 0,
+        }
+    }
+
+    // Opens a file; the one that was open is closed first.
+    fn open_file(&mut self, name: &str) -> Result<u64, Error>
+        ensures { self.new.faults ≡ self.old.faults }
+    {
+        self.close()?;
+        self.path = String::from_str(self.rt.alloc(), name)?;
+        let (conn, last) = open_base(&self.rt, name)?;
+        self.conn = Some(conn);
+        Ok(last)
+    }
+
+    // The log is written back, and the file is closed.
+    fn close(&mut self) -> Result<(), Error>
+        ensures { self.new.faults ≡ self.old.faults }
+    {
+        self.is_written = false;
+        match self.conn.take() {
+            None => Ok(()),
+            Some(conn) => close_base(&self.rt, conn, self.path.as_str()),
+        }
+    }
+
+    fn put_in(&mut self, row: &Row) -> Result<(), Error>
+        ensures { self.new.faults ≡ self.old.faults }
+    {
+        self.is_written = true;
+        put_by(&mut self.conn, row)
+    }
+
+    // The log is written back, and the file goes on open.
+    fn settle(&mut self) -> Result<(), Error>
+        ensures { self.new.faults ≡ self.old.faults }
+    {
+        self.is_written = false;
+        match self.conn.take() {
+            None => Ok(()),
+            Some(conn) => {
+                self.conn = Some(write_back(&self.rt, conn)?);
+                Ok(())
+            }
+        }
+    }
+
+    // The total of a name, from the file as it will be left.
+    fn total_in(&mut self, name: &[u8]) -> Result<Option<Total>, Error>
+        ensures { self.new.faults ≡ self.old.faults }
+    {
+        if self.is_written {
+            self.settle()?;
+        }
+        total_by(&mut self.conn, name)
+    }
+}
+
+// Before a file was opened, a put fails.
+fn put_by(conn: &mut Option<Base>, row: &Row) -> Result<(), Error> {
+    match conn {
+        None => Err(UNOPENED),
+        Some(conn) => put_row(conn, row),
+    }
+}
+
+// Before a file was opened, a total fails.
+fn total_by(conn: &mut Option<Base>, name: &[u8]) -> Result<Option<Total>, Error> {
+    match conn {
+        None => Err(UNOPENED),
+        Some(conn) => total_of(conn, name),
+    }
+}
+
+// It is written out, so that whatever ends a run leaves one file.
+impl Drop for SqliteKeeper {
+    fn drop(self) {
+        let SqliteKeeper {
+            rt,
+            path,
+            conn,
+            is_written: _,
+            faults: _,
+        } = self;
+        if let Some(conn) = conn {
+            // Nobody is there to be told what fails here; the rows stand in the log then.
+            let _ = close_base(&rt, conn, path.as_str());
         }
     }
 }
@@ -33,6 +128,23 @@ fn count(faults: &mut u64)
     ensures later { faults.old ≤ faults.new }
 {
     *faults = faults.saturating_add(1);
+}
+
+// How a put ended, and one fault more where it failed.
+fn kept(put: Result<(), Error>, faults: &mut u64) -> Kept
+    ensures later { faults.old ≤ faults.new }
+    ensures failed { result ≡ Kept.Failed → Rose faults.old faults.new }
+{
+    match put {
+        Ok(()) => Kept::Done,
+        Err(error) => {
+            if is_memory(&error) {
+                return Kept::Memory;
+            }
+            count(faults);
+            Kept::Failed
+        }
+    }
 }
 
 // Whether memory was wanting.
@@ -48,13 +160,8 @@ impl Keeper for SqliteKeeper {
     }
 
     fn open(&mut self, name: &str) -> KeeperOpen {
-        // The file is locked while it is open.
-        self.conn = None;
-        match open_tables(&self.rt, name) {
-            Ok((conn, rows)) => {
-                self.conn = Some(conn);
-                KeeperOpen::Ready(rows)
-            }
+        match self.open_file(name) {
+            Ok(last) => KeeperOpen::Ready(last),
             Err(error) => {
                 if is_memory(&error) {
                     return KeeperOpen::Memory;
@@ -66,59 +173,19 @@ impl Keeper for SqliteKeeper {
     }
 
     fn put(&mut self, row: &Row) -> Kept {
-        match put_in(&mut self.conn, row) {
-            Kept::Done => Kept::Done,
-            Kept::Memory => Kept::Memory,
-            Kept::Failed => {
-                count(&mut self.faults);
-                Kept::Failed
-            }
-        }
+        let put = self.put_in(row);
+        kept(put, &mut self.faults)
     }
 
     fn total(&mut self, name: &[u8]) -> Totalled {
-        match total_in(&mut self.conn, name) {
-            Totalled::Found(total) => Totalled::Found(total),
-            Totalled::Nothing => Totalled::Nothing,
-            Totalled::Memory => Totalled::Memory,
-            Totalled::Failed => {
+        match self.total_in(name) {
+            Ok(Some(total)) => Totalled::Found(total),
+            Ok(None) => Totalled::Nothing,
+            Err(error) => {
+                if is_memory(&error) {
+                    return Totalled::Memory;
+                }
                 count(&mut self.faults);
-                Totalled::Failed
-            }
-        }
-    }
-}
-
-// Before a file was opened, a put fails.
-fn put_in(conn: &mut Option<Connection<FileStore<File>>>, row: &Row) -> Kept {
-    let Some(conn) = conn else {
-        return Kept::Failed;
-    };
-    match put_row(conn, row) {
-        Ok(true) => Kept::Done,
-        Ok(false) => Kept::Failed,
-        Err(error) => {
-            if is_memory(&error) {
-                Kept::Memory
-            } else {
-                Kept::Failed
-            }
-        }
-    }
-}
-
-// Before a file was opened, a total fails.
-fn total_in(conn: &mut Option<Connection<FileStore<File>>>, name: &[u8]) -> Totalled {
-    let Some(conn) = conn else {
-        return Totalled::Failed;
-    };
-    match total_of(conn, name) {
-        Ok(Some(total)) => Totalled::Found(total),
-        Ok(None) => Totalled::Nothing,
-        Err(error) => {
-            if is_memory(&error) {
-                Totalled::Memory
-            } else {
                 Totalled::Failed
             }
         }

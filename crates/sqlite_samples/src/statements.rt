@@ -2,14 +2,16 @@
 //! is that of the bytes. Each call of the library stands in a function of its own, since each is dear to prove.
 
 use sqlite::types::ValueRef;
-use sqlite::{Alter, Connection, Error, Row, Transaction, params};
+use sqlite::{Alter, Connection, Constraint, Error, ErrorCode, Row, Transaction, params};
 
-/// Makes the tables where they are not there.
+/// Makes both tables, or none.
 pub fn make_tables<S: Alter>(conn: &mut Connection<S>) -> Result<(), Error> {
     conn.execute_batch(
-        "CREATE TABLE IF NOT EXISTS sample (number BLOB NOT NULL UNIQUE, name BLOB NOT NULL, time BLOB NOT NULL, bytes BLOB NOT NULL) STRICT;
-         CREATE TABLE IF NOT EXISTS total (name BLOB NOT NULL UNIQUE, count INTEGER NOT NULL, last BLOB NOT NULL,
-             time BLOB NOT NULL, bytes BLOB NOT NULL) STRICT;",
+        "BEGIN;
+         CREATE TABLE sample (number BLOB NOT NULL UNIQUE, name BLOB NOT NULL, time BLOB NOT NULL, bytes BLOB NOT NULL) STRICT;
+         CREATE TABLE total (name BLOB NOT NULL UNIQUE, count INTEGER NOT NULL, last BLOB NOT NULL,
+             time BLOB NOT NULL, bytes BLOB NOT NULL) STRICT;
+         COMMIT;",
     )
 }
 
@@ -32,10 +34,38 @@ pub fn add_row<'a, S: Alter>(
 ) -> Result<bool, Error> {
     let added = run(
         change,
-        "INSERT OR IGNORE INTO sample (number, name, time, bytes) VALUES (?1, ?2, ?3, ?4)",
+        "INSERT INTO sample (number, name, time, bytes) VALUES (?1, ?2, ?3, ?4)",
         params![number, name, time, bytes],
-    )?;
-    Ok(added != 0)
+    );
+    match added {
+        Ok(_) => Ok(true),
+        // A rule that someone gave the table is no number that is there.
+        Err(error) => {
+            if is_taken(&error) && has_number(change, number)? {
+                Ok(false)
+            } else {
+                Err(error)
+            }
+        }
+    }
+}
+
+// Whether a statement failed for a key that is there.
+fn is_taken(error: &Error) -> bool {
+    matches!(
+        error,
+        Error::SqliteFailure(ErrorCode::ConstraintViolation(
+            Constraint::Unique | Constraint::PrimaryKey
+        ))
+    )
+}
+
+fn has_number<'a, S: Alter>(
+    change: &mut Transaction<'_, S>,
+    number: &'a [u8],
+) -> Result<bool, Error> {
+    let found = change.query_all("SELECT 1 FROM sample WHERE number = ?1", params![number])?;
+    Ok(!found.is_empty())
 }
 
 /// Counts a sample in the total of its name, which has the moment and the bytes of the greatest number.
@@ -47,23 +77,26 @@ pub fn add_to_total<'a, S: Alter>(
     bytes: &'a [u8],
 ) -> Result<(), Error> {
     // Nearly every sample has a greater number than all before it, and its name a total: then one statement does it.
-    let counted = run(
+    let last = run(
         change,
         "UPDATE total SET count = count + 1, last = ?2, time = ?3, bytes = ?4 WHERE name = ?1 AND last < ?2",
         params![name, number, time, bytes],
     )?;
-    if counted != 0 {
+    if last != 0 {
+        return Ok(());
+    }
+    let earlier = run(
+        change,
+        "UPDATE total SET count = count + 1 WHERE name = ?1",
+        params![name],
+    )?;
+    if earlier != 0 {
         return Ok(());
     }
     run(
         change,
-        "INSERT OR IGNORE INTO total (name, count, last, time, bytes) VALUES (?1, 0, ?2, ?3, ?4)",
+        "INSERT INTO total (name, count, last, time, bytes) VALUES (?1, 1, ?2, ?3, ?4)",
         params![name, number, time, bytes],
-    )?;
-    run(
-        change,
-        "UPDATE total SET count = count + 1 WHERE name = ?1",
-        params![name],
     )?;
     Ok(())
 }

@@ -4,39 +4,78 @@ use crate::statements::{add_row, add_to_total, make_tables, rows_of};
 use ads_base::Octets;
 use byteorder::{BigEndian, ByteOrder};
 use sample_store::{Row, Total};
-use sqlite::{Alter, Connection, Error, ErrorCode, File, FileStore, Transaction, params};
+use sqlite::{Alter, Connection, Error, ErrorCode, Transaction, params};
 
-/// Opens a file and makes the tables where they are not there; gives the number of rows too.
-pub fn open_tables(
-    rt: &HostRuntime,
-    path: &str,
-) -> Result<(Connection<FileStore<File>>, u64), Error> {
-    let mut conn = Connection::open(rt, path)?;
-    match count_rows(&mut conn) {
-        Ok(rows) => Ok((conn, rows)),
-        Err(error) => Err(error),
+/// What is there of the two tables.
+const TABLES: &str = "SELECT name FROM sqlite_schema WHERE name COLLATE NOCASE = 'sample' OR name COLLATE NOCASE = 'total'";
+
+/// The greatest number.
+const LAST: &str = "SELECT max(number) FROM sample";
+
+/// Names that have other rows than their total counts, or none.
+const UNCOUNTED: &str = "SELECT name, count(*), max(number) FROM sample GROUP BY name EXCEPT SELECT name, count, last FROM total";
+
+/// Totals that are not those of their last row.
+const UNFOUNDED: &str = "SELECT 1 FROM total LEFT JOIN sample ON sample.number = total.last
+    WHERE sample.name IS NOT total.name OR sample.time IS NOT total.time OR sample.bytes IS NOT total.bytes LIMIT 1";
+
+/// Makes the tables where neither is there, and gives the greatest number, 0 where there is none. Tables whose totals are not
+/// those of their rows are damaged, and what has only one of the tables is another's file: neither is written.
+pub fn last_number<S: Alter>(conn: &mut Connection<S>) -> Result<u64, Error> {
+    let found = rows_of(conn, TABLES, &[])?.len();
+    if found == 0 {
+        make_tables(conn)?;
+        return Ok(0);
     }
+    if found != 2 {
+        return Err(Error::SqliteFailure(ErrorCode::NotADatabase));
+    }
+    if !are_folded(conn)? {
+        return Err(Error::SqliteFailure(ErrorCode::DatabaseCorrupt));
+    }
+    greatest(conn)
 }
 
-// Makes the tables where they are not there, and gives the number of samples.
-fn count_rows<S: Alter>(conn: &mut Connection<S>) -> Result<u64, Error> {
-    make_tables(conn)?;
-    let rows = rows_of(conn, "SELECT count(*) FROM sample", &[])?;
+// Whether each total is that of the rows of its name, and each name has one.
+fn are_folded<S: Alter>(conn: &mut Connection<S>) -> Result<bool, Error> {
+    let uncounted = rows_of(conn, UNCOUNTED, &[])?;
+    let unfounded = rows_of(conn, UNFOUNDED, &[])?;
+    Ok(uncounted.is_empty() && unfounded.is_empty())
+}
+
+fn greatest<S: Alter>(conn: &mut Connection<S>) -> Result<u64, Error> {
+    let rows = rows_of(conn, LAST, &[])?;
     match rows.first() {
         None => Err(Error::QueryReturnedNoRows),
-        Some(row) => number_in(row, 0),
+        Some(row) => number_or_none(row),
     }
 }
 
-/// Puts a row in both tables, in one transaction; nothing where its number is there. `false` where a transaction is open,
+fn number_or_none(row: &sqlite::Row) -> Result<u64, Error> {
+    let last: Option<Vec<u8>> = row.get(0)?;
+    match last {
+        None => Ok(0),
+        Some(bytes) => word_in(&bytes),
+    }
+}
+
+// The number in eight bytes.
+fn word_in(bytes: &Vec<u8>) -> Result<u64, Error> {
+    if bytes.len() != 8 {
+        return Err(Error::SqliteFailure(ErrorCode::DatabaseCorrupt));
+    }
+    Ok(BigEndian::read_u64(bytes.as_slice()))
+}
+
+/// Puts a row in both tables, in one transaction; nothing where its number is there. It fails where a transaction is open,
 /// which nobody leaves.
-pub fn put_row<S: Alter>(conn: &mut Connection<S>, row: &Row) -> Result<bool, Error> {
+pub fn put_row<S: Alter>(conn: &mut Connection<S>, row: &Row) -> Result<(), Error> {
     if !conn.is_autocommit() {
-        return Ok(false);
+        return Err(Error::SqliteFailure(ErrorCode::TransactionState));
     }
     let mut change = conn.transaction();
     match put_in_both(&mut change, row) {
-        Ok(()) => commit(change),
+        Ok(()) => change.commit(),
         Err(error) => Err(error),
     }
 }
@@ -50,11 +89,6 @@ fn put_in_both<S: Alter>(change: &mut Transaction<'_, S>, row: &Row) -> Result<(
         add_to_total(change, &number, name, &time, bytes)?;
     }
     Ok(())
-}
-
-fn commit<S: Alter>(change: Transaction<'_, S>) -> Result<bool, Error> {
-    change.commit()?;
-    Ok(true)
 }
 
 /// The total of a name, where a row has it.
@@ -74,12 +108,9 @@ fn total_in(row: &sqlite::Row) -> Result<Total, Error> {
     let count = number_in(row, 0)?;
     let time = bytes_in(row, 1)?;
     let bytes = bytes_in(row, 2)?;
-    if time.len() != 8 {
-        return Err(Error::SqliteFailure(ErrorCode::DatabaseCorrupt));
-    }
     Ok(Total {
         count,
-        time: BigEndian::read_u64(time.as_slice()),
+        time: word_in(&time)?,
         bytes: Octets::from_vec(bytes),
     })
 }

@@ -1,0 +1,87 @@
+//! An open file of samples, and SQLite's log beside it.
+
+use crate::tables::last_number;
+use sqlite::{Connection, Error, ErrorCode, File, FileStore, Options};
+use std::fs;
+use std::hash::{BuildHasher, RandomState};
+
+/// The connection to an open file.
+pub type Base = Connection<FileStore<File>>;
+
+/// Opens a file and makes the tables where neither is there; gives the greatest number too. A file that is not one of samples
+/// stays as it is, and so does what SQLite keeps beside it.
+pub fn open_base(rt: &HostRuntime, path: &str) -> Result<(Base, u64), Error> {
+    let had_log = has_log(rt, path);
+    let mut conn = Connection::open(rt, path)?;
+    match last_number(&mut conn) {
+        Ok(last) => Ok((conn, last)),
+        Err(error) => {
+            // The log of another's file is for another to write back.
+            if !had_log {
+                let _ = close_base(rt, conn, path);
+            }
+            Err(error)
+        }
+    }
+}
+
+/// Writes the log back into the file, which stays locked, and goes on with what stands in the file then.
+pub fn write_back(rt: &HostRuntime, conn: Base) -> Result<Base, Error> {
+    let seed = salt(rt)?;
+    match conn.close_files() {
+        Ok(files) => match Connection::open_files(rt.alloc(), files, Options::new(seed)) {
+            Ok(conn) => Ok(conn),
+            Err((error, _)) => Err(error),
+        },
+        Err((error, store)) => {
+            drop(store.close());
+            Err(error)
+        }
+    }
+}
+
+// A random number, for the log that begins.
+fn salt(rt: &HostRuntime) -> Result<u64, Error> {
+    match RandomState::new(rt) {
+        Ok(state) => Ok(state.hash_one(&0u8)),
+        Err(_) => Err(Error::SqliteFailure(ErrorCode::CannotOpen)),
+    }
+}
+
+/// Writes the log back into the file and takes it away, so that the file has every row. Where that fails, the rows stand in
+/// both.
+pub fn close_base(rt: &HostRuntime, conn: Base, path: &str) -> Result<(), Error> {
+    match conn.close_files() {
+        Ok(files) => {
+            // The files are locked until they are dropped: a log that is taken away here is nobody's.
+            if let Some(log) = log_beside(rt, path) {
+                let _ = fs::remove_file(rt, log.as_str());
+            }
+            drop(files);
+            Ok(())
+        }
+        Err((error, store)) => {
+            drop(store.close());
+            Err(error)
+        }
+    }
+}
+
+// The name of the log beside a file that is there, behind each link.
+fn log_beside(rt: &HostRuntime, path: &str) -> Option<String> {
+    let Ok(real) = fs::canonicalize(rt, path) else {
+        return None;
+    };
+    match format!(in rt.alloc(); "{}-wal", real.as_str()) {
+        Ok(log) => Some(log),
+        Err(_) => None,
+    }
+}
+
+// Whether a log may stand beside a file.
+fn has_log(rt: &HostRuntime, path: &str) -> bool {
+    match log_beside(rt, path) {
+        None => false,
+        Some(log) => !matches!(fs::exists(rt, log.as_str()), Ok(false)),
+    }
+}

@@ -1,0 +1,121 @@
+"""`ads record` over files that are whole, changed by hand, ruled by others, or not its own: what it puts, what it leaves beside them and leaves alone."""
+import contextlib
+import os
+import shutil
+import sqlite3
+import tempfile
+
+from lib.program import run as run_program
+from tries.running import ME, PLANT, see
+
+LOCAL = ["--local", PLANT, "--me", ME]
+FAULT = ("ads: keeper fault\n", 16)
+TABLES = ("CREATE TABLE sample (number BLOB NOT NULL UNIQUE, name BLOB NOT NULL, time BLOB NOT NULL, bytes BLOB NOT NULL {})",
+          "CREATE TABLE total (name BLOB NOT NULL UNIQUE, count INTEGER NOT NULL, last BLOB NOT NULL, time BLOB NOT NULL, bytes BLOB NOT NULL {})")
+FOLD = ("DELETE FROM total", "INSERT INTO total SELECT name, count(*), max(number), time, bytes FROM sample GROUP BY name")
+
+
+def record(program, path, *names, count=4):
+    names = names or ("Main.wave", "Main.count")
+    return run_program(program, "record", *names, "--mode", "change", "--cycle", "0", "--count", str(count), "--store", path, *LOCAL)
+
+
+def changed(path, *texts, mode="DELETE"):
+    """A file behind these statements, closed in this journal mode, so that it is all there is."""
+    with contextlib.closing(sqlite3.connect(path)) as base:
+        base.execute(f"PRAGMA journal_mode = {mode}")
+        for text in texts:
+            base.execute(text)
+        base.commit()
+    return path
+
+
+def numbers_of(path):
+    """The numbers in a copy of the file alone, whose totals are seen to be those of its rows."""
+    alone = path + ".copy"
+    shutil.copyfile(path, alone)
+    with contextlib.closing(sqlite3.connect(alone)) as base:
+        see(base.execute("PRAGMA integrity_check").fetchall() == [("ok",)], f"a copy of {path} alone is not whole")
+        rows = base.execute("SELECT number, name, time, bytes FROM sample ORDER BY number").fetchall()
+        totals = base.execute("SELECT name, count, last, time, bytes FROM total ORDER BY name").fetchall()
+    folded = {}
+    for number, name, time, data in rows:
+        folded[name] = (folded.get(name, (0,))[0] + 1, number, time, data)
+    see(sorted((name, *it) for name, it in folded.items()) == totals, f"the totals of {path} are not those of its rows: {totals}")
+    for name in (alone, f"{alone}-wal", f"{alone}-shm"):
+        with contextlib.suppress(OSError):
+            os.remove(name)
+    return [int.from_bytes(number, "big") for number, *_ in rows]
+
+
+def one_file(program, folder):
+    """A recording leaves one file, whatever its status, and a link at its place leaves one where it leads."""
+    path, link = os.path.join(folder, "samples.db"), os.path.join(folder, "link.db")
+    os.symlink(path, link)
+    # Main.count may have sent its first sample when the server refuses the second name.
+    scenes = ((path, (), 0, (4,)), (link, (), 0, (8,)), (path, ("Main.nothing",), 8, (8,)), (path, ("Main.count", "Main.nothing"), 8, (8, 9)))
+    for where, names, status, numbers in scenes:
+        _, came = record(program, where, *names)
+        see(came == status, f"record ends with {came}, not {status}")
+        rows = numbers_of(path)
+        see(len(rows) in numbers and rows == list(range(1, len(rows) + 1)), f"status {status} leaves the rows {rows}")
+        see(sorted(os.listdir(folder)) == ["link.db", "samples.db"], f"status {status} leaves {sorted(os.listdir(folder))}")
+
+
+def rows_missing(program, folder):
+    """Where rows are missing it goes on behind the greatest number, or ends before it puts one: none is lost in silence."""
+    path = os.path.join(folder, "samples.db")
+    record(program, path)
+    changed(path, "DELETE FROM sample WHERE number < x'0000000000000003'", mode="WAL")
+    with open(path, "rb") as file:
+        before = file.read()
+    see(record(program, path) == FAULT, "totals that are not those of the rows are gone on with")
+    with open(path, "rb") as file:
+        see(file.read() == before and os.listdir(folder) == ["samples.db"], "a file whose totals are not those of its rows does not stay as it is")
+    changed(path, *FOLD)
+    out, status = record(program, path)
+    see(status == 0 and numbers_of(path) == list(range(3, 9)), f"behind rows 3 and 4 stand {numbers_of(path)}: {out!r}, status {status}")
+    changed(path, "DELETE FROM sample", "DELETE FROM total")
+    see(record(program, path)[1] == 0 and numbers_of(path) == [1, 2, 3, 4], f"in an emptied table stand {numbers_of(path)}")
+    for text in ("DELETE FROM total WHERE name = x'4d61696e2e636f756e74'", "UPDATE total SET count = count + 1", "UPDATE total SET last = x'0000000000000001'",
+                 "UPDATE total SET bytes = x'09'", "INSERT INTO total VALUES (x'41', 1, x'0000000000000009', x'0000000000000009', x'09')"):
+        other = shutil.copyfile(path, os.path.join(folder, "other.db"))
+        see(record(program, changed(other, text)) == FAULT, f"after {text} it is gone on with")
+
+
+def rules_of_others(program, folder):
+    """A rule that someone gave the tables is no reason to leave a sample out in silence."""
+    cases = [(0, ", CHECK (length(bytes) > 100)", "", ()), (0, "", ", CHECK (count < 1)", ()), (2, "", ", CHECK (count < 3)", ()),
+             (1, "", "", ("CREATE UNIQUE INDEX one ON sample (name)",)), (1, ", UNIQUE (name)", "", ())]
+    for k, (rows, of_sample, of_total, more) in enumerate(cases):
+        path = changed(os.path.join(folder, f"{k}.db"), TABLES[0].format(of_sample), TABLES[1].format(of_total), *more)
+        see(record(program, path, "Main.wave") == FAULT, f"samples that {of_sample or of_total or more} refuses are left out in silence")
+        see(numbers_of(path) == list(range(1, rows + 1)), f"before the refused sample stand {numbers_of(path)}")
+
+
+def files_of_others(program, folder):
+    """Another's file stays byte for byte as it is, and nothing stands beside it; beside other tables ours are made."""
+    cases = [("CREATE TABLE sample (a)",), ("CREATE TABLE total (name, count)",), ("CREATE TABLE sample (a)", "CREATE TABLE total (b)"),
+             ("CREATE TABLE Total (b)",),
+             ("CREATE TABLE t (a)", "CREATE VIEW sample AS SELECT a FROM t"), ("CREATE TABLE sample (number, name)", TABLES[1].format(""))]
+    for k, texts in enumerate(cases):
+        for mode in ("DELETE", "WAL"):
+            path = changed(os.path.join(folder, f"{k}{mode}.db"), *texts, mode=mode)
+            with open(path, "rb") as file:
+                before = file.read()
+            see(record(program, path) == FAULT, f"{texts} in the mode {mode} is taken for a recording")
+            with open(path, "rb") as file:
+                see(file.read() == before, f"{texts} in the mode {mode} does not stay as it is")
+            os.remove(path)
+            see(os.listdir(folder) == [], f"beside {texts} in the mode {mode} stands {os.listdir(folder)}")
+    path = changed(os.path.join(folder, "mine.db"), "CREATE TABLE mine (a)", "INSERT INTO mine VALUES (7)")
+    see(record(program, path)[1] == 0 and numbers_of(path) == [1, 2, 3, 4], "beside another table nothing is recorded")
+    with contextlib.closing(sqlite3.connect(path)) as base:
+        see(base.execute("SELECT a FROM mine").fetchall() == [(7,)], "another's table is changed")
+
+
+def tried(program, size):
+    for scene in (one_file, rows_missing, rules_of_others, files_of_others):
+        with tempfile.TemporaryDirectory() as folder:
+            scene(program, folder)
+    return "one file at each end; rows that are missing, rules and files of others"
