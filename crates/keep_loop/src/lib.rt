@@ -11,3 +11,4 @@ mod saving;
 pub use keep_end::KeepEnd;
 pub use keeping::keep_turns;
 pub use persistent::Persistent;
+pub use run_end::RunEnd;

@@ -2,7 +2,7 @@
 
 /// How the turns of a run ended, before its last save.
 #[derive(Clone, Copy, Debug, PartialEq, Eq)]
-pub(crate) enum RunEnd {
+pub enum RunEnd {
     /// The wire has no more events.
     Done,
     /// The wire failed to give an event.
