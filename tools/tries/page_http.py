@@ -96,7 +96,8 @@ def of_requests(page):
             continue
         came = raw(page, given)
         see(status_of(came) == wanted, f"a peer with {what}: {came[:200]!r} in place of status {wanted}")
-        see(b"Content-Security-Policy: default-src 'none'; script-src 'self'" in came and b"unsafe" not in came, f"a peer with {what}: an answer without its guards")
+        guarded = b"Content-Security-Policy: default-src 'none'; script-src 'self'" in came and b"unsafe" not in came
+        see(guarded, f"a peer with {what}: an answer without its guards")
     return len(requests(""))
 
 
@@ -155,7 +156,8 @@ def of_lazy():
             streams.send(bytes(100000))
             await asyncio.sleep(0.002)
             await ends[0][0].read(1 << 20)
-        see((len(streams.open), streams.dropped) == (1, 1), f"of a browser that reads and one that does not {len(streams.open)} are there, and {streams.dropped} was let go")
+        left = len(streams.open), streams.dropped
+        see(left == (1, 1), f"of a browser that reads and one that does not {left[0]} are there, and {left[1]} was let go")
         for _, writer in ends:
             writer.transport.abort()
         server.close()
