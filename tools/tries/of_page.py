@@ -118,7 +118,7 @@ def one_page(program, size):
 
 def tried(program, size):
     calls = [(one_page, program, size), (wrong_words,), (page_servers.goes_and_comes, program), (page_servers.takes_descriptions, program),
-             (page_servers.lying_servers,)] + ([] if size.quick else [(page_servers.far_apart, program)])
+             (page_servers.lying_servers,), (page_servers.two_ports, program)] + ([] if size.quick else [(page_servers.far_apart, program)])
     with concurrent.futures.ThreadPoolExecutor(3) as pool:
         parts = [pool.submit(call, *given) for call, *given in calls]
         (equal, typed, guarded, hostile), _, _, _, lies, *_ = [part.result() for part in parts]

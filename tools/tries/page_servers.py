@@ -92,6 +92,26 @@ def tells_of_another(program, folder):
         see("pos" in page.values()[851, "Main.axes"]["value"][0], "what is shown is not what is served")
 
 
+def two_ports(program):
+    """Two ports with the same names: each value has its own, in the table, in the past and in the form."""
+    with open(PLANT, encoding="utf-8") as file, tempfile.TemporaryDirectory() as folder:
+        place, (head, port) = os.path.join(folder, "two.toml"), file.read().split("[[port]]\n")
+        put(place, f"{head}[[port]]\n{port}[[port]]\n{port.replace('port = 851', 'port = 852').replace('signal = 2', 'signal = 1')}")
+        with Served(program, place) as server, Page(place, server.to, "--write", "852:Main.count") as page:
+            page.until(page.is_well, "the server")
+            see(page.write("Main.count", "7", page.token())[0] == 403, "a write without its port, which is that of the first")
+            body = b'{"name": "Main.count", "port": 852, "value": "7"}'
+            status, _, said = page.ask("/write", "POST", body, Content_Type="application/json", X_Token=page.token())
+            see(status == 200, f"a write at the second port: {status} {said}")
+            page.until(lambda: page.values()[852, "Main.count"]["value"] == 7, "the value of the second port")
+            see(page.values()[851, "Main.count"]["value"] == 42, "the value of the first port changed, too")
+            see(page.json("/history.json?name=Main.count&port=852")["values"][-1] == 7, "the past of the second port")
+            see(page.json("/history.json?name=Main.count")["values"] == [42], "the past of the first port")
+        with Served(program, place) as server, Page(place, server.to, "--port", "852") as page:
+            page.until(page.is_well, "the server")
+            see({port for port, _ in page.values()} == {852}, "--port shows another port")
+
+
 def far_apart(program):
     """More symbols than notifications can watch: the rest is read in sums, and none is shown under the name of another when a description moves them."""
     def text(shift):
