@@ -106,6 +106,13 @@ class Shell:
             self.process.kill()
 
 
+def with_ports_of_page(line, ports):
+    """A line that was printed, with the ports that the page names in place of the free ones."""
+    for port, free in ports.items():
+        line = line.replace(f"127.0.0.1:{free}", f"127.0.0.1:{port}")
+    return line
+
+
 def try_page(page, program, folder):
     shutil.rmtree(folder, ignore_errors=True)
     (folder / "crates/ads/out").mkdir(parents=True)
@@ -120,7 +127,7 @@ def try_page(page, program, folder):
         for port in re.findall(r"\b(?:127\.0\.0\.1|0\.0\.0\.0):(\d+)", command):
             ports.setdefault(port, free_port())
         tried = re.sub(r"(\b(?:127\.0\.0\.1|0\.0\.0\.0):)(\d+)", lambda m: m.group(1) + ports[m.group(2)], command)
-        got = shell.run(tried, len(wanted))
+        got = [with_ports_of_page(line, ports) for line in shell.run(tried, len(wanted))]
         if got != wanted:
             wrong += 1
             print(f"{page}:{number}: {command}")

@@ -24,13 +24,13 @@ from lib.frames import READ_WRITE  # noqa: E402
 from lib.payloads import Request  # noqa: E402
 from page_parts import ROW, SAID, Tried, filters, forms, hostile, keyboard, parts, plots, values, widths  # noqa: E402
 from tries.counting import Counting  # noqa: E402
-from tries.of_page import Rig, put  # noqa: E402
-from tries.paged import PLANT, READER, Page, Stream  # noqa: E402
+from tries.paged import PLANT, READER, Page, Rig, Stream, put  # noqa: E402
 from tries.running import Served, Wrong  # noqa: E402
 
 WRITTEN = ("Main.count", "Main.mode", "Main.limit", "Main.title", "Main.axes[1].pos")
 BAR = "return document.getElementById('bar').innerText.startsWith(arguments[0])"
-HEAD = 'schema = 2\nnet = "5.1.2.3.1.1"\n[[route]]\nnet = "192.168.0.9.1.1"\nrights = "write"\n[[port]]\nport = 851\nname = "Many"\nmajor = 1\nminor = 0\nbuild = 0\n'
+HEAD = ('schema = 2\nnet = "5.1.2.3.1.1"\n[[route]]\nnet = "192.168.0.9.1.1"\nrights = "write"\n'
+        '[[port]]\nport = 851\nname = "Many"\nmajor = 1\nminor = 0\nbuild = 0\n')
 
 
 def many(folder, count):
@@ -47,11 +47,13 @@ def gone_and_back(it):
     it.between.is_open = False
     it.between.cut_off()
     it.see(it.until(BAR, "The server has been gone since"), "a bar says that the server is gone", it.text("bar"))
-    it.see(it.text("pill") == "no connection" and it.browser.script("return document.body.classList.contains('stale')"), "the values are faint", it.text("pill"))
+    faint = it.browser.script("return document.body.classList.contains('stale')")
+    it.see(faint and it.text("pill") == "no connection", "the values are faint", it.text("pill"))
     it.shot("gone")
     it.between.is_open = True
     it.see(it.until(BAR, "The server is back.", seconds=40), "the bar says that it is back", it.text("bar"))
-    it.see(it.text("pill") == "live" and it.browser.script("return document.getElementById('filter').value") == "main", "values come again, and the filter stands")
+    filtered = it.browser.script("return document.getElementById('filter').value") == "main"
+    it.see(it.text("pill") == "live" and filtered, "values come again, and the filter stands")
     it.see(it.until("return document.getElementById('bar').hidden", seconds=15), "the bar goes")
     it.filter("")
 
@@ -123,7 +125,8 @@ def ten_browsers(it):
             time.sleep(5)
             counts.append((it.between.requests - before) / (time.monotonic() - at))
         moved = it.main("Main.wave")
-        it.see(max(counts) < 1.5 and it.between.connections == 1, f"requests a second at the server: {counts[0]:.1f} with this browser, {counts[1]:.1f} with nine more", counts)
+        it.see(max(counts) < 1.5 and it.between.connections == 1,
+               f"requests a second at the server: {counts[0]:.1f} with this browser, {counts[1]:.1f} with nine more", counts)
         it.see(it.until(ROW + "return row('Main.wave').main.textContent !== arguments[0]", moved), "and all of them go on")
 
 
@@ -172,8 +175,9 @@ def cost(program, seconds=10):
                 time.sleep(max(0.0, 0.1 - (time.monotonic() - at) % 0.1))
             took, after = time.monotonic() - at, measured(page)
             print(f"{count} browsers: {100 * (after['cpu_seconds_total'] - before['cpu_seconds_total']) / took:.1f} % of a processor, "
-                  f"{(after['changes_total'] - before['changes_total']) / took:.0f} changes/s, at the server {(between.requests - requests) / took:.1f} requests/s, "
-                  f"{(between.sent - sent) / took / 1000:.1f} kB/s from it, {between.connections} connection(s)", flush=True)
+                  f"{(after['changes_total'] - before['changes_total']) / took:.0f} changes/s, "
+                  f"at the server {(between.requests - requests) / took:.1f} requests/s, {(between.sent - sent) / took / 1000:.1f} kB/s from it, "
+                  f"{between.connections} connection(s)", flush=True)
     return 0
 
 

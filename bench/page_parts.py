@@ -4,7 +4,7 @@ import re
 import struct
 import time
 
-from tries.of_page import Rig
+from tries.paged import Rig
 
 ROW = "const row = (path) => [...document.querySelectorAll('#rows tr')].find((it) => it.of && it.of.path === path);"
 MAIN = ROW + " return row(arguments[0]) ? row(arguments[0]).main.textContent : null;"
@@ -200,7 +200,8 @@ def keyboard(it):
     press("End")
     it.see(it.active() == "Flags.on", "End goes to the last row", it.active())
     press("Home", "Enter", "Tab")
-    it.see(it.browser.script("return document.getElementById('plot').contains(document.activeElement)"), "Home, Enter and Tab go into the first plot", it.active())
+    inside = it.browser.script("return document.getElementById('plot').contains(document.activeElement)")
+    it.see(inside, "Home, Enter and Tab go into the first plot", it.active())
     press("Tab", "Right")
     minutes = it.browser.script("return document.querySelector('#plot [aria-checked=true]').innerText")
     it.see(minutes in ("5 min", "10 min"), "an arrow chooses how much is drawn", minutes)

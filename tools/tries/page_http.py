@@ -36,6 +36,10 @@ def status_of(came):
 def requests(host):
     """What a peer sends, and the status that must come; None for an end without an answer."""
     head = f"Host: {host}\r\n".encode()
+    return of_hosts(head) + of_heads(head) + of_bodies(head)
+
+
+def of_hosts(head):
     return [
         ("a request", b"GET /healthz HTTP/1.1\r\n" + head + b"\r\n", 200),
         ("HTTP/1.0", b"GET /healthz HTTP/1.0\r\n" + head + b"\r\n", 200),
@@ -51,6 +55,11 @@ def requests(host):
         ("the origin null", b"GET /events HTTP/1.1\r\n" + head + b"Origin: null\r\n\r\n", 403),
         ("another site", b"GET /values.json HTTP/1.1\r\n" + head + b"Sec-Fetch-Site: cross-site\r\nSec-Fetch-Mode: no-cors\r\n\r\n", 403),
         ("a link of another site", b"GET / HTTP/1.1\r\n" + head + b"Sec-Fetch-Site: cross-site\r\nSec-Fetch-Mode: navigate\r\n\r\n", 200),
+    ]
+
+
+def of_heads(head):
+    return [
         ("no HTTP", b"\x16\x03\x01\x02\x00\x01\x00\x01\xfc\x03\x03" + bytes(50) + b"\r\n\r\n", 400),
         ("HTTP/0.9", b"GET /\r\n\r\n", 400),
         ("HTTP/2", b"PRI * HTTP/2.0\r\n\r\nSM\r\n\r\n", 400),
@@ -71,6 +80,11 @@ def requests(host):
         ("a head of 9,000 bytes", b"GET /healthz HTTP/1.1\r\n" + head + b"A: " + b"b" * 9000 + b"\r\n\r\n", 431),
         ("a head of a megabyte", b"GET /healthz HTTP/1.1\r\n" + head + (b"A: " + b"b" * 1000 + b"\r\n") * 1000, 431),
         ("a line of a megabyte", b"G" * 1000000, 431),
+    ]
+
+
+def of_bodies(head):
+    return [
         ("another method", b"DELETE / HTTP/1.1\r\n" + head + b"\r\n", 405),
         ("a preflight of another page", b"OPTIONS /write HTTP/1.1\r\n" + head + b"\r\n", 405),
         ("a read of the form", b"GET /write?name=Main.count&value=1 HTTP/1.1\r\n" + head + b"\r\n", 405),
@@ -96,7 +110,8 @@ def of_requests(page):
             continue
         came = raw(page, given)
         see(status_of(came) == wanted, f"a peer with {what}: {came[:200]!r} in place of status {wanted}")
-        see(b"Content-Security-Policy: default-src 'none'; script-src 'self'" in came and b"unsafe" not in came, f"a peer with {what}: an answer without its guards")
+        guarded = b"Content-Security-Policy: default-src 'none'; script-src 'self'" in came and b"unsafe" not in came
+        see(guarded, f"a peer with {what}: an answer without its guards")
     return len(requests(""))
 
 
@@ -155,7 +170,8 @@ def of_lazy():
             streams.send(bytes(100000))
             await asyncio.sleep(0.002)
             await ends[0][0].read(1 << 20)
-        see((len(streams.open), streams.dropped) == (1, 1), f"of a browser that reads and one that does not {len(streams.open)} are there, and {streams.dropped} was let go")
+        left = len(streams.open), streams.dropped
+        see(left == (1, 1), f"of a browser that reads and one that does not {left[0]} are there, and {left[1]} was let go")
         for _, writer in ends:
             writer.transport.abort()
         server.close()

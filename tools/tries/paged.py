@@ -4,12 +4,17 @@ import json
 import os
 import queue
 import socket
+import struct
 import subprocess
 import sys
 import threading
 import time
 
-from tries.running import ME, TOOLS, free_port, see
+from lib import groups
+from lib.frames import READ_WRITE, WRITE
+from lib.link import Link
+from lib.payloads import Request
+from tries.running import ME, NET, TOOLS, free_port, see
 
 PLANT = os.path.join(os.path.dirname(os.path.abspath(__file__)), "page_plant.toml")
 READER = "192.168.0.10.1.1"
@@ -20,8 +25,8 @@ class Page:
 
     def __init__(self, plant, to, *words, me=ME, port=None):
         self.port = port or free_port()
-        self.process = subprocess.Popen([sys.executable, os.path.join(TOOLS, "page.py"), plant, "--to", to, "--me", me, "--http", f"127.0.0.1:{self.port}", *words],
-                                        stdin=subprocess.DEVNULL, stdout=subprocess.PIPE, stderr=subprocess.PIPE, text=True)
+        words = [sys.executable, os.path.join(TOOLS, "page.py"), plant, "--to", to, "--me", me, "--http", f"127.0.0.1:{self.port}", *words]
+        self.process = subprocess.Popen(words, stdin=subprocess.DEVNULL, stdout=subprocess.PIPE, stderr=subprocess.PIPE, text=True)
 
     def __enter__(self):
         first = self.process.stdout.readline()
@@ -132,3 +137,32 @@ def leaves_of(table):
     for symbol in table["symbols"]:
         walk(symbol, symbol["n"])
     return found
+
+
+class Rig:
+    """A client beside the page, over a link of its own."""
+
+    def __init__(self, server):
+        self.link = Link(server.to, NET, ME, 30.0)
+
+    def __enter__(self):
+        return self
+
+    def __exit__(self, *_):
+        self.link.close()
+
+    def bytes_of(self, name):
+        return self.link.ask(851, Request(READ_WRITE, groups.VALUE, 0, self.place(name)[2], name.encode()))
+
+    def place(self, name):
+        return struct.unpack("<III", self.link.ask(851, Request(READ_WRITE, groups.PLACE, 0, 65536, name.encode()))[:12])
+
+    def put(self, name, given):
+        group, offset, _ = self.place(name)
+        self.link.ask(851, Request(WRITE, group, offset, 0, given))
+
+
+def put(place, text):
+    with open(place + ".new", "w", encoding="utf-8") as file:
+        file.write(text)
+    os.replace(place + ".new", place)

@@ -9,6 +9,7 @@ const $ = (id) => document.getElementById(id);
 const meta = (name) => document.querySelector(`meta[name="${name}"]`).content;
 const SILENT = 25000, THEMES = ["", "light", "dark"];
 
+// How far the server's clock is ahead of this one: the least that any event took to come decides.
 let ahead = 0, source = null, heard = Date.now(), table = { g: 0, o: 0 }, state = null, ours = true, wasLive = null, timer = null;
 const moment = () => Date.now() + ahead;
 
@@ -85,6 +86,7 @@ function news(said, before) {
 function changed(said) {
   if (said.g !== table.g || said.o <= table.o) return;
   table.o = said.o;
+  ahead = Math.max(ahead, said.m - Date.now());
   rows.change(said.c, said.m);
   if (plot.of) for (const [leaf, value] of said.c) if (leaf === plot.of.leaf) plot.add(said.m, value);
   picture();
