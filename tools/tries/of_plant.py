@@ -165,12 +165,27 @@ def places_stay(seed, count):
         see(all(one <= two for one, two in zip(*areas)), f"an area became smaller: {areas}")
 
 
+def described_as_built(server, plant):
+    """A server of a built plant, described with its values, has the same symbols at the same places with the same bytes."""
+    text, err, status = tool("describe.py", *server.words(), "--initial", "--seconds", "60", seconds=120)
+    see(status == 0, err)
+    one, two = verdict_on(text_of(plant).encode()), verdict_on(text.encode())
+    symbols = [[it for it in verdict.document["port"][0]["symbol"] if it["name"] != "Line.wave"] for verdict in (one, two)]
+    images = first_bytes(one), first_bytes(two)
+    see([it["name"] for it in symbols[0]] == [it["name"] for it in symbols[1]], f"describe.py tells other symbols than were built: {text}")
+    for old, new in zip(*symbols):
+        places = [(it["area"], it["offset"]) for it in (old, new)]
+        values = [image[area][1][offset] for image, (area, offset) in zip(images, places)]
+        see(places[0] == places[1] and values[0] == values[1], f"{old['name']}: {places[0]} {values[0].hex()} was built, {places[1]} {values[1].hex()} is read")
+
+
 def changed_while_served(program, folder):
     """A line that is changed under a server: the value that a client wrote stays, and so does its place."""
     plant, line = os.path.join(folder, "plant.toml"), written(folder, "line.toml", text_of(LINE))
     out, err, status = tool("plant.py", "build", line, "--out", plant)
     see(status == 0 and "ok ports 1 symbols" in out, err)
     with Served(program, plant) as server:
+        described_as_built(server, plant)
         said, _ = run_program(program, "set", "Line.count", "12345", *server.words())
         before, _ = run_program(program, "list", *server.words())
         new = text_of(LINE).replace("symbol = [", 'symbol = [\n  { name = "Line.added", type = "LREAL", initial = 2.5 },', 1)
