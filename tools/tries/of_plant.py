@@ -27,7 +27,7 @@ VALUES = {
     "filling.tmc": (("MAIN.aRecipes[1].sTitle", "'K$FChl 1'"), ("MAIN.aRecipes[2].aOffset[3]", "-7"), ("MAIN.aRecipes[3].fVolume", "16#0000c03f"),
                     ("MAIN.eMode", "5"), ("MAIN.aRecipes[3].eMode", "5"),
                     ("MAIN.fSpeeds[0]", "16#0000000000003440"), ("MAIN.tDelay", "90000"), ("MAIN.dStart", "1577880000")),
-    "filling.tpy": (("MAIN.GRID[1,1]", "7"), ("GLOBAL", "-5"), ("MAIN.TITLE", "'M$FCll'"), ("MAIN.STATE", "1")),
+    "filling.tpy": (("MAIN.GRID[1,1]", "7"), ("GLOBAL", "-5"), ("MAIN.TITLE", "'M$FCll'"), ("MAIN.STATE", "1"), ("MAIN.AXES[2].STATE", "1")),
     "filling.xml": (("MAIN.aLevels[3]", "16#00000000000034c0"), ("MAIN.aPoints[1].x", "16#0000003f"), ("MAIN.aPoints[1].step", "11"), ("MAIN.nCount", "-31"),
                     ("MAIN.sTitle", "'M$FCll $271$27'"), ("GVL.cMost", "1000")),
 }
@@ -165,12 +165,27 @@ def places_stay(seed, count):
         see(all(one <= two for one, two in zip(*areas)), f"an area became smaller: {areas}")
 
 
+def described_as_built(server, plant):
+    """A server of a built plant, described with its values, has the same symbols at the same places with the same bytes."""
+    text, err, status = tool("describe.py", *server.words(), "--initial", "--seconds", "60", seconds=120)
+    see(status == 0, err)
+    one, two = verdict_on(text_of(plant).encode()), verdict_on(text.encode())
+    symbols = [[it for it in verdict.document["port"][0]["symbol"] if it["name"] != "Line.wave"] for verdict in (one, two)]
+    images = first_bytes(one), first_bytes(two)
+    see([it["name"] for it in symbols[0]] == [it["name"] for it in symbols[1]], f"describe.py tells other symbols than were built: {text}")
+    for old, new in zip(*symbols):
+        places = [(it["area"], it["offset"]) for it in (old, new)]
+        values = [image[area][1][offset] for image, (area, offset) in zip(images, places)]
+        see(places[0] == places[1] and values[0] == values[1], f"{old['name']}: {places[0]} {values[0].hex()} was built, {places[1]} {values[1].hex()} is read")
+
+
 def changed_while_served(program, folder):
     """A line that is changed under a server: the value that a client wrote stays, and so does its place."""
     plant, line = os.path.join(folder, "plant.toml"), written(folder, "line.toml", text_of(LINE))
     out, err, status = tool("plant.py", "build", line, "--out", plant)
     see(status == 0 and "ok ports 1 symbols" in out, err)
     with Served(program, plant) as server:
+        described_as_built(server, plant)
         said, _ = run_program(program, "set", "Line.count", "12345", *server.words())
         before, _ = run_program(program, "list", *server.words())
         new = text_of(LINE).replace("symbol = [", 'symbol = [\n  { name = "Line.added", type = "LREAL", initial = 2.5 },', 1)
@@ -231,33 +246,35 @@ def damaged_lines(seed, count):
 
 def imports(program, folder):
     """Each file comes to the line that was worked out by hand for it, and that to a plant whose values the program tells."""
-    for name, _, words in FILES:
-        out, err, status = tool("plant.py", "import", os.path.join(DATA, name), *words)
-        wanted = text_of(os.path.join(DATA, f"{name}.toml"))
-        see(status == 0 and out.split("\n", 1) == [f"# Imported from {name}, a {KINDS[name]}. What could not be carried over is told at its place.", wanted],
-            f"the import of {name}: {err}\n{out}")
-        plant = os.path.join(folder, f"{name}.plant.toml")
-        _, err, status = tool("plant.py", "build", written(folder, f"{name}.toml", out), "--out", plant)
-        see(status == 0, f"the import of {name} does not build: {err}")
-        text = text_of(plant)
-        port = verdict_on(text.encode()).document["port"][0]["port"]
-        local = written(folder, "local.toml", text.replace("\n[[type]]", f'\n[[route]]\nnet = "{ME}"\nrights = "control"\n\n[[type]]', 1))
+    for name, encoding, words in FILES:
+        text, wanted = text_of(os.path.join(DATA, name), encoding), text_of(os.path.join(DATA, f"{name}.toml"))
+        line, _ = imported(text.encode(encoding), name, None, [], None, bool(words))
+        head = f"# Imported from {name}, a {KINDS[name]}. What could not be carried over is told at its place."
+        see(line.split("\n", 1) == [head, wanted], f"the import of {name}:\n{line}")
+        wide, _ = imported(text.replace(f'encoding="{encoding}"', 'encoding="utf-16"').encode("utf-16"), name, None, [], None, bool(words))
+        see(wide == line, f"the same file in UTF-16: {wide}")
+        it = built_of(line)
+        port = it.verdict.document["port"][0]["port"]
+        local = written(folder, "local.toml", it.text.replace("\n[[type]]", f'\n[[route]]\nnet = "{ME}"\nrights = "control"\n\n[[type]]', 1))
         for path, value in VALUES[name]:
             said, _ = run_program(program, "get", path, "--local", local, "--me", ME, "--port", str(port))
             see(said == value + "\n", f"get {path} of the import of {name}: {said}")
+    line = os.path.join(folder, "imported.toml")
+    words = "--net", "1.2.3.4.5.6", "--port", "300", "--route", "1.1.1.1.1.1=read", "--out", line
+    out, err, status = tool("plant.py", "import", os.path.join(DATA, "filling.tmc"), *words)
+    see(status == 0 and out == f"{line}: 10 symbols and 4 types; 8 left out, each told in a comment\n", out + err)
+    text = text_of(line)
+    see('net = "1.2.3.4.5.6"' in text and "port = 300" in text and 'net = "1.1.1.1.1.1"\nrights = "read"' in text, f"the options of import: {text}")
 
 
 def bad_files(folder):
     for text, part in BAD_FILES:
-        refused(2, part, "plant.py", "import", written(folder, "bad.xml", text))
-    for name, encoding, words in FILES:
-        path, text = os.path.join(folder, "wide.xml"), text_of(os.path.join(DATA, name), encoding)
-        with open(path, "wb") as file:
-            file.write(text.replace(f'encoding="{encoding}"', 'encoding="utf-16"').encode("utf-16"))
-        out, err, status = tool("plant.py", "import", path, *words)
-        see(status == 0 and out.split("\n", 1)[1] == text_of(os.path.join(DATA, f"{name}.toml")), f"the same file in UTF-16: {err}\n{out}")
-        out, err, status = tool("plant.py", "import", path, "--net", "1.2.3.4.5.6", "--port", "300", "--route", "1.1.1.1.1.1=read")
-        see('net = "1.2.3.4.5.6"' in out and "port = 300" in out and 'net = "1.1.1.1.1.1"\nrights = "read"' in out, f"the options of import: {err}\n{out}")
+        try:
+            line, why = imported(text.encode(), "bad.xml", None, [], None, False)[0], "it was imported"
+        except (XmlFault, NoImport) as fault:
+            line, why = None, fault.why
+        see(line is None and part in why, f"{text[:60]!r}: {why} in place of {part!r}")
+    refused(2, "bad.xml:1: it has a DOCTYPE", "plant.py", "import", written(folder, "bad.xml", LAUGHS))
 
 
 def damaged_files(seed, count):
