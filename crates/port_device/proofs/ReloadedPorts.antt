@@ -41,10 +41,8 @@ of_accepted-whole types port table a is_of =
     subst P (sym is_of.same) (all_whole types (plant_port types port) port.symbols sound.symbols)
 
 -- one more port
-pub reloaded-more : (old : List PortMemory) (types : List NamedType) (version : ℕ) (profile : Profile) (ps : List Port)
-    (ms : List PortMemory) (p : Port) (m : PortMemory)
-    → AreReloadedPorts old types version profile ps ms → IsReloadedPort old types p version profile m
-    → AreReloadedPorts old types version profile (ps ++ p ∷ []) (ms ++ m ∷ [])
+pub reloaded-more : (old : List PortMemory) (types : List NamedType) (version : ℕ) (profile : Profile) (ps : List Port) (ms : List PortMemory) (p : Port) (m : PortMemory)
+    → AreReloadedPorts old types version profile ps ms → IsReloadedPort old types p version profile m → AreReloadedPorts old types version profile (ps ++ p ∷ []) (ms ++ m ∷ [])
 reloaded-more old types version profile [] [] p m h new = (new, tt)
 reloaded-more old types version profile [] (n ∷ ms) p m h new = absurd h
 reloaded-more old types version profile (q ∷ ps) [] p m h new = absurd h
@@ -56,8 +54,7 @@ abbrev memory_of : World → Description → List Block
 memory_of w d = memory_after_reload (is_kept w.plant (plant_of d)) w.memory (first_memory (plant_of d))
 
 -- a port that was not there
-fresh-bytes : (w : World) (d : Description) (types : List NamedType) (version : ℕ) (profile : Profile) (port : Port) (m : PortMemory)
-    → IsSoundPlant (plant_of d)
+fresh-bytes : (w : World) (d : Description) (types : List NamedType) (version : ℕ) (profile : Profile) (port : Port) (m : PortMemory) → IsSoundPlant (plant_of d)
     → IsSoundPort (plant_of d).ports (plant_port types port) → IsFirstPort types port version profile m → port_numbered port.number w.plant.ports ≡ None
     → Holds (memory_of w d) (plant_port types port) m.bytes
 fresh-bytes w d types version profile port m sound p first none =
@@ -68,8 +65,7 @@ fresh-bytes w d types version profile port m sound p first none =
     subst (Holds (memory_of w d) (plant_port types port)) same held
 
 -- a port that was
-kept-bytes : (w : World) (d : Description) (types : List NamedType) (version : ℕ) (profile : Profile) (port : Port) (was first : PortMemory)
-    → IsSoundPlant w.plant
+kept-bytes : (w : World) (d : Description) (types : List NamedType) (version : ℕ) (profile : Profile) (port : Port) (was first : PortMemory) → IsSoundPlant w.plant
     → IsSoundPlant (plant_of d) → IsSoundPort (plant_of d).ports (plant_port types port) → IsFirstPort types port version profile first
     → IsHeldAs w port.number was → Holds (memory_of w d) (plant_port types port) (with_kept was first).bytes
 kept-bytes w d types version profile port was first old sound p is_first held =
@@ -129,10 +125,8 @@ reloaded-bytes w old d types version profile port first h sound p is_first = by_
     by_port (Some was) e = kept-bytes w d types version profile port was first h.plant_sound sound p is_first (held-as w old port.number was h e)
 
 -- each port holds its port of the plant
-reloaded-holds : (w : World) (old : PortsMemory) (d : Description) (types : List NamedType) (version : ℕ) (profile : Profile)
-    (port : Port) (m : PortMemory) → HoldsPorts w old
-    → IsSoundPlant (plant_of d) → d.types ≡ types → (w.version + 1) % 256 ≡ version → w.profile ≡ profile
-    → IsSoundPort (plant_of d).ports (plant_port types port)
+reloaded-holds : (w : World) (old : PortsMemory) (d : Description) (types : List NamedType) (version : ℕ) (profile : Profile) (port : Port) (m : PortMemory) → HoldsPorts w old
+    → IsSoundPlant (plant_of d) → d.types ≡ types → (w.version + 1) % 256 ≡ version → w.profile ≡ profile → IsSoundPort (plant_of d).ports (plant_port types port)
     → IsReloadedPort old.ports types port version profile m → HoldsPort (world_after_reload w d) (plant_port types port) m
 unfolding world_after_reload
 reloaded-holds w old d types version profile port m h sound e v same p new =
@@ -156,11 +150,9 @@ reloaded-holds w old d types version profile port m h sound e v same p new =
           (reloaded-bytes w old d types version profile port new.first h sound p f);
     }
 
-reloaded-each : (w : World) (old : PortsMemory) (d : Description) (types : List NamedType) (version : ℕ) (profile : Profile)
-    (ps : List Port) (ms : List PortMemory)
+reloaded-each : (w : World) (old : PortsMemory) (d : Description) (types : List NamedType) (version : ℕ) (profile : Profile) (ps : List Port) (ms : List PortMemory)
     → HoldsPorts w old
-    → IsSoundPlant (plant_of d) → d.types ≡ types → (w.version + 1) % 256 ≡ version → w.profile ≡ profile
-    → Each (IsSoundPort (plant_of d).ports) (map (plant_port types) ps)
+    → IsSoundPlant (plant_of d) → d.types ≡ types → (w.version + 1) % 256 ≡ version → w.profile ≡ profile → Each (IsSoundPort (plant_of d).ports) (map (plant_port types) ps)
     → AreReloadedPorts old.ports types version profile ps ms → HoldEach (world_after_reload w d) (map (plant_port types) ps) ms
 reloaded-each w old d types version profile [] [] h sound e v same ports new = tt
 reloaded-each w old d types version profile [] (m ∷ ms) h sound e v same ports new = absurd new
@@ -170,8 +162,7 @@ reloaded-each w old d types version profile (p ∷ ps) (m ∷ ms) h sound e v sa
   reloaded-each w old d types version profile ps ms h sound e v same (ports.1) (new.1),
 )
 
-pub reloaded-ports-hold : (w : World) (old : PortsMemory) (d : Description) (types : List NamedType) (version : ℕ) (profile : Profile)
-    (ms : List PortMemory) → HoldsPorts w old
+pub reloaded-ports-hold : (w : World) (old : PortsMemory) (d : Description) (types : List NamedType) (version : ℕ) (profile : Profile) (ms : List PortMemory) → HoldsPorts w old
     → WasAccepted d → d.types ≡ types → (w.version + 1) % 256 ≡ version → w.profile ≡ profile → AreReloadedPorts old.ports types version profile d.ports ms
     → HoldsPorts (world_after_reload w d) (record { types = types; version = version; profile = profile; ports = ms })
 unfolding world_after_reload

@@ -124,11 +124,7 @@ pub record Goes (x y : Exchange World Client) : Type 0 where
   pub memory : Alike y.world.memory x.world.memory
 
 goes_then : (x y z : Exchange World Client) → Goes x y → Goes y z → Goes x z
-goes_then x y z p q = record {
-  profile = q.profile ∙ p.profile;
-  plant = q.plant ∙ p.plant;
-  memory = alike_then z.world.memory y.world.memory x.world.memory q.memory p.memory;
-}
+goes_then x y z p q = record { profile = q.profile ∙ p.profile; plant = q.plant ∙ p.plant; memory = alike_then z.world.memory y.world.memory x.world.memory q.memory p.memory }
 
 packet-goes : (reading : DescriptionReading) (p : List ℕ) (x : Exchange World Client) → Goes x (after_packet (ads_device reading) p x)
 unfolding after_packet performed
