@@ -1,0 +1,3 @@
+pub mod Outlet
+pub mod MemStop
+pub mod MemOutlet

@@ -1,0 +1,22 @@
+//! The outside of a daemon: what asks it to stop, who looks on, where its log goes, whom it tells its state; and stand-ins in memory.
+#![tactic(auto)]
+
+mod beacon;
+mod log_outlet;
+mod mem_beacon;
+mod mem_onlooker;
+mod mem_outlet;
+mod mem_stop;
+mod onlooker;
+mod stop;
+mod stop_cause;
+
+pub use beacon::Beacon;
+pub use log_outlet::LogOutlet;
+pub use mem_beacon::MemBeacon;
+pub use mem_onlooker::{MemOnlooker, Sight};
+pub use mem_outlet::MemOutlet;
+pub use mem_stop::MemStop;
+pub use onlooker::Onlooker;
+pub use stop::Stop;
+pub use stop_cause::StopCause;
