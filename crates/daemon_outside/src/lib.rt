@@ -8,6 +8,7 @@ mod mem_onlooker;
 mod mem_outlet;
 mod mem_stop;
 mod onlooker;
+mod peer_names;
 mod stop;
 mod stop_cause;
 
@@ -18,5 +19,6 @@ pub use mem_onlooker::{MemOnlooker, Sight};
 pub use mem_outlet::MemOutlet;
 pub use mem_stop::MemStop;
 pub use onlooker::Onlooker;
+pub use peer_names::{NoNames, PeerNames};
 pub use stop::Stop;
 pub use stop_cause::StopCause;

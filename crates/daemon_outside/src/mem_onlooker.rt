@@ -68,7 +68,7 @@ fn sight_of(event: &Event) -> Sight {
     }
 }
 
-impl Onlooker for MemOnlooker {
+impl<W> Onlooker<W> for MemOnlooker {
     fn listens(&mut self, _listen: &str, _name: &str, _first: &[u8]) {
         self.note(Sight::Listens);
     }
@@ -77,7 +77,7 @@ impl Onlooker for MemOnlooker {
         self.note(Sight::CannotListen);
     }
 
-    fn saw(&mut self, event: &Event) {
+    fn saw(&mut self, event: &Event, _wire: &W) {
         self.note(sight_of(event));
     }
 

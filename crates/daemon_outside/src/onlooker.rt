@@ -4,15 +4,15 @@ use crate::StopCause;
 use ads_outside::Event;
 
 /// Is told what happens on a wire, and can change nothing of it.
-pub trait Onlooker {
+pub trait Onlooker<W> {
     /// The wire listens there, for the description with this name and these bytes.
     fn listens(&mut self, listen: &str, name: &str, first: &[u8]);
 
     /// The wire could not be started.
     fn cannot_listen(&mut self, listen: &str);
 
-    /// An event came.
-    fn saw(&mut self, event: &Event);
+    /// An event came over this wire.
+    fn saw(&mut self, event: &Event, wire: &W);
 
     /// A connection was offered these bytes, and took so many first ones of them.
     fn offered(&mut self, conn: u32, bytes: &[u8], taken: u32);

@@ -1,0 +1,26 @@
+//! Who is at the other end of the connections of a wire.
+
+use std::net::SocketAddr;
+
+/// Knows the peers of a wire.
+pub trait PeerNames<W> {
+    /// The peer of a connection that is there; None where that is not known.
+    fn peer_of(&self, wire: &W, conn: u32) -> Option<SocketAddr>;
+
+    /// How many peers were refused since the start.
+    fn refused(&self, wire: &W) -> u64;
+}
+
+/// Knows no peer.
+#[derive(Clone, Copy, Debug)]
+pub struct NoNames;
+
+impl<W> PeerNames<W> for NoNames {
+    fn peer_of(&self, _wire: &W, _conn: u32) -> Option<SocketAddr> {
+        None
+    }
+
+    fn refused(&self, _wire: &W) -> u64 {
+        0
+    }
+}
