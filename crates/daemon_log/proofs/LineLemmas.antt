@@ -1,0 +1,31 @@
+-- What a log holds after a line and after a flush.
+use Rattle.std.proofs.Common.{◌≡◌, ◌⊎◌, inl, inr, ℕ, List, [], ◌∷◌, ◌++◌, take, drop, refl, ap, sym, ◌∙◌, subst, append-assoc, append-nil}
+use Rattle.std.specs.Prelude.{true, false, Option, Some, None}
+use Rattle.ads_outside.specs.Rose.{raised}
+use Rattle.daemon_log.specs.Lines.{HeldLines, Line, IsLog, texts_of, bytes_of_kept, lost_of, TakesWaiting}
+
+-- a line that is kept
+pub log_kept : (told : List (List ℕ)) (given line : List ℕ) (old : HeldLines) → IsLog told given old
+    → IsLog (told ++ line ∷ []) given (record old { waits = old.waits ++ line })
+log_kept told given line old log = record {
+  lines = record { text = line; kept = true } ∷ log.lines;
+  texts = ap (λ ts. ts ++ line ∷ []) log.texts;
+  whole = sym (append-assoc given old.waits line) ∙ ap (λ bs. bs ++ line) log.whole;
+  lost = log.lost;
+}
+
+-- a line that is lost
+pub log_lost : (told : List (List ℕ)) (given line : List ℕ) (old : HeldLines) → IsLog told given old
+    → IsLog (told ++ line ∷ []) given (record old { lost = raised old.lost })
+log_lost told given line old log = record {
+  lines = record { text = line; kept = false } ∷ log.lines;
+  texts = ap (λ ts. ts ++ line ∷ []) log.texts;
+  whole = log.whole;
+  lost = ap raised log.lost;
+}
+
+pub log_after : (told : List (List ℕ)) (given line : List ℕ) (old new : HeldLines)
+    → (new ≡ record old { waits = old.waits ++ line }) ⊎ (new ≡ record old { lost = raised old.lost })
+    → IsLog told given old → IsLog (told ++ line ∷ []) given new
+log_after told given line old new (inl is) log = subst (IsLog (told ++ line ∷ []) given) (sym is) (log_kept told given line old log)
+log_after told given line old new (inr is) log = subst (IsLog (told ++ line ∷ []) given) (sym is) (log_lost told given line old log)

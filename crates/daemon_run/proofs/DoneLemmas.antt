@@ -1,0 +1,93 @@
+-- A service that is done ended with its wire.
+use Rattle.std.proofs.Common.{◌≡◌, ℕ, List, Option, Some, None, inl, inr, subst, ap, sym, ◌∙◌, refl, length}
+use Rattle.signals.specs.Wave.{Wave}
+use Rattle.ads_outside.specs.declared.end.End.{End}
+use Rattle.ads_outside.specs.declared.end.End.TheVariants as end
+use Rattle.ads_outside.specs.declared.named_file.NamedFile.{NamedFile}
+use Rattle.ads_outside.specs.Named.{bytes_of}
+use Rattle.ads_outside.specs.Rose.{raised}
+use Rattle.ads_outside.specs.SinkState.{SinkState}
+use Rattle.ads_outside.specs.WireState.{WireHistory, listened}
+use Rattle.serve_loop.proofs.TurnLemmas.{ends-after}
+use Rattle.spec_rules.specs.TextVerdict.{text_verdict}
+use Rattle.run_tasks.specs.declared.status.Status.{Status}
+use Rattle.run_tasks.specs.declared.status.Status.TheVariants as status
+use Rattle.run_tasks.specs.Ending.{Ending, line_alone}
+use Rattle.run_tasks.specs.EndsOr.{EndsOr, EndsOrBy, IsPrinted}
+use Rattle.run_tasks.specs.Prints.{PrintsEnding}
+use Rattle.run_tasks.specs.Readings.{OverFile}
+use Rattle.run_tasks.specs.Service.{Service, ServedMachine, server_with, ending_after}
+use Rattle.run_tasks.specs.Verdict.{Verdict, Ends, Serves, ended, verdict_of_file, verdict_of_serve}
+use Rattle.run_tasks.proofs.VerdictLemmas.{of_file, of_accepted}
+use Rattle.file_run.specs.Serving.{MakesMoves, PrintsAt, EndsService}
+use Rattle.file_run.specs.ServiceEnds.{ServesBy}
+use Rattle.daemon_run.specs.Endless.{endless, verdict_of_plant}
+
+-- an ending with another status does not come to Done
+not_done : (e : Ending) (s : Status) (old new : SinkState) → (e.status ≡ status.Done → ⊥) → PrintsEnding e s old new → s ≡ status.Done → ⊥
+not_done e s old new other (inl h) is = other (sym h.0 ∙ is)
+not_done e s old new other (inr (inl h)) is = let no : status.WriteFault ≡ status.Done = sym h.0 ∙ is in cc
+not_done e s old new other (inr (inr h)) is = let no : status.Memory ≡ status.Done = sym h.0 ∙ is in cc
+
+-- the wire of a service that ran and is done answered End
+run_done : (service : Service) (r : End) (moves : List _) (s : Status) (between out_new : SinkState) (wire wire_new : WireHistory)
+    → MakesMoves service r moves (listened service.start wire) wire_new → PrintsAt r (ending_after service moves r) s between out_new
+    → s ≡ status.Done → wire_new.ends ≡ raised wire.ends
+run_done service end.Done moves s between out_new wire wire_new made printed is =
+    ap (λ (x : WireHistory). x.ends) made.grown ∙ ap raised (ends-after moves (listened service.start wire))
+run_done service end.Budget moves s between out_new wire wire_new made printed is =
+    absurd (not_done (ending_after service moves end.Budget) s between out_new (λ e. (cc)) printed is)
+run_done service end.LinkFault moves s between out_new wire wire_new made printed is =
+    absurd (not_done (ending_after service moves end.LinkFault) s between out_new (λ e. (cc)) printed is)
+run_done service end.Memory moves s between out_new wire wire_new made printed is =
+    let no : status.Memory ≡ status.Done = sym printed.0 ∙ is in cc
+
+service_done : (service : Service) (s : Status) (out out_new : SinkState) (wire wire_new : WireHistory) → EndsService service s out out_new wire wire_new
+    → s ≡ status.Done → wire_new.ends ≡ raised wire.ends
+service_done service s out out_new wire wire_new (inl (inl h)) is =
+    absurd (not_done (line_alone status.LinkFault) s out out_new (λ e. (cc)) h.1 is)
+service_done service s out out_new wire wire_new (inl (inr h)) is = let no : status.Memory ≡ status.Done = sym h.1 ∙ is in cc
+service_done service s out out_new wire wire_new (inr (inl (same, inl h))) is = let no : status.WriteFault ≡ status.Done = sym h.0 ∙ is in cc
+service_done service s out out_new wire wire_new (inr (inl (same, inr h))) is = let no : status.Memory ≡ status.Done = sym h.0 ∙ is in cc
+service_done service s out out_new wire wire_new (inr (inr h)) is =
+    run_done service h.runs.ended h.runs.moves s h.between out_new wire wire_new h.runs.wire h.runs.prints is
+
+-- a verdict that is not an ending with Done
+abbrev IsNotDone : Verdict → Type 0
+IsNotDone v = (e : Ending) → Ends e ≡ v → e.status ≡ status.Done → ⊥
+
+status_in : Verdict → Status
+status_in (Ends e) = e.status
+status_in v = status.Usage
+
+ended_not_done : (t : Status) → (t ≡ status.Done → ⊥) → IsNotDone (ended t)
+unfolding status_in
+ended_not_done t no = λ e same is. no (sym (ap status_in same) ∙ is)
+
+serves_not_done : (x : Service) → IsNotDone (Serves x)
+unfolding status_in
+serves_not_done x = λ e same is. let other : status.Done ≡ status.Usage = sym is ∙ ap status_in same in cc
+
+plant_not_done : (waves : List Wave) (name listen : List ℕ) (file : Option (List ℕ)) → IsNotDone (verdict_of_plant waves name listen file)
+plant_not_done waves name listen file =
+    of_file IsNotDone (verdict_of_serve waves name listen endless) file
+    (ended_not_done status.ReadFault (λ e. (cc))) (ended_not_done status.TooLong (λ e. (cc)))
+    (λ bytes. of_accepted IsNotDone (λ d. Serves (record { start = record { listen = listen; name = name; first = bytes }; machine = server_with waves d; limit = endless }))
+    (text_verdict (length waves) bytes) (λ n item. ended_not_done (status.BadDescription n item) (λ e. (cc))) (λ d. serves_not_done _))
+
+by_done : (v : Verdict) (failed : Type 0) (s : Status) (out out_new : SinkState) (wire wire_new : WireHistory) → IsNotDone v
+    → ServesBy v failed s out out_new wire wire_new → s ≡ status.Done → wire_new.ends ≡ raised wire.ends
+by_done v failed s out out_new wire wire_new never (inl (inl h)) is =
+    absurd (not_done h.ending s out out_new (never h.ending h.is) h.printed is)
+by_done v failed s out out_new wire wire_new never (inl (inr h)) is = service_done h.made s out out_new wire wire_new h.comes is
+by_done v failed s out out_new wire wire_new never (inr h) is =
+    absurd (not_done h.1.ending s out out_new (ended_not_done status.ReadFault (λ e. (cc)) h.1.ending h.1.is) h.1.printed is)
+
+pub plant_done : (held : Option (List NamedFile)) (waves : List Wave) (name listen : List ℕ) (failed : Type 0) (s : Status) (out out_new : SinkState)
+    (wire wire_new : WireHistory)
+    → OverFile held (λ files. ServesBy (verdict_of_plant waves name listen (bytes_of files name)) failed s out out_new wire wire_new)
+    → s ≡ status.Done → wire_new.ends ≡ raised wire.ends
+plant_done None waves name listen failed s out out_new wire wire_new h =
+    by_done (verdict_of_plant waves name listen (bytes_of h.0 name)) failed s out out_new wire wire_new (plant_not_done waves name listen (bytes_of h.0 name)) h.1
+plant_done (Some files) waves name listen failed s out out_new wire wire_new h =
+    by_done (verdict_of_plant waves name listen (bytes_of files name)) failed s out out_new wire wire_new (plant_not_done waves name listen (bytes_of files name)) h
