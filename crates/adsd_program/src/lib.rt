@@ -1,13 +1,8 @@
-// A library with one function.
+//! The daemon over the outside of its process: files, sockets, signals, standard output and error, systemd, a status file.
 #![tactic(auto)]
 
-ghost use Rattle.std.specs.Prelude.{◌≡◌};
-ghost use Rattle.adsd_program.specs.Echo.{echo_of};
+mod plant_judge;
+mod process;
+mod real_names;
 
-// The `ensures` clause is the contract: what `echo` returns is `echo_of` of its argument, a definition
-// in `specs/Echo.antt`, which a caller's clause can cite too.
-pub fn echo(x: usize) -> usize
-    ensures { result ≡ echo_of x }
-{
-    x
-}
+pub use crate::process::{exit_code, status_of};

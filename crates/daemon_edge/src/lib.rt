@@ -3,7 +3,16 @@
 
 mod err_sink;
 mod mask;
+mod moment;
+mod notify_address;
 mod signal_stop;
+mod status_file;
+mod stderr_outlet;
+mod systemd_beacon;
 
 pub use err_sink::ErrSink;
+pub use moment::moment_now;
 pub use signal_stop::SignalStop;
+pub use status_file::StatusFile;
+pub use stderr_outlet::StderrOutlet;
+pub use systemd_beacon::SystemdBeacon;

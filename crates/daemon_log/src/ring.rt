@@ -67,7 +67,9 @@ impl Ring {
         ensures log { (told : List (List ℕ)) (given : List ℕ) → IsLog told given self.old → IsLog (told ++ line.now ∷ []) given self.new }
     {
         self.move_up();
-        if line.len() > MOST_WAITING - self.bytes.len() || self.bytes.extend_from_slice(line).is_err() {
+        if line.len() > MOST_WAITING - self.bytes.len()
+            || self.bytes.extend_from_slice(line).is_err()
+        {
             self.lose();
         }
     }

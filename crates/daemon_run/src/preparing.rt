@@ -61,11 +61,13 @@ fn ready<F: Files, E: Sink>(
     }
 }
 
-fn setup_of(alloc: Global, file: &Text, given: Given, bytes: &Octets) -> Result<Setup, SetupFault> {
-    let given = match config_in(alloc, bytes.as_slice())? {
-        Some(config) => given.or(config),
-        None => given,
-    };
+fn setup_of(
+    alloc: Global,
+    file: &Text,
+    mut given: Given,
+    bytes: &Octets,
+) -> Result<Setup, SetupFault> {
+    config_in(alloc, bytes.as_slice(), &mut given)?;
     Ok(given.setup(alloc, file.as_str())?)
 }
 
@@ -92,9 +94,11 @@ fn check<F: Files, S: Sink, E: Sink>(
 }
 
 fn checked_setup(alloc: Global, file: &Text, bytes: &Octets) -> Result<Setup, SetupFault> {
-    match config_in(alloc, bytes.as_slice())? {
-        Some(config) => Ok(config.setup(alloc, file.as_str())?),
-        None => Err(SetupFault::NotConfig),
+    let mut given = Given::new();
+    if config_in(alloc, bytes.as_slice(), &mut given)? {
+        Ok(given.setup(alloc, file.as_str())?)
+    } else {
+        Err(SetupFault::NotConfig)
     }
 }
 

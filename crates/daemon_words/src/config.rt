@@ -5,32 +5,37 @@ use cli_words::Text;
 use std::alloc::Global;
 use toml::{Table, Value};
 
-/// What a configuration gives: a TOML table with the key `description`. None where the bytes are no such table, as those
-/// of a description of a plant.
-pub fn config_in(alloc: Global, bytes: &[u8]) -> Result<Option<Given>, SetupFault> {
+/// Adds what a configuration gives, a TOML table with the key `description`, to what is given in words, which counts first.
+/// False where the bytes are no such table, as those of a description of a plant, and then nothing was added.
+pub fn config_in(alloc: Global, bytes: &[u8], given: &mut Given) -> Result<bool, SetupFault> {
     match toml::table_from_slice(alloc, bytes) {
-        Ok(table) => match table.get("description") {
-            Some(_) => Ok(Some(given_in(alloc, &table)?)),
-            None => Ok(None),
-        },
-        Err(error) => if error.is_memory() {
-            Err(SetupFault::Memory)
-        } else {
-            Ok(None)
-        },
+        Ok(table) => {
+            if table.get("description").is_none() {
+                return Ok(false);
+            }
+            add_table(alloc, &table, given)?;
+            Ok(true)
+        }
+        Err(error) => {
+            if error.is_memory() {
+                Err(SetupFault::Memory)
+            } else {
+                Ok(false)
+            }
+        }
     }
 }
 
-fn given_in(alloc: Global, table: &Table) -> Result<Given, SetupFault> {
-    let mut given = Given::new();
+fn add_table(alloc: Global, table: &Table, given: &mut Given) -> Result<(), SetupFault> {
     for (key, value) in table.iter() {
-        put_key(alloc, &mut given, key.as_str(), value)?;
+        put_key(alloc, given, key.as_str(), value)?;
     }
-    Ok(given)
+    Ok(())
 }
 
 fn put_key(alloc: Global, given: &mut Given, key: &str, value: &Value) -> Result<(), SetupFault> {
     match Field::of_key(key) {
+        Some(field) if given.has(field) => Ok(()),
         Some(field) => put_value(alloc, given, field, value),
         None => Err(SetupFault::UnknownKey(Text::copy_of(alloc, key)?)),
     }

@@ -73,37 +73,18 @@ impl Given {
         Ok(())
     }
 
-    /// What is given here, and else there.
-    pub fn or(self, other: Given) -> Given {
-        let Given {
-            description,
-            listen,
-            store,
-            save_each,
-            allow,
-            status,
-            log,
-            profile,
-            stop_file,
-        } = self;
-        let save_each = if save_each == 0 {
-            other.save_each
-        } else {
-            save_each
-        };
-        Given {
-            description: first_text(description, other.description),
-            listen: first_text(listen, other.listen),
-            store: first_text(store, other.store),
-            save_each,
-            allow: match allow {
-                Some(allow) => Some(allow),
-                None => other.allow,
-            },
-            status: first_text(status, other.status),
-            log: log.or(other.log),
-            profile: profile.or(other.profile),
-            stop_file: first_text(stop_file, other.stop_file),
+    /// Whether a field was set.
+    pub fn has(&self, field: Field) -> bool {
+        match field {
+            Field::Description => self.description.is_some(),
+            Field::Listen => self.listen.is_some(),
+            Field::Store => self.store.is_some(),
+            Field::SaveEach => self.save_each != 0,
+            Field::Allow => self.allow.is_some(),
+            Field::Status => self.status.is_some(),
+            Field::Log => self.log.is_some(),
+            Field::Profile => self.profile.is_some(),
+            Field::StopFile => self.stop_file.is_some(),
         }
     }
 
@@ -136,13 +117,6 @@ impl Given {
 
 /// Where a daemon listens where nothing else is said.
 const DEFAULT_LISTEN: &str = "127.0.0.1:48898";
-
-fn first_text(first: Option<Text>, second: Option<Text>) -> Option<Text> {
-    match first {
-        Some(text) => Some(text),
-        None => second,
-    }
-}
 
 fn text_or(alloc: Global, text: Option<Text>, other: &str) -> Result<Text, NoMemory> {
     match text {

@@ -1,0 +1,50 @@
+//! systemd, which is told the state of the daemon.
+
+use crate::notify_address::{NotifyAddress, notify_address};
+use daemon_outside::Beacon;
+use libc::net as c;
+use std::rt::Env;
+
+/// MSG_DONTWAIT and MSG_NOSIGNAL.
+const NOW: i32 = 0x4040;
+
+/// The socket that NOTIFY_SOCKET names, where the process has one. A datagram that it does not take at once is lost.
+pub struct SystemdBeacon {
+    fd: i32,
+    address: Option<NotifyAddress>,
+}
+
+impl Drop for SystemdBeacon {
+    fn drop(self) {
+        let SystemdBeacon { fd: _, address } = self;
+        if let Some(NotifyAddress { bytes: _, len: _ }) = address {}
+    }
+}
+
+impl SystemdBeacon {
+    /// The beacon of this process.
+    pub fn new<R: Env>(rt: &R) -> SystemdBeacon {
+        let mut name = [0u8; 128];
+        let address = match rt.var("NOTIFY_SOCKET", &mut name) {
+            Ok(n) => notify_address(&name[..n]),
+            Err(_) => None,
+        };
+        let fd = if address.is_some() { datagrams() } else { -1 };
+        SystemdBeacon { fd, address }
+    }
+}
+
+// A unix socket for datagrams, closed in programs that the process starts; negative where there is none.
+fn datagrams() -> i32 {
+    unsafe { c::socket(1, 0o2_000_002, 0) }
+}
+
+impl Beacon for SystemdBeacon {
+    fn tell(&mut self, state: &[u8]) {
+        if let Some(address) = &self.address {
+            if self.fd >= 0 {
+                let _ = unsafe { c::sendto(self.fd, state, NOW, &address.bytes, address.len) };
+            }
+        }
+    }
+}
