@@ -55,13 +55,13 @@ pub(crate) fn date_of(moment: u64) -> Date {
 fn month_and_day(day: u64, leap: bool) -> (u64, u64)
     requires { day < 366 }
 {
-    let mut month = 12;
+    let mut month = 12u64;
     for before in BEFORE.iter().rev() {
         let before = days_before(*before, leap);
         if before <= day {
             return (month, day - before + 1);
         }
-        month -= 1;
+        month = month.saturating_sub(1);
     }
     (1, day + 1)
 }

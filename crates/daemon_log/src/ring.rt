@@ -66,12 +66,7 @@ impl Ring {
         ensures kept { (self.new ≡ record self.old { waits = self.old.waits ++ line.now }) ⊎ (self.new ≡ record self.old { lost = raised self.old.lost }) }
         ensures log { (told : List (List ℕ)) (given : List ℕ) → IsLog told given self.old → IsLog (told ++ line.now ∷ []) given self.new }
     {
-        self.move_up();
-        if line.len() > MOST_WAITING - self.bytes.len()
-            || self.bytes.extend_from_slice(line).is_err()
-        {
-            self.lose();
-        }
+        self.keep(line);
     }
 
     /// A line is lost that there was no memory for.
@@ -87,6 +82,27 @@ impl Ring {
         ensures waits { self.new ≡ record self.old { waits = drop result self.old.waits } }
         ensures takes { TakesWaiting result (O.held outlet.old) (O.held outlet.new) self.old.waits }
         ensures log { (told : List (List ℕ)) (given : List ℕ) → IsLog told given self.old → IsLog told (given ++ take result self.old.waits) self.new }
+    {
+        self.give(outlet)
+    }
+
+    // The line waits, or is lost.
+    fn keep(&mut self, line: &[u8])
+        ensures { (self.new ≡ record self.old { waits = self.old.waits ++ line.now }) ⊎ (self.new ≡ record self.old { lost = raised self.old.lost }) }
+    {
+        self.move_up();
+        if line.len() > MOST_WAITING - self.bytes.len()
+            || self.bytes.extend_from_slice(line).is_err()
+        {
+            self.lose();
+        }
+    }
+
+    // As many first bytes as the outlet takes are given.
+    fn give<O: LogOutlet>(&mut self, outlet: &mut O) -> u32
+        ensures few { result ≤ 4096 }
+        ensures waits { self.new ≡ record self.old { waits = drop result self.old.waits } }
+        ensures takes { TakesWaiting result (O.held outlet.old) (O.held outlet.new) self.old.waits }
     {
         let waiting = self.waiting();
         if waiting == 0 {
