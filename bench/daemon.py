@@ -390,6 +390,8 @@ WRONG = [
     (["plant.toml", "--log", "loud"], 1, "adsd: log takes journal, plain or none"),
     (["plant.toml", "--store", "a", "--store", "b"], 1, "adsd: store is set twice"),
     (["missing.toml"], 4, "adsd: missing.toml cannot be read"),
+    (["plant.toml", "--store", "kept"], 1, "adsd: this program keeps no symbols"),
+    (["plant.toml", "--allow", "10.0.0.0/8"], 1, "adsd: this program has no allow list"),
     (["check", "plant.toml"], 1, "adsd: this is no configuration"),
     (["check", "unknown.toml"], 1, "adsd: the configuration has no key lisen"),
     (["check", "kind.toml"], 1, "adsd: save_each takes a number of seconds from 1 to 86400"),

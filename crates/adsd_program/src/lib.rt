@@ -5,4 +5,5 @@ mod plant_judge;
 mod process;
 mod real_names;
 
+pub use crate::plant_judge::PlantJudge;
 pub use crate::process::{exit_code, status_of};

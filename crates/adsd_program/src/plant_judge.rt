@@ -8,8 +8,8 @@ use type_layout::{Description, RouteDesc};
 
 /// Judges by the reader, for so many signals.
 #[derive(Clone, Copy, Debug)]
-pub(crate) struct PlantJudge {
-    pub(crate) signals: u32,
+pub struct PlantJudge {
+    pub signals: u32,
 }
 
 impl Judge for PlantJudge {

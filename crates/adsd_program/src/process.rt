@@ -15,7 +15,7 @@ use daemon_log::{Chronicle, NoOutlet};
 use daemon_outside::LogOutlet;
 use daemon_run::{Prepared, prepare, serve_watched};
 use daemon_words::{LogForm, Setup};
-use run_tasks::{Status, end_without_memory};
+use run_tasks::{Status, end_without_memory, print_and_end};
 use signals::{Ramp, Signal, Square, Table8};
 use std::env;
 use std::io::ErrorKind;
@@ -76,11 +76,27 @@ fn run_words<T: Threads + Sync, S: Sink, E: Sink>(
     };
     match prepare(rt.alloc(), words, SIGNALS, &mut files, out, err) {
         Prepared::Ended(status) => status,
-        Prepared::Ready(setup) => match serve_setup(rt, threads, &setup, &mut files, out) {
-            Ok(status) => status,
-            Err(NoMemory) => end_without_memory(out),
+        Prepared::Ready(setup) => match unkept(&setup) {
+            Some(line) => print_and_end(err, line, Status::Usage),
+            None => match serve_setup(rt, threads, &setup, &mut files, out) {
+                Ok(status) => status,
+                Err(NoMemory) => end_without_memory(out),
+            },
         },
     }
+}
+
+// What a setup asks for and this program does not do is refused, and not passed over.
+fn unkept(setup: &Setup) -> Option<&'static [u8]> {
+    if setup.store.is_some() {
+        return Some(b"adsd: this program keeps no symbols: leave out store\n".as_slice());
+    }
+    if setup.allow.is_some() {
+        return Some(
+            b"adsd: this program has no allow list: leave out allow, and name who may connect in the unit of systemd\n".as_slice(),
+        );
+    }
+    None
 }
 
 // Serves the plant of a setup, with the log that it asks for.
@@ -142,6 +158,9 @@ fn serve_logged<T: Threads + Sync, S: Sink, L: LogOutlet + Drop>(
         out,
         signals,
     );
+    if let Status::BadDescription { number, item } = &status {
+        watched.onlooker.refused(*number, *item);
+    }
     watched.onlooker.finish();
     Ok(status)
 }

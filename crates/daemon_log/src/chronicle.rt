@@ -82,6 +82,18 @@ impl<N: Drop, J: Judge + Drop, L: LogOutlet + Drop, B: Beacon + Drop, F: Beacon 
         }
     }
 
+    /// Where the log goes.
+    pub fn outlet(&self) -> &L {
+        &self.outlet
+    }
+
+    /// The description that was to be served breaks this rule, and in it this item; rule 0 for no TOML document.
+    pub fn refused(&mut self, rule: u8, item: u32) {
+        let words = rule_text(rule);
+        let text = format!(in self.alloc; "description refused: rule {rule} item {item}: {words}");
+        self.put_made(Level::Error, text);
+    }
+
     /// A line that something is not as it should be.
     pub fn warn(&mut self, text: &str) {
         self.put(Level::Warning, text);
