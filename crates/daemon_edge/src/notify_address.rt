@@ -4,6 +4,7 @@
 const MOST: usize = 107;
 
 /// The address of a unix socket, and how many of its bytes count.
+#[derive(Drop)]
 pub(crate) struct NotifyAddress {
     pub(crate) bytes: [u8; 128],
     pub(crate) len: u32,

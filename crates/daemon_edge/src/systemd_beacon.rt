@@ -9,16 +9,10 @@ use std::rt::Env;
 const NOW: i32 = 0x4040;
 
 /// The socket that NOTIFY_SOCKET names, where the process has one. A datagram that it does not take at once is lost.
+#[derive(Drop)]
 pub struct SystemdBeacon {
     fd: i32,
     address: Option<NotifyAddress>,
-}
-
-impl Drop for SystemdBeacon {
-    fn drop(self) {
-        let SystemdBeacon { fd: _, address } = self;
-        if let Some(NotifyAddress { bytes: _, len: _ }) = address {}
-    }
 }
 
 impl SystemdBeacon {

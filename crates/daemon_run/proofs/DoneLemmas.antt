@@ -1,8 +1,9 @@
 -- A service that is done ended with its wire.
-use Rattle.std.proofs.Common.{◌≡◌, ℕ, List, Option, Some, None, inl, inr, subst, ap, sym, ◌∙◌, refl, length}
+use Rattle.std.proofs.Common.{◌≡◌, ◌<◌, ℕ, List, Option, Some, None, inl, inr, subst, ap, sym, ◌∙◌, refl, length, arith}
 use Rattle.signals.specs.Wave.{Wave}
 use Rattle.ads_outside.specs.declared.end.End.{End}
 use Rattle.ads_outside.specs.declared.end.End.TheVariants as end
+use Rattle.ads_outside.specs.declared.moves.Move.{Move}
 use Rattle.ads_outside.specs.declared.named_file.NamedFile.{NamedFile}
 use Rattle.ads_outside.specs.Named.{bytes_of}
 use Rattle.ads_outside.specs.Rose.{raised}
@@ -30,7 +31,7 @@ not_done e s old new other (inr (inl h)) is = let no : status.WriteFault ≡ sta
 not_done e s old new other (inr (inr h)) is = let no : status.Memory ≡ status.Done = sym h.0 ∙ is in cc
 
 -- the wire of a service that ran and is done answered End
-run_done : (service : Service) (r : End) (moves : List _) (s : Status) (between out_new : SinkState) (wire wire_new : WireHistory)
+run_done : (service : Service) (r : End) (moves : List Move) (s : Status) (between out_new : SinkState) (wire wire_new : WireHistory)
     → MakesMoves service r moves (listened service.start wire) wire_new → PrintsAt r (ending_after service moves r) s between out_new
     → s ≡ status.Done → wire_new.ends ≡ raised wire.ends
 run_done service end.Done moves s between out_new wire wire_new made printed is =
@@ -73,7 +74,7 @@ plant_not_done waves name listen file =
     of_file IsNotDone (verdict_of_serve waves name listen endless) file
     (ended_not_done status.ReadFault (λ e. (cc))) (ended_not_done status.TooLong (λ e. (cc)))
     (λ bytes. of_accepted IsNotDone (λ d. Serves (record { start = record { listen = listen; name = name; first = bytes }; machine = server_with waves d; limit = endless }))
-    (text_verdict (length waves) bytes) (λ n item. ended_not_done (status.BadDescription n item) (λ e. (cc))) (λ d. serves_not_done _))
+    (text_verdict (length waves) bytes) (λ n item. ended_not_done (status.BadDescription n item) (λ e. (cc))) (λ d. serves_not_done (record { start = record { listen = listen; name = name; first = bytes }; machine = server_with waves d; limit = endless })))
 
 by_done : (v : Verdict) (failed : Type 0) (s : Status) (out out_new : SinkState) (wire wire_new : WireHistory) → IsNotDone v
     → ServesBy v failed s out out_new wire wire_new → s ≡ status.Done → wire_new.ends ≡ raised wire.ends
@@ -91,3 +92,7 @@ plant_done None waves name listen failed s out out_new wire wire_new h =
     by_done (verdict_of_plant waves name listen (bytes_of h.0 name)) failed s out out_new wire wire_new (plant_not_done waves name listen (bytes_of h.0 name)) h.1
 plant_done (Some files) waves name listen failed s out out_new wire wire_new h =
     by_done (verdict_of_plant waves name listen (bytes_of files name)) failed s out out_new wire wire_new (plant_not_done waves name listen (bytes_of files name)) h
+
+-- a count that rose is not 0
+pub risen : (n m : ℕ) → n ≡ raised m → 0 < n
+risen n m is = omega (arith, is)

@@ -77,5 +77,7 @@ pub fn serve_watched<
     ensures held { (F.state files.new).held ≡ (F.state files.old).held }
     ensures read_fault { result ≡ Status.ReadFault → Rose (F.state files.old).faults (F.state files.new).faults }
 {
-    serve_plant(rt, alloc, setup, files, wire, out, signals)
+    let status = serve_plant(rt, alloc, setup, files, wire, out, signals);
+    wire.ended_for_a_reason();
+    status
 }

@@ -1,6 +1,6 @@
 //! What is given by words or by a configuration.
 
-ghost use Rattle.std.specs.Prelude.{◌≡◌, ◌≤◌};
+ghost use Rattle.std.specs.Prelude.{◌≤◌};
 
 use crate::address::is_address;
 use crate::net::is_net;
@@ -10,7 +10,7 @@ use cli_words::{Text, TextList};
 use std::alloc::Global;
 
 /// The greatest number of seconds between two saves: a day.
-const MOST_SECONDS: i64 = 86_400;
+const MOST_SECONDS: u32 = 86_400;
 
 /// What was given so far; what was not is None, and 0 for the seconds.
 #[derive(Debug, Drop)]
@@ -66,11 +66,13 @@ impl Given {
         if self.save_each != 0 {
             return Err(SetupFault::Twice(Field::SaveEach));
         }
-        if seconds < 1 || MOST_SECONDS < seconds {
-            return Err(SetupFault::Wrong(Field::SaveEach));
+        match u32::try_from(seconds) {
+            Ok(seconds) if 0 < seconds && seconds <= MOST_SECONDS => {
+                self.save_each = seconds;
+                Ok(())
+            }
+            _ => Err(SetupFault::Wrong(Field::SaveEach)),
         }
-        self.save_each = seconds as u32;
-        Ok(())
     }
 
     /// Whether a field was set.

@@ -1,6 +1,4 @@
 //! The words of a command line, read.
-ghost use Rattle.std.specs.Prelude.{◌<◌, ◌≤◌, IfOk, length};
-
 use crate::{Asked, Field, Given, SetupFault};
 use ads_base::read_decimal;
 use cli_words::Text;
@@ -25,41 +23,42 @@ fn checked(alloc: Global, file: &str) -> Result<Asked, SetupFault> {
 fn run(alloc: Global, words: &[String]) -> Result<Asked, SetupFault> {
     let mut file = None;
     let mut given = Given::new();
-    let mut at = 0;
-    while at < words.len() {
-        at += put_word(alloc, &mut file, &mut given, &words[at..])?;
+    // The option before, whose value is to come.
+    let mut option = None;
+    for word in words {
+        option = put_word(alloc, &mut file, &mut given, option, word.as_str())?;
     }
-    match file {
-        Some(file) => Ok(Asked::Run(file, given)),
-        None => Err(SetupFault::NoFile),
+    match (option, file) {
+        (Some(field), _) => Err(SetupFault::NoValue(field)),
+        (None, Some(file)) => Ok(Asked::Run(file, given)),
+        (None, None) => Err(SetupFault::NoFile),
     }
 }
 
-// The first of these words, with its value; how many words that were.
+// One more word: the value of the option before, or a file, or an option. The option whose value is to come is answered.
 fn put_word(
     alloc: Global,
     file: &mut Option<Text>,
     given: &mut Given,
-    words: &[String],
-) -> Result<usize, SetupFault>
-    requires { 0 < length words.now }
-    ensures { IfOk result (λ n. (0 < n) × (n ≤ length words.now)) }
-{
-    let word = words[0].as_str();
+    option: Option<Field>,
+    word: &str,
+) -> Result<Option<Field>, SetupFault> {
+    if let Some(field) = option {
+        put_option(alloc, given, field, word)?;
+        return Ok(None);
+    }
     if !word.starts_with('-') {
         put_file(alloc, file, word)?;
-        return Ok(1);
+        return Ok(None);
     }
-    if let Some((option, value)) = word.split_once('=') {
-        put_option(alloc, given, option, value)?;
-        return Ok(1);
+    match word.split_once('=') {
+        Some((name, value)) => {
+            let field = field_of(alloc, name)?;
+            put_option(alloc, given, field, value)?;
+            Ok(None)
+        }
+        None => Ok(Some(field_of(alloc, word)?)),
     }
-    let field = field_of(alloc, word)?;
-    if words.len() < 2 {
-        return Err(SetupFault::NoValue(field));
-    }
-    put_option(alloc, given, word, words[1].as_str())?;
-    Ok(2)
 }
 
 fn put_file(alloc: Global, file: &mut Option<Text>, word: &str) -> Result<(), SetupFault> {
@@ -78,14 +77,13 @@ fn field_of(alloc: Global, option: &str) -> Result<Field, SetupFault> {
     }
 }
 
-// An option and its value.
+// A field and its value.
 fn put_option(
     alloc: Global,
     given: &mut Given,
-    option: &str,
+    field: Field,
     value: &str,
 ) -> Result<(), SetupFault> {
-    let field = field_of(alloc, option)?;
     match field {
         Field::SaveEach => given.put_seconds(seconds_of(value)),
         Field::Description

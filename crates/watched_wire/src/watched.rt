@@ -41,6 +41,11 @@ impl<W: Wire + Drop, S: Stop + Drop, O: Onlooker<W> + Drop> Watched<W, S, O> {
     {
         self.ends
     }
+
+    /// It ended only since a stop was asked for, or since the wire inside had ended.
+    pub fn ended_for_a_reason(&self)
+        ensures { 0 < self.now.ends → 0 < S.asked self.now.stop + (W.state self.now.wire).history.ends }
+    {}
 }
 
 impl<W: Wire + Drop, S: Stop + Drop, O: Onlooker<W> + Drop> Watched<W, S, O> {

@@ -1,0 +1,6 @@
+-- The wire ended, and so for a reason.
+use Rattle.daemon_run.proofs.DoneLemmas.{risen}
+use Rattle.daemon_run.proofs.serving.serve_watched.Goals as goal
+
+pub returns-clause-by_stop : goal.returns-clause-by_stop
+returns-clause-by_stop g c = λ is. c.ended_for_a_reason.ensures (risen _ _ (c.serve_plant.ensures.done is))
