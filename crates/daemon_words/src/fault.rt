@@ -1,6 +1,6 @@
 //! What is wrong with the words or the configuration of a daemon.
 
-ghost use Rattle.std.specs.Prelude.{◌<◌, IfOk, length};
+ghost use Rattle.std.specs.Prelude.{◌≡◌};
 
 use crate::Field;
 use ads_base::{NoMemory, Octets};
