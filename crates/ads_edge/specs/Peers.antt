@@ -2,7 +2,6 @@
 use Rattle.std.specs.Prelude.{ℕ, ◌≡◌, ◌≤◌, ◌<◌, ◌-◌, List, [], ◌++◌, Bool, false, not, ◌==◌, ◌||◌, length, All}
 use Rattle.std.specs.List.{HoldsAt, remove}
 use Rattle.std.specs.VecDeque.{deque_len}
-use Rattle.std.specs.declared.net.socket_addr.SocketAddr.{SocketAddr}
 use Rattle.ads_edge.specs.declared.connection.Connection.{Connection}
 use Rattle.ads_edge.specs.declared.peers.Peers.{Peers}
 use Rattle.ads_edge.specs.declared.silence.TheConstants.{SILENT_BEATS}
@@ -45,9 +44,3 @@ pub record KeepsQueues (old new : Peers) : Type 0 where
 pub record IsLongerBy (old new : List ℕ) : Type 0 where
   pub more : List ℕ
   pub behind : new ≡ old ++ more
-
--- there is a connection with this number that came from this address
-pub record IsPeerOf (number : ℕ) (address : SocketAddr) (connections : List Connection) : Type 0 where
-  pub place : ℕ
-  pub within : place < length connections
-  pub is : HoldsAt (λ (c : Connection). (c.number ≡ number) × (c.peer ≡ address)) connections place

@@ -37,7 +37,6 @@ refusal_words refusal.NoAddress = codes "no IP address and port"
 refusal_words (refusal.Kind k) = kind_words k
 refusal_words (refusal.Number number) = codes "system error " ++ decimal number
 refusal_words refusal.NoTime = codes "no time from the system's clock"
-refusal_words refusal.TooMany = codes "one address too many"
 
 -- the line on standard error, which a line feed ends
 abbrev pub refusal_line : List ℕ → List ℕ → Refusal → List ℕ

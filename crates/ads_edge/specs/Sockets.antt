@@ -1,6 +1,5 @@
 -- What is known of a wire over real sockets.
 use Rattle.std.specs.Prelude.{ℕ, suc, zero, List, [], ◌∷◌, ◌++◌, None, Bool, ◌&&◌, ◌||◌, is_some, nat_lt, vec_len}
-use Rattle.ads_edge.specs.Doors.{anyone_knocks}
 use Rattle.ads_edge.specs.Peers.{is_busy as peers_are_busy}
 use Rattle.ads_edge.specs.declared.sockets.Sockets.{Sockets}
 use Rattle.ads_outside.specs.WireState.{WireState}
@@ -27,4 +26,4 @@ state_of_sockets last events stops faults wants = record {
 
 -- something is to be done without a wait: for a connection, or someone knocks and there is a place
 abbrev pub is_busy : Sockets → Bool
-is_busy s = peers_are_busy s.peers || ((is_some s.guest || anyone_knocks s.doors) && nat_lt (vec_len s.peers.connections) 64)
+is_busy s = peers_are_busy s.peers || ((s.knocks || is_some s.guest) && nat_lt (vec_len s.peers.connections) 64)

@@ -5,7 +5,6 @@ ghost use Rattle.ads_edge.specs.Came.{CameWithin};
 ghost use Rattle.ads_edge.specs.Written.{WrittenWithin, alive_after as written_alive, is_there, taken_of};
 
 use crate::came::Came;
-use crate::doors::Guest;
 use crate::out_buffer::OutBuffer;
 use crate::stage::Stage;
 use crate::written::Written;
@@ -13,7 +12,7 @@ use ads_base::NoMemory;
 use mio::net::TcpStream;
 use std::alloc::Global;
 use std::io::{ErrorKind, Read, Write};
-use std::net::{Shutdown, SocketAddr};
+use std::net::Shutdown;
 
 /// How many ticks a connection that the server is done with may stand without taking a byte: 30 s.
 pub(crate) const STALLED_TICKS: u32 = 3_000;
@@ -25,8 +24,6 @@ pub(crate) const PARTING_TICKS: u32 = 100;
 #[derive(Drop)]
 pub(crate) struct Connection {
     pub(crate) number: u32,
-    // The address that it came from.
-    pub(crate) peer: SocketAddr,
     pub(crate) stage: Stage,
     // It is among those to be read, and among those to be sent to.
     pub(crate) to_read: bool,
@@ -48,14 +45,11 @@ impl Connection {
     ghost use Rattle.ads_edge.specs.Waiting.{waiting};
 
     /// A connection that was accepted at this beat and gets this number.
-    pub(crate) fn new(alloc: Global, number: u32, now: u64, guest: Guest) -> Connection
-        ensures opened { IsOpened number now result }
-        ensures peer { result.peer ≡ guest.address }
+    pub(crate) fn new(alloc: Global, number: u32, now: u64, stream: TcpStream) -> Connection
+        ensures { IsOpened number now result }
     {
-        let Guest { stream, address } = guest;
         Connection {
             number,
-            peer: address,
             stage: Stage::Served,
             to_read: false,
             to_send: false,

@@ -1,9 +1,8 @@
 //! The watch over a description's file.
 
-ghost use Rattle.std.specs.Prelude.{◌≡◌, ◌≢◌, ◌<◌, ◌⊎◌, IsSome, IfOk, IfSome, IfNone};
+ghost use Rattle.std.specs.Prelude.{◌≡◌, ◌≢◌, ◌<◌, IfOk, IfSome, IfNone};
 ghost use Rattle.std.specs.Duration.{as_nanos};
 ghost use Rattle.std.specs.Time.{instant_nanos};
-ghost use Rattle.ads_outside.specs.Rose.{raised};
 ghost use Rattle.ads_edge.specs.TickClock.{later_than};
 
 use crate::real_files::read_all;
@@ -24,8 +23,6 @@ pub(crate) struct DescriptionWatch {
     pub(crate) name: String,
     pub(crate) last: Octets,
     pub(crate) due: Instant,
-    // How many readings failed.
-    pub(crate) failed: u64,
 }
 
 impl DescriptionWatch {
@@ -38,18 +35,16 @@ impl DescriptionWatch {
     ) -> Result<DescriptionWatch, NoMemory>
         ensures last { IfOk result (λ watch. watch.last ≡ first.now) }
         ensures due { IfOk result (λ watch. instant_nanos watch.due ≡ later_than (instant_nanos now) 1_000_000_000) }
-        ensures failed { IfOk result (λ watch. watch.failed ≡ 0) }
     {
         Ok(DescriptionWatch {
             name: String::from_str(alloc, name)?,
             last: Octets::copy_of(alloc, first)?,
             due: later(now, Duration::from_secs(BETWEEN_SECS)),
-            failed: 0,
         })
     }
 
     /// What the file holds, where a second has passed and it holds other bytes than last. A reading that fails, is too long
-    /// or lacks memory is counted and passed over.
+    /// or lacks memory is passed over.
     pub(crate) fn changed<R: SystemFiles>(
         &mut self,
         alloc: Global,
@@ -57,52 +52,24 @@ impl DescriptionWatch {
         now: Instant,
         buffer: &mut [u8],
     ) -> Option<Octets>
-        ensures early { instant_nanos now < instant_nanos self.old.due → (result ≡ None) × (self.new.failed ≡ self.old.failed) }
+        ensures early { instant_nanos now < instant_nanos self.old.due → result ≡ None }
         ensures other { IfSome result (λ bytes. bytes ≢ self.old.last) }
         ensures given { IfSome result (λ bytes. self.new.last ≡ bytes) }
-        ensures read { IsSome result → self.new.failed ≡ self.old.failed }
         ensures kept { IfNone result (self.new.last ≡ self.old.last) }
-        ensures counted { self.new.failed ≡ self.old.failed ⊎ self.new.failed ≡ raised self.old.failed }
         ensures name { self.new.name ≡ self.old.name }
     {
         if now < self.due {
             return None;
         }
         self.due = later(now, Duration::from_secs(BETWEEN_SECS));
-        match read_again(alloc, rt, self.name.as_str(), buffer) {
-            Some(bytes) => self.take_other(alloc, bytes),
-            None => {
-                self.failed = self.failed.saturating_add(1);
-                None
-            }
-        }
-    }
-
-    // Bytes that were read, where they are other than the last.
-    fn take_other(&mut self, alloc: Global, bytes: Octets) -> Option<Octets>
-        ensures other { IfSome result (λ given. given ≢ self.old.last) }
-        ensures given { IfSome result (λ given. self.new.last ≡ given) }
-        ensures kept { IfNone result (self.new.last ≡ self.old.last) }
-        ensures same { self.new ≡ record self.old { last = self.new.last } }
-    {
+        let mut file = fs::open(rt, self.name.as_str()).ok()?;
+        let Got::Bytes(bytes) = read_all(alloc, &mut file, buffer) else {
+            return None;
+        };
         if bytes.as_slice() == self.last.as_slice() {
             return None;
         }
         self.last = Octets::copy_of(alloc, bytes.as_slice()).ok()?;
         Some(bytes)
-    }
-}
-
-// All bytes of the file of this name.
-fn read_again<R: SystemFiles>(
-    alloc: Global,
-    rt: &R,
-    name: &str,
-    buffer: &mut [u8],
-) -> Option<Octets> {
-    let mut file = fs::open(rt, name).ok()?;
-    match read_all(alloc, &mut file, buffer) {
-        Got::Bytes(bytes) => Some(bytes),
-        Got::Failed | Got::TooLong | Got::Memory => None,
     }
 }

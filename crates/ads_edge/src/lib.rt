@@ -1,13 +1,10 @@
 //! The real outside: files of the disk, standard output, the sockets of a server and that of a client.
 #![tactic(auto)]
 
-mod allow_list;
 mod beats;
 mod came;
 mod connection;
 mod description_watch;
-mod doors;
-mod given;
 mod heard;
 mod link_clock;
 mod listening_at;
@@ -18,7 +15,6 @@ mod real_link;
 mod real_sink;
 mod real_wire;
 mod refusal;
-mod refused_peers;
 mod silence;
 mod sockets;
 mod stage;
@@ -29,7 +25,6 @@ mod vanished;
 mod wall_clock;
 mod written;
 
-pub use allow_list::{AllowList, AllowedNet, PlainAddress};
 pub use real_files::RealFiles;
 pub use real_link::RealLink;
 pub use real_sink::RealSink;

@@ -1,22 +1,21 @@
 //! The connections of a wire.
 
 ghost use Rattle.std.specs.Prelude.{◌≡◌, ◌≤◌, ◌<◌, ◌^◌, ◌∷◌, ◌++◌, ◌+◌, [], length, vec_len, nat_lt};
-ghost use Rattle.std.specs.Prelude.{◌≢◌, All, true, false, IfOk, OnOk, IfSome, OnSome, IfNone, if◌then◌else◌};
+ghost use Rattle.std.specs.Prelude.{true, false, IfOk, OnOk, IfSome, OnSome, IfNone, if◌then◌else◌};
 ghost use Rattle.std.specs.List.{HoldsAt, list_any, remove};
 ghost use Rattle.ads_edge.specs.Came.{CameWithin};
 ghost use Rattle.ads_edge.specs.declared.connection.Connection.{Connection};
 
 use crate::came::Came;
 use crate::connection::Connection;
-use crate::doors::Guest;
 use crate::silence::longest_silent;
 use crate::stage::Stage;
 use crate::turn::Turn;
 use ads_base::{NoMemory, Octets};
 use mio::event::Event;
+use mio::net::TcpStream;
 use std::alloc::Global;
 use std::collections::VecDeque;
-use std::net::SocketAddr;
 
 /// How many connections there are at most.
 pub(crate) const MOST: usize = 64;
@@ -40,7 +39,7 @@ pub(crate) struct Peers {
 }
 
 impl Peers {
-    ghost use Rattle.ads_edge.specs.Peers.{ClosesSilent, IsEmpty, IsLongerBy, KeepsQueues, IsPeerOf, NoneIsSilent, is_busy};
+    ghost use Rattle.ads_edge.specs.Peers.{ClosesSilent, IsEmpty, IsLongerBy, KeepsQueues, NoneIsSilent, is_busy};
     ghost use Rattle.std.specs.VecDeque.{deque_len};
     ghost use Rattle.ads_edge.specs.Connection.{has_waiting};
     ghost use Rattle.ads_edge.specs.Turn.{IsTold, TellsOf};
@@ -76,25 +75,13 @@ impl Peers {
     }
 
     /// A connection comes, with a number above all others.
-    pub(crate) fn open(&mut self, number: u32, guest: Guest) -> Result<(), NoMemory>
+    pub(crate) fn open(&mut self, number: u32, stream: TcpStream) -> Result<(), NoMemory>
         requires { vec_len self.old.connections < MOST }
         ensures { OnOk result (vec_len self.new.connections ≡ vec_len self.old.connections + 1) }
     {
-        let connection = Connection::new(self.alloc, number, self.beat, guest);
+        let connection = Connection::new(self.alloc, number, self.beat, stream);
         self.connections.push(connection)?;
         Ok(())
-    }
-
-    /// The address that a connection came from, while it is there.
-    pub(crate) fn peer_of(&self, number: u32) -> Option<SocketAddr>
-        ensures found { IfSome result (λ address. IsPeerOf number address self.now.connections.items) }
-        ensures none { IfNone result (All (λ (c : Connection). c.number ≢ number) self.now.connections.items) }
-    {
-        let place = self
-            .connections
-            .iter()
-            .position(|connection| connection.number == number)?;
-        Some(self.connections[place].peer)
     }
 
     /// The poll tells of a connection.

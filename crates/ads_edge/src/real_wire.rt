@@ -2,15 +2,12 @@
 
 ghost use Rattle.std.specs.Prelude.{◌≡◌, ◌<◌, ◌^◌, length};
 
-use crate::allow_list::AllowList;
-use crate::given::is_given;
-use crate::refusal::PROGRAM;
-use crate::sockets::{Place, Sockets};
+use crate::sockets::Sockets;
 use crate::turn::Turn;
 use ads_base::NoMemory;
 use ads_outside::{Event, Next, Offer, Shut, Started, Wire};
 use std::alloc::Global;
-use std::net::{Net, SocketAddr};
+use std::net::Net;
 use std::rt::Files as SystemFiles;
 use std::time::Clock;
 
@@ -25,10 +22,6 @@ pub struct RealWire<R: Net + Clock + SystemFiles + Eprint + Drop> {
     alloc: Global,
     rt: R,
     buffer: Vec<u8>,
-    // The word before what is told on standard error, who may connect, and whether a socket may be handed over.
-    program: &'static str,
-    allowed: Option<AllowList>,
-    takes_given: bool,
     sockets: Option<Sockets>,
     // The number that was opened last, and counts.
     last: u32,
@@ -39,36 +32,12 @@ pub struct RealWire<R: Net + Clock + SystemFiles + Eprint + Drop> {
 }
 
 impl<R: Net + Clock + SystemFiles + Eprint + Drop> RealWire<R> {
-    /// A wire that is not started, with a buffer to read by. Everybody may connect.
+    /// A wire that is not started, with a buffer to read by.
     pub fn new(alloc: Global, rt: R) -> Result<RealWire<R>, NoMemory> {
-        RealWire::made(alloc, rt, PROGRAM, None, false)
-    }
-
-    /// The same for a service: of this name, for peers of the list, or for everybody where there is none. Where the process
-    /// was handed a listening socket, as systemd does (LISTEN_PID, LISTEN_FDS), it is served too.
-    pub fn with_doors(
-        alloc: Global,
-        rt: R,
-        program: &'static str,
-        allowed: Option<AllowList>,
-    ) -> Result<RealWire<R>, NoMemory> {
-        RealWire::made(alloc, rt, program, allowed, true)
-    }
-
-    fn made(
-        alloc: Global,
-        rt: R,
-        program: &'static str,
-        allowed: Option<AllowList>,
-        takes_given: bool,
-    ) -> Result<RealWire<R>, NoMemory> {
         Ok(RealWire {
             alloc,
             rt,
             buffer: crate::real_files::empty_buffer(alloc)?,
-            program,
-            allowed,
-            takes_given,
             sockets: None,
             last: 0,
             events: 0,
@@ -76,35 +45,6 @@ impl<R: Net + Clock + SystemFiles + Eprint + Drop> RealWire<R> {
             faults: 0,
             wants: 0,
         })
-    }
-
-    /// The address that a connection came from, while it is there.
-    pub fn peer_of(&self, conn: u32) -> Option<SocketAddr> {
-        self.sockets.as_ref()?.peer_of(conn)
-    }
-
-    /// How many peers were refused, since the list has no net of their address.
-    pub fn refused_peers(&self) -> u64 {
-        match &self.sockets {
-            Some(sockets) => sockets.refused.count,
-            None => 0,
-        }
-    }
-
-    /// The address of a peer that was refused, each once and the oldest first. At most 64 are remembered.
-    pub fn next_refused(&mut self) -> Option<SocketAddr> {
-        match &mut self.sockets {
-            Some(sockets) => sockets.refused.next(),
-            None => None,
-        }
-    }
-
-    /// How many readings of the description's file failed since the start.
-    pub fn failed_readings(&self) -> u64 {
-        match &self.sockets {
-            Some(sockets) => sockets.watch.failed,
-            None => 0,
-        }
     }
 }
 
@@ -126,14 +66,7 @@ impl<R: Net + Clock + SystemFiles + Eprint + Drop> Wire for RealWire<R> {
     }
 
     fn start(&mut self, listen: &str, name: &str, first: &[u8]) -> Started {
-        let place = Place {
-            program: self.program,
-            listen,
-            is_given: self.takes_given && is_given(),
-        };
-        // Its number is another's once it was closed.
-        self.takes_given = false;
-        match Sockets::open(self.alloc, &self.rt, place, name, first) {
+        match Sockets::open(self.alloc, &self.rt, listen, name, first) {
             Ok(Some(sockets)) => {
                 self.sockets = Some(sockets);
                 Started::Ready
@@ -154,12 +87,7 @@ impl<R: Net + Clock + SystemFiles + Eprint + Drop> Wire for RealWire<R> {
     fn next(&mut self) -> Next {
         let number = self.last.checked_add(1);
         let turn = match &mut self.sockets {
-            Some(sockets) => sockets.turn(
-                &self.rt,
-                number,
-                &self.allowed,
-                self.buffer.as_mut_slice(),
-            ),
+            Some(sockets) => sockets.turn(&self.rt, number, self.buffer.as_mut_slice()),
             None => Turn::Failed,
         };
         match turn {

@@ -21,8 +21,6 @@ pub(crate) enum Refusal {
     Number(u32),
     /// The system tells no time, or one before 1970.
     NoTime,
-    /// There is no room for one more.
-    TooMany,
 }
 
 impl Refusal {
@@ -46,7 +44,6 @@ impl fmt::Display for Refusal {
             Refusal::Kind(kind) => f.write_str(words_of(*kind)),
             Refusal::Number(number) => write!(f, "system error {number}"),
             Refusal::NoTime => f.write_str("no time from the system's clock"),
-            Refusal::TooMany => f.write_str("one address too many"),
         }
     }
 }

@@ -1,59 +1,42 @@
-//! Listening sockets, their connections, the clock and the watch.
+//! A listening socket, its connections, the clock and the watch.
 
-ghost use Rattle.std.specs.Prelude.{◌≡◌, None, true, false, ◌≤◌, ◌<◌, ◌^◌, length, vec_len, IfOk, IfSome};
-ghost use Rattle.std.specs.Net.Socket.{socket_ip};
-ghost use Rattle.ads_edge.specs.AllowList.{admits};
-ghost use Rattle.ads_edge.specs.Doors.{anyone_knocks};
-ghost use Rattle.ads_edge.specs.Peers.{IsPeerOf};
+ghost use Rattle.std.specs.Prelude.{◌≡◌, false, ◌≤◌, ◌<◌, ◌^◌, length, vec_len, IfOk, IfSome};
 ghost use Rattle.ads_edge.specs.Turn.{IsFault, IsOfTime, IsTick, OpensBy};
 
-use crate::allow_list::{AllowList, admits};
 use crate::description_watch::DescriptionWatch;
-use crate::doors::{Doors, Guest};
-use crate::given::{PLACE, given};
+use crate::listening_at::address_of;
 use crate::peers::Peers;
-use crate::refusal::{Refusal, tell};
-use crate::refused_peers::RefusedPeers;
+use crate::refusal::{PROGRAM, Refusal, tell};
 use crate::tick_clock::TickClock;
 use crate::turn::Turn;
 use crate::vanished::watch_over;
 use crate::wall_clock::moment;
 use ads_base::NoMemory;
 use mio::event::Event;
+use mio::net::{TcpListener, TcpStream};
 use mio::{Events, Interest, Poll, Token};
 use std::alloc::Global;
+use std::io::{self, ErrorKind};
 use std::net::{Net, SocketAddr};
 use std::rt::Files as SystemFiles;
 use std::time::{Clock, Duration, Instant};
 
-/// How many events one poll tells: one of each connection and of each door at least.
+/// The token of the listening socket. The token of a connection is its number, which is not 0.
+const DOOR: Token = Token(0);
+
+/// How many events one poll tells: one of each connection and of the listening socket at least.
 const EVENTS: usize = 128;
-
-/// How many peers are refused at once before something else has its turn.
-const REFUSED_AT_ONCE: usize = 64;
-
-/// Where a wire listens, and who it is.
-#[derive(Clone, Copy)]
-pub(crate) struct Place<'a> {
-    /// The word before what is told on standard error.
-    pub(crate) program: &'a str,
-    /// Addresses, parted by spaces.
-    pub(crate) listen: &'a str,
-    /// A socket is handed over too.
-    pub(crate) is_given: bool,
-}
 
 /// Sockets that are polled.
 pub(crate) struct Sockets {
     pub(crate) alloc: Global,
     pub(crate) poll: Poll,
     pub(crate) events: Events,
-    // Where accepting failed, it is tried again at the next tick.
-    pub(crate) doors: Doors,
-    // Who may not connect.
-    pub(crate) refused: RefusedPeers,
+    pub(crate) listener: TcpListener,
+    // Someone may wait to be accepted; where accepting failed, it is tried again at the next tick.
+    pub(crate) knocks: bool,
     // Accepted, and waits for the place that a silent connection gives up.
-    pub(crate) guest: Option<Guest>,
+    pub(crate) guest: Option<TcpStream>,
     pub(crate) peers: Peers,
     pub(crate) clock: TickClock,
     // The last turn was a tick.
@@ -64,31 +47,32 @@ pub(crate) struct Sockets {
 impl Sockets {
     ghost use Rattle.ads_edge.specs.Sockets.{is_busy};
 
-    /// Listens there, and watches the named file, which held these bytes. None where an address can't be listened at.
+    /// Listens there, and watches the named file, which held these bytes. None where the address can't be listened at.
     /// Why is told on standard error.
     pub(crate) fn open<R: Net + Clock + Eprint>(
         alloc: Global,
         rt: &R,
-        place: Place<'_>,
+        listen: &str,
         name: &str,
         first: &[u8],
     ) -> Result<Option<Sockets>, NoMemory> {
-        let Some(poll) = polling(rt, place) else {
-            return Ok(None);
-        };
-        let Some(doors) = doors_at(alloc, rt, &poll, place)? else {
-            return Ok(None);
+        let (poll, listener) = match listening(rt, listen) {
+            Ok(both) => both,
+            Err(refusal) => {
+                tell(rt, PROGRAM, listen, refusal);
+                return Ok(None);
+            }
         };
         let (Ok(now), Some(wall)) = (Instant::now(rt), moment(rt)) else {
-            tell(rt, place.program, place.listen, Refusal::NoTime);
+            tell(rt, PROGRAM, listen, Refusal::NoTime);
             return Ok(None);
         };
         Ok(Some(Sockets {
             alloc,
             poll,
             events: Events::with_capacity(alloc, EVENTS)?,
-            doors,
-            refused: RefusedPeers::new(alloc),
+            listener,
+            knocks: true,
             guest: None,
             peers: Peers::new(alloc),
             clock: TickClock::new(now, wall),
@@ -97,23 +81,15 @@ impl Sockets {
         }))
     }
 
-    /// The address that a connection came from, while it is there.
-    pub(crate) fn peer_of(&self, number: u32) -> Option<SocketAddr>
-        ensures { IfSome result (λ address. IsPeerOf number address self.now.peers.connections.items) }
-    {
-        self.peers.peer_of(number)
-    }
-
     /// Waits for what happens next. A connection that is accepted gets the number; without one that is a failure.
     pub(crate) fn turn<R: Clock + SystemFiles>(
         &mut self,
         rt: &R,
         number: Option<u32>,
-        allowed: &Option<AllowList>,
         buffer: &mut [u8],
     ) -> Turn {
         for _ in 0..u64::MAX {
-            if let Some(turn) = self.look(rt, number, allowed, buffer) {
+            if let Some(turn) = self.look(rt, number, buffer) {
                 return turn;
             }
             if let Some(turn) = self.wait(rt) {
@@ -148,7 +124,6 @@ impl Sockets {
         &mut self,
         rt: &R,
         number: Option<u32>,
-        allowed: &Option<AllowList>,
         buffer: &mut [u8],
     ) -> Option<Turn> {
         if let Some(turn) = self.time_turn(rt, buffer) {
@@ -167,7 +142,7 @@ impl Sockets {
         if let Some(turn) = self.peers.next_told() {
             return Some(turn);
         }
-        self.accept(number, allowed)
+        self.accept(number)
     }
 
     // A tick or a reload, if one is due. Behind a tick something else has its turn, if there is anything.
@@ -187,7 +162,7 @@ impl Sockets {
             return None;
         }
         self.struck = true;
-        self.doors.knock_at_all();
+        self.knocks = true;
         self.peers.pass_tick(self.clock.beat_at(now));
         match moment(rt) {
             Some(wall) => self.tick(now, wall),
@@ -204,46 +179,55 @@ impl Sockets {
     }
 
     // Accepts a connection, if one waits and there is a place for it.
-    fn accept(&mut self, number: Option<u32>, allowed: &Option<AllowList>) -> Option<Turn> {
+    fn accept(&mut self, number: Option<u32>) -> Option<Turn> {
         if self.peers.has_room() {
-            let guest = match self.guest.take() {
-                Some(guest) => guest,
-                None => self.knocking(allowed)?,
+            let stream = match self.guest.take() {
+                Some(stream) => stream,
+                None => self.knocking()?,
             };
-            return self.welcome(number, guest);
+            return self.welcome(number, stream);
         }
-        if self.guest.is_none() && self.doors.knocks() && self.peers.is_one_silent() {
-            self.guest = Some(self.knocking(allowed)?);
+        if self.knocks && self.guest.is_none() && self.peers.is_one_silent() {
+            self.guest = Some(self.knocking()?);
             return self.peers.close_silent();
         }
         None
     }
 
-    // The peer that waits, if one does who may connect. Others are noted and dropped.
-    fn knocking(&mut self, allowed: &Option<AllowList>) -> Option<Guest>
-        ensures asked { anyone_knocks self.old.doors ≡ false → result ≡ None }
-        ensures allowed { IfSome result (λ guest. admits allowed.now (socket_ip guest.address) ≡ true) }
+    // The connection that waits, if one does.
+    fn knocking(&mut self) -> Option<TcpStream>
+        ensures asked { self.old.knocks ≡ false → result ≡ None }
         ensures peers { self.new.peers ≡ self.old.peers }
     {
-        knocking_at(&mut self.doors, &mut self.refused, allowed)
+        if !self.knocks {
+            return None;
+        }
+        match self.listener.accept() {
+            Ok((stream, _)) => Some(stream),
+            Err(error) => {
+                self.knocks = error.kind() == ErrorKind::Interrupted
+                    || error.kind() == ErrorKind::ConnectionAborted;
+                None
+            }
+        }
     }
 
     // A connection was accepted. Where it can't be watched it is dropped.
-    fn welcome(&mut self, number: Option<u32>, mut guest: Guest) -> Option<Turn>
+    fn welcome(&mut self, number: Option<u32>, mut stream: TcpStream) -> Option<Turn>
         requires { vec_len self.old.peers.connections < 64 }
         ensures { IfSome result (OpensBy number) }
     {
         let Some(number) = number else {
             return Some(Turn::Failed);
         };
-        let _ = guest.stream.set_nodelay(true);
-        watch_over(&guest.stream);
+        let _ = stream.set_nodelay(true);
+        watch_over(&stream);
         let both = Interest::READABLE | Interest::WRITABLE;
         self.poll
             .registry()
-            .register(&mut guest.stream, Token(number as usize), both)
+            .register(&mut stream, Token(number as usize), both)
             .ok()?;
-        match self.peers.open(number, guest) {
+        match self.peers.open(number, stream) {
             Ok(()) => Some(Turn::Opened),
             Err(NoMemory) => Some(Turn::Memory),
         }
@@ -269,8 +253,7 @@ impl Sockets {
     fn is_busy(&self) -> bool
         ensures { result ≡ is_busy self.now }
     {
-        self.peers.is_busy()
-            || (self.guest.is_some() || self.doors.knocks()) && self.peers.has_room()
+        self.peers.is_busy() || (self.knocks || self.guest.is_some()) && self.peers.has_room()
     }
 
     // Sends what waits, as far as the peers read within a second.
@@ -292,8 +275,9 @@ impl Sockets {
         if self.poll.poll(&mut self.events, Some(left)).is_err() {
             return Some(Turn::Failed);
         }
-        if note_all(&self.events, &mut self.peers, &mut self.doors).is_err() {
-            return Some(Turn::Memory);
+        match note_all(&self.events, &mut self.peers) {
+            Ok(knocks) => self.knocks = self.knocks || knocks,
+            Err(NoMemory) => return Some(Turn::Memory),
         }
         self.peers.begin_turns();
         None
@@ -308,8 +292,8 @@ impl Drop for Sockets {
             alloc: _,
             poll: _,
             events: _,
-            doors: _,
-            refused: _,
+            listener: _,
+            knocks: _,
             guest: _,
             peers: _,
             clock: _,
@@ -319,93 +303,42 @@ impl Drop for Sockets {
     }
 }
 
-// A poll.
-fn polling<R: Net + Eprint>(rt: &R, place: Place<'_>) -> Option<Poll> {
-    match Poll::new(rt) {
-        Ok(poll) => Some(poll),
-        Err(error) => {
-            tell(rt, place.program, place.listen, Refusal::of(&error));
-            None
-        }
+// A poll, and a socket that listens there and is polled.
+fn listening<R: Net>(rt: &R, listen: &str) -> Result<(Poll, TcpListener), Refusal> {
+    let Some(address) = address_of(listen) else {
+        return Err(Refusal::NoAddress);
+    };
+    match polled(rt, address) {
+        Ok(both) => Ok(both),
+        Err(error) => Err(Refusal::of(&error)),
     }
 }
 
-// A door at each address, and for the socket that is handed over.
-fn doors_at<R: Net + Eprint>(
-    alloc: Global,
-    rt: &R,
-    poll: &Poll,
-    place: Place<'_>,
-) -> Result<Option<Doors>, NoMemory> {
-    let mut doors = Doors::new(alloc);
-    if place.is_given && !add_given(&mut doors, rt, poll, place)? {
-        return Ok(None);
-    }
-    // Where a socket is handed over, no address need be named.
-    if place.is_given && place.listen.is_empty() {
-        return Ok(Some(doors));
-    }
-    if doors.open(rt, poll, place.program, place.listen)? {
-        Ok(Some(doors))
-    } else {
-        Ok(None)
-    }
+fn polled<R: Net>(rt: &R, address: SocketAddr) -> io::Result<(Poll, TcpListener)> {
+    let mut listener = TcpListener::bind(rt, address)?;
+    let poll = Poll::new(rt)?;
+    poll.registry()
+        .register(&mut listener, DOOR, Interest::READABLE)?;
+    Ok((poll, listener))
 }
 
-// A door for the socket that is handed over.
-fn add_given<R: Eprint>(
-    doors: &mut Doors,
-    rt: &R,
-    poll: &Poll,
-    place: Place<'_>,
-) -> Result<bool, NoMemory> {
-    match given() {
-        Ok(listener) => doors.add(poll, listener),
-        Err(refusal) => {
-            tell(rt, place.program, PLACE, refusal);
-            Ok(false)
-        }
-    }
-}
-
-// The peer that waits at one of the doors, if one does who may connect. Others are noted and dropped.
-fn knocking_at(
-    doors: &mut Doors,
-    refused: &mut RefusedPeers,
-    allowed: &Option<AllowList>,
-) -> Option<Guest>
-    ensures asked { anyone_knocks doors.old ≡ false → result ≡ None }
-    ensures allowed { IfSome result (λ guest. admits allowed.now (socket_ip guest.address) ≡ true) }
-{
-    if !doors.knocks() {
-        return None;
-    }
-    for _ in 0..REFUSED_AT_ONCE {
-        let guest = doors.accept()?;
-        if admits(allowed, guest.address.ip()) {
-            return Some(guest);
-        }
-        refused.add(guest.address);
-    }
-    None
-}
-
-// Notes what a poll told.
-fn note_all(events: &Events, peers: &mut Peers, doors: &mut Doors) -> Result<(), NoMemory> {
+// Notes what a poll told; true where someone may wait to be accepted.
+fn note_all(events: &Events, peers: &mut Peers) -> Result<bool, NoMemory> {
+    let mut knocks = false;
     for event in events {
-        note(peers, doors, event)?;
+        knocks = note(peers, event)? || knocks;
     }
-    Ok(())
+    Ok(knocks)
 }
 
-// Notes one event.
-fn note(peers: &mut Peers, doors: &mut Doors, event: &Event) -> Result<(), NoMemory> {
+// Notes one event; true where someone may wait to be accepted.
+fn note(peers: &mut Peers, event: &Event) -> Result<bool, NoMemory> {
     let token = event.token();
-    match u32::try_from(token.0) {
-        Ok(number) => peers.note(number, event),
-        Err(_) => {
-            doors.note(token);
-            Ok(())
-        }
+    if token == DOOR {
+        return Ok(true);
     }
+    if let Ok(number) = u32::try_from(token.0) {
+        peers.note(number, event)?;
+    }
+    Ok(false)
 }
