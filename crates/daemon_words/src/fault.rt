@@ -1,10 +1,6 @@
 //! What is wrong with the words or the configuration of a daemon.
 
-<<<<<<< HEAD
-ghost use Rattle.std.specs.Prelude.{◌<◌, IfOk, length};
-=======
 ghost use Rattle.std.specs.Prelude.{◌≡◌};
->>>>>>> daemon_new
 
 use crate::Field;
 use ads_base::{NoMemory, Octets};
