@@ -14,7 +14,7 @@ use crate::tally::{Tally, try_all};
 use std::process::ExitCode;
 
 fn main(rt: HostRuntime) -> ExitCode {
-    match try_all(&rt).and_then(|tally| end(&rt, tally)) {
+    match try_all(&rt, &rt).and_then(|tally| end(&rt, tally)) {
         Ok(true) => ExitCode::from(0),
         Ok(false) => ExitCode::from(1),
         Err(fault) => {

@@ -6,6 +6,7 @@ use crate::folder::Folder;
 use crate::play::log_of;
 use crate::told::tell_difference;
 use std::str;
+use std::thread::Threads;
 
 /// The file that names the others.
 const LIST: &str = "runs.txt";
@@ -24,7 +25,7 @@ pub struct Tally {
 }
 
 /// Tries each run of each file that runs.txt names, and tells of each that differs.
-pub fn try_all(rt: &HostRuntime) -> Result<Tally, Fault> {
+pub fn try_all<T: Threads + Sync>(rt: &HostRuntime, threads: &T) -> Result<Tally, Fault> {
     let mut tally = Tally::default();
     let mut folder = Folder::new(rt)?;
     let plant = folder.read(PLANT)?;
@@ -34,15 +35,16 @@ pub fn try_all(rt: &HostRuntime) -> Result<Tally, Fault> {
     };
     for name in list.lines() {
         if !name.is_empty() {
-            try_file(rt, &mut folder, plant.as_slice(), name, &mut tally)?;
+            try_file(rt, threads, &mut folder, plant.as_slice(), name, &mut tally)?;
         }
     }
     Ok(tally)
 }
 
 // The runs of one file, by its name.
-fn try_file(
+fn try_file<T: Threads + Sync>(
     rt: &HostRuntime,
+    threads: &T,
     folder: &mut Folder,
     plant: &[u8],
     name: &str,
@@ -57,25 +59,26 @@ fn try_file(
     for row in text.lines() {
         line = line.saturating_add(1);
         if row == PARTING {
-            try_run(rt, plant, name, line, &draft, tally)?;
+            try_run(rt, threads, plant, name, line, &draft, tally)?;
             draft = Draft::new(rt.alloc());
         } else {
             draft.take(rt.alloc(), folder, row)?;
         }
     }
-    try_run(rt, plant, name, line, &draft, tally)
+    try_run(rt, threads, plant, name, line, &draft, tally)
 }
 
 // A run, which ends before this line of its file: one that went as wanted is counted, and of another one is told how.
-fn try_run(
+fn try_run<T: Threads + Sync>(
     rt: &HostRuntime,
+    threads: &T,
     plant: &[u8],
     name: &str,
     line: u32,
     run: &Draft,
     tally: &mut Tally,
 ) -> Result<(), Fault> {
-    let came = log_of(rt, rt.alloc(), plant, run.script.as_slice())?;
+    let came = log_of(threads, rt.alloc(), plant, run.script.as_slice())?;
     if came.as_slice() == run.out.as_slice() {
         tally.good = tally.good.saturating_add(1);
         return Ok(());
