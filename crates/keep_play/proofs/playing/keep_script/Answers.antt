@@ -18,14 +18,14 @@ unreachable-requires g c =
     c.new-wire.ensures c.keep_turns-ended.ensures.kept c.into_log-log.ensures.log c.into_log-log.ensures.played c.into_log-log.ensures.so_far
     c.into_log-log.ensures.few in
     never_spent g.M.Persistent.body_of g.M.Persistent.steps g.M.Persistent.noted g.D.Disk.contents g.D.Disk.may_leave g.D.Disk.moment
-    g.D.Disk.left_since _ (g.M.Persistent.serves c.args.served.now) (g.M.Persistent.serves c.keep_turns-ended.new.served)
+    g.D.Disk.left_since 0 (g.M.Persistent.serves c.args.served.now) (g.M.Persistent.serves c.keep_turns-ended.new.served)
     c.args.script c.new-wire.result c.keep_turns-ended.new.wire c.into_log-log.result
     (body_of c.args.store.now) c.in-Some.limit _ _ _ wire c.in-Some.ensures.one_more c.in-Budget.ensures.keeps
 
 pub unreachable-requires-in-LinkFault : goal.unreachable-requires-in-LinkFault
 unreachable-requires-in-LinkFault g c =
     never_fails g.M.Persistent.body_of g.M.Persistent.steps g.M.Persistent.noted g.D.Disk.contents g.D.Disk.may_leave g.D.Disk.moment
-    g.D.Disk.left_since _ (g.M.Persistent.serves c.args.served.now) (g.M.Persistent.serves c.keep_turns-ended.new.served)
+    g.D.Disk.left_since 0 (g.M.Persistent.serves c.args.served.now) (g.M.Persistent.serves c.keep_turns-ended.new.served)
     c.new-wire.result c.keep_turns-ended.new.wire (body_of c.args.store.now) c.in-Some.limit _ _ _ c.in-LinkFault.ensures.keeps
 
 pub returns-in-Done-clause-ends : goal.returns-in-Done-clause-ends
