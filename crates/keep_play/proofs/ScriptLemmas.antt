@@ -1,11 +1,11 @@
 -- The turns so far begin the script's play, so the saves so far begin those of the whole play.
 use Rattle.std.proofs.Common.{◌≡◌, ℕ, ◌+◌, ◌<◌, ◌≤◌, List, [], ◌∷◌, ◌++◌, length, true, false, refl, sym, ap, ◌∙◌, subst, append-nil, inl, inr, arith}
-use Rattle.std.specs.Prelude.{◌||◌, Option, Some, None}
+use Rattle.std.specs.Prelude.{◌⊎◌, ◌||◌, Option, Some, None}
 use Rattle.ads_outside.specs.declared.moves.Move.{Move}
 use Rattle.ads_outside.specs.Opened.{opened_in}
 use Rattle.ads_outside.specs.Rose.{raised}
 use Rattle.ads_outside.specs.WireAnswers.{Stops}
-use Rattle.ads_outside.specs.WireState.{WireHistory, history_after, end_answered}
+use Rattle.ads_outside.specs.WireState.{WireState, WireHistory, history_after, end_answered}
 use Rattle.spec_machine.specs.Connection.{Connection, connection_of}
 use Rattle.spec_machine.specs.MachineState.{MachineState}
 use Rattle.spec_machine.specs.Moves.{EventStep, state_after}
@@ -30,9 +30,10 @@ use Rattle.spec_store.specs.Runs as runs
 use Rattle.spec_store.specs.Runs.{IsOneOf}
 use Rattle.persist_store.specs.Store.{StoreState, IsReady}
 use Rattle.persist_store.proofs.Moments.{started}
-use Rattle.keep_loop.specs.Bodies.{BodyOf, bodies_at_ticks, bodies_of_run, saves_in, is_any_over}
+use Rattle.keep_loop.specs.Bodies.{BodyOf, bodies_at_ticks, paced, bodies_looked_at, bodies_to_end, bodies_of_run, saves_in, is_any_over}
 use Rattle.keep_loop.specs.declared.keep_end.KeepEnd.TheVariants as keep
-use Rattle.keep_loop.specs.Keeping.{Keeps, KeepsBefore, GoesOn, StopsAt, TookTurns, CountsSaves, StandsAtEnd, AfterKeep}
+use Rattle.keep_loop.specs.declared.run_end.RunEnd.TheVariants as run
+use Rattle.keep_loop.specs.Keeping.{Keeps, KeepsBefore, EndsAfter, BreaksOff, StopsInSave, TookTurns, CountsSaves, StandsAtEnd, AfterKeep}
 use Rattle.keep_loop.specs.Saving.{LeavesEach, StandsForSome}
 use Rattle.keep_loop.proofs.BodyLemmas.{bodies_begin}
 use Rattle.keep_loop.proofs.SaveLemmas.{last_of, saves-append, over-append, left_more, first_standing}
@@ -101,17 +102,33 @@ answered_all lines old new log ms last wire logged ended =
     let B : List Move → Type 0 = λ l. AnsweredBy first_peers lines l in
     (told, subst B told (subst A (lines_are lines old new log wire) (wire.played over)))
 
+-- the end of a wire leaves its log
+log_same : (old new : WireState) (last : WireHistory) → EndsAfter old new last → new.history.log ≡ last.log
+log_same old new last (inl same) = ap (λ (h : WireHistory). h.log) same
+log_same old new last (inr (inl ended)) = ap (λ (h : WireHistory). h.log) ended
+log_same old new last (inr (inr stops)) = ap (λ (h : WireHistory). h.log) stops.same
+
+none_behind : (old new : WireState) (last : WireHistory) → new.history ≡ last → EndsAfter old new (history_after last [])
+unfolding history_after
+none_behind old new last same = inl same
+
 -- these moves are answered so far
-answered_first : (lines : List ScriptLine) (old new : PlayedScript) (log ms : List Move) (last : WireHistory) → IsWireOf lines old new log
+answered_first : (lines : List ScriptLine) (old new : PlayedScript) (log ms later : List Move) (last : WireHistory) → IsWireOf lines old new log
     → last ≡ history_after (state_of_played old).history ms
-    → GoesOn last (state_of_played new).history → AnsweredSoFar first_peers lines ms
-answered_first lines old new log ms last wire logged goes =
+    → EndsAfter (state_of_played old) (state_of_played new) (history_after last later) → AnsweredSoFar first_peers lines ms
+answered_first lines old new log ms later last wire logged ended =
     let here = log_there lines old last ms wire.first logged in
-    let told : new.log ≡ ms ++ goes.later = same_some new.log (ms ++ goes.later) (ap (λ (h : WireHistory). h.log) goes.same ∙ log-after goes.later last ms
-    here) in
+    let told : new.log ≡ ms ++ later = same_some new.log (ms ++ later)
+    (log_same (state_of_played old) (state_of_played new) (history_after last later) ended ∙ log-after later last ms here) in
     let A : List ScriptLine → Type 0 = λ ls. AnsweredSoFar first_peers ls log in
     let B : List Move → Type 0 = λ l. AnsweredSoFar first_peers lines l in
-    answered_at_each_cut lines ms goes.later (subst B (wire.log_is ∙ told) (subst A (lines_are lines old new log wire) wire.so_far))
+    answered_at_each_cut lines ms later (subst B (wire.log_is ∙ told) (subst A (lines_are lines old new log wire) wire.so_far))
+
+-- at a pace of one each body is looked at
+each_paced : (bodies : List (List ℕ)) → paced 1 0 bodies ≡ bodies
+unfolding paced
+each_paced [] = refl
+each_paced (body ∷ bodies) = ap (λ l. body ∷ l) (each_paced bodies)
 
 module _ {W C : Type 0} (body_of : BodyOf W) (step : EventStep W C) (noted : Noting W C) where
   -- saves of the ticks of a first part of a play
@@ -135,13 +152,16 @@ module _ {W C : Type 0} (body_of : BodyOf W) (step : EventStep W C) (noted : Not
   unfolding saves_of_script
   whole_saves s lines stood ms saves play are = are ∙ ap (λ l. saves_in stood (bodies_of_run body_of step s l)) play
 
+  to_end_is : (s : MachineState W C) (ms : List Move) → bodies_to_end 1 body_of step s ms ≡ bodies_of_run body_of step s ms
+  to_end_is s ms = ap (λ l. l ++ body_of (state_after step s ms).world ∷ []) (each_paced (bodies_at_ticks body_of step s ms))
+
   pub all_first : (saves whole : List (List ℕ)) → saves ≡ whole → AreFirst saves whole
   all_first saves whole same = record { more = []; is = sym same ∙ sym (append-nil saves) }
 
   -- the play of a wire that answered End
   pub play_whole : (old_serves new_serves : Standing W C → Type 0) (lines : List ScriptLine) (old new : PlayedScript) (log : List Move)
       (stood : Option (List ℕ)) (limit : ℕ) (saves : List (List ℕ)) → IsWireOf lines old new log
-      → KeepsBefore step noted old_serves new_serves (bodies_of_run body_of step) stood (state_of_played old).history limit
+      → KeepsBefore step noted old_serves new_serves (bodies_to_end 1 body_of step) stood (state_of_played old).history limit
       (λ last. (state_of_played new).history ≡ end_answered last) saves
       → (x : Standing W C) → old_serves x → IsUnused x
       → IsPlay step noted new_serves x lines log × (saves ≡ saves_of_script body_of step x.running.state lines stood)
@@ -154,37 +174,54 @@ module _ {W C : Type 0} (body_of : BodyOf W) (step : EventStep W C) (noted : Not
       let log_is : log ≡ ms = wire.log_is ∙ answered.0 in
       let S : List Move → Type 0 = λ l. new_serves (standing_after_all step noted x l) in (
         record { is = log_is ∙ play; stands = subst S (sym log_is) (k.keeps.turns.stands x over).stands },
-        whole_saves x.running.state lines stood ms saves
-            play (k.keeps.are x over),
+        whole_saves x.running.state lines stood ms saves play (k.keeps.are x over ∙ ap (saves_in stood) (to_end_is x.running.state ms)),
       )
-
-  -- the play of a wire whose run was ended by a save, or for want of memory
-  pub play_first : (old_serves : Standing W C → Type 0) (lines : List ScriptLine) (old new : PlayedScript) (log : List Move) (stood : Option (List ℕ))
-      (limit : ℕ) (saves : List (List ℕ)) → IsWireOf lines old new log
-      → StopsAt body_of step noted old_serves stood (state_of_played old) (state_of_played new) limit saves
-      → (x : Standing W C) → old_serves x → IsUnused x → AreFirst saves (saves_of_script body_of step x.running.state lines stood)
-  play_first old_serves lines old new log stood limit saves wire (inl k) x stands unused =
-      let over = over_unused old_serves (opened_in old.log) x stands unused in
-      let ms = k.keeps.turns.moves in
-      let so_far = answered_first lines old new log ms k.last wire k.keeps.turns.logged k.then_ in
-      let begins = log_begins_play step x.running.state lines ms (keeps_turns step x ms unused (k.keeps.turns.are x over)) so_far in
-      first_saves x.running.state lines stood ms begins.0 saves begins.1 (k.keeps.are x over)
-  play_first old_serves lines old new log stood limit saves wire (inr k) x stands unused =
-      all_first saves (saves_of_script body_of step x.running.state lines stood) (play_whole old_serves serves_any lines old new log stood limit saves wire k
-      x stands unused).1
 
   -- a script's wire never fails, and ends before so many turns
   pub no_fault : (old_serves new_serves : Standing W C → Type 0) (stood : Option (List ℕ)) (old new : PlayedScript) (limit : ℕ) (saves : List (List ℕ))
-      → KeepsBefore step noted old_serves new_serves (bodies_at_ticks body_of step) stood (state_of_played old).history limit
+      → KeepsBefore step noted old_serves new_serves (bodies_to_end 1 body_of step) stood (state_of_played old).history limit
       (λ last. Stops (state_of_played old) (state_of_played new) last) saves → ⊥
   no_fault old_serves new_serves stood old new limit saves k = let rose = k.then_.stopped in omega (arith, rose)
 
   pub no_budget : (old_serves new_serves : Standing W C → Type 0) (lines : List ScriptLine) (stood : Option (List ℕ)) (old new : PlayedScript)
       (log : List Move) (limit : ℕ) (saves : List (List ℕ)) → IsWireOf lines old new log
-      → limit ≡ length lines + 1 → Keeps step noted old_serves new_serves (bodies_at_ticks body_of step) stood (state_of_played old).history
+      → limit ≡ length lines + 1 → Keeps step noted old_serves new_serves (bodies_to_end 1 body_of step) stood (state_of_played old).history
       (state_of_played new).history limit saves → ⊥
   no_budget old_serves new_serves lines stood old new log limit saves wire more k =
       never_more step noted old_serves new_serves lines old new log limit wire.first wire.kept wire.log_is wire.few more k.turns
+
+  -- the play of a wire whose turns so far began it
+  begins_play : (old_serves : Standing W C → Type 0) (lines : List ScriptLine) (old new : PlayedScript) (log later : List Move) (stood : Option (List ℕ))
+      (count : ℕ) (last : WireHistory) (saves : List (List ℕ)) → IsWireOf lines old new log
+      → (keeps : Keeps step noted old_serves serves_any (bodies_looked_at 1 body_of step) stood (state_of_played old).history last count saves)
+      → EndsAfter (state_of_played old) (state_of_played new) (history_after last later)
+      → (x : Standing W C) → old_serves x → IsUnused x → AreFirst saves (saves_of_script body_of step x.running.state lines stood)
+  begins_play old_serves lines old new log later stood count last saves wire keeps ended x stands unused =
+      let over = over_unused old_serves (opened_in old.log) x stands unused in
+      let ms = keeps.turns.moves in
+      let so_far = answered_first lines old new log ms later last wire keeps.turns.logged ended in
+      let begins = log_begins_play step x.running.state lines ms (keeps_turns step x ms unused (keeps.turns.are x over)) so_far in
+      first_saves x.running.state lines stood ms begins.0 saves begins.1
+      (keeps.are x over ∙ ap (saves_in stood) (each_paced (bodies_at_ticks body_of step x.running.state ms)))
+
+  -- the play of a wire whose run was ended by a save, or for want of memory
+  pub play_first : (old_serves : Standing W C → Type 0) (lines : List ScriptLine) (old new : PlayedScript) (log : List Move) (stood : Option (List ℕ))
+      (limit : ℕ) (saves : List (List ℕ)) → IsWireOf lines old new log → limit ≡ length lines + 1
+      → BreaksOff 1 body_of step noted old_serves stood (state_of_played old) (state_of_played new) limit saves
+      ⊎ StopsInSave 1 body_of step noted old_serves stood (state_of_played old) (state_of_played new) limit saves
+      → (x : Standing W C) → old_serves x → IsUnused x → AreFirst saves (saves_of_script body_of step x.running.state lines stood)
+  play_first old_serves lines old new log stood limit saves wire more (inl k) x stands unused =
+      begins_play old_serves lines old new log k.later stood k.count k.last saves wire k.keeps k.ended x stands unused
+  play_first old_serves lines old new log stood limit saves wire more (inr (inl k)) x stands unused =
+      begins_play old_serves lines old new log [] stood k.count k.last saves wire k.keeps
+      (none_behind (state_of_played old) (state_of_played new) k.last k.then_) x stands unused
+  play_first old_serves lines old new log stood limit saves wire more (inr (inr (run.Done, k))) x stands unused =
+      all_first saves (saves_of_script body_of step x.running.state lines stood) (play_whole old_serves serves_any lines old new log stood limit saves wire k
+      x stands unused).1
+  play_first old_serves lines old new log stood limit saves wire more (inr (inr (run.LinkFault, k))) x stands unused =
+      absurd (no_fault old_serves serves_any stood old new limit saves k)
+  play_first old_serves lines old new log stood limit saves wire more (inr (inr (run.Budget, k))) x stands unused =
+      absurd (no_budget old_serves serves_any lines stood old new log limit saves wire more k)
 
 -- where one of the first saves is over the limit, one of all is
 pub over_first : (saves whole : List (List ℕ)) (standing : Option slots.Standing) → AreFirst saves whole → is_any_over standing saves ≡ true
@@ -209,7 +246,7 @@ module _ {W C D : Type 0} (body_of : BodyOf W) (step : EventStep W C) (noted : N
   -- all was played and saved
   pub done_whole : (count : ℕ) (old_serves new_serves : Standing W C → Type 0) (lines : List ScriptLine) (old new : PlayedScript) (log : List Move)
       (stood : Option (List ℕ)) (limit : ℕ) (standing : Option slots.Standing) (old_disk new_disk : D) → IsWireOf lines old new log
-      → AfterKeep (TookTurns (keep.Done count) body_of step noted old_serves new_serves stood (state_of_played old) (state_of_played new) limit)
+      → AfterKeep (TookTurns (keep.Done count) 1 body_of step noted old_serves new_serves stood (state_of_played old) (state_of_played new) limit)
       (LeavesEach contents moment left_since old_disk new_disk standing) (CountsSaves (keep.Done count) standing)
       (StandsAtEnd (keep.Done count) contents may_leave old_disk new_disk standing)
       → (x : Standing W C) → old_serves x → IsUnused x
@@ -227,7 +264,7 @@ module _ {W C D : Type 0} (body_of : BodyOf W) (step : EventStep W C) (noted : N
   pub done_left : (old_serves new_serves : Standing W C → Type 0) (lines : List ScriptLine) (old new : PlayedScript) (log : List Move)
       (stood : Option (List ℕ)) (limit count : ℕ) (standing : Option slots.Standing) (old_disk new_disk : D) (Counted Stands : List (List ℕ) → Type 0)
       → IsWireOf lines old new log
-      → AfterKeep (TookTurns (keep.Done count) body_of step noted old_serves new_serves stood (state_of_played old) (state_of_played new) limit)
+      → AfterKeep (TookTurns (keep.Done count) 1 body_of step noted old_serves new_serves stood (state_of_played old) (state_of_played new) limit)
       (LeavesEach contents moment left_since old_disk new_disk standing) Counted Stands
       → (x : Standing W C) → old_serves x → IsUnused x → LeavesEach contents moment left_since old_disk new_disk standing (whole_of x lines stood)
   done_left old_serves new_serves lines old new log stood limit count standing old_disk new_disk Counted Stands wire kept x stands unused =
@@ -237,36 +274,36 @@ module _ {W C D : Type 0} (body_of : BodyOf W) (step : EventStep W C) (noted : N
 
   -- a save ended the run, or want of memory
   pub stop_left : (old_serves : Standing W C → Type 0) (lines : List ScriptLine) (old new : PlayedScript) (log : List Move) (stood : Option (List ℕ))
-      (limit : ℕ) (standing : Option slots.Standing) (old_disk new_disk : D) (Counted Stands : List (List ℕ) → Type 0) → IsWireOf lines old new log
-      → AfterKeep (StopsAt body_of step noted old_serves stood (state_of_played old) (state_of_played new) limit)
-      (LeavesEach contents moment left_since old_disk new_disk standing) Counted Stands
+      (limit : ℕ) (standing : Option slots.Standing) (old_disk new_disk : D) (saves : List (List ℕ)) → IsWireOf lines old new log → limit ≡ length lines + 1
+      → BreaksOff 1 body_of step noted old_serves stood (state_of_played old) (state_of_played new) limit saves
+      ⊎ StopsInSave 1 body_of step noted old_serves stood (state_of_played old) (state_of_played new) limit saves
+      → LeavesEach contents moment left_since old_disk new_disk standing saves
       → (x : Standing W C) → old_serves x → IsUnused x → LeavesEach contents moment left_since old_disk new_disk standing (whole_of x lines stood)
-  stop_left old_serves lines old new log stood limit standing old_disk new_disk Counted Stands wire kept x stands unused =
-      left_first contents moment left_since old_disk new_disk standing kept.saves (whole_of x lines stood)
-      (play_first body_of step noted old_serves lines old new log stood limit kept.saves wire kept.took x stands unused) kept.left
+  stop_left old_serves lines old new log stood limit standing old_disk new_disk saves wire more took left x stands unused =
+      left_first contents moment left_since old_disk new_disk standing saves (whole_of x lines stood)
+      (play_first body_of step noted old_serves lines old new log stood limit saves wire more took x stands unused) left
 
   pub stop_over : (old_serves : Standing W C → Type 0) (lines : List ScriptLine) (old new : PlayedScript) (log : List Move) (stood : Option (List ℕ))
-      (limit : ℕ) (standing : Option slots.Standing) (Left Stands : List (List ℕ) → Type 0) → IsWireOf lines old new log
-      → AfterKeep (StopsAt body_of step noted old_serves stood (state_of_played old) (state_of_played new) limit) Left
-      (λ saves. is_any_over standing saves ≡ true) Stands
+      (limit : ℕ) (standing : Option slots.Standing) (saves : List (List ℕ)) → IsWireOf lines old new log → limit ≡ length lines + 1
+      → StopsInSave 1 body_of step noted old_serves stood (state_of_played old) (state_of_played new) limit saves → is_any_over standing saves ≡ true
       → (x : Standing W C) → old_serves x → IsUnused x → is_any_over standing (whole_of x lines stood) ≡ true
-  stop_over old_serves lines old new log stood limit standing Left Stands wire kept x stands unused =
-      over_first kept.saves (whole_of x lines stood) standing (play_first body_of step noted old_serves lines old new log stood limit kept.saves wire
-      kept.took x stands unused) kept.counted
+  stop_over old_serves lines old new log stood limit standing saves wire more took over x stands unused =
+      over_first saves (whole_of x lines stood) standing (play_first body_of step noted old_serves lines old new log stood limit saves wire
+      more (inr took) x stands unused) over
 
   -- a script's wire never fails, and ends before so many turns
-  pub never_fails : (old_serves new_serves : Standing W C → Type 0) (old new : PlayedScript) (stood : Option (List ℕ)) (limit : ℕ)
+  pub never_fails : (n : ℕ) (old_serves new_serves : Standing W C → Type 0) (old new : PlayedScript) (stood : Option (List ℕ)) (limit : ℕ)
       (Left Counted Stands : List (List ℕ) → Type 0)
-      → AfterKeep (TookTurns keep.LinkFault body_of step noted old_serves new_serves stood (state_of_played old) (state_of_played new) limit) Left Counted
-      Stands → ⊥
-  never_fails old_serves new_serves old new stood limit Left Counted Stands kept = no_fault body_of step noted old_serves new_serves stood old new limit
+      → AfterKeep (TookTurns (keep.LinkFault n) 1 body_of step noted old_serves new_serves stood (state_of_played old) (state_of_played new) limit) Left
+      Counted Stands → ⊥
+  never_fails n old_serves new_serves old new stood limit Left Counted Stands kept = no_fault body_of step noted old_serves new_serves stood old new limit
       kept.saves kept.took
 
-  pub never_spent : (old_serves new_serves : Standing W C → Type 0) (lines : List ScriptLine) (old new : PlayedScript) (log : List Move)
+  pub never_spent : (n : ℕ) (old_serves new_serves : Standing W C → Type 0) (lines : List ScriptLine) (old new : PlayedScript) (log : List Move)
       (stood : Option (List ℕ)) (limit : ℕ) (Left Counted Stands : List (List ℕ) → Type 0) → IsWireOf lines old new log → limit ≡ length lines + 1
-      → AfterKeep (TookTurns keep.Budget body_of step noted old_serves new_serves stood (state_of_played old) (state_of_played new) limit) Left Counted
-      Stands → ⊥
-  never_spent old_serves new_serves lines old new log stood limit Left Counted Stands wire more kept = no_budget body_of step noted old_serves new_serves
+      → AfterKeep (TookTurns (keep.Budget n) 1 body_of step noted old_serves new_serves stood (state_of_played old) (state_of_played new) limit) Left
+      Counted Stands → ⊥
+  never_spent n old_serves new_serves lines old new log stood limit Left Counted Stands wire more kept = no_budget body_of step noted old_serves new_serves
       lines stood old new log limit kept.saves wire more kept.took
 
 -- some standing is served over a wire that opened no number

@@ -1,6 +1,6 @@
 //! The play of a script on a machine whose world holds a body text, over an open store.
 
-ghost use Rattle.std.specs.Prelude.{◌≡◌, ◌≤◌, ◌+◌, ◌^◌, [], false, None, length, IfOk, IfSome, IfNone};
+ghost use Rattle.std.specs.Prelude.{◌≡◌, ◌≤◌, ◌<◌, ◌+◌, ◌^◌, [], false, None, length, IfOk, IfSome, IfNone};
 ghost use Rattle.ads_outside.specs.Rose.{Rose};
 ghost use Rattle.ads_served.specs.Standing.{Standing};
 ghost use Rattle.persist_store.specs.Store.{IsReady, body_of};
@@ -47,22 +47,29 @@ pub(crate) fn keep_script<T: Threads + Sync, M: Persistent, D: Disk>(
         return Err(NoMemory);
     };
     let mut wire = ScriptWire::new(alloc, script);
-    let ended = keep_turns(rt, alloc, served, &mut wire, store, disk, limit);
+    let ended = keep_turns(rt, alloc, served, &mut wire, store, disk, 1, limit);
     let log = wire.into_log();
     match ended {
         KeepEnd::Done(saved) => Ok(Played::Done(log, saved)),
         KeepEnd::StoreFault => Ok(Played::StoreFault),
         KeepEnd::StoreLimit => Ok(Played::StoreLimit),
         KeepEnd::Memory => Err(NoMemory),
-        KeepEnd::Budget | KeepEnd::LinkFault => unreachable!(),
+        KeepEnd::Budget(_) => unreachable!(),
+        KeepEnd::LinkFault(_) => unreachable!(),
     }
 }
 
 // One more than the lines, so that the loop ends where the script does. No memory holds so many lines that this has
-// no number.
+// no number, or is the last one.
 fn limit_of(script: &Script) -> Option<u64>
     ensures one_more { IfSome result (λ limit. limit ≡ length script.now + 1) }
-    ensures too_many { IfNone result (2 ^ 64 ≤ length script.now + 1) }
+    ensures few { IfSome result (λ limit. limit + 1 < 2 ^ 64) }
+    ensures too_many { IfNone result (2 ^ 64 ≤ length script.now + 2) }
 {
-    (script.as_slice().len() as u64).checked_add(1)
+    let lines = script.as_slice().len() as u64;
+    if lines < u64::MAX - 1 {
+        Some(lines + 1)
+    } else {
+        None
+    }
 }

@@ -1,5 +1,5 @@
 -- The turns so far begin the script's play, so the saves so far begin those of the play.
-use Rattle.std.proofs.Common.{inl, inr}
+use Rattle.std.proofs.Common.{inr}
 use Rattle.persist_store.specs.Store.{body_of}
 use Rattle.keep_play.proofs.ScriptLemmas.{is_wire_of, some_over, done_whole, done_left, stop_left, stop_over, never_fails, never_spent, left_none}
 use Rattle.keep_play.proofs.playing.keep_script.Goals as goal
@@ -17,15 +17,16 @@ unreachable-requires g c =
     let wire = is_wire_of c.args.script c.new-wire.result c.keep_turns-ended.new.wire c.into_log-log.result
     c.new-wire.ensures c.keep_turns-ended.ensures.kept c.into_log-log.ensures.log c.into_log-log.ensures.played c.into_log-log.ensures.so_far
     c.into_log-log.ensures.few in
-    elim c.in-Budget.is [
-      | inl e ↦ never_spent g.M.Persistent.body_of g.M.Persistent.steps g.M.Persistent.noted g.D.Disk.contents g.D.Disk.may_leave g.D.Disk.moment
-          g.D.Disk.left_since (g.M.Persistent.serves c.args.served.now) (g.M.Persistent.serves c.keep_turns-ended.new.served)
-          c.args.script c.new-wire.result c.keep_turns-ended.new.wire c.into_log-log.result
-          (body_of c.args.store.now) c.in-Some.limit _ _ _ wire c.in-Some.ensures.one_more (rw e at c.keep_turns-ended.ensures.keeps)
-      | inr e ↦ never_fails g.M.Persistent.body_of g.M.Persistent.steps g.M.Persistent.noted g.D.Disk.contents g.D.Disk.may_leave g.D.Disk.moment
-          g.D.Disk.left_since (g.M.Persistent.serves c.args.served.now) (g.M.Persistent.serves c.keep_turns-ended.new.served)
-          c.new-wire.result c.keep_turns-ended.new.wire (body_of c.args.store.now) c.in-Some.limit _ _ _ (rw e at c.keep_turns-ended.ensures.keeps)
-    ]
+    never_spent g.M.Persistent.body_of g.M.Persistent.steps g.M.Persistent.noted g.D.Disk.contents g.D.Disk.may_leave g.D.Disk.moment
+    g.D.Disk.left_since 0 (g.M.Persistent.serves c.args.served.now) (g.M.Persistent.serves c.keep_turns-ended.new.served)
+    c.args.script c.new-wire.result c.keep_turns-ended.new.wire c.into_log-log.result
+    (body_of c.args.store.now) c.in-Some.limit _ _ _ wire c.in-Some.ensures.one_more c.in-Budget.ensures.keeps
+
+pub unreachable-requires-in-LinkFault : goal.unreachable-requires-in-LinkFault
+unreachable-requires-in-LinkFault g c =
+    never_fails g.M.Persistent.body_of g.M.Persistent.steps g.M.Persistent.noted g.D.Disk.contents g.D.Disk.may_leave g.D.Disk.moment
+    g.D.Disk.left_since 0 (g.M.Persistent.serves c.args.served.now) (g.M.Persistent.serves c.keep_turns-ended.new.served)
+    c.new-wire.result c.keep_turns-ended.new.wire (body_of c.args.store.now) c.in-Some.limit _ _ _ c.in-LinkFault.ensures.keeps
 
 pub returns-in-Done-clause-ends : goal.returns-in-Done-clause-ends
 returns-in-Done-clause-ends g c = λ x stands unused.
@@ -56,8 +57,8 @@ returns-in-StoreFault-clause-left g c = λ x stands unused.
     c.into_log-log.ensures.few in
     stop_left g.M.Persistent.body_of g.M.Persistent.steps g.M.Persistent.noted g.D.Disk.contents g.D.Disk.may_leave g.D.Disk.moment
     g.D.Disk.left_since (g.M.Persistent.serves c.args.served.now) c.args.script c.new-wire.result c.keep_turns-ended.new.wire c.into_log-log.result
-    (body_of c.args.store.now) c.in-Some.limit c.args.store.now.standing c.args.disk.now c.keep_turns-ended.new.disk _ _ wire
-    c.in-StoreFault.ensures.keeps x stands unused
+    (body_of c.args.store.now) c.in-Some.limit c.args.store.now.standing c.args.disk.now c.keep_turns-ended.new.disk
+    c.in-StoreFault.ensures.keeps.saves wire c.in-Some.ensures.one_more (inr c.in-StoreFault.ensures.keeps.took) c.in-StoreFault.ensures.keeps.left x stands unused
 
 pub returns-in-StoreLimit-clause-left : goal.returns-in-StoreLimit-clause-left
 returns-in-StoreLimit-clause-left g c = λ x stands unused.
@@ -66,8 +67,8 @@ returns-in-StoreLimit-clause-left g c = λ x stands unused.
     c.into_log-log.ensures.few in
     stop_left g.M.Persistent.body_of g.M.Persistent.steps g.M.Persistent.noted g.D.Disk.contents g.D.Disk.may_leave g.D.Disk.moment
     g.D.Disk.left_since (g.M.Persistent.serves c.args.served.now) c.args.script c.new-wire.result c.keep_turns-ended.new.wire c.into_log-log.result
-    (body_of c.args.store.now) c.in-Some.limit c.args.store.now.standing c.args.disk.now c.keep_turns-ended.new.disk _ _ wire
-    c.in-StoreLimit.ensures.keeps x stands unused
+    (body_of c.args.store.now) c.in-Some.limit c.args.store.now.standing c.args.disk.now c.keep_turns-ended.new.disk
+    c.in-StoreLimit.ensures.keeps.saves wire c.in-Some.ensures.one_more (inr c.in-StoreLimit.ensures.keeps.took) c.in-StoreLimit.ensures.keeps.left x stands unused
 
 pub returns-in-StoreLimit-clause-ends : goal.returns-in-StoreLimit-clause-ends
 returns-in-StoreLimit-clause-ends g c = λ x stands unused.
@@ -76,7 +77,9 @@ returns-in-StoreLimit-clause-ends g c = λ x stands unused.
     c.into_log-log.ensures.few in
     stop_over g.M.Persistent.body_of g.M.Persistent.steps g.M.Persistent.noted g.D.Disk.contents g.D.Disk.may_leave g.D.Disk.moment
     g.D.Disk.left_since (g.M.Persistent.serves c.args.served.now) c.args.script c.new-wire.result c.keep_turns-ended.new.wire c.into_log-log.result
-    (body_of c.args.store.now) c.in-Some.limit c.args.store.now.standing _ _ wire c.in-StoreLimit.ensures.keeps x stands unused
+    (body_of c.args.store.now) c.in-Some.limit c.args.store.now.standing
+    c.in-StoreLimit.ensures.keeps.saves wire c.in-Some.ensures.one_more c.in-StoreLimit.ensures.keeps.took c.in-StoreLimit.ensures.keeps.counted
+    x stands unused
 
 pub returns-in-Memory-clause-left : goal.returns-in-Memory-clause-left
 returns-in-Memory-clause-left g c = λ x stands unused.
@@ -85,5 +88,5 @@ returns-in-Memory-clause-left g c = λ x stands unused.
     c.into_log-log.ensures.few in
     stop_left g.M.Persistent.body_of g.M.Persistent.steps g.M.Persistent.noted g.D.Disk.contents g.D.Disk.may_leave g.D.Disk.moment
     g.D.Disk.left_since (g.M.Persistent.serves c.args.served.now) c.args.script c.new-wire.result c.keep_turns-ended.new.wire c.into_log-log.result
-    (body_of c.args.store.now) c.in-Some.limit c.args.store.now.standing c.args.disk.now c.keep_turns-ended.new.disk _ _ wire
-    c.in-Memory.ensures.keeps x stands unused
+    (body_of c.args.store.now) c.in-Some.limit c.args.store.now.standing c.args.disk.now c.keep_turns-ended.new.disk
+    c.in-Memory.ensures.keeps.saves wire c.in-Some.ensures.one_more c.in-Memory.ensures.keeps.took c.in-Memory.ensures.keeps.left x stands unused
