@@ -227,9 +227,12 @@ module _ {W C D : Type 0} (every : ℕ) (of_world : BodyOf W) (step : EventStep 
       → Keeps step noted old_serves new_serves (bodies_to_end every of_world step) (body_of first) old.history mid count saves
       → StopsInSave every of_world step noted old_serves (body_of first) old new limit saves
   at_end ended old_serves new_serves old mid new count limit first saves came keeps =
-      inr (ended, took_all ended old_serves serves_any old mid new count limit first saves came
-      (keeps_to every of_world step noted old_serves new_serves serves_any (bodies_to_end every of_world step)
-      (body_of first) old.history mid count saves (λ y over. any_over new_serves mid.opened y over) keeps))
+      inr (
+        ended,
+        took_all ended old_serves serves_any old mid new count limit first saves came
+            (keeps_to every of_world step noted old_serves new_serves serves_any (bodies_to_end every of_world step)
+            (body_of first) old.history mid count saves (λ y over. any_over new_serves mid.opened y over) keeps),
+      )
 
   -- behind the save at the end
   all_done : (ended : RunEnd) (n : ℕ) (saves : List (List ℕ)) (old_serves new_serves : Standing W C → Type 0) (old new : WireState) (limit : ℕ)
