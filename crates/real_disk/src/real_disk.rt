@@ -4,9 +4,10 @@ ghost use Rattle.std.specs.Prelude.{◌≡◌, ◌≤◌, None, IfOk, length};
 ghost use Rattle.ads_outside.specs.Rose.{Rose};
 
 use persist_store::{Disk, DiskOpen, DiskRead, Synced, Wrote};
+use std::alloc::Alloc;
 use std::fs::{self, OpenFile, OpenOptions};
 use std::io::{self, ErrorKind, Read, Seek, SeekFrom, Write};
-use std::rt::{Alloc, Files};
+use std::rt::Files;
 
 /// A file on a disk of the system, by its path. What it holds, and what a stop of the machine leaves of it, is not told. A
 /// call before an opening that is done fails.

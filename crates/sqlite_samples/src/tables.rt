@@ -7,13 +7,15 @@ use sample_store::{Row, Total};
 use sqlite::{Alter, Connection, Error, ErrorCode, Transaction, params};
 
 /// What is there of the two tables.
-const TABLES: &str = "SELECT name FROM sqlite_schema WHERE name COLLATE NOCASE = 'sample' OR name COLLATE NOCASE = 'total'";
+const TABLES: &str =
+    "SELECT name FROM sqlite_schema WHERE name COLLATE NOCASE = 'sample' OR name COLLATE NOCASE = 'total'";
 
 /// The greatest number.
 const LAST: &str = "SELECT max(number) FROM sample";
 
 /// Names that have other rows than their total counts, or none.
-const UNCOUNTED: &str = "SELECT name, count(*), max(number) FROM sample GROUP BY name EXCEPT SELECT name, count, last FROM total";
+const UNCOUNTED: &str =
+    "SELECT name, count(*), max(number) FROM sample GROUP BY name EXCEPT SELECT name, count, last FROM total";
 
 /// Totals that are not those of their last row.
 const UNFOUNDED: &str = "SELECT 1 FROM total LEFT JOIN sample ON sample.number = total.last
