@@ -36,15 +36,12 @@ from lib.verdict import verdict_on  # noqa: E402
 from lib.words import Ended, number, read_words, run  # noqa: E402
 from lib.xml_tree import MOST_BYTES, XmlFault  # noqa: E402
 
-MOST = 50
 
-
-def told(name, faults):
-    """Says every fault, a line each, and ends."""
-    lines = [f"{name}:{fault}" for fault in faults[:MOST]]
-    count = f"{len(faults)} faults" if len(faults) != 1 else "1 fault"
-    more = f", of which {MOST} are told" if len(faults) > MOST else ""
-    raise Ended("\n".join([*lines, f"{name}: {count}{more}; nothing was written"]), 2)
+def told(name, built):
+    """Says the faults, a line each, and ends."""
+    count = f"{built.count} faults" if built.count != 1 else "1 fault"
+    more = f", of which {len(built.faults)} are told" if built.count > len(built.faults) else ""
+    raise Ended("\n".join([*(f"{name}:{fault}" for fault in built.faults), f"{name}: {count}{more}; nothing was written"]), 2)
 
 
 def before_of(name):
@@ -74,7 +71,7 @@ def named(symbols):
 def build_line(name, options):
     built = build(read_bytes(name), os.path.basename(name), before_of(options["before"]))
     if built.faults:
-        told(name, built.faults)
+        told(name, built)
     said = [f"{options['out']}: {line}" for line in built.verdict.lines]
     if built.before:
         it = built.before

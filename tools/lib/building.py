@@ -14,19 +14,25 @@ from lib.type_texts import NoType
 from lib.verdict import LONGEST, SIGNALS, rules_of, verdict_on
 
 
+MOST = 50
+
+
 class Built:
-    """`text` is the description; `faults` are lines without the file's name, and where there are some there is no text."""
+    """`text` is the description; `faults` are lines without the file's name, the first of `count`, and where there are some there is no text."""
 
     def __init__(self):
-        self.text, self.faults, self.before, self.verdict = None, [], None, None
+        self.text, self.faults, self.count, self.before, self.verdict = None, [], 0, None, None
+
+    def wrong(self, lines, count=1):
+        self.faults, self.count = lines, count
+        return self
 
 
 def build(given, name, before=None, signals=SIGNALS):
     """What the bytes of a line come to; `before` is the verdict on the description that was served."""
     it, broken = Built(), []
     if len(given) > LONGEST:
-        it.faults = [f"1: it has more than {LONGEST} bytes"]
-        return it
+        return it.wrong([f"1: it has more than {LONGEST} bytes"])
     try:
         text = text_of(given)
     except TomlFault as fault:
@@ -37,13 +43,14 @@ def build(given, name, before=None, signals=SIGNALS):
     broken += [Broken(fault.at, "", "", fault.why) for fault in reader.faults] + wrong_keys
     it.before = Before(before) if before else None
     types, shapes = finished(d, broken, it.before, signals)
-    it.faults = told(broken, places)
-    if not it.faults:
-        it.text = description_text(d, types, shapes, Comments(reader, d), name)
-        it.verdict = verdict_on(it.text.encode(), signals)
-        if it.verdict.status:
-            it.faults = [f"1: what would be written is refused: {it.verdict.lines[0]}; that is a fault of this tool"]
-    if it.before and not it.faults:
+    if broken:
+        return it.wrong(*told(broken, places))
+    it.text = description_text(d, types, shapes, Comments(reader, d), name)
+    it.verdict = verdict_on(it.text.encode(), signals)
+    if it.verdict.status:
+        it.text = None
+        return it.wrong([f"1: what would be written is refused: {it.verdict.lines[0]}; that is a fault of this tool"])
+    if it.before:
         it.before.compare(d, shapes)
     return it
 
@@ -110,8 +117,8 @@ def take_values(port, shapes, defaults, broken):
 
 
 def told(broken, places):
-    """The faults as lines, in the order of the text, each once."""
+    """The first faults as lines, in the order of the text, each once; and how many there are."""
     lines = {}
     for fault in sorted(broken, key=lambda it: it.at):
         lines.setdefault((fault.at, fault.who, fault.key, fault.why), fault)
-    return [fault.said(places) for fault in lines.values()]
+    return [fault.said(places) for fault in list(lines.values())[:MOST]], len(lines)

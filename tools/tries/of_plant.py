@@ -6,6 +6,7 @@ import re
 import tempfile
 
 from lib.building import build
+from lib.document import Entry
 from lib.import_model import NoImport
 from lib.importing import imported
 from lib.plant import Plant
@@ -14,7 +15,7 @@ from lib.values import value_text
 from lib.verdict import verdict_on
 from lib.xml_tree import XmlFault
 from tries import line_faults
-from tries.damage import damaged_text
+from tries.damage import damaged_text, made, rendered
 from tries.random_lines import Lines, line_of
 from tries.running import EXAMPLES, ME, PLANT, TOOLS, Served, refused, see, tool
 
@@ -130,16 +131,27 @@ def by_hand():
         built_of(shown)
 
 
-def descriptions_stay():
+def descriptions_stay(seed, count):
     """Every description is a line: what it builds to is the same plant."""
-    for name in (PLANT, os.path.join(CASES, "areas.toml"), os.path.join(CASES, "mode.toml")):
-        given = text_of(name)
-        one, two = verdict_on(given.encode()), built_of(given).verdict
-        plain = [[{key: it.values[key] for key in it.values} for it in verdict.document["port"][0]["symbol"]] for verdict in (one, two)]
-        see(one.lines == two.lines and len(plain[0]) == len(plain[1]), f"{name} builds to another plant: {two.lines}")
-        for old, new in zip(*plain):
-            old = dict(old, initial=old["initial"].lower() if old["initial"] else None)
-            see(old == new, f"{name} builds to another symbol: {new} in place of {old}")
+    given = [text_of(name) for name in (PLANT, os.path.join(CASES, "areas.toml"), os.path.join(CASES, "mode.toml"))]
+    for number in range(count):
+        rng = random.Random(f"{seed} made {number}")
+        given.append(rendered(rng, made(rng)))
+    for text in given:
+        one = verdict_on(text.encode())
+        if one.status == 0:
+            two = built_of(text).verdict
+            see(one.lines == two.lines and plain(one.document) == plain(two.document), f"a description builds to another plant: {plain(two.document)}\n{text}")
+
+
+def plain(entry):
+    """A table of a description as it is, but for how its bytes and its types are spelled."""
+    found = {}
+    for key, value in entry.values.items():
+        if isinstance(value, list):
+            value = [plain(it) if isinstance(it, Entry) else it for it in value]
+        found[key] = re.sub("string$", "string(80)", value.lower()) if key in ("initial", "type", "base") and isinstance(value, str) else value
+    return found
 
 
 # What stays under a running server.
@@ -323,12 +335,12 @@ def wrong_words(folder):
 
 
 def tried(program, size):
-    seed, lines, damaged = size.seed, size.of(1000, 150), size.of(250, 40)
+    seed, lines, damaged = size.seed, size.of(1500, 150), size.of(250, 40)
     with tempfile.TemporaryDirectory() as folder:
         by_hand()
         parts = properties(seed, lines)
         shown_by_program(program, folder, seed, size.of(10, 3))
-        descriptions_stay()
+        descriptions_stay(seed, damaged)
         places_stay(seed, damaged)
         changed_while_served(program, folder)
         faults = every_fault(folder)
