@@ -5,8 +5,8 @@ ghost use Rattle.spec_plant.specs.AcceptedTypes.{AreTypes};
 ghost use Rattle.type_layout.specs.Descriptions.{description_of};
 ghost use Rattle.type_layout.specs.NamedTypes.{types_of};
 
-use case_sheets::{Args, Fault};
 use crate::templates::filled;
+use case_sheets::{Args, Fault};
 use std::alloc::Global;
 use symbol_file::read;
 use type_layout::{Description, Types};

@@ -5,8 +5,8 @@ ghost use Rattle.symbol_table.specs.Moves.{IsInOldWorld, IsWithin};
 ghost use Rattle.type_layout.specs.declared.port.Area.TheVariants.{Process};
 ghost use Rattle.case_plants.specs.Reload.{kept_at, placed, reload};
 
-use case_sheets::{Answer, Args};
 use ads_base::NoMemory;
+use case_sheets::{Answer, Args};
 use std::alloc::Global;
 use symbol_table::{KeptList, KeptPlace, Moves, Place};
 use type_layout::Area;

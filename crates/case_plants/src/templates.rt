@@ -1,8 +1,8 @@
 //! Texts that are written once for many cases: a line `# PART` stands for what the case adds, and a line
 //! `#repeat A..B TEXT` for the text once for each number from A to B.
 
-use case_sheets::Args;
 use ads_base::NoMemory;
+use case_sheets::Args;
 use std::alloc::Global;
 
 /// The arguments up to `=>` as they stand.

@@ -41,7 +41,11 @@ fn print_all<L: Libraries, R: Files + Env + Print + AllocGlobal + Clone + Drop>(
     Ok(wrong)
 }
 
-fn put_all<L: Libraries>(alloc: Global, sheets: &[Sheet], out: &mut Octets) -> Result<u64, NoMemory> {
+fn put_all<L: Libraries>(
+    alloc: Global,
+    sheets: &[Sheet],
+    out: &mut Octets,
+) -> Result<u64, NoMemory> {
     let mut files = 0u64;
     let mut cases = 0u64;
     let mut wrong = 0u64;

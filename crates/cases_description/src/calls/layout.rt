@@ -3,9 +3,9 @@
 ghost use Rattle.spec_plant.specs.AcceptedTypes.{AreTypes};
 ghost use Rattle.type_layout.specs.NamedTypes.{types_of};
 
+use ads_base::{NoMemory, Octets};
 use case_plants::types_of;
 use case_sheets::{Answer, Args, Fault};
-use ads_base::{NoMemory, Octets};
 use std::alloc::Global;
 use type_layout::{
     Bound, Bounds, Elem, ElemText, Ends, NamedType, SameTypes, Shape, TypeRef, TypeText, Types,

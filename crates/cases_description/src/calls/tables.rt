@@ -6,9 +6,9 @@ ghost use Rattle.type_layout.specs.Descriptions.{area_of, port_of, sizes_of};
 ghost use Rattle.type_layout.specs.NamedTypes.{types_of};
 ghost use Rattle.symbol_table.specs.Tables.{IsPlaced, IsTableWith};
 
+use ads_base::{NoMemory, Steps};
 use case_plants::{area, description_of, is_in_old_world, moves, place, say_area, say_place};
 use case_sheets::{Answer, Args, Fault};
-use ads_base::{NoMemory, Steps};
 use name_paths::Path;
 use std::alloc::Global;
 use std::marker::Brand;

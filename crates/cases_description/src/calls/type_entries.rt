@@ -1,8 +1,8 @@
 //! Calls of type_upload.
 
+use ads_base::Octets;
 use case_plants::description_of;
 use case_sheets::{Answer, Args, Fault};
-use ads_base::Octets;
 use std::alloc::Global;
 use type_upload::{TypeEntry, put_types, read_type};
 

@@ -1,8 +1,8 @@
 //! Calls of sym_handles.
 
+use ads_base::NoMemory;
 use case_plants::{is_in_old_world, moves, place, say_place};
 use case_sheets::{Answer, Args, Fault};
-use ads_base::NoMemory;
 use std::alloc::Global;
 use sym_handles::{Full, Handles};
 use symbol_table::{KeptList, Moves, Place};

@@ -6,9 +6,9 @@ ghost use Rattle.std.specs.Option.{option_map_or};
 ghost use Rattle.index_groups.specs.Access.{range_meant};
 ghost use Rattle.notify_table.specs.Table.{watched_len, IsTable, due_handles};
 
+use ads_base::{AmsAddr, NetId, NoMemory, Steps};
 use case_plants::{area, moves, say_area};
 use case_sheets::{Answer, Args, Fault};
-use ads_base::{AmsAddr, NetId, NoMemory, Steps};
 use index_groups::Reach;
 use notify_table::{Ended, Handles32, Mode, Spec, WatchFull, Watches};
 use std::alloc::Global;

@@ -5,10 +5,10 @@ ghost use Rattle.index_groups.specs.Access.{IsWithin};
 ghost use Rattle.type_layout.specs.Descriptions.{description_of};
 ghost use Rattle.port_device.specs.Holds.{WasAccepted};
 
-use case_plants::{area, description_of, raw, say_area, say_place};
-use case_sheets::{Answer, Args, Fault};
 use crate::calls::routes::rights_of;
 use ads_base::Octets;
+use case_plants::{area, description_of, raw, say_area, say_place};
+use case_sheets::{Answer, Args, Fault};
 use index_groups::{Reach, reach};
 use port_device::{Port, Ports};
 use return_codes::Code;

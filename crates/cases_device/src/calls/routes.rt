@@ -1,7 +1,7 @@
 //! Calls of net_routes.
 
-use case_sheets::{Answer, Args, Fault};
 use ads_base::{NetId, NoMemory};
+use case_sheets::{Answer, Args, Fault};
 use net_routes::Routes;
 use std::alloc::Global;
 use type_layout::{Rights, RouteDesc, Routes4};

@@ -2,8 +2,8 @@
 
 ghost use Rattle.std.specs.Prelude.{◌≡◌};
 
-use case_sheets::{Answer, Args, Fault};
 use ads_base::{NoMemory, Octets, get32, put32};
+use case_sheets::{Answer, Args, Fault};
 use return_codes::Code;
 use std::alloc::Global;
 use sum_commands::{PartService, run_sum};

@@ -1,10 +1,10 @@
 //! Calls of ads_base.
 
-use case_sheets::{Answer, Args, Fault};
 use ads_base::{
     Calls, NetId, NoMemory, Octets, get16, get32, get64, put16, put32, put64, read_decimal,
     split_decimal,
 };
+use case_sheets::{Answer, Args, Fault};
 use std::alloc::Global;
 
 pub fn make(

@@ -1,8 +1,8 @@
 //! Calls of ams_tcp.
 
-use case_sheets::{Answer, Args, Fault, is_same};
 use ads_base::{NoMemory, Octets};
 use ams_tcp::{Cut, Splitter, put_frame};
+use case_sheets::{Answer, Args, Fault, is_same};
 use std::alloc::Global;
 
 pub fn make(

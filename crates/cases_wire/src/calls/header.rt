@@ -1,8 +1,8 @@
 //! Calls of ams_header.
 
-use case_sheets::{Answer, Args, Fault};
 use ads_base::{AmsAddr, NetId};
 use ams_header::{Header, answer_of, put, read};
+use case_sheets::{Answer, Args, Fault};
 
 pub fn make(call: &str, args: &mut Args<'_>, answer: &mut Answer) -> Result<(), Fault> {
     match call {

@@ -1,7 +1,7 @@
 //! Calls of name_index.
 
-use case_sheets::{Answer, Args, Fault};
 use ads_base::NoMemory;
+use case_sheets::{Answer, Args, Fault};
 use name_index::{NameIndex, lower_copy};
 use std::alloc::Global;
 

@@ -1,7 +1,7 @@
 //! Calls of notify_frames.
 
-use case_sheets::{Answer, Args, Fault};
 use ads_base::{NoMemory, Octets};
+use case_sheets::{Answer, Args, Fault};
 use notify_frames::{OwnSample, Samples, put_note, read_note};
 use std::alloc::Global;
 

@@ -1,8 +1,8 @@
 //! Calls of ads_outside.
 
-use case_sheets::{Answer, Args, Fault};
 use ads_base::{Calls, NoMemory};
 use ads_outside::{Connected, Link, LinkEvent, LinkEvents, MemLink, Received, Sent};
+use case_sheets::{Answer, Args, Fault};
 use std::alloc::Global;
 
 pub fn make(

@@ -2,9 +2,9 @@
 
 ghost use Rattle.std.specs.Prelude.{◌≤◌, length};
 
-use case_sheets::{Answer, Args, Fault};
 use super::{replies, requests};
 use ads_base::Octets;
+use case_sheets::{Answer, Args, Fault};
 use std::alloc::Global;
 
 // The greatest length of the data of a payload that is written.

@@ -1,7 +1,7 @@
 //! Calls of out_queue.
 
-use case_sheets::{Answer, Args, Fault};
 use ads_base::NoMemory;
+use case_sheets::{Answer, Args, Fault};
 use out_queue::{OutQueue, Pushed};
 use std::alloc::Global;
 

@@ -1,9 +1,9 @@
 //! Calls of ads_commands: replies.
 
-use case_sheets::{Answer, Args};
 use super::payloads::data_of;
 use ads_base::{NoMemory, Octets};
 use ads_commands::{DeviceFacts, Reply, put_reply, read_reply};
+use case_sheets::{Answer, Args};
 use std::alloc::Global;
 
 // The command, and the payload.

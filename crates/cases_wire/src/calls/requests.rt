@@ -1,9 +1,9 @@
 //! Calls of ads_commands: requests.
 
-use case_sheets::{Answer, Args};
 use super::payloads::data_of;
 use ads_base::{NoMemory, Octets};
 use ads_commands::{ReadFault, Request, put_request, read_request};
+use case_sheets::{Answer, Args};
 use std::alloc::Global;
 
 // The command, and the payload.

@@ -1,8 +1,8 @@
 //! Calls of replay_script.
 
-use case_sheets::{Answer, Args, Fault};
 use ads_base::{NoMemory, Octets};
 use ads_outside::{Event, Log, Move, ReloadNote, ReloadNotes};
+use case_sheets::{Answer, Args, Fault};
 use replay_script::{Counts, Script, ScriptLine, log_text, put_counted, read_script, summary_text};
 use std::alloc::Global;
 

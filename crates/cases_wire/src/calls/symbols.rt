@@ -1,7 +1,7 @@
 //! Calls of symbol_info.
 
-use case_sheets::{Answer, Args, Fault};
 use ads_base::{NoMemory, Octets};
+use case_sheets::{Answer, Args, Fault};
 use std::alloc::Global;
 use symbol_info::{Entry, put_entry, read_entry};
 

@@ -2,8 +2,8 @@
 
 ghost use Rattle.std.specs.Prelude.{◌≤◌, length};
 
-use case_sheets::{Answer, Args, Fault, is_same};
 use ads_base::{NoMemory, Octets};
+use case_sheets::{Answer, Args, Fault, is_same};
 use std::alloc::Global;
 use value_text::{from_text, to_text};
 

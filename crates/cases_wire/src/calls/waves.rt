@@ -1,7 +1,7 @@
 //! Calls of signals.
 
-use case_sheets::{Answer, Args, Fault};
 use ads_base::{Calls, NoMemory};
+use case_sheets::{Answer, Args, Fault};
 use signals::{Bank, Ramp, Signal, Square, Table8};
 use std::alloc::Global;
 

@@ -1,7 +1,7 @@
 //! Calls of cli_words.
 
-use case_sheets::{Answer, Args, Fault};
 use ads_base::NoMemory;
+use case_sheets::{Answer, Args, Fault};
 use cli_words::{ClientWords, Command, PeerWords, Text, TextList, read_words};
 use std::alloc::Global;
 
