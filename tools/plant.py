@@ -13,7 +13,7 @@ may have ranges: Valve{1..24} stands for 24 symbols. With --before PLANT each sy
 place, and new ones stand behind all that was there. Every description is a line, and builds to itself.
 
 `import` writes a line from a TMC file of TwinCAT 3, a TPY file of TwinCAT 2, or a PLCopen XML export: its symbols, structures, enumerations, arrays, initial
-values and persistent marks. What can't be carried over is told in a comment at its place. The readers are written from the published forms of these files and
+values and persistent marks. What can't be carried over is noted in a comment at its place. The readers are written from the published forms of these files and
 from knowledge of them, and tried on files that were written after these; no TwinCAT was at hand. `--net` is the NetId where the file has none; `--route`,
 which may stand more than once, says who may connect; `--port` is the AMS port where the file has none (851); `--offsets` keeps the places of the controller.
 
@@ -40,7 +40,7 @@ from lib.xml_tree import MOST_BYTES, XmlFault  # noqa: E402
 def told(name, built):
     """Says the faults, a line each, and ends."""
     count = f"{built.count} faults" if built.count != 1 else "1 fault"
-    more = f", of which {len(built.faults)} are told" if built.count > len(built.faults) else ""
+    more = f", of which {len(built.faults)} are listed" if built.count > len(built.faults) else ""
     raise Ended("\n".join([*(f"{name}:{fault}" for fault in built.faults), f"{name}: {count}{more}; nothing was written"]), 2)
 
 

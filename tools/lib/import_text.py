@@ -35,7 +35,7 @@ class ImportText:
         return "".join(line + "\n" for line in [*lines, *self.port(), *symbols])
 
     def head(self):
-        lines = [remark(f"Imported from {self.name}, a {self.given.what}. What could not be carried over is told at its place."),
+        lines = [remark(f"Imported from {self.name}, a {self.given.what}. What could not be carried over is noted at its place."),
                  *(remark(said) for said in self.given.remarks), "schema = 2"]
         if self.net is not None and not is_net(self.net):
             lines.append(remark(f"the file has the NetId {self.net}, which is none"))

@@ -22,4 +22,4 @@ def imported(given, name, net, routes, port, offsets):
     if built.faults:
         raise NoImport(root.line, f"what would be written does not build: line {built.faults[0]}; that is a fault of this tool")
     left = sum(line.startswith(("# left out", "  # left out")) for line in text.split("\n"))
-    return text, f"{writing.count} symbols and {len(writing.types)} types; {left} left out, each told in a comment"
+    return text, f"{writing.count} symbols and {len(writing.types)} types; {left} left out, each noted in a comment"

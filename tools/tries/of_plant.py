@@ -261,7 +261,7 @@ def imports(program, folder):
     for name, encoding, words in FILES:
         text, wanted = text_of(os.path.join(DATA, name), encoding), text_of(os.path.join(DATA, f"{name}.toml"))
         line, _ = imported(text.encode(encoding), name, None, [], None, bool(words))
-        head = f"# Imported from {name}, a {KINDS[name]}. What could not be carried over is told at its place."
+        head = f"# Imported from {name}, a {KINDS[name]}. What could not be carried over is noted at its place."
         see(line.split("\n", 1) == [head, wanted], f"the import of {name}:\n{line}")
         wide, _ = imported(text.replace(f'encoding="{encoding}"', 'encoding="utf-16"').encode("utf-16"), name, None, [], None, bool(words))
         see(wide == line, f"the same file in UTF-16: {wide}")
@@ -274,7 +274,7 @@ def imports(program, folder):
     line = os.path.join(folder, "imported.toml")
     words = "--net", "1.2.3.4.5.6", "--port", "300", "--route", "1.1.1.1.1.1=read", "--out", line
     out, err, status = tool("plant.py", "import", os.path.join(DATA, "filling.tmc"), *words)
-    see(status == 0 and out == f"{line}: 10 symbols and 4 types; 8 left out, each told in a comment\n", out + err)
+    see(status == 0 and out == f"{line}: 10 symbols and 4 types; 8 left out, each noted in a comment\n", out + err)
     text = text_of(line)
     see('net = "1.2.3.4.5.6"' in text and "port = 300" in text and 'net = "1.1.1.1.1.1"\nrights = "read"' in text, f"the options of import: {text}")
 
