@@ -59,7 +59,7 @@ impl Libraries for Wire {
             "notify_frames" => notes::make(alloc, call, args, answer),
             "out_queue" => queues::make(alloc, &mut self.queue, call, args, answer),
             "replay_script" => scripts::make(alloc, call, args, answer),
-            "return_codes" => codes::make(call, args, answer),
+            "return_codes" => codes::make(alloc, call, args, answer),
             "signals" => waves::make(alloc, call, args, answer),
             "symbol_info" => symbols::make(alloc, call, args, answer),
             "value_text" => values::make(alloc, call, args, answer),
