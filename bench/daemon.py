@@ -227,6 +227,14 @@ def stop_file(program):
         return f"{took * 1000:.0f} ms"
 
 
+LOG_LINES = (
+    "<6>listening at 127.0.0.1:", "<6>opened 1", "<6>speaks 1 as 192.168.0.9.1.1, port 32905", "<6>closed 1 by its peer after 0 s, 50 bytes in, 50 out",
+    "<4>no route for 2", "<5>shut 2 by the server", "<6>speaks 3 no ADS", "<5>shut 3 by the server",
+    "<4>reload refused: rule 12 item 1: a symbol lies within its area", "<6>reload accepted: version 2",
+    "<4>reload refused: it is no TOML document", "<6>stopping: SIGTERM",
+)
+
+
 @tried
 def log_lines(program):
     """Who came, as whom, a NetId without a route, what is no ADS, a reload of each kind, the stop."""
@@ -246,9 +254,7 @@ def log_lines(program):
             time.sleep(2.5)
         out, err, status, _ = it.stopped(signal.SIGTERM)
         in_order(out, status)
-        for line in ("<6>listening at 127.0.0.1:", "<6>opened 1", "<6>speaks 1 as 192.168.0.9.1.1, port 32905", "<6>closed 1 by its peer after 0 s, 50 bytes in, 50 out",
-                     "<4>no route for 2", "<5>shut 2 by the server", "<6>speaks 3 no ADS", "<5>shut 3 by the server", "<4>reload refused: rule 12 item 1: a symbol lies within its area",
-                     "<6>reload accepted: version 2", "<4>reload refused: it is no TOML document", "<6>stopping: SIGTERM"):
+        for line in LOG_LINES:
             expect(any(it.startswith(line) for it in err.splitlines()), f"no line {line!r} in {err!r}")
         return f"{len(err.splitlines())} lines"
 
@@ -382,16 +388,24 @@ WRONG = [
     (["a", "b"], 1, "adsd: one file only, but b is a second one"),
     (["plant.toml", "--lisen", "x"], 1, "adsd: --lisen is no option"),
     (["plant.toml", "--save-each"], 1, "adsd: a value is missing: save_each takes a number of seconds from 1 to 86400"),
+    (["plant.toml", "--save-each", "10"], 1, "adsd: this program keeps no symbols: leave out save_each"),
     (["plant.toml", "--save-each", "0"], 1, "adsd: save_each takes a number of seconds from 1 to 86400"),
     (["plant.toml", "--save-each", "86401"], 1, "adsd: save_each takes a number of seconds from 1 to 86400"),
     (["plant.toml", "--listen", "nowhere"], 1, "adsd: listen takes an address"),
     (["plant.toml", "--listen", "127.0.0.1:0"], 1, "adsd: listen takes an address"),
     (["plant.toml", "--allow", "10.0.0.0/33"], 1, "adsd: allow takes a net"),
     (["plant.toml", "--log", "loud"], 1, "adsd: log takes journal, plain or none"),
-    (["plant.toml", "--store", "a", "--store", "b"], 1, "adsd: store is set twice"),
+    (["plant.toml", "--log", "none", "--log", "plain"], 1, "adsd: log is set twice"),
     (["missing.toml"], 4, "adsd: missing.toml cannot be read"),
-    (["plant.toml", "--store", "kept"], 1, "adsd: this program keeps no symbols"),
+    (["plant.toml", "--store", "kept"], 1, "adsd: this program keeps no symbols: leave out store"),
     (["plant.toml", "--allow", "10.0.0.0/8"], 1, "adsd: this program has no allow list"),
+    (["plant.toml", "--profile", "wide"], 1, "adsd: this program serves the strict profile alone"),
+    (["plant.toml", "--profile=loud"], 1, "adsd: profile takes strict"),
+    (["plant.toml", "--listen", "127.0.0.1:48898", "--listen", "[::1]:48898"], 1, "adsd: this program listens at one address alone"),
+    (["several.toml"], 1, "adsd: this program listens at one address alone"),
+    (["check", "several.toml"], 1, "adsd: this program listens at one address alone"),
+    (["check", "kept.toml"], 1, "adsd: this program keeps no symbols: leave out store"),
+    (["check", "wide.toml"], 1, "adsd: this program serves the strict profile alone"),
     (["check", "plant.toml"], 1, "adsd: this is no configuration"),
     (["check", "unknown.toml"], 1, "adsd: the configuration has no key lisen"),
     (["check", "kind.toml"], 1, "adsd: save_each takes a number of seconds from 1 to 86400"),
@@ -405,6 +419,9 @@ def wrong_words(program):
         folder = stack.enter_context(tempfile.TemporaryDirectory())
         shutil.copy(PLANT, os.path.join(folder, "plant.toml"))
         pathlib.Path(folder, "unknown.toml").write_text('description = "plant.toml"\nlisen = "x"\n')
+        pathlib.Path(folder, "several.toml").write_text('description = "plant.toml"\nlisten = ["127.0.0.1:48898", "[::1]:48898"]\n')
+        pathlib.Path(folder, "kept.toml").write_text('description = "plant.toml"\nstore = "kept"\n')
+        pathlib.Path(folder, "wide.toml").write_text('description = "plant.toml"\nprofile = "wide"\n')
         pathlib.Path(folder, "kind.toml").write_text('description = "plant.toml"\nsave_each = "10"\n')
         for words, status, sentence in WRONG:
             it = subprocess.run([program, *words], cwd=folder, capture_output=True, timeout=20)

@@ -6,7 +6,7 @@
     python3 tools/deploy.py PLACE --rollback --to HOST[:PORT] --netid NETID --me NETID
 
 `--plan` only says what the new description changes: which symbols keep their values, handles and notifications, which move, which values, routes, rights,
-ports and writers are lost, and why. With `--store FILE`, the store of `adsd` or `keep`, also which stored values it would drop.
+ports and writers are lost, and why. With `--store FILE`, the store of `keep`, also which stored values it would drop.
 
 Without `--plan` it checks the description, says the same, asks the server for its symbol version, moves the description into PLACE in one step (a new file
 beside it, renamed), and asks again until the version has risen. Where something is lost it wants `--yes`. The description that stood there is kept as

@@ -1,4 +1,4 @@
-"""The file of persistent values that `keep` and `adsd` write: two slots, of which the one with the greater number counts."""
+"""The file of persistent values that `keep` writes: two slots, of which the one with the greater number counts."""
 import struct
 from typing import NamedTuple
 

@@ -7,7 +7,7 @@ ghost use Rattle.run_tasks.specs.StatusTable.{number_of};
 use crate::plant_judge::PlantJudge;
 use crate::real_names::RealNames;
 use ads_base::NoMemory;
-use ads_edge::{RealFiles, RealSink, RealWire};
+use ads_edge::{RealFiles, RealSink, RealWire, hold_standard_descriptors};
 use ads_outside::Sink;
 use cli_words::Text;
 use daemon_edge::{ErrSink, SignalStop, StatusFile, StderrOutlet, SystemdBeacon, moment_now};
@@ -15,7 +15,7 @@ use daemon_log::{Chronicle, NoOutlet};
 use daemon_outside::LogOutlet;
 use daemon_run::{Prepared, prepare, serve_watched};
 use daemon_words::{LogForm, Setup};
-use run_tasks::{Status, end_without_memory, print_and_end};
+use run_tasks::{Status, end_without_memory};
 use signals::{Ramp, Signal, Square, Table8};
 use std::env;
 use std::io::ErrorKind;
@@ -26,8 +26,12 @@ use watched_wire::Watched;
 /// How many signals a description may name.
 const SIGNALS: u32 = 3;
 
-/// The status of the run over the words of the process, with the threads that it may start.
+/// The status of the run over the words of the process, with the threads that it may start. What is closed of standard input,
+/// output and error gives its number to nothing that is opened; where that can't be had, nothing is run.
 pub fn status_of<T: Threads + Sync>(rt: &HostRuntime, threads: &T) -> Status {
+    if !hold_standard_descriptors() {
+        return Status::WriteFault;
+    }
     let mut out = RealSink::new(rt);
     let mut err = ErrSink::new();
     match words_of_process(rt) {
@@ -76,27 +80,11 @@ fn run_words<T: Threads + Sync, S: Sink, E: Sink>(
     };
     match prepare(rt.alloc(), words, SIGNALS, &mut files, out, err) {
         Prepared::Ended(status) => status,
-        Prepared::Ready(setup) => match unkept(&setup) {
-            Some(line) => print_and_end(err, line, Status::Usage),
-            None => match serve_setup(rt, threads, &setup, &mut files, out) {
-                Ok(status) => status,
-                Err(NoMemory) => end_without_memory(out),
-            },
+        Prepared::Ready(setup) => match serve_setup(rt, threads, &setup, &mut files, out) {
+            Ok(status) => status,
+            Err(NoMemory) => end_without_memory(out),
         },
     }
-}
-
-// What a setup asks for and this program does not do is refused, and not passed over.
-fn unkept(setup: &Setup) -> Option<&'static [u8]> {
-    if setup.store.is_some() {
-        return Some(b"adsd: this program keeps no symbols: leave out store\n".as_slice());
-    }
-    if setup.allow.is_some() {
-        return Some(
-            b"adsd: this program has no allow list: leave out allow, and name who may connect in the unit of systemd\n".as_slice(),
-        );
-    }
-    None
 }
 
 // Serves the plant of a setup, with the log that it asks for.

@@ -10,7 +10,7 @@ use std::time::Clock;
 #[derive(Clone, Copy, Debug)]
 pub(crate) struct RealNames;
 
-impl<R: Net + Clock + SystemFiles + Drop> PeerNames<RealWire<R>> for RealNames {
+impl<R: Net + Clock + SystemFiles + Eprint + Drop> PeerNames<RealWire<R>> for RealNames {
     fn peer_of(&self, _wire: &RealWire<R>, _conn: u32) -> Option<SocketAddr> {
         None
     }

@@ -1,5 +1,7 @@
 //! The address of systemd's notification socket.
 
+ghost use Rattle.std.specs.Prelude.{◌≤◌};
+
 /// The greatest number of bytes of a socket's path.
 const MOST: usize = 107;
 
@@ -8,6 +10,7 @@ const MOST: usize = 107;
 pub(crate) struct NotifyAddress {
     pub(crate) bytes: [u8; 128],
     pub(crate) len: u32,
+    ghost within: { len ≤ 128 },
 }
 
 /// The address of a path, or of an abstract name, which is written with `@` in front; None for no text, and for one that is

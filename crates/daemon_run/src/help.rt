@@ -11,14 +11,13 @@ adsd serves a plant over ADS until it is stopped.
 
 A configuration is a TOML table with the key description; its other keys are those of the options:
 
-  --listen ADDRESS    where to listen, also several: 0.0.0.0:48898, [::]:48898, localhost:48898
-  --store FILE        keep persistent symbols in this file
-  --save-each SECONDS save at most so often, 1 to 86400; else 10
-  --allow NET         who may connect, also several: 192.168.0.0/24, fd00::/8; else everybody
+  --listen ADDRESS    where to listen: 0.0.0.0:48898, [::]:48898, localhost:48898
   --status FILE       write counts to this file each 10 s, as Prometheus reads them
   --log FORM          journal, plain or none; else plain
-  --profile PROFILE   wide or strict; else wide
+  --profile strict    answer as ads serve does, the one profile of this program
   --stop-file FILE    end once this file is there
+
+Not served yet, and refused: store, save_each, allow, the profile wide, more than one address.
 
 Start it with SIGTERM, SIGINT and SIGHUP blocked, so that it ends in order:
   env --block-signal=TERM,INT,HUP adsd CONFIG.toml

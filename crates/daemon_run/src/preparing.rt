@@ -153,6 +153,7 @@ fn status_of(fault: &SetupFault) -> Status {
         | SetupFault::NoValue(_)
         | SetupFault::Twice(_)
         | SetupFault::Wrong(_)
+        | SetupFault::NotServed(_)
         | SetupFault::UnknownKey(_)
         | SetupFault::NotConfig => Status::Usage,
     }

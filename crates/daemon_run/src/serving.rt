@@ -7,6 +7,7 @@ ghost use Rattle.daemon_run.specs.Endless.{verdict_of_plant};
 ghost use Rattle.file_run.specs.ServiceEnds.{ServesBy};
 ghost use Rattle.run_tasks.specs.BeforeRun.{IsBeforeRun};
 ghost use Rattle.run_tasks.specs.Readings.{OverFile, ReadsOne};
+ghost use Rattle.watched_wire.specs.Ends.{with_ends};
 
 use ads_outside::{Files, Sink, Wire};
 use daemon_outside::{Onlooker, Stop};
@@ -18,7 +19,7 @@ use std::alloc::Global;
 use std::thread::Threads;
 use watched_wire::Watched;
 
-/// Serves the plant of a setup over a wire that listens at its addresses, until the wire ends. It ends with Done exactly
+/// Serves the plant of a setup over a wire that listens at its address, until the wire ends. It ends with Done exactly
 /// where the wire answered that there are no more events; all that `serve` promises of the log holds.
 pub fn serve_plant<T: Threads + Sync, F: Files, W: Wire, S: Sink, G: Sources>(
     rt: &T,
@@ -53,8 +54,9 @@ pub fn serve_plant<T: Threads + Sync, F: Files, W: Wire, S: Sink, G: Sources>(
     )
 }
 
-/// The same over a wire that ends where a stop is asked for: Done comes only by a stop, or where the wire inside had no more
-/// events.
+/// The same over a wire that ends where a stop is asked for: what `serve_plant` says of a wire's history holds of the history
+/// of the wire inside, but for the count of its ends, which is that of the watched wire. Done comes only by a stop, or where the
+/// wire inside had no more events.
 pub fn serve_watched<
     T: Threads + Sync,
     F: Files,
@@ -73,6 +75,10 @@ pub fn serve_watched<
     signals: G,
 ) -> Status
     requires few { length (G.waves signals) < 2 ^ 32 }
+    ensures ends { OverFile (F.state files.old).held (λ held.
+        ServesBy (verdict_of_plant (G.waves signals) setup.now.description setup.now.listen (bytes_of held setup.now.description))
+        (Rose (F.state files.old).faults (F.state files.new).faults) result (S.state out.old) (S.state out.new)
+        (with_ends wire.old.ends (W.state wire.old.wire).history) (with_ends wire.new.ends (W.state wire.new.wire).history)) }
     ensures by_stop { result ≡ Status.Done → 0 < P.asked wire.new.stop + (W.state wire.new.wire).history.ends }
     ensures held { (F.state files.new).held ≡ (F.state files.old).held }
     ensures read_fault { result ≡ Status.ReadFault → Rose (F.state files.old).faults (F.state files.new).faults }

@@ -1,5 +1,6 @@
 //! A configuration, read.
 
+use crate::unserved::seconds_fault;
 use crate::{Field, Given, SetupFault};
 use cli_words::Text;
 use std::alloc::Global;
@@ -49,7 +50,7 @@ fn put_value(
 ) -> Result<(), SetupFault> {
     match field {
         Field::SaveEach => match value.as_integer() {
-            Some(seconds) => given.put_seconds(seconds),
+            Some(seconds) => Err(seconds_fault(seconds)),
             None => Err(SetupFault::Wrong(field)),
         },
         Field::Listen | Field::Allow => put_list(alloc, given, field, value),

@@ -1,8 +1,10 @@
 //! What is wrong with the words or the configuration of a daemon.
 
 ghost use Rattle.std.specs.Prelude.{◌≡◌};
+ghost use Rattle.daemon_words.specs.declared.fault.SetupFault.TheVariants.{Memory};
 
 use crate::Field;
+use crate::unserved::reason;
 use ads_base::{NoMemory, Octets};
 use cli_words::Text;
 use std::alloc::Global;
@@ -22,6 +24,8 @@ pub enum SetupFault {
     Twice(Field),
     /// A field is set to something that it does not take.
     Wrong(Field),
+    /// A field is set to something that it takes, and that is not served.
+    NotServed(Field),
     /// A key of the configuration that is not known.
     UnknownKey(Text),
     /// The file that is to be checked is no configuration.
@@ -31,7 +35,7 @@ pub enum SetupFault {
 }
 
 impl From<NoMemory> for SetupFault {
-    ghost from_gives = { λ _ fault. fault ≡ SetupFault.Memory };
+    ghost from_gives = { λ _ fault. fault ≡ Memory };
 
     fn from(_: NoMemory) -> SetupFault {
         SetupFault::Memory
@@ -64,6 +68,10 @@ impl SetupFault {
             SetupFault::Wrong(field) => {
                 let (key, rule) = (field.key(), field.rule());
                 format!(in alloc; "adsd: {key} {rule}\n")?
+            }
+            SetupFault::NotServed(field) => {
+                let why = reason(*field);
+                format!(in alloc; "adsd: this program {why}\n")?
             }
             SetupFault::UnknownKey(word) => {
                 let word = word.as_str();

@@ -61,14 +61,14 @@ impl Field {
         match self {
             Field::Description => "takes the name of the file that describes the plant",
             Field::Listen =>
-                "takes an address, or a list of them: localhost, an IPv4 address or an IPv6 address in brackets, a colon, and a port from 1 to 65535",
+                "takes an address: localhost, an IPv4 address or an IPv6 address in brackets, a colon, and a port from 1 to 65535",
             Field::Store => "takes the name of the file that keeps persistent symbols",
             Field::SaveEach => "takes a number of seconds from 1 to 86400",
             Field::Allow =>
                 "takes a net, or a list of them: an IP address, or one with a slash and the number of bits that count",
             Field::Status => "takes the name of the status file",
             Field::Log => "takes journal, plain or none",
-            Field::Profile => "takes wide or strict",
+            Field::Profile => "takes strict",
             Field::StopFile => "takes the name of the file that ends the daemon",
         }
     }

@@ -10,8 +10,8 @@ mod given;
 mod log_form;
 mod net;
 mod printed;
-mod profile;
 mod setup;
+mod unserved;
 mod words;
 
 pub use asked::Asked;
@@ -21,6 +21,5 @@ pub use field::Field;
 pub use given::Given;
 pub use log_form::LogForm;
 pub use printed::setup_text;
-pub use profile::Profile;
 pub use setup::Setup;
 pub use words::read_words;

@@ -1,4 +1,6 @@
 //! The words of a command line, read.
+
+use crate::unserved::seconds_fault;
 use crate::{Asked, Field, Given, SetupFault};
 use ads_base::read_decimal;
 use cli_words::Text;
@@ -85,7 +87,7 @@ fn put_option(
     value: &str,
 ) -> Result<(), SetupFault> {
     match field {
-        Field::SaveEach => given.put_seconds(seconds_of(value)),
+        Field::SaveEach => Err(seconds_fault(seconds_of(value))),
         Field::Description
         | Field::Listen
         | Field::Store
