@@ -75,6 +75,7 @@ def of_heads(head):
         ("a header folded", b"GET /healthz HTTP/1.1\r\n" + head + b"A: b\r\n c\r\n\r\n", 400),
         ("a header without a colon", b"GET /healthz HTTP/1.1\r\n" + head + b"nonsense\r\n\r\n", 400),
         ("a header with a NUL", b"GET /healthz HTTP/1.1\r\n" + head + b"A: \0\r\n\r\n", 400),
+        ("a header of 8,000 spaces and a NUL", b"GET /healthz HTTP/1.1\r\n" + head + b"A:" + b" " * 8000 + b"\0\r\n\r\n", 400),
         ("a header with a bare LF", b"GET /healthz HTTP/1.1\r\n" + head + b"A: b\nHost: evil\r\n\r\n", 400),
         ("65 lines", b"GET /healthz HTTP/1.1\r\n" + head + b"A: b\r\n" * 64 + b"\r\n", 431),
         ("a head of 9,000 bytes", b"GET /healthz HTTP/1.1\r\n" + head + b"A: " + b"b" * 9000 + b"\r\n\r\n", 431),
@@ -108,7 +109,9 @@ def of_requests(page):
             with socket.create_connection(("127.0.0.1", page.port)) as it:
                 it.sendall(given)
             continue
+        started = time.monotonic()
         came = raw(page, given)
+        see(time.monotonic() - started < 4, f"a peer with {what} was answered after {time.monotonic() - started:.1f} s")
         see(status_of(came) == wanted, f"a peer with {what}: {came[:200]!r} in place of status {wanted}")
         guarded = b"Content-Security-Policy: default-src 'none'; script-src 'self'" in came and b"unsafe" not in came
         see(guarded, f"a peer with {what}: an answer without its guards")
