@@ -68,8 +68,15 @@ class Watcher(threading.Thread):
             time.sleep(min(0.1, seconds))
 
     def refuse_jobs(self):
+        for *_, future in self.waiting_jobs():
+            future.set_result((503, f"the server can't be asked now: {self.why}"))
+
+    def waiting_jobs(self):
+        """The writes that wait, but for those that nobody waits for any more."""
         while not self.jobs.empty():
-            self.jobs.get()[3].set_result((503, f"the server can't be asked now: {self.why}"))
+            job = self.jobs.get()
+            if job[-1].set_running_or_notify_cancel():
+                yield job
 
     def connect(self):
         self.read_plant()
@@ -140,8 +147,7 @@ class Watcher(threading.Thread):
         self.publish("values", {"g": table.generation, "o": table.order, "m": round(1000 * time.time()), "c": values})
 
     def do_jobs(self, it):
-        while not self.jobs.empty():
-            path, port, bytes_of, future = self.jobs.get()
+        for path, port, bytes_of, future in self.waiting_jobs():
             try:
                 why = it.write(path, port, bytes_of)
             except BaseException:

@@ -1,7 +1,7 @@
 """A small HTTP/1.1 server for pages of a tool, which hostile peers, slow ones and other pages of a browser can't harm.
 
 One request a connection. A head has at most 8,192 bytes and 64 lines, and five seconds to come; a body has a stated length; an answer that is not taken is
-given up after ten seconds. Beyond the connections that there may be, the one that sends or takes for the longest gives way.
+given up after thirty seconds. Beyond the connections that there may be, the one that sends or takes for the longest gives way.
 """
 import asyncio
 import ipaddress
@@ -10,9 +10,9 @@ import time
 import urllib.parse
 from typing import NamedTuple
 
-MOST_OPEN, MOST_HEAD, MOST_LINES, MOST_BODY, HEAD_SECONDS, BODY_SECONDS, ANSWER_SECONDS = 128, 8192, 64, 400000, 5, 10, 10
+MOST_OPEN, MOST_HEAD, MOST_LINES, MOST_BODY, HEAD_SECONDS, BODY_SECONDS, ANSWER_SECONDS = 128, 8192, 64, 400000, 5, 10, 30
 REQUEST = re.compile(r"([A-Z]{1,16}) (/[!-~]{0,2047}) HTTP/1\.[01]")
-HEADER = re.compile(r"([!#$%&'*+.^_`|~0-9A-Za-z-]{1,64}):[ \t]*([\t -~\x80-\xff]*?)[ \t]*")
+NAME, VALUE = re.compile(r"[!#$%&'*+.^_`|~0-9A-Za-z-]{1,64}"), re.compile(r"[\t -~\x80-\xff]*")
 HOST = re.compile(r"(\[[0-9A-Fa-f:.]{2,45}\]|[0-9A-Za-z._-]{1,255})(?::[0-9]{1,5})?")
 REASONS = {200: "OK", 400: "Bad Request", 403: "Forbidden", 404: "Not Found", 405: "Method Not Allowed", 408: "Request Timeout", 409: "Conflict",
            411: "Length Required", 413: "Content Too Large", 415: "Unsupported Media Type", 421: "Misdirected Request", 431: "Request Header Fields Too Large",
@@ -62,13 +62,13 @@ def head_of(given):
         raise Bad(431, f"a request has at most {MOST_LINES} lines")
     headers = {}
     for line in lines[1:]:
-        header = HEADER.fullmatch(line)
-        if not header:
+        name, colon, value = line.partition(":")
+        if not colon or not NAME.fullmatch(name) or not VALUE.fullmatch(value):
             raise Bad(400, "a line of the head is no header")
-        name = header[1].lower()
+        name = name.lower()
         if name in headers and name in ("host", "origin", "content-length", "content-type", "x-token"):
             raise Bad(400, f"the header {name} stands twice")
-        headers[name] = header[2]
+        headers[name] = value.strip(" \t")
     return it[1], it[2], headers
 
 

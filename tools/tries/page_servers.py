@@ -15,7 +15,7 @@ from tries.running import FOREVER, ME, NET, Served, see
 
 def goes_and_comes(program):
     """The server is gone, and back with its first values; a connection that is cut; a server that hangs."""
-    words = ("--write", "Main.count", "--seconds", "1")
+    words = ("--write", "Main.count", "--seconds", "4")
     with Served(program, PLANT) as server, Counting(server.to) as between, Page(PLANT, between.to, *words) as page, Stream(page) as stream:
         page.until(page.is_well, "the server")
         with Rig(server) as rig:
@@ -33,7 +33,7 @@ def goes_and_comes(program):
         stream.next("table", lambda it: it["state"]["live"])
         see(page.is_well() and page.json("/history.json?name=Main.count")["values"][-2:] == [None, 5], "the past has no gap where the server was gone")
         server.process.send_signal(19)
-        page.until(lambda: b"did not answer in 1 seconds" in page.ask("/healthz")[2], "the sentence for a server that hangs")
+        page.until(lambda: b"did not answer in 4 seconds" in page.ask("/healthz")[2], "the sentence for a server that hangs")
         server.process.send_signal(18)
         page.until(page.is_well, "the server that went on")
         server.process.kill()

@@ -21,10 +21,11 @@ READER = "192.168.0.10.1.1"
 
 
 class Page:
-    """page.py over a server, at a free port; `said` are its lines, and it may write none to standard error."""
+    """page.py over a server, at a free port; it may write nothing to standard error. A busy machine has half a minute for an answer."""
 
     def __init__(self, plant, to, *words, me=ME, port=None):
         self.port = port or free_port()
+        words = words if "--seconds" in words else (*words, "--seconds", "30")
         words = [sys.executable, os.path.join(TOOLS, "page.py"), plant, "--to", to, "--me", me, "--http", f"127.0.0.1:{self.port}", *words]
         self.process = subprocess.Popen(words, stdin=subprocess.DEVNULL, stdout=subprocess.PIPE, stderr=subprocess.PIPE, text=True)
 
@@ -47,7 +48,7 @@ class Page:
 
     def ask(self, path, method="GET", body=None, **headers):
         """The status, the headers and the body of an answer."""
-        it = http.client.HTTPConnection("127.0.0.1", self.port, timeout=15)
+        it = http.client.HTTPConnection("127.0.0.1", self.port, timeout=60)
         try:
             it.request(method, path, body=body, headers={name.replace("_", "-"): value for name, value in headers.items()})
             answer = it.getresponse()
