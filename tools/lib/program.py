@@ -4,7 +4,9 @@ import subprocess
 
 from lib.words import Ended
 
-BUILT = os.path.join(os.path.dirname(os.path.abspath(__file__)), "..", "..", "crates", "ads", "out", "ads")
+HERE = os.path.dirname(os.path.abspath(__file__))
+# Where the build leaves it; or, of installed tools, where it was installed.
+BUILT = os.path.join(HERE, *([".."] * 4 + ["bin", "ads"] if HERE.endswith("/share/ads/tools/lib") else ["..", "..", "crates", "ads", "out", "ads"]))
 
 
 def program_at(path):
