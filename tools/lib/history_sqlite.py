@@ -1,0 +1,94 @@
+"""A history in an SQLite file."""
+import fcntl
+import os
+import sqlite3
+
+from lib.history_store import BROKEN, Store
+from lib.words import Ended
+
+TABLES = """
+CREATE TABLE IF NOT EXISTS symbol (id INTEGER PRIMARY KEY, net TEXT NOT NULL, port INTEGER NOT NULL, name TEXT NOT NULL, type TEXT NOT NULL,
+                                   size INTEGER NOT NULL, run INTEGER, UNIQUE (net, port, name, type));
+CREATE TABLE IF NOT EXISTS sample (symbol INTEGER NOT NULL, unix_ns INTEGER NOT NULL, value, bytes BLOB NOT NULL);
+CREATE INDEX IF NOT EXISTS sample_of ON sample (symbol, unix_ns);
+CREATE TABLE IF NOT EXISTS gap (symbol INTEGER NOT NULL, from_ns INTEGER NOT NULL, to_ns INTEGER, why TEXT NOT NULL);
+CREATE INDEX IF NOT EXISTS gap_of ON gap (symbol, from_ns);
+CREATE TABLE IF NOT EXISTS run (id INTEGER PRIMARY KEY, net TEXT NOT NULL, port INTEGER NOT NULL, names TEXT NOT NULL, started_ns INTEGER NOT NULL,
+                                until_ns INTEGER, batch INTEGER NOT NULL, state TEXT NOT NULL);
+CREATE VIEW IF NOT EXISTS history AS SELECT strftime('%Y-%m-%d %H:%M:%S', unix_ns / 1000000000, 'unixepoch') || printf('.%07d', unix_ns / 100 % 10000000) AS time,
+                                            name, type, value, bytes, unix_ns, symbol, net, port FROM sample JOIN symbol ON symbol.id = sample.symbol;
+"""
+PASSING = ("locked", "busy", "full", "disk i/o error", "unable to open")
+AT_ONCE = 20000
+
+
+class SqliteStore(Store):
+    faults, greatest = (sqlite3.Error, OSError), "max"
+
+    def __init__(self, path):
+        super().__init__(path)
+        self.held = None
+
+    @staticmethod
+    def q(statement):
+        return statement
+
+    @staticmethod
+    def is_away(fault):
+        return isinstance(fault, OSError) or (isinstance(fault, sqlite3.OperationalError) and any(word in str(fault).lower() for word in PASSING))
+
+    def connect(self, readonly=False):
+        if readonly:
+            if not os.path.exists(self.where):
+                raise Ended(f"{self.where}: No such file or directory", 4)
+            self.base = sqlite3.connect(f"file:{escaped(self.where)}?mode=ro", uri=True, timeout=5)
+            self.base.execute("BEGIN")
+            return
+        self.base = sqlite3.connect(self.where, timeout=5, isolation_level=None, check_same_thread=False)
+        mode = self.base.execute("PRAGMA journal_mode = WAL").fetchone()[0]
+        if mode != "wal":
+            raise Ended(f"{self.where}: this place takes no write-ahead log, so nobody could read while it is written", BROKEN)
+        self.base.execute("PRAGMA synchronous = FULL")
+
+    @staticmethod
+    def begin(cursor):
+        cursor.execute("BEGIN IMMEDIATE")
+
+    @staticmethod
+    def tables(cursor):
+        for statement in TABLES.split(";\n")[:-1]:
+            cursor.execute(statement)
+        cursor.execute("SELECT id, net, port, name, type, size, run FROM symbol LIMIT 0")
+        cursor.execute("SELECT symbol, unix_ns, value, bytes FROM sample LIMIT 0")
+
+    def lock(self, cursor):
+        """One recorder a file: the lock is held as long as the process lives."""
+        if self.held is None:
+            self.held = os.open(self.where, os.O_RDONLY | os.O_CLOEXEC)
+        try:
+            fcntl.flock(self.held, fcntl.LOCK_EX | fcntl.LOCK_NB)
+        except BlockingIOError:
+            raise Ended(f"{self.where}: another recorder writes to this file; name another file, or end that one", BROKEN) from None
+
+    @staticmethod
+    def put_rows(cursor, rows):
+        cursor.executemany("INSERT INTO sample VALUES (?, ?, ?, ?)", rows)
+
+    def kept(self, cursor, least):
+        """Some thousand rows at a time, so that samples that come meanwhile need not wait long."""
+        left = AT_ONCE
+        for symbol, in cursor.execute("SELECT id FROM symbol WHERE net = ? AND port = ?", self.key).fetchall():
+            cursor.execute("DELETE FROM sample WHERE rowid IN (SELECT rowid FROM sample WHERE symbol = ? AND unix_ns < ? LIMIT ?)", (symbol, least, left))
+            left -= max(cursor.rowcount, 0)
+            if left <= 0:
+                return True
+        cursor.execute("DELETE FROM gap WHERE to_ns < ?", (least,))
+        return False
+
+    def samples(self, symbol, since, until):
+        return self.base.cursor().execute("SELECT unix_ns, value, NULL, bytes FROM sample WHERE symbol = ? AND unix_ns BETWEEN ? AND ? ORDER BY unix_ns, rowid",
+                                          (symbol, since, until))
+
+
+def escaped(path):
+    return path.replace("%", "%25").replace("?", "%3f").replace("#", "%23")

@@ -1,0 +1,102 @@
+"""The thread that writes a history: batches one behind another, each once, also over a database that goes and comes again."""
+import collections
+import threading
+import time
+
+from lib.history_store import Away, Batch
+from lib.words import Ended
+
+TRY_AGAIN = 0.5
+
+
+class Job:
+    def __init__(self, action, rows=0):
+        self.action, self.rows, self.found, self.fault, self.done = action, rows, None, None, threading.Event()
+
+
+class Writer(threading.Thread):
+    """`held` is the number of samples that wait to be written, `away` why the database takes nothing now, `broken` the Ended that ended the thread."""
+
+    def __init__(self, store, say):
+        super().__init__(daemon=True)
+        self.store, self.say, self.jobs, self.ready = store, say, collections.deque(), threading.Condition()
+        self.held, self.number, self.written, self.away, self.broken, self.ending, self.patience = 0, 0, 0, None, None, False, None
+
+    def put(self, rows, gaps, until):
+        """A batch that is to be written."""
+        self.number += 1
+        batch = Batch(self.number, rows, gaps, until)
+        self.add(Job(lambda: self.store.write(batch), len(rows)))
+
+    def call(self, action):
+        """What an action of the store gives, behind the batches that wait; it waits for that."""
+        job = Job(action)
+        self.add(job)
+        job.done.wait()
+        if job.fault:
+            raise job.fault
+        return job.found
+
+    def add(self, job):
+        with self.ready:
+            if self.broken or self.ending:
+                raise self.broken or Ended("the database was left", 16)
+            self.jobs.append(job)
+            self.held += job.rows
+            self.ready.notify()
+
+    def run(self):
+        while True:
+            with self.ready:
+                while not self.jobs and not self.ending:
+                    self.ready.wait()
+                if not self.jobs:
+                    return
+                job = self.jobs[0]
+            try:
+                job.found = self.tried(job.action)
+            except BaseException as fault:
+                self.give_up(fault if isinstance(fault, Ended) else Ended(f"{self.store.where}: {type(fault).__name__}: {fault}", 16))
+                return
+            with self.ready:
+                self.jobs.popleft()
+                self.held -= job.rows
+                self.written += job.rows
+                self.ready.notify_all()
+            job.done.set()
+
+    def tried(self, action):
+        """An action, again and again while the database is away; an Ended where there is no more time."""
+        while True:
+            try:
+                found = action()
+                if self.away:
+                    self.say(f"{self.store.where} takes samples again")
+                    self.away = None
+                return found
+            except Away as away:
+                if not self.away:
+                    self.say(f"{self.store.where}: {away}; samples are held until it comes again")
+                self.away = str(away)
+                if self.patience is not None and time.monotonic() > self.patience:
+                    raise Ended(f"{self.store.where}: {away}; {self.held} samples were not written", 16) from None
+                time.sleep(TRY_AGAIN)
+
+    def give_up(self, fault):
+        with self.ready:
+            self.broken, left = fault, list(self.jobs)
+            self.jobs.clear()
+            self.ready.notify_all()
+        for job in left:
+            job.fault = fault
+            job.done.set()
+
+    def stop(self, seconds):
+        """Writes what waits, at most so long; raises the Ended of what could not be written."""
+        self.patience = time.monotonic() + seconds
+        with self.ready:
+            self.ending = True
+            self.ready.notify_all()
+        self.join()
+        if self.broken:
+            raise self.broken
