@@ -5,7 +5,7 @@ import time
 from lib.flow_session import Session, unix_ns
 from lib.words import Ended
 
-FLUSH, MOST_ROWS, AGAIN, KEEP_EACH, DAY = 0.25, 20000, 1.0, 30.0, 86400 * 10 ** 9
+FLUSH, MOST_ROWS, AGAIN, KEEP_EACH, DAY = 0.5, 100000, 1.0, 30.0, 86400 * 10 ** 9
 
 
 class Recorder:

@@ -1,5 +1,9 @@
-"""A history in an SQLite file."""
+"""A history in an SQLite file.
+
+The samples stand in the tree of their index, by symbol and moment, so that those of a name lie together. `again` counts those of one name and one moment.
+"""
 import fcntl
+import operator
 import os
 import sqlite3
 
@@ -9,8 +13,8 @@ from lib.words import Ended
 TABLES = """
 CREATE TABLE IF NOT EXISTS symbol (id INTEGER PRIMARY KEY, net TEXT NOT NULL, port INTEGER NOT NULL, name TEXT NOT NULL, type TEXT NOT NULL,
                                    size INTEGER NOT NULL, run INTEGER, UNIQUE (net, port, name, type));
-CREATE TABLE IF NOT EXISTS sample (symbol INTEGER NOT NULL, unix_ns INTEGER NOT NULL, value, bytes BLOB NOT NULL);
-CREATE INDEX IF NOT EXISTS sample_of ON sample (symbol, unix_ns);
+CREATE TABLE IF NOT EXISTS sample (symbol INTEGER NOT NULL, unix_ns INTEGER NOT NULL, value, bytes BLOB NOT NULL, again INTEGER NOT NULL DEFAULT 0,
+                                   PRIMARY KEY (symbol, unix_ns, again)) WITHOUT ROWID;
 CREATE TABLE IF NOT EXISTS gap (symbol INTEGER NOT NULL, from_ns INTEGER NOT NULL, to_ns INTEGER, why TEXT NOT NULL);
 CREATE INDEX IF NOT EXISTS gap_of ON gap (symbol, from_ns);
 CREATE TABLE IF NOT EXISTS run (id INTEGER PRIMARY KEY, net TEXT NOT NULL, port INTEGER NOT NULL, names TEXT NOT NULL, started_ns INTEGER NOT NULL,
@@ -48,7 +52,8 @@ class SqliteStore(Store):
         mode = self.base.execute("PRAGMA journal_mode = WAL").fetchone()[0]
         if mode != "wal":
             raise Ended(f"{self.where}: this place takes no write-ahead log, so nobody could read while it is written", BROKEN)
-        self.base.execute("PRAGMA synchronous = FULL")
+        for setting in ("synchronous = FULL", "cache_size = -65536", "wal_autocheckpoint = 8000"):
+            self.base.execute(f"PRAGMA {setting}")
 
     @staticmethod
     def begin(cursor):
@@ -59,7 +64,7 @@ class SqliteStore(Store):
         for statement in TABLES.split(";\n")[:-1]:
             cursor.execute(statement)
         cursor.execute("SELECT id, net, port, name, type, size, run FROM symbol LIMIT 0")
-        cursor.execute("SELECT symbol, unix_ns, value, bytes FROM sample LIMIT 0")
+        cursor.execute("SELECT symbol, unix_ns, value, bytes, again FROM sample LIMIT 0")
 
     def lock(self, cursor):
         """One recorder a file: the lock is held as long as the process lives."""
@@ -72,21 +77,31 @@ class SqliteStore(Store):
 
     @staticmethod
     def put_rows(cursor, rows):
-        cursor.executemany("INSERT INTO sample VALUES (?, ?, ?, ?)", rows)
+        """Rows, those of one symbol together, in the order of their moments as they came."""
+        rows.sort(key=operator.itemgetter(0))
+        cursor.execute("SAVEPOINT rows")
+        try:
+            cursor.executemany("INSERT INTO sample (symbol, unix_ns, value, bytes) VALUES (?, ?, ?, ?)", rows)
+        except sqlite3.IntegrityError:
+            cursor.execute("ROLLBACK TO rows")
+            cursor.executemany("INSERT INTO sample SELECT ?1, ?2, ?3, ?4, coalesce(max(again) + 1, 0) FROM sample WHERE symbol = ?1 AND unix_ns = ?2", rows)
+        cursor.execute("RELEASE rows")
 
     def kept(self, cursor, least):
         """Some thousand rows at a time, so that samples that come meanwhile need not wait long."""
         left = AT_ONCE
         for symbol, in cursor.execute("SELECT id FROM symbol WHERE net = ? AND port = ?", self.key).fetchall():
-            cursor.execute("DELETE FROM sample WHERE rowid IN (SELECT rowid FROM sample WHERE symbol = ? AND unix_ns < ? LIMIT ?)", (symbol, least, left))
+            further = cursor.execute("SELECT unix_ns FROM sample WHERE symbol = ? AND unix_ns < ? ORDER BY unix_ns LIMIT 1 OFFSET ?",
+                                     (symbol, least, left)).fetchone()
+            cursor.execute("DELETE FROM sample WHERE symbol = ? AND unix_ns < ?", (symbol, further[0] if further else least))
             left -= max(cursor.rowcount, 0)
-            if left <= 0:
+            if further or left <= 0:
                 return True
         cursor.execute("DELETE FROM gap WHERE to_ns < ?", (least,))
         return False
 
     def samples(self, symbol, since, until):
-        return self.base.cursor().execute("SELECT unix_ns, value, NULL, bytes FROM sample WHERE symbol = ? AND unix_ns BETWEEN ? AND ? ORDER BY unix_ns, rowid",
+        return self.base.cursor().execute("SELECT unix_ns, value, NULL, bytes FROM sample WHERE symbol = ? AND unix_ns BETWEEN ? AND ? ORDER BY unix_ns, again",
                                           (symbol, since, until))
 
 
