@@ -12,10 +12,11 @@ import os
 import sqlite3
 import struct
 import sys
-import xml.sax.saxutils
+
+sys.path.insert(0, os.path.dirname(os.path.abspath(__file__)))
+from lib.drawing import picture  # noqa: E402
 
 FORMS = {"SINT": "b", "USINT": "B", "BOOL": "B", "INT": "h", "UINT": "H", "DINT": "i", "UDINT": "I", "LINT": "q", "ULINT": "Q", "REAL": "f", "LREAL": "d"}
-WIDE, HIGH, LEFT, RIGHT, ABOVE, BELOW = 900, 180, 90, 20, 28, 26
 
 
 def value_of(kind, data):
@@ -41,35 +42,6 @@ def date(moment):
         return str(moment)
 
 
-def panel(top, name, points, first, last):
-    low, high = min(v for _, v in points), max(v for _, v in points)
-    across, up = max(last - first, 1), (high - low) or 1
-    def x(t): return LEFT + (WIDE - LEFT - RIGHT) * (t - first) / across
-    def y(v): return top + ABOVE + (HIGH - ABOVE - BELOW) * (1 - ((v - low) / up if high > low else 0.5))
-    steps = [f"M{x(points[0][0]):.1f} {y(points[0][1]):.1f}"]
-    for t, v in points[1:]:
-        steps.append(f"H{x(t):.1f}V{y(v):.1f}")
-    steps.append(f"H{x(last):.1f}")
-    lines = [f'<text x="{LEFT}" y="{top + 18}" class="name">{xml.sax.saxutils.escape(name)}</text>']
-    for v in {low, high}:
-        lines.append(f'<path d="M{LEFT} {y(v):.1f}H{WIDE - RIGHT}" class="rule"/><text x="{LEFT - 8}" y="{y(v) + 4:.1f}" class="value">{v:.6g}</text>')
-    lines.append(f'<path d="{"".join(steps)}" class="line"/>')
-    if len(points) <= 200:
-        lines += [f'<circle cx="{x(t):.1f}" cy="{y(v):.1f}" r="2.5"/>' for t, v in points]
-    return "\n".join(lines)
-
-
-def picture(drawn):
-    first, last = min(p[0][0] for _, p in drawn), max(p[-1][0] for _, p in drawn)
-    tall = HIGH * len(drawn) + 24
-    parts = [panel(HIGH * k, name, points, first, last) for k, (name, points) in enumerate(drawn)]
-    foot = f'<text x="{LEFT}" y="{tall - 8}" class="date">{date(first)}</text><text x="{WIDE - RIGHT}" y="{tall - 8}" class="date end">{date(last)}</text>'
-    style = (".name{font-weight:600}.value{text-anchor:end;fill:#555}.date{fill:#555}.end{text-anchor:end}.rule{stroke:#ddd}"
-             ".line{fill:none;stroke:#1f5fa8;stroke-width:1.5}circle{fill:#1f5fa8}")
-    return (f'<svg xmlns="http://www.w3.org/2000/svg" width="{WIDE}" height="{tall}" font-family="sans-serif" font-size="12"><style>{style}</style>\n'
-            f'<rect width="{WIDE}" height="{tall}" fill="#fff"/>\n' + "\n".join([*parts, foot]) + "\n</svg>\n")
-
-
 def main():
     parser = argparse.ArgumentParser(description=__doc__, formatter_class=argparse.RawDescriptionHelpFormatter)
     parser.add_argument("file")
@@ -93,7 +65,7 @@ def main():
             drawn.append((name, points))
     if not drawn:
         raise SystemExit(f"draw.py: {given.file} has no sample")
-    sys.stdout.write(picture(drawn))
+    sys.stdout.write(picture(drawn, date))
 
 
 main()

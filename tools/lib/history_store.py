@@ -143,6 +143,15 @@ class Store:
         cursor.execute("SELECT id, net, port, name, type FROM symbol ORDER BY id")
         return cursor.fetchall()
 
+    def present(self, symbol, since, until):
+        """The samples of a symbol in a stretch of time, as a list, also of a store that writes."""
+        return self.doing(lambda cursor: list(self.samples(symbol, since, until)))
+
+    def ends(self, symbol, since, until):
+        cursor = self.base.cursor()
+        cursor.execute(self.q("SELECT min(unix_ns), max(unix_ns) FROM sample WHERE symbol = ? AND unix_ns BETWEEN ? AND ?"), (symbol, since, until))
+        return cursor.fetchone()
+
     def gaps(self, symbol, since, until):
         cursor = self.base.cursor()
         cursor.execute(self.q("SELECT from_ns, to_ns, why FROM gap WHERE symbol = ? AND from_ns <= ? AND (to_ns IS NULL OR to_ns >= ?) ORDER BY from_ns"),
