@@ -21,17 +21,16 @@ PostgreSQL needs Debian's package python3-psycopg2 or python3-psycopg, which ser
 The status is 0, or 1 wrong words, 4 a file can't be read or written, 16 the database can't be opened, or takes no history.
 """
 import os
-import signal
 import sys
 import threading
 
 sys.path.insert(0, os.path.dirname(os.path.abspath(__file__)))
 from lib.flow_session import MODES  # noqa: E402
+from lib.flow_words import link_of, many_words, say, watch_stop  # noqa: E402
 from lib.history_out import exported, imported, plotted  # noqa: E402
 from lib.history_record import Recorder  # noqa: E402
 from lib.history_store import BROKEN, Away  # noqa: E402
 from lib.history_writer import Writer  # noqa: E402
-from lib.link import host_of, net_of  # noqa: E402
 from lib.words import Ended, number, read_words, run  # noqa: E402
 
 STORES = {"sqlite": "", "postgres": ""}
@@ -48,33 +47,17 @@ def store_of(options):
     return PostgresStore(options["postgres"])
 
 
-def net_behind(to):
-    """The NetId that a system has by custom: its address with .1.1 behind it."""
-    host, _ = host_of(to)
-    if host.count(".") == 3 and host.replace(".", "").isdigit():
-        return net_of(host + ".1.1", "the NetId of --to")
-    raise Ended(f"--netid is wanted, since {host} is no address that a NetId follows from")
-
-
-def say(line):
-    print(line, file=sys.stderr, flush=True)
-
-
 def record(words):
-    names, options = many_words(words, {**STORES, "to": None, "me": None, "netid": "", "port": "851", "mode": "change", "cycle": "1000000", "seconds": "",
+    names, options = many_words(words, __doc__, {**STORES, "to": None, "me": None, "netid": "", "port": "851", "mode": "change", "cycle": "1000000", "seconds": "",
                                         "keep-days": "", "hold": "1000000"})
-    net = net_of(options["netid"], "--netid") if options["netid"] else net_behind(options["to"])
-    link = (options["to"], net, net_of(options["me"], "--me"), 5)
-    host_of(options["to"])
-    port, cycle = number(options["port"], "--port", 1, 65535), number(options["cycle"], "--cycle", 0, 2 ** 32 - 1)
+    link, port, cycle = link_of(options), number(options["port"], "--port", 1, 65535), number(options["cycle"], "--cycle", 0, 2 ** 32 - 1)
     if options["mode"] not in MODES:
         raise Ended(f"--mode is change or cycle, and {options['mode']!r} is neither")
     seconds = number(options["seconds"], "--seconds", 1, 10 ** 9) if options["seconds"] else None
     days = number(options["keep-days"], "--keep-days", 1, 36500) if options["keep-days"] else None
     most = number(options["hold"], "--hold", 1000, 10 ** 9)
     writer, stopped = Writer(store_of(options), say), threading.Event()
-    for one in (signal.SIGTERM, signal.SIGINT):
-        signal.signal(one, lambda *_: stopped.set())
+    watch_stop(stopped)
     try:
         recorder = Recorder(link, port, names, options["mode"], cycle, writer, say)
     except Away as away:
@@ -86,17 +69,10 @@ def record(words):
     return 0
 
 
-def many_words(words, options):
-    """Any number of positional words, at least one, and options."""
-    count = len(words)
-    given, found = read_words(words, __doc__, ["NAME"] + ["[NAME]"] * count, options)
-    return [it for it in given if it is not None], found
-
-
 def main(words):
-    kinds = {"record": record, "export": lambda rest: exported(*many_words(rest, {**STORES, "format": "csv", "from": "", "to": "", "gaps": False, "out": ""}), store_of),
-             "plot": lambda rest: plotted(*many_words(rest, {**STORES, "from": "", "to": "", "out": ""}), store_of),
-             "import": lambda rest: imported(*many_words(rest, {**STORES, "netid": None, "port": "851", "description": ""}), store_of)}
+    kinds = {"record": record, "export": lambda rest: exported(*many_words(rest, __doc__, {**STORES, "format": "csv", "from": "", "to": "", "gaps": False, "out": ""}), store_of),
+             "plot": lambda rest: plotted(*many_words(rest, __doc__, {**STORES, "from": "", "to": "", "out": ""}), store_of),
+             "import": lambda rest: imported(*many_words(rest, __doc__, {**STORES, "netid": None, "port": "851", "description": ""}), store_of)}
     if "--help" in words or "-h" in words or not words:
         read_words(words or ["--help"], __doc__, [], {})
     if words[0] not in kinds:

@@ -5,7 +5,7 @@ import time
 from lib.flow_session import Session, unix_ns
 from lib.words import Ended
 
-FLUSH, MOST_ROWS, AGAIN, KEEP_EACH, DAY = 0.5, 100000, 1.0, 30.0, 86400 * 10 ** 9
+FLUSH, MOST_ROWS, AGAIN, KEEP_EACH, BEAT, DAY = 0.5, 100000, 1.0, 30.0, 10 ** 9, 86400 * 10 ** 9
 
 
 class Recorder:
@@ -14,7 +14,7 @@ class Recorder:
 
     def __init__(self, link, port, words, mode, cycle, writer, say):
         self.link, self.port, self.words, self.mode, self.cycle, self.writer, self.say = link, port, words, mode, cycle, writer, say
-        self.rows, self.gaps, self.until, self.session, self.said, self.count, self.lost = [], [], None, None, {}, 0, 0
+        self.rows, self.gaps, self.until, self.session, self.said, self.told = [], [], None, None, {}, 0
         self.flushed = self.cleared = time.monotonic()
         self.opened = set(writer.store.start(link[1], port, words))
 
@@ -64,8 +64,8 @@ class Recorder:
         self.flushed = time.monotonic()
         if self.session and self.session.streams and all(it.seen for it in self.session.streams):
             self.until = unix_ns(min(it.seen for it in self.session.streams))
-        if self.rows or self.gaps:
-            self.count += len(self.rows)
+        if self.rows or self.gaps or (self.until or 0) >= self.told + BEAT:
+            self.told = self.until or 0
             self.writer.put(self.rows, self.gaps, self.until)
             self.rows, self.gaps = [], []
 
