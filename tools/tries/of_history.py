@@ -49,6 +49,14 @@ class Running:
         before = self.writer.written
         self.until(lambda: self.writer.written >= before + count, f"{count} samples more")
 
+    def all_known(self, count):
+        """Waits until so many names have a sample, and some more of each are written."""
+        def known():
+            session = self.recorder.session
+            return session and len(session.items) == count and not any(item.fresh for item in list(session.items.values()))
+        self.until(known, f"a sample of each of {count} names")
+        self.wrote(8 * count)
+
     def __enter__(self):
         return self
 
@@ -64,16 +72,15 @@ def comes_and_goes(folder):
     path = os.path.join(folder, "h.db")
     names = {f"GVL.v{k}": KINDS[k % 4] for k in range(120)}
     with FakePlant(names, most=100) as plant, Running(path, plant.to, ["GVL.*", "Main.*", "Nothing"]) as it:
-        it.wrote(2000)
+        it.all_known(120)
         see("not there now: Main.*, Nothing" in it.said, f"nothing is said of names that are not there: {it.said}")
         plant.go()
         it.until(lambda: any("tried again" in line for line in it.said), "the loss of the server")
         plant.come()
-        it.until(lambda: it.said[-1] == "recording 120 names", "the server's return")
-        it.wrote(1000)
+        it.all_known(120)
         plant.describe({**{name: kind for name, kind in names.items() if name != "GVL.v7"}, "GVL.v8": "LREAL", "Main.new": "DINT"})
-        it.until(lambda: len(it.recorder.session.items) == 120 and "main.new" in it.recorder.session.items, "the new description")
-        it.wrote(1000)
+        it.until(lambda: "main.new" in it.recorder.session.items, "the new description")
+        it.all_known(120)
         with contextlib.closing(sqlite3.connect(path, isolation_level=None)) as other:
             other.execute("BEGIN IMMEDIATE")
             time.sleep(0.7)
@@ -81,7 +88,7 @@ def comes_and_goes(folder):
         it.wrote(500)
     history, runs = of_sqlite(path)
     samples, gaps = sound(history)
-    see(gaps == 122 and samples >= 4000, f"{gaps} gaps in place of 122, {samples} samples")
+    see(gaps == 122 and samples >= 3000, f"{gaps} gaps in place of 122, {samples} samples")
     holes = history["GVL.v7", KINDS[3]][1]
     see([hole[1] is None for hole in holes] == [False, True] and "description" in holes[1][2], f"the gaps of a symbol that is gone: {holes}")
     see(len(history["GVL.v9", KINDS[1]][1]) == 1, "a symbol that stays has a gap of the new description")
@@ -197,9 +204,9 @@ def no_history(folder):
                           f"'--postgres', 'postgresql://u:secret@h/d']; runpy.run_path({os.path.join(TOOLS, 'history.py')!r}, run_name='__main__')"],
                          capture_output=True, text=True, timeout=60)
     see(out.returncode == 4 and "python3-psycopg2" in out.stderr and len(out.stderr.splitlines()) == 1, f"without a driver: {out.stderr}")
-    for answer, part in ((lambda frame: b"\1\0\0\0\0\0", "does not speak ADS"), (lambda frame: None, "is 192.168.0.9.1.1 one of its routes?"),
+    for answer, part in ((lambda frame: b"\1\0\0\0\0\0", "does not speak ADS"), (lambda frame: None, "one of its routes"),
                          (told({0xF008: b"\1", 0xF00F: b"\xff" * 24}), "more than"), (told({0xF008: b"\1\2"}), "were asked for")):
-        with Fake(answer) as liar, Running(os.path.join(folder, "lies.db"), liar.to, ["*"]) as it:
+        with Fake(answer) as liar, Running(os.path.join(folder, f"{part}.db"), liar.to, ["*"]) as it:
             it.until(lambda: any(part in line for line in it.said), part)
     return "ok"
 
