@@ -14,12 +14,12 @@ import time
 sys.path.insert(0, os.path.dirname(os.path.abspath(__file__)))
 from lib.program import program_at  # noqa: E402
 from lib.words import Ended, number, read_words, run  # noqa: E402
-from tries import of_deploy, of_describe, of_frames, of_history, of_why  # noqa: E402
+from tries import of_deploy, of_describe, of_frames, of_history, of_mqtt, of_why  # noqa: E402
 from tries.running import Wrong  # noqa: E402
 
 
 TRIES = {"why": of_why.tried, "frames": of_frames.tried, "describe": of_describe.tried, "deploy": of_deploy.tried,
-         "history": of_history.tried}
+         "history": of_history.tried, "mqtt": of_mqtt.tried}
 
 
 def tried(name, *given):

@@ -1,6 +1,6 @@
 """A server of notifications in this process: symbols that count ticks, so that a sample that is lost, or there twice, is seen in the values themselves.
 
-The value of a symbol at tick k is k, as its type holds it. It can go away, come again, have another description, and grant as few notifications as it is told.
+The value of a symbol at tick k is k, as its type holds it. Where it is `still` they keep their values until one is written. It can go away, come again, have another description, and grant as few notifications as it is told.
 """
 import socket
 import struct
@@ -50,11 +50,13 @@ class Peer:
     def due(self, tick, now):
         """The bytes of the samples that are due: those of each tick, and of a beat each hundredth."""
         parts = []
-        for number, (name, mode, cycle, added) in list(self.notes.items()):
-            if mode == 4 and cycle and self.plant.still and tick > added:
-                continue
+        for number, note in list(self.notes.items()):
+            name, mode, cycle, added, last = note
             if (tick - added) % max(cycle // 100000, 1) == 0:
-                parts.append(struct.pack("<II", number, self.plant.symbols[name][1]) + self.plant.value(name, tick))
+                given = self.plant.value(name, tick)
+                if mode == 3 or given != last:
+                    note[4] = given
+                    parts.append(struct.pack("<II", number, self.plant.symbols[name][1]) + given)
         if parts:
             body = struct.pack("<IQI", 1, now, len(parts)) + b"".join(parts)
             self.note(struct.pack("<I", len(body)) + body)
@@ -134,7 +136,7 @@ class FakePlant:
 
     def value(self, name, tick):
         kind, _, form = self.symbols[name]
-        return self.values.get(name) or form.pack(number_at(kind, tick))
+        return self.values.get(name) or form.pack(number_at(kind, 0 if self.still else tick))
 
     # Requests.
 
@@ -190,7 +192,7 @@ class FakePlant:
         if code:
             return reply(frame, struct.pack("<II", code, 0))
         peer.granted += 1
-        peer.notes[peer.granted] = name, mode, cycle, self.tick + 1
+        peer.notes[peer.granted] = [name, mode, cycle, self.tick + 1, None]
         return reply(frame, struct.pack("<II", 0, peer.granted))
 
     def __enter__(self):

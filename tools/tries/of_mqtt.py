@@ -1,0 +1,150 @@
+"""mqtt.py over a broker and a server in this process, which both go and come again; the texts of values; and what is said where the library is absent."""
+import json
+import os
+import signal
+import struct
+import subprocess
+import sys
+import time
+
+from lib.flow_names import Known
+from lib.flow_values import shape_by_id
+from lib.mqtt_words import bytes_of, level, value_line
+from lib.values import NoValue
+from tries.fake_broker import Broker
+from tries.fake_plant import FakePlant
+from tries.running import ME, NET, TOOLS, Wrong, refused, see
+
+HEAD = "rig/851"
+
+
+def interpreter():
+    """A Python that has the library: this one, or Debian's; None where neither has."""
+    for path in (sys.executable, "/usr/bin/python3"):
+        if os.path.exists(path) and not subprocess.run([path, "-c", "import paho.mqtt.client"], capture_output=True, timeout=60).returncode:
+            return path
+    return None
+
+
+def known(type_id, size, kind="T"):
+    return Known("x", b"x", kind, type_id, size, shape_by_id(type_id, size))
+
+
+def words_of_values():
+    """What is published of bytes, and which bytes a text means: each way, and what is refused."""
+    for type_id, size, given, data in ((3, 4, b"-7", struct.pack("<i", -7)), (33, 1, b"true", b"\1"), (33, 1, b"TRUE", b"\1"), (5, 8, b"1.5", struct.pack("<d", 1.5)),
+                                       (4, 4, b'"Infinity"', struct.pack("<f", float("inf"))), (30, 4, '"ü"'.encode(), b"\xfc\0\0\0"), (30, 4, b"'ab'", b"ab\0\0"),
+                                       (21, 8, b'{"value": 18446744073709551615}', b"\xff" * 8), (65, 3, b"16#010203", b"\1\2\3")):
+        came = bytes_of(known(type_id, size), given)
+        see(came == data, f"{given} as type {type_id}: {came.hex()} in place of {data.hex()}")
+    for type_id, size, given in ((3, 4, b"2147483648"), (3, 4, b"1.5"), (3, 4, b"true"), (33, 1, b"1"), (5, 8, b'"x"'), (4, 4, b"1e300"), (30, 4, b'"abcd"'),
+                                 (30, 4, b'"a\\u0000"'), (30, 4, b"5"), (3, 4, b"\xff"), (3, 4, b""), (65, 3, b"[1,2,3]"), (3, 4, b"[" * 40000), (3, 4, b"1" * 70000),
+                                 (3, 4, b'{"valeu": 5}'), (3, 4, b"NaN"), (2, 2, b"null")):
+        try:
+            raise Wrong(f"{given[:40]} is bytes of type {type_id}: {bytes_of(known(type_id, size), given).hex()}")
+        except NoValue:
+            pass
+    it = json.loads(value_line(known(4, 4, "REAL"), 1795965389478964000, struct.pack("<f", float("nan"))))
+    see(it == {"value": "NaN", "type": "REAL", "time": "2026-11-29T15:16:29.4789640Z"}, f"a NaN is published as {it}")
+    see([level(name) for name in ("Main.axis[2].pos", "a/b+c#d%", "$SYS", "")] == ["Main.axis[2].pos", "a%2Fb%2Bc%23d%25", "%24SYS", "%"], "names as levels of topics")
+
+
+class Bridge:
+    def __init__(self, python, plant, broker, *words):
+        self.process = subprocess.Popen([python, os.path.join(TOOLS, "mqtt.py"), "*", "--to", plant.to, "--netid", NET, "--me", ME, "--broker",
+                                         f"127.0.0.1:{broker.port}", "--plant", "rig", "--set", "--cycle", "0", *words], stdout=subprocess.DEVNULL, stderr=subprocess.PIPE)
+        self.broker = broker
+
+    def until(self, holds, what, seconds=30):
+        end = time.monotonic() + seconds
+        while not holds():
+            see(time.monotonic() < end and self.process.poll() is None, f"{what}: not within {seconds} s; the topics: {self.broker.retained}")
+            time.sleep(0.02)
+
+    def value(self, name, value):
+        self.until(lambda: json.loads(self.broker.retained.get(f"{HEAD}/{name}", b"{}")).get("value") == value, f"{name} is {value}")
+
+    def state(self, word):
+        self.until(lambda: json.loads(self.broker.retained.get(HEAD, b"{}")).get("state") == word, f"the state is {word}")
+
+    def result(self, name, given, retain=False):
+        """What becomes of a value that is sent to a name."""
+        before = len(self.broker.heard)
+        self.broker.publish(f"{HEAD}/{name}/set", given, retain)
+        wanted = f"{HEAD}/{name}/set/result"
+        self.until(lambda: any(topic == wanted for topic, _, _ in self.broker.heard[before:]), f"a result of {name} := {given}")
+        return next((json.loads(it), kept) for topic, it, kept in self.broker.heard[before:] if topic == wanted)
+
+    def end(self, how=signal.SIGTERM):
+        self.process.send_signal(how)
+        _, err = self.process.communicate(timeout=30)
+        see("Traceback" not in err.decode(), err.decode()[-300:])
+        return self.process.returncode
+
+
+def sets(bridge, plant):
+    came = bridge.result("GVL.a", b"7")
+    see(came == ({"result": "done", "value": 7}, False), f"a set: {came}")
+    bridge.value("GVL.a", 7)
+    see(plant.written == [("GVL.a", b"\7\0\0\0")], f"written: {plant.written}")
+    came = bridge.result("GVL.limit", b"7")[0]
+    see(came == {"result": "refused", "code": "0x704", "why": "reading or writing not permitted"}, f"a set that the server refuses: {came}")
+    see("whole number" in bridge.result("GVL.a", b'"x"')[0]["why"], "a set of a text")
+    see("no such name" in bridge.result("GVL.none", b"7")[0]["why"], "a set of a name that is none")
+    see(bridge.result("GVL.a", b"9", True)[0] == {"result": "done", "value": 9}, "a set that the broker keeps, as it comes")
+    see(len(plant.written) == 2, f"refused sets were written: {plant.written}")
+
+
+def over(python):
+    names = {"GVL.a": "DINT", "GVL.limit": "INT", "GVL.b": "LREAL", "odd/name+#": "BOOL"}
+    with FakePlant(names, still=True) as plant, Broker() as broker:
+        bridge = Bridge(python, plant, broker)
+        for name, value in (("GVL.a", 0), ("GVL.b", 0.0), ("odd%2Fname%2B%23", False)):
+            bridge.value(name, value)
+        bridge.state("online")
+        see(json.loads(broker.retained[f"{HEAD}/GVL.b"])["type"] == "LREAL", "the type of a value")
+        sets(bridge, plant)
+        plant.go()
+        bridge.state("server gone")
+        see("server is gone" in bridge.result("GVL.a", b"8")[0]["why"], "a set while the server is gone")
+        plant.values["GVL.b"] = struct.pack("<d", 2.5)
+        plant.come()
+        bridge.state("online")
+        bridge.value("GVL.b", 2.5)
+        broker.go()
+        plant.values["GVL.a"] = struct.pack("<i", 11)
+        broker.retained, before = {f"{HEAD}/GVL.a/set": b"9"}, len(broker.heard)
+        broker.come()
+        bridge.value("GVL.a", 11)
+        bridge.value("GVL.b", 2.5)
+        bridge.state("online")
+        wanted = f"{HEAD}/GVL.a/set/result"
+        bridge.until(lambda: any(topic == wanted and b"retained" in it for topic, it, _ in broker.heard[before:]), "a set that was kept is not set again")
+        see(len(plant.written) == 2, f"a set that was kept was set again: {plant.written}")
+        plant.describe({name: kind for name, kind in names.items() if name != "GVL.b"} | {"GVL.c": "DINT"})
+        bridge.value("GVL.c", 0)
+        bridge.until(lambda: f"{HEAD}/GVL.b" not in broker.retained, "the value of a name that is gone is gone")
+        see(bridge.end() == 0, "the status of a bridge that is ended")
+        bridge.process = subprocess.Popen(["sleep", "60"])
+        bridge.state("offline")
+        bridge.process.kill()
+        killed = Bridge(python, plant, broker)
+        killed.state("online")
+        killed.end(signal.SIGKILL)
+        killed.process = bridge.process = subprocess.Popen(["sleep", "60"])
+        killed.until(lambda: "failed" in json.loads(broker.retained[HEAD]).get("why", ""), "the last will")
+        killed.process.kill()
+
+
+def tried(_program):
+    words_of_values()
+    refused(1, "--broker", "mqtt.py", "x", "--to", "127.0.0.1", "--me", ME)
+    refused(1, "--period is a number", "mqtt.py", "x", "--to", "127.0.0.1", "--me", ME, "--broker", "h", "--period", "0")
+    out = subprocess.run([sys.executable, "-c", "import sys, runpy; sys.modules['paho'] = None; sys.argv = ['mqtt.py', 'x', '--to', '127.0.0.1', '--me', "
+                          f"{ME!r}, '--broker', 'h']; runpy.run_path({os.path.join(TOOLS, 'mqtt.py')!r}, run_name='__main__')"], capture_output=True, text=True, timeout=60)
+    see(out.returncode == 4 and "python3-paho-mqtt" in out.stderr and len(out.stderr.splitlines()) == 1, f"without the library: {out.stderr}")
+    python = interpreter()
+    if python is None:
+        return "texts of values, and words; the library paho is not here, so no broker was played (apt-get install python3-paho-mqtt)"
+    over(python)
+    return "values out and back over a broker and a server that went and came, a new description, refusals, birth and last will"
