@@ -13,7 +13,7 @@ from lib.words import Ended
 TABLES = """
 CREATE TABLE IF NOT EXISTS symbol (id INTEGER PRIMARY KEY, net TEXT NOT NULL, port INTEGER NOT NULL, name TEXT NOT NULL, type TEXT NOT NULL,
                                    size INTEGER NOT NULL, run INTEGER, UNIQUE (net, port, name, type));
-CREATE TABLE IF NOT EXISTS sample (symbol INTEGER NOT NULL, unix_ns INTEGER NOT NULL, value, bytes BLOB NOT NULL, again INTEGER NOT NULL DEFAULT 0,
+CREATE TABLE IF NOT EXISTS sample (symbol INTEGER NOT NULL, unix_ns INTEGER NOT NULL, value, bytes BLOB, again INTEGER NOT NULL DEFAULT 0,
                                    PRIMARY KEY (symbol, unix_ns, again)) WITHOUT ROWID;
 CREATE TABLE IF NOT EXISTS gap (symbol INTEGER NOT NULL, from_ns INTEGER NOT NULL, to_ns INTEGER, why TEXT NOT NULL);
 CREATE INDEX IF NOT EXISTS gap_of ON gap (symbol, from_ns);
