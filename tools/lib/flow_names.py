@@ -14,7 +14,7 @@ from lib.values import printed
 from lib.words import Ended
 
 SUM, MOST_LEAVES = 500, 100000
-MOST_ENTRY = 1024
+MOST_ENTRY = 2048
 
 
 class Known:

@@ -16,7 +16,7 @@ from lib.words import Ended
 
 MODES = {"cycle": 3, "change": 4}
 # A server of ours has 512 notifications and 4,096 handles a connection, and 64 connections; a TwinCAT system has 550 notifications a client and more.
-EACH, STREAMS, BEAT = 480, 60, 10000000
+EACH, STREAMS, BEAT, LIKELY = 480, 60, 10000000, 32
 NONE_LEFT, STALE = 0x716, 0x711
 # A moment of ADS counts 100 ns from 1601; a stamp here counts nanoseconds from 1970.
 EPOCH, LAST = 116444736000000000, 2 ** 63 // 100
@@ -56,7 +56,7 @@ class Session:
         if len(self.streams) >= STREAMS:
             raise Ended(f"{self.to} would need more than {STREAMS} connections for so many names", 8)
         stream = Stream(*self.link, self.heard)
-        stream.items, stream.layouts, stream.count, stream.full, stream.beat, stream.loose = {}, {}, 0, False, None, []
+        stream.items, stream.layouts, stream.likely, stream.count, stream.full, stream.beat, stream.loose = {}, {}, {}, 0, False, None, []
         self.streams.append(stream)
         return stream
 
@@ -238,4 +238,15 @@ class Session:
             if pairs:
                 self.sink.take(ns, pairs)
         if self.sink.frames and len(pairs) > 7 and Layout.is_of(payload, pairs):
+            self.expect(stream, payload, pairs)
+
+    @staticmethod
+    def expect(stream, payload, pairs):
+        """Makes a layout where the same names came in a notification of this length before."""
+        names = [item.number for item, _ in pairs]
+        if stream.likely.get(len(payload)) == names:
             stream.layouts[len(payload)] = Layout(payload, pairs)
+        elif len(stream.likely) >= LIKELY:
+            stream.likely.clear()
+            stream.layouts.clear()
+        stream.likely[len(payload)] = names

@@ -92,11 +92,6 @@ class PostgresStore(Store):
             with cursor.copy(statement) as copy:
                 copy.write(lines)
 
-    def kept(self, cursor, least):
-        cursor.execute("DELETE FROM sample USING symbol WHERE symbol.id = sample.symbol AND net = %s AND port = %s AND unix_ns < %s", (*self.key, least))
-        cursor.execute("DELETE FROM gap USING symbol WHERE symbol.id = gap.symbol AND net = %s AND port = %s AND to_ns < %s", (*self.key, least))
-        return False
-
     def samples(self, symbol, since, until):
         cursor = self.base.cursor(name="samples")
         cursor.itersize = 10000

@@ -3,6 +3,7 @@ import itertools
 import time
 
 from lib.flow_session import Session, unix_ns
+from lib.history_writer import Job
 from lib.words import Ended
 
 FLUSH, MOST_ROWS, AGAIN, KEEP_EACH, BEAT, DAY = 0.5, 100000, 1.0, 30.0, 10 ** 9, 86400 * 10 ** 9
@@ -14,7 +15,7 @@ class Recorder:
 
     def __init__(self, link, port, words, mode, cycle, writer, say):
         self.link, self.port, self.words, self.mode, self.cycle, self.writer, self.say = link, port, words, mode, cycle, writer, say
-        self.rows, self.gaps, self.until, self.session, self.said, self.told = [], [], None, None, {}, 0
+        self.rows, self.gaps, self.until, self.session, self.said, self.told, self.keeping, self.fault = [], [], None, None, {}, 0, None, None
         self.flushed = self.cleared = time.monotonic()
         self.opened = set(writer.store.start(link[1], port, words))
 
@@ -93,18 +94,19 @@ class Recorder:
                 if why is self.writer.broken:
                     raise
                 self.leave(why.why)
+                self.fault = why
                 self.tell("link", why.why, f"{why.why}; it is tried again each second")
                 stopped.wait(AGAIN)
         self.leave_in_peace()
 
     def go_on(self, stopped, end, most, days):
-        if self.writer.held:
+        if self.writer.away or self.writer.held > most // 2:
             stopped.wait(0.05)
-            if self.writer.held and self.writer.away:
-                return
+            return
         self.session = Session(self.link, self.port, self.words, self.mode, self.cycle, self)
         self.session.open()
         self.tell("link", None, None)
+        self.fault = None
         self.say(f"recording {len(self.session.items)} names")
         while not stopped.is_set() and (end is None or time.monotonic() < end):
             self.session.step(0.05, may_refresh=not self.writer.away)
@@ -116,11 +118,14 @@ class Recorder:
 
     def clear(self, days):
         """Takes away what is older than so many days before the newest that is known."""
-        if days and self.until and time.monotonic() >= self.cleared + KEEP_EACH and not self.writer.held:
-            self.cleared = time.monotonic() - (KEEP_EACH if self.writer.call(lambda: self.writer.store.keep(self.until - days * DAY)) else 0)
+        if not days or not self.until or (self.keeping and not self.keeping.done.is_set()):
+            return
+        if self.keeping and self.keeping.found or time.monotonic() >= self.cleared + KEEP_EACH:
+            self.cleared, least = time.monotonic(), self.until - days * DAY
+            self.keeping = self.writer.add(Job(lambda: self.writer.store.keep(least)))
 
     def leave_in_peace(self):
         self.flush()
         if self.session:
             self.session.close()
-        self.writer.call(self.writer.store.stop) if not self.writer.away else None
+        self.writer.add(Job(self.writer.store.stop))

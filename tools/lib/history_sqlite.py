@@ -23,7 +23,6 @@ CREATE VIEW IF NOT EXISTS history AS SELECT strftime('%Y-%m-%d %H:%M:%S', unix_n
                                             name, type, value, bytes, unix_ns, symbol, net, port FROM sample JOIN symbol ON symbol.id = sample.symbol;
 """
 PASSING = ("locked", "busy", "full", "disk i/o error", "unable to open")
-AT_ONCE = 20000
 
 
 class SqliteStore(Store):
@@ -86,19 +85,6 @@ class SqliteStore(Store):
             cursor.execute("ROLLBACK TO rows")
             cursor.executemany("INSERT INTO sample SELECT ?1, ?2, ?3, ?4, coalesce(max(again) + 1, 0) FROM sample WHERE symbol = ?1 AND unix_ns = ?2", rows)
         cursor.execute("RELEASE rows")
-
-    def kept(self, cursor, least):
-        """Some thousand rows at a time, so that samples that come meanwhile need not wait long."""
-        left = AT_ONCE
-        for symbol, in cursor.execute("SELECT id FROM symbol WHERE net = ? AND port = ?", self.key).fetchall():
-            further = cursor.execute("SELECT unix_ns FROM sample WHERE symbol = ? AND unix_ns < ? ORDER BY unix_ns LIMIT 1 OFFSET ?",
-                                     (symbol, least, left)).fetchone()
-            cursor.execute("DELETE FROM sample WHERE symbol = ? AND unix_ns < ?", (symbol, further[0] if further else least))
-            left -= max(cursor.rowcount, 0)
-            if further or left <= 0:
-                return True
-        cursor.execute("DELETE FROM gap WHERE to_ns < ?", (least,))
-        return False
 
     def samples(self, symbol, since, until):
         return self.base.cursor().execute("SELECT unix_ns, value, NULL, bytes FROM sample WHERE symbol = ? AND unix_ns BETWEEN ? AND ? ORDER BY unix_ns, again",

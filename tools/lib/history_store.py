@@ -4,7 +4,7 @@ import time
 
 from lib.words import Ended
 
-BROKEN = 16
+BROKEN, AT_ONCE = 16, 20000
 NO_HISTORY = "is no history: tools/history.py record writes one"
 
 
@@ -119,8 +119,21 @@ class Store:
         cursor.execute(self.q("UPDATE run SET batch = ?, until_ns = coalesce(?, until_ns) WHERE id = ?"), (batch.number, batch.until, self.run))
 
     def keep(self, least):
-        """Takes away samples and gaps before a moment, some of them; gives whether there may be more."""
+        """Takes away samples and gaps before a moment, some thousand at a time, so that others need not wait long; gives whether there may be more."""
         return self.doing(self.kept, least)
+
+    def kept(self, cursor, least):
+        left = AT_ONCE
+        cursor.execute(self.q("SELECT id FROM symbol WHERE net = ? AND port = ?"), self.key)
+        for symbol, in cursor.fetchall():
+            cursor.execute(self.q("SELECT unix_ns FROM sample WHERE symbol = ? AND unix_ns < ? ORDER BY unix_ns LIMIT 1 OFFSET ?"), (symbol, least, left))
+            further = cursor.fetchone()
+            cursor.execute(self.q("DELETE FROM sample WHERE symbol = ? AND unix_ns < ?"), (symbol, further[0] if further else least))
+            left -= max(cursor.rowcount, 0)
+            cursor.execute(self.q("DELETE FROM gap WHERE symbol = ? AND to_ns < ?"), (symbol, least))
+            if further or left <= 0:
+                return True
+        return False
 
     def stop(self):
         self.doing(lambda cursor: cursor.execute(self.q("UPDATE run SET state = 'stopped' WHERE id = ?"), (self.run,)))

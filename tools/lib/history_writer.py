@@ -17,9 +17,9 @@ class Job:
 class Writer(threading.Thread):
     """`held` is the number of samples that wait to be written, `away` why the database takes nothing now, `broken` the Ended that ended the thread."""
 
-    def __init__(self, store, say):
+    def __init__(self, store, say, stopped):
         super().__init__(daemon=True)
-        self.store, self.say, self.jobs, self.ready = store, say, collections.deque(), threading.Condition()
+        self.store, self.say, self.stopped, self.jobs, self.ready = store, say, stopped, collections.deque(), threading.Condition()
         self.held, self.number, self.written, self.away, self.broken, self.ending, self.patience = 0, 0, 0, None, None, False, None
 
     def put(self, rows, gaps, until):
@@ -29,10 +29,11 @@ class Writer(threading.Thread):
         self.add(Job(lambda: self.store.write(batch), len(rows)))
 
     def call(self, action):
-        """What an action of the store gives, behind the batches that wait; it waits for that."""
-        job = Job(action)
-        self.add(job)
-        job.done.wait()
+        """What an action of the store gives, behind the batches that wait; it waits for that, unless the tool is to end while the database is away."""
+        job = self.add(Job(action))
+        while not job.done.wait(0.2):
+            if self.stopped.is_set() and self.away:
+                raise Ended(f"{self.store.where}: {self.away}", 16)
         if job.fault:
             raise job.fault
         return job.found
@@ -44,6 +45,7 @@ class Writer(threading.Thread):
             self.jobs.append(job)
             self.held += job.rows
             self.ready.notify()
+        return job
 
     def run(self):
         while True:

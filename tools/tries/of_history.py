@@ -9,6 +9,7 @@ import tempfile
 import threading
 import time
 
+from lib import history_store
 from lib.flow_session import Session
 from lib.history_record import Recorder
 from lib.history_sqlite import SqliteStore
@@ -27,7 +28,7 @@ class Running:
 
     def __init__(self, path, to, words, mode="cycle"):
         self.said, self.stopped, self.fault = [], threading.Event(), None
-        self.writer = Writer(SqliteStore(path), self.said.append)
+        self.writer = Writer(SqliteStore(path), self.said.append, self.stopped)
         self.recorder = Recorder((to, NET, ME, 5), 851, words, mode, 0, self.writer, self.said.append)
         self.writer.start()
         self.thread = threading.Thread(target=self.run, daemon=True)
@@ -147,6 +148,22 @@ def many_connections():
         session.close()
 
 
+def kept(path):
+    """What is older than a moment goes, a few rows at a time, and nothing else."""
+    before, _ = of_sqlite(path)
+    moment = sorted(ns for rows, _ in before.values() for ns, _, _ in rows)[sum(len(rows) for rows, _ in before.values()) // 2]
+    store = SqliteStore(path)
+    store.start(NET, 851, [])
+    history_store.AT_ONCE, turns = 7, 1
+    while store.keep(moment):
+        turns += 1
+    history_store.AT_ONCE = 20000
+    after, _ = of_sqlite(path)
+    for key, (rows, _) in before.items():
+        see(after[key][0] == [row for row in rows if row[0] >= moment], f"{key}: other samples are left than those from {moment} on")
+    see(turns > 10 and not any(end is not None and end < moment for _, holes in after.values() for _, end, _ in holes), f"{turns} turns, or gaps that ended before are left")
+
+
 def comes_out(folder, path):
     """Export, gaps and pictures."""
     out, _, status = tool("history.py", "export", "gvl.V3", "GVL.v?", "--sqlite", path)
@@ -218,6 +235,7 @@ def tried(program):
         still(folder)
         many_connections()
         comes_out(folder, path)
+        kept(path)
         taken_in(program, folder)
         no_history(folder)
     return f"{samples} samples of 120 names over a server that went, came and was described anew, each once; killed, exported, drawn and taken in"
