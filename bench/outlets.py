@@ -31,7 +31,8 @@ from tries.history_checks import of_cursor, of_sqlite, sound  # noqa: E402
 from tries.running import ME, NET, PLANT, Served, Wrong, see  # noqa: E402
 
 SERVICES, KINDS = str(ROOT / "bench/services.sh"), ("DINT", "LREAL", "UDINT", "REAL")
-HOSTILE = ["a'b", 'a"b', "a;DROP TABLE sample;--", "a\\b", "a\tb", "a b", "a,b=c", "a/b/+/#", "$SYS", "%s%(x)s{}", "=cmd", "-o", "\xfc\xff\x80", "\\x41", "N" * 250, "..", "a\nb"]
+HOSTILE = ["a'b", 'a"b', "a;DROP TABLE sample;--", "a\\b", "a\tb", "a b", "a,b=c", "a/b/+/#", "$SYS", "%s%(x)s{}", "=cmd", "-o", "\xfc\xff\x80", "\\x41", "..",
+           "a\nb", "N" * 250]
 
 
 def words(plant, *names, mode="cycle", cycle="0"):
@@ -201,7 +202,8 @@ def hostile(store, folder):
     sound(history)
     see(len(history) == len(HOSTILE) and all(rows for rows, _ in history.values()), f"{len(history)} names of {len(HOSTILE)}: {sorted(history)}")
     for kind in ("csv", "influx"):
-        done = subprocess.run([sys.executable, str(ROOT / "tools/history.py"), "export", "*", *where, "--format", kind], capture_output=True, text=True, timeout=120)
+        words_of = [sys.executable, str(ROOT / "tools/history.py"), "export", "*", *where, "--format", kind]
+        done = subprocess.run(words_of, capture_output=True, text=True, timeout=120)
         see(done.returncode == 0 and not done.stderr, f"export as {kind}: {done.stderr}")
         rows = list(csv.reader(done.stdout.splitlines()))[1:] if kind == "csv" else done.stdout.splitlines()
         see(len(rows) == sum(len(own) for own, _ in history.values()), f"{len(rows)} lines of {kind}")
@@ -248,7 +250,8 @@ def dashboard(store):
             time.sleep(2)
             ended(it, "the recorder")
     now = time.time_ns()
-    said = {"${name:sqlstring}": "'GVL.v1','GVL.v''2'", "$__interval_ms": "5000", "$__unixEpochNanoFilter(s.unix_ns)": f"s.unix_ns >= {now - 10 ** 12} AND s.unix_ns <= {now}",
+    said = {"${name:sqlstring}": "'GVL.v1','GVL.v''2'", "$__interval_ms": "5000",
+            "$__unixEpochNanoFilter(s.unix_ns)": f"s.unix_ns >= {now - 10 ** 12} AND s.unix_ns <= {now}",
             "$__unixEpochNanoFrom()": str(now - 10 ** 12), "$__unixEpochNanoTo()": str(now)}
     given = json.loads((ROOT / "examples/grafana-plant.json").read_text())
     asked = {it["title"]: it["targets"][0]["rawSql"] for it in given["panels"]}
@@ -310,8 +313,8 @@ def rate(store, count, seconds):
     spent = after.ru_utime + after.ru_stime - before.ru_utime - before.ru_stime
     samples, gaps = sound(store.read()[0])
     size = store.path.stat().st_size if not store.url else 0
-    return (f"{count * 100:,} samples a second sent: {samples:,} recorded and written in {lasted:.1f} s, {gaps} gaps, {1e6 * spent / max(samples, 1):.1f} microseconds "
-            f"of the processor each" + (f", {size / max(samples, 1):.0f} bytes each" if size else ""))
+    return (f"{count * 100:,} samples a second sent: {samples:,} recorded and written in {lasted:.1f} s, {gaps} gaps, "
+            f"{1e6 * spent / max(samples, 1):.1f} microseconds of the processor each" + (f", {size / max(samples, 1):.0f} bytes each" if size else ""))
 
 
 def scenes(given, program, folder, at, r):

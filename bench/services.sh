@@ -1,8 +1,8 @@
 #!/bin/sh
 # Starts the services that values go to, on ports of their own under a folder of its own, and ends them. For whoever tries tools/history.py and tools/mqtt.py.
 #
-#     bench/services.sh start FOLDER [postgres] [mosquitto] [prometheus]    # postgres and mosquitto where none is named; prints a line each: a name, and where it is
-#     bench/services.sh stop FOLDER [postgres] [mosquitto] [prometheus]     # ends them: all that run where none is named
+#     bench/services.sh start FOLDER [postgres] [mosquitto] [prometheus]    # prints a line each: its name, and where it is; without a name the first two
+#     bench/services.sh stop FOLDER [postgres] [mosquitto] [prometheus]     # ends them; without a name all that run
 #     bench/services.sh again FOLDER NAME                                   # starts one again that was ended, on the port it had, over what it kept
 #
 # They are Debian's: apt-get update && apt-get install -y postgresql mosquitto mosquitto-clients prometheus python3-psycopg2 python3-paho-mqtt
@@ -66,7 +66,8 @@ start_prometheus() {
 ended() {
     case $1 in
     postgres)
-        [ ! -e "$folder/postgres/postmaster.pid" ] || as_owner "$(ls -d /usr/lib/postgresql/*/bin | tail -1)/pg_ctl" -D "$folder/postgres" -m fast -w stop > /dev/null ;;
+        tools=$(ls -d /usr/lib/postgresql/*/bin | tail -1)
+        [ ! -e "$folder/postgres/postmaster.pid" ] || as_owner "$tools/pg_ctl" -D "$folder/postgres" -m fast -w stop > /dev/null ;;
     *)
         [ ! -e "$folder/$1.pid" ] || { pid=$(cat "$folder/$1.pid"); kill "$pid" 2>/dev/null
             for _ in $(seq 100); do kill -0 "$pid" 2>/dev/null || break; sleep 0.05; done; rm -f "$folder/$1.pid"; } ;;

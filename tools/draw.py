@@ -3,8 +3,8 @@
 
     python3 tools/draw.py FILE [NAME[:TYPE]..] > picture.svg
 
-FILE is what `--store` named. Without a NAME all are drawn. TYPE is one of SINT, USINT, INT, UINT, DINT, UDINT, LINT, ULINT, REAL, LREAL and BOOL, which says how the bytes of
-the value are read; without it they are an unsigned integer, the low byte first. A value holds until the next one, so the line goes in steps.
+FILE is what `--store` named. Without a NAME all are drawn. TYPE is one of SINT, USINT, INT, UINT, DINT, UDINT, LINT, ULINT, REAL, LREAL and BOOL, which says
+how the bytes of the value are read; without it they are an unsigned integer, the low byte first. A value holds until the next one, so the line goes in steps.
 """
 import argparse
 import datetime

@@ -18,8 +18,8 @@ T is a moment, 2026-11-29T15:00:00 or 2026-11-29, in UTC. `import` takes files o
 
 PostgreSQL needs Debian's package python3-psycopg2 or python3-psycopg, which serve /usr/bin/python3.
 
-The status is 0, or 1 wrong words, 2 no such symbol in the history, 4 a file can't be read or written, 16 the database can't be opened, or takes no history; where
-`record` is ended before it has a sample, that of what hindered it: 6 not reached, 8 refused, 9 no ADS, 11 no answer in time.
+The status is 0, or 1 wrong words, 2 no such symbol in the history, 4 a file can't be read or written, 16 the database can't be opened, or takes no history.
+Where `record` ends before it has a sample, its status is that of what hindered it: 6 not reached, 8 refused, 9 no ADS, 11 no answer in time.
 """
 import os
 import sys
@@ -49,8 +49,8 @@ def store_of(options):
 
 
 def record(words):
-    names, options = many_words(words, __doc__, {**STORES, "to": None, "me": None, "netid": "", "port": "851", "mode": "change", "cycle": "1000000", "seconds": "",
-                                        "keep-days": "", "hold": "1000000"})
+    names, options = many_words(words, __doc__, {
+        **STORES, "to": None, "me": None, "netid": "", "port": "851", "mode": "change", "cycle": "1000000", "seconds": "", "keep-days": "", "hold": "1000000"})
     link, port, cycle = link_of(options), number(options["port"], "--port", 1, 65535), number(options["cycle"], "--cycle", 0, 2 ** 32 - 1)
     if options["mode"] not in MODES:
         raise Ended(f"--mode is change or cycle, and {options['mode']!r} is neither")
@@ -72,8 +72,9 @@ def record(words):
 
 
 def main(words):
-    kinds = {"record": record, "export": lambda rest: exported(*many_words(rest, __doc__, {**STORES, "format": "csv", "from": "", "to": "", "gaps": False, "out": ""}), store_of),
-             "plot": lambda rest: plotted(*many_words(rest, __doc__, {**STORES, "from": "", "to": "", "out": ""}), store_of),
+    span = {**STORES, "from": "", "to": "", "out": ""}
+    kinds = {"record": record, "export": lambda rest: exported(*many_words(rest, __doc__, {**span, "format": "csv", "gaps": False}), store_of),
+             "plot": lambda rest: plotted(*many_words(rest, __doc__, span), store_of),
              "import": lambda rest: imported(*many_words(rest, __doc__, {**STORES, "netid": None, "port": "851", "description": ""}), store_of)}
     if "--help" in words or "-h" in words or not words:
         read_words(words or ["--help"], __doc__, [], {})

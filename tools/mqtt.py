@@ -171,8 +171,9 @@ def broker_of(text):
 
 
 def main(words):
-    names, options = many_words(words, __doc__, {"to": None, "me": None, "netid": "", "port": "851", "broker": None, "plant": "", "period": "", "cycle": "1000000",
-                                                 "set": False, "user": "", "password-file": "", "ca": "", "seconds": ""})
+    names, options = many_words(words, __doc__, {
+        "to": None, "me": None, "netid": "", "port": "851", "broker": None, "plant": "", "period": "", "cycle": "1000000", "set": False, "user": "",
+        "password-file": "", "ca": "", "seconds": ""})
     link, port = link_of(options), number(options["port"], "--port", 1, 65535)
     host, broker_port = broker_of(options["broker"])
     period = number(options["period"], "--period", 1, 400) if options["period"] else 0

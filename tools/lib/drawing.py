@@ -1,4 +1,4 @@
-"""Series of values over time as SVG: a panel a name, a value holds until the next one, so the line goes in steps. Moments are numbers, `date` says one as text."""
+"""Series of values over time as SVG: a panel a name; a value holds until the next one, so the line goes in steps. Moments are numbers; `date` writes one."""
 import xml.sax.saxutils
 
 WIDE, HIGH, LEFT, RIGHT, ABOVE, BELOW = 900, 180, 90, 20, 28, 26

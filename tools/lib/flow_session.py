@@ -40,8 +40,8 @@ class Item:
 
 
 class Session:
-    """A sink is told: `begin(knowns)` gives what it keeps with each name that is watched from now on; `take(ns, pairs)` samples, pairs of an item and its bytes;
-    `ended(item, why)`; `missing(words)`, what means nothing now; `refused(known, why)`. With `sink.frames` it may be told `frame(ns, layout, payload)`
+    """A sink is told: `begin(knowns)`, which gives what it keeps with each name that is watched from now on; `take(ns, pairs)`, samples, pairs of an item and
+    bytes; `ended(item, why)`; `missing(words)`, what means nothing now; `refused(known, why)`. With `sink.frames` it may be told `frame(ns, layout, payload)`
     in place of `take`."""
 
     def __init__(self, link, port, words, mode, cycle, sink):

@@ -75,7 +75,7 @@ class Stream(Link):
             self.answers[number] = result, data
 
     def send(self, port, request, then=None):
-        """Sends a request; gives its invoke id. `then(code, data)` is called where its answer stands among what comes; without it, the answer is kept for `wait`."""
+        """Sends a request; gives its invoke id. `then(code, data)` is called where its answer stands among what comes; without it `wait` gives the answer."""
         self.id = self.id % 0xFFFFFFFF + 1
         self.asked[self.id] = request.command, then
         asked = Frame(Address(self.net, port), Address(self.me, OWN_PORT), request.command, REQUEST, 0, self.id, request.bytes())

@@ -9,7 +9,7 @@ from lib.type_texts import PLAIN, NoType
 # The letter of `struct` for each plain type; a BOOL is any byte but 0.
 LETTERS = {"BOOL": "B", "SINT": "b", "USINT": "B", "BYTE": "B", "INT": "h", "UINT": "H", "WORD": "H", "DINT": "i", "UDINT": "I", "DWORD": "I", "TIME": "I",
            "LINT": "q", "ULINT": "Q", "LWORD": "Q", "REAL": "f", "LREAL": "d"}
-IDS = {4: {4: "REAL"}, 5: {8: "LREAL"}, 33: {1: "BOOL"}, **{one: {size: word for word, (size, own) in PLAIN.items() if own == one} for one in (16, 17, 2, 18, 3, 19, 20, 21)}}
+IDS = {one: {size: word for word, (size, own) in PLAIN.items() if own == one} for one in (16, 17, 2, 18, 3, 19, 20, 21, 4, 5, 33)}
 
 
 def text_of(data):

@@ -119,7 +119,7 @@ def tag(text):
 
 
 def influx_out(file, row, samples):
-    """Writes the lines of a symbol: numbers as the field `value`, those of 64 bits exact as `whole`, texts as `text`. Gives how many have none."""
+    """Writes the lines of a symbol: numbers as the field `value`, whole ones of 64 bits exact beside it, texts as `text`. Gives how many have none."""
     _, net, port, name, kind = row
     head, left_out = f"ads,name={tag(name)},net={net},port={port},type={tag(kind)}", 0
     for ns, value, text, data in samples:
@@ -130,7 +130,8 @@ def influx_out(file, row, samples):
         if isinstance(it, str):
             field = 'text="' + it.replace("\\", "\\\\").replace('"', '\\"') + '"'
         else:
-            field = f"value={float(it)!r}" + (f",whole={it}{'i' if it < 2 ** 63 else 'u'}" if kind.upper() == "LINT" else f",unsigned={it}u" if kind.upper() in ("ULINT", "LWORD") else "")
+            exact = {"LINT": f",whole={it}i", "ULINT": f",unsigned={it}u", "LWORD": f",unsigned={it}u"}.get(kind.upper(), "")
+            field = f"value={float(it)!r}{exact}"
         file.write(f"{head} {field} {ns}\n")
     return left_out
 

@@ -95,7 +95,8 @@ class PostgresStore(Store):
     def samples(self, symbol, since, until):
         cursor = self.base.cursor(name="samples")
         cursor.itersize = 10000
-        cursor.execute("SELECT unix_ns, value, text, bytes FROM sample WHERE symbol = %s AND unix_ns BETWEEN %s AND %s ORDER BY unix_ns", (symbol, since, until))
+        cursor.execute("SELECT unix_ns, value, text, bytes FROM sample WHERE symbol = %s AND unix_ns BETWEEN %s AND %s ORDER BY unix_ns",
+                       (symbol, since, until))
         for ns, value, text, data in cursor:
             yield ns, value, text, bytes(data)
         cursor.close()

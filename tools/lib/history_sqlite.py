@@ -19,7 +19,8 @@ CREATE TABLE IF NOT EXISTS gap (symbol INTEGER NOT NULL, from_ns INTEGER NOT NUL
 CREATE INDEX IF NOT EXISTS gap_of ON gap (symbol, from_ns);
 CREATE TABLE IF NOT EXISTS run (id INTEGER PRIMARY KEY, net TEXT NOT NULL, port INTEGER NOT NULL, names TEXT NOT NULL, started_ns INTEGER NOT NULL,
                                 until_ns INTEGER, batch INTEGER NOT NULL, state TEXT NOT NULL);
-CREATE VIEW IF NOT EXISTS history AS SELECT strftime('%Y-%m-%d %H:%M:%S', unix_ns / 1000000000, 'unixepoch') || printf('.%07d', unix_ns / 100 % 10000000) AS time,
+CREATE VIEW IF NOT EXISTS history AS SELECT strftime('%Y-%m-%d %H:%M:%S', unix_ns / 1000000000, 'unixepoch')
+                                            || printf('.%07d', unix_ns / 100 % 10000000) AS time,
                                             name, type, value, bytes, unix_ns, symbol, net, port FROM sample JOIN symbol ON symbol.id = sample.symbol;
 """
 PASSING = ("locked", "busy", "full", "disk i/o error", "unable to open")

@@ -1,4 +1,4 @@
-"""What a history keeps, in tables that are alike in SQLite and in PostgreSQL: symbols, samples, gaps, and the runs of recorders. Here is what both have in common."""
+"""What a history keeps, in tables that are alike in SQLite and in PostgreSQL: symbols, samples, gaps, and the runs of recorders; here is what both share."""
 import json
 import time
 
@@ -13,7 +13,7 @@ class Away(Exception):
 
 
 class Batch:
-    """What becomes one transaction: rows of samples (symbol, unix_ns, value, bytes), what happens to gaps in its order, and the moment up to which all is known."""
+    """What becomes one transaction: rows of samples (symbol, unix_ns, value, bytes), what happens to gaps, in its order, and up to when all is known."""
 
     def __init__(self, number, rows, gaps, until):
         self.number, self.rows, self.gaps, self.until = number, rows, gaps, until
@@ -70,7 +70,8 @@ class Store:
             SELECT s.id, {self.greatest}(coalesce(r.until_ns, 0), (SELECT max(unix_ns) FROM sample WHERE symbol = s.id)), NULL,
                    CASE r.state WHEN 'stopped' THEN 'the recorder was stopped' ELSE 'the recorder was killed' END
             FROM symbol s JOIN run r ON r.id = s.run WHERE r.net = ? AND r.port = ? AND r.state <> 'over'
-            AND EXISTS (SELECT 1 FROM sample WHERE symbol = s.id) AND NOT EXISTS (SELECT 1 FROM gap g WHERE g.symbol = s.id AND g.to_ns IS NULL)"""), (net, port))
+            AND EXISTS (SELECT 1 FROM sample WHERE symbol = s.id) AND NOT EXISTS (SELECT 1 FROM gap g WHERE g.symbol = s.id AND g.to_ns IS NULL)"""),
+                       (net, port))
         cursor.execute(self.q("UPDATE run SET state = 'over' WHERE net = ? AND port = ? AND state <> 'over'"), (net, port))
         cursor.execute("SELECT coalesce(max(id), 0) + 1 FROM run")
         self.run = cursor.fetchone()[0]

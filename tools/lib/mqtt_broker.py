@@ -1,4 +1,4 @@
-"""A connection to a broker, by paho: one after another, each with a last will; what is published goes on in its order, and where too much waits, the newest of each."""
+"""Connections to a broker, by paho, one after another, each with a last will; what is published keeps its order, and where too much waits, the newest stays."""
 import collections
 import select
 import socket
@@ -6,7 +6,8 @@ import time
 
 from lib.words import Ended
 
-ABSENT = ("MQTT needs Debian's package python3-paho-mqtt, which serves /usr/bin/python3: apt-get install python3-paho-mqtt, then /usr/bin/python3 tools/mqtt.py ..")
+ABSENT = ("MQTT needs Debian's package python3-paho-mqtt, which serves /usr/bin/python3: apt-get install python3-paho-mqtt, "
+          "then /usr/bin/python3 tools/mqtt.py ..")
 AGAIN, KEEPALIVE, MOST_WAITING, MOST_IN_FLIGHT = 1.0, 15, 20000, 500
 
 
@@ -19,7 +20,7 @@ def library():
 
 
 class Broker:
-    """`on_ready()` is called when a connection is there, `on_message(topic, payload, retained)` for what comes. `will` is a topic and what stands there once it fails."""
+    """`on_ready()` is called when a connection is there, `on_message(topic, payload, retained)` for what comes. `will` is a topic and its last message."""
 
     def __init__(self, host, port, will, topics, say, user="", password="", authority=""):
         self.mqtt, self.host, self.port, self.will, self.topics, self.say = library(), host, port, will, topics, say

@@ -1,6 +1,7 @@
 """A server of notifications in this process: symbols that count ticks, so that a sample that is lost, or there twice, is seen in the values themselves.
 
-The value of a symbol at tick k is k, as its type holds it. Where it is `still` they keep their values until one is written. It can go away, come again, have another description, and grant as few notifications as it is told.
+The value of a symbol at tick k is k, as its type holds it. Where it is `still` they keep their values until one is written. It can go away, come again, have
+another description, and grant as few notifications as it is told.
 """
 import socket
 import struct

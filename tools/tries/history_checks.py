@@ -41,7 +41,7 @@ def sound(history, kinds=("DINT", "UDINT", "LREAL", "REAL", "ULINT")):
             see(ns < after, f"{name}: two samples of {ns}")
             marked = any(ns <= start < after and end == after for start, end, _ in holes)
             see(marked or kind not in kinds or counted(kind, two) == number_at(kind, counted(kind, one) + 1),
-                f"{name}: {counted(kind, one) if kind in kinds else one} and then {counted(kind, two) if kind in kinds else two}, with no gap from {ns} to {after}: {holes}")
+                f"{name}: {one.hex()} and then {two.hex()}, with no gap from {ns} to {after}: {holes}")
         for start, end, why in holes:
             see(not any(start < ns and (end is None or ns < end) for ns, _, _ in rows), f"{name}: a sample in the gap {start} to {end} ({why})")
         samples, gaps = samples + len(rows), gaps + len(holes)

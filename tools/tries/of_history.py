@@ -161,7 +161,8 @@ def kept(path):
     after, _ = of_sqlite(path)
     for key, (rows, _) in before.items():
         see(after[key][0] == [row for row in rows if row[0] >= moment], f"{key}: other samples are left than those from {moment} on")
-    see(turns > 10 and not any(end is not None and end < moment for _, holes in after.values() for _, end, _ in holes), f"{turns} turns, or gaps that ended before are left")
+    left = [hole for _, holes in after.values() for hole in holes if hole[1] is not None and hole[1] < moment]
+    see(turns > 10 and not left, f"{turns} turns; gaps that ended before are left: {left}")
 
 
 def comes_out(folder, path):
@@ -181,7 +182,8 @@ def comes_out(folder, path):
     out, err, status = tool("history.py", "plot", "GVL.v0", "GVL.v1", "--sqlite", path, "--out", picture)
     with open(picture, encoding="utf-8") as file:
         text = file.read()
-    see(status == 0 and text.startswith("<svg") and text.rstrip().endswith("</svg>") and 'class="gap"' in text and text.count('class="name"') == 2, f"plot: {err}{text[:200]}")
+    see(status == 0 and text.startswith("<svg") and text.endswith("</svg>\n"), f"plot: {err}{text[:200]}")
+    see(text.count('class="gap"') == 2 * len(history["GVL.v0", "DINT"][1]) and text.count('class="name"') == 2, f"the gaps of a picture: {text[:900]}")
     see(sorted(os.listdir(folder)) == sorted(set(os.listdir(folder)) - {it for it in os.listdir(folder) if it.startswith(".p.svg")}), "a file is left beside")
     refused(2, "has no symbol Nothing", "history.py", "export", "Nothing", "--sqlite", path)
     refused(1, "is a moment", "history.py", "export", "GVL.v0", "--sqlite", path, "--from", "yesterday")
@@ -217,9 +219,9 @@ def no_history(folder):
     refused(16, "is no history", "history.py", "export", "x", "--sqlite", PLANT)
     refused(4, "No such file", "history.py", "export", "x", "--sqlite", os.path.join(folder, "none.db"))
     see(not os.path.exists(os.path.join(folder, "none.db")), "export makes a file")
-    out = subprocess.run([sys.executable, "-c", "import sys, runpy; sys.modules['psycopg2'] = sys.modules['psycopg'] = None; sys.argv = ['history.py', 'export', 'x', "
-                          f"'--postgres', 'postgresql://u:secret@h/d']; runpy.run_path({os.path.join(TOOLS, 'history.py')!r}, run_name='__main__')"],
-                         capture_output=True, text=True, timeout=60)
+    without = ("import sys, runpy; sys.modules['psycopg2'] = sys.modules['psycopg'] = None; sys.argv = ['history.py', 'export', 'x', '--postgres', "
+               f"'postgresql://u:secret@h/d']; runpy.run_path({os.path.join(TOOLS, 'history.py')!r}, run_name='__main__')")
+    out = subprocess.run([sys.executable, "-c", without], capture_output=True, text=True, timeout=60)
     see(out.returncode == 4 and "python3-psycopg2" in out.stderr and len(out.stderr.splitlines()) == 1, f"without a driver: {out.stderr}")
     for answer, part in ((lambda frame: b"\1\0\0\0\0\0", "does not speak ADS"), (lambda frame: None, "one of its routes"),
                          (told({0xF008: b"\1", 0xF00F: b"\xff" * 24}), "more than"), (told({0xF008: b"\1\2"}), "were asked for")):

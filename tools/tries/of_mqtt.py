@@ -16,6 +16,13 @@ from tries.fake_plant import FakePlant
 from tries.running import ME, NET, TOOLS, Wrong, refused, see
 
 HEAD = "rig/851"
+# A type id, a size, a text that is sent, and the bytes that it means; and texts that are refused.
+TAKEN = ((3, 4, b"-7", struct.pack("<i", -7)), (33, 1, b"true", b"\1"), (33, 1, b"TRUE", b"\1"), (5, 8, b"1.5", struct.pack("<d", 1.5)),
+         (4, 4, b'"Infinity"', struct.pack("<f", float("inf"))), (30, 4, '"ü"'.encode(), b"\xfc\0\0\0"), (30, 4, b"'ab'", b"ab\0\0"),
+         (21, 8, b'{"value": 18446744073709551615}', b"\xff" * 8), (65, 3, b"16#010203", b"\1\2\3"))
+REFUSED = ((3, 4, b"2147483648"), (3, 4, b"1.5"), (3, 4, b"true"), (33, 1, b"1"), (5, 8, b'"x"'), (4, 4, b"1e300"), (30, 4, b'"abcd"'), (2, 2, b"null"),
+           (30, 4, b'"a\\u0000"'), (30, 4, b"5"), (3, 4, b"\xff"), (3, 4, b""), (65, 3, b"[1,2,3]"), (3, 4, b"[" * 40000), (3, 4, b"1" * 70000),
+           (3, 4, b'{"valeu": 5}'), (3, 4, b"NaN"))
 
 
 def interpreter():
@@ -32,27 +39,24 @@ def known(type_id, size, kind="T"):
 
 def words_of_values():
     """What is published of bytes, and which bytes a text means: each way, and what is refused."""
-    for type_id, size, given, data in ((3, 4, b"-7", struct.pack("<i", -7)), (33, 1, b"true", b"\1"), (33, 1, b"TRUE", b"\1"), (5, 8, b"1.5", struct.pack("<d", 1.5)),
-                                       (4, 4, b'"Infinity"', struct.pack("<f", float("inf"))), (30, 4, '"ü"'.encode(), b"\xfc\0\0\0"), (30, 4, b"'ab'", b"ab\0\0"),
-                                       (21, 8, b'{"value": 18446744073709551615}', b"\xff" * 8), (65, 3, b"16#010203", b"\1\2\3")):
+    for type_id, size, given, data in TAKEN:
         came = bytes_of(known(type_id, size), given)
         see(came == data, f"{given} as type {type_id}: {came.hex()} in place of {data.hex()}")
-    for type_id, size, given in ((3, 4, b"2147483648"), (3, 4, b"1.5"), (3, 4, b"true"), (33, 1, b"1"), (5, 8, b'"x"'), (4, 4, b"1e300"), (30, 4, b'"abcd"'),
-                                 (30, 4, b'"a\\u0000"'), (30, 4, b"5"), (3, 4, b"\xff"), (3, 4, b""), (65, 3, b"[1,2,3]"), (3, 4, b"[" * 40000), (3, 4, b"1" * 70000),
-                                 (3, 4, b'{"valeu": 5}'), (3, 4, b"NaN"), (2, 2, b"null")):
+    for type_id, size, given in REFUSED:
         try:
             raise Wrong(f"{given[:40]} is bytes of type {type_id}: {bytes_of(known(type_id, size), given).hex()}")
         except NoValue:
             pass
     it = json.loads(value_line(known(4, 4, "REAL"), 1795965389478964000, struct.pack("<f", float("nan"))))
     see(it == {"value": "NaN", "type": "REAL", "time": "2026-11-29T15:16:29.4789640Z"}, f"a NaN is published as {it}")
-    see([level(name) for name in ("Main.axis[2].pos", "a/b+c#d%", "$SYS", "")] == ["Main.axis[2].pos", "a%2Fb%2Bc%23d%25", "%24SYS", "%"], "names as levels of topics")
+    levels = {"Main.axis[2].pos": "Main.axis[2].pos", "a/b+c#d%": "a%2Fb%2Bc%23d%25", "$SYS": "%24SYS", "": "%"}
+    see([level(name) for name in levels] == list(levels.values()), "names as levels of topics")
 
 
 class Bridge:
     def __init__(self, python, plant, broker, *words):
-        self.process = subprocess.Popen([python, os.path.join(TOOLS, "mqtt.py"), "*", "--to", plant.to, "--netid", NET, "--me", ME, "--broker",
-                                         f"127.0.0.1:{broker.port}", "--plant", "rig", "--set", "--cycle", "0", *words], stdout=subprocess.DEVNULL, stderr=subprocess.PIPE)
+        self.process = subprocess.Popen([python, os.path.join(TOOLS, "mqtt.py"), "*", "--to", plant.to, "--netid", NET, "--me", ME, "--set", "--cycle", "0",
+                                         "--broker", f"127.0.0.1:{broker.port}", "--plant", "rig", *words], stdout=subprocess.DEVNULL, stderr=subprocess.PIPE)
         self.broker = broker
 
     def until(self, holds, what, seconds=30):
@@ -140,8 +144,9 @@ def tried(_program):
     words_of_values()
     refused(1, "--broker", "mqtt.py", "x", "--to", "127.0.0.1", "--me", ME)
     refused(1, "--period is a number", "mqtt.py", "x", "--to", "127.0.0.1", "--me", ME, "--broker", "h", "--period", "0")
-    out = subprocess.run([sys.executable, "-c", "import sys, runpy; sys.modules['paho'] = None; sys.argv = ['mqtt.py', 'x', '--to', '127.0.0.1', '--me', "
-                          f"{ME!r}, '--broker', 'h']; runpy.run_path({os.path.join(TOOLS, 'mqtt.py')!r}, run_name='__main__')"], capture_output=True, text=True, timeout=60)
+    without = (f"import sys, runpy; sys.modules['paho'] = None; sys.argv = ['mqtt.py', 'x', '--to', '127.0.0.1', '--me', {ME!r}, '--broker', 'h']; "
+               f"runpy.run_path({os.path.join(TOOLS, 'mqtt.py')!r}, run_name='__main__')")
+    out = subprocess.run([sys.executable, "-c", without], capture_output=True, text=True, timeout=60)
     see(out.returncode == 4 and "python3-paho-mqtt" in out.stderr and len(out.stderr.splitlines()) == 1, f"without the library: {out.stderr}")
     python = interpreter()
     if python is None:
