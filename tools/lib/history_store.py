@@ -147,8 +147,8 @@ class Store:
             cursor = self.base.cursor()
             cursor.execute("SELECT count(*) FROM (SELECT id, net, port, name, type FROM symbol LIMIT 1) s, (SELECT count(*) FROM gap) g")
         except self.faults as fault:
-            away = isinstance(fault, self.faults) and self.is_away(fault)
-            raise Ended(f"{self.where} {'can not be read: ' + told(fault) if away else NO_HISTORY}", BROKEN) from None
+            why = f"can't be read: {told(fault)}" if self.is_away(fault) else NO_HISTORY
+            raise Ended(f"{self.where} {why}", BROKEN) from None
         return self
 
     def listed(self):
