@@ -93,6 +93,9 @@ class FakePlant:
                     del peer.notes[number]
                     peer.note(struct.pack("<IIQIII", 24, 1, EPOCH + time.time_ns() // 100, 1, number, 0))
 
+    def kinds(self):
+        return {name: own[0] for name, own in self.symbols.items()}
+
     def come(self):
         self.listener = socket.create_server(("127.0.0.1", self.port), reuse_port=False)
         self.port = self.listener.getsockname()[1]

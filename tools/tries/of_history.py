@@ -3,6 +3,7 @@ import contextlib
 import os
 import signal
 import sqlite3
+import struct
 import subprocess
 import sys
 import tempfile
@@ -10,6 +11,7 @@ import threading
 import time
 
 from lib import history_store
+from lib.flow_layout import Layout
 from lib.flow_session import Session
 from lib.history_record import Recorder
 from lib.history_sqlite import SqliteStore
@@ -82,6 +84,9 @@ def comes_and_goes(folder):
         plant.describe({**{name: kind for name, kind in names.items() if name != "GVL.v7"}, "GVL.v8": "LREAL", "Main.new": "DINT"})
         it.until(lambda: "main.new" in it.recorder.session.items, "the new description")
         it.all_known(120)
+        plant.describe({**plant.kinds(), "Main.more": "LREAL"})
+        it.until(lambda: "main.more" in it.recorder.session.items, "a description that has one name more")
+        it.all_known(121)
         with contextlib.closing(sqlite3.connect(path, isolation_level=None)) as other:
             other.execute("BEGIN IMMEDIATE")
             time.sleep(0.7)
@@ -131,6 +136,22 @@ def still(folder):
     history, runs = of_sqlite(path)
     rows = history["GVL.v", "DINT"][0]
     see(rows and runs[-1][0] >= rows[-1][0], f"{rows} {runs}")
+
+
+def layouts():
+    """A notification is read whole only where it has the names, sizes and stamps of the layout."""
+    class Known:
+        size, plain = 4, "DINT"
+    class Item:
+        known, own = Known, 7
+    def given(numbers, stamps=1, size=4):
+        body = struct.pack("<IQI", stamps, 1000, len(numbers)) + b"".join(struct.pack("<III", number, size, 5) for number in numbers)
+        return struct.pack("<I", len(body)) + body
+    items = [type("Own", (Item,), {"number": number})() for number in (1, 2, 3)]
+    layout = Layout(given((1, 2, 3)), [(item, bytes(4)) for item in items])
+    see(layout.moment(given((1, 2, 3))) == 1000 and layout.columns(given((1, 2, 3))) == ((5, 5, 5), (b"\5\0\0\0",) * 3), "a notification of the layout")
+    for other in (given((1, 3, 2)), given((1, 2, 4)), given((1, 2, 3), 2), given((1, 2, 3), 1, 5)):
+        see(layout.moment(other) is None, f"a notification of another layout is taken for it: {other.hex()}")
 
 
 def many_connections():
@@ -235,6 +256,7 @@ def tried(program):
         samples = comes_and_goes(folder)
         path = killed(folder)
         still(folder)
+        layouts()
         many_connections()
         comes_out(folder, path)
         kept(path)
