@@ -193,8 +193,9 @@ def server_goes(store, r, times):
 def hostile(store, folder):
     """Names that a shell, a spreadsheet, a statement or a topic would stumble over."""
     where = store.fresh()
-    with FakePlant({name: "DINT" for name in HOSTILE}) as plant:
+    with FakePlant({name: "DINT" for name in [*HOSTILE, "L" * 3000]}) as plant:
         it = recorder(plant, where, names=("*",))
+        see("more than 1000 characters" in it.stderr.readline(), "nothing is said of a name of 3,000 letters")
         begun(it)
         time.sleep(2)
         ended(it, "the recorder")

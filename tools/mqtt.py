@@ -33,6 +33,7 @@ from lib.link import Refused, host_of  # noqa: E402
 from lib.mqtt_broker import Broker  # noqa: E402
 from lib.mqtt_words import bytes_of, level, line, value_line  # noqa: E402
 from lib.payloads import Request  # noqa: E402
+from lib.shown import told  # noqa: E402
 from lib.type_texts import lower  # noqa: E402
 from lib.values import NoValue  # noqa: E402
 from lib.words import Ended, number, run  # noqa: E402
@@ -71,7 +72,7 @@ class Bridge:
         self.tell("missing", tuple(words), f"not there now: {', '.join(words[:5])}{' ..' if len(words) > 5 else ''}" if words else None)
 
     def refused(self, known, why):
-        self.tell(known.name, why, f"{known.name} is not published: {why}")
+        self.tell(known.name, why, f"{told(known.name)} is not published: {why}")
 
     def tell(self, about, what, text):
         if self.said.get(about) != what:

@@ -16,7 +16,7 @@ from lib.words import Ended
 
 MODES = {"cycle": 3, "change": 4}
 # A server of ours has 512 notifications and 4,096 handles a connection, and 64 connections; a TwinCAT system has 550 notifications a client and more.
-EACH, STREAMS, BEAT, LIKELY = 480, 60, 10000000, 32
+EACH, STREAMS, BEAT, LIKELY, MOST_NAME = 480, 60, 10000000, 32, 1000
 NONE_LEFT, STALE = 0x716, 0x711
 # A moment of ADS counts 100 ns from 1601; a stamp here counts nanoseconds from 1970.
 EPOCH, LAST = 116444736000000000, 2 ** 63 // 100
@@ -113,7 +113,7 @@ class Session:
             self.release(stream)
         self.bad = self.bad if before == self.version else {}
         found, missing = wanted(self.streams[0], self.port, self.words)
-        fresh = [known for key, known in found.items() if key not in self.items and key not in self.bad]
+        fresh = [known for key, known in found.items() if key not in self.items and key not in self.bad and self.fits(key, known)]
         granted = [(stream, known, handle) for stream, knowns in self.placed(fresh) for known, handle in self.handles(stream, knowns)]
         if self.version_of() != before:
             for stream, _, handle in granted:
@@ -127,6 +127,14 @@ class Session:
         self.add(granted)
         self.sink.missing(missing)
         return True
+
+    def fits(self, key, known):
+        """Whether a name may stand in an index of a database, and a topic; who tells a longer one tells no plant."""
+        if max(len(known.name), len(known.type)) <= MOST_NAME:
+            return True
+        self.bad[key] = 0
+        self.sink.refused(known, f"its name or its type has more than {MOST_NAME} characters")
+        return False
 
     def placed(self, knowns):
         """Which names go over which connection."""
@@ -217,8 +225,8 @@ class Session:
         layout = stream.layouts.get(len(payload))
         moment = layout and layout.moment(payload)
         if moment:
-            stream.seen = moment
-            self.sink.frame(unix_ns(moment), layout, payload)
+            ns, stream.seen = unix_ns(moment), moment
+            self.sink.frame(ns, layout, payload)
             return
         for moment, samples in stamps_in(payload):
             ns, pairs = unix_ns(moment), []

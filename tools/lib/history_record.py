@@ -4,6 +4,7 @@ import time
 
 from lib.flow_session import Session, unix_ns
 from lib.history_writer import Job
+from lib.shown import told
 from lib.words import Ended
 
 FLUSH, MOST_ROWS, AGAIN, KEEP_EACH, BEAT, DAY = 0.5, 100000, 1.0, 30.0, 10 ** 9, 86400 * 10 ** 9
@@ -50,7 +51,7 @@ class Recorder:
         self.tell("missing", tuple(words), f"not there now: {', '.join(words[:5])}{' ..' if len(words) > 5 else ''}" if words else None)
 
     def refused(self, known, why):
-        self.tell(known.name, why, f"{known.name} is not recorded: {why}")
+        self.tell(known.name, why, f"{told(known.name)} is not recorded: {why}")
 
     def tell(self, about, what, line):
         """A line, where there is something else to say than last time."""

@@ -72,7 +72,7 @@ class FakePlant:
 
     def __init__(self, names, port=0, most=512, still=False):
         self.lock, self.peers, self.tick, self.version, self.most, self.still, self.done = threading.Lock(), [], 0, 1, most, still, False
-        self.written, self.port, self.listener, self.values = [], port, None, {}
+        self.written, self.port, self.listener, self.values, self.skew = [], port, None, {}, 0
         self.describe(names, False)
         self.come()
         threading.Thread(target=self.run, daemon=True).start()
@@ -132,7 +132,7 @@ class FakePlant:
         while not self.done:
             with self.lock:
                 self.tick += 1
-                now = EPOCH + time.time_ns() // 100
+                now = EPOCH + time.time_ns() // 100 + self.skew
                 self.peers = [peer for peer in self.peers if peer.alive]
                 for peer in self.peers:
                     peer.due(self.tick, now)

@@ -133,6 +133,10 @@ def still(folder):
         it.until(lambda: (it.recorder.until or 0) > 0 and it.recorder.told and it.recorder.session.streams[0].beat, "a beat")
         first = it.recorder.until
         it.until(lambda: it.recorder.until > first + 10 ** 9, "the next beat")
+        plant.skew = 2 ** 62
+        it.until(lambda: any("is not from 1970 to 2262" in line for line in it.said), "a moment that is no date")
+        plant.skew = 0
+        it.until(lambda: it.said[-1] == "recording 1 names", "the server again")
     history, runs = of_sqlite(path)
     rows = history["GVL.v", "DINT"][0]
     see(rows and runs[-1][0] >= rows[-1][0], f"{rows} {runs}")
