@@ -5,7 +5,7 @@
 #     bench/services.sh stop FOLDER [postgres] [mosquitto] [prometheus]     # ends them; without a name all that run
 #     bench/services.sh again FOLDER NAME                                   # starts one again that was ended, on the port it had, over what it kept
 #
-# They are Debian's: apt-get update && apt-get install -y postgresql mosquitto mosquitto-clients prometheus python3-psycopg2 python3-paho-mqtt
+# They are Debian's: apt-get update && apt-get install -y postgresql mosquitto mosquitto-clients prometheus python3-psycopg python3-paho-mqtt
 # The Python packages serve /usr/bin/python3. PostgreSQL runs as the user postgres where root starts it, since it refuses root. prometheus scrapes what
 # FOLDER/prometheus.yml says, or examples/prometheus.yml where that is not there.
 set -u

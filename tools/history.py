@@ -16,7 +16,7 @@ database is away (1000000).
 
 T is a moment, 2026-11-29T15:00:00 or 2026-11-29, in UTC. `import` takes files of `ads record`; the description says the types of its names.
 
-PostgreSQL needs Debian's package python3-psycopg2 or python3-psycopg, which serve /usr/bin/python3.
+PostgreSQL needs Debian's package python3-psycopg or python3-psycopg2, which serve /usr/bin/python3.
 
 The status is 0, or 1 wrong words, 2 no such symbol in the history, 4 a file can't be read or written, 16 the database can't be opened, or takes no history.
 Where `record` ends before it has a sample, its status is that of what hindered it: 6 not reached, 8 refused, 9 no ADS, 11 no answer in time.

@@ -1,5 +1,6 @@
-"""A history in a PostgreSQL database, by COPY."""
-import io
+"""A history in a PostgreSQL database: by COPY with psycopg. Where the database ends in the middle of a COPY psycopg2 prints faults of its own, so with it arrays
+are inserted."""
+import operator
 
 from lib.history_store import BROKEN, Store
 from lib.words import Ended
@@ -16,19 +17,19 @@ CREATE TABLE IF NOT EXISTS run (id integer PRIMARY KEY, net text NOT NULL, port 
 CREATE OR REPLACE VIEW history AS SELECT to_timestamp(unix_ns / 1000000000.0) AS time, name, type, value, text, bytes, unix_ns, symbol, net, port
                                   FROM sample JOIN symbol ON symbol.id = sample.symbol;
 """
-ABSENT = ("PostgreSQL needs Debian's package python3-psycopg2 (or python3-psycopg), which serves /usr/bin/python3: "
-          "apt-get install python3-psycopg2, then /usr/bin/python3 tools/history.py ..")
+ABSENT = ("PostgreSQL needs Debian's package python3-psycopg (or python3-psycopg2), which serves /usr/bin/python3: "
+          "apt-get install python3-psycopg, then /usr/bin/python3 tools/history.py ..")
 
 
 def driver():
-    """psycopg2, or psycopg: whichever is there."""
+    """psycopg, or psycopg2: whichever is there."""
     try:
-        import psycopg2
-        return psycopg2
+        import psycopg
+        return psycopg
     except ImportError:
         try:
-            import psycopg
-            return psycopg
+            import psycopg2
+            return psycopg2
         except ImportError:
             raise Ended(ABSENT, 4) from None
 
@@ -84,13 +85,16 @@ class PostgresStore(Store):
     def put_rows(self, cursor, rows):
         if not rows:
             return
+        rows.sort(key=operator.itemgetter(0))
+        if self.driver.__name__ == "psycopg2":
+            symbols, moments, values, datas = zip(*rows)
+            cursor.execute("INSERT INTO sample SELECT * FROM unnest(%s::integer[], %s::bigint[], %s::double precision[], %s::text[], %s::bytea[])", (
+                array(map(str, symbols)), array(map(str, moments)), array("NULL" if it is None or isinstance(it, str) else str(+it) for it in values),
+                array(quoted(it) if isinstance(it, str) else "NULL" for it in values), array(f'"\\\\x{it.hex()}"' for it in datas)))
+            return
         lines = "".join([f"{symbol}\t{ns}\t{column(value)}\t\\\\x{data.hex()}\n" for symbol, ns, value, data in rows])
-        statement = "COPY sample (symbol, unix_ns, value, text, bytes) FROM STDIN"
-        if hasattr(cursor, "copy_expert"):
-            cursor.copy_expert(statement, io.StringIO(lines))
-        else:
-            with cursor.copy(statement) as copy:
-                copy.write(lines)
+        with cursor.copy("COPY sample (symbol, unix_ns, value, text, bytes) FROM STDIN") as copy:
+            copy.write(lines)
 
     def samples(self, symbol, since, until):
         cursor = self.base.cursor(name="samples")
@@ -100,6 +104,14 @@ class PostgresStore(Store):
         for ns, value, text, data in cursor:
             yield ns, value, text, bytes(data)
         cursor.close()
+
+
+def array(elements):
+    return "{" + ",".join(elements) + "}"
+
+
+def quoted(text):
+    return '"' + text.replace("\\", "\\\\").replace('"', '\\"') + '"'
 
 
 def column(value):

@@ -6,12 +6,15 @@ import time
 from lib.history_store import Away, Batch
 from lib.words import Ended
 
-TRY_AGAIN = 0.5
+TRY_AGAIN, MOST_ROWS = 0.5, 100000
 
 
 class Job:
-    def __init__(self, action, rows=0):
-        self.action, self.rows, self.found, self.fault, self.done = action, rows, None, None, threading.Event()
+    """What the thread is to do: an action of the store, or a batch that it writes."""
+
+    def __init__(self, action, batch=None):
+        self.action, self.batch, self.rows = action, batch, len(batch.rows) if batch else 0
+        self.found, self.fault, self.done = None, None, threading.Event()
 
 
 class Writer(threading.Thread):
@@ -25,8 +28,7 @@ class Writer(threading.Thread):
     def put(self, rows, gaps, until):
         """A batch that is to be written."""
         self.number += 1
-        batch = Batch(self.number, rows, gaps, until)
-        self.add(Job(lambda: self.store.write(batch), len(rows)))
+        self.add(Job(None, Batch(self.number, rows, gaps, until)))
 
     def call(self, action):
         """What an action of the store gives, behind the batches that wait; it waits for that, unless the tool is to end while the database is away."""
@@ -54,18 +56,25 @@ class Writer(threading.Thread):
                     self.ready.wait()
                 if not self.jobs:
                     return
-                job = self.jobs[0]
+                job = self.taken()
             try:
-                job.found = self.tried(job.action)
+                job.found = self.tried(job.action or (lambda batch=job.batch: self.store.write(batch)))
             except BaseException as fault:
-                self.give_up(fault if isinstance(fault, Ended) else Ended(f"{self.store.where}: {type(fault).__name__}: {fault}", 16))
+                self.give_up(job, fault if isinstance(fault, Ended) else Ended(f"{self.store.where}: {type(fault).__name__}: {fault}", 16))
                 return
             with self.ready:
-                self.jobs.popleft()
                 self.held -= job.rows
                 self.written += job.rows
                 self.ready.notify_all()
             job.done.set()
+
+    def taken(self):
+        """The next job; batches that wait are one, so that what was held is written in few transactions."""
+        job = self.jobs.popleft()
+        while job.batch and self.jobs and self.jobs[0].batch and job.rows + self.jobs[0].rows <= MOST_ROWS:
+            first, second = job.batch, self.jobs.popleft().batch
+            job = Job(None, Batch(second.number, first.rows + second.rows, first.gaps + second.gaps, second.until or first.until))
+        return job
 
     def tried(self, action):
         """An action, again and again while the database is away; an Ended where there is no more time."""
@@ -84,9 +93,9 @@ class Writer(threading.Thread):
                     raise Ended(f"{self.store.where}: {away}; {self.held} samples were not written", 16) from None
                 time.sleep(TRY_AGAIN)
 
-    def give_up(self, fault):
+    def give_up(self, job, fault):
         with self.ready:
-            self.broken, left = fault, list(self.jobs)
+            self.broken, left = fault, [job, *self.jobs]
             self.jobs.clear()
             self.ready.notify_all()
         for job in left:

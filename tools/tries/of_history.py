@@ -247,7 +247,7 @@ def no_history(folder):
     without = ("import sys, runpy; sys.modules['psycopg2'] = sys.modules['psycopg'] = None; sys.argv = ['history.py', 'export', 'x', '--postgres', "
                f"'postgresql://u:secret@h/d']; runpy.run_path({os.path.join(TOOLS, 'history.py')!r}, run_name='__main__')")
     out = subprocess.run([sys.executable, "-c", without], capture_output=True, text=True, timeout=60)
-    see(out.returncode == 4 and "python3-psycopg2" in out.stderr and len(out.stderr.splitlines()) == 1, f"without a driver: {out.stderr}")
+    see(out.returncode == 4 and "python3-psycopg" in out.stderr and len(out.stderr.splitlines()) == 1, f"without a driver: {out.stderr}")
     for answer, part in ((lambda frame: b"\1\0\0\0\0\0", "does not speak ADS"), (lambda frame: None, "one of its routes"),
                          (told({0xF008: b"\1", 0xF00F: b"\xff" * 24}), "more than"), (told({0xF008: b"\1\2"}), "were asked for")):
         with Fake(answer) as liar, Running(os.path.join(folder, f"{part}.db"), liar.to, ["*"]) as it:
