@@ -3,8 +3,8 @@
 
     python3 tools/try.py --quick [PROGRAM]
 
-PROGRAM is crates/ads/out/ads unless it is named. `--seed N` and `--damaged N` are the seed of the damaged descriptions over which why.py is compared with
-`check` (1), and how many there are (1000). `--only NAME` tries one of why, frames, describe, deploy, history, mqtt.
+PROGRAM is crates/ads/out/ads unless it is named. `--quick` is what the gate runs: fewer random inputs and damaged files, in at most three minutes.
+`--seed N` is the seed of random inputs (1). `--only NAME` tries one tool.
 """
 import concurrent.futures
 import os
@@ -14,11 +14,11 @@ import time
 sys.path.insert(0, os.path.dirname(os.path.abspath(__file__)))
 from lib.program import program_at  # noqa: E402
 from lib.words import Ended, number, read_words, run  # noqa: E402
-from tries import of_deploy, of_describe, of_frames, of_history, of_mqtt, of_why  # noqa: E402
-from tries.running import Wrong  # noqa: E402
+from tries import of_deploy, of_describe, of_dial, of_frames, of_history, of_mqtt, of_program, of_why  # noqa: E402
+from tries.running import Size, Wrong, looks  # noqa: E402
 
-
-TRIES = {"why": of_why.tried, "frames": of_frames.tried, "describe": of_describe.tried, "deploy": of_deploy.tried,
+# Each takes the program and a Size.
+TRIES = {"program": of_program.tried, "why": of_why.tried, "frames": of_frames.tried, "describe": of_describe.tried, "deploy": of_deploy.tried, "dial": of_dial.tried,
          "history": of_history.tried, "mqtt": of_mqtt.tried}
 
 

@@ -1,4 +1,7 @@
-"""A history in a PostgreSQL database, by COPY. Where the database ends in the middle of one, psycopg2 prints lines of its own; so psycopg is taken where both are."""
+"""A history in a PostgreSQL database, by COPY.
+
+Where the database ends in the middle of a COPY, psycopg2 prints lines of its own; so psycopg is taken where both are there.
+"""
 import io
 import operator
 

@@ -44,9 +44,9 @@ class Running:
 
     def until(self, holds, what, seconds=30):
         end = time.monotonic() + seconds
-        while not holds():
-            see(time.monotonic() < end and not self.fault, f"{what}: not within {seconds} s; said {self.said}, {self.fault!r}")
+        while not holds() and time.monotonic() < end and not self.fault:
             time.sleep(0.02)
+        see(holds() and not self.fault, f"{what}: not within {seconds} s; said {self.said}, {self.fault!r}")
 
     def wrote(self, count):
         before = self.writer.written
@@ -255,7 +255,7 @@ def no_history(folder):
     return "ok"
 
 
-def tried(program):
+def tried(program, _size):
     with tempfile.TemporaryDirectory() as folder:
         samples = comes_and_goes(folder)
         path = killed(folder)
