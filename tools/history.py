@@ -1,7 +1,7 @@
 #!/usr/bin/env python3
 """A history of a plant: records the values of any number of names without end, and exports, draws and takes in what was recorded.
 
-    python3 tools/history.py record NAME.. --to HOST[:PORT] --me NETID --sqlite FILE
+    python3 tools/history.py record Main.count 'GVL.*' --to 127.0.0.1:48898 --netid 5.1.2.3.1.1 --me 192.168.0.9.1.1 --sqlite plant.db
 
 records each value of these names, parts (`Main.axis[2].pos`) and patterns (`'GVL.*'`) into an SQLite file, or with `--postgres URL` into a database. It goes
 on until it is ended (Ctrl-C, kill), comes again after the server or the database was gone, and marks each stretch of which nothing is known as a gap.

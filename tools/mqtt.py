@@ -1,7 +1,7 @@
 #!/usr/bin/env python3
 """Values of a plant on an MQTT broker, and values from the broker set in the plant. For whoever has dashboards, Node-RED or Home Assistant on a broker.
 
-    python3 tools/mqtt.py NAME.. --to HOST[:PORT] --me NETID --broker HOST[:PORT]
+    /usr/bin/python3 tools/mqtt.py 'Main.*' --to 127.0.0.1:48898 --netid 5.1.2.3.1.1 --me 192.168.0.9.1.1 --broker 127.0.0.1:1883
 
 publishes each of these names, parts (`Main.axis[2].pos`) and patterns (`'GVL.*'`) under PLANT/PORT/NAME: JSON with value, type and time, retained, where it
 changes, or with `--period S` each S seconds. PLANT is the NetId of the server, or what `--plant` says; PORT is its AMS port (`--port`, 851). `--netid` is

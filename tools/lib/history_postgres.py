@@ -1,5 +1,8 @@
-"""A history in a PostgreSQL database: by COPY with psycopg. Where the database ends in the middle of a COPY psycopg2 prints faults of its own, so with it arrays
-are inserted."""
+"""A history in a PostgreSQL database, by COPY.
+
+Where the database ends in the middle of a COPY, psycopg2 prints lines of its own; so psycopg is taken where both are there.
+"""
+import io
 import operator
 
 from lib.history_store import BROKEN, Store
@@ -86,15 +89,13 @@ class PostgresStore(Store):
         if not rows:
             return
         rows.sort(key=operator.itemgetter(0))
-        if self.driver.__name__ == "psycopg2":
-            symbols, moments, values, datas = zip(*rows)
-            cursor.execute("INSERT INTO sample SELECT * FROM unnest(%s::integer[], %s::bigint[], %s::double precision[], %s::text[], %s::bytea[])", (
-                array(map(str, symbols)), array(map(str, moments)), array("NULL" if it is None or isinstance(it, str) else str(+it) for it in values),
-                array(quoted(it) if isinstance(it, str) else "NULL" for it in values), array(f'"\\\\x{it.hex()}"' for it in datas)))
-            return
         lines = "".join([f"{symbol}\t{ns}\t{column(value)}\t\\\\x{data.hex()}\n" for symbol, ns, value, data in rows])
-        with cursor.copy("COPY sample (symbol, unix_ns, value, text, bytes) FROM STDIN") as copy:
-            copy.write(lines)
+        statement = "COPY sample (symbol, unix_ns, value, text, bytes) FROM STDIN"
+        if hasattr(cursor, "copy_expert"):
+            cursor.copy_expert(statement, io.StringIO(lines), len(lines) + 1)
+        else:
+            with cursor.copy(statement) as copy:
+                copy.write(lines)
 
     def samples(self, symbol, since, until):
         cursor = self.base.cursor(name="samples")
@@ -104,14 +105,6 @@ class PostgresStore(Store):
         for ns, value, text, data in cursor:
             yield ns, value, text, bytes(data)
         cursor.close()
-
-
-def array(elements):
-    return "{" + ",".join(elements) + "}"
-
-
-def quoted(text):
-    return '"' + text.replace("\\", "\\\\").replace('"', '\\"') + '"'
 
 
 def column(value):

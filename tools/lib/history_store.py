@@ -85,15 +85,15 @@ class Store:
         return self.doing(self.numbered, net, port, knowns)
 
     def numbered(self, cursor, net, port, knowns):
-        found = []
+        found, asked = [], self.q("SELECT id FROM symbol WHERE net = ? AND port = ? AND name = ? AND type = ?")
         for name, kind, size in knowns:
-            cursor.execute(self.q("SELECT id FROM symbol WHERE net = ? AND port = ? AND name = ? AND type = ?"), (net, port, name, kind))
+            cursor.execute(asked, (net, port, name, kind))
             row = cursor.fetchone()
             if row:
                 cursor.execute(self.q("UPDATE symbol SET run = ? WHERE id = ?"), (self.run, row[0]))
             else:
-                cursor.execute(self.q("INSERT INTO symbol (net, port, name, type, size, run) VALUES (?, ?, ?, ?, ?, ?) RETURNING id"),
-                               (net, port, name, kind, size, self.run))
+                cursor.execute(self.q("INSERT INTO symbol (net, port, name, type, size, run) VALUES (?, ?, ?, ?, ?, ?)"), (net, port, name, kind, size, self.run))
+                cursor.execute(asked, (net, port, name, kind))
                 row = cursor.fetchone()
             found.append(row[0])
         return found

@@ -32,17 +32,25 @@ def counted(kind, data):
 
 def sound(history, kinds=("DINT", "UDINT", "LREAL", "REAL", "ULINT")):
     """Sees that nothing is lost or there twice but where a gap says so; gives how many samples and gaps there are."""
-    samples = gaps = 0
     for (name, kind), (rows, holes) in history.items():
-        see(len([1 for _, end, _ in holes if end is None]) <= 1, f"{name}: two open gaps: {holes}")
-        for ns, value, data in rows:
-            see(kind not in kinds or value == counted(kind, data), f"{name} at {ns}: value {value!r}, bytes {data.hex()}")
-        for (ns, _, one), (after, _, two) in zip(rows, rows[1:]):
-            see(ns < after, f"{name}: two samples of {ns}")
-            marked = any(ns <= start < after and end == after for start, end, _ in holes)
-            see(marked or kind not in kinds or counted(kind, two) == number_at(kind, counted(kind, one) + 1),
-                f"{name}: {one.hex()} and then {two.hex()}, with no gap from {ns} to {after}: {holes}")
-        for start, end, why in holes:
-            see(not any(start < ns and (end is None or ns < end) for ns, _, _ in rows), f"{name}: a sample in the gap {start} to {end} ({why})")
-        samples, gaps = samples + len(rows), gaps + len(holes)
-    return samples, gaps
+        fault = next(faults(kind if kind in kinds else None, rows, holes), None)
+        see(fault is None, f"{name}: {fault}")
+    return sum(len(rows) for rows, _ in history.values()), sum(len(holes) for _, holes in history.values())
+
+
+def faults(kind, rows, holes):
+    """What is wrong with the samples and the gaps of a symbol, whose values count where its kind is given."""
+    if len([1 for _, end, _ in holes if end is None]) > 1:
+        yield f"two open gaps: {holes}"
+    for ns, value, data in rows:
+        if kind and value != counted(kind, data):
+            yield f"at {ns} the value {value!r}, and the bytes {data.hex()}"
+    for (ns, _, one), (after, _, two) in zip(rows, rows[1:]):
+        if ns >= after:
+            yield f"two samples of {ns}"
+        marked = any(ns <= start < after and end == after for start, end, _ in holes)
+        if kind and not marked and counted(kind, two) != number_at(kind, counted(kind, one) + 1):
+            yield f"{one.hex()} and then {two.hex()}, with no gap from {ns} to {after}: {holes}"
+    for start, end, why in holes:
+        if any(start < ns and (end is None or ns < end) for ns, _, _ in rows):
+            yield f"a sample in the gap {start} to {end} ({why})"

@@ -44,9 +44,9 @@ class Running:
 
     def until(self, holds, what, seconds=30):
         end = time.monotonic() + seconds
-        while not holds():
-            see(time.monotonic() < end and not self.fault, f"{what}: not within {seconds} s; said {self.said}, {self.fault!r}")
+        while not holds() and time.monotonic() < end and not self.fault:
             time.sleep(0.02)
+        see(holds() and not self.fault, f"{what}: not within {seconds} s; said {self.said}, {self.fault!r}")
 
     def wrote(self, count):
         before = self.writer.written
@@ -183,7 +183,13 @@ def kept(path):
     while store.keep(moment):
         turns += 1
     history_store.AT_ONCE = 20000
+    twice, = store.symbols(NET, 851, [("twice", "DINT", 4)])
+    for number, value in ((1, 5), (2, 6), (2, 7)):
+        store.unsure = number == 2
+        store.write(history_store.Batch(number, [(twice, moment, value, bytes(4)), (twice, moment, value, bytes(4))], [], moment))
     after, _ = of_sqlite(path)
+    came = [value for _, value, _ in after["twice", "DINT"][0]]
+    see(came == [5, 5, 6, 6], f"samples of one moment, and a batch whose end was not heard, come to {came}")
     for key, (rows, _) in before.items():
         see(after[key][0] == [row for row in rows if row[0] >= moment], f"{key}: other samples are left than those from {moment} on")
     left = [hole for _, holes in after.values() for hole in holes if hole[1] is not None and hole[1] < moment]
@@ -255,7 +261,7 @@ def no_history(folder):
     return "ok"
 
 
-def tried(program):
+def tried(program, _size):
     with tempfile.TemporaryDirectory() as folder:
         samples = comes_and_goes(folder)
         path = killed(folder)

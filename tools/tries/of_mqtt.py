@@ -61,9 +61,9 @@ class Bridge:
 
     def until(self, holds, what, seconds=30):
         end = time.monotonic() + seconds
-        while not holds():
-            see(time.monotonic() < end and self.process.poll() is None, f"{what}: not within {seconds} s; the topics: {self.broker.retained}")
+        while not holds() and time.monotonic() < end and self.process.poll() is None:
             time.sleep(0.02)
+        see(holds(), f"{what}: not within {seconds} s; the topics: {self.broker.retained}")
 
     def value(self, name, value):
         self.until(lambda: json.loads(self.broker.retained.get(f"{HEAD}/{name}", b"{}")).get("value") == value, f"{name} is {value}")
@@ -140,7 +140,7 @@ def over(python):
         killed.process.kill()
 
 
-def tried(_program):
+def tried(_program, _size):
     words_of_values()
     refused(1, "--broker", "mqtt.py", "x", "--to", "127.0.0.1", "--me", ME)
     refused(1, "--period is a number", "mqtt.py", "x", "--to", "127.0.0.1", "--me", ME, "--broker", "h", "--period", "0")
