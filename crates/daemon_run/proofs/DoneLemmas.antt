@@ -63,7 +63,7 @@ status_in v = status.Usage
 
 ended_not_done : (t : Status) → (t ≡ status.Done → ⊥) → IsNotDone (ended t)
 unfolding status_in
-ended_not_done t no = λ e same is. no (sym (ap status_in same) ∙ is)
+ended_not_done t never = λ e same is. never (sym (ap status_in same) ∙ is)
 
 serves_not_done : (x : Service) → IsNotDone (Serves x)
 unfolding status_in
