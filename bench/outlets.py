@@ -366,6 +366,7 @@ def main():
     given = given.parse_args()
     Store.driver = given.driver
     bad, r = False, random.Random(given.seed)
+    signal.signal(signal.SIGTERM, lambda *_: sys.exit(143))
     with tempfile.TemporaryDirectory(prefix="outlets") as folder:
         folder = pathlib.Path(folder)
         try:
