@@ -113,11 +113,13 @@ def plant_of(count):
 
 
 def killed(store, r, times):
-    """The recorder is killed at random moments, with the server going on."""
+    """The recorder is killed at random moments, half of them behind its beginning, with the server going on."""
     where, whys = store.fresh(), {}
     with plant_of(100) as plant:
-        for _ in range(times):
+        for turn in range(times):
             it = recorder(plant, where)
+            if turn % 2:
+                begun(it)
             time.sleep(r.uniform(0.3, 2.5))
             it.kill()
             it.communicate()
@@ -364,6 +366,7 @@ def main():
     given = given.parse_args()
     Store.driver = given.driver
     bad, r = False, random.Random(given.seed)
+    signal.signal(signal.SIGTERM, lambda *_: sys.exit(143))
     with tempfile.TemporaryDirectory(prefix="outlets") as folder:
         folder = pathlib.Path(folder)
         try:

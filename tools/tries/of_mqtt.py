@@ -54,22 +54,25 @@ def words_of_values():
 
 
 class Bridge:
+    started = []
+
     def __init__(self, python, plant, broker, *words):
         self.process = subprocess.Popen([python, os.path.join(TOOLS, "mqtt.py"), "*", "--to", plant.to, "--netid", NET, "--me", ME, "--set", "--cycle", "0",
                                          "--broker", f"127.0.0.1:{broker.port}", "--plant", "rig", *words], stdout=subprocess.DEVNULL, stderr=subprocess.PIPE)
         self.broker = broker
+        self.started.append(self.process)
 
-    def until(self, holds, what, seconds=30):
+    def until(self, holds, what, lives=True, seconds=30):
         end = time.monotonic() + seconds
-        while not holds() and time.monotonic() < end and self.process.poll() is None:
+        while not holds() and time.monotonic() < end and (not lives or self.process.poll() is None):
             time.sleep(0.02)
         see(holds(), f"{what}: not within {seconds} s; the topics: {self.broker.retained}")
 
     def value(self, name, value):
         self.until(lambda: json.loads(self.broker.retained.get(f"{HEAD}/{name}", b"{}")).get("value") == value, f"{name} is {value}")
 
-    def state(self, word):
-        self.until(lambda: json.loads(self.broker.retained.get(HEAD, b"{}")).get("state") == word, f"the state is {word}")
+    def state(self, word, lives=True):
+        self.until(lambda: json.loads(self.broker.retained.get(HEAD, b"{}")).get("state") == word, f"the state is {word}", lives)
 
     def result(self, name, given, retain=False):
         """What becomes of a value that is sent to a name."""
@@ -129,15 +132,11 @@ def over(python):
         bridge.value("GVL.c", 0)
         bridge.until(lambda: f"{HEAD}/GVL.b" not in broker.retained, "the value of a name that is gone is gone")
         see(bridge.end() == 0, "the status of a bridge that is ended")
-        bridge.process = subprocess.Popen(["sleep", "60"])
-        bridge.state("offline")
-        bridge.process.kill()
+        bridge.state("offline", False)
         killed = Bridge(python, plant, broker)
         killed.state("online")
         killed.end(signal.SIGKILL)
-        killed.process = bridge.process = subprocess.Popen(["sleep", "60"])
-        killed.until(lambda: "failed" in json.loads(broker.retained[HEAD]).get("why", ""), "the last will")
-        killed.process.kill()
+        killed.until(lambda: "failed" in json.loads(broker.retained[HEAD]).get("why", ""), "the last will", False)
 
 
 def tried(_program, _size):
@@ -151,5 +150,9 @@ def tried(_program, _size):
     python = interpreter()
     if python is None:
         return "texts of values, and words; the library paho is not here, so no broker was played (apt-get install python3-paho-mqtt)"
-    over(python)
+    try:
+        over(python)
+    finally:
+        for process in Bridge.started:
+            process.kill()
     return "values out and back over a broker and a server that went and came, a new description, refusals, birth and last will"
