@@ -11,11 +11,11 @@ use std::alloc::Global;
 
 /// No call here has a history.
 #[derive(Drop)]
-pub struct Descriptions {}
+pub struct DescriptionCalls {}
 
-impl Libraries for Descriptions {
+impl Libraries for DescriptionCalls {
     fn new(_alloc: Global) -> Result<Self, NoMemory> {
-        Ok(Descriptions {})
+        Ok(DescriptionCalls {})
     }
 
     fn make(

@@ -8,5 +8,5 @@ use std::process::ExitCode;
 
 /// Ends with 0 where each case had its answer, 1 where one had not, and 2 where the cases could not be tried.
 fn main(rt: HostRuntime) -> ExitCode {
-    main_of::<calls::Descriptions, HostRuntime>(&rt)
+    main_of::<calls::DescriptionCalls, HostRuntime>(&rt)
 }
