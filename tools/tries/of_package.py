@@ -22,7 +22,8 @@ print(*sorted(int(it) for it in signal.pthread_sigmask(signal.SIG_BLOCK, [])))
 BAD_INSTALLS = [([], {}, 1, "the first word is PREFIX"), (["usr/local"], {}, 1, "begins with /"), (["/usr/../etc"], {}, 1, "no folder '..'"),
                 (["/a b"], {}, 1, "PREFIX has letters"), (["/a#b"], {}, 1, "PREFIX has letters"), (["/usr", "x"], {}, 1, "'x' is no address"),
                 (["/usr", "192.168.0.256"], {}, 1, "is no address"), (["/usr", "192.168.0"], {}, 1, "is no address"),
-                (["/usr", "1.2.3.4/33"], {}, 1, "is no address"), (["/usr", "192.168.0.9", ""], {}, 1, "'' is no address"), (["/usr", "1.2.3.4\nExecStart=x"], {}, 1, "is no address"),
+                (["/usr", "1.2.3.4/33"], {}, 1, "is no address"), (["/usr", "192.168.0.9", ""], {}, 1, "'' is no address"),
+                (["/usr", "1.2.3.4\nExecStart=x"], {}, 1, "is no address"),
                 (["/usr", "fd00::/129"], {}, 1, "is no address"), (["/usr"], {"PROGRAM": "/nowhere/ads"}, 4, "there is no program at /nowhere/ads"),
                 (["/usr"], {"DAEMON": PLANT}, 4, "there is no program at"), (["/usr"], {"DAEMON": EXAMPLES}, 4, "there is no program at")]
 BAD_PACKAGES = [([], {}, 1, "one word is wanted"), (["/tmp", "/tmp"], {}, 1, "one word is wanted"), (["/nowhere"], {}, 1, "/nowhere is no folder"),
