@@ -21,8 +21,9 @@ print(*sorted(int(it) for it in signal.pthread_sigmask(signal.SIG_BLOCK, [])))
 # What each script is given, with PROGRAM and DAEMON where they are other ones; its status, and a part of its sentence.
 BAD_INSTALLS = [([], {}, 1, "the first word is PREFIX"), (["usr/local"], {}, 1, "begins with /"), (["/usr/../etc"], {}, 1, "no folder '..'"),
                 (["/a b"], {}, 1, "PREFIX has letters"), (["/a#b"], {}, 1, "PREFIX has letters"), (["/usr", "x"], {}, 1, "'x' is no address"),
-                (["/usr", "192.168.0.256"], {}, 1, "is no address"), (["/usr", "192.168.0"], {}, 1, "is no address"), (["/usr", "1.2.3.4/33"], {}, 1, "is no address"),
-                (["/usr", "192.168.0.9", ""], {}, 1, "'' is no address"), (["/usr", "1.2.3.4\nExecStart=x"], {}, 1, "is no address"),
+                (["/usr", "192.168.0.256"], {}, 1, "is no address"), (["/usr", "192.168.0"], {}, 1, "is no address"),
+                (["/usr", "1.2.3.4/33"], {}, 1, "is no address"), (["/usr", "192.168.0.9", ""], {}, 1, "'' is no address"),
+                (["/usr", "1.2.3.4\nExecStart=x"], {}, 1, "is no address"),
                 (["/usr", "fd00::/129"], {}, 1, "is no address"), (["/usr"], {"PROGRAM": "/nowhere/ads"}, 4, "there is no program at /nowhere/ads"),
                 (["/usr"], {"DAEMON": PLANT}, 4, "there is no program at"), (["/usr"], {"DAEMON": EXAMPLES}, 4, "there is no program at")]
 BAD_PACKAGES = [([], {}, 1, "one word is wanted"), (["/tmp", "/tmp"], {}, 1, "one word is wanted"), (["/nowhere"], {}, 1, "/nowhere is no folder"),
@@ -148,9 +149,11 @@ def packages(folder, programs):
         members = whole.getmembers()
         see({re.sub("^[^/]*", ".", it.name): hashlib.sha256(whole.extractfile(it).read()).hexdigest() for it in members
              if it.isfile() and not it.name.endswith("/MANIFEST")} == wanted, "the .tar.gz has other files than the .deb")
-    see(all(it.uid == it.gid == 0 and it.mode in (0o755, 0o644) and (it.isdir() or it.isfile()) for it in members), "the .tar.gz has files that are not root's, or writable ones")
+    see(all(it.uid == it.gid == 0 and it.mode in (0o755, 0o644) and (it.isdir() or it.isfile()) for it in members),
+        "the .tar.gz has files that are not root's, or writable ones")
     listed = subprocess.run(["dpkg-deb", "-c", deb], capture_output=True, text=True, check=True).stdout.splitlines()
-    see(all(re.match(r"(drwxr-xr-x|-rwxr-xr-x|-rw-r--r--) root/root +\d+ \S+ \S+ \./(usr/\S*)?$", line) for line in listed), "the .deb has files outside of /usr, or not root's")
+    see(all(re.match(r"(drwxr-xr-x|-rwxr-xr-x|-rw-r--r--) root/root +\d+ \S+ \S+ \./(usr/\S*)?$", line) for line in listed),
+        "the .deb has files outside of /usr, or not root's")
     with gzip.open(f"{root}/usr/share/man/man1/adsd.1.gz", "rt") as page:
         see(page.readline().startswith(".Dd"), "the manual page is none")
     return len(wanted)
