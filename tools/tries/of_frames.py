@@ -14,7 +14,7 @@ BAD = [
     ("open 1\nread 1 0x4040:x:1", "is no number"),
     ("open 1\nwrite 1 Main.count x", "is no number from"),
     ("open 1\nwrite 1 Main.count 2147483648", "is no number from"),
-    ("open 1\nwrite 1 Main.title Mix", "in single quotes"),
+    ("open 1\nwrite 1 Main.title Mixtures", "in single quotes"),
     ("open 1\nwrite 1 Main.title 'Mixture1'", "at most 7 bytes"),
     ("open 1\nwrite 1 Main.axis 5", "16#"),
     ("open 1\nshout 1", "is no request"),

@@ -21,7 +21,7 @@ from tries.running import EXAMPLES, ME, PLANT, TOOLS, Served, refused, see, tool
 
 PAGE = os.path.join(TOOLS, "..", "docs", "PLANT.md")
 LINE = os.path.join(EXAMPLES, "line.toml")
-DATA, CASES = os.path.join(TOOLS, "tries", "data"), os.path.join(TOOLS, "..", "crates", "cases", "data")
+DATA, CASES = os.path.join(TOOLS, "tries", "data"), os.path.join(TOOLS, "..", "crates", "cases_description", "data")
 FILES = (("filling.tmc", "utf-8", ()), ("filling.tpy", "iso-8859-1", ("--offsets",)), ("filling.xml", "utf-8", ()))
 KINDS = {"filling.tmc": "TwinCAT 3 module class", "filling.tpy": "TwinCAT 2 project", "filling.xml": "PLCopen XML export"}
 VALUES = {
