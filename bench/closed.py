@@ -126,12 +126,17 @@ class Heard:
         self.server.wait()
 
 
+def timeless(out):
+    """What is printed, without the moments of a recording and the values of the symbol that changes at each tick."""
+    return re.sub(rb"(?m)^(Main\.\w+ count \d+ last )\d+( 42)?.*$", rb"\1..\2", out)
+
+
 def as_open(closed, it, with_all, with_full):
     """A run with these descriptors closed ends and prints as it must."""
     status, out, err = it
     like = with_full if 1 in closed else with_all
     wanted("the status", status, like[0])
-    wanted("standard output", out, b"" if 1 in closed else like[1])
+    wanted("standard output", timeless(out), b"" if 1 in closed else timeless(like[1]))
     wanted("standard error", err, b"" if 2 in closed else like[2])
 
 
