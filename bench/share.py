@@ -1,0 +1,78 @@
+#!/usr/bin/env python3
+"""Gives the libraries that a run of `rt ci` proves to the checks in other clones on this machine, so that nobody proves them twice.
+
+    python3 bench/share.py CLONE      beside `rt ci` with no names in CLONE; it ends when all its libraries stand, or by Ctrl-C
+
+`rt check` takes the libraries below a crate from other clones' checks, and not from what `rt ci` made. This holds the lock under which a check builds each
+library of CLONE (so it waits, half an hour at most), and hands the library over as soon as the run has proved it. It changes nothing that a verdict rests on.
+A clone that has built the library itself keeps its own: remove crates/*/out/rlib there first.
+"""
+import fcntl
+import functools
+import glob
+import hashlib
+import json
+import os
+import sys
+import time
+
+KIT = os.path.dirname(os.path.dirname(os.path.realpath("/usr/local/bin/rt")))
+sys.path.insert(0, f"{KIT}/bin")
+import rtlib  # noqa: E402
+
+STORE = f"{os.path.dirname(KIT)}/rattle-kept"
+WORK = f"{STORE}/work"
+
+
+def libraries(clone):
+    os.chdir(clone)
+    # (a stamp is asked for by all that stand above it)
+    rtlib.Crate.stamp = functools.lru_cache(maxsize=None)(rtlib.Crate.stamp)
+    return [it for it in rtlib.crates_below(clone) if not it.is_program]
+
+
+def locked(crate):
+    """The lock of a library, held; None while another holds it."""
+    file = open(f"{WORK}/lock-{crate.stamp()[:32]}", "w")
+    try:
+        fcntl.flock(file, fcntl.LOCK_EX | fcntl.LOCK_NB)
+        return file
+    except BlockingIOError:
+        file.close()
+        return None
+
+
+def is_proved(crate):
+    return bool(glob.glob(f"{STORE}/proof-{crate.name}-*/made.json")) and os.path.exists(f"{crate.rlib}/format")
+
+
+def hand_over(crate):
+    with open(f"{crate.folder}/out/rlib/stamp", "w", encoding="utf-8") as file:
+        file.write(crate.stamp())
+    name = f"{WORK}/{crate.name}.{hashlib.sha256(crate.folder.encode()).hexdigest()[:16]}"
+    with open(f"{name}.new", "w", encoding="utf-8") as file:
+        json.dump({"folder": crate.folder, "stamp": crate.stamp()}, file)
+    os.replace(f"{name}.new", name)
+
+
+def main(clone):
+    os.makedirs(WORK, exist_ok=True)
+    left, locks = libraries(os.path.realpath(clone)), {}
+    while left:
+        for crate in list(left):
+            if is_proved(crate):
+                hand_over(crate)
+                left.remove(crate)
+                lock = locks.pop(crate.name, None)
+                if lock:
+                    lock.close()
+                print(f"{time.strftime('%H:%M:%S')} {crate.name}, {len(left)} left", flush=True)
+            elif locks.get(crate.name) is None:
+                locks[crate.name] = locked(crate)
+        time.sleep(1)
+
+
+if __name__ == "__main__":
+    if len(sys.argv) != 2 or sys.argv[1].startswith("-"):
+        sys.exit(__doc__)
+    main(sys.argv[1])
