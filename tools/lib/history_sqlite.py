@@ -48,6 +48,7 @@ class SqliteStore(Store):
             self.base = sqlite3.connect(f"file:{escaped(self.where)}?mode=ro", uri=True, timeout=5)
             self.base.execute("BEGIN")
             return
+        self.hold()
         self.base = sqlite3.connect(self.where, timeout=5, isolation_level=None, check_same_thread=False)
         mode = self.base.execute("PRAGMA journal_mode = WAL").fetchone()[0]
         if mode != "wal":
@@ -67,9 +68,16 @@ class SqliteStore(Store):
         cursor.execute("SELECT symbol, unix_ns, value, bytes, again FROM sample LIMIT 0")
 
     def lock(self, cursor):
-        """One recorder a file: the lock is held as long as the process lives."""
+        """One recorder a file: it is held as long as the process lives."""
+        self.hold()
+
+    def hold(self):
+        """Holds the file before the database is asked for anything, so that another recorder is told by its own sentence."""
         if self.held is None:
-            self.held = os.open(self.where, os.O_RDONLY | os.O_CLOEXEC)
+            try:
+                self.held = os.open(self.where, os.O_RDWR | os.O_CREAT | os.O_CLOEXEC, 0o644)
+            except OSError:
+                return  # the database says what is wrong with the place
         try:
             fcntl.flock(self.held, fcntl.LOCK_EX | fcntl.LOCK_NB)
         except BlockingIOError:

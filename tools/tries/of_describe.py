@@ -83,9 +83,9 @@ def of_controller(program, folder):
 
 
 def drip(frame):
-    """A frame of 100 bytes, one each 0.3 s."""
-    for byte in bytes(2) + struct.pack("<I", 100) + bytes(100):
-        time.sleep(0.3)
+    """A frame of 400 bytes, one each 0.1 s."""
+    for byte in bytes(2) + struct.pack("<I", 400) + bytes(400):
+        time.sleep(0.1)
         yield bytes([byte])
 
 
