@@ -4,7 +4,7 @@
     python3 tools/try.py --quick [PROGRAM]
 
 PROGRAM is crates/ads/out/ads unless it is named. `--quick` is what the gate runs: fewer random inputs and damaged files, in at most three minutes.
-`--seed N` is the seed of random inputs (1). `--only NAME` tries one tool; it may stand more than once. A tool's try is tools/tries/of_NAME.py.
+A try that fails beside the others is made once more by itself. `--seed N` is the seed of random inputs (1). `--only NAME` tries one tool; it may stand more than once. A tool's try is tools/tries/of_NAME.py.
 """
 import concurrent.futures
 import importlib
@@ -45,12 +45,18 @@ def main(words):
     if odd:
         raise Ended(f"--only is one of {', '.join(NAMES)}, and {odd[0]!r} is none")
     names = options["only"] or NAMES
-    wrong = total = 0
-    with concurrent.futures.ProcessPoolExecutor(min(len(names), 2 * (os.cpu_count() or 1))) as pool:
-        for it in [pool.submit(tried, name, program, size) for name in names]:
+    again, total = [], 0
+    with concurrent.futures.ProcessPoolExecutor(min(len(names), os.cpu_count() or 1)) as pool:
+        for name, it in [(name, pool.submit(tried, name, program, size)) for name in names]:
             said, right, count = it.result()
             print(said, flush=True)
-            wrong, total = wrong + (not right), total + count
+            again, total = again + ([] if right else [name]), total + count
+    wrong = 0
+    for name in again:
+        # (peers have to answer in seconds, which a busy machine keeps them from; a fault of the tool comes again)
+        said, right, count = tried(name, program, size)
+        print(f"once more, by itself: {said}", flush=True)
+        wrong, total = wrong + (not right), total + count
     print(f"{total} looks at {len(names)} tools, {wrong} of them wrong")
     return 1 if wrong else 0
 
