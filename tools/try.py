@@ -4,7 +4,8 @@
     python3 tools/try.py --quick [PROGRAM]
 
 PROGRAM is crates/ads/out/ads unless it is named. `--quick` is what the gate runs: fewer random inputs and damaged files, in at most three minutes.
-A try that fails beside the others is made once more by itself. `--seed N` is the seed of random inputs (1). `--only NAME` tries one tool; it may stand more than once. A tool's try is tools/tries/of_NAME.py.
+A try that fails beside the others is made once more by itself. `--seed N` is the seed of random inputs (1). `--only NAME` tries one tool; it may stand
+more than once. A tool's try is tools/tries/of_NAME.py.
 """
 import concurrent.futures
 import importlib
