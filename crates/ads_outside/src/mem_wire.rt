@@ -83,10 +83,10 @@ impl MemWire {
     }
 
     /// What happened, in order.
-    pub fn log(&self) -> &[Move]
+    pub fn log(&self) -> &Log
         ensures { result.now ≡ self.now.log }
     {
-        self.log.as_slice()
+        &self.log
     }
 
     // How many of so many bytes the next offer takes.

@@ -25,6 +25,7 @@ noted_of_move noted s (move.Took c offered bytes) = []
 noted_of_move noted s (move.Lost c) = []
 noted_of_move noted s (move.Shut c) = []
 
+-- the state and who is blocked, after moves one behind another
 abbrev pub running_after_all : {W C : Type 0} → EventStep W C → Running W C → List Move → Running W C
 running_after_all step x ms =
     record { state = state_after step x.state ms; blocked = blocked_after x.blocked ms }

@@ -98,7 +98,14 @@ fn run_given<T: Threads + Sync>(threads: &T, alloc: Global, given: Given) -> Res
         &mut disk,
         &mut keeper,
     );
-    let came = came_of(alloc, status, sink.bytes(), wire.log(), link.log(), &keeper);
+    let came = came_of(
+        alloc,
+        status,
+        sink.bytes(),
+        wire.log().as_slice(),
+        link.log(),
+        &keeper,
+    );
     with_file(came, disk.file())
 }
 

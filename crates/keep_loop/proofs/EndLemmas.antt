@@ -11,7 +11,7 @@ use Rattle.ads_served.specs.Standing.{Standing, Noting, standing_after_all}
 use Rattle.spec_store.specs.Slots as slots
 use Rattle.spec_store.specs.Runs as runs
 use Rattle.spec_store.specs.Saves.{is_over_limit}
-use Rattle.serve_loop.specs.declared.turn_end.TurnEnd.TheVariants as turn
+use Rattle.serve_loop.specs.declared.turn_end.Turn.TheVariants as turn
 use Rattle.serve_loop.specs.Leads.{serves_any, events_in}
 use Rattle.serve_loop.specs.TurnTaken.{StandsOver, TakesEvent, Stays, BreaksTurn, TakesTurns}
 use Rattle.serve_loop.proofs.LeadLemmas.{AreOffers-append}

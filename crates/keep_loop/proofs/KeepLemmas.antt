@@ -12,8 +12,8 @@ use Rattle.ads_served.specs.Standing.{Standing, Noting, standing_after_all}
 use Rattle.spec_store.specs.Slots as slots
 use Rattle.spec_store.specs.Runs as runs
 use Rattle.spec_store.specs.Saves.{is_over_limit}
-use Rattle.serve_loop.specs.declared.turn_end.TurnEnd.{TurnEnd}
-use Rattle.serve_loop.specs.declared.turn_end.TurnEnd.TheVariants as turn
+use Rattle.serve_loop.specs.declared.turn_end.Turn.{Turn}
+use Rattle.serve_loop.specs.declared.turn_end.Turn.TheVariants as turn
 use Rattle.serve_loop.specs.Leads.{serves_any, events_in}
 use Rattle.serve_loop.specs.TurnTaken.{StandsOver, TakesEvent, Stays, BreaksTurn}
 use Rattle.serve_loop.proofs.LeadLemmas.{AreOffers-append}
@@ -82,7 +82,7 @@ module _ {W C D : Type 0} (every : ℕ) (of_world : BodyOf W) (step : EventStep 
       record { standing = standing_after_all step noted some.standing turns.moves; stands = turns.stands some.standing some.stands }
 
   pub some_after_tick : (old_serves mid_serves new_serves : Standing W C → Type 0) (old mid new : WireHistory)
-      (count left : ℕ) (old_disk new_disk : D) (first now : StoreState) (saved : ℕ) (tells : TurnEnd)
+      (count left : ℕ) (old_disk new_disk : D) (first now : StoreState) (saved : ℕ) (tells : Turn)
       → SoFar old_serves mid_serves old mid count left old_disk new_disk first now saved
       → TakesEvent step noted mid_serves new_serves mid new tells → StandsForSome (StandsOver old_serves old.opened) → StandsForSome new_serves
   some_after_tick old_serves mid_serves new_serves old mid new count left old_disk new_disk first now saved tells so_far takes some =
@@ -107,7 +107,7 @@ module _ {W C D : Type 0} (every : ℕ) (of_world : BodyOf W) (step : EventStep 
       KeepsPaced every of_world step noted old_serves new_serves stood old new count left saves
 
   -- a turn behind which nothing is looked at
-  passes : (old_serves mid_serves new_serves : Standing W C → Type 0) (old mid new : WireHistory) (count left then_ : ℕ) (tells : TurnEnd)
+  passes : (old_serves mid_serves new_serves : Standing W C → Type 0) (old mid new : WireHistory) (count left then_ : ℕ) (tells : Turn)
       (old_disk disk : D) (first now : StoreState) (saved : ℕ)
       → SoFar old_serves mid_serves old mid count left old_disk disk first now saved → TakesEvent step noted mid_serves new_serves mid new tells
       → ((body : List ℕ) → then_ ≡ left_behind every left (bodies_of_turn tells body)) → ((body : List ℕ) → paced every left (bodies_of_turn tells body) ≡ [])

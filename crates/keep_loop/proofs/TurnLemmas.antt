@@ -9,8 +9,8 @@ use Rattle.spec_machine.specs.MachineState.{MachineState}
 use Rattle.spec_machine.specs.Moves.{EventStep, state_after}
 use Rattle.spec_machine.specs.Running.{Running}
 use Rattle.ads_served.specs.Standing.{Standing, Noting, standing_after_all}
-use Rattle.serve_loop.specs.declared.turn_end.TurnEnd.{TurnEnd}
-use Rattle.serve_loop.specs.declared.turn_end.TurnEnd.TheVariants as turn
+use Rattle.serve_loop.specs.declared.turn_end.Turn.{Turn}
+use Rattle.serve_loop.specs.declared.turn_end.Turn.TheVariants as turn
 use Rattle.serve_loop.specs.Leads.{events_in}
 use Rattle.serve_loop.specs.TurnTaken.{StandsOver, IsTurnOf, turn_of_event, TakesEvent}
 use Rattle.serve_loop.proofs.LeadLemmas.{standing-append, history-append, events-append, standing-running}
@@ -26,7 +26,7 @@ pub state_played : {W C : Type 0} (step : EventStep W C) (noted : Noting W C) (x
 state_played {W} {C} step noted x ms = ap (λ (r : Running W C). r.state) (standing-running step noted x ms)
 
 -- what is looked at after a turn of which this is told
-abbrev pub bodies_of_turn : TurnEnd → List ℕ → List (List ℕ)
+abbrev pub bodies_of_turn : Turn → List ℕ → List (List ℕ)
 bodies_of_turn turn.Tick body = body ∷ []
 bodies_of_turn turn.Other body = []
 bodies_of_turn turn.End body = []
@@ -50,7 +50,7 @@ saves_more stood saves bodies more_bodies more all are adds is =
 
 module _ {W C : Type 0} (every : ℕ) (body_of : BodyOf W) (step : EventStep W C) (noted : Noting W C) where
   -- the bodies of some moves and of a turn behind them
-  bodies_then : (x y z : Standing W C) (e : Event) (tells : TurnEnd) (ms ns : List Move)
+  bodies_then : (x y z : Standing W C) (e : Event) (tells : Turn) (ms ns : List Move)
       → y.running.state ≡ state_after step x.running.state ms → z.running.state ≡ state_after step y.running.state ns
       → tells ≡ turn_of_event e → bodies_at_ticks body_of step y.running.state ns ≡ bodies_at_event e (body_of (state_after step y.running.state ns).world)
       → bodies_at_ticks body_of step x.running.state (ms ++ ns) ≡ bodies_at_ticks body_of step x.running.state ms
@@ -75,7 +75,7 @@ module _ {W C : Type 0} (every : ℕ) (body_of : BodyOf W) (step : EventStep W C
 
   -- a turn more
   pub keeps_then : (old_serves mid_serves new_serves : Standing W C → Type 0) (stood : Option (List ℕ))
-      (old mid new : WireHistory) (count left then_ : ℕ) (tells : TurnEnd) (saves more : List (List ℕ))
+      (old mid new : WireHistory) (count left then_ : ℕ) (tells : Turn) (saves more : List (List ℕ))
       → KeepsPaced every body_of step noted old_serves mid_serves stood old mid count left saves
       → TakesEvent step noted mid_serves new_serves mid new tells
       → ((body : List ℕ) → then_ ≡ left_behind every left (bodies_of_turn tells body))

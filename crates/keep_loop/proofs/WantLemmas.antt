@@ -3,7 +3,7 @@ use Rattle.std.proofs.Common.{◌≡◌, ℕ, ◌+◌, ◌<◌, ◌≤◌, refl,
 use Rattle.ads_outside.specs.WireState.{WireState}
 use Rattle.spec_machine.specs.Moves.{EventStep}
 use Rattle.ads_served.specs.Standing.{Standing, Noting}
-use Rattle.serve_loop.specs.declared.turn_end.TurnEnd.{TurnEnd}
+use Rattle.serve_loop.specs.declared.turn_end.Turn.{Turn}
 use Rattle.serve_loop.specs.TurnTaken.{Stays, TakesTurns, TakesEvent}
 use Rattle.serve_loop.proofs.TurnLemmas.{one_more, ends_before}
 use Rattle.keep_loop.specs.Keeping.{EndsAfter}
@@ -11,7 +11,7 @@ use Rattle.keep_loop.specs.Wanting.{WantsInSave}
 
 -- a turn more
 pub wants_at_tick : {W C : Type 0} (step : EventStep W C) (noted : Noting W C) (old_serves mid_serves new_serves : Standing W C → Type 0)
-    (old mid new : WireState) (count limit : ℕ) (tells : TurnEnd) → count < limit
+    (old mid new : WireState) (count limit : ℕ) (tells : Turn) → count < limit
     → TakesTurns step noted old_serves mid_serves old.history mid.history count → TakesEvent step noted mid_serves new_serves mid.history new.history tells
     → WantsInSave step noted old_serves new_serves old new limit
 wants_at_tick step noted old_serves mid_serves new_serves old mid new count limit tells fewer turns takes = record {

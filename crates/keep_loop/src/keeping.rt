@@ -16,7 +16,7 @@ use crate::saving::save_body;
 use crate::{KeepEnd, Persistent};
 use ads_outside::Wire;
 use persist_store::{Disk, Store};
-use serve_loop::TurnEnd;
+use serve_loop::Turn;
 use std::alloc::Global;
 use std::thread::Threads;
 
@@ -57,8 +57,8 @@ pub fn keep_turns<T: Threads + Sync, W: Wire, M: Persistent, D: Disk>(
     let mut left = every - 1;
     for _taken in 0..limit {
         match served.turn(rt, alloc, wire) {
-            TurnEnd::Tick if left > 0 => left -= 1,
-            TurnEnd::Tick => match save_body(alloc, served, store, disk) {
+            Turn::Tick if left > 0 => left -= 1,
+            Turn::Tick => match save_body(alloc, served, store, disk) {
                 SaveEnd::Same => left = every - 1,
                 SaveEnd::Saved => {
                     saved += 1;
@@ -68,12 +68,12 @@ pub fn keep_turns<T: Threads + Sync, W: Wire, M: Persistent, D: Disk>(
                 SaveEnd::Limit => return KeepEnd::StoreLimit,
                 SaveEnd::Memory => return KeepEnd::Memory,
             },
-            TurnEnd::Other => {}
-            TurnEnd::End => return save_last(alloc, served, store, disk, RunEnd::Done, saved),
-            TurnEnd::LinkFault => {
+            Turn::Other => {}
+            Turn::End => return save_last(alloc, served, store, disk, RunEnd::Done, saved),
+            Turn::LinkFault => {
                 return save_last(alloc, served, store, disk, RunEnd::LinkFault, saved);
             }
-            TurnEnd::Memory => return KeepEnd::Memory,
+            Turn::Memory => return KeepEnd::Memory,
         }
     }
     save_last(alloc, served, store, disk, RunEnd::Budget, saved)

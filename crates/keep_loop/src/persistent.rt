@@ -11,7 +11,7 @@ ghost use Rattle.keep_loop.specs.Bodies.{BodyOf};
 
 use ads_base::{NoMemory, Octets};
 use ads_outside::Wire;
-use serve_loop::TurnEnd;
+use serve_loop::Turn;
 use std::alloc::Global;
 use std::thread::Threads;
 
@@ -38,13 +38,13 @@ pub trait Persistent {
     ghost has_failed: { Self → Type 0 };
 
     /// Takes one event of the wire, and offers each connection what waits for it.
-    fn turn<T: Threads + Sync, W: Wire>(&mut self, rt: &T, alloc: Global, wire: &mut W) -> TurnEnd
+    fn turn<T: Threads + Sync, W: Wire>(&mut self, rt: &T, alloc: Global, wire: &mut W) -> Turn
         requires { IsSync T.row }
         ensures turn { AfterTurn result steps noted (serves self.old) (serves self.new) (W.state wire.old) (W.state wire.new) }
         ensures kept { W.kept wire.new ≡ W.kept wire.old }
         ensures later { (W.state wire.old).faults ≤ (W.state wire.new).faults }
         ensures wanted { (W.state wire.old).wants ≤ (W.state wire.new).wants }
-        ensures memory { result ≡ TurnEnd.Memory → WasWanting (has_failed self.new) (W.state wire.old) (W.state wire.new) };
+        ensures memory { result ≡ Turn.Memory → WasWanting (has_failed self.new) (W.state wire.old) (W.state wire.new) };
 
     /// The body text of the world that it stands for.
     fn body(&self, alloc: Global) -> Result<Octets, NoMemory>

@@ -3,7 +3,7 @@
 use ads_base::{NoMemory, Octets};
 use ads_outside::Wire;
 use keep_loop::Persistent;
-use serve_loop::TurnEnd;
+use serve_loop::Turn;
 use server_core::{Core, Sources};
 use std::alloc::Global;
 use std::marker::Model;
@@ -43,7 +43,7 @@ impl<S: Sources> Persistent for KeptCore<S> {
 
     ghost body_of = { body_of_world };
 
-    fn turn<T: Threads + Sync, W: Wire>(&mut self, rt: &T, alloc: Global, wire: &mut W) -> TurnEnd {
+    fn turn<T: Threads + Sync, W: Wire>(&mut self, rt: &T, alloc: Global, wire: &mut W) -> Turn {
         serve_loop::turn(rt, alloc, &mut self.core, wire)
     }
 

@@ -1,12 +1,14 @@
 //! One port: its symbols, its bytes and its state words.
 
 ghost use Rattle.std.specs.Prelude.{◌≡◌, ℕ};
-ghost use Rattle.type_layout.specs.Descriptions.{facts_of, sizes_of};
+ghost use Rattle.ads_commands.specs.Reply.{facts_meant};
+ghost use Rattle.type_layout.specs.Descriptions.{sizes_of};
 ghost use Rattle.port_device.specs.PortMemory.{PortMemory};
 ghost use Rattle.port_device.specs.Profiles.{is_wide};
 
 use crate::Profile;
 use crate::upload::UploadSizes;
+use ads_commands::DeviceFacts;
 use process_image::Image;
 use std::alloc::Global;
 use std::marker::Model;
@@ -74,10 +76,21 @@ impl Port {
     }
 
     /// What the device tells of itself. Beckhoff Information System, "ADS Read Device Info".
-    pub fn facts(&self) -> DeviceFacts4
-        ensures { facts_of result ≡ self.now.facts }
+    pub fn facts(&self) -> DeviceFacts
+        ensures { facts_meant result ≡ self.now.facts }
     {
-        self.facts
+        let DeviceFacts4 {
+            major,
+            minor,
+            build,
+            name,
+        } = self.facts;
+        DeviceFacts {
+            major,
+            minor,
+            build,
+            name,
+        }
     }
 
     /// The sizes of the areas.

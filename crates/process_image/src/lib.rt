@@ -1,3 +1,4 @@
+//! The bytes of a port: blocks of memory that threads share, and the image over them.
 #![tactic(auto)]
 
 mod block;

@@ -23,7 +23,7 @@ use Rattle.spec_machine.proofs.Emptied.{or_false}
 use Rattle.ads_served.specs.Opened.{HasNumbersIn, OpensAlone}
 use Rattle.ads_served.specs.Standing.{Standing, Noting, standing_after, standing_after_all, running_after_all}
 use Rattle.ads_served.proofs.DeviceEvents.{exchange-none}
-use Rattle.serve_loop.specs.declared.turn_end.TurnEnd.{TurnEnd}
+use Rattle.serve_loop.specs.declared.turn_end.Turn.{Turn}
 use Rattle.serve_loop.specs.Leads.{Leads, Breaks}
 use Rattle.serve_loop.specs.Serving.{ServesAll}
 use Rattle.serve_loop.specs.TurnTaken.{StandsOver, ComesBy, IsTurnOf, turn_of_event, TakesEvent, Stays}
@@ -221,7 +221,7 @@ stops_later old mid new same later stops = record {
 
 -- one more turn of the loop
 pub one_more : {W C : Type 0} (step : EventStep W C) (noted : Noting W C)
-    (old_serves mid_serves new_serves : Standing W C → Type 0) (old mid new : WireHistory) (count : ℕ) (tells : TurnEnd)
+    (old_serves mid_serves new_serves : Standing W C → Type 0) (old mid new : WireHistory) (count : ℕ) (tells : Turn)
     → TakesTurns step noted old_serves mid_serves old mid count → TakesEvent step noted mid_serves new_serves mid new tells
     → TakesTurns step noted old_serves new_serves old new (count + 1)
 one_more step noted old_serves mid_serves new_serves old mid new count tells turns takes =

@@ -4,7 +4,7 @@ use Rattle.ads_outside.specs.declared.event.Event.{Event}
 use Rattle.ads_outside.specs.declared.event.Event.TheVariants as event
 use Rattle.ads_outside.specs.Rose.{Rose}
 use Rattle.ads_outside.specs.WireState.{WireState}
-use Rattle.serve_loop.specs.declared.turn_end.TurnEnd.TheVariants as turn
+use Rattle.serve_loop.specs.declared.turn_end.Turn.TheVariants as turn
 use Rattle.serve_loop.specs.TurnTaken.{turn_of_event}
 use Rattle.serve_loop.specs.Wanting.{WasWanting}
 

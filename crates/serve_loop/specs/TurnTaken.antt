@@ -18,8 +18,8 @@ use Rattle.spec_machine.specs.Running.{Running, OpensNew}
 use Rattle.spec_machine.specs.Turns.{LogTurn, moves_of_turn, ServesEach, AreTurns}
 use Rattle.ads_served.specs.Opened.{HasNumbersIn}
 use Rattle.ads_served.specs.Standing.{Standing, Noting, standing_after}
-use Rattle.serve_loop.specs.declared.turn_end.TurnEnd.{TurnEnd}
-use Rattle.serve_loop.specs.declared.turn_end.TurnEnd.TheVariants as turn
+use Rattle.serve_loop.specs.declared.turn_end.Turn.{Turn}
+use Rattle.serve_loop.specs.declared.turn_end.Turn.TheVariants as turn
 use Rattle.serve_loop.specs.Leads.{Leads, Breaks}
 
 -- what is served stands for x, and each connection of x has a number that the wire opened
@@ -46,7 +46,7 @@ pub record IsTurnOf {W C : Type 0} (step : EventStep W C) (e : Event) (x : Runni
   pub offers : AreOffers step x.state ms
 
 -- what is told of a turn with this event
-abbrev pub turn_of_event : Event → TurnEnd
+abbrev pub turn_of_event : Event → Turn
 turn_of_event (event.Opened c) = turn.Other
 turn_of_event (event.Piece c bytes) = turn.Other
 turn_of_event (event.Closed c) = turn.Other
@@ -56,7 +56,7 @@ turn_of_event (event.Writable c) = turn.Other
 
 -- one event was taken, and all connections are served
 pub record TakesEvent {W C : Type 0} (step : EventStep W C) (noted : Noting W C)
-    (old_serves new_serves : Standing W C → Type 0) (old new : WireHistory) (tells : TurnEnd)
+    (old_serves new_serves : Standing W C → Type 0) (old new : WireHistory) (tells : Turn)
     : Type 0 where
   pub event : Event
   pub kind : tells ≡ turn_of_event event
@@ -74,7 +74,7 @@ pub record BreaksTurn {W C : Type 0} (step : EventStep W C) (noted : Noting W C)
   pub within : count ≤ most
   pub breaks : Breaks step noted (StandsOver old_serves old.opened) old new count
 
-abbrev pub AfterTurn : {W C : Type 0} → TurnEnd → EventStep W C → Noting W C → (Standing W C → Type 0)
+abbrev pub AfterTurn : {W C : Type 0} → Turn → EventStep W C → Noting W C → (Standing W C → Type 0)
     → (Standing W C → Type 0) → WireState → WireState → Type 0
 AfterTurn turn.Tick step noted old_serves new_serves old new =
     TakesEvent step noted old_serves new_serves old.history new.history turn.Tick

@@ -8,5 +8,5 @@ mod turn_end;
 mod turning;
 
 pub use looping::serve;
-pub use turn_end::TurnEnd;
+pub use turn_end::Turn;
 pub use turning::turn;

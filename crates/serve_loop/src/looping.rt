@@ -7,7 +7,7 @@ ghost use Rattle.serve_loop.specs.ToldLog.{WhereTold, LogsOffers, LogsTurns};
 ghost use Rattle.serve_loop.specs.TurnTaken.{StandsOver, AfterServe, GaveEvents};
 ghost use Rattle.serve_loop.specs.Wanting.{WasWanting};
 
-use crate::{TurnEnd, turn};
+use crate::{Turn, turn};
 use ads_outside::{End, Wire};
 use ads_served::Served;
 use std::alloc::Global;
@@ -59,10 +59,10 @@ fn take_turns<T: Threads + Sync, W: Wire, M: Served>(
 {
     for _taken in 0..limit {
         match turn(rt, alloc, served, wire) {
-            TurnEnd::Tick | TurnEnd::Other => {}
-            TurnEnd::End => return End::Done,
-            TurnEnd::LinkFault => return End::LinkFault,
-            TurnEnd::Memory => return End::Memory,
+            Turn::Tick | Turn::Other => {}
+            Turn::End => return End::Done,
+            Turn::LinkFault => return End::LinkFault,
+            Turn::Memory => return End::Memory,
         }
     }
     End::Budget

@@ -7,7 +7,7 @@ ghost use Rattle.serve_loop.specs.Serving.{ServesAll};
 ghost use Rattle.serve_loop.specs.TurnTaken.{ComesBy, AfterTurn, turn_of_event};
 ghost use Rattle.serve_loop.specs.Wanting.{WasWanting};
 
-use crate::TurnEnd;
+use crate::Turn;
 use crate::rounds::serve_each;
 use ads_base::NoMemory;
 use ads_outside::{Event, Next, Wire};
@@ -22,36 +22,36 @@ pub fn turn<T: Threads + Sync, W: Wire, M: Served>(
     alloc: Global,
     served: &mut M,
     wire: &mut W,
-) -> TurnEnd
+) -> Turn
     ensures turn { AfterTurn result M.steps M.noted (M.serves served.old) (M.serves served.new) (W.state wire.old) (W.state wire.new) }
     ensures kept { W.kept wire.new ≡ W.kept wire.old }
     ensures later { (W.state wire.old).faults ≤ (W.state wire.new).faults }
     ensures wanted { (W.state wire.old).wants ≤ (W.state wire.new).wants }
-    ensures memory { result ≡ TurnEnd.Memory → WasWanting (M.has_failed served.new) (W.state wire.old) (W.state wire.new) }
+    ensures memory { result ≡ Turn.Memory → WasWanting (M.has_failed served.new) (W.state wire.old) (W.state wire.new) }
 {
     let event = match wire.next() {
         Next::Event(event) => event,
-        Next::End => return TurnEnd::End,
-        Next::Failed => return TurnEnd::LinkFault,
-        Next::Memory => return TurnEnd::Memory,
+        Next::End => return Turn::End,
+        Next::Failed => return Turn::LinkFault,
+        Next::Memory => return Turn::Memory,
     };
     match take_event(rt, alloc, served, wire, &event) {
         Ok(()) => told_of(&event),
-        Err(NoMemory) => TurnEnd::Memory,
+        Err(NoMemory) => Turn::Memory,
     }
 }
 
 // What is told of a turn with this event.
-fn told_of(event: &Event) -> TurnEnd
+fn told_of(event: &Event) -> Turn
     ensures { result ≡ turn_of_event event.now }
 {
     match event {
-        Event::Tick(_) => TurnEnd::Tick,
+        Event::Tick(_) => Turn::Tick,
         Event::Opened(_)
         | Event::Piece(_, _)
         | Event::Closed(_)
         | Event::Reload(_)
-        | Event::Writable(_) => TurnEnd::Other,
+        | Event::Writable(_) => Turn::Other,
     }
 }
 

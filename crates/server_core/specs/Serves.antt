@@ -23,8 +23,7 @@ pub record CoreView : Type 0 where
   pub waves : List Wave
   pub failed : Bool
 
--- the connections that are there
-
+-- each connection that is there stands for the one of the machine in its place
 abbrev pub EachStands : Plant → List Conn → List ServedConnection → Type 0
 EachStands plant [] [] = Unit {0}
 EachStands plant [] (k ∷ ks) = ⊥

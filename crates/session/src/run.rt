@@ -3,10 +3,8 @@
 ghost use Rattle.std.specs.Prelude.{◌≡◌, ℕ, List, OnOk, OnErr};
 ghost use Rattle.ads_base.specs.Octets.{Extends};
 ghost use Rattle.spec_formats.specs.Request as format;
-ghost use Rattle.ads_commands.specs.Reply.{facts_meant};
 ghost use Rattle.ads_commands.specs.Request.{request_meant};
 ghost use Rattle.ads_base.specs.declared.ams_addr.AmsAddr.{AmsAddr};
-ghost use Rattle.type_layout.specs.Descriptions.{facts_of};
 ghost use Rattle.type_layout.specs.declared.description.Rights.{Rights};
 ghost use Rattle.port_device.specs.Endings.{KeepsDescription};
 ghost use Rattle.port_device.specs.PortMemory.{PortMemory};
@@ -18,10 +16,10 @@ use crate::asker::Asker;
 use crate::replies::number_in;
 use crate::requests::{NoteRequest, ReadRequest, ReadWriteRequest, WriteRequest};
 use ads_base::{NoMemory, Octets, put16, put32};
-use ads_commands::{DeviceFacts, Reply, Request, put_reply};
+use ads_commands::{Reply, Request, put_reply};
 use port_device::Port;
 use std::alloc::Global;
-use type_layout::{DeviceFacts4, Rights};
+use type_layout::Rights;
 
 impl Session {
     ghost use Rattle.session.specs.Runs.{AsksSession, IsFrom, Runs};
@@ -94,8 +92,8 @@ impl Session {
             → Runs a format.ReadDeviceInfo out.old out.new port.now self.now) }
         ensures no_memory { OnErr result (Extends out.old out.new) }
     {
-        let told = told_of(port.facts());
-        put_reply(alloc, &Reply::Info(0, told), out)
+        let facts = port.facts();
+        put_reply(alloc, &Reply::Info(0, facts), out)
     }
 
     // The two state words.
@@ -174,18 +172,5 @@ impl Session {
         ensures no_memory { OnErr result (Extends out.old out.new) }
     {
         put_reply(alloc, &Reply::Write(0), out)
-    }
-}
-
-// What a device tells of itself, as its reply has it.
-fn told_of(facts: DeviceFacts4) -> DeviceFacts
-    ensures { facts_meant result ≡ facts_of facts }
-{
-    let name = facts.name;
-    DeviceFacts {
-        major: facts.major,
-        minor: facts.minor,
-        build: facts.build,
-        name,
     }
 }

@@ -7,6 +7,7 @@ ghost use Rattle.port_device.specs.Holds.{WasAccepted};
 
 use crate::calls::routes::rights_of;
 use ads_base::Octets;
+use ads_commands::DeviceFacts;
 use case_plants::{area, description_of, raw, say_area, say_place};
 use case_sheets::{Answer, Args, Fault};
 use index_groups::{Reach, reach};
@@ -14,7 +15,7 @@ use port_device::{Port, Ports};
 use return_codes::Code;
 use signals::{Bank, Ramp, Signal, Square, Table8};
 use std::alloc::Global;
-use type_layout::{Description, DeviceFacts4, Sizes};
+use type_layout::{Description, Sizes};
 
 /// The ports of a description, and how often their signals have stepped.
 #[derive(Drop)]
@@ -378,7 +379,7 @@ fn say_state(state: (u16, u16), answer: &mut Answer) {
     answer.tell(u64::from(state.1));
 }
 
-fn say_facts(facts: &DeviceFacts4, answer: &mut Answer) {
+fn say_facts(facts: &DeviceFacts, answer: &mut Answer) {
     answer.tell(u64::from(facts.major));
     answer.tell(u64::from(facts.minor));
     answer.tell(u64::from(facts.build));
