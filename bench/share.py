@@ -1,7 +1,7 @@
 #!/usr/bin/env python3
 """Gives the libraries that a run of `rt ci` proves to the checks in other clones on this machine, so that nobody proves them twice.
 
-    python3 bench/share.py CLONE      beside `rt ci` with no names in CLONE; it ends when all its libraries stand, or by Ctrl-C
+    python3 bench/share.py CLONE [NAME ..]      beside `rt ci [NAME ..]` in CLONE; it ends when these crates' libraries and those below them stand, or by Ctrl-C
 
 `rt check` takes the libraries below a crate from other clones' checks, and not from what `rt ci` made. This holds the lock under which a check builds each
 library of CLONE (so it waits, half an hour at most), and hands the library over as soon as the run has proved it. It changes nothing that a verdict rests on.
@@ -24,11 +24,26 @@ STORE = f"{os.path.dirname(KIT)}/rattle-kept"
 WORK = f"{STORE}/work"
 
 
-def libraries(clone):
+def below(clone, names):
+    """These crates and all that they stand on, by crates.txt; all where none is named."""
+    with open(f"{clone}/crates.txt", encoding="utf-8") as file:
+        lines = [line.split(":") for line in file if ":" in line and not line.startswith("#")]
+    uses = {line[0].split()[0]: line[1].split() for line in lines}
+    found, left = set(), list(names or uses)
+    while left:
+        name = left.pop()
+        if name in uses and name not in found:
+            found.add(name)
+            left += uses[name]
+    return found
+
+
+def libraries(clone, names):
     os.chdir(clone)
     # (a stamp is asked for by all that stand above it)
     rtlib.Crate.stamp = functools.lru_cache(maxsize=None)(rtlib.Crate.stamp)
-    return [it for it in rtlib.crates_below(clone) if not it.is_program]
+    asked = below(clone, names)
+    return [it for it in rtlib.crates_below(clone) if not it.is_program and it.name in asked]
 
 
 def locked(crate):
@@ -55,9 +70,9 @@ def hand_over(crate):
     os.replace(f"{name}.new", name)
 
 
-def main(clone):
+def main(clone, names):
     os.makedirs(WORK, exist_ok=True)
-    left, locks = libraries(os.path.realpath(clone)), {}
+    left, locks = libraries(os.path.realpath(clone), names), {}
     while left:
         for crate in list(left):
             if is_proved(crate):
@@ -73,6 +88,6 @@ def main(clone):
 
 
 if __name__ == "__main__":
-    if len(sys.argv) != 2 or sys.argv[1].startswith("-"):
+    if len(sys.argv) < 2 or sys.argv[1].startswith("-"):
         sys.exit(__doc__)
-    main(sys.argv[1])
+    main(sys.argv[1], sys.argv[2:])
