@@ -1,12 +1,12 @@
-//! How a put ends, and how a settling does.
+//! How a put ends.
 
-/// How a put ends, and how a settling does.
+/// How a put ends.
 #[derive(Clone, Copy, Debug, PartialEq, Eq)]
 pub enum Kept {
-    /// A put: the row is there, or its number was there before. A settling: the rows are where they stay.
+    /// The row is there, or its number was there before.
     Done,
-    /// The keeper failed; no row that is told changed.
+    /// The keeper failed; nothing changed.
     Failed,
-    /// Memory was wanting; no row that is told changed.
+    /// Memory was wanting; nothing changed.
     Memory,
 }
