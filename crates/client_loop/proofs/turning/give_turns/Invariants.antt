@@ -7,7 +7,7 @@ use Rattle.client_calls.specs.Represents.{StandsFor}
 use Rattle.client_loop.specs.Outlets.{outlets, IsLater}
 use Rattle.client_loop.specs.Ready.{IsReady}
 use Rattle.client_loop.specs.Turning.{TakesTurns}
-use Rattle.client_loop.proofs.turning.take_turns.Given as goal
+use Rattle.client_loop.proofs.turning.give_turns.Given as goal
 
 abbrev pub invariant-turns : goal.invariant-turns
 invariant-turns g l = record {
