@@ -52,7 +52,7 @@ whole_same : (standing : Option Standing) (stood : Option (List ℕ)) (mid now :
     → WholeSoFar standing stood (looked ++ body ∷ []) begun now
 whole_same standing stood mid now looked begun body is whole same store =
     let P : List (List ℕ) → Type 0 = λ saves. (begun ≡ all_done saves) × (is_any_over standing saves ≡ false)
-        × (now.standing ≡ standing_after_all standing saves) in
+    × (now.standing ≡ standing_after_all standing saves) in
     let all = subst P (sym (same_saves standing stood mid looked body is whole.standing_is same))
     (whole.are, whole.within, ap (λ (s : StoreState). s.standing) store ∙ whole.standing_is) in
     record { are = all.0; within = all.1; standing_is = all.2; open_ = ap (λ (s : StoreState). s.shut) store ∙ whole.open_ }
@@ -65,11 +65,12 @@ whole_saved standing stood mid now looked begun body is whole differs within sto
     let saves = saves_in stood looked in
     let one : Begun = record { body = body; done = true } in
     let P : List (List ℕ) → Type 0 = λ all. (begun ++ one ∷ [] ≡ all_done all) × (is_any_over standing all ≡ false)
-        × (now.standing ≡ standing_after_all standing all) in
-    let all = subst P (sym (other_saves standing stood mid looked body is whole.standing_is differs))
-    (ap (λ l. l ++ one ∷ []) whole.are ∙ sym (all_more saves body),
-    over_then saves body standing mid.standing false whole.within whole.standing_is within,
-    ap (λ (s : StoreState). s.standing) store ∙ standing_then saves body standing mid.standing whole.standing_is) in
+    × (now.standing ≡ standing_after_all standing all) in
+    let all = subst P (sym (other_saves standing stood mid looked body is whole.standing_is differs)) (
+      ap (λ l. l ++ one ∷ []) whole.are ∙ sym (all_more saves body),
+      over_then saves body standing mid.standing false whole.within whole.standing_is within,
+      ap (λ (s : StoreState). s.standing) store ∙ standing_then saves body standing mid.standing whole.standing_is,
+    ) in
     record { are = all.0; within = all.1; standing_is = all.2; open_ = ap (λ (s : StoreState). s.shut) store }
 
 never_next : (n : ℕ) → n + 1 ≡ 0 → ⊥

@@ -363,6 +363,9 @@ never_memory r ended counts Looks other ends is = other (sym (ap (λ (k : KeptOn
 pub few_first : AreFew none_counted 0
 few_first = record { saved = omega arith; failed = omega arith; wanted = omega arith; over = omega arith }
 
+pub none_rose : (Failed : Type 0) (counts : SaveCounts) → counts ≡ none_counted → 0 < counts.failed → Failed
+none_rose Failed counts is more = absurd (let none : counts.failed ≡ 0 = ap (λ (c : SaveCounts). c.failed) is in omega (arith, none, more))
+
 -- the counts grow by one at most
 pub few_more : (by : SaveEnd) (counts : SaveCounts) (n : ℕ) → AreFew counts n → AreFew (counted by counts) (n + 1)
 few_more save.Same counts n few =

@@ -66,7 +66,16 @@ pub fn keep_on<T: Threads + Sync, W: Wire, M: Persistent, D: Disk, N: SaveNotes>
                 return look_last(alloc, served, store, disk, name, notes, End::Done, counts);
             }
             Turn::LinkFault => {
-                return look_last(alloc, served, store, disk, name, notes, End::LinkFault, counts);
+                return look_last(
+                    alloc,
+                    served,
+                    store,
+                    disk,
+                    name,
+                    notes,
+                    End::LinkFault,
+                    counts,
+                );
             }
             Turn::Memory => {
                 return KeptOn {

@@ -1,29 +1,34 @@
 -- Each way out of the loop, and one turn more.
-use Rattle.std.proofs.Common.{◌≡◌, ◌+◌, ◌-◌, ◌<◌, refl, sym, subst, ◌∙◌, arith}
+use Rattle.std.proofs.Common.{◌≡◌, ◌+◌, ◌-◌, ◌^◌, ◌<◌, refl, sym, subst, ◌∙◌, arith}
 use Rattle.std.proofs.Math.Nat.{le_refl, le_trans}
 use Rattle.serve_loop.proofs.TurnLemmas.{stops_kept, stops_later}
 use Rattle.serve_loop.proofs.WantLemmas.{wanting_later}
 use Rattle.keep_loop.specs.declared.save_counts.SaveCounts.{SaveCounts}
 use Rattle.keep_loop.specs.Looking.{AreFew, ServesOnSoFar}
-use Rattle.keep_loop.proofs.OnLemmas.{last_there, never_memory}
+use Rattle.keep_loop.proofs.OnLemmas.{last_there, never_memory, none_rose}
 use Rattle.keep_loop.proofs.OnLemmas.{on_first, on_other, on_passed, on_looked, some_at_tick, some_at_last}
 use Rattle.keep_loop.proofs.OnLemmas.{ends_done, ends_fault, ends_budget, ends_memory, few_more, few_within, few_first, failed_rose, rose_so_far}
 use Rattle.keep_loop.proofs.keeping_on.keep_on.Goals as goal
 use Rattle.keep_loop.proofs.keeping_on.keep_on.Goals.{in-Tick, in-Tick-2, in-Other}
 
 pub loop-taken-init : goal.loop-taken-init
-loop-taken-init g c = record {
-  so_far = on_first c.args.every g.M.Persistent.body_of g.M.Persistent.steps g.M.Persistent.noted g.D.Disk.contents g.D.Disk.may_leave g.D.Disk.moment g.D.Disk.left_since
-      (g.M.Persistent.serves c.args.served.now) (g.W.Wire.state c.args.wire.now).history c.args.disk.now c.args.store.now g.met.D.Disk.only_now c.requires.ready c.requires.open;
-  ready = c.requires.ready;
-  few = few_first;
-  failed = λ more. (let never : 0 < 0 = more in omega (arith, never));
-  untold = λ e. e;
-  kept = refl;
-  later = le_refl _;
-  wire_later = le_refl _;
-  wanted = le_refl _;
-}
+loop-taken-init g c =
+    let serves = g.M.Persistent.serves c.args.served.now in
+    let history = (g.W.Wire.state c.args.wire.now).history in
+    let P : SaveCounts → Type 0 = λ counts. ServesOnSoFar c.args.every g.M.Persistent.body_of g.M.Persistent.steps g.M.Persistent.noted g.D.Disk.contents g.D.Disk.may_leave g.D.Disk.moment g.D.Disk.left_since
+    serves serves history history 0 (c.args.every - 1) c.args.disk.now c.args.disk.now c.args.store.now c.args.store.now counts in
+    record {
+      so_far = subst P (sym c.nothing-counts.ensures) (on_first c.args.every g.M.Persistent.body_of g.M.Persistent.steps g.M.Persistent.noted g.D.Disk.contents g.D.Disk.may_leave g.D.Disk.moment g.D.Disk.left_since
+          serves history c.args.disk.now c.args.store.now g.met.D.Disk.only_now c.requires.ready c.requires.open);
+      ready = c.requires.ready;
+      few = subst (λ counts. AreFew counts 0) (sym c.nothing-counts.ensures) few_first;
+      failed = λ more. none_rose _ c.nothing-counts.result c.nothing-counts.ensures more;
+      untold = λ e. e;
+      kept = refl;
+      later = le_refl _;
+      wire_later = le_refl _;
+      wanted = le_refl _;
+    }
 
 pub look-requires-clause-some : goal.look-requires-clause-some
 look-requires-clause-some g c =
@@ -31,11 +36,11 @@ look-requires-clause-some g c =
     (g.M.Persistent.serves c.args.served.now) (g.M.Persistent.serves c.loop-taken.served) (g.M.Persistent.serves c.turn.new.self)
     (g.W.Wire.state c.args.wire.now).history (g.W.Wire.state c.loop-taken.wire).history (g.W.Wire.state c.turn.new.wire).history c.loop-taken._taken _ c.loop-taken.invariant.so_far.turns c.in-Tick-2.ensures.turn c.requires.some
 
-pub after-requires-clause-few : goal.after-requires-clause-few
-after-requires-clause-few g c =
+pub after-counts-requires : goal.after-counts-requires
+after-counts-requires g c =
     let fewer = c.loop-taken-test.true in
     let few = c.requires.few in
-    few_within c.loop-taken.counts c.loop-taken._taken _ (omega (arith, fewer, few)) c.loop-taken.invariant.few
+    record { few = few_within c.loop-taken.counts c.loop-taken._taken (2 ^ 64 - 2) (omega (arith, fewer, few)) c.loop-taken.invariant.few }
 
 pub look_last-requires-clause-some : goal.look_last-requires-clause-some
 look_last-requires-clause-some g c =
@@ -154,12 +159,12 @@ loop-taken-preserved g c = elim c.match-turn.branch [
     wanted = le_trans c.loop-taken.invariant.wanted c.turn.ensures.wanted;
   }
   | in-Tick-2 w ↦ rw (w.store-is, w.disk-is, w.counts-is, w.left-is) record {
-    so_far = subst (λ counts. ServesOnSoFar c.args.every g.M.Persistent.body_of g.M.Persistent.steps g.M.Persistent.noted g.D.Disk.contents g.D.Disk.may_leave g.D.Disk.moment g.D.Disk.left_since (g.M.Persistent.serves c.args.served.now) (g.M.Persistent.serves c.turn.new.self) (g.W.Wire.state c.args.wire.now).history (g.W.Wire.state c.turn.new.wire).history (c.loop-taken._taken + 1) (c.args.every - 1) c.args.disk.now w.look.new.disk c.args.store.now w.look.new.store counts) (sym w.after.ensures) (on_looked c.args.every g.M.Persistent.body_of g.M.Persistent.steps g.M.Persistent.noted g.D.Disk.contents g.D.Disk.may_leave g.D.Disk.moment g.D.Disk.left_since w.look.result (g.M.Persistent.serves c.args.served.now) (g.M.Persistent.serves c.loop-taken.served) (g.M.Persistent.serves c.turn.new.self) (g.W.Wire.state c.args.wire.now).history (g.W.Wire.state c.loop-taken.wire).history (g.W.Wire.state c.turn.new.wire).history c.loop-taken._taken c.loop-taken.left c.args.disk.now c.loop-taken.disk w.look.new.disk c.args.store.now c.loop-taken.store w.look.new.store c.loop-taken.counts (omega (arith, w.if-left-gt0.false)) g.met.D.Disk.leaves_contents g.met.D.Disk.counts_now c.loop-taken.invariant.so_far w.in-Tick-2.ensures.turn w.look.ensures.looked);
+    so_far = subst (λ counts. ServesOnSoFar c.args.every g.M.Persistent.body_of g.M.Persistent.steps g.M.Persistent.noted g.D.Disk.contents g.D.Disk.may_leave g.D.Disk.moment g.D.Disk.left_since (g.M.Persistent.serves c.args.served.now) (g.M.Persistent.serves c.turn.new.self) (g.W.Wire.state c.args.wire.now).history (g.W.Wire.state c.turn.new.wire).history (c.loop-taken._taken + 1) (c.args.every - 1) c.args.disk.now w.look.new.disk c.args.store.now w.look.new.store counts) (sym w.after-counts.ensures) (on_looked c.args.every g.M.Persistent.body_of g.M.Persistent.steps g.M.Persistent.noted g.D.Disk.contents g.D.Disk.may_leave g.D.Disk.moment g.D.Disk.left_since w.look.result (g.M.Persistent.serves c.args.served.now) (g.M.Persistent.serves c.loop-taken.served) (g.M.Persistent.serves c.turn.new.self) (g.W.Wire.state c.args.wire.now).history (g.W.Wire.state c.loop-taken.wire).history (g.W.Wire.state c.turn.new.wire).history c.loop-taken._taken c.loop-taken.left c.args.disk.now c.loop-taken.disk w.look.new.disk c.args.store.now c.loop-taken.store w.look.new.store c.loop-taken.counts (omega (arith, w.if-left-gt0.false)) g.met.D.Disk.leaves_contents g.met.D.Disk.counts_now c.loop-taken.invariant.so_far w.in-Tick-2.ensures.turn w.look.ensures.looked);
     ready = w.look.ensures.ready;
-    few = subst (λ counts. AreFew counts (c.loop-taken._taken + 1)) (sym w.after.ensures) (few_more w.look.result c.loop-taken.counts c.loop-taken._taken c.loop-taken.invariant.few);
+    few = subst (λ counts. AreFew counts (c.loop-taken._taken + 1)) (sym w.after-counts.ensures) (few_more w.look.result c.loop-taken.counts c.loop-taken._taken c.loop-taken.invariant.few);
     failed = λ more. rose_so_far (g.D.Disk.fault_count c.args.disk.now) (g.D.Disk.fault_count c.loop-taken.disk) (g.D.Disk.fault_count w.look.new.disk)
         c.loop-taken.counts.failed c.loop-taken.invariant.later w.look.ensures.later c.loop-taken.invariant.failed
-        (failed_rose w.look.result c.loop-taken.counts _ w.look.ensures.failed (subst (λ (counts : SaveCounts). 0 < counts.failed) w.after.ensures more));
+        (failed_rose w.look.result c.loop-taken.counts _ w.look.ensures.failed (subst (λ (counts : SaveCounts). 0 < counts.failed) w.after-counts.ensures more));
     untold = λ e. w.look.ensures.untold (c.loop-taken.invariant.untold e);
     later = le_trans c.loop-taken.invariant.later w.look.ensures.later;
     kept = c.turn.ensures.kept ∙ c.loop-taken.invariant.kept;
