@@ -1,1 +1,4 @@
 pub mod Endless
+pub mod Plant
+pub mod Kept
+pub mod PlantEnds
