@@ -1,1 +1,4 @@
 pub mod DoneLemmas
+pub mod RunningLemmas
+pub mod KeptLemmas
+pub mod PlantDone

@@ -1,7 +1,5 @@
 -- What a plant that was served over a store saved, and what it printed.
-use Rattle.std.specs.Prelude.{◌≡◌, ◌⊎◌, ◌<◌, ℕ, List, [], ◌++◌, true, Option, Some, None}
-use Rattle.ads_outside.specs.declared.end.End.{End}
-use Rattle.ads_outside.specs.declared.end.End.TheVariants as end
+use Rattle.std.specs.Prelude.{◌≡◌, ◌⊎◌, ◌<◌, ℕ, List, [], true, Option, Some, None}
 use Rattle.ads_outside.specs.declared.moves.Move.{Move}
 use Rattle.ads_outside.specs.Rose.{Rose}
 use Rattle.ads_outside.specs.SinkState.{SinkState}
@@ -17,14 +15,15 @@ use Rattle.keep_loop.specs.declared.save_end.SaveEnd.TheVariants as save
 use Rattle.keep_loop.specs.KeepingOn.{Begun, MayStand, StoodOnce, AreSomeOf, bodies_begun, all_done, done_in, IsWhole, is_kept, IsAnyOver, LooksAt}
 use Rattle.keep_play.specs.KeptDisk.{DiskUse}
 use Rattle.keep_play.specs.KeptPlay.{AllSaved}
-use Rattle.keep_play.specs.KeptSaves.{body_standing, body_of_world, saved_line}
+use Rattle.keep_play.specs.KeptSaves.{body_standing, body_of_world}
 use Rattle.run_tasks.specs.declared.status.Status.{Status}
 use Rattle.run_tasks.specs.declared.status.Status.TheVariants as status
 use Rattle.run_tasks.specs.Ending.{Ending, line_alone}
 use Rattle.run_tasks.specs.Prints.{PrintsEnding}
-use Rattle.run_tasks.specs.Service.{counts_and_line, counts_after}
+use Rattle.run_tasks.specs.Service.{counts_after}
 use Rattle.file_run.specs.Serving.{MakesMoves, PrintsAt, CannotRun, TellsAndRuns}
 use Rattle.daemon_run.specs.Plant.{Plant, Serving, service_of, plant_kept, start_kept}
+use Rattle.daemon_run.specs.Printed.{ending_so}
 
 -- the status of a run whose wire had no more events, by what became of the body at its end: Done only where that stands
 abbrev pub status_kept : Option SaveEnd → Status
@@ -35,15 +34,9 @@ status_kept (Some save.Failed) = status.StoreFault
 status_kept (Some save.Limit) = status.StoreLimit
 status_kept (Some save.Memory) = status.Memory
 
--- how it ends with these counts: they are printed, and how many saves were done, and the status's last line
-abbrev pub ending_of : End → Option SaveEnd → ℕ → List ℕ → Ending
-ending_of end.Done last saved counts = counts_and_line (counts ++ saved_line saved) (status_kept last)
-ending_of end.Budget last saved counts = counts_and_line (counts ++ saved_line saved) status.Budget
-ending_of end.LinkFault last saved counts = line_alone status.LinkFault
-ending_of end.Memory last saved counts = line_alone status.Memory
-
+-- how it ends with these counts
 abbrev pub ending_kept : KeptOn → List ℕ → Ending
-ending_kept kept counts = ending_of kept.ended kept.last kept.counts.saved counts
+ending_kept kept counts = ending_so kept.ended (status_kept kept.last) (Some kept.counts.saved) counts
 
 -- the saves are those that differ from what stood before, each of them was done, and the file stands for the last of them
 pub record SavesEach (disk : DiskUse) (standing : Option Standing) (looked : List (List ℕ)) (begun : List Begun) : Type 0 where

@@ -1,5 +1,5 @@
 -- A plant, and how it is served.
-use Rattle.std.specs.Prelude.{ℕ, ◌-◌, List, Option, Some, None}
+use Rattle.std.specs.Prelude.{ℕ, List, Option, Some, None}
 use Rattle.signals.specs.Wave.{Wave}
 use Rattle.ads_outside.specs.declared.listening.Listening.{Listening}
 use Rattle.spec_plant.specs.Description.{Description}
@@ -12,12 +12,15 @@ use Rattle.spec_store.specs.Slots.{Standing}
 use Rattle.keep_play.specs.KeptSaves.{description_kept}
 use Rattle.run_tasks.specs.Service.{Service, OfServer}
 use Rattle.run_tasks.specs.Verdict.{Verdict, Serves, verdict_of_file, verdict_of_serve_in}
-use Rattle.daemon_run.specs.Endless.{endless}
+use Rattle.daemon_run.specs.Endless.{endless, endless_kept}
 
 -- what the wire is started with, and the description of the file
 pub record Plant : Type 0 where
   pub start : Listening
   pub description : Description
+
+abbrev pub plant_of : List ℕ → List ℕ → List ℕ → Description → Plant
+plant_of name listen bytes d = record { start = record { listen = listen; name = name; first = bytes }; description = d }
 
 -- by the server of a profile, with signals that begin so; where there is a store, with its name, and what is to be kept is looked at after each so manieth tick
 pub record Serving : Type 0 where
@@ -32,7 +35,7 @@ serving profile waves store every = record { profile = profile; waves = waves; s
 -- how many events are taken at most: one less with a store
 abbrev pub events_with : Option (List ℕ) → ℕ
 events_with None = endless
-events_with (Some store) = endless - 1
+events_with (Some store) = endless_kept
 
 -- the server of a plant, with the limit of its events
 abbrev pub service_of : Serving → Plant → Service

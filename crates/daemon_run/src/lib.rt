@@ -2,8 +2,13 @@
 #![tactic(auto)]
 
 mod help;
+mod plant;
+mod plant_kept;
+mod plant_served;
 mod preparing;
+mod printing;
 mod serving;
 
+pub use plant::run_plant;
 pub use preparing::{Prepared, prepare};
 pub use serving::{serve_plant, serve_watched};
