@@ -8,11 +8,11 @@ ghost use Rattle.type_layout.specs.Descriptions.{description_of};
 ghost use Rattle.server_core.specs.Served.{World, Client, served_step};
 ghost use Rattle.server_core.specs.Serves.{StandsAt};
 ghost use Rattle.run_tasks.specs.Service.{server_counts};
+ghost use Rattle.file_run.specs.FileOutcomes.{IsOfService};
 ghost use Rattle.file_run.specs.Machine.{RunsMachine, StandsAnew};
 ghost use Rattle.file_run.specs.Serving.{EndsService, EndsStarted};
 ghost use Rattle.daemon_run.specs.Endless.{endless};
 ghost use Rattle.daemon_run.specs.Plant.{plant_of, service_of, serving};
-ghost use Rattle.daemon_run.specs.Printed.{IsOfPlant};
 
 use crate::printing::print_end;
 use ads_base::NoMemory;
@@ -45,8 +45,7 @@ pub(crate) fn serve_read<T: Threads + Sync, W: Wire, S: Sink, B: Board + Drop, G
     ensures ends { EndsService (service_of (serving (profile_of profile) (G.waves signals) None 1)
         (plant_of name.now listen.now read.bytes (description_of read.description))) result
         (S.state out.old) (S.state out.new) (W.state wire.old).history (W.state wire.new).history }
-    ensures status { IsOfPlant result }
-    ensures no_store { result ≡ Status.StoreFault → ⊥ }
+    ensures status { IsOfService result }
 {
     let Accepted {
         bytes,
@@ -81,8 +80,7 @@ fn serve_posted<T: Threads + Sync, W: Wire, S: Sink, B: Board + Drop, G: Sources
     wire: &mut W,
     out: &mut S,
 ) -> Status
-    ensures status { IsOfPlant result }
-    ensures no_store { result ≡ Status.StoreFault → ⊥ }
+    ensures status { IsOfService result }
     ensures ends { (x : Standing World Client) → StandsAnew (StandsAt posted.old.core) x
         → EndsStarted (record { listen = listen.now; name = name.now; first = first.now })
         (λ between started. RunsMachine served_step server_counts x endless result between (S.state out.new) started (W.state wire.new).history)
@@ -102,8 +100,7 @@ fn run_posted<T: Threads + Sync, W: Wire, S: Sink, B: Board + Drop, G: Sources>(
     wire: &mut W,
     out: &mut S,
 ) -> Status
-    ensures status { IsOfPlant result }
-    ensures no_store { result ≡ Status.StoreFault → ⊥ }
+    ensures status { IsOfService result }
     ensures ends { (x : Standing World Client) → StandsAnew (StandsAt posted.old.core) x
         → RunsMachine served_step server_counts x endless result (S.state out.old) (S.state out.new) (W.state wire.old).history (W.state wire.new).history }
 {

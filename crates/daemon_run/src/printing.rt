@@ -5,6 +5,7 @@ ghost use Rattle.ads_served.specs.Standing.{Standing};
 ghost use Rattle.server_core.specs.Served.{World, Client};
 ghost use Rattle.server_core.specs.Serves.{StandsAt};
 ghost use Rattle.keep_play.specs.KeptSaves.{saved_line};
+ghost use Rattle.file_run.specs.FileOutcomes.{IsOfService};
 ghost use Rattle.run_tasks.specs.Prints.{PrintsEnding};
 ghost use Rattle.run_tasks.specs.Service.{server_counts, counts_and_line};
 ghost use Rattle.daemon_run.specs.Printed.{IsOfPlant, PrintsSo, counts_saved};
@@ -27,8 +28,8 @@ pub(crate) fn print_end<S: Sink, G: Sources>(
     saved: Option<u64>,
     out: &mut S,
 ) -> Status
-    requires done { IsOfPlant done }
-    ensures status { IsOfPlant result }
+    ensures service { IsOfService done → IsOfService result }
+    ensures status { IsOfPlant done → IsOfPlant result }
     ensures prints { PrintsSo ended done saved (StandsAt core.now) result (S.state out.old) (S.state out.new) }
 {
     match ended {
@@ -47,8 +48,8 @@ fn print_counted<S: Sink, G: Sources>(
     saved: Option<u64>,
     out: &mut S,
 ) -> Status
-    requires done { IsOfPlant status }
-    ensures status { IsOfPlant result }
+    ensures service { IsOfService status → IsOfService result }
+    ensures status { IsOfPlant status → IsOfPlant result }
     ensures prints { (x : Standing World Client) → StandsAt core.now x
         → PrintsEnding (counts_and_line (counts_saved saved (server_counts x.running.state)) status) result (S.state out.old) (S.state out.new) }
 {

@@ -7,12 +7,13 @@ use Rattle.type_layout.specs.Descriptions.{description_of}
 use Rattle.keep_play.specs.KeptDisk.{disk_used}
 use Rattle.run_tasks.specs.EndsOr.{WantsMemory}
 use Rattle.run_tasks.specs.Outcomes.{IsRead}
-use Rattle.run_tasks.proofs.EndLemmas.{wants_described, ends_as_told, ends_read}
+use Rattle.run_tasks.proofs.EndLemmas.{ending_in, wants_described, ends_as_told, ends_read}
 use Rattle.run_tasks.proofs.ReadLemmas.{reads_one}
 use Rattle.daemon_run.specs.Plant.{plant_of, serves_plant, serving, verdict_on}
 use Rattle.daemon_run.specs.PlantEnds.{EndsPlant}
 use Rattle.daemon_run.proofs.KeptLemmas.{plant_run, plant_wanting, with_store, without_store}
 use Rattle.daemon_run.proofs.PlantDone.{plant_done}
+use Rattle.daemon_run.proofs.StatusLemmas.{no_store_fault, not_before, of_service, told_no_store}
 use Rattle.daemon_run.proofs.plant.run_plant.Goals as goal
 
 pub returns-in-Err-clause-ends : goal.returns-in-Err-clause-ends
@@ -99,3 +100,26 @@ returns-in-Some-clause-ends g c =
     (Rose (g.F.Files.state c.args.files.now).faults (g.F.Files.state c.read_description.new.files).faults) s out out_new found.has found.is
     (plant_run h plant Still s out out_new disk wire wire_new
     (with_store profile waves c.args.store.now c.in-Some.store.now c.args.every plant s out out_new disk wire wire_new _ c.keep_read.ensures.ends))
+
+pub returns-in-None-clause-reads : goal.returns-in-None-clause-reads
+returns-in-None-clause-reads g c = reads_one c.serve_read.result _ _ c.args.description.now c.in-Ok-Ok.ensures.reads
+
+pub returns-in-Some-clause-reads : goal.returns-in-Some-clause-reads
+returns-in-Some-clause-reads g c = reads_one c.keep_read.result _ _ c.args.description.now c.in-Ok-Ok.ensures.reads
+
+pub returns-in-Ok-Err-clause-store_fault : goal.returns-in-Ok-Err-clause-store_fault
+returns-in-Ok-Err-clause-store_fault g c = λ is.
+    told_no_store (ending_in c.in-Ok-Err.told) c.print_outcome.result (g.S.Sink.state c.args.out.now) (g.S.Sink.state c.print_outcome.new.out)
+    c.print_outcome.ensures (rw c.in-Ok-Err.field-0-is at c.in-Ok-Err.ensures.status) is
+
+pub returns-in-None-clause-store_fault : goal.returns-in-None-clause-store_fault
+returns-in-None-clause-store_fault g c = λ is. no_store_fault c.serve_read.result c.serve_read.ensures.status is
+
+pub returns-in-None-clause-before_run : goal.returns-in-None-clause-before_run
+returns-in-None-clause-before_run g c = λ before. not_before c.serve_read.result (of_service c.serve_read.result c.serve_read.ensures.status) before
+
+pub returns-in-Some-clause-before_run : goal.returns-in-Some-clause-before_run
+returns-in-Some-clause-before_run g c = λ before. not_before c.keep_read.result c.keep_read.ensures.status before
+
+pub returns-in-Some-clause-disk_before_run : goal.returns-in-Some-clause-disk_before_run
+returns-in-Some-clause-disk_before_run g c = λ before. not_before c.keep_read.result c.keep_read.ensures.status before

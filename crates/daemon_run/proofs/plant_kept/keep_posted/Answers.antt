@@ -1,6 +1,7 @@
 -- The wire was started and that is told, or not.
 use Rattle.std.proofs.Common.{refl, inl}
 use Rattle.daemon_run.proofs.RunningLemmas.{ran_so}
+use Rattle.daemon_run.proofs.StatusLemmas.{no_store_fault, of_service}
 use Rattle.daemon_run.proofs.plant_kept.keep_posted.Goals as goal
 
 pub returns-in-Ok-clause-ends : goal.returns-in-Ok-clause-ends
@@ -13,3 +14,9 @@ returns-in-Ok-clause-ends g c = λ x stands.
 
 pub returns-in-Err-clause-ends : goal.returns-in-Err-clause-ends
 returns-in-Err-clause-ends g c = λ x stands. inl (refl, c.in-Err.ensures.err)
+
+pub returns-in-Err-clause-status : goal.returns-in-Err-clause-status
+returns-in-Err-clause-status g c = of_service c.in-Err.status c.in-Err.ensures.status
+
+pub returns-in-Err-clause-store_fault : goal.returns-in-Err-clause-store_fault
+returns-in-Err-clause-store_fault g c = λ is. no_store_fault c.in-Err.status c.in-Err.ensures.status is
