@@ -45,7 +45,7 @@ rose_later a b c le rose = omega (arith, le, rose)
 
 module _ {D : Type 0} (contents : D → Option (List ℕ)) (may_leave : D → List ℕ → Type 0) (moment : D → ℕ) (left_since : D → ℕ → List ℕ → Type 0)
     (faults : D → ℕ) where
-  abbrev Used : D → D → DiskUse
+  abbrev pub Used : D → D → DiskUse
   Used old new = disk_used contents may_leave moment left_since faults old new
 
   stands_for : (old new : D) (standing : Option Standing) → FileStandsFor contents may_leave new standing → FileStands (Used old new) standing

@@ -48,17 +48,17 @@ served_so noted serves serves_new x end.Memory limit s out out_new old new after
     runs_machine served_step noted serves serves_new server_counts x end.Memory limit s out out_new old new after prints stands
 
 -- the counts, and how many saves were done
-abbrev saved_counts : ℕ → MachineState World Client → List ℕ
+abbrev pub saved_counts : ℕ → MachineState World Client → List ℕ
 saved_counts saved state = server_counts state ++ saved_line saved
 
 module _ {D : Type 0} (noted : Noting World Client) (serves serves_new : Standing World Client → Type 0) (every : ℕ)
     (contents : D → Option (List ℕ)) (may_leave : D → List ℕ → Type 0) (moment : D → ℕ) (left_since : D → ℕ → List ℕ → Type 0) (faults : D → ℕ)
     (old_disk new_disk : D) (standing : Option slots.Standing) (old new : WireState) (s : Status) (out out_new : SinkState) where
-  abbrev Keeps : KeptOn → Type 0
+  abbrev pub Keeps : KeptOn → Type 0
   Keeps kept = ServesAndKeeps kept every body_of_world served_step noted serves serves_new contents may_leave moment left_since old_disk new_disk
       standing old new endless_kept
 
-  abbrev Runs : Standing World Client → Type 0
+  abbrev pub Runs : Standing World Client → Type 0
   Runs x = RunsOn every x standing s out out_new contents may_leave moment left_since faults old_disk new_disk old.history new.history
 
   ended_so : (x : Standing World Client) (r : End) (last : Option SaveEnd) (counts : SaveCounts)
@@ -66,46 +66,42 @@ module _ {D : Type 0} (noted : Noting World Client) (serves serves_new : Standin
       → PrintsSo r (status_kept last) (Some counts.saved) serves_new s out out_new → StandsAnew serves x → Runs x
   ended_so x end.Done last counts h failed prints stands =
       let over = stands old.history.opened in
-      let made = moves_made served_step noted serves serves_new x end.Done endless_kept old new h.serve stands in
       record {
         kept = record { ended = end.Done; last = last; counts = counts };
-        moves = made.0;
-        wire = made.1;
+        moves = h.serve.turns.moves;
+        wire = moves_made served_step noted serves serves_new x end.Done endless_kept old new h.serve stands;
         keeps = h.keeps x over;
         failed = failed;
-        prints = counted_after served_step noted serves_new (saved_counts counts.saved) x made.0 (status_kept last) s out out_new
+        prints = counted_after served_step noted serves_new (saved_counts counts.saved) x h.serve.turns.moves (status_kept last) s out out_new
             (h.serve.turns.stands x over).stands prints;
       }
   ended_so x end.Budget last counts h failed prints stands =
       let over = stands old.history.opened in
-      let made = moves_made served_step noted serves serves_new x end.Budget endless_kept old new h.serve stands in
       record {
         kept = record { ended = end.Budget; last = last; counts = counts };
-        moves = made.0;
-        wire = made.1;
+        moves = h.serve.moves;
+        wire = moves_made served_step noted serves serves_new x end.Budget endless_kept old new h.serve stands;
         keeps = h.keeps x over;
         failed = failed;
-        prints = counted_after served_step noted serves_new (saved_counts counts.saved) x made.0 status.Budget s out out_new
+        prints = counted_after served_step noted serves_new (saved_counts counts.saved) x h.serve.moves status.Budget s out out_new
             (h.serve.stands x over).stands prints;
       }
   ended_so x end.LinkFault last counts h failed prints stands =
       let over = stands old.history.opened in
-      let made = moves_made served_step noted serves serves_new x end.LinkFault endless_kept old new h.serve stands in
       record {
         kept = record { ended = end.LinkFault; last = last; counts = counts };
-        moves = made.0;
-        wire = made.1;
+        moves = h.serve.turns.moves;
+        wire = moves_made served_step noted serves serves_new x end.LinkFault endless_kept old new h.serve stands;
         keeps = h.keeps x over;
         failed = failed;
         prints = prints;
       }
   ended_so x end.Memory last counts h failed prints stands =
       let over = stands old.history.opened in
-      let made = moves_made served_step noted serves serves_new x end.Memory endless_kept old new h.serve stands in
       record {
         kept = record { ended = end.Memory; last = last; counts = counts };
-        moves = made.0;
-        wire = made.1;
+        moves = h.serve.breaks.moves;
+        wire = moves_made served_step noted serves serves_new x end.Memory endless_kept old new h.serve stands;
         keeps = h.keeps x over;
         failed = failed;
         prints = prints;

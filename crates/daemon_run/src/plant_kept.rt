@@ -263,8 +263,8 @@ fn run_kept<
 
 // How a run ends whose wire had no more events, by what became of the body at its end.
 fn status_of(last: Option<SaveEnd>) -> Status
-    ensures { result ≡ status_kept last }
-    ensures of_plant { IsOfPlant result }
+    ensures kept { result ≡ status_kept last }
+    ensures status { IsOfPlant result }
 {
     match last {
         None => Status::Done,

@@ -11,4 +11,4 @@ returns-clause-ends g c = λ x stands.
     g.D.Disk.contents g.D.Disk.may_leave g.D.Disk.moment g.D.Disk.left_since g.D.Disk.fault_count c.args.disk.now c.keep_on-kept.new.disk
     c.args.store.now.standing (g.W.Wire.state c.args.wire.now) (g.W.Wire.state c.keep_on-kept.new.wire) c.print_end.result
     (g.S.Sink.state c.args.out.now) (g.S.Sink.state c.print_end.new.out) x c.keep_on-kept.result c.keep_on-kept.ensures.keeps c.keep_on-kept.ensures.failed
-    (rw c.status_of.ensures.result at c.print_end.ensures.prints) stands
+    (rw c.status_of.ensures.kept at c.print_end.ensures.prints) stands
