@@ -74,21 +74,8 @@ pub(crate) fn keep_read<
         Ok(StoreOpen::Ready(opened)) => {
             let mut held = opened;
             keep_opened(
-                rt,
-                alloc,
-                profile,
-                name,
-                listen,
-                read,
-                store,
-                &mut held,
-                every,
-                wire,
-                out,
-                disk,
-                board,
-                notes,
-                signals,
+                rt, alloc, profile, name, listen, read, store, &mut held, every, wire, out, disk,
+                board, notes, signals,
             )
         }
     }
@@ -133,10 +120,7 @@ fn keep_opened<
     ensures later { D.fault_count disk.old ≤ D.fault_count disk.new }
     ensures store_fault { result ≡ Status.StoreFault → Rose (D.fault_count disk.old) (D.fault_count disk.new) }
 {
-    let Accepted {
-        bytes,
-        description,
-    } = read;
+    let Accepted { bytes, description } = read;
     let stored = match with_stored(alloc, description, store.body()) {
         Ok(stored) => stored,
         Err(NoMemory) => return end_without_memory(out),

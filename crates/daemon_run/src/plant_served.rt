@@ -47,10 +47,7 @@ pub(crate) fn serve_read<T: Threads + Sync, W: Wire, S: Sink, B: Board + Drop, G
         (S.state out.old) (S.state out.new) (W.state wire.old).history (W.state wire.new).history }
     ensures status { IsOfService result }
 {
-    let Accepted {
-        bytes,
-        description,
-    } = read;
+    let Accepted { bytes, description } = read;
     match Core::build_in(alloc, profile, description, signals) {
         Err(NoMemory) => end_without_memory(out),
         Ok(core) => {

@@ -32,17 +32,17 @@ returns-in-Err-clause-ends g c =
     (Rose (g.F.Files.state c.args.files.now).faults (g.F.Files.state c.read_description.new.files).faults) s out out_new refl wants
     (λ bytes d. service_wanting (service_of (server_with_in profile waves d) name listen bytes c.args.events) s out out_new wire wants)
 
-pub returns-in-Err-build-clause-ends : goal.returns-in-Err-build-clause-ends
-returns-in-Err-build-clause-ends g c =
+pub returns-in-Err-build_in-clause-ends : goal.returns-in-Err-build_in-clause-ends
+returns-in-Err-build_in-clause-ends g c =
     let waves = g.G.Sources.waves c.args.signals in
     let profile = profile_of c.args.profile in
     let name = c.args.description.now in
     let listen = c.args.listen.now in
     let out = g.S.Sink.state c.args.out.now in
-    let out_new = g.S.Sink.state c.end_without_memory-in-Err-build.new.out in
-    let s = c.end_without_memory-in-Err-build.result in
+    let out_new = g.S.Sink.state c.end_without_memory-in-Err-build_in.new.out in
+    let s = c.end_without_memory-in-Err-build_in.result in
     let wire = (g.W.Wire.state c.args.wire.now).history in
-    let wants : WantsMemory s out out_new = (c.end_without_memory-in-Err-build.ensures.memory, c.end_without_memory-in-Err-build.ensures.line) in
+    let wants : WantsMemory s out out_new = (c.end_without_memory-in-Err-build_in.ensures.memory, c.end_without_memory-in-Err-build_in.ensures.line) in
     wants_described Serves (λ x. EndsService x s out out_new wire wire) (wire ≡ wire) (g.F.Files.state c.args.files.now).held (length waves)
     (λ bytes d. Serves (service_of (server_with_in profile waves d) name listen bytes c.args.events)) name
     (Rose (g.F.Files.state c.args.files.now).faults (g.F.Files.state c.read_description.new.files).faults) s out out_new refl wants
@@ -89,8 +89,8 @@ returns-clause-ends g c =
     (c.start_machine.ensures.ends (at_start_in profile d waves)
     (core_anew c.in-Ok.core profile d waves (stands_at_start c.in-Ok.core profile d waves c.in-Ok.ensures.serves c.in-Ok.ensures.counted c.in-Ok.ensures.notes)))))
 
-pub returns-in-Err-build-clause-reads : goal.returns-in-Err-build-clause-reads
-returns-in-Err-build-clause-reads g c = reads_one c.end_without_memory-in-Err-build.result _ _ c.args.description.now c.in-Ok-Ok.ensures.reads
+pub returns-in-Err-build_in-clause-reads : goal.returns-in-Err-build_in-clause-reads
+returns-in-Err-build_in-clause-reads g c = reads_one c.end_without_memory-in-Err-build_in.result _ _ c.args.description.now c.in-Ok-Ok.ensures.reads
 
 pub returns-clause-reads : goal.returns-clause-reads
 returns-clause-reads g c = reads_one c.start_machine.result _ _ c.args.description.now c.in-Ok-Ok.ensures.reads
