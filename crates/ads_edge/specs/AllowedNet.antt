@@ -1,5 +1,5 @@
 -- Which IP addresses a list of nets lets in. This project's own choice: a list in CIDR notation, as RFC 4632 and RFC 4291 write nets.
-use Rattle.std.specs.Prelude.{ℕ, ◌-◌, ◌/◌, ◌%◌, ◌^◌, ◌==◌, ◌&&◌, List, [], ◌∷◌, Bool, true, if◌then◌else◌}
+use Rattle.std.specs.Prelude.{ℕ, ◌-◌, ◌/◌, ◌%◌, ◌^◌, ◌==◌, ◌&&◌, ◌||◌, List, length, Bool, if◌then◌else◌}
 use Rattle.std.specs.List.{list_any}
 use Rattle.std.specs.Net.Addr.{ipv4_bits, ipv6_bits}
 use Rattle.std.specs.declared.net.ip_addr.IpAddr.{IpAddr}
@@ -34,5 +34,4 @@ holds net a = share_bits net.bits (numbered net.address) (numbered a)
 
 -- a net of the list holds the address, or the list is empty
 abbrev pub allows : List AllowedNet → IpAddr → Bool
-allows [] a = true
-allows nets a = list_any (λ net. holds net a) nets
+allows nets a = length nets == 0 || list_any (λ net. holds net a) nets

@@ -1,7 +1,12 @@
 //! Which IP addresses are let in.
 
 ghost use Rattle.std.specs.Prelude.{◌≡◌, ◌/◌, ◌^◌};
-ghost use Rattle.ads_edge.specs.AllowedNet.{allows as is_let_in, first_bits, numbered, numbered_v6};
+ghost use Rattle.std.specs.List.{list_any};
+ghost use Rattle.std.specs.Net.Addr.{IsIpv4Addr, embedded_segments, ipv6_segments};
+ghost use Rattle.std.specs.declared.net.ipv4_addr.Ipv4Addr.{Ipv4Addr};
+ghost use Rattle.std.specs.declared.net.ipv6_addr.Ipv6Addr.{Ipv6Addr};
+ghost use Rattle.std.specs.declared.net.ip_addr.IpAddr.TheVariants.{V4, V6};
+ghost use Rattle.ads_edge.specs.AllowedNet.{allows as is_let_in, holds, numbered, numbered_v6};
 
 use std::net::IpAddr;
 
@@ -19,12 +24,17 @@ pub struct AllowedNet {
 pub fn allows(nets: &[AllowedNet], address: IpAddr) -> bool
     ensures { result ≡ is_let_in nets.now address }
 {
-    nets.is_empty() || nets.iter().any(|net| net.holds(address))
+    nets.is_empty() || one_holds(nets, address)
+}
+
+// Whether a net of a list holds an address.
+fn one_holds(nets: &[AllowedNet], address: IpAddr) -> bool
+    ensures { result ≡ list_any (λ net. holds net address) nets.now }
+{
+    nets.iter().any(|net| net.holds(address))
 }
 
 impl AllowedNet {
-    ghost use Rattle.ads_edge.specs.AllowedNet.{holds};
-
     /// Whether the net holds an address.
     pub fn holds(&self, address: IpAddr) -> bool
         ensures { result ≡ holds self.now address }
@@ -35,6 +45,12 @@ impl AllowedNet {
         net_width == width && without_last(net, others) == without_last(number, others)
     }
 }
+
+/// An IPv4-mapped IPv6 address is, in nets and for them, the IPv4 address that it maps.
+pub fn mapped_is_ipv4()
+    ensures { (mapped : Ipv6Addr) (a : Ipv4Addr) → IsIpv4Addr a → ipv6_segments mapped ≡ embedded_segments 0xffff a
+        → numbered (V6 mapped) ≡ numbered (V4 a) }
+{}
 
 // The width of an address in bits, and its value, the first octet the greatest.
 fn number_of(address: IpAddr) -> (u32, u128)

@@ -3,10 +3,8 @@
 use libc::net as c;
 use mio::net::TcpListener;
 use os::FromRawFd;
-use std::io;
-use std::net;
 use std::rt::Env;
-use std::str;
+use std::{io, net, str};
 
 /// The descriptor of the first one.
 const FIRST: i32 = 3;
