@@ -1,5 +1,5 @@
 -- What is known of a wire's doors.
-use Rattle.std.specs.Prelude.{◌≡◌, ℕ, Bool, not, ◌==◌, List, vec_len}
+use Rattle.std.specs.Prelude.{◌≡◌, Bool, not, ◌==◌, vec_len}
 use Rattle.ads_edge.specs.declared.doors.Doors.{Doors}
 
 -- someone may wait to be let in

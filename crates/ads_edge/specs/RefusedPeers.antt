@@ -1,5 +1,5 @@
 -- The peers that were refused: how many they are, and the last of them.
-use Rattle.std.specs.Prelude.{◌≡◌, ℕ, ◌-◌, ◌%◌, Bool, ◌&&◌, ◌==◌, nat_lt, nat_le, Option, None, if◌then◌else◌, get_or}
+use Rattle.std.specs.Prelude.{◌≡◌, ℕ, ◌-◌, ◌%◌, ◌&&◌, nat_lt, nat_le, Option, None, if◌then◌else◌, get_or}
 use Rattle.std.specs.declared.net.socket_addr.SocketAddr.{SocketAddr}
 use Rattle.ads_edge.specs.declared.refused_peers.RefusedPeers.{RefusedPeers}
 use Rattle.ads_edge.specs.declared.refused_peers.TheConstants.{KNOWN}

@@ -31,7 +31,7 @@ mod vanished;
 mod wall_clock;
 mod written;
 
-pub use allowed_net::{AllowedNet, allows};
+pub use allowed_net::{AllowedNet, allows, mapped_is_ipv4};
 pub use given::given_doors;
 pub use real_files::RealFiles;
 pub use real_link::RealLink;

@@ -1,6 +1,10 @@
 //! Doors, connections, the clock and the watch.
 
-ghost use Rattle.std.specs.Prelude.{◌≡◌, ◌≤◌, ◌<◌, ◌^◌, length, vec_len, IfOk, IfSome};
+ghost use Rattle.std.specs.Prelude.{◌≡◌, ◌≤◌, ◌<◌, ◌^◌, length, vec_len, IfOk, IfSome, IsTrue};
+ghost use Rattle.std.specs.Option.{ForSome};
+ghost use Rattle.std.specs.Net.Socket.{socket_ip};
+ghost use Rattle.ads_edge.specs.AllowedNet.{allows as is_let_in};
+ghost use Rattle.ads_edge.specs.declared.guest.Guest.{Guest};
 ghost use Rattle.ads_edge.specs.Turn.{IsFault, IsOfTime, IsTick, OpensBy};
 
 use crate::description_watch::DescriptionWatch;
@@ -38,6 +42,8 @@ pub(crate) struct Sockets {
     // The last turn was a tick.
     pub(crate) struck: bool,
     pub(crate) watch: DescriptionWatch,
+    // Who waits for a place is let in.
+    ghost admitted: { ForSome guest (λ (g : Guest). IsTrue (is_let_in doors.allowed.items (socket_ip g.peer))) },
 }
 
 impl Sockets {
@@ -181,10 +187,7 @@ impl Sockets {
     // that who is not let in is refused at once.
     fn accept(&mut self, number: Option<u32>) -> Option<Turn> {
         if self.peers.has_room() {
-            let guest = match self.guest.take() {
-                Some(guest) => guest,
-                None => self.doors.ask()?,
-            };
+            let guest = self.next_guest()?;
             return self.welcome(number, guest);
         }
         if self.asks_in() {
@@ -196,6 +199,17 @@ impl Sockets {
         self.peers.close_silent()
     }
 
+    // Who is to get a place.
+    fn next_guest(&mut self) -> Option<Guest>
+        ensures let_in { IfSome result (λ guest. IsTrue (is_let_in self.new.doors.allowed.items (socket_ip guest.peer))) }
+        ensures peers { self.new.peers ≡ self.old.peers }
+    {
+        match self.guest.take() {
+            Some(guest) => Some(guest),
+            None => self.doors.ask(),
+        }
+    }
+
     // Whether someone is asked in though there is no place: to be refused, or to get that of a silent connection.
     fn asks_in(&self) -> bool {
         self.doors.knocks()
@@ -205,7 +219,8 @@ impl Sockets {
 
     // A connection was accepted. Where it can't be watched it is dropped.
     fn welcome(&mut self, number: Option<u32>, guest: Guest) -> Option<Turn>
-        requires { vec_len self.old.peers.connections < 64 }
+        requires few { vec_len self.old.peers.connections < 64 }
+        requires let_in { IsTrue (is_let_in self.old.doors.allowed.items (socket_ip guest.peer)) }
         ensures { IfSome result (OpensBy number) }
     {
         let Some(number) = number else {
