@@ -25,7 +25,7 @@ use Rattle.file_run.specs.ServiceEnds.{ServesBy}
 use Rattle.daemon_run.specs.Endless.{endless, verdict_of_plant}
 
 -- an ending with another status does not come to Done
-not_done : (e : Ending) (s : Status) (old new : SinkState) → (e.status ≡ status.Done → ⊥) → PrintsEnding e s old new → s ≡ status.Done → ⊥
+pub not_done : (e : Ending) (s : Status) (old new : SinkState) → (e.status ≡ status.Done → ⊥) → PrintsEnding e s old new → s ≡ status.Done → ⊥
 not_done e s old new other (inl h) is = other (sym h.0 ∙ is)
 not_done e s old new other (inr (inl h)) is = let no : status.WriteFault ≡ status.Done = sym h.0 ∙ is in cc
 not_done e s old new other (inr (inr h)) is = let no : status.Memory ≡ status.Done = sym h.0 ∙ is in cc
@@ -43,7 +43,7 @@ run_done service end.LinkFault moves s between out_new wire wire_new made printe
 run_done service end.Memory moves s between out_new wire wire_new made printed is =
     let no : status.Memory ≡ status.Done = sym printed.0 ∙ is in cc
 
-service_done : (service : Service) (s : Status) (out out_new : SinkState) (wire wire_new : WireHistory) → EndsService service s out out_new wire wire_new
+pub service_done : (service : Service) (s : Status) (out out_new : SinkState) (wire wire_new : WireHistory) → EndsService service s out out_new wire wire_new
     → s ≡ status.Done → wire_new.ends ≡ raised wire.ends
 service_done service s out out_new wire wire_new (inl (inl h)) is =
     absurd (not_done (line_alone status.LinkFault) s out out_new (λ e. (cc)) h.1 is)
@@ -54,18 +54,18 @@ service_done service s out out_new wire wire_new (inr (inr h)) is =
     run_done service h.runs.ended h.runs.moves s h.between out_new wire wire_new h.runs.wire h.runs.prints is
 
 -- a verdict that is not an ending with Done
-abbrev IsNotDone : Verdict → Type 0
+abbrev pub IsNotDone : Verdict → Type 0
 IsNotDone v = (e : Ending) → Ends e ≡ v → e.status ≡ status.Done → ⊥
 
 status_in : Verdict → Status
 status_in (Ends e) = e.status
 status_in v = status.Usage
 
-ended_not_done : (t : Status) → (t ≡ status.Done → ⊥) → IsNotDone (ended t)
+pub ended_not_done : (t : Status) → (t ≡ status.Done → ⊥) → IsNotDone (ended t)
 unfolding status_in
 ended_not_done t never = λ e same is. never (sym (ap status_in same) ∙ is)
 
-serves_not_done : (x : Service) → IsNotDone (Serves x)
+pub serves_not_done : (x : Service) → IsNotDone (Serves x)
 unfolding status_in
 serves_not_done x = λ e same is. let other : status.Done ≡ status.Usage = sym is ∙ ap status_in same in cc
 

@@ -1,1 +1,5 @@
 pub mod DoneLemmas
+pub mod StatusLemmas
+pub mod RunningLemmas
+pub mod KeptLemmas
+pub mod PlantDone

@@ -19,7 +19,7 @@ use Rattle.spec_machine.specs.Moves.{EventStep, state_after}
 use Rattle.run_tasks.specs.declared.status.Status.{Status}
 use Rattle.run_tasks.specs.declared.status.Status.TheVariants as status
 use Rattle.run_tasks.specs.Ending.{line_alone}
-use Rattle.file_run.specs.Machine.{RunsMachine, StandsAnew}
+use Rattle.file_run.specs.Machine.{Moves, RunsMachine, StandsAnew}
 use Rattle.run_tasks.specs.Prints.{PutsMemoryLine, PrintsEnding}
 use Rattle.run_tasks.specs.Service.{counts_and_line}
 use Rattle.file_run.specs.Serving.{StopsBehind, AddsToLog, CannotPut, CannotRun, IsStarted, EndsStarted}
@@ -60,7 +60,7 @@ PrintsFor {W} {C} end.LinkFault serves counts s out out_new = PrintsEnding (line
 PrintsFor {W} {C} end.Memory serves counts s out out_new = (s ≡ status.Memory) × PutsMemoryLine out out_new
 
 -- the counts that were printed are those of the state after the moves
-counted_after : {W C : Type 0} (step : EventStep W C) (noted : Noting W C) (serves : Standing W C → Type 0) (counts : MachineState W C → List ℕ)
+pub counted_after : {W C : Type 0} (step : EventStep W C) (noted : Noting W C) (serves : Standing W C → Type 0) (counts : MachineState W C → List ℕ)
     (x : Standing W C) (ms : List Move) (r s : Status) (out out_new : SinkState) → serves (standing_after_all step noted x ms)
     → ((y : Standing W C) → serves y → PrintsEnding (counts_and_line (counts y.running.state) r) s out out_new)
     → PrintsEnding (counts_and_line (counts (state_after step x.running.state ms)) r) s out out_new
@@ -68,79 +68,98 @@ counted_after {W} {C} step noted serves counts x ms r s out out_new stands print
     let P : MachineState W C → Type 0 = λ state. PrintsEnding (counts_and_line (counts state) r) s out out_new in
     subst P (state_played step noted x ms) (prints (standing_after_all step noted x ms) stands)
 
--- a run of the loop over a machine, and what was printed of it
-pub runs_machine : {W C : Type 0} (step : EventStep W C) (noted : Noting W C) (serves serves_new : Standing W C → Type 0)
-    (counts : MachineState W C → List ℕ) (x : Standing W C) (r : End) (limit : ℕ) (s : Status) (out out_new : SinkState) (old new : WireState)
-    → AfterServe r step noted serves serves_new old new limit → PrintsFor r serves_new counts s out out_new → StandsAnew serves x
-    → RunsMachine step counts x limit s out out_new old.history new.history
-runs_machine step noted serves serves_new counts x end.Done limit s out out_new old new after prints stands =
+-- the moves of a run of the loop that ended so
+abbrev pub moves_of_serve : {W C : Type 0} (step : EventStep W C) (noted : Noting W C) (serves serves_new : Standing W C → Type 0)
+    (r : End) (limit : ℕ) (old new : WireState) → AfterServe r step noted serves serves_new old new limit → List Move
+moves_of_serve step noted serves serves_new end.Done limit old new after = after.turns.moves
+moves_of_serve step noted serves serves_new end.Budget limit old new after = after.moves
+moves_of_serve step noted serves serves_new end.LinkFault limit old new after = after.turns.moves
+moves_of_serve step noted serves serves_new end.Memory limit old new after = after.breaks.moves
+
+-- what they are
+pub moves_made : {W C : Type 0} (step : EventStep W C) (noted : Noting W C) (serves serves_new : Standing W C → Type 0) (x : Standing W C)
+    (r : End) (limit : ℕ) (old new : WireState) (after : AfterServe r step noted serves serves_new old new limit) → StandsAnew serves x
+    → Moves step x limit r (moves_of_serve step noted serves serves_new r limit old new after) old.history new.history
+moves_made step noted serves serves_new x end.Done limit old new after stands =
     let over = stands old.history.opened in
     let ms = after.turns.moves in
     let grown : new.history ≡ end_answered (history_after old.history ms) = after.then_ ∙ ap end_answered after.turns.logged in
     let fewer = fewer_events ms after.count limit after.turns.events after.fewer in
     record {
-      ended = end.Done;
-      moves = ms;
-      wire = record {
-        grown = grown;
-        logged = added old.history new.history ms (ap (λ (h : WireHistory). h.log) grown);
-        count = fewer;
-        most = less_is_most (events_in ms) limit fewer;
-        turns = λ other. after.turns.are x over;
-        offers = (after.turns.are x over).offers;
-      };
-      prints = counted_after step noted serves_new counts x ms status.Done s out out_new (after.turns.stands x over).stands prints;
+      grown = grown;
+      logged = added old.history new.history ms (ap (λ (h : WireHistory). h.log) grown);
+      count = fewer;
+      most = less_is_most (events_in ms) limit fewer;
+      turns = λ other. after.turns.are x over;
+      offers = (after.turns.are x over).offers;
     }
-runs_machine step noted serves serves_new counts x end.Budget limit s out out_new old new after prints stands =
+moves_made step noted serves serves_new x end.Budget limit old new after stands =
     let over = stands old.history.opened in
     let ms = after.moves in
     record {
-      ended = end.Budget;
-      moves = ms;
-      wire = record {
-        grown = after.logged;
-        logged = added old.history new.history ms (ap (λ (h : WireHistory). h.log) after.logged);
-        count = after.events;
-        most = most_events ms limit limit after.events (omega arith);
-        turns = λ other. after.are x over;
-        offers = (after.are x over).offers;
-      };
-      prints = counted_after step noted serves_new counts x ms status.Budget s out out_new (after.stands x over).stands prints;
+      grown = after.logged;
+      logged = added old.history new.history ms (ap (λ (h : WireHistory). h.log) after.logged);
+      count = after.events;
+      most = most_events ms limit limit after.events (omega arith);
+      turns = λ other. after.are x over;
+      offers = (after.are x over).offers;
     }
-runs_machine step noted serves serves_new counts x end.LinkFault limit s out out_new old new after prints stands =
+moves_made step noted serves serves_new x end.LinkFault limit old new after stands =
     let over = stands old.history.opened in
     let ms = after.turns.moves in
     let behind = stopped_behind old new ms after.last after.turns.logged after.then_ in
     let fewer = fewer_events ms after.count limit after.turns.events after.fewer in
     record {
-      ended = end.LinkFault;
-      moves = ms;
-      wire = record {
-        grown = behind;
-        logged = added old.history new.history ms (ap (λ (h : WireHistory). h.log) behind.same);
-        count = fewer;
-        most = less_is_most (events_in ms) limit fewer;
-        turns = λ other. after.turns.are x over;
-        offers = (after.turns.are x over).offers;
-      };
-      prints = prints;
+      grown = behind;
+      logged = added old.history new.history ms (ap (λ (h : WireHistory). h.log) behind.same);
+      count = fewer;
+      most = less_is_most (events_in ms) limit fewer;
+      turns = λ other. after.turns.are x over;
+      offers = (after.turns.are x over).offers;
     }
-runs_machine step noted serves serves_new counts x end.Memory limit s out out_new old new after prints stands =
+moves_made step noted serves serves_new x end.Memory limit old new after stands =
     let over = stands old.history.opened in
     let ms = after.breaks.moves in
     record {
-      ended = end.Memory;
-      moves = ms;
-      wire = record {
-        grown = after.breaks.logged;
-        logged = added old.history new.history ms (ap (λ (h : WireHistory). h.log) after.breaks.logged);
-        count = tt;
-        most = most_events ms after.count limit after.breaks.events after.within;
-        turns = λ other. absurd (other refl);
-        offers = after.breaks.are x over;
-      };
-      prints = prints;
+      grown = after.breaks.logged;
+      logged = added old.history new.history ms (ap (λ (h : WireHistory). h.log) after.breaks.logged);
+      count = tt;
+      most = most_events ms after.count limit after.breaks.events after.within;
+      turns = λ other. absurd (other refl);
+      offers = after.breaks.are x over;
     }
+
+-- a run of the loop over a machine, and what was printed of it
+pub runs_machine : {W C : Type 0} (step : EventStep W C) (noted : Noting W C) (serves serves_new : Standing W C → Type 0)
+    (counts : MachineState W C → List ℕ) (x : Standing W C) (r : End) (limit : ℕ) (s : Status) (out out_new : SinkState) (old new : WireState)
+    → AfterServe r step noted serves serves_new old new limit → PrintsFor r serves_new counts s out out_new → StandsAnew serves x
+    → RunsMachine step counts x limit s out out_new old.history new.history
+runs_machine step noted serves serves_new counts x end.Done limit s out out_new old new after prints stands = record {
+  ended = end.Done;
+  moves = after.turns.moves;
+  wire = moves_made step noted serves serves_new x end.Done limit old new after stands;
+  prints = counted_after step noted serves_new counts x after.turns.moves status.Done s out out_new
+      (after.turns.stands x (stands old.history.opened)).stands prints;
+}
+runs_machine step noted serves serves_new counts x end.Budget limit s out out_new old new after prints stands = record {
+  ended = end.Budget;
+  moves = after.moves;
+  wire = moves_made step noted serves serves_new x end.Budget limit old new after stands;
+  prints = counted_after step noted serves_new counts x after.moves status.Budget s out out_new
+      (after.stands x (stands old.history.opened)).stands prints;
+}
+runs_machine step noted serves serves_new counts x end.LinkFault limit s out out_new old new after prints stands = record {
+  ended = end.LinkFault;
+  moves = after.turns.moves;
+  wire = moves_made step noted serves serves_new x end.LinkFault limit old new after stands;
+  prints = prints;
+}
+runs_machine step noted serves serves_new counts x end.Memory limit s out out_new old new after prints stands = record {
+  ended = end.Memory;
+  moves = after.breaks.moves;
+  wire = moves_made step noted serves serves_new x end.Memory limit old new after stands;
+  prints = prints;
+}
 
 -- the wire was started, and what follows ran
 pub started_so : (a : Listening) (Runs : SinkState → WireHistory → Type 0) (s : Status) (out between out_new : SinkState) (old started new : WireHistory)

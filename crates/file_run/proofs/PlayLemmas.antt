@@ -7,6 +7,7 @@ use Rattle.spec_plant.specs.Description.{Description}
 use Rattle.spec_machine.specs.LogText.{log_text_of}
 use Rattle.spec_machine.specs.MachineState.{MachineState}
 use Rattle.spec_machine.specs.Moves.{state_after}
+use Rattle.spec_machine.specs.Profile.{Profile, Strict}
 use Rattle.spec_machine.specs.RunText.{notes_of_event, notes_of, text_of_log}
 use Rattle.spec_machine.specs.ScriptLine.{ScriptLine}
 use Rattle.spec_machine.specs.Summary.{summary_of}
@@ -16,14 +17,14 @@ use Rattle.run_tasks.specs.Load.{counts_of_play}
 use Rattle.ads_served.specs.Standing.{Standing, standing_after_all}
 use Rattle.replay_script.specs.Playing.{IsUnused, IsPlay}
 use Rattle.replay_script.proofs.StandingPlayed.{state_played, notes_played}
-use Rattle.file_run.specs.FileOutcomes.{at_start}
-use Rattle.server_core.specs.CoreState.{started}
+use Rattle.file_run.specs.FileOutcomes.{at_start, at_start_in}
+use Rattle.server_core.specs.CoreState.{started, started_in}
 use Rattle.server_core.specs.Served.{World, Client, served, served_step}
 use Rattle.server_core.specs.Serves.{CoreView, Serves, HasCounts, StandsAt}
 
-pub stands_at_start : (core : CoreView) (d : Description) (waves : List Wave) → Serves core (started d waves) → HasCounts core (started d waves)
-    → core.server.notes ≡ [] → StandsAt core (at_start d waves)
-stands_at_start core d waves serves counted notes = record { serves = serves; counted = counted; notes = notes }
+pub stands_at_start : (core : CoreView) (profile : Profile) (d : Description) (waves : List Wave) → Serves core (started_in profile d waves)
+    → HasCounts core (started_in profile d waves) → core.server.notes ≡ [] → StandsAt core (at_start_in profile d waves)
+stands_at_start core profile d waves serves counted notes = record { serves = serves; counted = counted; notes = notes }
 
 start_unused : (d : Description) (waves : List Wave) → IsUnused (at_start d waves)
 start_unused d waves = record { none = refl; free = refl }
@@ -37,7 +38,7 @@ pub text_played : (core new : CoreView) (d : Description) (waves : List Wave) (l
 unfolding served
 text_played core new d waves lines log text serves counted none play told =
     let x = at_start d waves in
-    let played = play x (stands_at_start core d waves serves counted none) (start_unused d waves) in
+    let played = play x (stands_at_start core Strict d waves serves counted none) (start_unused d waves) in
     let y = standing_after_all served_step (notes_of_event served) x log in
     let notes : y.notes ≡ notes_of served (server_start d waves) log = notes_played served x log in
     let state : y.running.state ≡ state_after served_step (server_start d waves) log = state_played served_step (notes_of_event served) x log in
@@ -55,7 +56,7 @@ pub counts_played : (core new : CoreView) (d : Description) (waves : List Wave) 
 unfolding served counts_of_play
 counts_played core new d waves lines log text serves counted none play told =
     let x = at_start d waves in
-    let played = play x (stands_at_start core d waves serves counted none) (start_unused d waves) in
+    let played = play x (stands_at_start core Strict d waves serves counted none) (start_unused d waves) in
     let y = standing_after_all served_step (notes_of_event served) x log in
     let state : y.running.state ≡ state_after served_step (server_start d waves) log = state_played served_step (notes_of_event served) x log in
     told y played.stands

@@ -6,8 +6,9 @@ use Rattle.spec_plant.specs.Description.{Description}
 use Rattle.spec_plant.specs.World.{byte_at}
 use Rattle.spec_machine.specs.MachineState.{MachineState}
 use Rattle.spec_machine.specs.Moves.{state_after_move, state_after}
-use Rattle.spec_machine.specs.World.{World, world_of}
+use Rattle.spec_machine.specs.World.{World, world_in}
 use Rattle.spec_machine.specs.Client.{Client}
+use Rattle.spec_machine.specs.Profile.{Profile, Strict}
 use Rattle.spec_machine.specs.ScriptLine.{ScriptLine}
 use Rattle.spec_machine.specs.Turns.{KeepsTurns}
 use Rattle.spec_machine.specs.Delivery.{AreOffers}
@@ -15,80 +16,81 @@ use Rattle.spec_machine.proofs.Changes.{state_after-append}
 use Rattle.spec_machine.proofs.TurnsKept.{offers_whole, takes_output}
 use Rattle.spec_machine.proofs.ServerDelivers.{server_only_adds, server_takes_output, server_takes_all}
 use Rattle.spec_laws.proofs.Exact.{changes_only_by_writes}
-use Rattle.spec_server.specs.Server.{read_description, server_device, server, server_start, server_after, server_play}
-use Rattle.spec_server.specs.ServerLaws.{IsUntouchedHere}
-use Rattle.spec_server.proofs.ServerProofs.{server_plays_in_turns, server_is_isolated, server_takes_as_alone, server_refuses_dead_handles}
-use Rattle.spec_promises.proofs.Promised.{server_holds_writes}
-use Rattle.spec_promises.proofs.Lives.{server_notifies}
-use Rattle.spec_promises.proofs.KeptReads.{server_keeps_handles}
-use Rattle.file_run.specs.Promises.{GivesFramesInOrder, ChangesByWrites, IsServedAsAlone, BeginsAsAlone, KeepsPromises, KeepsPromisesSoFar, PlayKeepsPromises}
+use Rattle.spec_server.specs.Server.{read_description, server_device, server, server_start_in, server_after_in, server_play}
+use Rattle.spec_server.proofs.ServerProofs.{server_plays_in_turns, each_is_isolated, each_takes_as_alone, server_refuses_dead_handles}
+use Rattle.spec_promises.proofs.Promised.{each_holds_writes}
+use Rattle.spec_promises.proofs.Lives.{each_notifies}
+use Rattle.spec_promises.proofs.KeptReads.{each_keeps_handles}
+use Rattle.file_run.specs.Promises.{GivesFramesInOrderIn, ChangesByWritesIn, IsUntouchedHereIn, IsServedAsAloneIn, BeginsAsAloneIn}
+use Rattle.file_run.specs.Promises.{KeepsPromisesIn, KeepsPromisesSoFarIn, PlayKeepsPromises}
 
-frames_in_order : (d : Description) (waves : List Wave) (log : List Move) → KeepsTurns server (server_start d waves) log
-    → GivesFramesInOrder d waves log
-frames_in_order d waves log turns = record {
+frames_in_order : (profile : Profile) (d : Description) (waves : List Wave) (log : List Move) → KeepsTurns server (server_start_in profile d waves) log
+    → GivesFramesInOrderIn profile d waves log
+frames_in_order profile d waves log turns = record {
   turns = turns;
-  begins = λ c. server_takes_output server_device (world_of d waves) c log turns;
-  all = λ c long open_. server_takes_all server_device (world_of d waves) c log turns long open_;
+  begins = λ c. server_takes_output server_device (world_in profile d waves) c log turns;
+  all = λ c long open_. server_takes_all server_device (world_in profile d waves) c log turns long open_;
 }
 
 one_move : (s : MachineState World Client) (m : Move) → state_after server s (m ∷ []) ≡ state_after_move server s m
 unfolding state_after
 one_move s m = refl
 
-changes_by_writes : (d : Description) (waves : List Wave) (before : List Move) (m : Move) → ChangesByWrites d waves before m
-changes_by_writes d waves before m name not_reload not_written =
-    let s = server_after d waves before in
-    let next : server_after d waves (before ++ m ∷ []) ≡ state_after_move server s m =
-    state_after-append server before (m ∷ []) (server_start d waves) ∙ one_move s m in
+changes_by_writes : (profile : Profile) (d : Description) (waves : List Wave) (before : List Move) (m : Move)
+    → ChangesByWritesIn profile d waves before m
+changes_by_writes profile d waves before m name not_reload not_written =
+    let s = server_after_in profile d waves before in
+    let next : server_after_in profile d waves (before ++ m ∷ []) ≡ state_after_move server s m =
+    state_after-append server before (m ∷ []) (server_start_in profile d waves) ∙ one_move s m in
     ap (λ (t : MachineState World Client). byte_at t.world.memory name) next
     ∙ changes_only_by_writes read_description s m name not_reload not_written
 
-are_offers : (d : Description) (waves : List Wave) (log : List Move) → KeepsTurns server (server_start d waves) log
-    → AreOffers server (server_start d waves) log
-are_offers d waves log turns =
-    offers_whole World Client server (server_start d waves) log []
-    (subst (λ (l : List Move). KeepsTurns server (server_start d waves) l) (sym (append-nil log)) turns)
+are_offers : (profile : Profile) (d : Description) (waves : List Wave) (log : List Move) → KeepsTurns server (server_start_in profile d waves) log
+    → AreOffers server (server_start_in profile d waves) log
+are_offers profile d waves log turns =
+    offers_whole World Client server (server_start_in profile d waves) log []
+    (subst (λ (l : List Move). KeepsTurns server (server_start_in profile d waves) l) (sym (append-nil log)) turns)
 
-served_as_alone : (d : Description) (waves : List Wave) (log : List Move) → KeepsTurns server (server_start d waves) log
-    → (c : ℕ) → IsUntouchedHere d waves c log → IsServedAsAlone d waves c log
-served_as_alone d waves log turns c untouched =
-    let taken = server_takes_as_alone d waves c log untouched in
+served_as_alone : (profile : Profile) (d : Description) (waves : List Wave) (log : List Move) → KeepsTurns server (server_start_in profile d waves) log
+    → (c : ℕ) → IsUntouchedHereIn profile d waves c log → IsServedAsAloneIn profile d waves c log
+served_as_alone profile d waves log turns c untouched =
+    let taken = each_takes_as_alone profile d waves c log untouched in
     record {
-      given = server_is_isolated d waves c log untouched;
-      begins = taken.begins (are_offers d waves log turns);
+      given = each_is_isolated profile d waves c log untouched;
+      begins = taken.begins (are_offers profile d waves log turns);
       all = taken.all turns;
     }
 
-pub turns_keep_promises : (d : Description) (waves : List Wave) (log : List Move) → KeepsTurns server (server_start d waves) log
-    → KeepsPromises d waves log
-turns_keep_promises d waves log turns = record {
-  frames = frames_in_order d waves log turns;
-  writes = λ before after m is. changes_by_writes d waves before m;
-  isolated = served_as_alone d waves log turns;
+pub turns_keep_promises : (profile : Profile) (d : Description) (waves : List Wave) (log : List Move)
+    → KeepsTurns server (server_start_in profile d waves) log → KeepsPromisesIn profile d waves log
+turns_keep_promises profile d waves log turns = record {
+  frames = frames_in_order profile d waves log turns;
+  writes = λ before after m is. changes_by_writes profile d waves before m;
+  isolated = served_as_alone profile d waves log turns;
   dead_handles = server_refuses_dead_handles;
-  held = λ accepted before after m is. server_holds_writes d waves accepted before m;
-  notified = λ before after is. server_notifies d waves before after;
-  kept_handles = λ accepted before after bytes is. server_keeps_handles d waves accepted before bytes;
+  held = λ accepted before after m is. each_holds_writes profile d waves accepted before m;
+  notified = λ before after is. each_notifies profile d waves before after;
+  kept_handles = λ accepted before after bytes is. each_keeps_handles profile d waves accepted before bytes;
 }
 
-begins_as_alone : (d : Description) (waves : List Wave) (log : List Move) → AreOffers server (server_start d waves) log
-    → (c : ℕ) → IsUntouchedHere d waves c log → BeginsAsAlone d waves c log
-begins_as_alone d waves log offers c untouched =
-    let taken = server_takes_as_alone d waves c log untouched in
-    record { given = server_is_isolated d waves c log untouched; begins = taken.begins offers }
+begins_as_alone : (profile : Profile) (d : Description) (waves : List Wave) (log : List Move) → AreOffers server (server_start_in profile d waves) log
+    → (c : ℕ) → IsUntouchedHereIn profile d waves c log → BeginsAsAloneIn profile d waves c log
+begins_as_alone profile d waves log offers c untouched =
+    let taken = each_takes_as_alone profile d waves c log untouched in
+    record { given = each_is_isolated profile d waves c log untouched; begins = taken.begins offers }
 
-pub offers_keep_promises : (d : Description) (waves : List Wave) (log : List Move) → AreOffers server (server_start d waves) log
-    → KeepsPromisesSoFar d waves log
-offers_keep_promises d waves log offers = record {
-  begins = λ c. takes_output World Client server (world_of d waves) c log (server_only_adds World Client server_device) offers;
-  writes = λ before after m is. changes_by_writes d waves before m;
-  isolated = begins_as_alone d waves log offers;
+pub offers_keep_promises : (profile : Profile) (d : Description) (waves : List Wave) (log : List Move)
+    → AreOffers server (server_start_in profile d waves) log → KeepsPromisesSoFarIn profile d waves log
+offers_keep_promises profile d waves log offers = record {
+  begins = λ c. takes_output World Client server (world_in profile d waves) c log (server_only_adds World Client server_device) offers;
+  writes = λ before after m is. changes_by_writes profile d waves before m;
+  isolated = begins_as_alone profile d waves log offers;
   dead_handles = server_refuses_dead_handles;
-  held = λ accepted before after m is. server_holds_writes d waves accepted before m;
-  notified = λ before after is. server_notifies d waves before after;
-  kept_handles = λ accepted before after bytes is. server_keeps_handles d waves accepted before bytes;
+  held = λ accepted before after m is. each_holds_writes profile d waves accepted before m;
+  notified = λ before after is. each_notifies profile d waves before after;
+  kept_handles = λ accepted before after bytes is. each_keeps_handles profile d waves accepted before bytes;
 }
 
 pub play_keeps_promises : (d : Description) (waves : List Wave) (lines : List ScriptLine) → PlayKeepsPromises d waves lines
 play_keeps_promises d waves lines =
-    turns_keep_promises d waves (server_play d waves lines) (server_plays_in_turns d waves lines)
+    turns_keep_promises Strict d waves (server_play d waves lines) (server_plays_in_turns d waves lines)

@@ -10,12 +10,13 @@ use Rattle.ads_outside.specs.WireState.{WireHistory}
 use Rattle.spec_plant.specs.Description.{Description}
 use Rattle.spec_machine.specs.Connection.{connection_of}
 use Rattle.spec_machine.specs.Delivery.{AreOffers}
+use Rattle.spec_machine.specs.Profile.{Profile}
 use Rattle.spec_machine.specs.Turns.{KeepsTurns}
 use Rattle.spec_relay.specs.RelayState.{relay_start}
 use Rattle.spec_relay.specs.RelayMoves.{relay_after_event}
 use Rattle.spec_relay.specs.RelayPromises.{RelayKeepsPromisesAt}
 use Rattle.spec_relay.proofs.PromiseLemmas as promised
-use Rattle.spec_server.specs.Server.{server, server_start}
+use Rattle.spec_server.specs.Server.{server, server_start_in}
 use Rattle.serve_loop.specs.TurnTaken.{AreTurnsOf}
 use Rattle.server_core.specs.Served.{served, served_step}
 use Rattle.server_core.specs.Serves.{CoreView, StandsAt}
@@ -23,8 +24,8 @@ use Rattle.ams_relay.specs.declared.router.Relay.{Relay}
 use Rattle.ams_relay.specs.Relays as relays
 use Rattle.run_tasks.specs.declared.status.Status.{Status}
 use Rattle.file_run.specs.Machine.{RunsMachine, StandsAnew}
-use Rattle.file_run.specs.FileOutcomes.{at_start}
-use Rattle.file_run.specs.Promises.{KeepsPromisesAt}
+use Rattle.file_run.specs.FileOutcomes.{at_start_in}
+use Rattle.file_run.specs.Promises.{KeepsPromisesAtIn}
 use Rattle.run_tasks.specs.Service.{Service, ServedMachine, OfServer, OfRelay, server_counts, relay_counts}
 use Rattle.file_run.specs.Serving.{RunsService, EndsService, EndsStarted}
 use Rattle.run_tasks.specs.Verdict.{Serves}
@@ -33,35 +34,39 @@ use Rattle.file_run.proofs.PromiseLemmas.{turns_keep_promises, offers_keep_promi
 use Rattle.run_tasks.specs.EndsOr.{WantsMemory, EndsOr}
 
 -- a core that was just built has no connection
-pub core_anew : (core : CoreView) (d : Description) (waves : List Wave) → StandsAt core (at_start d waves) → StandsAnew (StandsAt core) (at_start d waves)
+pub core_anew : (core : CoreView) (profile : Profile) (d : Description) (waves : List Wave) → StandsAt core (at_start_in profile d waves)
+    → StandsAnew (StandsAt core) (at_start_in profile d waves)
 unfolding connection_of
-core_anew core d waves stands = λ opened. record { stands = stands; numbers = λ n other. refl }
+core_anew core profile d waves stands = λ opened. record { stands = stands; numbers = λ n other. refl }
 
-turns_of : (d : Description) (waves : List Wave) (ms : List Move) → AreTurnsOf served_step (at_start d waves).running ms
-    → KeepsTurns server (server_start d waves) ms
+turns_of : (profile : Profile) (d : Description) (waves : List Wave) (ms : List Move)
+    → AreTurnsOf served_step (at_start_in profile d waves).running ms → KeepsTurns server (server_start_in profile d waves) ms
 unfolding served
-turns_of d waves ms are = record { turns = are.turns; whole = are.are; served = are.served }
+turns_of profile d waves ms are = record { turns = are.turns; whole = are.are; served = are.served }
 
-offers_of : (d : Description) (waves : List Wave) (ms : List Move) → AreOffers served_step (server_start d waves) ms
-    → AreOffers server (server_start d waves) ms
+offers_of : (profile : Profile) (d : Description) (waves : List Wave) (ms : List Move) → AreOffers served_step (server_start_in profile d waves) ms
+    → AreOffers server (server_start_in profile d waves) ms
 unfolding served
-offers_of d waves ms are = are
+offers_of profile d waves ms are = are
 
 -- the moves of a server keep its promises
-server_promises : (ended : End) (d : Description) (waves : List Wave) (ms : List Move)
-    → (ended ≢ end.Memory → AreTurnsOf served_step (at_start d waves).running ms) → AreOffers served_step (server_start d waves) ms
-    → KeepsPromisesAt ended d waves ms
-server_promises end.Done d waves ms turns offers = turns_keep_promises d waves ms (turns_of d waves ms (turns (λ e. (cc))))
-server_promises end.Budget d waves ms turns offers = turns_keep_promises d waves ms (turns_of d waves ms (turns (λ e. (cc))))
-server_promises end.LinkFault d waves ms turns offers = turns_keep_promises d waves ms (turns_of d waves ms (turns (λ e. (cc))))
-server_promises end.Memory d waves ms turns offers = offers_keep_promises d waves ms (offers_of d waves ms offers)
+pub server_promises : (ended : End) (profile : Profile) (d : Description) (waves : List Wave) (ms : List Move)
+    → (ended ≢ end.Memory → AreTurnsOf served_step (at_start_in profile d waves).running ms)
+    → AreOffers served_step (server_start_in profile d waves) ms → KeepsPromisesAtIn ended profile d waves ms
+server_promises end.Done profile d waves ms turns offers =
+    turns_keep_promises profile d waves ms (turns_of profile d waves ms (turns (λ e. (cc))))
+server_promises end.Budget profile d waves ms turns offers =
+    turns_keep_promises profile d waves ms (turns_of profile d waves ms (turns (λ e. (cc))))
+server_promises end.LinkFault profile d waves ms turns offers =
+    turns_keep_promises profile d waves ms (turns_of profile d waves ms (turns (λ e. (cc))))
+server_promises end.Memory profile d waves ms turns offers = offers_keep_promises profile d waves ms (offers_of profile d waves ms offers)
 
 -- a run of a server
-server_runs : (start : Listening) (d : Description) (waves : List Wave) (limit : ℕ) (s : Status) (out out_new : SinkState) (old new : WireHistory)
-    → RunsMachine served_step server_counts (at_start d waves) limit s out out_new old new
-    → RunsService (record { start = start; machine = OfServer d waves; limit = limit }) s out out_new old new
+server_runs : (start : Listening) (profile : Profile) (d : Description) (waves : List Wave) (limit : ℕ) (s : Status) (out out_new : SinkState)
+    (old new : WireHistory) → RunsMachine served_step server_counts (at_start_in profile d waves) limit s out out_new old new
+    → RunsService (record { start = start; machine = OfServer profile d waves; limit = limit }) s out out_new old new
 unfolding served
-server_runs start d waves limit s out out_new old new h = record {
+server_runs start profile d waves limit s out out_new old new h = record {
   ended = h.ended;
   moves = h.moves;
   wire = record {
@@ -69,7 +74,7 @@ server_runs start d waves limit s out out_new old new h = record {
     logged = h.wire.logged;
     count = h.wire.count;
     most = h.wire.most;
-    promises = server_promises h.ended d waves h.moves h.wire.turns h.wire.offers;
+    promises = server_promises h.ended profile d waves h.moves h.wire.turns h.wire.offers;
   };
   prints = h.prints;
 }
@@ -79,15 +84,16 @@ abbrev pub service_of : ServedMachine → List ℕ → List ℕ → List ℕ →
 service_of machine name listen bytes limit =
     record { start = record { listen = listen; name = name; first = bytes }; machine = machine; limit = limit }
 
-pub server_ends : (a : Listening) (d : Description) (waves : List Wave) (name listen bytes : List ℕ) (limit : ℕ) (s : Status) (out out_new : SinkState)
-    (old new : WireHistory) → ◌≡◌ {A = Listening} (record { listen = listen; name = name; first = bytes }) a
-    → EndsStarted a (λ between mid. RunsMachine served_step server_counts (at_start d waves) limit s between out_new mid new) s out out_new old new
-    → EndsService (service_of (OfServer d waves) name listen bytes limit) s out out_new old new
-server_ends a d waves name listen bytes limit s out out_new old new is h =
+pub server_ends : (a : Listening) (profile : Profile) (d : Description) (waves : List Wave) (name listen bytes : List ℕ) (limit : ℕ) (s : Status)
+    (out out_new : SinkState) (old new : WireHistory) → ◌≡◌ {A = Listening} (record { listen = listen; name = name; first = bytes }) a
+    → EndsStarted a (λ between mid. RunsMachine served_step server_counts (at_start_in profile d waves) limit s between out_new mid new)
+    s out out_new old new
+    → EndsService (service_of (OfServer profile d waves) name listen bytes limit) s out out_new old new
+server_ends a profile d waves name listen bytes limit s out out_new old new is h =
     let start : Listening = record { listen = listen; name = name; first = bytes } in
-    ends_as a start (λ between mid. RunsMachine served_step server_counts (at_start d waves) limit s between out_new mid new)
-    (λ between mid. RunsService (service_of (OfServer d waves) name listen bytes limit) s between out_new mid new) s out out_new old new is
-    (λ between mid k. server_runs start d waves limit s between out_new mid new k) h
+    ends_as a start (λ between mid. RunsMachine served_step server_counts (at_start_in profile d waves) limit s between out_new mid new)
+    (λ between mid. RunsService (service_of (OfServer profile d waves) name listen bytes limit) s between out_new mid new) s out out_new old new is
+    (λ between mid k. server_runs start profile d waves limit s between out_new mid new k) h
 
 -- a relay that was just built has no connection
 pub relay_anew : (relay : Relay) (d : Description) → relays.StandsAt relay (relays.standing_at_start (relay_start d))

@@ -4,10 +4,11 @@ use Rattle.ads_base.specs.declared.no_memory.NoMemory.{NoMemory}
 use Rattle.ads_outside.specs.SinkState.{SinkState}
 use Rattle.signals.specs.Wave.{Wave}
 use Rattle.spec_plant.specs.Description.{Description}
+use Rattle.spec_machine.specs.Profile.{Profile, Strict}
 use Rattle.spec_machine.specs.ScriptLine.{ScriptLine}
 use Rattle.type_layout.specs.Descriptions.{description_of}
 use Rattle.ads_served.specs.Standing.{Standing}
-use Rattle.server_core.specs.CoreState.{started}
+use Rattle.server_core.specs.CoreState.{started_in}
 use Rattle.server_core.specs.Served.{World, Client}
 use Rattle.keep_play.specs.declared.kept_play.KeptPlay.{KeptPlay}
 use Rattle.keep_play.specs.declared.kept_play.KeptPlay.TheVariants as kept
@@ -97,6 +98,10 @@ PrintsPlay (Ok kept.StoreFault) s old new = PrintsEnding (line_alone status.Stor
 PrintsPlay (Ok kept.StoreLimit) s old new = PrintsEnding (line_alone status.StoreLimit) s old new
 PrintsPlay (Err e) s old new = (s ≡ status.Memory) × PutsMemoryLine old new
 
--- a server that is about to begin
+-- a server of a profile that is about to begin
+abbrev pub at_start_in : Profile → Description → List Wave → Standing World Client
+at_start_in profile d waves = record { running = started_in profile d waves; notes = [] }
+
+-- the strict one
 abbrev pub at_start : Description → List Wave → Standing World Client
-at_start d waves = record { running = started d waves; notes = [] }
+at_start d waves = at_start_in Strict d waves

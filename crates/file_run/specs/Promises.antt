@@ -1,4 +1,5 @@
--- What a log promises: of a script's play over a description, with signals that begin so, or of what is served.
+-- What a log promises: of a script's play over a description, with signals that begin so, or of what is served; of the server of
+-- a profile, and so of the strict one, which the program `ads` is.
 use Rattle.std.specs.Prelude.{◌≡◌, ℕ, List, [], ◌++◌, ◌∷◌, length, false}
 use Rattle.signals.specs.Wave.{Wave}
 use Rattle.ads_outside.specs.declared.end.End.{End}
@@ -10,87 +11,102 @@ use Rattle.spec_plant.specs.Description.{Description}
 use Rattle.spec_plant.specs.Accepted.{IsAccepted}
 use Rattle.spec_plant.specs.World.{ByteName, byte_at}
 use Rattle.spec_machine.specs.Offers.{taken_of}
+use Rattle.spec_machine.specs.Profile.{Profile, Strict}
 use Rattle.spec_machine.specs.Turns.{KeepsTurns}
 use Rattle.spec_machine.specs.Projection.{projection_of}
 use Rattle.spec_machine.specs.ScriptLine.{ScriptLine}
 use Rattle.spec_machine.specs.Delivery.{IsPrefix, is_short, is_cut_off}
-use Rattle.spec_laws.specs.Isolation.{IsAmong}
+use Rattle.spec_laws.specs.Isolation.{IsAmong, IsUntouchedIn}
 use Rattle.spec_laws.specs.ExactWrites.{writes_of_move, is_accepted_reload}
-use Rattle.spec_server.specs.Server.{read_description, server, server_start, server_after, server_output, server_play}
-use Rattle.spec_server.specs.ServerLaws.{IsUntouchedHere, ServerRefusesDeadHandles}
-use Rattle.spec_promises.specs.Written.{HoldsWrites}
-use Rattle.spec_promises.specs.Notified.{NotifiesAfter}
-use Rattle.spec_promises.specs.KeptHandles.{KeepsHandles}
+use Rattle.spec_server.specs.Server.{read_description, server, server_start_in, server_after_in, server_output_in, server_play}
+use Rattle.spec_server.specs.ServerLaws.{ServerRefusesDeadHandles}
+use Rattle.spec_promises.specs.Written.{HoldsWritesIn}
+use Rattle.spec_promises.specs.Notified.{NotifiesAfterIn}
+use Rattle.spec_promises.specs.KeptHandles.{KeepsHandlesIn}
+
+-- none of the bytes that a connection reads, were it alone, is written by another
+abbrev pub IsUntouchedHereIn : Profile → Description → List Wave → ℕ → List Move → Type 0
+IsUntouchedHereIn profile d waves c log = IsUntouchedIn read_description profile d waves c log
 
 -- each connection takes the machine's frames in their order
-pub record GivesFramesInOrder (d : Description) (waves : List Wave) (log : List Move) : Type 0 where
+pub record GivesFramesInOrderIn (profile : Profile) (d : Description) (waves : List Wave) (log : List Move) : Type 0 where
   -- each event is followed by the offers to each connection
-  pub turns : KeepsTurns server (server_start d waves) log
+  pub turns : KeepsTurns server (server_start_in profile d waves) log
   -- what a connection took begins what it was given
-  pub begins : (c : ℕ) → IsPrefix (taken_of c log) (server_output d waves c log)
+  pub begins : (c : ℕ) → IsPrefix (taken_of c log) (server_output_in profile d waves c log)
   -- and is all of it, unless its last offer was short, or it was closed by its peer or lost
   pub all : (c : ℕ) → is_short c log ≡ false → is_cut_off c log ≡ false
-      → taken_of c log ≡ server_output d waves c log
+      → taken_of c log ≡ server_output_in profile d waves c log
 
 -- a byte changes at a move only by an accepted write or control that addresses it, by its signal at a tick, or by an
 -- accepted reload
-abbrev pub ChangesByWrites : Description → List Wave → List Move → Move → Type 0
-ChangesByWrites d waves before m = (name : ByteName)
-    → is_accepted_reload read_description (server_after d waves before) m ≡ false
-    → (IsAmong name (writes_of_move read_description (server_after d waves before) m) → ⊥)
-    → byte_at (server_after d waves (before ++ m ∷ [])).world.memory name
-    ≡ byte_at (server_after d waves before).world.memory name
+abbrev pub ChangesByWritesIn : Profile → Description → List Wave → List Move → Move → Type 0
+ChangesByWritesIn profile d waves before m = (name : ByteName)
+    → is_accepted_reload read_description (server_after_in profile d waves before) m ≡ false
+    → (IsAmong name (writes_of_move read_description (server_after_in profile d waves before) m) → ⊥)
+    → byte_at (server_after_in profile d waves (before ++ m ∷ [])).world.memory name
+    ≡ byte_at (server_after_in profile d waves before).world.memory name
 
 -- a client none of whose read or notified bytes another writes is given, byte for byte, what it would be given alone;
 -- what it took begins that, and is all of it with the same exceptions
-pub record IsServedAsAlone (d : Description) (waves : List Wave) (c : ℕ) (log : List Move) : Type 0 where
-  pub given : server_output d waves c log ≡ server_output d waves c (projection_of c log)
-  pub begins : IsPrefix (taken_of c log) (server_output d waves c (projection_of c log))
+pub record IsServedAsAloneIn (profile : Profile) (d : Description) (waves : List Wave) (c : ℕ) (log : List Move) : Type 0 where
+  pub given : server_output_in profile d waves c log ≡ server_output_in profile d waves c (projection_of c log)
+  pub begins : IsPrefix (taken_of c log) (server_output_in profile d waves c (projection_of c log))
   pub all : is_short c log ≡ false → is_cut_off c log ≡ false
-      → taken_of c log ≡ server_output d waves c (projection_of c log)
+      → taken_of c log ≡ server_output_in profile d waves c (projection_of c log)
 
-pub record KeepsPromises (d : Description) (waves : List Wave) (log : List Move) : Type 0 where
-  pub frames : GivesFramesInOrder d waves log
+pub record KeepsPromisesIn (profile : Profile) (d : Description) (waves : List Wave) (log : List Move) : Type 0 where
+  pub frames : GivesFramesInOrderIn profile d waves log
   -- at each move of the log
-  pub writes : (before after : List Move) (m : Move) → log ≡ before ++ m ∷ after → ChangesByWrites d waves before m
-  pub isolated : (c : ℕ) → IsUntouchedHere d waves c log → IsServedAsAlone d waves c log
+  pub writes : (before after : List Move) (m : Move) → log ≡ before ++ m ∷ after → ChangesByWritesIn profile d waves before m
+  pub isolated : (c : ℕ) → IsUntouchedHereIn profile d waves c log → IsServedAsAloneIn profile d waves c log
   -- an access by a handle that is not live is refused and touches nothing
   pub dead_handles : ServerRefusesDeadHandles
   -- an accepted write is held: the bytes that it addresses are those that it carries, in their order, and the next read answers them
   pub held : IsAccepted d (length waves) → (before after : List Move) (m : Move) → log ≡ before ++ m ∷ after
-      → HoldsWrites d waves before m
+      → HoldsWritesIn profile d waves before m
   -- each notification gives samples as it was asked to, over its whole life
-  pub notified : (before after : List Move) → log ≡ before ++ after → NotifiesAfter d waves before after
+  pub notified : (before after : List Move) → log ≡ before ++ after → NotifiesAfterIn profile d waves before after
   -- a handle that is live before and after a reload reads the same
   pub kept_handles : IsAccepted d (length waves) → (before after : List Move) (bytes : List ℕ)
-      → log ≡ before ++ move.Event (event.Reload bytes) ∷ after → KeepsHandles d waves before bytes
+      → log ≡ before ++ move.Event (event.Reload bytes) ∷ after → KeepsHandlesIn profile d waves before bytes
+
+-- the promises of the strict server
+abbrev pub KeepsPromises : Description → List Wave → List Move → Type 0
+KeepsPromises d waves log = KeepsPromisesIn Strict d waves log
 
 -- the same of what it would be given alone, where the log may be cut off in mid-turn
-pub record BeginsAsAlone (d : Description) (waves : List Wave) (c : ℕ) (log : List Move) : Type 0 where
-  pub given : server_output d waves c log ≡ server_output d waves c (projection_of c log)
-  pub begins : IsPrefix (taken_of c log) (server_output d waves c (projection_of c log))
+pub record BeginsAsAloneIn (profile : Profile) (d : Description) (waves : List Wave) (c : ℕ) (log : List Move) : Type 0 where
+  pub given : server_output_in profile d waves c log ≡ server_output_in profile d waves c (projection_of c log)
+  pub begins : IsPrefix (taken_of c log) (server_output_in profile d waves c (projection_of c log))
 
 -- what stands of the promises where want of memory may have cut off the log in mid-turn
-pub record KeepsPromisesSoFar (d : Description) (waves : List Wave) (log : List Move) : Type 0 where
-  pub begins : (c : ℕ) → IsPrefix (taken_of c log) (server_output d waves c log)
-  pub writes : (before after : List Move) (m : Move) → log ≡ before ++ m ∷ after → ChangesByWrites d waves before m
-  pub isolated : (c : ℕ) → IsUntouchedHere d waves c log → BeginsAsAlone d waves c log
+pub record KeepsPromisesSoFarIn (profile : Profile) (d : Description) (waves : List Wave) (log : List Move) : Type 0 where
+  pub begins : (c : ℕ) → IsPrefix (taken_of c log) (server_output_in profile d waves c log)
+  pub writes : (before after : List Move) (m : Move) → log ≡ before ++ m ∷ after → ChangesByWritesIn profile d waves before m
+  pub isolated : (c : ℕ) → IsUntouchedHereIn profile d waves c log → BeginsAsAloneIn profile d waves c log
   pub dead_handles : ServerRefusesDeadHandles
   -- an accepted write is held: the bytes that it addresses are those that it carries, in their order, and the next read answers them
   pub held : IsAccepted d (length waves) → (before after : List Move) (m : Move) → log ≡ before ++ m ∷ after
-      → HoldsWrites d waves before m
+      → HoldsWritesIn profile d waves before m
   -- each notification gives samples as it was asked to, over its whole life
-  pub notified : (before after : List Move) → log ≡ before ++ after → NotifiesAfter d waves before after
+  pub notified : (before after : List Move) → log ≡ before ++ after → NotifiesAfterIn profile d waves before after
   -- a handle that is live before and after a reload reads the same
   pub kept_handles : IsAccepted d (length waves) → (before after : List Move) (bytes : List ℕ)
-      → log ≡ before ++ move.Event (event.Reload bytes) ∷ after → KeepsHandles d waves before bytes
+      → log ≡ before ++ move.Event (event.Reload bytes) ∷ after → KeepsHandlesIn profile d waves before bytes
+
+abbrev pub KeepsPromisesSoFar : Description → List Wave → List Move → Type 0
+KeepsPromisesSoFar d waves log = KeepsPromisesSoFarIn Strict d waves log
 
 -- what a log promises that ended so
+abbrev pub KeepsPromisesAtIn : End → Profile → Description → List Wave → List Move → Type 0
+KeepsPromisesAtIn end.Done profile d waves log = KeepsPromisesIn profile d waves log
+KeepsPromisesAtIn end.Budget profile d waves log = KeepsPromisesIn profile d waves log
+KeepsPromisesAtIn end.LinkFault profile d waves log = KeepsPromisesIn profile d waves log
+KeepsPromisesAtIn end.Memory profile d waves log = KeepsPromisesSoFarIn profile d waves log
+
 abbrev pub KeepsPromisesAt : End → Description → List Wave → List Move → Type 0
-KeepsPromisesAt end.Done d waves log = KeepsPromises d waves log
-KeepsPromisesAt end.Budget d waves log = KeepsPromises d waves log
-KeepsPromisesAt end.LinkFault d waves log = KeepsPromises d waves log
-KeepsPromisesAt end.Memory d waves log = KeepsPromisesSoFar d waves log
+KeepsPromisesAt ended d waves log = KeepsPromisesAtIn ended Strict d waves log
 
 -- the promises of a script's play
 abbrev pub PlayKeepsPromises : Description → List Wave → List ScriptLine → Type 0

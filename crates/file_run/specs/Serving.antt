@@ -16,7 +16,7 @@ use Rattle.run_tasks.specs.declared.status.Status.{Status}
 use Rattle.run_tasks.specs.declared.status.Status.TheVariants as status
 use Rattle.run_tasks.specs.Ending.{Ending, line_alone}
 use Rattle.run_tasks.specs.Prints.{PutsMemoryLine, PutsPartAndMemoryLine, PrintsEnding}
-use Rattle.file_run.specs.Promises.{KeepsPromisesAt}
+use Rattle.file_run.specs.Promises.{KeepsPromisesAtIn}
 use Rattle.run_tasks.specs.Service.{Service, ServedMachine, OfServer, OfRelay, listening_line, ending_after}
 
 -- a start or a next event failed, behind this history
@@ -38,7 +38,7 @@ AddsToLog (Some log) new moves = new ≡ Some (log ++ moves)
 
 -- what moves that ended so promise of a machine
 abbrev pub MovesKeepPromises : End → ServedMachine → List Move → Type 0
-MovesKeepPromises ended (OfServer d waves) moves = KeepsPromisesAt ended d waves moves
+MovesKeepPromises ended (OfServer profile d waves) moves = KeepsPromisesAtIn ended profile d waves moves
 MovesKeepPromises ended (OfRelay d) moves = RelayKeepsPromisesAt ended d moves
 
 -- from here on the wire made these moves, and ended so

@@ -1,15 +1,19 @@
 //! What holds of every log in turns, whatever wire it was kept over.
 
 ghost use Rattle.std.specs.Prelude.{List};
+ghost use Rattle.spec_machine.specs.Profile.{Profile};
 ghost use Rattle.spec_machine.specs.Turns.{KeepsTurns};
 ghost use Rattle.ads_outside.specs.declared.moves.Move.{Move};
 ghost use Rattle.spec_plant.specs.Description.{Description};
-ghost use Rattle.spec_server.specs.Server.{server, server_start};
-ghost use Rattle.file_run.specs.Promises.{KeepsPromises};
+ghost use Rattle.spec_server.specs.Server.{server, server_start, server_start_in};
+ghost use Rattle.file_run.specs.Promises.{KeepsPromises, KeepsPromisesIn};
 ghost use Rattle.signals.specs.Wave.{Wave};
 
-/// Every log that keeps the turns of the server keeps the promises: so also the log of `serve` over any wire that tells it.
+/// Every log that keeps the turns of the server keeps the promises: so also the log of `serve` over any wire that tells it. So of
+/// the server of either profile.
 pub fn logs_in_turns_keep_promises()
-    ensures { (d : Description) (waves : List Wave) (log : List Move) → KeepsTurns server (server_start d waves) log
+    ensures strict { (d : Description) (waves : List Wave) (log : List Move) → KeepsTurns server (server_start d waves) log
         → KeepsPromises d waves log }
+    ensures each { (profile : Profile) (d : Description) (waves : List Wave) (log : List Move)
+        → KeepsTurns server (server_start_in profile d waves) log → KeepsPromisesIn profile d waves log }
 {}

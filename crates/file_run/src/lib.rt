@@ -29,4 +29,6 @@ pub use crate::commands::print_file_task;
 pub use crate::keep_file::keep;
 pub use crate::laws::logs_in_turns_keep_promises;
 pub use crate::relay_serve::serve_relay;
-pub use crate::serve_file::serve;
+pub use crate::serve_file::{serve, serve_in};
+pub use crate::serving::{print_counts, start_and_tell};
+pub use crate::summary::summary_line;

@@ -8,26 +8,31 @@ use Rattle.ads_outside.specs.declared.moves.Move.{Move}
 use Rattle.spec_plant.specs.Description.{Description}
 use Rattle.spec_machine.specs.Client.{Client}
 use Rattle.spec_machine.specs.MachineState.{MachineState}
+use Rattle.spec_machine.specs.Profile.{Profile, Strict}
 use Rattle.spec_machine.specs.Summary.{summary_of}
 use Rattle.spec_machine.specs.SummaryText.{summary_text_of}
 use Rattle.spec_machine.specs.World.{World}
 use Rattle.spec_relay.specs.RelayState.{RelayState}
 use Rattle.spec_relay.specs.RelaySummary.{relay_summary_of, relay_summary_text}
 use Rattle.spec_relay.specs.RelayLaws.{relay_state_after}
-use Rattle.spec_server.specs.Server.{server_after}
+use Rattle.spec_server.specs.Server.{server_after_in}
 use Rattle.run_tasks.specs.declared.status.Status.{Status}
 use Rattle.run_tasks.specs.declared.status.Status.TheVariants as status
 use Rattle.run_tasks.specs.Ending.{Ending, line_alone}
 use Rattle.run_tasks.specs.StatusTable.{line, last_line_of}
 
--- what is served: the server of a description, with signals that begin so, or the relay of one
+-- what is served: the server of a profile over a description, with signals that begin so, or the relay of one
 pub data ServedMachine : Type 0 where
-  OfServer : Description → List Wave → ServedMachine
+  OfServer : Profile → Description → List Wave → ServedMachine
   OfRelay : Description → ServedMachine
 
--- the server of any description, with these signals
+-- the server of a profile over any description, with these signals
+abbrev pub server_with_in : Profile → List Wave → Description → ServedMachine
+server_with_in profile waves d = OfServer profile d waves
+
+-- the strict one
 abbrev pub server_with : List Wave → Description → ServedMachine
-server_with waves d = OfServer d waves
+server_with waves d = server_with_in Strict waves d
 
 pub record Service : Type 0 where
   -- what the wire is started with: where it listens, the name of the description's file, and its bytes
@@ -49,7 +54,7 @@ relay_counts state = relay_summary_text (relay_summary_of state)
 
 -- the counts after these moves
 abbrev pub counts_after : ServedMachine → List Move → List ℕ
-counts_after (OfServer d waves) moves = server_counts (server_after d waves moves)
+counts_after (OfServer profile d waves) moves = server_counts (server_after_in profile d waves moves)
 counts_after (OfRelay d) moves = relay_counts (relay_state_after d moves)
 
 -- these counts, and the status's last line

@@ -6,6 +6,7 @@ use Rattle.ads_outside.specs.Limit.{file_limit}
 use Rattle.ads_outside.specs.Named.{bytes_of}
 use Rattle.signals.specs.Wave.{Wave}
 use Rattle.spec_plant.specs.Description.{Description}
+use Rattle.spec_machine.specs.Profile.{Profile, Strict}
 use Rattle.spec_machine.specs.ScriptLine.{ScriptLine}
 use Rattle.spec_rules.specs.TextVerdict.{TextVerdict, Described, Breaks, NoDocument, text_verdict}
 use Rattle.spec_relay.specs.RelayState.{relay_start}
@@ -31,7 +32,7 @@ use Rattle.run_tasks.specs.KeepAsked.{Keeping, keeping}
 use Rattle.run_tasks.specs.Load.{load_text}
 use Rattle.run_tasks.specs.RecordAsked.{recording_to, local_recording}
 use Rattle.run_tasks.specs.Report.{report_of}
-use Rattle.run_tasks.specs.Service.{Service, ServedMachine, OfRelay, server_with}
+use Rattle.run_tasks.specs.Service.{Service, ServedMachine, OfRelay, server_with_in}
 use Rattle.run_tasks.specs.Tasks.{asked_task}
 
 -- the run ends so; or the server or the relay of a description is served, and what comes over the wire decides
@@ -134,9 +135,14 @@ verdict_of_service signals machine name listen limit bytes =
     verdict_of_served (record { listen = listen; name = name; first = bytes }) machine limit
     (text_verdict signals bytes)
 
+-- its server of a profile is served
+abbrev pub verdict_of_serve_in : Profile → List Wave → List ℕ → List ℕ → ℕ → List ℕ → Verdict
+verdict_of_serve_in profile waves name listen limit bytes =
+    verdict_of_service (length waves) (server_with_in profile waves) name listen limit bytes
+
+-- the program `ads` serves the strict one
 abbrev pub verdict_of_serve : List Wave → List ℕ → List ℕ → ℕ → List ℕ → Verdict
-verdict_of_serve waves name listen limit bytes =
-    verdict_of_service (length waves) (server_with waves) name listen limit bytes
+verdict_of_serve waves name listen limit bytes = verdict_of_serve_in Strict waves name listen limit bytes
 
 -- the verdict on a task that asks its files alone. The files are those at the first reading and those at the second.
 abbrev pub verdict_of_file_task : List Wave → FileTask → List NamedFile → List NamedFile → Verdict

@@ -1,0 +1,261 @@
+//! The plant of a description that was read is served over a store.
+
+ghost use Rattle.std.specs.Prelude.{◌≡◌, ◌<◌, ◌≤◌, ◌^◌, length, false, Some};
+ghost use Rattle.ads_outside.specs.Rose.{Rose};
+ghost use Rattle.ads_served.specs.Standing.{Standing};
+ghost use Rattle.port_device.specs.Profiles.{profile_of};
+ghost use Rattle.spec_plant.specs.Accepted.{IsAccepted};
+ghost use Rattle.type_layout.specs.Descriptions.{description_of};
+ghost use Rattle.persist_store.specs.Store.{IsReady};
+ghost use Rattle.server_core.specs.Served.{World, Client};
+ghost use Rattle.server_core.specs.Serves.{StandsAt};
+ghost use Rattle.keep_play.specs.KeptDisk.{disk_used};
+ghost use Rattle.keep_play.specs.KeptSaves.{description_kept};
+ghost use Rattle.file_run.specs.FileOutcomes.{at_start_in};
+ghost use Rattle.file_run.specs.Machine.{StandsAnew};
+ghost use Rattle.daemon_run.specs.Kept.{EndsKept, status_kept};
+ghost use Rattle.daemon_run.specs.Plant.{plant_of, serving};
+ghost use Rattle.daemon_run.specs.Printed.{IsOfPlant};
+ghost use Rattle.daemon_run.specs.Running.{EndsOn, RunsOn, StandsForSomeAnew};
+
+use crate::printing::print_end;
+use ads_base::NoMemory;
+use ads_outside::{Sink, Wire};
+use cli_words::Text;
+use daemon_core::{Board, PostedCore};
+use file_run::start_and_tell;
+use keep_loop::{SaveEnd, SaveNotes, keep_on};
+use persist_store::{Disk, Store, StoreOpen};
+use port_device::Profile;
+use run_tasks::{Accepted, Status, end_without_memory, print_line};
+use server_core::{Core, Sources};
+use std::alloc::Global;
+use std::thread::Threads;
+use stored_values::with_stored;
+
+/// Opens the store in the file of a name, and serves over it and over a wire a description that was read, until the wire ends.
+pub(crate) fn keep_read<
+    T: Threads + Sync,
+    W: Wire,
+    S: Sink,
+    D: Disk,
+    B: Board + Drop,
+    N: SaveNotes,
+    G: Sources,
+>(
+    rt: &T,
+    alloc: Global,
+    profile: Profile,
+    name: &Text,
+    listen: &Text,
+    read: Accepted,
+    store: &Text,
+    every: u64,
+    wire: &mut W,
+    out: &mut S,
+    disk: &mut D,
+    board: B,
+    notes: &mut N,
+    signals: G,
+) -> Status
+    requires few { length (G.waves signals) < 2 ^ 32 }
+    requires accepted { IsAccepted (description_of read.description) (length (G.waves signals)) }
+    requires every { 1 ≤ every }
+    ensures ends { EndsKept (serving (profile_of profile) (G.waves signals) (Some store.now) every)
+        (plant_of name.now listen.now read.bytes (description_of read.description)) result (S.state out.old) (S.state out.new)
+        (disk_used D.contents D.may_leave D.moment D.left_since D.fault_count disk.old disk.new)
+        (W.state wire.old).history (W.state wire.new).history }
+    ensures status { IsOfPlant result }
+    ensures store_fault { result ≡ Status.StoreFault → Rose (D.fault_count disk.old) (D.fault_count disk.new) }
+{
+    match Store::open(alloc, disk, store.as_str()) {
+        Err(NoMemory) => end_without_memory(out),
+        Ok(StoreOpen::Failed) => print_line(alloc, Status::StoreFault, out),
+        Ok(StoreOpen::Ready(opened)) => {
+            let mut held = opened;
+            keep_opened(
+                rt, alloc, profile, name, listen, read, store, &mut held, every, wire, out, disk,
+                board, notes, signals,
+            )
+        }
+    }
+}
+
+// Serves a description that was read over an open store and a wire.
+fn keep_opened<
+    T: Threads + Sync,
+    W: Wire,
+    S: Sink,
+    D: Disk,
+    B: Board + Drop,
+    N: SaveNotes,
+    G: Sources,
+>(
+    rt: &T,
+    alloc: Global,
+    profile: Profile,
+    name: &Text,
+    listen: &Text,
+    read: Accepted,
+    file: &Text,
+    store: &mut Store,
+    every: u64,
+    wire: &mut W,
+    out: &mut S,
+    disk: &mut D,
+    board: B,
+    notes: &mut N,
+    signals: G,
+) -> Status
+    requires few { length (G.waves signals) < 2 ^ 32 }
+    requires accepted { IsAccepted (description_of read.description) (length (G.waves signals)) }
+    requires every { 1 ≤ every }
+    requires ready { IsReady D.contents D.may_leave disk.old store.old }
+    requires open { store.old.shut ≡ false }
+    ensures ends { EndsOn every (record { listen = listen.now; name = name.now; first = read.bytes })
+        (at_start_in (profile_of profile) (description_kept (description_of read.description) store.old.standing) (G.waves signals))
+        store.old.standing result (S.state out.old) (S.state out.new)
+        D.contents D.may_leave D.moment D.left_since D.fault_count disk.old disk.new (W.state wire.old).history (W.state wire.new).history }
+    ensures status { IsOfPlant result }
+    ensures later { D.fault_count disk.old ≤ D.fault_count disk.new }
+    ensures store_fault { result ≡ Status.StoreFault → Rose (D.fault_count disk.old) (D.fault_count disk.new) }
+{
+    let Accepted { bytes, description } = read;
+    let stored = match with_stored(alloc, description, store.body()) {
+        Ok(stored) => stored,
+        Err(NoMemory) => return end_without_memory(out),
+    };
+    let core = match Core::build_in(alloc, profile, stored, signals) {
+        Ok(core) => core,
+        Err(NoMemory) => return end_without_memory(out),
+    };
+    let mut posted = PostedCore { core, board };
+    keep_posted(
+        rt,
+        alloc,
+        listen.as_str(),
+        name.as_str(),
+        bytes.as_slice(),
+        &mut posted,
+        file.as_str(),
+        store,
+        every,
+        wire,
+        out,
+        disk,
+        notes,
+    )
+}
+
+// Starts the wire, and serves a core over it and over an open store.
+fn keep_posted<
+    T: Threads + Sync,
+    W: Wire,
+    S: Sink,
+    D: Disk,
+    B: Board + Drop,
+    N: SaveNotes,
+    G: Sources,
+>(
+    rt: &T,
+    alloc: Global,
+    listen: &str,
+    name: &str,
+    first: &[u8],
+    posted: &mut PostedCore<G, B>,
+    file: &str,
+    store: &mut Store,
+    every: u64,
+    wire: &mut W,
+    out: &mut S,
+    disk: &mut D,
+    notes: &mut N,
+) -> Status
+    requires some { StandsForSomeAnew (StandsAt posted.old.core) }
+    requires every { 1 ≤ every }
+    requires ready { IsReady D.contents D.may_leave disk.old store.old }
+    requires open { store.old.shut ≡ false }
+    ensures ends { (x : Standing World Client) → StandsAnew (StandsAt posted.old.core) x
+        → EndsOn every (record { listen = listen.now; name = name.now; first = first.now }) x
+        store.old.standing result (S.state out.old) (S.state out.new)
+        D.contents D.may_leave D.moment D.left_since D.fault_count disk.old disk.new (W.state wire.old).history (W.state wire.new).history }
+    ensures status { IsOfPlant result }
+    ensures later { D.fault_count disk.old ≤ D.fault_count disk.new }
+    ensures store_fault { result ≡ Status.StoreFault → Rose (D.fault_count disk.old) (D.fault_count disk.new) }
+{
+    match start_and_tell(listen, name, first, wire, out) {
+        Ok(()) => run_kept(
+            rt, alloc, posted, file, store, every, wire, out, disk, notes,
+        ),
+        Err(status) => status,
+    }
+}
+
+// A core is served, its bodies are kept, and what that comes to is printed.
+fn run_kept<
+    T: Threads + Sync,
+    W: Wire,
+    S: Sink,
+    D: Disk,
+    B: Board + Drop,
+    N: SaveNotes,
+    G: Sources,
+>(
+    rt: &T,
+    alloc: Global,
+    posted: &mut PostedCore<G, B>,
+    file: &str,
+    store: &mut Store,
+    every: u64,
+    wire: &mut W,
+    out: &mut S,
+    disk: &mut D,
+    notes: &mut N,
+) -> Status
+    requires some { StandsForSomeAnew (StandsAt posted.old.core) }
+    requires every { 1 ≤ every }
+    requires ready { IsReady D.contents D.may_leave disk.old store.old }
+    requires open { store.old.shut ≡ false }
+    ensures ends { (x : Standing World Client) → StandsAnew (StandsAt posted.old.core) x
+        → RunsOn every x store.old.standing result (S.state out.old) (S.state out.new)
+        D.contents D.may_leave D.moment D.left_since D.fault_count disk.old disk.new (W.state wire.old).history (W.state wire.new).history }
+    ensures status { IsOfPlant result }
+    ensures later { D.fault_count disk.old ≤ D.fault_count disk.new }
+    ensures store_fault { result ≡ Status.StoreFault → Rose (D.fault_count disk.old) (D.fault_count disk.new) }
+{
+    let kept = keep_on(
+        rt,
+        alloc,
+        posted,
+        wire,
+        store,
+        disk,
+        file,
+        notes,
+        every,
+        u64::MAX - 1,
+    );
+    print_end(
+        alloc,
+        &posted.core,
+        kept.ended,
+        status_of(kept.last),
+        Some(kept.counts.saved),
+        out,
+    )
+}
+
+// How a run ends whose wire had no more events, by what became of the body at its end.
+fn status_of(last: Option<SaveEnd>) -> Status
+    ensures kept { result ≡ status_kept last }
+    ensures status { IsOfPlant result }
+{
+    match last {
+        None => Status::Done,
+        Some(SaveEnd::Same) => Status::Done,
+        Some(SaveEnd::Saved) => Status::Done,
+        Some(SaveEnd::Failed) => Status::StoreFault,
+        Some(SaveEnd::Limit) => Status::StoreLimit,
+        Some(SaveEnd::Memory) => Status::Memory,
+    }
+}
