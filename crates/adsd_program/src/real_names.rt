@@ -11,11 +11,19 @@ use std::time::Clock;
 pub(crate) struct RealNames;
 
 impl<R: Net + Clock + SystemFiles + Eprint + Drop> PeerNames<RealWire<R>> for RealNames {
-    fn peer_of(&self, _wire: &RealWire<R>, _conn: u32) -> Option<SocketAddr> {
-        None
+    fn peer_of(&self, wire: &RealWire<R>, conn: u32) -> Option<SocketAddr> {
+        wire.peer_of(conn)
     }
 
-    fn refused(&self, _wire: &RealWire<R>) -> u64 {
-        0
+    fn refused(&self, wire: &RealWire<R>) -> u64 {
+        wire.refused()
+    }
+
+    fn refused_peer(&self, wire: &RealWire<R>, n: u64) -> Option<SocketAddr> {
+        wire.refused_peer(n)
+    }
+
+    fn failed_readings(&self, wire: &RealWire<R>) -> u64 {
+        wire.failed_readings()
     }
 }
