@@ -3,6 +3,7 @@
 
     python3 bench/docs.py [PROGRAM] [PAGE ..]
     python3 bench/docs.py --links       what needs no program: the links, the pages that scripts make, the words of the others
+    python3 bench/docs.py --write       makes the pages that scripts make, and the drawing of docs/ARCHITECTURE.md
 
 PROGRAM is crates/ads/out/ads where it is absent (`rt run` in crates/ads builds it, and so does .ci/run). Of a page each block
 ```console is run, line by line in one shell, in a folder of its own that holds the examples: a line `$ ..` is a command, the lines
@@ -253,6 +254,9 @@ def look_at_pages():
 
 
 def main(words):
+    if words == ["--write"]:
+        return sum(subprocess.run([sys.executable, ROOT / "bench" / it, "--write"], cwd=ROOT, stdout=subprocess.DEVNULL).returncode != 0
+                   for it in ("map.py", *MADE.values()))
     if words == ["--links"]:
         return 1 if look_at_pages() else 0
     pages = [word for word in words if word.endswith(".md")]
