@@ -83,7 +83,7 @@ def table(rows):
         if len(said) > 1 and len(heads) > 3:
             yield line("; ".join(f"{inline(head)}: {inline(it)}" for head, it in said))
         else:
-            yield line(": ".join(inline(it) for _, it in said) or "\\&")
+            yield line(": ".join(f"statuses {inline(it)}" if head == "statuses" else inline(it) for head, it in said) or "\\&")
 
 
 def converted(text):
@@ -124,6 +124,7 @@ def made(name):
     text = (ROOT / "docs" / page).read_text()
     first, _, rest = text.partition("\n## ")
     begin = [
+        '.\\" -*- coding: utf-8 -*-',
         f'.\\" Made of docs/{page} by bench/manual.py --write.',
         f'.TH {name.upper()} 1 "" Wenjukar',
         ".SH NAME",
