@@ -318,12 +318,12 @@ PARTS = (
     ("The command line", "Which words are a command.", ("cli_words",)),
     ("The run", "What each command comes to: status, text, files; with the contract of `run` itself.",
      ("table_text", "description_migration", "load_maker", "serve_loop", "server_core", "run_tasks", "call_run", "file_run", "ads_run")),
-    ("The daemon", "What the contract of the daemon adds to that of `run`.", ("daemon_outside", "daemon_run")),
+    ("The daemon", "What the contracts of the daemon's runs add to that of `run`.", ("daemon_outside", "daemon_run")),
 )
-DAEMON = ("daemon_run", "serve_plant")
+DAEMON = "daemon_run"
 INTRODUCTION = """# What must be believed by reading
 
-Made by `bench/believed.py --write`. A proof shows that the program does what the definitions say. That the definitions say what ADS says, and what you want, has to be read. The script follows the names: from the contract of `run` ([top_call.rt](../crates/ads_run/src/top_call.rt)) and of the daemon to the definitions that they cite, to those that these cite, and so on. Here is all that it reaches, each file with the number of its lines that count, comments among them.
+Made by `bench/believed.py --write`. A proof shows that the program does what the definitions say. That the definitions say what ADS says, and what you want, has to be read. The script follows the names: from the contract of `run` ([top_call.rt](../crates/ads_run/src/top_call.rt)) and those of the daemon's runs (`daemon_run`) to the definitions that they cite, to those that these cite, and so on. Here is all that it reaches, each file with the number of its lines that count, comments among them.
 
 Read the parts in this order: none cites a later one, and in a part the files stand in reading order. A trait of the outside counts whole, since its clauses are all that is known of a file, a socket or a disk; of {proved} counts what they are seen as, since those of the program are proved. What the library `std` and the crates of the kit define is not counted.
 
@@ -336,11 +336,10 @@ def crate_of(item):
 
 
 def contracts():
-    """The contracts that are followed: that of `run`, and of the daemon where it is there."""
+    """The contracts that are followed: that of `run`, and those of the daemon's runs."""
     found = [TOP]
-    for path in sorted((CRATES / DAEMON[0] / "src").glob("*.rt")):
-        if re.search(rf"^pub fn {DAEMON[1]}\b", path.read_text(), re.M):
-            found.append(f"{path.relative_to(ROOT)}:{DAEMON[1]}")
+    for path in sorted((CRATES / DAEMON / "src").glob("*.rt")):
+        found += [f"{path.relative_to(ROOT)}:{name}" for name in re.findall(r"^pub fn ((?:run|serve)_\w+)", path.read_text(), re.M)]
     return found
 
 
