@@ -17,6 +17,7 @@ PAGES = {
     "ads": ("COMMANDS.md", "serves a plant over Beckhoff's ADS, and asks a server", "adsd"),
     "adsd": ("DAEMON.md", "serves a plant over Beckhoff's ADS until it is stopped", "ads"),
 }
+CLEAR = ("last line", "means", "words", "prints")
 CELL = re.compile(r"(?<!\\)\|")
 
 
@@ -73,17 +74,19 @@ def blocks(text):
             yield "prose", [" ".join(it.strip() for it in lines[begin:at])]
 
 
+def labelled(head, cell):
+    """A cell behind what its column is headed, where that is needed to understand it."""
+    return cell if head in CLEAR else f"{head}: {cell}" if " " in head else f"{head} {cell}"
+
+
 def table(rows):
     heads = cells(rows[0])
     for row in rows[2:]:
         tag, *others = cells(row)
         yield ".TP"
         yield line(inline(tag) or "\\(en")
-        said = [(head, it) for head, it in zip(heads[1:], others) if it]
-        if len(said) > 1 and len(heads) > 3:
-            yield line("; ".join(f"{inline(head)}: {inline(it)}" for head, it in said))
-        else:
-            yield line(": ".join(f"statuses {inline(it)}" if head == "statuses" else inline(it) for head, it in said) or "\\&")
+        said = [labelled(head, it) if len(heads) > 2 else it for head, it in zip(heads[1:], others) if it]
+        yield line((": " if heads[-1] in CLEAR else "; ").join(map(inline, said)) or "\\&")
 
 
 def converted(text):
