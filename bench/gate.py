@@ -4,6 +4,7 @@
     python3 bench/gate.py              runs `rt ci` at the top of the clone where it is called; what earlier runs passed on this machine is kept, and costs nothing
     python3 bench/gate.py --anew       runs `rt ci --anew`, which proves and tries all from nothing
     python3 bench/gate.py --anew --write    the same, and puts the dearest crates and the sums into docs/PROVING.md, between its marks
+    python3 bench/gate.py --of FILE    puts there what an earlier run printed, which FILE holds
 
 What rt says is passed on. When it has ended, a table (Markdown) tells for each crate the processor seconds of
 
@@ -188,8 +189,37 @@ def write(lines):
         it.write(before + made + rest.partition(MARKS[1])[2])
 
 
+def kit():
+    return re.sub(r"\s+", " ", subprocess.run(["rt", "version"], stdout=subprocess.PIPE, text=True).stdout).strip()
+
+
+def write_of(path):
+    """Puts into the page what a run printed."""
+    with open(path, encoding="utf-8", errors="replace") as it:
+        text = it.read()
+    lines = re.findall(r"^\| \w+ \| \d+ \|.*$", text, re.M)
+    heads = re.search(r"^\| crate \|.*\n\|---.*$", text, re.M)
+    sums = re.search(r"^\| all, in minutes .*$", text, re.M)
+    spent = re.search(r"^all that rt started: ([\d.]+) processor minutes, in ([\d.]+) minutes", text, re.M)
+    ended = re.search(r"^rt ci ended with: (.*) \(status", text, re.M)
+    if not (lines and heads and sums and spent and ended):
+        print(f"{path}: not what bench/gate.py prints", file=sys.stderr)
+        return 2
+    seconds = [int(line.split("|")[7]) for line in lines]
+    shown = [line for line, it in zip(lines, seconds) if it >= SHOWN]
+    others = f"| {len(lines) - len(shown)} others | | | | | | {sum(it for it in seconds if it < SHOWN)} | |"
+    write([heads[0], *shown, others, sums[0], "", sentence(float(spent[1]), float(spent[2]), ended[1])])
+    return 0
+
+
+def sentence(minutes, clock, last):
+    return f"One run from nothing, {kit()}: {minutes:.0f} minutes of a processor, {clock:.0f} of the clock; {last}."
+
+
 def main():
     words = sys.argv[1:]
+    if words[:1] == ["--of"] and len(words) == 2:
+        return write_of(words[1])
     if words not in ([], ["--anew"], ["--anew", "--write"]):
         print(__doc__, file=sys.stderr)
         return 2
@@ -205,8 +235,7 @@ def main():
     print(f"all that rt started: {minutes:.1f} processor minutes, in {clock:.1f} minutes of the clock")
     print(f"rt ci ended with: {last} (status {status})")
     if "--write" in words:
-        kit = re.sub(r"\s+", " ", subprocess.run(["rt", "version"], stdout=subprocess.PIPE, text=True).stdout).strip()
-        write([*table(rows, SHOWN), "", f"One run from nothing, {kit}: {minutes:.0f} minutes of a processor, {clock:.0f} of the clock; {last}."])
+        write([*table(rows, SHOWN), "", sentence(minutes, clock, last)])
     return status
 
 
