@@ -70,7 +70,8 @@ def row(name):
     text = path.read_text() if path.is_file() else ""
     said, carried = sentence(text), clauses(text)
     shown = ", ".join(f"`{it}`" for it in carried) or ("definitions, no code" if name.startswith("spec_") else "none beside safety")
-    return said, f"| [{name}](../crates/{name}/README.md) | {linked(said, name)} | {shown} |"
+    title = f"[{name}](../crates/{name}/README.md)" if text else name
+    return said, f"| {title} | {linked(said, name)} | {shown} |"
 
 
 def page():
