@@ -1,10 +1,13 @@
+pub mod AllowedNet
 pub mod Beats
 pub mod Came
 pub mod Connection
+pub mod Doors
 pub mod Heard
 pub mod LinkClock
 pub mod Peers
 pub mod Refusal
+pub mod RefusedPeers
 pub mod Sockets
 pub mod TickClock
 pub mod Turn

@@ -2,6 +2,7 @@
 use Rattle.std.specs.Prelude.{ℕ, ◌≡◌, ◌≤◌, ◌<◌, ◌-◌, List, [], ◌++◌, Bool, false, not, ◌==◌, ◌||◌, length, All}
 use Rattle.std.specs.List.{HoldsAt, remove}
 use Rattle.std.specs.VecDeque.{deque_len}
+use Rattle.std.specs.declared.net.socket_addr.SocketAddr.{SocketAddr}
 use Rattle.ads_edge.specs.declared.connection.Connection.{Connection}
 use Rattle.ads_edge.specs.declared.peers.Peers.{Peers}
 use Rattle.ads_edge.specs.declared.silence.TheConstants.{SILENT_BEATS}
@@ -25,6 +26,13 @@ pub record IsLongestSilent (connections : List Connection) (now : ℕ) (place : 
 -- none is silent for five minutes
 abbrev pub NoneIsSilent : List Connection → ℕ → Type 0
 NoneIsSilent connections now = All (λ (c : Connection). now - c.alive < SILENT_BEATS) connections
+
+-- a connection with this number is there, and that is its peer
+pub record IsPeerOf (connections : List Connection) (number : ℕ) (peer : SocketAddr) : Type 0 where
+  pub place : ℕ
+  pub within : place < length connections
+  pub numbered : HoldsAt (λ (c : Connection). c.number ≡ number) connections place
+  pub from : HoldsAt (λ (c : Connection). c.peer ≡ peer) connections place
 
 -- the connection that was silent longest is gone, and all others stay as they are
 pub record ClosesSilent (old new : Peers) : Type 0 where

@@ -12,7 +12,7 @@ use ads_base::NoMemory;
 use mio::net::TcpStream;
 use std::alloc::Global;
 use std::io::{ErrorKind, Read, Write};
-use std::net::Shutdown;
+use std::net::{Shutdown, SocketAddr};
 
 /// How many ticks a connection that the server is done with may stand without taking a byte: 30 s.
 pub(crate) const STALLED_TICKS: u32 = 3_000;
@@ -38,6 +38,7 @@ pub(crate) struct Connection {
     pub(crate) patience: u32,
     pub(crate) out: OutBuffer,
     pub(crate) stream: TcpStream,
+    pub(crate) peer: SocketAddr,
 }
 
 impl Connection {
@@ -45,8 +46,15 @@ impl Connection {
     ghost use Rattle.ads_edge.specs.Waiting.{waiting};
 
     /// A connection that was accepted at this beat and gets this number.
-    pub(crate) fn new(alloc: Global, number: u32, now: u64, stream: TcpStream) -> Connection
-        ensures { IsOpened number now result }
+    pub(crate) fn new(
+        alloc: Global,
+        number: u32,
+        now: u64,
+        stream: TcpStream,
+        peer: SocketAddr,
+    ) -> Connection
+        ensures opened { IsOpened number now result }
+        ensures peer { result.peer ≡ peer }
     {
         Connection {
             number,
@@ -60,6 +68,7 @@ impl Connection {
             patience: 0,
             out: OutBuffer::new(alloc),
             stream,
+            peer,
         }
     }
 

@@ -1,10 +1,15 @@
 //! The real outside: files of the disk, standard output, the sockets of a server and that of a client.
 #![tactic(auto)]
 
+mod allowed_net;
 mod beats;
 mod came;
 mod connection;
 mod description_watch;
+mod door_plan;
+mod doors;
+mod given;
+mod guest;
 mod heard;
 mod link_clock;
 mod listening_at;
@@ -15,6 +20,7 @@ mod real_link;
 mod real_sink;
 mod real_wire;
 mod refusal;
+mod refused_peers;
 mod silence;
 mod sockets;
 mod stage;
@@ -25,6 +31,8 @@ mod vanished;
 mod wall_clock;
 mod written;
 
+pub use allowed_net::{AllowedNet, allows, mapped_is_ipv4};
+pub use given::given_doors;
 pub use real_files::RealFiles;
 pub use real_link::RealLink;
 pub use real_sink::RealSink;

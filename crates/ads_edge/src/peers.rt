@@ -16,6 +16,7 @@ use mio::event::Event;
 use mio::net::TcpStream;
 use std::alloc::Global;
 use std::collections::VecDeque;
+use std::net::SocketAddr;
 
 /// How many connections there are at most.
 pub(crate) const MOST: usize = 64;
@@ -39,7 +40,7 @@ pub(crate) struct Peers {
 }
 
 impl Peers {
-    ghost use Rattle.ads_edge.specs.Peers.{ClosesSilent, IsEmpty, IsLongerBy, KeepsQueues, NoneIsSilent, is_busy};
+    ghost use Rattle.ads_edge.specs.Peers.{ClosesSilent, IsEmpty, IsLongerBy, IsPeerOf, KeepsQueues, NoneIsSilent, is_busy};
     ghost use Rattle.std.specs.VecDeque.{deque_len};
     ghost use Rattle.ads_edge.specs.Connection.{has_waiting};
     ghost use Rattle.ads_edge.specs.Turn.{IsTold, TellsOf};
@@ -75,11 +76,16 @@ impl Peers {
     }
 
     /// A connection comes, with a number above all others.
-    pub(crate) fn open(&mut self, number: u32, stream: TcpStream) -> Result<(), NoMemory>
+    pub(crate) fn open(
+        &mut self,
+        number: u32,
+        stream: TcpStream,
+        peer: SocketAddr,
+    ) -> Result<(), NoMemory>
         requires { vec_len self.old.connections < MOST }
         ensures { OnOk result (vec_len self.new.connections ≡ vec_len self.old.connections + 1) }
     {
-        let connection = Connection::new(self.alloc, number, self.beat, stream);
+        let connection = Connection::new(self.alloc, number, self.beat, stream, peer);
         self.connections.push(connection)?;
         Ok(())
     }
@@ -264,6 +270,21 @@ impl Peers {
         ensures { result ≡ list_any has_waiting self.now.connections.items }
     {
         self.connections.iter().any(|connection| connection.waits())
+    }
+
+    /// The peer of a connection that is there.
+    #[tactic(auto, using(crate::proofs::PeerLemmas::peer_found))]
+    pub(crate) fn peer_of(&self, number: u32) -> Option<SocketAddr>
+        ensures { IfSome result (IsPeerOf self.now.connections.items number) }
+    {
+        let place = self
+            .connections
+            .partition_point(|connection| connection.number < number);
+        let connection = self.connections.get(place)?;
+        if connection.number != number {
+            return None;
+        }
+        Some(connection.peer)
     }
 
     // The place of a connection, which mostly is the one that was looked up last.

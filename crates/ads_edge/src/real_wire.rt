@@ -1,13 +1,15 @@
 //! Real sockets and the system's clock.
 
-ghost use Rattle.std.specs.Prelude.{◌≡◌, ◌<◌, ◌^◌, length};
+ghost use Rattle.std.specs.Prelude.{◌≡◌, ◌<◌, ◌^◌, IfSome, length};
 
+use crate::AllowedNet;
+use crate::door_plan::DoorPlan;
 use crate::sockets::Sockets;
 use crate::turn::Turn;
 use ads_base::NoMemory;
 use ads_outside::{Event, Next, Offer, Shut, Started, Wire};
 use std::alloc::Global;
-use std::net::Net;
+use std::net::{Net, SocketAddr};
 use std::rt::Files as SystemFiles;
 use std::time::Clock;
 
@@ -22,6 +24,7 @@ pub struct RealWire<R: Net + Clock + SystemFiles + Eprint + Drop> {
     alloc: Global,
     rt: R,
     buffer: Vec<u8>,
+    plan: DoorPlan,
     sockets: Option<Sockets>,
     // The number that was opened last, and counts.
     last: u32,
@@ -32,12 +35,38 @@ pub struct RealWire<R: Net + Clock + SystemFiles + Eprint + Drop> {
 }
 
 impl<R: Net + Clock + SystemFiles + Eprint + Drop> RealWire<R> {
+    ghost use Rattle.ads_edge.specs.Sockets.{IsPeerIn, failed_readings, refused_count, refused_peer};
+
     /// A wire that is not started, with a buffer to read by.
     pub fn new(alloc: Global, rt: R) -> Result<RealWire<R>, NoMemory> {
+        RealWire::with_plan(alloc, rt, DoorPlan::open_to_all(alloc))
+    }
+
+    /// The same with doors of its own: `listen` of `start` is one address or several, with a comma and a blank between them; where
+    /// the process was given listening sockets, these are its doors and `listen` is a name. Who is in none of the allowed nets is
+    /// refused: its connection is closed at once, and opens none of the wire. With no net all are let in. A line on standard error
+    /// begins with the program's name.
+    pub fn with_doors(
+        alloc: Global,
+        rt: R,
+        program: &'static str,
+        given: u16,
+        allowed: Vec<AllowedNet>,
+    ) -> Result<RealWire<R>, NoMemory> {
+        let plan = DoorPlan {
+            program,
+            given,
+            allowed,
+        };
+        RealWire::with_plan(alloc, rt, plan)
+    }
+
+    fn with_plan(alloc: Global, rt: R, plan: DoorPlan) -> Result<RealWire<R>, NoMemory> {
         Ok(RealWire {
             alloc,
             rt,
             buffer: crate::real_files::empty_buffer(alloc)?,
+            plan,
             sockets: None,
             last: 0,
             events: 0,
@@ -45,6 +74,47 @@ impl<R: Net + Clock + SystemFiles + Eprint + Drop> RealWire<R> {
             faults: 0,
             wants: 0,
         })
+    }
+
+    /// The peer of a connection that is there.
+    pub fn peer_of(&self, conn: u32) -> Option<SocketAddr>
+        ensures { IfSome result (IsPeerIn self.now.sockets conn) }
+    {
+        match &self.sockets {
+            Some(sockets) => sockets.peers.peer_of(conn),
+            None => None,
+        }
+    }
+
+    /// How many peers were refused since the start.
+    pub fn refused(&self) -> u64
+        ensures { result ≡ refused_count self.now.sockets }
+    {
+        match &self.sockets {
+            Some(sockets) => sockets.doors.refused.count,
+            None => 0,
+        }
+    }
+
+    /// The n-th peer that was refused, counted from 0, if it is one of the last 16.
+    pub fn refused_peer(&self, n: u64) -> Option<SocketAddr>
+        ensures { result ≡ refused_peer n self.now.sockets }
+    {
+        match &self.sockets {
+            Some(sockets) => sockets.doors.refused.at(n),
+            None => None,
+        }
+    }
+
+    /// How many readings of the named description failed since the start: it could not be read, has more than 16,777,216 bytes,
+    /// or memory was wanting.
+    pub fn failed_readings(&self) -> u64
+        ensures { result ≡ failed_readings self.now.sockets }
+    {
+        match &self.sockets {
+            Some(sockets) => sockets.watch.failed,
+            None => 0,
+        }
     }
 }
 
@@ -66,7 +136,7 @@ impl<R: Net + Clock + SystemFiles + Eprint + Drop> Wire for RealWire<R> {
     }
 
     fn start(&mut self, listen: &str, name: &str, first: &[u8]) -> Started {
-        match Sockets::open(self.alloc, &self.rt, listen, name, first) {
+        match Sockets::open(self.alloc, &self.rt, &self.plan, listen, name, first) {
             Ok(Some(sockets)) => {
                 self.sockets = Some(sockets);
                 Started::Ready

@@ -1,30 +1,31 @@
-//! A listening socket, its connections, the clock and the watch.
+//! Doors, connections, the clock and the watch.
 
-ghost use Rattle.std.specs.Prelude.{◌≡◌, false, ◌≤◌, ◌<◌, ◌^◌, length, vec_len, IfOk, IfSome};
+ghost use Rattle.std.specs.Prelude.{◌≡◌, ◌≤◌, ◌<◌, ◌^◌, length, vec_len, IfOk, IfSome, IsTrue};
+ghost use Rattle.std.specs.Option.{ForSome};
+ghost use Rattle.std.specs.Net.Socket.{socket_ip};
+ghost use Rattle.ads_edge.specs.AllowedNet.{allows as is_let_in};
+ghost use Rattle.ads_edge.specs.declared.guest.Guest.{Guest};
 ghost use Rattle.ads_edge.specs.Turn.{IsFault, IsOfTime, IsTick, OpensBy};
 
 use crate::description_watch::DescriptionWatch;
-use crate::listening_at::address_of;
+use crate::door_plan::DoorPlan;
+use crate::doors::Doors;
+use crate::guest::Guest;
 use crate::peers::Peers;
-use crate::refusal::{PROGRAM, Refusal, tell};
+use crate::refusal::{Refusal, tell};
 use crate::tick_clock::TickClock;
 use crate::turn::Turn;
 use crate::vanished::watch_over;
 use crate::wall_clock::moment;
 use ads_base::NoMemory;
 use mio::event::Event;
-use mio::net::{TcpListener, TcpStream};
 use mio::{Events, Interest, Poll, Token};
 use std::alloc::Global;
-use std::io::{self, ErrorKind};
 use std::net::{Net, SocketAddr};
 use std::rt::Files as SystemFiles;
 use std::time::{Clock, Duration, Instant};
 
-/// The token of the listening socket. The token of a connection is its number, which is not 0.
-const DOOR: Token = Token(0);
-
-/// How many events one poll tells: one of each connection and of the listening socket at least.
+/// How many events one poll tells: one of each connection and of a door at least.
 const EVENTS: usize = 128;
 
 /// Sockets that are polled.
@@ -32,47 +33,51 @@ pub(crate) struct Sockets {
     pub(crate) alloc: Global,
     pub(crate) poll: Poll,
     pub(crate) events: Events,
-    pub(crate) listener: TcpListener,
-    // Someone may wait to be accepted; where accepting failed, it is tried again at the next tick.
-    pub(crate) knocks: bool,
-    // Accepted, and waits for the place that a silent connection gives up.
-    pub(crate) guest: Option<TcpStream>,
+    // Where accepting failed, it is tried again at the next tick.
+    pub(crate) doors: Doors,
+    // Accepted and let in, and waits for a place.
+    pub(crate) guest: Option<Guest>,
     pub(crate) peers: Peers,
     pub(crate) clock: TickClock,
     // The last turn was a tick.
     pub(crate) struck: bool,
     pub(crate) watch: DescriptionWatch,
+    // Who waits for a place is let in.
+    ghost admitted: { ForSome guest (λ (g : Guest). IsTrue (is_let_in doors.allowed.items (socket_ip g.peer))) },
 }
 
 impl Sockets {
-    ghost use Rattle.ads_edge.specs.Sockets.{is_busy};
+    ghost use Rattle.ads_edge.specs.Sockets.{has_guest_to_see, is_busy};
 
-    /// Listens there, and watches the named file, which held these bytes. None where the address can't be listened at.
-    /// Why is told on standard error.
+    /// Opens the doors, and watches the named file, which held these bytes. None where a door can't be opened. Why is told on
+    /// standard error.
     pub(crate) fn open<R: Net + Clock + Eprint>(
         alloc: Global,
         rt: &R,
+        plan: &DoorPlan,
         listen: &str,
         name: &str,
         first: &[u8],
     ) -> Result<Option<Sockets>, NoMemory> {
-        let (poll, listener) = match listening(rt, listen) {
-            Ok(both) => both,
-            Err(refusal) => {
-                tell(rt, PROGRAM, listen, refusal);
+        let poll = match Poll::new(rt) {
+            Ok(poll) => poll,
+            Err(error) => {
+                tell(rt, plan.program, listen, Refusal::of(&error));
                 return Ok(None);
             }
         };
+        let Some(doors) = Doors::open(alloc, rt, plan, listen, poll.registry())? else {
+            return Ok(None);
+        };
         let (Ok(now), Some(wall)) = (Instant::now(rt), moment(rt)) else {
-            tell(rt, PROGRAM, listen, Refusal::NoTime);
+            tell(rt, plan.program, listen, Refusal::NoTime);
             return Ok(None);
         };
         Ok(Some(Sockets {
             alloc,
             poll,
             events: Events::with_capacity(alloc, EVENTS)?,
-            listener,
-            knocks: true,
+            doors,
             guest: None,
             peers: Peers::new(alloc),
             clock: TickClock::new(now, wall),
@@ -162,7 +167,7 @@ impl Sockets {
             return None;
         }
         self.struck = true;
-        self.knocks = true;
+        self.doors.knock();
         self.peers.pass_tick(self.clock.beat_at(now));
         match moment(rt) {
             Some(wall) => self.tick(now, wall),
@@ -178,48 +183,50 @@ impl Sockets {
         Some(Turn::Tick(moment))
     }
 
-    // Accepts a connection, if one waits and there is a place for it.
+    // Accepts a connection, if one waits and there is a place for it. Behind guarded doors it is asked in without a place too, so
+    // that who is not let in is refused at once.
     fn accept(&mut self, number: Option<u32>) -> Option<Turn> {
         if self.peers.has_room() {
-            let stream = match self.guest.take() {
-                Some(stream) => stream,
-                None => self.knocking()?,
-            };
-            return self.welcome(number, stream);
+            let guest = self.next_guest()?;
+            return self.welcome(number, guest);
         }
-        if self.knocks && self.guest.is_none() && self.peers.is_one_silent() {
-            self.guest = Some(self.knocking()?);
-            return self.peers.close_silent();
+        if self.asks_in() {
+            self.guest = self.doors.ask();
         }
-        None
-    }
-
-    // The connection that waits, if one does.
-    fn knocking(&mut self) -> Option<TcpStream>
-        ensures asked { self.old.knocks ≡ false → result ≡ None }
-        ensures peers { self.new.peers ≡ self.old.peers }
-    {
-        if !self.knocks {
+        if self.guest.is_none() {
             return None;
         }
-        match self.listener.accept() {
-            Ok((stream, _)) => Some(stream),
-            Err(error) => {
-                self.knocks = error.kind() == ErrorKind::Interrupted
-                    || error.kind() == ErrorKind::ConnectionAborted;
-                None
-            }
+        self.peers.close_silent()
+    }
+
+    // Who is to get a place.
+    fn next_guest(&mut self) -> Option<Guest>
+        ensures let_in { IfSome result (λ guest. IsTrue (is_let_in self.new.doors.allowed.items (socket_ip guest.peer))) }
+        ensures peers { self.new.peers ≡ self.old.peers }
+    {
+        match self.guest.take() {
+            Some(guest) => Some(guest),
+            None => self.doors.ask(),
         }
+    }
+
+    // Whether someone is asked in though there is no place: to be refused, or to get that of a silent connection.
+    fn asks_in(&self) -> bool {
+        self.doors.knocks()
+            && self.guest.is_none()
+            && (self.doors.is_guarded() || self.peers.is_one_silent())
     }
 
     // A connection was accepted. Where it can't be watched it is dropped.
-    fn welcome(&mut self, number: Option<u32>, mut stream: TcpStream) -> Option<Turn>
-        requires { vec_len self.old.peers.connections < 64 }
+    fn welcome(&mut self, number: Option<u32>, guest: Guest) -> Option<Turn>
+        requires few { vec_len self.old.peers.connections < 64 }
+        requires let_in { IsTrue (is_let_in self.old.doors.allowed.items (socket_ip guest.peer)) }
         ensures { IfSome result (OpensBy number) }
     {
         let Some(number) = number else {
             return Some(Turn::Failed);
         };
+        let Guest { mut stream, peer } = guest;
         let _ = stream.set_nodelay(true);
         watch_over(&stream);
         let both = Interest::READABLE | Interest::WRITABLE;
@@ -227,7 +234,7 @@ impl Sockets {
             .registry()
             .register(&mut stream, Token(number as usize), both)
             .ok()?;
-        match self.peers.open(number, stream) {
+        match self.peers.open(number, stream, peer) {
             Ok(()) => Some(Turn::Opened),
             Err(NoMemory) => Some(Turn::Memory),
         }
@@ -253,7 +260,18 @@ impl Sockets {
     fn is_busy(&self) -> bool
         ensures { result ≡ is_busy self.now }
     {
-        self.peers.is_busy() || (self.knocks || self.guest.is_some()) && self.peers.has_room()
+        self.peers.is_busy() || self.has_guest_to_see()
+    }
+
+    // Whether someone is to be accepted or refused without a wait.
+    fn has_guest_to_see(&self) -> bool
+        ensures { result ≡ has_guest_to_see self.now }
+    {
+        if self.peers.has_room() {
+            self.doors.knocks() || self.guest.is_some()
+        } else {
+            self.doors.knocks() && self.doors.is_guarded() && self.guest.is_none()
+        }
     }
 
     // Sends what waits, as far as the peers read within a second.
@@ -276,7 +294,8 @@ impl Sockets {
             return Some(Turn::Failed);
         }
         match note_all(&self.events, &mut self.peers) {
-            Ok(knocks) => self.knocks = self.knocks || knocks,
+            Ok(true) => self.doors.knock(),
+            Ok(false) => {}
             Err(NoMemory) => return Some(Turn::Memory),
         }
         self.peers.begin_turns();
@@ -292,8 +311,7 @@ impl Drop for Sockets {
             alloc: _,
             poll: _,
             events: _,
-            listener: _,
-            knocks: _,
+            doors: _,
             guest: _,
             peers: _,
             clock: _,
@@ -301,25 +319,6 @@ impl Drop for Sockets {
             watch: _,
         } = self;
     }
-}
-
-// A poll, and a socket that listens there and is polled.
-fn listening<R: Net>(rt: &R, listen: &str) -> Result<(Poll, TcpListener), Refusal> {
-    let Some(address) = address_of(listen) else {
-        return Err(Refusal::NoAddress);
-    };
-    match polled(rt, address) {
-        Ok(both) => Ok(both),
-        Err(error) => Err(Refusal::of(&error)),
-    }
-}
-
-fn polled<R: Net>(rt: &R, address: SocketAddr) -> io::Result<(Poll, TcpListener)> {
-    let mut listener = TcpListener::bind(rt, address)?;
-    let poll = Poll::new(rt)?;
-    poll.registry()
-        .register(&mut listener, DOOR, Interest::READABLE)?;
-    Ok((poll, listener))
 }
 
 // Notes what a poll told; true where someone may wait to be accepted.
@@ -334,11 +333,11 @@ fn note_all(events: &Events, peers: &mut Peers) -> Result<bool, NoMemory> {
 // Notes one event; true where someone may wait to be accepted.
 fn note(peers: &mut Peers, event: &Event) -> Result<bool, NoMemory> {
     let token = event.token();
-    if token == DOOR {
-        return Ok(true);
+    match u32::try_from(token.0) {
+        Ok(number) => {
+            peers.note(number, event)?;
+            Ok(false)
+        }
+        Err(_) => Ok(true),
     }
-    if let Ok(number) = u32::try_from(token.0) {
-        peers.note(number, event)?;
-    }
-    Ok(false)
 }

@@ -4,6 +4,7 @@ pub mod LogLemmas
 pub mod GoingLemmas
 pub mod ReadyLemmas
 pub mod TurnLemmas
+pub mod SettleLemmas
 pub mod RoundLemmas
 pub mod OverLemmas
 pub mod TalkLemmas

@@ -5,7 +5,6 @@ use Rattle.ads_outside.specs.declared.link_move.LinkMove.{LinkMove}
 use Rattle.ads_outside.specs.LinkState.{LinkState}
 use Rattle.ads_outside.specs.Puts.{Appends, AppendsPart}
 use Rattle.ads_outside.specs.Rose.{Rose}
-use Rattle.ads_outside.specs.SinkState.{SinkState}
 use Rattle.spec_formats.specs.SymbolEntry.{SymbolEntry}
 use Rattle.spec_samples.specs.Row.{Row}
 use Rattle.spec_client.specs.Conversation as conversation
@@ -23,7 +22,7 @@ use Rattle.client_loop.specs.declared.record_end.RecordEnd.{RecordEnd}
 use Rattle.client_loop.specs.declared.record_end.RecordEnd.TheVariants as record_end
 use Rattle.client_loop.specs.declared.turning.Turned.{Turned}
 use Rattle.client_loop.specs.Hearing.{IsWhole, IsPart, none_of}
-use Rattle.client_loop.specs.Outlets.{Outlets, outlets}
+use Rattle.client_loop.specs.Outlets.{Outlets}
 
 -- the lines of these entries, where rows are told
 abbrev pub AreLines : Option (List Row) → List SymbolEntry → List ℕ → Type 0

@@ -1,5 +1,5 @@
 -- What one turn of a call over a link leaves, and what all turns at a moment leave.
-use Rattle.std.specs.Prelude.{◌≡◌, ℕ, List, [], ◌∷◌, ◌++◌, Option, Some, None, Result, Ok, Err}
+use Rattle.std.specs.Prelude.{◌≡◌, ◌⊎◌, ℕ, List, [], ◌∷◌, ◌++◌, Option, Some, None, Result, Ok, Err}
 use Rattle.ads_base.specs.declared.no_memory.NoMemory.{NoMemory}
 use Rattle.ads_outside.specs.declared.link_move.LinkMove.{LinkMove}
 use Rattle.ads_outside.specs.declared.link_move.LinkMove.TheVariants as move
@@ -65,6 +65,11 @@ AfterKeep (Ok None) old new row = Adds old.rows new.rows (row ∷ [])
 AfterKeep (Ok (Some turned.KeeperFault)) old new row = (new.rows ≡ old.rows) × Rose old.faults new.faults
 AfterKeep (Ok (Some other)) old new row = ⊥
 AfterKeep (Err e) old new row = new.rows ≡ old.rows
+
+-- what became of rows that were brought to where they stay, behind turns that ended so
+abbrev pub AfterSettle : Result Turned NoMemory → Turned → KeeperState → KeeperState → Type 0
+AfterSettle (Ok told) ended old new = (told ≡ ended) ⊎ ((told ≡ turned.KeeperFault) × Rose old.faults new.faults)
+AfterSettle (Err e) ended old new = Unit {0}
 
 -- what became of one turn of a runner, which gives a step or rests
 abbrev pub AfterTurn : {O : Type 0} → Result (Option Turned) NoMemory → ℕ → RunnerKept → (O → List LinkMove → Type 0)

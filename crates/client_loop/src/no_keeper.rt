@@ -24,6 +24,10 @@ impl Keeper for NoKeeper {
         Kept::Done
     }
 
+    fn settle(&mut self) -> Kept {
+        Kept::Done
+    }
+
     fn total(&mut self, _name: &[u8]) -> Totalled {
         Totalled::Nothing
     }

@@ -10,7 +10,7 @@ ghost use Rattle.sample_store.specs.Views.{row_kept};
 ghost use Rattle.client_calls.specs.Represents.{StandsFor};
 ghost use Rattle.client_loop.specs.Outlets.{outlets, IsLater};
 ghost use Rattle.client_loop.specs.Ready.{IsReady};
-ghost use Rattle.client_loop.specs.Turning.{AfterTurn, AfterTurns, AfterSend, AfterPut, AfterKeep, IfWaits, UnlessTurned};
+ghost use Rattle.client_loop.specs.Turning.{AfterTurn, AfterTurns, AfterSend, AfterPut, AfterKeep, AfterSettle, IfWaits, UnlessTurned};
 
 use ads_base::{NoMemory, Octets};
 use ads_outside::{Link, Put, Sent, Sink};
@@ -29,8 +29,32 @@ pub(crate) enum Turned {
     KeeperFault,
 }
 
-/// All turns of a call at a moment, up to a wait or its end.
+/// All turns of a call at a moment, up to a wait or its end. Whichever it is, the rows are brought to where they stay behind it.
 pub(crate) fn take_turns<L: Link, S: Sink, K: Keeper>(
+    alloc: Global,
+    runner: &mut Runner,
+    link: &mut L,
+    out: &mut S,
+    keeper: &mut K,
+    now: u64,
+) -> Result<Turned, NoMemory>
+    requires { IsReady runner.old (K.state keeper.old).rows }
+    ensures turns { (r : Spec) (n : ℕ) → StandsFor runner.old r → AfterTurns result now runner.new
+        (L.tells link.old) (L.tells link.new) (L.state link.old) (L.state link.new)
+        (outlets (S.state out.old) (K.state keeper.old)) (outlets (S.state out.new) (K.state keeper.new)) n r }
+    ensures ready { IfWaits result (IsReady runner.new (K.state keeper.new).rows) }
+    ensures same { (L.state link.new).history ≡ (L.state link.old).history }
+    ensures link_later { LinkNeverFalls (L.state link.old) (L.state link.new) }
+    ensures out_later { IsLater (outlets (S.state out.old) (K.state keeper.old)) (outlets (S.state out.new) (K.state keeper.new)) }
+{
+    match give_turns(alloc, runner, link, out, keeper, now) {
+        Ok(turned) => settle_behind(keeper, turned),
+        Err(e) => Err(e),
+    }
+}
+
+// All turns; the keeper may gather their rows.
+fn give_turns<L: Link, S: Sink, K: Keeper>(
     alloc: Global,
     runner: &mut Runner,
     link: &mut L,
@@ -53,6 +77,19 @@ pub(crate) fn take_turns<L: Link, S: Sink, K: Keeper>(
             Ok(Some(turned)) => return Ok(turned),
             Err(e) => return Err(e),
         }
+    }
+}
+
+// The rows of turns that ended so are brought to where they stay.
+fn settle_behind<K: Keeper>(keeper: &mut K, turned: Turned) -> Result<Turned, NoMemory>
+    ensures settled { AfterSettle result turned (K.state keeper.old) (K.state keeper.new) }
+    ensures rows { (K.state keeper.new).rows ≡ (K.state keeper.old).rows }
+    ensures keeper_later { (K.state keeper.old).faults ≤ (K.state keeper.new).faults }
+{
+    match keeper.settle() {
+        Kept::Done => Ok(turned),
+        Kept::Failed => Ok(Turned::KeeperFault),
+        Kept::Memory => Err(NoMemory),
     }
 }
 

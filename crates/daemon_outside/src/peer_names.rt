@@ -9,6 +9,16 @@ pub trait PeerNames<W> {
 
     /// How many peers were refused since the start.
     fn refused(&self, wire: &W) -> u64;
+
+    /// The n-th peer that was refused, counted from 0; None where that is not known any more.
+    fn refused_peer(&self, _wire: &W, _n: u64) -> Option<SocketAddr> {
+        None
+    }
+
+    /// How many readings of the watched description failed since the start.
+    fn failed_readings(&self, _wire: &W) -> u64 {
+        0
+    }
 }
 
 /// Knows no peer.

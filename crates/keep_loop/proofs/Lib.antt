@@ -6,3 +6,6 @@ pub mod TurnLemmas
 pub mod KeepLemmas
 pub mod EndLemmas
 mod WantLemmas
+mod BegunLemmas
+mod LookLemmas
+mod OnLemmas

@@ -50,7 +50,7 @@ saves_more stood saves bodies more_bodies more all are adds is =
 
 module _ {W C : Type 0} (every : ℕ) (body_of : BodyOf W) (step : EventStep W C) (noted : Noting W C) where
   -- the bodies of some moves and of a turn behind them
-  bodies_then : (x y z : Standing W C) (e : Event) (tells : Turn) (ms ns : List Move)
+  pub bodies_then : (x y z : Standing W C) (e : Event) (tells : Turn) (ms ns : List Move)
       → y.running.state ≡ state_after step x.running.state ms → z.running.state ≡ state_after step y.running.state ns
       → tells ≡ turn_of_event e → bodies_at_ticks body_of step y.running.state ns ≡ bodies_at_event e (body_of (state_after step y.running.state ns).world)
       → bodies_at_ticks body_of step x.running.state (ms ++ ns) ≡ bodies_at_ticks body_of step x.running.state ms
@@ -63,12 +63,12 @@ module _ {W C : Type 0} (every : ℕ) (body_of : BodyOf W) (step : EventStep W C
       ∙ (told_bodies e (body_of z.running.state.world) ∙ ap (λ t. bodies_of_turn t (body_of z.running.state.world)) (sym kind)))))
 
   -- those that are looked at
-  looked_then : (left now : ℕ) (bodies more all : List (List ℕ)) → all ≡ bodies ++ more → left ≡ left_behind every now bodies
+  pub looked_then : (left now : ℕ) (bodies more all : List (List ℕ)) → all ≡ bodies ++ more → left ≡ left_behind every now bodies
       → paced every now all ≡ paced every now bodies ++ paced every left more
   looked_then left now bodies more all is pace =
       ap (paced every now) is ∙ (paced-append every now bodies more ∙ ap (λ n. paced every now bodies ++ paced every n more) (sym pace))
 
-  pace_then : (left then_ now : ℕ) (bodies more all : List (List ℕ)) → all ≡ bodies ++ more → left ≡ left_behind every now bodies
+  pub pace_then : (left then_ now : ℕ) (bodies more all : List (List ℕ)) → all ≡ bodies ++ more → left ≡ left_behind every now bodies
       → then_ ≡ left_behind every left more → then_ ≡ left_behind every now all
   pace_then left then_ now bodies more all is pace next =
       next ∙ (ap (λ n. left_behind every n more) pace ∙ (sym (left-append every now bodies more) ∙ ap (left_behind every now) (sym is)))

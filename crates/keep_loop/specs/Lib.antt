@@ -3,3 +3,5 @@ pub mod Saving
 pub mod Ending
 pub mod Keeping
 pub mod Wanting
+pub mod KeepingOn
+pub mod Looking

@@ -3,12 +3,27 @@
 
 mod keep_end;
 mod keeping;
+mod keeping_on;
+mod kept_on;
+mod laws;
+mod looking;
+mod mem_notes;
 mod persistent;
+mod reopened;
 mod run_end;
+mod save_counts;
 mod save_end;
+mod save_notes;
 mod saving;
 
 pub use keep_end::KeepEnd;
 pub use keeping::keep_turns;
+pub use keeping_on::keep_on;
+pub use kept_on::KeptOn;
+pub use laws::done_saves_are_not_undone;
+pub use mem_notes::{MemNotes, SaveNote};
 pub use persistent::Persistent;
 pub use run_end::RunEnd;
+pub use save_counts::SaveCounts;
+pub use save_end::SaveEnd;
+pub use save_notes::SaveNotes;

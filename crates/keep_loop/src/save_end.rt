@@ -2,7 +2,7 @@
 
 /// What became of a body that may have to be saved.
 #[derive(Clone, Copy, Debug, PartialEq, Eq)]
-pub(crate) enum SaveEnd {
+pub enum SaveEnd {
     /// It stands already.
     Same,
     Saved,

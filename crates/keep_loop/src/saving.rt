@@ -28,6 +28,7 @@ pub(crate) fn save_body<M: Persistent, D: Disk>(
         D.contents D.moment D.left_since disk.old disk.new store.old store.new }
     ensures ready { IsReady D.contents D.may_leave disk.new store.new }
     ensures untold { D.contents disk.old ≡ None → D.contents disk.new ≡ None }
+    ensures told { D.contents disk.new ≡ None → D.contents disk.old ≡ None }
     ensures later { D.fault_count disk.old ≤ D.fault_count disk.new }
     ensures failed { result ≡ SaveEnd.Failed → Rose (D.fault_count disk.old) (D.fault_count disk.new) }
 {
@@ -63,6 +64,7 @@ fn save_made<M: Persistent, D: Disk>(
         D.contents D.moment D.left_since disk.old disk.new store.old store.new }
     ensures ready { IsReady D.contents D.may_leave disk.new store.new }
     ensures untold { D.contents disk.old ≡ None → D.contents disk.new ≡ None }
+    ensures told { D.contents disk.new ≡ None → D.contents disk.old ≡ None }
     ensures later { D.fault_count disk.old ≤ D.fault_count disk.new }
     ensures failed { result ≡ SaveEnd.Failed → Rose (D.fault_count disk.old) (D.fault_count disk.new) }
 {
@@ -81,6 +83,7 @@ fn save_new<D: Disk>(alloc: Global, store: &mut Store, disk: &mut D, body: &[u8]
         D.contents D.moment D.left_since disk.old disk.new store.old store.new }
     ensures ready { IsReady D.contents D.may_leave disk.new store.new }
     ensures untold { D.contents disk.old ≡ None → D.contents disk.new ≡ None }
+    ensures told { D.contents disk.new ≡ None → D.contents disk.old ≡ None }
     ensures later { D.fault_count disk.old ≤ D.fault_count disk.new }
     ensures failed { result ≡ SaveEnd.Failed → Rose (D.fault_count disk.old) (D.fault_count disk.new) }
 {

@@ -48,6 +48,12 @@ untold_after holds None (Some f) told is = absurd told
 untold_after holds (Some f) None told is = refl
 untold_after holds (Some f) (Some g) told is = absurd (let no : Some f ≡ None = is in cc)
 
+pub told_after : (holds : List ℕ → List ℕ → Type 0) (old new : Option (List ℕ)) → WhereTold holds old new → new ≡ None → old ≡ None
+told_after holds None None told is = refl
+told_after holds None (Some f) told is = refl
+told_after holds (Some f) None told is = absurd told
+told_after holds (Some f) (Some g) told is = absurd (let no : Some g ≡ None = is in cc)
+
 module _ {D : Type 0} (contents : D → Option (List ℕ)) (may_leave : D → List ℕ → Type 0) (moment : D → ℕ) (left_since : D → ℕ → List ℕ → Type 0) where
   -- a call that changes nothing
   pub at_after : (old new : D) (file : List ℕ) → Stays contents may_leave old new → IsAt contents may_leave old file → IsAt contents may_leave new file

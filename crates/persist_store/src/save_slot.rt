@@ -36,6 +36,7 @@ pub fn save_slot<D: Disk>(
         → standing_of file ≡ option_map standing_kept standing.now
         → LeavesOnly D.moment D.left_since disk.old disk.new (IsBeforeOrAfter file body.now) }
     ensures untold { D.contents disk.old ≡ None → D.contents disk.new ≡ None }
+    ensures told { D.contents disk.new ≡ None → D.contents disk.old ≡ None }
     ensures cause { HasCause (D.fault_count disk.old) (D.fault_count disk.new) result }
 {
     let slot = match next_slot(alloc, standing, body) {

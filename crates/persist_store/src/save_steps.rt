@@ -21,6 +21,7 @@ pub fn write_slot<D: Disk>(disk: &mut D, place: u64, behind: &[u8]) -> Result<()
         → IsSaving file body place behind.now
         → LeavesOnly D.moment D.left_since disk.old disk.new (IsBeforeOrAfter file body) }
     ensures untold { D.contents disk.old ≡ None → D.contents disk.new ≡ None }
+    ensures told { D.contents disk.new ≡ None → D.contents disk.old ≡ None }
     ensures cause { HasCause (D.fault_count disk.old) (D.fault_count disk.new) result }
 {
     close_gate(disk, place)?;
@@ -36,6 +37,7 @@ fn close_gate<D: Disk>(disk: &mut D, place: u64) -> Result<(), StepFault>
     ensures stop { (file : List ℕ) → IsAt D.contents D.may_leave disk.old file → place ≡ next_place (standing_of file)
         → LeavesOnly D.moment D.left_since disk.old disk.new (λ c. standing_of c ≡ standing_of file) }
     ensures untold { D.contents disk.old ≡ None → D.contents disk.new ≡ None }
+    ensures told { D.contents disk.new ≡ None → D.contents disk.old ≡ None }
     ensures cause { HasCause (D.fault_count disk.old) (D.fault_count disk.new) result }
 {
     if is_gate_closed(disk, place)? {
@@ -56,6 +58,7 @@ fn fill_slot<D: Disk>(disk: &mut D, place: u64, behind: &[u8]) -> Result<(), Ste
         → behind.now ≡ behind_gate slot → length slot.body ≤ MAX_BODY
         → LeavesOnly D.moment D.left_since disk.old disk.new (λ c. standing_of c ≡ standing_of file) }
     ensures untold { D.contents disk.old ≡ None → D.contents disk.new ≡ None }
+    ensures told { D.contents disk.new ≡ None → D.contents disk.old ≡ None }
     ensures cause { HasCause (D.fault_count disk.old) (D.fault_count disk.new) result }
 {
     write_and_sync(disk, place + 1, behind)
@@ -70,19 +73,21 @@ fn open_gate<D: Disk>(disk: &mut D, place: u64) -> Result<(), StepFault>
         → place ≡ next_place (standing_of file) → IsFilled place (next_slot (standing_of file) body) file
         → LeavesOnly D.moment D.left_since disk.old disk.new (IsBeforeOrAfter file body) }
     ensures untold { D.contents disk.old ≡ None → D.contents disk.new ≡ None }
+    ensures told { D.contents disk.new ≡ None → D.contents disk.old ≡ None }
     ensures cause { HasCause (D.fault_count disk.old) (D.fault_count disk.new) result }
 {
     write_and_sync(disk, place, &[1])
 }
 
 // Writes bytes and brings them to the disk.
-#[tactic(auto, using(crate::proofs::StepLemmas::untold_after))]
+#[tactic(auto, using(crate::proofs::StepLemmas::untold_after, crate::proofs::StepLemmas::told_after))]
 fn write_and_sync<D: Disk>(disk: &mut D, at: u64, bytes: &[u8]) -> Result<(), StepFault>
     ensures done { OnOk result ((file : List ℕ) → IsAt D.contents D.may_leave disk.old file
         → IsAt D.contents D.may_leave disk.new (written at bytes.now file)) }
     ensures stop { (file : List ℕ) → IsAt D.contents D.may_leave disk.old file
         → LeavesOnly D.moment D.left_since disk.old disk.new (Torn at (length bytes.now) file) }
     ensures untold { D.contents disk.old ≡ None → D.contents disk.new ≡ None }
+    ensures told { D.contents disk.new ≡ None → D.contents disk.old ≡ None }
     ensures cause { HasCause (D.fault_count disk.old) (D.fault_count disk.new) result }
 {
     match disk.write_at(at, bytes) {

@@ -69,6 +69,13 @@ impl Store {
         }
     }
 
+    /// Whether an earlier save failed or lacked memory, and the file is to be opened again.
+    pub fn is_shut(&self) -> bool
+        ensures { result ≡ self.now.shut }
+    {
+        self.shut
+    }
+
     /// Saves a body. After a stop of the machine at any moment of it the file stands for the body before or for the new
     /// one; once it is done, every stop leaves the new one.
     pub fn save<D: Disk>(
@@ -88,6 +95,7 @@ impl Store {
             → LeavesOnly D.moment D.left_since disk.old disk.new (IsBeforeOrAfter file body.now) }
         ensures ready { IsReady D.contents D.may_leave disk.new self.new }
         ensures untold { D.contents disk.old ≡ None → D.contents disk.new ≡ None }
+        ensures told { D.contents disk.new ≡ None → D.contents disk.old ≡ None }
         ensures untouched { IfOk result (λ answer. LeavesDisk answer disk.old disk.new) }
         ensures later { D.fault_count disk.old ≤ D.fault_count disk.new }
         ensures failed { IfOk result (λ answer. answer ≡ Saved.Failed

@@ -1,6 +1,5 @@
 -- The conversation, and what follows it.
 use Rattle.std.proofs.Common.{inl}
-use Rattle.std.specs.Prelude.{Ok}
 use Rattle.spec_client.specs.Conversation.{conversation_begun}
 use Rattle.client_loop.specs.Outlets.{outlets}
 use Rattle.client_loop.proofs.LaterLemmas.{out_then}

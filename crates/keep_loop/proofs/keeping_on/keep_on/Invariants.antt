@@ -1,0 +1,23 @@
+-- So many turns were taken, and the bodies after their ticks looked at.
+use Rattle.std.proofs.Common.{◌≡◌, ◌<◌, ◌≤◌}
+use Rattle.std.specs.Prelude.{None}
+use Rattle.ads_outside.specs.Rose.{Rose}
+use Rattle.persist_store.specs.Store.{IsReady}
+use Rattle.keep_loop.specs.Looking.{AreFew, ServesOnSoFar}
+use Rattle.keep_loop.proofs.keeping_on.keep_on.Given as goal
+
+abbrev pub invariant-loop-taken : goal.invariant-loop-taken
+invariant-loop-taken g l = record {
+  so_far : ServesOnSoFar l.every g.M.Persistent.body_of g.M.Persistent.steps g.M.Persistent.noted
+      g.D.Disk.contents g.D.Disk.may_leave g.D.Disk.moment g.D.Disk.left_since
+      (g.M.Persistent.serves l.initial.served) (g.M.Persistent.serves l.served) (g.W.Wire.state l.initial.wire).history (g.W.Wire.state l.wire).history l._taken l.left
+      l.initial.disk l.disk l.initial.store l.store l.counts;
+  ready : IsReady g.D.Disk.contents g.D.Disk.may_leave l.disk l.store;
+  few : AreFew l.counts l._taken;
+  failed : 0 < l.counts.failed → Rose (g.D.Disk.fault_count l.initial.disk) (g.D.Disk.fault_count l.disk);
+  untold : g.D.Disk.contents l.initial.disk ≡ None → g.D.Disk.contents l.disk ≡ None;
+  kept : g.W.Wire.kept l.wire ≡ g.W.Wire.kept l.initial.wire;
+  later : g.D.Disk.fault_count l.initial.disk ≤ g.D.Disk.fault_count l.disk;
+  wire_later : (g.W.Wire.state l.initial.wire).faults ≤ (g.W.Wire.state l.wire).faults;
+  wanted : (g.W.Wire.state l.initial.wire).wants ≤ (g.W.Wire.state l.wire).wants;
+}
