@@ -2,6 +2,7 @@
 """Gives the libraries that a run of `rt ci` proves to the checks in other clones on this machine, so that nobody proves them twice.
 
     python3 bench/share.py CLONE [NAME ..]      beside `rt ci [NAME ..]` in CLONE; it ends when these crates' libraries and those below them stand, or by Ctrl-C
+                                                (a run with names works in a copy: give that, /tmp/rt-copy-*/repo)
 
 `rt check` takes the libraries below a crate from other clones' checks, and not from what `rt ci` made. This holds the lock under which a check builds each
 library of CLONE (so it waits, half an hour at most), and hands the library over as soon as the run has proved it. It changes nothing that a verdict rests on.

@@ -5,6 +5,7 @@ mod handles;
 mod notifications;
 mod ports;
 mod routes;
+mod sessions;
 mod sums;
 
 use ads_base::NoMemory;
@@ -43,6 +44,7 @@ impl Libraries for Device {
             "net_routes" => routes::make(alloc, call, args, answer),
             "notify_table" => notifications::make(alloc, &mut self.watches, call, args, answer),
             "port_device" => ports::make(alloc, &mut self.plant, call, args, answer),
+            "session" => sessions::make(alloc, call, args, answer),
             "sum_commands" => sums::make(alloc, call, args, answer),
             "sym_handles" => handles::make(alloc, &mut self.handles, call, args, answer),
             _ => Err(Fault::NoCall),

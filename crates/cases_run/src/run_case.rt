@@ -3,41 +3,36 @@
 ghost use Rattle.std.specs.Prelude.{[], IsTrue};
 ghost use Rattle.ads_outside.specs.Opened.{are_new};
 
-use crate::fault::Fault;
-use crate::given::Given;
-use crate::link_case::{LinkCase, talk_of};
-use crate::new_events::open_new;
-use crate::store_case::{StoreCase, rows_of};
-use crate::wire_case::WireCase;
-use crate::wire_log::log_text;
 use ads_base::{NoMemory, Octets};
 use ads_outside::{Files, Link, LinkMove, MemFiles, MemLink, MemSink, MemWire, Move, Sink, Wire};
 use ads_run::{Status, run, run_program};
 use persist_store::{Disk, MemDisk};
+use run_sheets::{
+    Came, Fault, Given, LinkCase, Runs, StoreCase, WireCase, log_text, open_new, rows_of, talk_of,
+};
 use sample_store::{Keeper, MapKeeper};
 use signals::Signal;
 use std::alloc::Global;
 use std::io::ErrorKind;
 use std::thread::Threads;
 
-/// What came: the number of the status, what was printed, the wire's log, what was sent over the link, and what is left of the
-/// disk's file and of the keeper's rows.
-#[derive(Drop)]
-pub struct Came {
-    pub status: u8,
-    pub out: Octets,
-    pub log: Octets,
-    pub talk: Octets,
-    pub left: Octets,
-    pub rows: Octets,
+/// The program `ads`.
+#[derive(Clone, Copy, Debug)]
+pub struct Ads;
+
+impl Runs for Ads {
+    fn run_case<T: Threads + Sync>(
+        &self,
+        threads: &T,
+        alloc: Global,
+        given: Given,
+    ) -> Result<Came, Fault> {
+        run_case(threads, alloc, given)
+    }
 }
 
-/// Runs the words that are given over the files, the wire, the link and the stores.
-pub fn run_case<T: Threads + Sync>(
-    threads: &T,
-    alloc: Global,
-    given: Given,
-) -> Result<Came, Fault> {
+// Runs the words that are given over the files, the wire, the link and the stores.
+fn run_case<T: Threads + Sync>(threads: &T, alloc: Global, given: Given) -> Result<Came, Fault> {
     if !open_new(alloc, given.wire.events.as_slice())? {
         return Err(Fault::Off("two connections have one number"));
     }
@@ -56,6 +51,7 @@ fn run_given<T: Threads + Sync>(threads: &T, alloc: Global, given: Given) -> Res
         failing_puts,
         parts,
         has_signals,
+        told: _told,
         wire,
         link,
         stores,
@@ -197,6 +193,7 @@ fn came_of(
     Ok(Came {
         status: status.number(),
         out,
+        told: Octets::new(alloc),
         log,
         talk,
         left: Octets::new(alloc),

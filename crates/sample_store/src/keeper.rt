@@ -35,6 +35,13 @@ pub trait Keeper {
         ensures later { (state self.old).faults ≤ (state self.new).faults }
         ensures failed { result ≡ Kept.Failed → Rose (state self.old).faults (state self.new).faults };
 
+    /// Brings the rows that were put to where they stay. Until then a table may gather them; what was gathered is lost where
+    /// this fails.
+    fn settle(&mut self) -> Kept
+        ensures rows { (state self.new).rows ≡ (state self.old).rows }
+        ensures later { (state self.old).faults ≤ (state self.new).faults }
+        ensures failed { result ≡ Kept.Failed → Rose (state self.old).faults (state self.new).faults };
+
     /// What is told of all rows of a name.
     fn total(&mut self, name: &[u8]) -> Totalled
         ensures told { Totals result (state self.old).rows name.now }

@@ -1,9 +1,6 @@
 //! What a run is given.
 
-use crate::link_case::LinkCase;
-use crate::run_case::Came;
-use crate::store_case::StoreCase;
-use crate::wire_case::WireCase;
+use crate::{Came, LinkCase, StoreCase, WireCase};
 use ads_base::{Calls, NoMemory, Octets};
 use ads_outside::NamedFiles;
 use std::alloc::Global;
@@ -24,6 +21,8 @@ pub struct Given {
     pub parts: Calls,
     /// Whether the program's three signals are handed in, or none.
     pub has_signals: bool,
+    /// What must be told on standard error.
+    pub told: Octets,
     pub wire: WireCase,
     pub link: LinkCase,
     pub stores: StoreCase,
@@ -40,6 +39,7 @@ impl Given {
             failing_puts: Calls::new(alloc),
             parts: Calls::new(alloc),
             has_signals: true,
+            told: Octets::new(alloc),
             wire: WireCase::new(alloc),
             link: LinkCase::new(alloc),
             stores: StoreCase::new(alloc),
@@ -57,6 +57,7 @@ impl Given {
         Ok(Came {
             status,
             out,
+            told: mem::replace(&mut self.told, Octets::new(alloc)),
             log: mem::replace(&mut self.wire.log, Octets::new(alloc)),
             talk: mem::replace(&mut self.link.talk, Octets::new(alloc)),
             left,

@@ -4,8 +4,8 @@ use crate::draft::{Case, Draft};
 use crate::fault::Fault;
 use crate::folder::Folder;
 use crate::line::take_line;
-use crate::run_case::{Came, run_case};
 use crate::told::{tell_difference, tell_end, tell_fault};
+use crate::{Came, Runs};
 use std::str;
 use std::thread::Threads;
 
@@ -24,7 +24,11 @@ pub struct Tally {
 }
 
 /// Tries each run that runs.txt names, and tells of each that differs or cannot be read.
-pub fn try_all<T: Threads + Sync>(rt: &HostRuntime, threads: &T) -> Result<Tally, Fault> {
+pub fn try_all<T: Threads + Sync, R: Runs>(
+    rt: &HostRuntime,
+    threads: &T,
+    program: &R,
+) -> Result<Tally, Fault> {
     let mut tally = Tally::default();
     let mut folder = Folder::new(rt)?;
     let list = folder.read(LIST)?;
@@ -33,22 +37,23 @@ pub fn try_all<T: Threads + Sync>(rt: &HostRuntime, threads: &T) -> Result<Tally
     };
     for name in list.lines() {
         if !name.is_empty() {
-            try_file(rt, threads, &mut folder, name, &mut tally)?;
+            try_file(rt, threads, program, &mut folder, name, &mut tally)?;
         }
     }
     Ok(tally)
 }
 
 // The runs of one file, by its name.
-fn try_file<T: Threads + Sync>(
+fn try_file<T: Threads + Sync, R: Runs>(
     rt: &HostRuntime,
     threads: &T,
+    program: &R,
     folder: &mut Folder,
     name: &str,
     tally: &mut Tally,
 ) -> Result<(), Fault> {
     let mut line = 0;
-    match try_runs(rt, threads, folder, name, &mut line, tally) {
+    match try_runs(rt, threads, program, folder, name, &mut line, tally) {
         Err(Fault::Off(what)) => {
             tally.unreadable = tally.unreadable.saturating_add(1);
             tell_fault(rt, name, line, what)
@@ -58,9 +63,10 @@ fn try_file<T: Threads + Sync>(
 }
 
 // The same; `line` is the number of the line that was read last.
-fn try_runs<T: Threads + Sync>(
+fn try_runs<T: Threads + Sync, R: Runs>(
     rt: &HostRuntime,
     threads: &T,
+    program: &R,
     folder: &mut Folder,
     name: &str,
     line: &mut u32,
@@ -71,6 +77,7 @@ fn try_runs<T: Threads + Sync>(
     try_text(
         rt,
         threads,
+        program,
         folder,
         name,
         bytes.as_slice(),
@@ -81,9 +88,10 @@ fn try_runs<T: Threads + Sync>(
 }
 
 // The runs of the text of a file.
-fn try_text<T: Threads + Sync>(
+fn try_text<T: Threads + Sync, R: Runs>(
     rt: &HostRuntime,
     threads: &T,
+    program: &R,
     folder: &mut Folder,
     name: &str,
     bytes: &[u8],
@@ -98,19 +106,20 @@ fn try_text<T: Threads + Sync>(
         *line = line.saturating_add(1);
         if text == PARTING {
             let case = draft.finish(rt.alloc())?;
-            try_case(rt, threads, name, *line, case, tally)?;
+            try_case(rt, threads, program, name, *line, case, tally)?;
         } else {
             take_line(rt.alloc(), folder, draft, text)?;
         }
     }
     let case = draft.finish(rt.alloc())?;
-    try_case(rt, threads, name, *line, case, tally)
+    try_case(rt, threads, program, name, *line, case, tally)
 }
 
 // A run, which ends before this line of its file.
-fn try_case<T: Threads + Sync>(
+fn try_case<T: Threads + Sync, R: Runs>(
     rt: &HostRuntime,
     threads: &T,
+    program: &R,
     name: &str,
     line: u32,
     case: Case,
@@ -122,7 +131,7 @@ fn try_case<T: Threads + Sync>(
         out,
     } = case;
     let wanted = given.take_wanted(rt.alloc(), status, out)?;
-    let came = run_case(threads, rt.alloc(), given)?;
+    let came = program.run_case(threads, rt.alloc(), given)?;
     tell(rt, name, line, &came, &wanted, tally)
 }
 
@@ -148,6 +157,7 @@ fn tell(
 fn is_as_wanted(came: &Came, wanted: &Came) -> bool {
     came.status == wanted.status
         && came.out.as_slice() == wanted.out.as_slice()
+        && came.told.as_slice() == wanted.told.as_slice()
         && came.log.as_slice() == wanted.log.as_slice()
         && came.talk.as_slice() == wanted.talk.as_slice()
         && came.left.as_slice() == wanted.left.as_slice()

@@ -1,6 +1,6 @@
 //! The log of a wire as text.
 
-use crate::fault::Fault;
+use crate::Fault;
 use ads_base::Octets;
 use ads_outside::{Event, Move};
 use std::alloc::Global;

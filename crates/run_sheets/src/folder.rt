@@ -1,6 +1,6 @@
 //! The folder that the files of the runs lie in.
 
-use crate::fault::Fault;
+use crate::Fault;
 use ads_base::Octets;
 use ads_edge::RealFiles;
 use ads_outside::{Files, Got};

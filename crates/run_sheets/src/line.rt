@@ -1,7 +1,7 @@
 //! The lines of a file that describes a run.
 
+use crate::Fault;
 use crate::draft::{Draft, Target};
-use crate::fault::Fault;
 use crate::folder::Folder;
 use crate::link_case::take_link_line;
 use crate::store_case::take_store_line;
@@ -39,6 +39,7 @@ pub fn take_line(
         }
         "reload" => draft.begin(alloc, Target::Reload),
         "out" => draft.begin(alloc, Target::Output),
+        "told" => draft.begin(alloc, Target::Told),
         "log" => draft.begin(alloc, Target::Log),
         "talk" => draft.begin(alloc, Target::Talk),
         "rows" => draft.begin(alloc, Target::Rows),

@@ -1,7 +1,6 @@
 //! A case while its lines are read.
 
-use crate::fault::Fault;
-use crate::given::Given;
+use crate::{Fault, Given};
 use ads_base::Octets;
 use ads_outside::{Event, NamedFile};
 use std::alloc::Global;
@@ -15,6 +14,8 @@ pub enum Target {
     /// The description that a wire tells anew.
     Reload,
     Output,
+    /// What must be told on standard error.
+    Told,
     Log,
     /// What must have been sent over the link.
     Talk,
@@ -71,6 +72,7 @@ impl Draft {
             }
             Target::Reload => self.given.wire.events.push(alloc, Event::Reload(bytes))?,
             Target::Output => self.out = Some(bytes),
+            Target::Told => self.given.told = bytes,
             Target::Log => self.given.wire.log = bytes,
             Target::Talk => self.given.link.talk = bytes,
             Target::Rows => self.given.stores.rows = bytes,

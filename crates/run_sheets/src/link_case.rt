@@ -1,6 +1,6 @@
 //! What comes over the link of a run, and what must have been sent.
 
-use crate::fault::Fault;
+use crate::Fault;
 use crate::wire_case::{bytes_of, number_of};
 use ads_base::{Calls, Octets};
 use ads_outside::{LinkEvent, LinkEvents, LinkMove};

@@ -1,7 +1,6 @@
 //! What is printed of runs that did not go as wanted.
 
-use crate::fault::Fault;
-use crate::run_case::Came;
+use crate::{Came, Fault};
 use std::str;
 
 /// A file that describes no run: its name, the line, and what is wrong.
@@ -16,12 +15,16 @@ pub fn tell_difference(rt: &HostRuntime, name: &str, line: u32) -> Result<(), Fa
     Ok(())
 }
 
-/// How a run ended, or was to end: its status, what it printed, the wire's log, what was sent over the link, and what is left
-/// of the stores.
+/// How a run ended, or was to end: its status, what it printed and told, the wire's log, what was sent over the link, and what
+/// is left of the stores.
 pub fn tell_end(rt: &HostRuntime, word: &str, came: &Came) -> Result<(), Fault> {
     let status = came.status;
     println!(rt; "  {word}: status {status}")?;
     tell_text(rt, came.out.as_slice())?;
+    if came.told.len() > 0 {
+        println!(rt; "  {word}: on standard error")?;
+        tell_text(rt, came.told.as_slice())?;
+    }
     if came.log.len() > 0 {
         println!(rt; "  {word}: log of the wire")?;
         tell_text(rt, came.log.as_slice())?;

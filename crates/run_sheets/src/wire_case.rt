@@ -1,6 +1,6 @@
 //! What the wire of a run gives and takes.
 
-use crate::fault::Fault;
+use crate::Fault;
 use ads_base::{Calls, Octets};
 use ads_outside::{Cuts, Event, Events};
 use std::alloc::Global;

@@ -1,6 +1,6 @@
 //! The disk and the keeper of a run, and what must be left of them.
 
-use crate::fault::Fault;
+use crate::Fault;
 use crate::wire_case::{bytes_of, number_of, put_digits};
 use ads_base::{Calls, NoMemory, Octets};
 use persist_store::Stop;

@@ -1,7 +1,7 @@
 -- One event more opens a new number.
 use Rattle.std.proofs.Common.{rules}
-use Rattle.cases_run.proofs.NewLemmas.{new_from, nothing_left}
-use Rattle.cases_run.proofs.new_events.open_new.Goals as goal
+use Rattle.run_sheets.proofs.NewLemmas.{new_from, nothing_left}
+use Rattle.run_sheets.proofs.new_events.open_new.Goals as goal
 
 pub loop-event-preserved : goal.loop-event-preserved
 loop-event-preserved c = λ rest.
