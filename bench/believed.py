@@ -1,18 +1,17 @@
 #!/usr/bin/env python3
-"""What must be believed by reading, for the contract of the top call `run` to mean what its words say.
+"""What must be believed by reading, for the contracts of the top call `run` and of the daemon to mean what their words say.
 
     python3 bench/believed.py             a line a crate, and the sums
     python3 bench/believed.py --files     a line a file: lines that are reached, lines of the file
     python3 bench/believed.py --names     a line a definition
-    python3 bench/believed.py --write     writes the table into docs/GUARANTEES.md, between its two marks
-    python3 bench/believed.py --check     status 1 where that table is not what would be written
-    python3 bench/believed.py --from crates/X/src/y.rt:name      another function than `run`
+    python3 bench/believed.py --write     writes docs/BELIEVED.md
+    python3 bench/believed.py --check     status 1 where that page is another, a part of it cites a later one, or a name can't be found
+    python3 bench/believed.py --from crates/X/src/y.rt:name      another function than these
 
-It follows the names: from the clauses of the function to the definitions that they cite, to those that these cite, and so on.
-A definition counts with the comment above it. A type of the code that a definition names counts with its fields and with what
-contracts see of it. A trait of the outside is followed whole, since its contracts say what files, wires, links and sinks promise;
-of another trait (the signals) what it is seen as. What stands in the library `std` or in a crate of the kit is named at the end and
-not counted.
+It follows the names: from the clauses of the function to the definitions that they cite, to those that these cite, and so on. A definition
+counts with the comment above it; an operator of our own and `do` count as names. A type of the code that a definition names counts with its
+fields and with what contracts see of it. A trait is followed whole, but for those whose implementation is proved (PROVED): of these what they
+are seen as. What stands in the library `std` or in a crate of the kit is named at the end and not counted.
 """
 import collections
 import pathlib
@@ -21,9 +20,11 @@ import sys
 
 ROOT = pathlib.Path(__file__).resolve().parent.parent
 CRATES = ROOT / "crates"
-PAGE = ROOT / "docs/GUARANTEES.md"
-MARKS = ("<!-- written by bench/believed.py -->", "<!-- to here -->")
+PAGE = ROOT / "docs/BELIEVED.md"
 TOP = "crates/ads_run/src/top_call.rt:run"
+
+# traits whose implementation in the program is proved, so that nobody needs to believe what their calls do: only what they are seen as counts
+PROVED = {"Signal", "Sources"}
 
 WORD = re.compile(r"[^\W\d][\w'-]*(?:\.[^\W\d][\w'-]*)*|[◌⟦][^\s,{}]*")
 USE = re.compile(r"(pub )?(?:ghost )?use ([\w.:]+?)(?:[.:]+\{([^}]*)\})?(?: as (\w+))?;?\s*$")
@@ -58,7 +59,7 @@ class Item:
 
 
 def with_comment(lines, first):
-    while first > 0 and lines[first - 1].lstrip().startswith(("--", "///", "//", "#[")):
+    while first > 0 and lines[first - 1].lstrip().startswith(("--", "///", "//", "#[", "infix")):
         first -= 1
     return first
 
@@ -122,7 +123,7 @@ class Page:
             if found:
                 end = block_end(self.lines, at) + 1
                 text = self.code(at, end)
-                if found.group(1) == "trait" and "ads_outside" not in self.path.parts:
+                if found.group(1) == "trait" and found.group(2) in PROVED:
                     text = "\n".join(re.findall(r"^    ghost \w+:.*;$", text, re.M))
                 self.items[found.group(2)] = Item(self, found.group(2), with_comment(self.lines, at), end, text)
         for at, line in enumerate(self.lines):
@@ -213,10 +214,20 @@ def is_of_kit(where):
     return where.startswith("Rattle.") and not (CRATES / where.split(".")[1]).is_dir()
 
 
+def operators(item):
+    """The operators of our own that a text uses: `do` uses that which binds."""
+    here = item.file
+    words = set(item.text.split())
+    for name in {it for it in (*here.items, *here.imports) if "◌" in it}:
+        signs = [it for it in name.split("◌") if it]
+        if name != item.name and (all(it in words for it in signs) or (name == "◌>>=◌" and "do" in words)):
+            yield name
+
+
 def cited(item, outside):
     """The items that an item names."""
     here = item.file
-    for word in dict.fromkeys(WORD.findall(item.text)):
+    for word in dict.fromkeys([*WORD.findall(item.text), *operators(item)]):
         parts = word.split(".")
         for name, rest in ((word, ""), (parts[0], ".".join(parts[1:]))):
             if name == item.name and not rest:
@@ -291,7 +302,99 @@ def layers():
     return order
 
 
-def table(items):
+# The parts of docs/BELIEVED.md, in reading order: a title, what it is, its crates. A crate that stands in none comes with the first part that cites it.
+PARTS = (
+    ("A plant", "Names, types, what a description says, and the names of the bytes that a device holds.", ("ads_base", "name_paths", "signals", "spec_plant", "type_layout")),
+    ("The bytes on the wire", "Frames, headers, requests, replies, notifications, entries, index groups and return codes. Beside the Beckhoff Information System.",
+     ("spec_frames", "spec_formats")),
+    ("Which descriptions are accepted", "The rules, and the verdict on a description's text.", ("spec_rules",)),
+    ("The outside", "What files, outputs, wires and links say of themselves, and what each of their calls promises.", ("ads_outside",)),
+    ("The server", "The written server, the greatest part: state, events and offers first, then requests, handles, notifications, ticks and reloads.", ("spec_machine",)),
+    ("What the server promises", "The laws that a plant relies on, over any run of the written server.", ("spec_laws", "spec_server", "spec_promises")),
+    ("The relay", "The written router, and what it promises.", ("spec_relay",)),
+    ("The client", "What `get`, `set`, `watch` and the others ask, print and end with, and what a table of samples holds.",
+     ("spec_samples", "sample_store", "spec_client", "spec_local", "spec_local_room", "client_replies", "client_loop")),
+    ("Stores", "A file of kept values, and what a stop of the machine may leave of it.", ("spec_store", "persist_store", "spec_persistent", "stored_values", "keep_loop", "keep_play")),
+    ("The command line", "Which words are a command.", ("cli_words",)),
+    ("The run", "What each command comes to: status, text, files; with the contract of `run` itself.",
+     ("table_text", "description_migration", "load_maker", "serve_loop", "server_core", "run_tasks", "call_run", "file_run", "ads_run")),
+    ("The daemon", "What the contracts of the daemon's runs add to that of `run`.", ("daemon_outside", "daemon_run")),
+)
+DAEMON = "daemon_run"
+INTRODUCTION = """# What must be believed by reading
+
+Made by `bench/believed.py --write`. A proof shows that the program does what the definitions say. That the definitions say what ADS says, and what you want, has to be read. The script follows the names: from the contract of `run` ([top_call.rt](../crates/ads_run/src/top_call.rt)) and those of the daemon's runs (`daemon_run`) to the definitions that they cite, to those that these cite, and so on. Here is all that it reaches, each file with the number of its lines that count, comments among them.
+
+Read the parts in this order: none cites a later one, and in a part the files stand in reading order. A trait of the outside counts whole, since its clauses are all that is known of a file, a socket or a disk; of {proved} counts what they are seen as, since those of the program are proved. What the library `std` and the crates of the kit define is not counted.
+
+Worked examples stand beside the definitions (`proofs/*Examples.antt`), computed from them alone; wrong definitions are tried and refused (`wrong-bodies/`); and two models in plain Python, written from the formats ([model.py](../bench/model.py), [client.py](../bench/client.py)), agree with the program on every random and hostile run that was tried.
+"""
+
+
+def crate_of(item):
+    return item.file.path.relative_to(CRATES).parts[0]
+
+
+def contracts():
+    """The contracts that are followed: that of `run`, and those of the daemon's runs."""
+    found = [TOP]
+    for path in sorted((CRATES / DAEMON / "src").glob("*.rt")):
+        found += [f"{path.relative_to(ROOT)}:{name}" for name in re.findall(r"^pub fn ((?:run|serve)_\w+)", path.read_text(), re.M)]
+    return found
+
+
+def everything(places):
+    items, outside = {}, collections.defaultdict(set)
+    for place in places:
+        found, names = believed(place)
+        for item in found:
+            items.setdefault((item.file.path, item.first), item)
+        for name, of in names.items():
+            outside[name] |= of
+    return list(items.values()), outside
+
+
+def uses_between(items):
+    """What each item cites, by place."""
+    nobody = collections.defaultdict(set)
+    return {(i.file.path, i.first): {(c.file.path, c.first) for c in cited(i, nobody)} for i in items}
+
+
+def in_parts(uses):
+    """The number of each crate's part."""
+    part = {name: k for k, (_, _, crates) in enumerate(PARTS) for name in crates}
+    above = collections.defaultdict(set)
+    for (path, _), found in uses.items():
+        for it, _ in found:
+            above[it.relative_to(CRATES).parts[0]].add(path.relative_to(CRATES).parts[0])
+    for name in reversed(layers()):
+        if name not in part:
+            part[name] = min((part[it] for it in above[name] if it in part), default=len(PARTS) - 1)
+    return part
+
+
+def later_ones(items, uses, part):
+    """Where a part cites a later one."""
+    for item in items:
+        for path, _ in sorted(uses[item.file.path, item.first]):
+            mine, other = part[crate_of(item)], part[path.relative_to(CRATES).parts[0]]
+            if other > mine:
+                yield f"{item.file.path.relative_to(ROOT)}: {item.name} of part {mine + 1} cites {path.relative_to(ROOT)} of part {other + 1}"
+
+
+def in_order(files, uses):
+    """The files of a crate, each behind those that it cites where that can be had."""
+    cites = {file.path: {it for (path, _), found in uses.items() if path == file.path for it, _ in found} for file, _ in files}
+    left, order = sorted(files, key=lambda f: str(f[0].path)), []
+    while left:
+        waiting = {file.path for file, _ in left}
+        free = next((it for it in left if not (cites[it[0].path] & waiting) - {it[0].path}), left[0])
+        order.append(free)
+        left.remove(free)
+    return order
+
+
+def table(items, uses):
     files = collections.defaultdict(list)
     for item in items:
         files[item.file].append(item)
@@ -299,29 +402,41 @@ def table(items):
     for file, reached in files.items():
         crates[file.path.relative_to(CRATES).parts[0]].append((file, reached))
     order = layers()
-    return [(name, sorted(crates[name], key=lambda f: str(f[0].path))) for name in sorted(crates, key=order.index)]
+    return [(name, in_order(crates[name], uses)) for name in sorted(crates, key=order.index)]
 
 
-def written(rows):
-    out = ["| crate | files, with the lines of each that the contract reaches | lines |", "|---|---|---|"]
-    total = 0
-    for name, files in rows:
-        texts = []
-        for file, reached in files:
-            inner = file.path.relative_to(CRATES / name)
-            texts.append(f"[{inner.stem if inner.suffix == '.antt' else inner}](../{file.path.relative_to(ROOT)}) {lines_of(reached)}")
-        lines = sum(lines_of(reached) for _, reached in files)
-        total += lines
-        out.append(f"| `{name}` | {', '.join(texts)} | {lines} |")
-    count = sum(len(files) for _, files in rows)
-    out.append(f"| {len(rows)} crates | {count} files | {total:,} |")
-    return out
+def sum_of(rows):
+    return sum(lines_of(reached) for _, files in rows for _, reached in files)
+
+
+def written(rows, items, uses):
+    part = in_parts(uses)
+    out = [INTRODUCTION.format(proved=" and ".join(f"`{it}`" for it in sorted(PROVED)))]
+    out += ["| part | lines | stands on |", "|---|---|---|"]
+    tables = []
+    for k, (title, about, _) in enumerate(PARTS):
+        mine = [row for row in rows if part[row[0]] == k]
+        if not mine:
+            continue
+        names = {name for name, _ in mine}
+        on = sorted({part[path.relative_to(CRATES).parts[0]] + 1 for (of, _), found in uses.items() if of.relative_to(CRATES).parts[0] in names for path, _ in found} - {k + 1})
+        out.append(f"| [{k + 1}. {title}](#{k + 1}-{title.lower().replace(' ', '-')}) | {sum_of(mine):,} | {', '.join(map(str, on)) or 'nothing'} |")
+        tables += [f"\n## {k + 1}. {title}\n", about, "", "| crate | files, in reading order | lines |", "|---|---|---|"]
+        for name, files in mine:
+            texts = []
+            for file, reached in files:
+                inner = file.path.relative_to(CRATES / name)
+                texts.append(f"[{inner.stem if inner.suffix == '.antt' else inner}](../{file.path.relative_to(ROOT)}) {lines_of(reached)}")
+            tables.append(f"| `{name}` | {', '.join(texts)} | {sum_of([(name, files)])} |")
+    out.append(f"| {len(rows)} crates, {sum(len(files) for _, files in rows)} files | {sum_of(rows):,} | |")
+    return "\n".join(out + tables) + "\n"
 
 
 def main(words):
-    place = words[words.index("--from") + 1] if "--from" in words else TOP
-    items, outside = believed(place)
-    rows = table(items)
+    places = [words[words.index("--from") + 1]] if "--from" in words else contracts()
+    items, outside = everything(places)
+    uses = uses_between(items)
+    rows = table(items, uses)
     if "--names" in words:
         for name, files in rows:
             for file, reached in files:
@@ -332,25 +447,27 @@ def main(words):
         for name, files in rows:
             for file, reached in files:
                 print(f"{lines_of(reached):5} of {len(file.lines):5}  {file.path.relative_to(ROOT)}")
+    wrong = sorted(LOST) + list(later_ones(items, uses, in_parts(uses)))
     if "--write" in words or "--check" in words:
-        text = PAGE.read_text()
-        before, _, rest = text.partition(MARKS[0])
-        _, _, behind = rest.partition(MARKS[1])
-        new = before + MARKS[0] + "\n" + "\n".join(written(rows)) + "\n" + MARKS[1] + behind
-        if "--check" in words:
-            print("docs/GUARANTEES.md: " + ("as it stands" if new == text else "its table is not that of bench/believed.py --write"))
-            return 0 if new == text else 1
-        PAGE.write_text(new)
+        text = written(rows, items, uses)
+        same = PAGE.is_file() and PAGE.read_text() == text
+        if "--write" in words:
+            PAGE.write_text(text)
+        else:
+            print("docs/BELIEVED.md: " + ("as it stands" if same else "not what bench/believed.py --write writes"))
+            wrong += [] if same else ["another page"]
+            print("\n".join(wrong), end="\n" if wrong else "")
+            return 1 if wrong else 0
     lines = definitions = whole = 0
     for name, files in rows:
         mine, all_lines = sum(lines_of(r) for _, r in files), sum(len(f.lines) for f, _ in files)
         lines, whole, definitions = lines + mine, whole + all_lines, definitions + sum(len(r) for _, r in files)
         print(f"{mine:5} lines of {all_lines:5} in {len(files):3} files  {name}")
     print(f"{lines} lines, {definitions} definitions and types, in {sum(len(f) for _, f in rows)} files of {whole} lines and {len(rows)} crates")
-    for text in sorted(LOST):
-        print(f"not found: {text}")
+    for text in wrong:
+        print(f"not right: {text}")
     print("from the library and the kit: " + ", ".join(f"{name} ({len(names)} names)" for name, names in sorted(outside.items())))
-    return 1 if LOST else 0
+    return 1 if wrong else 0
 
 
 if __name__ == "__main__":

@@ -2,12 +2,15 @@
 """Runs the commands that the pages show, over the built program, and compares what they say is printed.
 
     python3 bench/docs.py [PROGRAM] [PAGE ..]
+    python3 bench/docs.py --links       what needs no program: the links, the pages that scripts make, the words of the others
+    python3 bench/docs.py --write       makes the pages that scripts make, and the drawing of docs/ARCHITECTURE.md
 
 PROGRAM is crates/ads/out/ads where it is absent (`rt run` in crates/ads builds it, and so does .ci/run). Of a page each block
 ```console is run, line by line in one shell, in a folder of its own that holds the examples: a line `$ ..` is a command, the lines
 behind it are all that it prints. `rt try -- ..` and `rt run -- ..` stand for the program itself. Ports are replaced by free ones.
-The spellings in the table of values and the examples of the manual page are tried, the answers that docs/CONNECTING.md tells asked
-for (connecting.py), the cases counted, and the links between the pages followed. Each difference is told with its page and line; status 1 where there is one.
+The spellings in the table of values are tried, the answers that docs/CONNECTING.md tells asked for (connecting.py), the cases counted, and the links between
+the pages followed, in the READMEs of the crates too; a page that a script makes is to be what it would make. Each difference is told with its page and line;
+status 1 where there is one.
 """
 import pathlib
 import queue
@@ -23,8 +26,9 @@ import time
 import connecting
 
 ROOT = pathlib.Path(__file__).resolve().parent.parent
-LINKED = ["README.md", *sorted(str(p.relative_to(ROOT)) for p in (ROOT / "docs").glob("*.md"))]
-PAGES = [page for page in LINKED if "```console" in (ROOT / page).read_text()]
+LINKED = ["README.md", "bench/README.md", *sorted(str(p.relative_to(ROOT)) for form in ("docs/*.md", "crates/*/README.md") for p in ROOT.glob(form))]
+MADE = {"docs/CONTRACTS.md": "contracts.py", "docs/BELIEVED.md": "believed.py", "docs/*.1": "manual.py"}
+PAGES = [page for page in LINKED if not page.startswith("crates/") and "```console" in (ROOT / page).read_text()]
 MARK = "--- that was it ---"
 RT = 'rt() { if [ "$1" = try ] || [ "$1" = run ]; then shift; [ "$1" = -- ] && shift; ads "$@"; fi; }\n'
 SECONDS = 30
@@ -189,38 +193,30 @@ def try_values(program, folder):
     return wrong
 
 
-def try_manual(program):
-    """The manual page: it has each command and each last line of docs/COMMANDS.md, and what it shows in the same process is done."""
-    manual, pages = (ROOT / "docs/ads.1").read_text(), (ROOT / "docs/COMMANDS.md").read_text()
-    rows = [[re.findall(r"`([^`]+)`", cell) for cell in line.strip("| ").split(" | ")] for line in pages.split("\n") if line.startswith("| ")]
-    wanted = {text for row in rows for text in row[0] if re.fullmatch(r"[a-z]+", text)}
-    wanted |= {text for row in rows for cell in row for text in cell if text.startswith("ads: ")}
-    missing = sorted(text for text in wanted if not re.search(rf"\b{re.escape(text)}\b", manual))
-    for text in missing:
-        print(f"docs/ads.1: {text} of docs/COMMANDS.md is not there")
-    shown = [line for part in manual.split(".Bd ")[1:] for line in part.split(".Ed")[0].replace("\\(dq", '"').split("\n")[1:] if "--local" in line]
-    wrong = len(missing)
-    for line in shown:
-        ended = subprocess.run(["bash", "-c", 'ads() { "$PROGRAM" "$@"; }; export -f ads; timeout() { shift; "$@"; }; ' + line], cwd=ROOT / "examples",
-                               env={"PROGRAM": str(program), "PATH": "/usr/bin:/bin"}, stdout=subprocess.DEVNULL)
-        if ended.returncode:
-            wrong += 1
-            print(f"docs/ads.1: {line}: status {ended.returncode}")
-    print(f"docs/ads.1: {len(wanted)} words of docs/COMMANDS.md, {len(shown)} commands, {wrong} otherwise")
-    return wrong
-
-
 def count_cases():
-    """The figures of docs/GUARANTEES.md: cases, whole runs, and the hostile ones among them."""
+    """The figures of docs/GUARANTEES.md, `more than N` calls, whole runs and hostile ones: there are more."""
     data, text = ROOT / "crates/cases_run/data", (ROOT / "docs/GUARANTEES.md").read_text()
     runs = {name: len([part for part in re.split(r"^----$", (data / name).read_text(), flags=re.M) if part.strip()])
             for name in (data / "runs.txt").read_text().split()}
-    figures = {"cases": sum(int((ROOT / f"crates/{name}/stdout").read_text().split("\n")[-2].split()[0]) for name in CASES), "runs": sum(runs.values()),
-               "hostile runs": sum(count for name, count in runs.items() if name.startswith(("hostile", "peer_")))}
-    wrong = [name for name, count in figures.items() if f"{count:,}" not in text]
+    counted = {"calls": sum(int((ROOT / f"crates/{name}/stdout").read_text().split("\n")[-2].split()[0]) for name in CASES), "whole runs": sum(runs.values()),
+               "hostile ones": sum(count for name, count in runs.items() if name.startswith(("hostile", "peer_")))}
+    said = {name: int(number.replace(",", "")) for number, name in re.findall(r"more than ([\d,]+) (calls|whole runs|hostile ones)", text)}
+    wrong = [name for name, count in counted.items() if not said.get(name, count) < count]
     for name in wrong:
-        print(f"docs/GUARANTEES.md: there are {figures[name]:,} {name}")
+        print(f"docs/GUARANTEES.md: there are {counted[name]:,} {name}")
     return len(wrong)
+
+
+def try_made():
+    """The pages that scripts make are what they would make."""
+    return sum(subprocess.run([sys.executable, ROOT / "bench" / script, "--check"], cwd=ROOT).returncode != 0 for script in MADE.values())
+
+
+def count_words():
+    """How many words a reader of the pages has before him, without those that scripts make."""
+    pages = [page for page in LINKED if page.startswith(("README", "docs/")) and page not in MADE]
+    texts = [re.sub(r"<!-- made .*?<!-- end .*?-->", "", (ROOT / page).read_text(), flags=re.S) for page in pages]
+    print(f"{sum(len(text.split()) for text in texts):,} words in {len(pages)} pages, and what scripts make")
 
 
 def anchors(path):
@@ -248,7 +244,21 @@ def follow_links(page):
     return count, wrong
 
 
+def look_at_pages():
+    """What needs no program: how much of it is wrong."""
+    counts = [follow_links(page) for page in LINKED]
+    wrong = sum(w for _, w in counts)
+    print(f"{sum(c for c, _ in counts)} links, {wrong} of them lead nowhere")
+    count_words()
+    return wrong + try_made()
+
+
 def main(words):
+    if words == ["--write"]:
+        return sum(subprocess.run([sys.executable, ROOT / "bench" / it, "--write"], cwd=ROOT, stdout=subprocess.DEVNULL).returncode != 0
+                   for it in ("map.py", *MADE.values()))
+    if words == ["--links"]:
+        return 1 if look_at_pages() else 0
     pages = [word for word in words if word.endswith(".md")]
     programs = [word for word in words if not word.endswith(".md")]
     program = pathlib.Path(programs[0] if programs else ROOT / "crates/ads/out/ads").resolve()
@@ -259,10 +269,8 @@ def main(words):
     with tempfile.TemporaryDirectory() as folder:
         for page in pages or PAGES:
             wrong += try_page(page, program, pathlib.Path(folder) / "tried")
-        wrong += try_values(program, pathlib.Path(folder)) + try_manual(program) + count_cases() + connecting.try_steps(program)
-    counts = [follow_links(page) for page in LINKED]
-    print(f"{sum(c for c, _ in counts)} links, {sum(w for _, w in counts)} of them lead nowhere")
-    return 1 if wrong or any(w for _, w in counts) else 0
+        wrong += try_values(program, pathlib.Path(folder)) + count_cases() + connecting.try_steps(program)
+    return 1 if wrong + look_at_pages() else 0
 
 
 if __name__ == "__main__":

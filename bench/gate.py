@@ -2,7 +2,9 @@
 """What the gate costs: processor time of each crate under `rt ci`, against a budget.
 
     python3 bench/gate.py              runs `rt ci` at the top of the clone where it is called; what earlier runs passed on this machine is kept, and costs nothing
-    python3 bench/gate.py --anew       runs `rt ci --anew`, which proves and tries all from nothing: the figures of docs/PROVING.md
+    python3 bench/gate.py --anew       runs `rt ci --anew`, which proves and tries all from nothing
+    python3 bench/gate.py --anew --write    the same, and puts the dearest crates and the sums into docs/PROVING.md, between its marks
+    python3 bench/gate.py --of FILE    puts there what an earlier run printed, which FILE holds
 
 What rt says is passed on. When it has ended, a table (Markdown) tells for each crate the processor seconds of
 
@@ -18,6 +20,7 @@ How it is measured: ten times a second the processes that rt started are read fr
 started` misses nothing, and holds rt's own work, the links and the runs of programs and tests too.
 """
 import os
+import re
 import resource
 import subprocess
 import sys
@@ -28,6 +31,8 @@ PAUSE = 0.1
 BUDGET = 5.0
 TICKS = os.sysconf("SC_CLK_TCK")
 KINDS = ("library", "tests", "third", "bodies")
+PAGE, MARKS = "docs/PROVING.md", ("<!-- made by bench/gate.py -->", "<!-- end of what bench/gate.py makes -->")
+SHOWN = 120
 
 
 def process(number):
@@ -152,31 +157,85 @@ def line_of(name, code, row):
     return f"| {name} | {code} | {' | '.join(cells)} | {seconds:.0f} | {per:.1f} |"
 
 
-def tell(rows):
-    """Prints the table, the dearest crate first, and the sums in minutes."""
-    print("\n| crate | lines of code | library | tests | third | bodies | seconds | minutes for 1,000 lines |")
-    print("|---|---|---|---|---|---|---|---|")
-    for name, row in sorted(rows.items(), key=lambda it: -sum(it[1][kind] for kind in KINDS)):
-        print(line_of(name, lines_of_code(name), row))
+def seconds_of(row):
+    return sum(row[kind] for kind in KINDS)
+
+
+def line_of_sums(rows):
     sums = {kind: sum(row[kind] for row in rows.values()) / 60 for kind in KINDS}
     code, bodies, whole = sum(map(lines_of_code, rows)), sum(row["count"] for row in rows.values()), sum(sums.values())
-    per = whole / (code / 1000) if code else 0.0
     cells = " | ".join(f"{sums[kind]:.1f}" for kind in KINDS)
-    print(f"| all, in minutes | {code} | {cells} ({bodies}) | {whole:.1f} | {per:.1f} |\n")
-    print(f"budget: {BUDGET:.0f} processor minutes for 1,000 lines of code, so {BUDGET * code / 1000:.0f} for {code} lines; spent: {whole:.0f}")
+    return f"| all, in minutes | {code} | {cells} ({bodies}) | {whole:.1f} | {whole / (code / 1000) if code else 0.0:.1f} |", code, whole
+
+
+def table(rows, least):
+    """The table, the dearest crate first, of those that cost so many seconds at least; then the sums in minutes."""
+    out = ["| crate | lines of code | library | tests | third | bodies | seconds | minutes for 1,000 lines |", "|---|---|---|---|---|---|---|---|"]
+    dear = sorted(rows.items(), key=lambda it: -seconds_of(it[1]))
+    out += [line_of(name, lines_of_code(name), row) for name, row in dear if seconds_of(row) >= least]
+    left = [row for _, row in dear if seconds_of(row) < least]
+    if left:
+        out.append(f"| {len(left)} others | | | | | | {sum(map(seconds_of, left)):.0f} | |")
+    return [*out, line_of_sums(rows)[0]]
+
+
+def write(lines):
+    """Puts the lines into the page, between its marks."""
+    with open(PAGE, encoding="utf-8") as it:
+        text = it.read()
+    before, _, rest = text.partition(MARKS[0])
+    made = "\n".join([MARKS[0], *lines, MARKS[1]])
+    with open(PAGE, "w", encoding="utf-8") as it:
+        it.write(before + made + rest.partition(MARKS[1])[2])
+
+
+def kit():
+    return re.sub(r"\s+", " ", subprocess.run(["rt", "version"], stdout=subprocess.PIPE, text=True).stdout).strip()
+
+
+def write_of(path):
+    """Puts into the page what a run printed."""
+    with open(path, encoding="utf-8", errors="replace") as it:
+        text = it.read()
+    lines = re.findall(r"^\| \w+ \| \d+ \|.*$", text, re.M)
+    heads = re.search(r"^\| crate \|.*\n\|---.*$", text, re.M)
+    sums = re.search(r"^\| all, in minutes .*$", text, re.M)
+    spent = re.search(r"^all that rt started: ([\d.]+) processor minutes, in ([\d.]+) minutes", text, re.M)
+    ended = re.search(r"^rt ci ended with: (.*) \(status", text, re.M)
+    if not (lines and heads and sums and spent and ended):
+        print(f"{path}: not what bench/gate.py prints", file=sys.stderr)
+        return 2
+    seconds = [int(line.split("|")[7]) for line in lines]
+    shown = [line for line, it in zip(lines, seconds) if it >= SHOWN]
+    others = f"| {len(lines) - len(shown)} others | | | | | | {sum(it for it in seconds if it < SHOWN)} | |"
+    write([heads[0], *shown, others, sums[0], "", sentence(float(spent[1]), float(spent[2]), ended[1])])
+    return 0
+
+
+def sentence(minutes, clock, last):
+    return f"One run from nothing, {kit()}: {minutes:.0f} minutes of a processor, {clock:.0f} of the clock; {last}."
 
 
 def main():
-    if sys.argv[1:] not in ([], ["--anew"]):
+    words = sys.argv[1:]
+    if words[:1] == ["--of"] and len(words) == 2:
+        return write_of(words[1])
+    if words not in ([], ["--anew"], ["--anew", "--write"]):
         print(__doc__, file=sys.stderr)
         return 2
     begun = time.time()
-    status, lines, watch = watched(["rt", "ci", *sys.argv[1:]])
-    tell(watch.rows())
+    status, lines, watch = watched(["rt", "ci", *[it for it in words if it == "--anew"]])
+    rows = watch.rows()
+    _, code, whole = line_of_sums(rows)
+    print("", *table(rows, 0), "", sep="\n")
+    print(f"budget: {BUDGET:.0f} processor minutes for 1,000 lines of code, so {BUDGET * code / 1000:.0f} for {code} lines; spent: {whole:.0f}")
     spent = resource.getrusage(resource.RUSAGE_CHILDREN)
-    minutes = (spent.ru_utime + spent.ru_stime) / 60
-    print(f"all that rt started: {minutes:.1f} processor minutes, in {(time.time() - begun) / 60:.1f} minutes of the clock")
-    print(f"rt ci ended with: {next((it for it in reversed(lines) if it), '')} (status {status})")
+    minutes, clock = (spent.ru_utime + spent.ru_stime) / 60, (time.time() - begun) / 60
+    last = next((it for it in reversed(lines) if it), "")
+    print(f"all that rt started: {minutes:.1f} processor minutes, in {clock:.1f} minutes of the clock")
+    print(f"rt ci ended with: {last} (status {status})")
+    if "--write" in words:
+        write([*table(rows, SHOWN), "", sentence(minutes, clock, last)])
     return status
 
 

@@ -4,8 +4,8 @@
     python3 bench/map.py            the table of groups, the longest chain, and what is to be mended
     python3 bench/map.py --write    also writes docs/architecture.svg, and the table and the chain into docs/ARCHITECTURE.md (between its marks)
 
-To be mended are: a use that no file of the crate names, a use that crates.txt lacks, a crate that stands above what it uses, a group drawn above what it
-stands on, a spec_ crate with code or a crate of definitions without the prefix, and a crate with no row in docs/CONTRACTS.md. The status is 1 where there is one.
+To be mended are: a use that no file of the crate names, a use that crates.txt lacks, a crate that stands above what it uses, a spec_ crate with code or a
+crate of definitions without the prefix, a group that the drawing has no place for, and a line that would run behind a box. The status is 1 where there is one.
 """
 import os
 import re
@@ -77,8 +77,6 @@ def read_map():
 
 def faults(groups, crates):
     """What is to be mended, a line each."""
-    with open(f"{TOP}/docs/CONTRACTS.md", encoding="utf-8") as it:
-        contracts = it.read()
     seen = set()
     for _, names in groups:
         for name in names:
@@ -95,8 +93,6 @@ def faults(groups, crates):
                 yield f"{name}: definitions alone are called spec_, and this one has code"
             if not name.startswith("spec_") and not crate.has_bodies() and crate.specs:
                 yield f"{name}: definitions alone, but not called spec_"
-            if f"`{name}`" not in contracts:
-                yield f"{name}: no row in docs/CONTRACTS.md"
             seen.add(name)
 
 
@@ -122,7 +118,8 @@ def table(groups, crates):
     for title, names in groups:
         sums = [sum(getattr(crates[it], part) for it in names) for part in ("code", "specs", "proofs")]
         total = [a + b for a, b in zip(total, sums)]
-        lines.append(f"| {title.split(':')[0]} | {len(names)} | {sums[0]:,} | {sums[1]:,} | {sums[2]:,} |")
+        linked = ", ".join(f"`{it}`" for it in names)
+        lines.append(f"| **{title.split(':')[0]}** | {linked} | {sums[0]:,} | {sums[1]:,} | {sums[2]:,} |")
     lines.append(f"| all | {len(crates)} | {total[0]:,} | {total[1]:,} | {total[2]:,} |")
     return lines
 
@@ -137,87 +134,143 @@ def made_text(groups, crates):
     ]
 
 
-# The drawing: a band a group, from below to above; in a band the crates stand in rows, a crate above what it uses there.
-BOX, HIGH, GAP, LEFT, ROOM = 150, 26, 14, 236, 1180
+# The drawing: a box a group, some groups in parts, at places by hand. A line leads down from a box to each box that it uses and that none of the others that
+# it uses does; so what a box uses is all that its lines lead to. No line runs behind a box: `Drawing.line` says where one would.
+PARTS = {
+    "one client": ("net_routes", "sym_handles", "notify_table", "sum_commands", "session"),
+    "the relay": ("spec_relay", "ams_relay"),
+    "the local link": ("local_link",),
+    "samples": ("sample_store", "sqlite_samples"),
+}
+# (from the left, to the right, from the top row, to the bottom row)
+PLACES = {
+    "cases": (16, 424, 0, 0), "the daemon": (440, 856, 0, 0),
+    "the program": (16, 856, 1, 1),
+    "stores": (16, 196, 2, 2), "the relay": (212, 376, 2, 2), "the local link": (392, 556, 2, 2), "the client": (590, 856, 2, 3),
+    "the server": (16, 556, 3, 3),
+    "one client": (16, 556, 4, 4), "samples": (706, 856, 4, 4),
+    "the device": (16, 676, 5, 5),
+    "descriptions": (16, 330, 6, 6), "the wire": (346, 856, 6, 6),
+    "what is believed": (880, 1084, 1, 6),
+    "the ground": (16, 1084, 7, 7),
+}
+FILLS = {"what is believed": "#fdf3d8", "the ground": "#eeeeee", "cases": "#f5f5f5", "the client": "#e4f2e4", "samples": "#e4f2e4", "the local link": "#d9eef0"}
+FILL, SIDE, CHANNEL = "#e3ecf7", "what is believed", 36
 
 
-def rows_of(names, crates):
-    """The crates of a group in rows, the lowest first."""
-    level = {}
-    for name in names:
-        level[name] = 1 + max((level[it] for it in crates[name].uses if it in level), default=-1)
-    rows = [[it for it in names if level[it] == n] for n in range(max(level.values()) + 1)]
-    wide = (ROOM - LEFT) // (BOX + GAP)
-    return [row[at : at + wide] for row in rows for at in range(0, len(row), wide)]
-
-
-def wrapped(text, most):
+def wrapped(words, wide):
+    """The words in lines of so many pixels, at 12 pixels a letter's height."""
     lines = [""]
-    for word in text.split():
-        if lines[-1] and len(lines[-1]) + 1 + len(word) > most:
+    for word in words:
+        if lines[-1] and len(lines[-1]) + 3 + len(word) > wide / 6.7:
             lines.append("")
-        lines[-1] = f"{lines[-1]} {word}".strip()
-    return lines
+        lines[-1] = f"{lines[-1]}, {word}".lstrip(", ")
+    return [it + "," for it in lines[:-1]] + lines[-1:]
 
 
-def titled(title):
-    """The lines of a band's title: its name, bold, and what it holds."""
-    name, _, holds = title.partition(": ")
-    return [(it, ' font-weight="bold"') for it in wrapped(name, 28)] + [(it, "") for it in wrapped(holds, 32) if it]
+class Drawing:
+    """The boxes with their crates, and what each uses."""
 
+    def __init__(self, groups, crates):
+        part = {name: title for title, names in PARTS.items() for name in names}
+        self.holds, self.uses, self.faults = {}, {}, []
+        for title, names in groups:
+            for name in names:
+                self.holds.setdefault(part.get(name, title.split(":")[0]), []).append(name)
+        box = {name: title for title, names in self.holds.items() for name in names}
+        for name, title in box.items():
+            self.uses.setdefault(title, set()).update(box[use] for use in crates[name].uses if use in box and box[use] != title)
+        self.rows()
 
-def drawing(groups, crates):
-    bands, places, high = [], {}, 0
-    for title, names in groups:
-        rows = rows_of(names, crates)
-        tall = max(len(rows) * (HIGH + GAP) + GAP, 18 * len(titled(title)) + 24)
-        bands.append((title, rows, high, tall))
-        high += tall + GAP
-    out = [
-        f'<svg xmlns="http://www.w3.org/2000/svg" width="{ROOM}" height="{high + 10}" viewBox="0 0 {ROOM} {high + 10}" font-family="sans-serif">',
-        "<title>The crates by group, from what lies below to the program; a line leads from a crate to each that it uses in the group next below or in its own</title>",
-        f'<rect width="{ROOM}" height="{high + 10}" fill="#ffffff"/>',
-    ]
-    boxes, lines = [], []
-    for title, rows, low, tall in bands:
-        top = high - low - tall
-        believed = title.startswith("what is believed")
-        fill = "#fdf3d8" if believed else "#eef3f8"
-        out.append(f'<rect x="6" y="{top}" width="{ROOM - 12}" height="{tall}" rx="6" fill="{fill}"/>')
-        for n, (words, weight) in enumerate(titled(title)):
-            out.append(f'<text x="18" y="{top + 24 + 18 * n}" font-size="13"{weight} fill="#333333">{words}</text>')
-        for n, row in enumerate(rows):
-            y = top + tall - (n + 1) * (HIGH + GAP)
-            step = (ROOM - LEFT - GAP) / max(len(row), 1)
-            for k, name in enumerate(row):
-                x = LEFT + k * step + (step - BOX) / 2
-                places[name] = (x, y)
-                edge = "#b8860b" if believed else "#5b7ea6"
-                boxes.append(f'<rect x="{x:.0f}" y="{y}" width="{BOX}" height="{HIGH}" rx="4" fill="#ffffff" stroke="{edge}"/>')
-                boxes.append(f'<text x="{x + BOX / 2:.0f}" y="{y + 17}" font-size="12" text-anchor="middle" fill="#111111">{name}</text>')
-    for name, crate in crates.items():
-        for use in direct(name, crates):
-            if use in places and abs(crates[use].group - crate.group) <= 1:
-                (x, y), (u, v) = places[name], places[use]
-                lines.append(f'<path d="M {x + BOX / 2:.0f} {y + HIGH} L {u + BOX / 2:.0f} {v}" stroke="#9aa7b5" stroke-width="0.8" fill="none"/>')
-    return "\n".join([*out, *lines, *boxes, "</svg>", ""])
+    def rows(self):
+        """Where each row begins and ends, as high as its fullest box."""
+        self.places = dict(PLACES)
+        for title in self.holds:
+            if title not in self.places:
+                self.faults.append(f"{title}: bench/map.py knows no place in the drawing for this group")
+        count = 1 + max(bottom for _, _, _, bottom in PLACES.values())
+        need = [44] * count
+        for title, names in self.holds.items():
+            if title in self.places:
+                left, right, top, bottom = self.places[title]
+                if top == bottom:
+                    need[top] = max(need[top], 36 + 16 * len(wrapped(names, right - left - 20)))
+        self.begins, y = [], 12
+        for row in range(count):
+            self.begins.append((y, y + need[row]))
+            y += need[row] + CHANNEL
+        self.high = y - CHANNEL + 12
 
+    def box(self, title):
+        left, right, top, bottom = self.places[title]
+        longer = CHANNEL // 2 if title == SIDE else 0
+        return left, self.begins[top][0], right, self.begins[bottom][1] + longer
 
-def direct(name, crates):
-    """What a crate uses and none of the others that it uses does."""
-    def below(it):
-        return {it} | set().union(*[below(use) for use in crates[it].uses if use in crates], set())
+    def below(self, title):
+        found = set()
+        for use in self.uses.get(title, ()):
+            found |= {use} | self.below(use)
+        return found
 
-    uses = [it for it in crates[name].uses if it in crates]
-    return [it for it in uses if not any(it in below(other) for other in uses if other != it)]
+    def pairs(self):
+        """The lines: from a box to one that it uses and none of the others that it uses does."""
+        for title in self.holds:
+            uses = self.uses.get(title, set())
+            yield from ((title, it) for it in sorted(uses) if not any(it in self.below(other) for other in uses if other != it))
+
+    def line(self, upper, lower, drawn):
+        """The corners of a line; a fault where it would run behind a box."""
+        (a, b, c, d), (e, f, g, h) = self.box(upper), self.box(lower)
+        if lower == SIDE and d <= h:
+            stop = [it for it in self.holds if it not in (upper, lower) and self.box(it)[0] >= c and self.box(it)[1] < d and self.box(it)[3] > b]
+            low = d + CHANNEL // 2 - 6
+            corners = [((a + c) / 2, d), ((a + c) / 2, low), (e, low)] if stop else [(c, (b + d) / 2), (e, (b + d) / 2)]
+        else:
+            near, far = max(a, e), min(c, g)
+            taken = [x for x, top, bottom in drawn if top < f and bottom > d and near <= x <= far]
+            x = next((it for it in ((near + far) / 2, near + (far - near) / 4, far - (far - near) / 4) if self.free(it, d, f, upper, lower) and it not in taken), None)
+            if x is None or near >= far:
+                self.faults.append(f"{upper} uses {lower}: bench/map.py has no room for this line in the drawing")
+                return []
+            drawn.append((x, d, f))
+            corners = [(x, d), (x, f)]
+        return corners
+
+    def free(self, x, top, bottom, upper, lower):
+        boxes = [self.box(it) for it in self.holds if it not in (upper, lower) and it in self.places]
+        return not any(a <= x <= c and b < bottom and d > top for a, b, c, d in boxes)
+
+    def text(self):
+        out = [
+            f'<svg xmlns="http://www.w3.org/2000/svg" width="1100" height="{self.high}" viewBox="0 0 1100 {self.high}" font-family="sans-serif">',
+            "<title>The crates in boxes; a box uses the boxes that its lines lead down to, and what these use</title>",
+            f'<rect width="1100" height="{self.high}" fill="#ffffff"/>',
+            '<defs><marker id="to" viewBox="0 0 10 10" refX="9" refY="5" markerWidth="7" markerHeight="7" orient="auto"><path d="M0 0 10 5 0 10z" fill="#445"/></marker></defs>',
+        ]
+        drawn = []
+        for title, names in self.holds.items():
+            if title in self.places:
+                a, b, c, d = self.box(title)
+                out.append(f'<rect x="{a}" y="{b}" width="{c - a}" height="{d - b}" rx="6" fill="{FILLS.get(title, FILL)}" stroke="#667"/>')
+                out.append(f'<text x="{a + 10}" y="{b + 20}" font-size="14" font-weight="bold" fill="#222">{title}</text>')
+                for n, line in enumerate(wrapped(names, c - a - 20)):
+                    out.append(f'<text x="{a + 10}" y="{b + 38 + 16 * n}" font-size="12" fill="#333">{line}</text>')
+        for upper, lower in self.pairs():
+            if upper in self.places and lower in self.places:
+                corners = self.line(upper, lower, drawn)
+                if corners:
+                    path = " L ".join(f"{x:.0f} {y:.0f}" for x, y in corners)
+                    out.append(f'<path d="M {path}" stroke="#445" stroke-width="1.4" fill="none" marker-end="url(#to)"/>')
+        return "\n".join([*out, "</svg>", ""])
 
 
 def main():
     groups, crates = read_map()
-    made = made_text(groups, crates)
+    made, drawn = made_text(groups, crates), Drawing(groups, crates)
+    picture = drawn.text()
     if "--write" in sys.argv[1:]:
         with open(f"{TOP}/docs/architecture.svg", "w", encoding="utf-8") as it:
-            it.write(drawing(groups, crates))
+            it.write(picture)
         path = f"{TOP}/docs/ARCHITECTURE.md"
         with open(path, encoding="utf-8") as it:
             text = it.read()
@@ -227,7 +280,7 @@ def main():
             with open(path, "w", encoding="utf-8") as it:
                 it.write(before + BEGIN + "\n" + "\n".join(made) + "\n" + END + behind)
     print("\n".join(made))
-    found = list(faults(groups, crates))
+    found = [*faults(groups, crates), *drawn.faults]
     print()
     print("\n".join(found) if found else "Nothing is to be mended.")
     sys.exit(1 if found else 0)

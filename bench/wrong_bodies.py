@@ -4,7 +4,7 @@
     python3 bench/wrong_bodies.py NAME..     at the top of a clone, for these crates
     python3 bench/wrong_bodies.py            for each crate that has such a folder, which takes hours
     python3 bench/wrong_bodies.py --by COMMAND NAME..     the same by a command of one's own, one edit after another
-    python3 bench/wrong_bodies.py --table FOLDER          proves nothing: a table of what the files NAME.txt of a folder say, for docs/WRONG_BODIES.md
+    python3 bench/wrong_bodies.py --table FOLDER          proves nothing: a table of what the files NAME.txt of a folder say
     python3 bench/wrong_bodies.py --look     proves nothing: tells which edits of must-fail/ and of wrong-bodies/ no longer apply
 
 An edit has the form of those in must-fail/: a line `file: src/lib.rt`, and pairs of lines `old: TEXT` and `new: TEXT`. The tree is copied into a scratch

@@ -155,7 +155,7 @@ def packages(folder, programs):
     see(all(re.match(r"(drwxr-xr-x|-rwxr-xr-x|-rw-r--r--) root/root +\d+ \S+ \S+ \./(usr/\S*)?$", line) for line in listed),
         "the .deb has files outside of /usr, or not root's")
     with gzip.open(f"{root}/usr/share/man/man1/adsd.1.gz", "rt") as page:
-        see(page.readline().startswith(".Dd"), "the manual page is none")
+        see("\n.TH ADSD 1 " in page.read(), "the manual page is none")
     return len(wanted)
 
 

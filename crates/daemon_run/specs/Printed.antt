@@ -21,19 +21,19 @@ counts_saved (Some saved) counts = counts ++ saved_line saved
 -- how a plant ends whose wire ended so, with these counts, and what it prints behind `listening`; with this status where the
 -- wire had no more events
 abbrev pub ending_so : End → Status → Option ℕ → List ℕ → Ending
-ending_so end.Done done saved counts = counts_and_line (counts_saved saved counts) done
-ending_so end.Budget done saved counts = counts_and_line (counts_saved saved counts) status.Budget
-ending_so end.LinkFault done saved counts = line_alone status.LinkFault
-ending_so end.Memory done saved counts = line_alone status.Memory
+ending_so end.Done at_end saved counts = counts_and_line (counts_saved saved counts) at_end
+ending_so end.Budget at_end saved counts = counts_and_line (counts_saved saved counts) status.Budget
+ending_so end.LinkFault at_end saved counts = line_alone status.LinkFault
+ending_so end.Memory at_end saved counts = line_alone status.Memory
 
 -- what was printed, for whatever is served in the end; want of memory is told by its line alone. No public clause cites this.
 abbrev pub PrintsSo : End → Status → Option ℕ → (Standing World Client → Type 0) → Status → SinkState → SinkState → Type 0
-PrintsSo end.Done done saved serves s out out_new =
-    (x : Standing World Client) → serves x → PrintsEnding (ending_so end.Done done saved (server_counts x.running.state)) s out out_new
-PrintsSo end.Budget done saved serves s out out_new =
-    (x : Standing World Client) → serves x → PrintsEnding (ending_so end.Budget done saved (server_counts x.running.state)) s out out_new
-PrintsSo end.LinkFault done saved serves s out out_new = PrintsEnding (line_alone status.LinkFault) s out out_new
-PrintsSo end.Memory done saved serves s out out_new = (s ≡ status.Memory) × PutsMemoryLine out out_new
+PrintsSo end.Done at_end saved serves s out out_new =
+    (x : Standing World Client) → serves x → PrintsEnding (ending_so end.Done at_end saved (server_counts x.running.state)) s out out_new
+PrintsSo end.Budget at_end saved serves s out out_new =
+    (x : Standing World Client) → serves x → PrintsEnding (ending_so end.Budget at_end saved (server_counts x.running.state)) s out out_new
+PrintsSo end.LinkFault at_end saved serves s out out_new = PrintsEnding (line_alone status.LinkFault) s out out_new
+PrintsSo end.Memory at_end saved serves s out out_new = (s ≡ status.Memory) × PutsMemoryLine out out_new
 
 -- how a plant ends whose description is accepted
 abbrev pub IsOfPlant : Status → Type 0
