@@ -120,7 +120,7 @@ fn serve_logged<T: Threads + Sync, S: Sink, L: LogOutlet + Drop>(
     dated: bool,
     outlet: L,
 ) -> Result<Status, NoMemory> {
-    let stop = SignalStop::new(rt.alloc(), *rt, copy_of_name(rt, &setup.stop_file)?)?;
+    let mut stop = SignalStop::new(rt.alloc(), *rt, copy_of_name(rt, &setup.stop_file)?)?;
     let board = Noticeboard::new(rt.alloc())?;
     let mut log = log_of(rt, setup, &board, dated, outlet)?;
     if !stop.is_terminate_blocked() {

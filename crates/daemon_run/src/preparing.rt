@@ -11,7 +11,7 @@ use run_tasks::{Status, end_without_memory, print_and_end, print_outcome, read_d
 use std::alloc::Global;
 
 /// What the words of a daemon come to.
-#[derive(Debug, Drop)]
+#[derive(Drop)]
 pub enum Prepared {
     /// All is done.
     Ended(Status),
