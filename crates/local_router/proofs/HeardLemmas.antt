@@ -1,5 +1,5 @@
 -- What is heard, one byte after another.
-use Rattle.std.proofs.Common.{◌≡◌, ℕ, ◌+◌, ◌<◌, ◌≤◌, suc, List, [], ◌∷◌, ◌++◌, drop, length, get_or, refl, ap, sym, ◌∙◌, add-one, append-nil, append_assoc}
+use Rattle.std.proofs.Common.{◌≡◌, ℕ, ◌+◌, ◌<◌, ◌≤◌, List, [], ◌∷◌, ◌++◌, drop, length, get_or, refl, ap, sym, ◌∙◌, add-one, append-nil, append_assoc}
 use Rattle.std.proofs.Math.Seq.{drop-cons}
 use Rattle.std.proofs.lemmas.List.{drop_all}
 use Rattle.std.specs.List.{flat_map}
@@ -11,7 +11,7 @@ use Rattle.local_router.specs.declared.local.Rest.{Rest}
 use Rattle.local_router.specs.declared.local.Rest.TheVariants as rest
 use Rattle.local_router.specs.Asks.{reply_bytes}
 use Rattle.local_router.specs.Fronts.{front_of}
-use Rattle.local_router.specs.Heard.{heard, heard_at, local_of, answered_before}
+use Rattle.local_router.specs.Heard.{Heard, heard, heard_at, local_of, answered_before}
 
 abbrev pub answered : List ℕ → Rest → Local
 answered reply left = record { reply = reply; rest = left }
@@ -36,11 +36,14 @@ one_byte text bytes i f within is =
 
 module _ (net reply text text1 bytes : List ℕ) (i : ℕ) (all : Local) (within : i < length bytes) (one : text1 ≡ text ++ get_or bytes i 0 ∷ [])
     (so_far : answered_before reply (local_of net (heard text (drop i bytes))) ≡ all) where
-  by_front : (f : Front) → f ≡ front_of text1
-      → answered_before reply (local_of net (heard_at f (heard [] (drop (i + 1) bytes)) (heard text1 (drop (i + 1) bytes)) (text1 ++ drop (i + 1) bytes))) ≡ all
+  -- what is heard of a text and the bytes that are left
+  abbrev at_front : Front → List ℕ → List ℕ → Heard
+  at_front f t = heard_at f (heard [] (drop (i + 1) bytes)) (heard t (drop (i + 1) bytes))
+
+  by_front : (f : Front) → f ≡ front_of text1 → answered_before reply (local_of net (at_front f text1 (text1 ++ drop (i + 1) bytes))) ≡ all
   by_front f is =
-      ap (λ t. answered_before reply (local_of net (heard_at f (heard [] (drop (i + 1) bytes)) (heard t (drop (i + 1) bytes)) (t ++ drop (i + 1) bytes)))) one
-      ∙ ap (λ t. answered_before reply (local_of net (heard_at f (heard [] (drop (i + 1) bytes)) (heard (text ++ get_or bytes i 0 ∷ []) (drop (i + 1) bytes)) t)))
+      ap (λ t. answered_before reply (local_of net (at_front f t (t ++ drop (i + 1) bytes)))) one
+      ∙ ap (λ t. answered_before reply (local_of net (at_front f (text ++ get_or bytes i 0 ∷ []) t)))
       (append_assoc text (get_or bytes i 0 ∷ []) (drop (i + 1) bytes))
       ∙ sym (ap (λ h. answered_before reply (local_of net h)) (one_byte text bytes i f within (sym (is ∙ ap front_of one))))
       ∙ so_far

@@ -1,5 +1,6 @@
 -- What is read as a packet to the router is that packet, and what is heard divides what came.
-use Rattle.std.proofs.Common.{◌≡◌, ℕ, ◌+◌, ◌<◌, ◌≤◌, ◌^◌, List, [], ◌∷◌, ◌++◌, length, take, drop, min, get_or, suc, zero, refl, ap, sym, ◌∙◌, subst, append_assoc, append-nil, ◌-◌, arith}
+use Rattle.std.proofs.Common.{◌≡◌, ℕ, ◌-◌, ◌<◌, List, [], ◌∷◌, ◌++◌, length, take, drop, min, get_or, suc, zero}
+use Rattle.std.proofs.Common.{refl, ap, sym, ◌∙◌, subst, append_assoc, append-nil, arith}
 use Rattle.std.specs.Prelude.{Bool, true, false, ◌==◌, nat_lt, if◌then◌else◌, bytes_eq}
 use Rattle.std.specs.Int.{w16, to_le_bytes, from_le_bytes}
 use Rattle.std.specs.List.{flat_map}
@@ -12,8 +13,6 @@ use Rattle.local_router.specs.declared.ask.Ask.{Ask}
 use Rattle.local_router.specs.declared.ask.Ask.TheVariants as ask
 use Rattle.local_router.specs.declared.front.Front.{Front}
 use Rattle.local_router.specs.declared.front.Front.TheVariants as front
-use Rattle.local_router.specs.declared.local.Rest.{Rest}
-use Rattle.local_router.specs.declared.local.Rest.TheVariants as rest
 use Rattle.local_router.specs.Asks.{AreBytes, HasPort, ask_bytes, connect_head, local_net_id_head}
 use Rattle.local_router.specs.Fronts.{agrees, front_of, connect_front, local_net_id_front}
 use Rattle.local_router.specs.Heard.{Heard, heard, heard_at, rest_bytes}

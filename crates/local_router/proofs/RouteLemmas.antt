@@ -1,20 +1,19 @@
 -- What a wire with a router gives opens what came, and all else of its state follows.
-use Rattle.std.proofs.Common.{◌≡◌, ℕ, ◌≤◌, List, [], ◌∷◌, ◌++◌, refl, ap, sym, ◌∙◌, subst, append-nil, arith}
+use Rattle.std.proofs.Common.{◌≡◌, ℕ, ◌≤◌, List, [], ◌++◌, refl, ap, sym, ◌∙◌, subst, append-nil, arith}
 use Rattle.std.specs.Prelude.{Bool, true, false, Option, Some, None, IsTrue}
 use Rattle.ads_outside.specs.declared.event.Event.{Event}
 use Rattle.ads_outside.specs.declared.event.Event.TheVariants as event
 use Rattle.ads_outside.specs.declared.next.Next.{Next}
 use Rattle.ads_outside.specs.declared.next.Next.TheVariants as next
 use Rattle.ads_outside.specs.Opened.{opened_by, is_new}
-use Rattle.ads_outside.specs.Rose.{Rose, raised}
+use Rattle.ads_outside.specs.Rose.{raised}
 use Rattle.ads_outside.specs.WireAnswers.{Gives, Wants}
 use Rattle.ads_outside.specs.WireState.{WireState, WireHistory, event_given}
-use Rattle.local_router.specs.declared.local.Local.{Local}
 use Rattle.local_router.specs.declared.local.Rest.{Rest}
 use Rattle.local_router.specs.declared.local.Rest.TheVariants as rest
 use Rattle.local_router.specs.Routes.{Waiting, Leaves, RoutesPiece, RoutesEvent, Routes, IfEvent}
 use Rattle.local_router.proofs.SeenLemmas.{own_rose}
-use Rattle.local_router.specs.Seen.{history_seen, state_seen, beside, SameBeside}
+use Rattle.local_router.specs.Seen.{history_seen, state_seen, SameBeside}
 
 -- an event opens the numbers that another opens
 record SameOpening (came given : Event) : Type 0 where
@@ -50,6 +49,9 @@ opening net (event.Tick t) before after old new given routes = same_event _ give
 opening net (event.Reload text) before after old new given routes = same_event _ given routes.0.same
 opening net (event.Writable c) before after old new given routes = same_event _ given routes.0.same
 
+abbrev with_opened : WireHistory → List ℕ → WireHistory
+with_opened h opened = record h { opened = opened }
+
 module _ {Net : Type 0} (net : Option Net) (some : Net) (is_some : net ≡ Some some) (n w : ℕ) (old mid new : WireState) (came : Event)
     (gave : Gives (next.Event came) old mid) (same : SameBeside mid.history new.history) where
   -- what is seen of the histories, whatever is logged
@@ -62,12 +64,12 @@ module _ {Net : Type 0} (net : Option Net) (some : Net) (is_some : net ≡ Some 
       let opens : SameOpening came given = opening text came before after mid.history new.history given routes in
       subst (λ o. Gives (next.Event given) (state_seen o n w old) (state_seen o (raised n) w new)) (sym is_some) (
         opens.news old.history.opened gave.0,
-        seen_behind (raised n) ∙ ap (λ (o : List ℕ). record (history_seen (Some some) (raised n) old.history) { opened = old.history.opened ++ o }) (sym opens.opens),
+        seen_behind (raised n) ∙ ap (λ (o : List ℕ). with_opened (history_seen (Some some) (raised n) old.history) (old.history.opened ++ o)) (sym opens.opens),
       )
 
   nothing_opened : opened_by came ≡ [] → history_seen (Some some) n new.history ≡ history_seen (Some some) n old.history
   nothing_opened none = seen_behind n
-      ∙ ap (λ (o : List ℕ). record (history_seen (Some some) n old.history) { opened = o }) (ap (λ o. old.history.opened ++ o) none ∙ append-nil old.history.opened)
+      ∙ ap (with_opened (history_seen (Some some) n old.history)) (ap (λ o. old.history.opened ++ o) none ∙ append-nil old.history.opened)
 
   pub wants_behind : opened_by came ≡ [] → old.wants ≤ mid.wants → mid.wants ≤ new.wants
       → Gives next.Memory (state_seen net n w old) (state_seen net n (raised w) new)

@@ -1,7 +1,6 @@
 -- What the answers of the wire inside say of the state that is seen.
-use Rattle.std.proofs.Common.{◌≡◌, ℕ, ◌+◌, ◌≤◌, List, [], ◌∷◌, ◌++◌, length, refl, ap, sym, ◌∙◌, subst, append-nil, arith}
-use Rattle.std.specs.Prelude.{Bool, true, false, Option, Some, None, IsTrue, min}
-use Rattle.std.specs.List.{concat}
+use Rattle.std.proofs.Common.{◌≡◌, ℕ, ◌+◌, ◌≤◌, List, [], ◌∷◌, length, refl, ap, ◌∙◌, arith}
+use Rattle.std.specs.Prelude.{Bool, true, false, Option, Some, None, min}
 use Rattle.ads_outside.specs.declared.event.Event.{Event}
 use Rattle.ads_outside.specs.declared.listening.Listening.{Listening}
 use Rattle.ads_outside.specs.declared.moves.Move.{Move}
@@ -14,12 +13,11 @@ use Rattle.ads_outside.specs.declared.shut.Shut.{Shut}
 use Rattle.ads_outside.specs.declared.shut.Shut.TheVariants as shut
 use Rattle.ads_outside.specs.declared.started.Started.{Started}
 use Rattle.ads_outside.specs.declared.started.Started.TheVariants as started
-use Rattle.ads_outside.specs.Opened.{opened_by, is_new}
-use Rattle.ads_outside.specs.Rose.{Rose, raised}
+use Rattle.ads_outside.specs.Rose.{Rose}
 use Rattle.ads_outside.specs.Wholes.{wholes}
-use Rattle.ads_outside.specs.WireAnswers.{Stops, Wants, Starts, Gives, Takes, TakesRun, Shuts}
+use Rattle.ads_outside.specs.WireAnswers.{Wants, Starts, Gives, Takes, TakesRun, Shuts}
 use Rattle.ads_outside.specs.WireState.{WireState, WireHistory, logged, event_given, history_after}
-use Rattle.local_router.specs.Seen.{wants_seen, history_seen, state_seen, beside, SameBeside}
+use Rattle.local_router.specs.Seen.{wants_seen, history_seen, state_seen}
 
 -- a count of wants is seen to rise where one of its two parts rises
 sum_rose : (own a b most : ℕ) → min (a + 1) most ≤ b → min (own + a + 1) most ≤ own + b
@@ -85,7 +83,8 @@ module _ {Net : Type 0} where
   -- without a router
   event_none : (net : Option Net) (n : ℕ) (e : Event) (h g : WireHistory) → net ≡ None → g ≡ event_given e h
       → history_seen net n g ≡ event_given e (history_seen net n h)
-  event_none None n e h g none is = ap (λ (x : WireHistory). record h { log = x.log; starts = x.starts; opened = x.opened; events = x.events; ends = x.ends; stops = x.stops }) is
+  event_none None n e h g none is =
+      ap (λ (x : WireHistory). record h { log = x.log; starts = x.starts; opened = x.opened; events = x.events; ends = x.ends; stops = x.stops }) is
   event_none (Some net) n e h g none is = absurd (let wrong : Some net ≡ None = none in cc)
 
   pub gives_none : (net : Option Net) (answer : Next) (n w : ℕ) (old new : WireState) → net ≡ None → Gives answer old new

@@ -281,7 +281,8 @@ impl<W: Wire + Drop> Wire for Routed<W> {
     #[tactic(auto, using(crate::proofs::SeenLemmas::starts_seen, crate::proofs::SeenLemmas::wants_later))]
     fn start(&mut self, listen: &str, name: &str, first: &[u8]) -> Started
         ensures starts { Starts result (state_seen self.old.net self.old.events self.old.wants (W.state self.old.wire))
-            (state_seen self.new.net self.new.events self.new.wants (W.state self.new.wire)) (record { listen = listen.now; name = name.now; first = first.now }) }
+            (state_seen self.new.net self.new.events self.new.wants (W.state self.new.wire))
+            (record { listen = listen.now; name = name.now; first = first.now }) }
         ensures kept { W.kept self.new.wire ≡ W.kept self.old.wire }
         ensures later { (W.state self.old.wire).faults ≤ (W.state self.new.wire).faults }
         ensures wanted { wants_seen self.old.net self.old.wants (W.state self.old.wire).wants

@@ -1,5 +1,5 @@
 -- Each byte makes a packet, a beginning or neither.
-use Rattle.std.proofs.Common.{rules, ◌≡◌, List, ℕ, ap, ◌∙◌}
+use Rattle.std.proofs.Common.{rules, ap, ◌∙◌}
 use Rattle.local_router.specs.Fronts.{front_of}
 use Rattle.local_router.proofs.HeardLemmas.{when_asked, when_begun, when_foreign, when_all}
 use Rattle.local_router.proofs.answering.answer_to.Goals as goal

@@ -1,5 +1,5 @@
 -- Each answer of the wire inside is a case of what is said of an answer.
-use Rattle.std.proofs.Common.{rules, arith, ◌≡◌, ◌<◌, length}
+use Rattle.std.proofs.Common.{rules, arith}
 use Rattle.local_router.proofs.AnswerLemmas.{answers_nothing, answers_whole, answers_lost, answers_cut}
 use Rattle.local_router.proofs.answers.answer.Goals as goal
 
