@@ -15,5 +15,5 @@ pub puts_next : {X : Type 0} (text : X → List ℕ) (words : List X) (i : ℕ) 
     → PutsWords (map text (take (i + 1) words)) old new
 puts_next text words i word old mid new less puts one =
     let more : map text (take (i + 1) words) ≡ map text (take i words) ++ text (get_or words i word) ∷ [] =
-        ap (map text) (take_more words i word less) ∙ map-append text (take i words) (get_or words i word ∷ []) in
+    ap (map text) (take_more words i word less) ∙ map-append text (take i words) (get_or words i word ∷ []) in
     subst (λ ws. PutsWords ws old new) (sym more) (puts_more (map text (take i words)) (text (get_or words i word)) old mid new puts one)

@@ -5,7 +5,7 @@ use Rattle.daemon_words.specs.declared.field.Field.TheVariants.{Description, Lis
 use Rattle.daemon_words.specs.Said.{Said, Puts, nothing_said}
 
 -- the option of a field; the description and the signals have none
-unfoldable pub option_of : Field → List ℕ
+abbrev pub option_of : Field → List ℕ
 option_of Description = []
 option_of Listen = codes "--listen"
 option_of Store = codes "--store"

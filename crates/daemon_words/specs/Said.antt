@@ -1,5 +1,5 @@
 -- What words and a configuration say of a daemon, a field at a time. This project's own choice.
-use Rattle.std.specs.Prelude.{◌≡◌, ℕ, List, [], ◌∷◌, ◌++◌, Option, Some, None, decimal}
+use Rattle.std.specs.Prelude.{◌≡◌, ℕ, List, [], ◌∷◌, ◌++◌, Option, Some, None, IsSome, decimal}
 use Rattle.daemon_words.specs.declared.field.Field.{Field}
 use Rattle.daemon_words.specs.declared.field.Field.TheVariants.{Description, Listen, Store, SaveEach, Allow, Profile, Signal, Status, Log, StopFile}
 use Rattle.daemon_words.specs.declared.ip_net.IpNet.{IpNet}
@@ -36,15 +36,20 @@ nothing_said = record {
   stop_file = None;
 }
 
+-- a text is the decimal text of these seconds
+abbrev pub SaysSeconds : List ℕ → Option Seconds → Type 0
+SaysSeconds text None = ⊥
+SaysSeconds text (Some seconds) = text ≡ decimal seconds.count
+
 -- a text sets a field, which was not set before; of addresses and nets it adds one
 abbrev pub Puts : Field → List ℕ → Said → Said → Type 0
 Puts Description text old new = (old.description ≡ None) × (new ≡ record old { description = Some text })
 Puts Listen text old new = new ≡ record old { listen = old.listen ++ text ∷ [] }
 Puts Store text old new = (old.store ≡ None) × (new ≡ record old { store = Some text })
-Puts SaveEach text old new = (seconds : Seconds) × (text ≡ decimal seconds.count) × (old.save_each ≡ None) × (new ≡ record old { save_each = Some seconds })
+Puts SaveEach text old new = (old.save_each ≡ None) × SaysSeconds text new.save_each × (new ≡ record old { save_each = new.save_each })
 Puts Allow text old new = (net : IpNet) × (new ≡ record old { allow = old.allow ++ net ∷ [] })
-Puts Profile text old new = (word : ProfileWord) × (old.profile ≡ None) × (new ≡ record old { profile = Some word })
+Puts Profile text old new = (old.profile ≡ None) × IsSome new.profile × (new ≡ record old { profile = new.profile })
 Puts Signal text old new = ⊥
 Puts Status text old new = (old.status ≡ None) × (new ≡ record old { status = Some text })
-Puts Log text old new = (form : LogForm) × (old.log ≡ None) × (new ≡ record old { log = Some form })
+Puts Log text old new = (old.log ≡ None) × IsSome new.log × (new ≡ record old { log = new.log })
 Puts StopFile text old new = (old.stop_file ≡ None) × (new ≡ record old { stop_file = Some text })

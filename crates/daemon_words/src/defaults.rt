@@ -1,10 +1,10 @@
 //! What a daemon does where nothing is said.
 
+ghost use Rattle.std.specs.Prelude.{◌≡◌, ◌<◌, length, IfOk};
+
 use crate::signal_table::{RampTable, SignalTable, SquareTable, ValueList};
 use ads_base::{ListOf, NoMemory};
 use std::alloc::Global;
-
-ghost use Rattle.std.specs.Prelude.{◌≡◌, ◌<◌, length, IfOk};
 
 /// Where it listens.
 pub(crate) const DEFAULT_LISTEN: &str = "127.0.0.1:48898";

@@ -91,8 +91,7 @@ const NO_FILE: &str = "name a configuration or a description, as in: adsd /etc/a
 const SAVE_EACH_ALONE: &str =
     "save_each needs store, the name of the file that keeps persistent symbols";
 
-const NOT_CONFIG: &str =
-    "this is no configuration: it is no TOML table with the key description";
+const NOT_CONFIG: &str = "this is no configuration: it is no TOML table with the key description";
 
 const SIGNAL_FORMS: &str =
     ", counted from 0, takes ramp = STEP with period = TICKS (1 to 1048576), square = [LOW, HIGH, TICKS] (1 to 524288), values = [NUMBER, ..] (1 to 1048576 of them), file = NAME, or recording = FILE with name = SYMBOL";

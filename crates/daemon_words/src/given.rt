@@ -35,16 +35,16 @@ impl Model for Given {
     ghost Value = { Said };
 
     ghost view = { λ g. record {
-        description = g.description;
-        listen = g.listen;
-        store = g.store;
-        save_each = g.save_each;
-        allow = g.allow;
-        profile = g.profile;
-        signals = g.signals;
-        status = g.status;
-        log = g.log;
-        stop_file = g.stop_file;
+      description = g.description;
+      listen = g.listen;
+      store = g.store;
+      save_each = g.save_each;
+      allow = g.allow;
+      profile = g.profile;
+      signals = g.signals;
+      status = g.status;
+      log = g.log;
+      stop_file = g.stop_file;
     } };
 
     ghost invariant = { λ g. (length g.listen ≤ 16) × (length g.allow ≤ 256) × (length g.signals ≤ 1024) };
@@ -80,12 +80,12 @@ impl Given {
             Field::Description => put_name(alloc, &mut self.description, field, text),
             Field::Listen => self.put_address(alloc, text),
             Field::Store => put_name(alloc, &mut self.store, field, text),
-            Field::SaveEach => self.put_seconds(Seconds::of_text(text)),
+            Field::SaveEach => self.put_seconds_text(text),
             Field::Allow => self.put_net(alloc, text),
-            Field::Profile => put_profile(&mut self.profile, text),
+            Field::Profile => self.put_profile(text),
             Field::Signal => Err(SetupFault::Wrong(field)),
             Field::Status => put_name(alloc, &mut self.status, field, text),
-            Field::Log => put_log(&mut self.log, text),
+            Field::Log => self.put_log(text),
             Field::StopFile => put_name(alloc, &mut self.stop_file, field, text),
         }
     }
@@ -191,6 +191,51 @@ impl Given {
         Ok(())
     }
 
+    fn put_seconds_text(&mut self, text: &str) -> Result<(), SetupFault>
+        ensures { OnOk result (Puts Field.SaveEach text.now self.old self.new) }
+    {
+        if self.save_each.is_some() {
+            return Err(SetupFault::Twice(Field::SaveEach));
+        }
+        match Seconds::of_text(text) {
+            Some(seconds) => {
+                self.save_each = Some(seconds);
+                Ok(())
+            }
+            None => Err(SetupFault::Wrong(Field::SaveEach)),
+        }
+    }
+
+    fn put_profile(&mut self, text: &str) -> Result<(), SetupFault>
+        ensures { OnOk result (Puts Field.Profile text.now self.old self.new) }
+    {
+        if self.profile.is_some() {
+            return Err(SetupFault::Twice(Field::Profile));
+        }
+        match ProfileWord::of_word(text) {
+            Some(profile) => {
+                self.profile = Some(profile);
+                Ok(())
+            }
+            None => Err(SetupFault::Wrong(Field::Profile)),
+        }
+    }
+
+    fn put_log(&mut self, text: &str) -> Result<(), SetupFault>
+        ensures { OnOk result (Puts Field.Log text.now self.old self.new) }
+    {
+        if self.log.is_some() {
+            return Err(SetupFault::Twice(Field::Log));
+        }
+        match LogForm::of_word(text) {
+            Some(form) => {
+                self.log = Some(form);
+                Ok(())
+            }
+            None => Err(SetupFault::Wrong(Field::Log)),
+        }
+    }
+
     // One more net.
     fn put_net(&mut self, alloc: Global, text: &str) -> Result<(), SetupFault>
         ensures { OnOk result (Puts Field.Allow text.now self.old self.new) }
@@ -230,10 +275,7 @@ fn joined_or(alloc: Global, texts: &TextList, other: &str) -> Result<Text, NoMem
     joined(alloc, texts.as_slice())
 }
 
-fn signals_or(
-    alloc: Global,
-    signals: ListOf<SignalTable>,
-) -> Result<ListOf<SignalTable>, NoMemory>
+fn signals_or(alloc: Global, signals: ListOf<SignalTable>) -> Result<ListOf<SignalTable>, NoMemory>
     requires { length signals ≤ 1024 }
     ensures some { IfOk result (λ list. 0 < length list) }
     ensures few { IfOk result (λ list. length list ≤ 1024) }
@@ -257,33 +299,5 @@ fn put_name(
         return Err(SetupFault::Twice(field));
     }
     *place = Some(Text::copy_of(alloc, text)?);
-    Ok(())
-}
-
-fn put_log(place: &mut Option<LogForm>, text: &str) -> Result<(), SetupFault>
-    ensures none { OnOk result (place.old ≡ None) }
-    ensures put { OnOk result (IsSome place.new) }
-{
-    if place.is_some() {
-        return Err(SetupFault::Twice(Field::Log));
-    }
-    match LogForm::of_word(text) {
-        Some(form) => *place = Some(form),
-        None => return Err(SetupFault::Wrong(Field::Log)),
-    }
-    Ok(())
-}
-
-fn put_profile(place: &mut Option<ProfileWord>, text: &str) -> Result<(), SetupFault>
-    ensures none { OnOk result (place.old ≡ None) }
-    ensures put { OnOk result (IsSome place.new) }
-{
-    if place.is_some() {
-        return Err(SetupFault::Twice(Field::Profile));
-    }
-    match ProfileWord::of_word(text) {
-        Some(profile) => *place = Some(profile),
-        None => return Err(SetupFault::Wrong(Field::Profile)),
-    }
     Ok(())
 }

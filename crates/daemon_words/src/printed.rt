@@ -66,11 +66,7 @@ fn put_store(alloc: Global, text: &mut Octets, setup: &Setup) -> Result<(), NoMe
 }
 
 // The signals with their numbers, a line each.
-fn put_signals(
-    alloc: Global,
-    text: &mut Octets,
-    signals: &[SignalTable],
-) -> Result<(), NoMemory> {
+fn put_signals(alloc: Global, text: &mut Octets, signals: &[SignalTable]) -> Result<(), NoMemory> {
     let mut number = 0u32;
     for signal in signals {
         let line = signal_text(alloc, number, signal)?;
