@@ -1,10 +1,10 @@
-//! The bodies that a log compares: that which stands in a store, and that which a description has.
+//! What a description tells at the start, and what stands in a store.
 
 ghost use Rattle.std.specs.Prelude.{IfOk, IfSome};
 ghost use Rattle.type_layout.specs.Descriptions.{description_of};
 ghost use Rattle.port_device.specs.Holds.{WasAccepted};
 
-use ads_base::{NoMemory, Octets};
+use ads_base::{NetId, NoMemory, Octets};
 use persist_store::{Store, StoreOpen};
 use port_device::Ports;
 use real_disk::RealDisk;
@@ -36,6 +36,14 @@ pub(crate) fn first_body(
 ) -> Result<Option<Octets>, NoMemory> {
     match accepted(alloc, text, signals)? {
         Some(d) => Ok(Some(body_of(alloc, &d)?)),
+        None => Ok(None),
+    }
+}
+
+/// The NetId of a description's text, for so many signals; None where it is not accepted.
+pub(crate) fn net_in(alloc: Global, text: &[u8], signals: u32) -> Result<Option<NetId>, NoMemory> {
+    match accepted(alloc, text, signals)? {
+        Some(d) => Ok(Some(d.net)),
         None => Ok(None),
     }
 }

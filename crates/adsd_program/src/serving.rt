@@ -1,11 +1,11 @@
 //! The plant of a setup is served over the real outside.
 
-use crate::kept_body::{first_body, standing_body};
+use crate::kept_body::{first_body, net_in, standing_body};
 use crate::log_board::LogBoard;
 use crate::log_notes::LogNotes;
 use crate::plant_judge::PlantJudge;
 use crate::real_names::RealNames;
-use ads_base::{ListOf, NoMemory, Octets};
+use ads_base::{ListOf, NetId, NoMemory, Octets};
 use ads_edge::{AllowedNet, RealFiles, RealWire, given_doors};
 use ads_outside::{Files, Got, Sink};
 use cli_words::Text;
@@ -19,6 +19,7 @@ use daemon_recordings::SqliteRecordings;
 use daemon_run::run_watched;
 use daemon_signals::{Played, SourceFault, Trouble, read_sources};
 use daemon_words::{IpNet, LogForm, ProfileWord, Setup};
+use local_router::Routed;
 use port_device::Profile;
 use real_disk::RealDisk;
 use run_tasks::{Status, end_without_memory, print_and_end};
@@ -128,7 +129,8 @@ fn serve_logged<T: Threads + Sync, S: Sink, L: LogOutlet + Drop>(
     }
     tell_store(rt, setup, files, &mut log)?;
     let nets = nets_of(rt, setup.allow.as_slice())?;
-    let wire = RealWire::with_doors(rt.alloc(), *rt, "adsd", given_doors(rt), nets)?;
+    let doors = RealWire::with_doors(rt.alloc(), *rt, "adsd", given_doors(rt), nets)?;
+    let wire = Routed::new(rt.alloc(), doors, router_net(rt, setup, files)?);
     let mut watched = Watched::new(wire, stop, log);
     let posts = LogBoard {
         board: board.handle()?,
@@ -222,6 +224,20 @@ fn tell_store<L: LogOutlet + Drop>(
         log.unfit(names.as_slice());
     }
     Ok(())
+}
+
+// The NetId as which the wire answers like a router: that of the description, in the wide profile.
+fn router_net(
+    rt: &HostRuntime,
+    setup: &Setup,
+    files: &mut RealFiles<HostRuntime>,
+) -> Result<Option<NetId>, NoMemory> {
+    match (setup.profile, files.read(setup.description.as_str())) {
+        (ProfileWord::Wide, Got::Bytes(text)) => {
+            net_in(rt.alloc(), text.as_slice(), setup.signals.len() as u32)
+        }
+        _ => Ok(None),
+    }
 }
 
 fn nets_of(rt: &HostRuntime, nets: &[IpNet]) -> Result<Vec<AllowedNet>, NoMemory> {
