@@ -23,11 +23,7 @@ fn count_left(entries: Entries<'_>) -> u64 {
 
 /// The names of the entries of a body that fit none of another body: that has no entry with the same port, name (ASCII case
 /// aside), form and number of bytes. Bytes that are no body text have no entries.
-pub fn unfit_names(
-    alloc: Global,
-    body: &[u8],
-    served: &[u8],
-) -> Result<ListOf<Octets>, NoMemory> {
+pub fn unfit_names(alloc: Global, body: &[u8], served: &[u8]) -> Result<ListOf<Octets>, NoMemory> {
     let served = listed(alloc, served)?;
     match Entries::read(body) {
         Some(entries) => unfit_left(alloc, entries, served.as_slice()),
@@ -43,10 +39,7 @@ fn listed(alloc: Global, body: &[u8]) -> Result<Vec<StoredEntry<'_>>, NoMemory> 
     }
 }
 
-fn listed_left<'a>(
-    alloc: Global,
-    entries: Entries<'a>,
-) -> Result<Vec<StoredEntry<'a>>, NoMemory> {
+fn listed_left<'a>(alloc: Global, entries: Entries<'a>) -> Result<Vec<StoredEntry<'a>>, NoMemory> {
     let mut left = entries;
     let mut list = Vec::new(alloc);
     while let Some(entry) = left.next() {
