@@ -12,7 +12,7 @@ import subprocess
 import tempfile
 import time
 
-from daemon import ME, NET, Daemon, Failed, expect, frame, free_port, reading, reply, tried
+from daemon import Daemon, expect, frame, free_port, reading, reply, tried
 
 TITLE = 72                        # the place of Main.title in examples/plant.toml, a STRING(7) that is persistent
 KEPT = re.compile(r"connections \d+ requests \d+ replies \d+ samples \d+ reloads \d+ \d+\nsaved (\d+)\n")
@@ -127,24 +127,26 @@ def one_daemon_a_store(program):
         in_folder(stack, program, folder, ["--store", "kept"])
         second = in_folder(stack, program, folder, ["--store", "kept"], listens=False)
         out, err, status, _ = second.stopped()
-        expect(status != 0 and out == "" and "kept is kept by another daemon" in err, f"it ended with {status}, {out!r} and {err!r}")
+        expect(status != 0 and out == "" and "kept: another daemon keeps its values there" in err, f"it ended with {status}, {out!r} and {err!r}")
         return f"status {status}"
 
 
 @tried
-def a_file_that_is_no_store(program):
+def a_value_that_fits_nothing(program):
+    """It is told by its name, and the file is copied before a save leaves it out."""
     with contextlib.ExitStack() as stack:
         folder = stack.enter_context(tempfile.TemporaryDirectory())
-        pathlib.Path(folder, "kept").write_text("this is no store\n" * 100)
-        before = pathlib.Path(folder, "kept").read_bytes()
-        it = in_folder(stack, program, folder, ["--store", "kept"])
-        with it.link() as link:
+        words = ["--store", "kept", "--save-each", "1"]
+        first = in_folder(stack, program, folder, words)
+        with first.link() as link:
             write_title(link, 1, title_of(1))
-        out, err, status, _ = it.stopped(signal.SIGTERM)
-        kept_in_order(out, status)
-        copies = [p.name for p in pathlib.Path(folder).iterdir() if p.read_bytes() == before]
-        expect(copies, "what stood in the file is nowhere")
-        return f"it stands in {copies}"
+        kept_in_order(*first.stopped(signal.SIGTERM)[::2][:2])
+        before = pathlib.Path(folder, "kept").read_bytes()
+        second = in_folder(stack, program, folder, words, change=("STRING(7)", "STRING(9)"))
+        _, err, status, _ = second.stopped(signal.SIGTERM)
+        expect(status == 0 and "no persistent symbol fits the entry Main.title" in err, f"the log says {err!r}")
+        expect(pathlib.Path(folder, "kept.before").read_bytes() == before, "the copy is not what stood there")
+        return "told and copied"
 
 
 @tried
@@ -240,7 +242,7 @@ def signals_as_data(program):
         pathlib.Path(folder, "numbers.txt").write_text("7\n8\n9\n")
         pathlib.Path(folder, "it.toml").write_text(
             f'description = "plant.toml"\nlisten = ["127.0.0.1:{port}"]\n'
-            '[[signal]]\nramp = 5\n[[signal]]\nsquare = [3, 4, 2]\n[[signal]]\nfile = "numbers.txt"\n')
+            '[[signal]]\nramp = 5\nperiod = 10\n[[signal]]\nsquare = [3, 4, 2]\n[[signal]]\nfile = "numbers.txt"\n')
         it = Daemon(stack, program, folder=folder, port=port, words=["it.toml"], bare=True)
         seen = set()
         ends = time.monotonic() + 2
