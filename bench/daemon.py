@@ -10,6 +10,7 @@ import contextlib
 import os
 import pathlib
 import re
+import resource
 import select
 import shutil
 import signal
@@ -81,14 +82,23 @@ def free_port():
 class Daemon:
     """A run of the program in a folder of its own."""
 
-    def __init__(self, stack, program, words=(), blocked=True, stderr=subprocess.PIPE, env=None, listens=True):
-        self.folder = stack.enter_context(tempfile.TemporaryDirectory())
+    def __init__(self, stack, program, words=(), blocked=True, stderr=subprocess.PIPE, env=None, listens=True, folder=None, listen=None, port=None,
+                 bare=False, full=False, before=None, pass_fds=()):
+        self.folder = folder or stack.enter_context(tempfile.TemporaryDirectory())
         shutil.copy(PLANT, os.path.join(self.folder, "plant.toml"))
-        self.port = free_port()
-        words = [program, "plant.toml", "--listen", f"127.0.0.1:{self.port}", *words]
-        mask = BLOCKED if blocked else set()
-        self.process = subprocess.Popen(words, cwd=self.folder, stdout=subprocess.PIPE, stderr=stderr, env=env,
-                                        preexec_fn=lambda: signal.pthread_sigmask(signal.SIG_SETMASK, mask))
+        self.port = port or free_port()
+        listen = [word for it in (listen or [f"127.0.0.1:{self.port}"]) for word in ("--listen", it)]
+        words = [program, *words] if bare else [program, "plant.toml", *listen, *words]
+
+        def prepare():
+            signal.pthread_sigmask(signal.SIG_SETMASK, BLOCKED if blocked else set())
+            if full:      # no file may have a byte, and that is told by an error and not by a signal
+                signal.signal(signal.SIGXFSZ, signal.SIG_IGN)
+                resource.setrlimit(resource.RLIMIT_FSIZE, (0, resource.RLIM_INFINITY))
+            if before:
+                before()
+
+        self.process = subprocess.Popen(words, cwd=self.folder, stdout=subprocess.PIPE, stderr=stderr, env=env, preexec_fn=prepare, pass_fds=pass_fds)
         stack.callback(self.end)
         if listens:
             said = self.process.stdout.readline()

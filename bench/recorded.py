@@ -4,7 +4,8 @@
     python3 bench/recorded.py PROGRAM [--times 100] [--puts 2000] [--seed 1]
 
 PROGRAM is crates/ads/out/ads. A line a scene, `ok` or what differed; status 1 where one did. What is read back is read by Python's sqlite3, not by the program. The last lines say
-what a put cost: processor time of the program, and how many a second the disk of the working folder and memory (/dev/shm) gave.
+what a put cost: processor time of the program, and how many a second the disk of the working folder and memory (/dev/shm) gave; of samples that come one at a time, each with a sync,
+and of 5,000 in one frame.
 """
 import argparse
 import contextlib
@@ -14,6 +15,7 @@ import random
 import resource
 import signal
 import sqlite3
+import struct
 import subprocess
 import sys
 import tempfile
@@ -23,6 +25,10 @@ sys.dont_write_bytecode = True
 from connecting import DATA, Server, read_write  # noqa: E402,F401
 
 ROOT = pathlib.Path(__file__).resolve().parent.parent
+sys.path.insert(0, str(ROOT / "tools"))
+from lib.frames import ADD, DELETE, NOTE, REQUEST, Frame  # noqa: E402
+from tries.fake_server import Fake, data, reply, symbol  # noqa: E402
+
 PLANT = ROOT / "examples/plant.toml"
 ME = ["--me", "192.168.0.9.1.1"]
 LOCAL = ["--local", str(PLANT), *ME]
@@ -103,6 +109,67 @@ def over_a_socket(program, folder, r):
         server.process.kill()
 
 
+def burst_of(first, count):
+    """The payload of a notification: samples of handle 1, a stamp each, whose moments and values are their numbers."""
+    stamps = b"".join(struct.pack("<QIIII", k, 1, 1, 4, k) for k in range(first, first + count))
+    return struct.pack("<II", len(stamps) + 4, count) + stamps
+
+
+def bursts(frames, count, pause=0.0):
+    """A server that sends so many frames of so many samples each behind the grant of a notification."""
+    def answer(frame):
+        if frame.command == ADD:
+            return sent(frame)
+        return reply(frame, bytes(4)) if frame.command == DELETE else data(frame, symbol(b"Main.count", b"UDINT", 0x4040, 0, 4, 19))
+
+    def sent(frame):
+        yield reply(frame, struct.pack("<II", 0, 1))
+        for k in range(frames):
+            yield Frame(frame.source, frame.target, NOTE, REQUEST, 0, 0, burst_of(k * count + 1, count)).bytes()
+            time.sleep(pause)
+    return Fake(answer)
+
+
+def of_fake(fake):
+    return ["--to", fake.to, "--netid", "5.1.2.3.1.1", *ME]
+
+
+def burst(program, folder, r):
+    """5,000 samples in one frame: they are settled in two transactions, and no call is timed out by its own puts."""
+    with bursts(1, 5000) as fake:
+        done = record(program, ["Main.count"], "change", 5000, folder / "s", of_fake(fake))
+    wanted("the end", (done.returncode, done.stdout), (0, "Main.count count 5000 last 5000 5000\n"))
+    wanted("the rows", whole(folder / "s"), [(k, b"Main.count", k, k.to_bytes(4, "little")) for k in range(1, 5001)])
+
+
+def killed_in_bursts(program, folder, r, times):
+    """Killed while frames of 1,000 samples come: what was settled is there, a frame's samples all or none."""
+    stood, cut = set(), 0
+    for k in range(times):
+        store = folder / f"s{k}"
+        with bursts(10, 1000, pause=0.01) as fake:
+            it = subprocess.Popen([program, "record", "Main.count", "--mode", "change", "--cycle", "0", "--count", "10000", "--store", str(store), *of_fake(fake)],
+                                  stdout=subprocess.DEVNULL)
+            try:
+                it.wait(r.random() * 0.4)
+            except subprocess.TimeoutExpired:
+                it.send_signal(signal.SIGKILL)
+                it.wait()
+                cut += 1
+        if not store.exists():
+            continue
+        try:
+            rows = len(whole(store))
+        except sqlite3.DatabaseError as fault:
+            if "no such table" not in str(fault):
+                raise
+            continue
+        if rows % 1000:
+            raise Differs(f"{rows} rows, where frames of 1,000 samples came")
+        stood.add(rows)
+    return f"ok, {cut} of {times} killed; so many rows stood: {' '.join(str(it) for it in sorted(stood))}"
+
+
 def no_stores(program, folder, r):
     """Files that are no store: told by status 16 and its line alone."""
     def fault(what, store, **more):
@@ -181,6 +248,12 @@ def cost(program, folder, puts):
             spent = after.ru_utime + after.ru_stime - before.ru_utime - before.ru_stime
             wanted("the status", done.returncode, 0)
             print(f"{puts} puts on {what}: {puts / lasted:,.0f} a second, {1e6 * spent / puts:.0f} microseconds of the processor each")
+            with bursts(1, 5000) as fake:
+                started = time.monotonic()
+                done = record(program, ["Main.count"], "change", 5000, pathlib.Path(there) / "burst", of_fake(fake))
+                lasted = time.monotonic() - started
+            wanted("the status of a burst", done.returncode, 0)
+            print(f"5000 puts of one frame on {what}: {5000 / lasted:,.0f} a second")
 
 
 def main():
@@ -191,8 +264,8 @@ def main():
     given.add_argument("--seed", type=int, default=1)
     given = given.parse_args()
     program, r, bad = os.path.abspath(given.program), random.Random(given.seed), False
-    scenes = [("twice", twice), ("over a socket", over_a_socket), ("no stores", no_stores), ("a full disk", full),
-              ("killed", lambda *some: killed(*some, given.times))]
+    scenes = [("twice", twice), ("over a socket", over_a_socket), ("a burst", burst), ("no stores", no_stores), ("a full disk", full),
+              ("killed", lambda *some: killed(*some, given.times)), ("killed in bursts", lambda *some: killed_in_bursts(*some, given.times))]
     for name, scene in scenes:
         with tempfile.TemporaryDirectory() as folder:
             try:

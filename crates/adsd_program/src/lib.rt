@@ -1,9 +1,14 @@
-//! The daemon over the outside of its process: files, sockets, signals, standard output and error, systemd, a status file.
+//! The daemon over the outside of its process: files, sockets, signals, standard output and error, systemd, a status file, a store.
 #![tactic(auto)]
 
+mod before_copy;
+mod kept_body;
+mod log_board;
+mod log_notes;
 mod plant_judge;
 mod process;
 mod real_names;
+mod serving;
 
 pub use crate::plant_judge::PlantJudge;
 pub use crate::process::{exit_code, status_of};

@@ -3,12 +3,21 @@
 use crate::counts::Counts;
 use crate::guest::Guest;
 use crate::guests::Guests;
-use crate::judge::{Judge, Judged};
+use crate::judge::Judge;
 use crate::line::{Level, put_line};
+use crate::noticeboard::Noticeboard;
 use crate::plant::Plant;
+use crate::posted::{Reloaded, SaveTold};
 use crate::ring::Ring;
-use crate::rules::rule_text;
-use crate::told::{closed_line, lost_line, opened_line, shut_line, speaks_line};
+use crate::spoken::Spoken;
+use crate::status_text::{Beside, text_of};
+use crate::store_health::StoreHealth;
+use crate::told::{
+    closed_line, forgotten_line, lost_line, no_route_line, opened_line, refused_line, shut_line,
+    speaks_line,
+};
+use crate::told_plant as plant_lines;
+use ads_base::Octets;
 use ads_outside::Event;
 use daemon_outside::{Beacon, LogOutlet, Onlooker, PeerNames, StopCause};
 use std::alloc::{AllocError, Global};
@@ -18,8 +27,11 @@ const SECOND_TICKS: u64 = 100;
 
 const STATUS_TICKS: u64 = 1_000;
 
-/// Looks on, and writes the log: a line for what began and ended, who spoke, what was reloaded. It tells a beacon that it is
-/// ready and alive, and a file its counts. Nothing of it waits.
+/// How many refused peers a wire remembers, and how many entries that fit nothing are named.
+const NAMED: u64 = 16;
+
+/// Looks on, and writes the log: a line for what began and ended, who spoke, what was reloaded and saved. It tells a beacon
+/// that it is ready and alive, and a file its counts. Nothing of it waits.
 #[derive(Drop)]
 pub struct Chronicle<
     N: Drop,
@@ -33,6 +45,7 @@ pub struct Chronicle<
     dated: bool,
     names: N,
     judge: J,
+    board: Noticeboard,
     outlet: L,
     beacon: B,
     file: F,
@@ -41,6 +54,7 @@ pub struct Chronicle<
     told_lost: u64,
     told_refused: u64,
     ready: bool,
+    health: StoreHealth,
     plant: Plant,
     guests: Guests,
     counts: Counts,
@@ -53,13 +67,14 @@ impl<N: Drop, J: Judge + Drop, L: LogOutlet + Drop, B: Beacon + Drop, F: Beacon 
     B,
     F,
 > {
-    /// Nothing was told; it is this moment.
+    /// Nothing was told; it is this moment. What is posted on the board is told too.
     pub fn new(
         alloc: Global,
         now: u64,
         dated: bool,
         names: N,
         judge: J,
+        board: Noticeboard,
         outlet: L,
         beacon: B,
         file: F,
@@ -69,6 +84,7 @@ impl<N: Drop, J: Judge + Drop, L: LogOutlet + Drop, B: Beacon + Drop, F: Beacon 
             dated,
             names,
             judge,
+            board,
             outlet,
             beacon,
             file,
@@ -76,6 +92,7 @@ impl<N: Drop, J: Judge + Drop, L: LogOutlet + Drop, B: Beacon + Drop, F: Beacon 
             told_lost: 0,
             told_refused: 0,
             ready: false,
+            health: StoreHealth::Well,
             plant: Plant::new(alloc),
             guests: Guests::new(alloc),
             counts: Counts::new(now),
@@ -89,8 +106,7 @@ impl<N: Drop, J: Judge + Drop, L: LogOutlet + Drop, B: Beacon + Drop, F: Beacon 
 
     /// The description that was to be served breaks this rule, and in it this item; rule 0 for no TOML document.
     pub fn refused(&mut self, rule: u8, item: u32) {
-        let words = rule_text(rule);
-        let text = format!(in self.alloc; "description refused: rule {rule} item {item}: {words}");
+        let text = plant_lines::refused_line(self.alloc, rule, item);
         self.put_made(Level::Error, text);
     }
 
@@ -99,8 +115,39 @@ impl<N: Drop, J: Judge + Drop, L: LogOutlet + Drop, B: Beacon + Drop, F: Beacon 
         self.put(Level::Warning, text);
     }
 
+    /// The store in this file has so many entries, of so many bytes.
+    pub fn store_opened(&mut self, name: &str, entries: u64, bytes: u64) {
+        let text = plant_lines::store_line(self.alloc, name, entries, bytes);
+        self.put_made(Level::Info, text);
+    }
+
+    /// Entries of the store that fit no persistent symbol, by their names. The store is copied before a save leaves them out.
+    pub fn unfit(&mut self, names: &[Octets]) {
+        if names.is_empty() {
+            return;
+        }
+        self.name_unfit(names);
+        if let Some(text) = plant_lines::copy_text(self.judge.copy_store()) {
+            self.put(Level::Warning, text);
+        }
+    }
+
+    // The first of them by their names.
+    fn name_unfit(&mut self, names: &[Octets]) {
+        for name in names.iter().take(16) {
+            let text = plant_lines::unfit_line(self.alloc, name.as_slice());
+            self.put_made(Level::Warning, text);
+        }
+        let more = (names.len() as u64).saturating_sub(NAMED);
+        if more != 0 {
+            let text = plant_lines::more_unfit_line(self.alloc, more);
+            self.put_made(Level::Warning, text);
+        }
+    }
+
     /// The run is over: what waits is given to the outlet, as far as it takes it at once.
     pub fn finish(&mut self) {
+        self.look();
         self.file_counts();
         for _ in 0..32u32 {
             if self.ring.flush(&mut self.outlet) == 0 {
@@ -129,6 +176,57 @@ impl<N: Drop, J: Judge + Drop, L: LogOutlet + Drop, B: Beacon + Drop, F: Beacon 
         }
     }
 
+    // What the server and its store posted is told.
+    fn look(&mut self) {
+        let posted = self.board.take();
+        self.counts.served = posted.served;
+        self.counts.saves = posted.saves;
+        self.counts.store_faults = posted.faults;
+        if let Some(reload) = posted.reload {
+            self.tell_reload(reload);
+        }
+        if let Some(save) = posted.save {
+            self.tell_save(save);
+        }
+    }
+
+    // What became of a changed description.
+    fn tell_reload(&mut self, reload: Reloaded) {
+        let text = plant_lines::reload_line(self.alloc, reload);
+        match reload {
+            Reloaded::Accepted(_) => {
+                self.counts.reloads = self.counts.reloads.saturating_add(1);
+                self.put_made(Level::Info, text);
+                self.plant.accept(self.alloc);
+                let names = self.judge.unfit(self.alloc, self.plant.text());
+                self.unfit(names.as_slice());
+            }
+            Reloaded::Syntax | Reloaded::Breaks(_, _) => {
+                self.counts.refusals = self.counts.refusals.saturating_add(1);
+                self.put_made(Level::Warning, text);
+            }
+        }
+    }
+
+    // What became of a body: each save, and a failure where the look before was none of its kind.
+    fn tell_save(&mut self, save: SaveTold) {
+        let health = StoreHealth::of_save(save);
+        if health != self.health {
+            self.health = health;
+            self.put(level_of(health), health.text());
+        }
+        if let SaveTold::Saved(bytes, moment) = save {
+            self.counts.save(moment);
+            let text = plant_lines::saved_line(
+                self.alloc,
+                self.counts.saves,
+                bytes,
+                self.counts.save_time,
+            );
+            self.put_made(Level::Info, text);
+        }
+    }
+
     // Lines that were lost are told, once there is room again.
     fn tell_lost(&mut self) {
         let lost = self.ring.lost();
@@ -140,20 +238,8 @@ impl<N: Drop, J: Judge + Drop, L: LogOutlet + Drop, B: Beacon + Drop, F: Beacon 
         }
     }
 
-    // Peers that were refused are told.
-    fn tell_refused(&mut self, refused: u64) {
-        if refused != self.told_refused {
-            let peers = refused.saturating_sub(self.told_refused);
-            self.told_refused = refused;
-            let text = format!(in self.alloc;
-                "not allowed: {peers} peers, which are on no net of the allow list"
-            );
-            self.put_made(Level::Notice, text);
-        }
-    }
-
     // A tick: what is due by time.
-    fn tick(&mut self, moment: u64, refused: u64) {
+    fn tick(&mut self, moment: u64) {
         self.counts.tick(moment);
         if !self.ready {
             self.ready = true;
@@ -162,7 +248,6 @@ impl<N: Drop, J: Judge + Drop, L: LogOutlet + Drop, B: Beacon + Drop, F: Beacon 
         }
         if self.counts.ticks % SECOND_TICKS == 0 {
             self.beacon.tell(b"WATCHDOG=1");
-            self.tell_refused(refused);
         }
         if self.counts.ticks % STATUS_TICKS == 0 {
             self.file_counts();
@@ -173,13 +258,12 @@ impl<N: Drop, J: Judge + Drop, L: LogOutlet + Drop, B: Beacon + Drop, F: Beacon 
 
     // The counts are told to the file.
     fn file_counts(&mut self) {
-        let text = self.counts.text(
-            self.alloc,
-            self.guests.len() as u64,
-            self.ring.lost(),
-            self.told_refused,
-        );
-        if let Ok(text) = text {
+        let beside = Beside {
+            there: self.guests.len() as u64,
+            refused: self.told_refused,
+            lost: self.ring.lost(),
+        };
+        if let Ok(text) = text_of(self.alloc, &self.counts, beside) {
             self.file.tell(text.as_bytes());
         }
     }
@@ -189,13 +273,22 @@ impl<N: Drop, J: Judge + Drop, L: LogOutlet + Drop, B: Beacon + Drop, F: Beacon 
         if let Some(guest) = self.guests.hear(conn, bytes) {
             let text = speaks_line(self.alloc, &guest);
             self.put_made(Level::Info, text);
-            if !self.plant.has_route(&guest) {
-                let text = format!(in self.alloc;
-                    "no route for {conn}: the description has no [[route]] with this NetId"
-                );
+            self.tell_route(&guest);
+        }
+    }
+
+    // Who speaks without a route is told, and what lets it in.
+    fn tell_route(&mut self, guest: &Guest) {
+        if let Spoken::As(net, _) = guest.spoken {
+            if !self.has_route(guest) {
+                let text = no_route_line(self.alloc, guest.conn, net);
                 self.put_made(Level::Warning, text);
             }
         }
+    }
+
+    fn has_route(&mut self, guest: &Guest) -> bool {
+        self.plant.has_route(self.alloc, &self.judge, guest.spoken)
     }
 
     fn close(&mut self, conn: u32) {
@@ -206,54 +299,76 @@ impl<N: Drop, J: Judge + Drop, L: LogOutlet + Drop, B: Beacon + Drop, F: Beacon 
     }
 
     // Why the server shut a connection, as far as that is known.
-    fn why(&self, guest: &Guest) -> &'static str {
+    fn why(&mut self, guest: &Guest) -> &'static str {
         if !guest.speaks_ads() {
             return "what came is no AMS/TCP";
         }
-        if !self.plant.has_route(guest) {
+        if !self.has_route(guest) {
             return "its NetId has no route";
         }
         "a frame that came breaks the protocol, or too much waits for it"
     }
 
-    // A description is read again.
-    fn reload(&mut self, bytes: &[u8]) {
-        match self.judge.judge(self.alloc, bytes) {
-            Judged::Accepted(routes) => {
-                self.plant.accept(routes);
-                self.counts.reloads = self.counts.reloads.saturating_add(1);
-                let version = self.plant.version();
-                let text = format!(in self.alloc; "reload accepted: version {version}");
-                self.put_made(Level::Info, text);
-            }
-            Judged::Syntax => {
-                self.counts.refusals = self.counts.refusals.saturating_add(1);
-                self.put(
-                    Level::Warning,
-                    "reload refused: it is no TOML document; the description before stays",
-                );
-            }
-            Judged::Breaks(rule, item) => {
-                self.counts.refusals = self.counts.refusals.saturating_add(1);
-                let words = rule_text(rule);
-                let text = format!(in self.alloc;
-                    "reload refused: rule {rule} item {item}: {words}; the description before stays"
-                );
-                self.put_made(Level::Warning, text);
-            }
-            Judged::Memory => self.put(Level::Warning, "reload: no memory to judge it"),
-        }
-    }
-
     // The plant that is served first.
     fn first(&mut self, listen: &str, name: &str, bytes: &[u8]) {
-        if let Judged::Accepted(routes) = self.judge.judge(self.alloc, bytes) {
-            self.plant.begin(routes);
-        }
+        self.plant.hear(self.alloc, bytes);
+        self.plant.accept(self.alloc);
         let len = bytes.len();
         let text = format!(in self.alloc; "listening at {listen}, {name}, {len} bytes");
         self.put_made(Level::Info, text);
         let _ = self.ring.flush(&mut self.outlet);
+    }
+
+    // Peers that were refused are told, the last ones by their addresses.
+    fn tell_refused<W>(&mut self, wire: &W)
+    where
+        N: PeerNames<W>,
+    {
+        let refused = self.names.refused(wire);
+        let first = self.told_refused.max(refused.saturating_sub(NAMED));
+        let forgotten = first.saturating_sub(self.told_refused);
+        self.told_refused = refused;
+        if forgotten != 0 {
+            let text = forgotten_line(self.alloc, forgotten);
+            self.put_made(Level::Notice, text);
+        }
+        for n in first..refused {
+            if let Some(peer) = self.names.refused_peer(wire, n) {
+                let text = refused_line(self.alloc, peer);
+                self.put_made(Level::Notice, text);
+            }
+        }
+    }
+
+    // Once a second the wire is asked what it knows beside its events.
+    fn ask_wire<W>(&mut self, wire: &W)
+    where
+        N: PeerNames<W>,
+    {
+        if self.counts.ticks % SECOND_TICKS == 0 {
+            self.tell_refused(wire);
+            self.counts.failed_readings = self.names.failed_readings(wire);
+        }
+    }
+
+    fn open<W>(&mut self, conn: u32, wire: &W)
+    where
+        N: PeerNames<W>,
+    {
+        let peer = self.names.peer_of(wire, conn);
+        self.counts.connections = self.counts.connections.saturating_add(1);
+        self.guests.add(Guest::new(conn, peer, self.counts.now));
+        let text = opened_line(self.alloc, conn, peer);
+        self.put_made(Level::Info, text);
+    }
+}
+
+// How much it weighs that the store comes to that.
+fn level_of(health: StoreHealth) -> Level {
+    match health {
+        StoreHealth::Well => Level::Notice,
+        StoreHealth::NoMemory => Level::Warning,
+        StoreHealth::Failed | StoreHealth::OverLimit => Level::Error,
     }
 }
 
@@ -275,21 +390,16 @@ impl<
     }
 
     fn saw(&mut self, event: &Event, wire: &W) {
+        self.look();
         match event {
-            Event::Opened(conn) => {
-                let peer = self.names.peer_of(wire, *conn);
-                self.counts.connections = self.counts.connections.saturating_add(1);
-                self.guests.add(Guest::new(*conn, peer, self.counts.now));
-                let text = opened_line(self.alloc, *conn, peer);
-                self.put_made(Level::Info, text);
-            }
+            Event::Opened(conn) => self.open(*conn, wire),
             Event::Piece(conn, bytes) => self.hear(*conn, bytes.as_slice()),
             Event::Closed(conn) => self.close(*conn),
             Event::Tick(moment) => {
-                let refused = self.names.refused(wire);
-                self.tick(*moment, refused);
+                self.tick(*moment);
+                self.ask_wire(wire);
             }
-            Event::Reload(bytes) => self.reload(bytes.as_slice()),
+            Event::Reload(bytes) => self.plant.hear(self.alloc, bytes.as_slice()),
             Event::Writable(_) => {}
         }
     }
@@ -307,13 +417,17 @@ impl<
     }
 
     fn shut(&mut self, conn: u32) {
+        // A description that was just taken in counts.
+        self.look();
         if let Some(guest) = self.guests.remove(conn) {
-            let text = shut_line(self.alloc, &guest, self.counts.now, self.why(&guest));
+            let why = self.why(&guest);
+            let text = shut_line(self.alloc, &guest, self.counts.now, why);
             self.put_made(Level::Notice, text);
         }
     }
 
     fn stops(&mut self, cause: StopCause) {
+        self.look();
         self.beacon.tell(b"STOPPING=1\nSTATUS=stopping");
         let text = match cause {
             StopCause::Terminate => "stopping: SIGTERM",
@@ -324,10 +438,12 @@ impl<
     }
 
     fn ended(&mut self) {
+        self.look();
         self.put(Level::Info, "stopping: there are no more events");
     }
 
     fn failed(&mut self) {
+        self.look();
         self.put(
             Level::Error,
             "stopping: the system's poll or clock failed, or all numbers of connections are used up",

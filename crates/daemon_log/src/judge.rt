@@ -1,23 +1,33 @@
-//! Who judges the text of a description, for a log.
+//! Who reads a description for a log.
 
-use ads_base::{ListOf, NetId};
+use ads_base::{ListOf, NetId, Octets};
 use std::alloc::Global;
 
-/// What a text is judged to be.
-#[derive(Debug, Drop)]
-pub enum Judged {
-    /// A description with these routes.
-    Accepted(ListOf<NetId>),
-    /// No TOML document.
-    Syntax,
-    /// It breaks this rule, and in it this item.
-    Breaks(u8, u32),
-    /// There was no memory to judge it.
-    Memory,
+/// What came of a copy of the store's file.
+#[derive(Clone, Copy, Debug, PartialEq, Eq)]
+pub enum StoreCopy {
+    /// Nobody makes one.
+    NotAsked,
+    /// It was made.
+    Copied,
+    /// There is one from before, which stays.
+    There,
+    /// It can't be made.
+    Failed,
 }
 
-/// Judges the text of a description as the server does.
+/// Reads the text of a description that is served.
 pub trait Judge {
-    /// Judges these bytes.
-    fn judge(&self, alloc: Global, bytes: &[u8]) -> Judged;
+    /// The NetIds of its routes; None where they can't be told.
+    fn routes(&self, alloc: Global, bytes: &[u8]) -> Option<ListOf<NetId>>;
+
+    /// The names of the entries in the store that fit no persistent symbol of it, so that the next save leaves them out.
+    fn unfit(&self, alloc: Global, _bytes: &[u8]) -> ListOf<Octets> {
+        ListOf::new(alloc)
+    }
+
+    /// Copies the store's file beside it, once, since the next save leaves out entries.
+    fn copy_store(&self) -> StoreCopy {
+        StoreCopy::NotAsked
+    }
 }

@@ -1,14 +1,18 @@
 //! What a log knows of the plant that is served.
 
-use crate::guest::Guest;
+use crate::judge::Judge;
 use crate::spoken::Spoken;
-use ads_base::{ListOf, NetId};
+use ads_base::{ListOf, NetId, Octets};
 use std::alloc::Global;
+use std::mem;
 
-/// The version of the description, and its routes.
+/// The text of the description that is served, its routes as soon as they are asked for, and the text that is on trial.
 #[derive(Drop)]
 pub(crate) struct Plant {
-    version: u8,
+    text: Octets,
+    trial: Octets,
+    // The routes were looked up, and whether they are known.
+    looked: bool,
     known: bool,
     routes: ListOf<NetId>,
 }
@@ -17,34 +21,55 @@ impl Plant {
     /// Nothing is known.
     pub(crate) fn new(alloc: Global) -> Plant {
         Plant {
-            version: 1,
+            text: Octets::new(alloc),
+            trial: Octets::new(alloc),
+            looked: true,
             known: false,
             routes: ListOf::new(alloc),
         }
     }
 
-    /// The first description has these routes.
-    pub(crate) fn begin(&mut self, routes: ListOf<NetId>) {
-        self.known = true;
-        self.routes = routes;
+    /// A text is on trial. Where there is no memory for it, its routes will not be known.
+    pub(crate) fn hear(&mut self, alloc: Global, bytes: &[u8]) {
+        self.trial = match Octets::copy_of(alloc, bytes) {
+            Ok(text) => text,
+            Err(_) => Octets::new(alloc),
+        };
     }
 
-    /// A description with these routes was accepted: the version rises by one, modulo 256.
-    pub(crate) fn accept(&mut self, routes: ListOf<NetId>) {
-        self.version = self.version.wrapping_add(1);
-        self.begin(routes);
+    /// The text on trial is served from here on.
+    pub(crate) fn accept(&mut self, alloc: Global) {
+        self.text = mem::replace(&mut self.trial, Octets::new(alloc));
+        self.looked = false;
+        self.known = false;
     }
 
-    /// The version of the description.
-    pub(crate) fn version(&self) -> u8 {
-        self.version
+    /// The text that is served.
+    pub(crate) fn text(&self) -> &[u8] {
+        self.text.as_slice()
     }
 
-    /// Whether who speaks on a connection has a route, as far as that is known.
-    pub(crate) fn has_route(&self, guest: &Guest) -> bool {
-        match guest.spoken {
-            Spoken::As(net, _) => !self.known || self.has_net(net),
-            Spoken::NoFrame | Spoken::Little => true,
+    /// Whether who speaks has a route, as far as that is known.
+    pub(crate) fn has_route<J: Judge>(&mut self, alloc: Global, judge: &J, spoken: Spoken) -> bool {
+        let Spoken::As(net, _) = spoken else {
+            return true;
+        };
+        self.look(alloc, judge);
+        !self.known || self.has_net(net)
+    }
+
+    // The routes are looked up, once.
+    fn look<J: Judge>(&mut self, alloc: Global, judge: &J) {
+        if self.looked {
+            return;
+        }
+        self.looked = true;
+        if self.text.len() == 0 {
+            return;
+        }
+        if let Some(routes) = judge.routes(alloc, self.text.as_slice()) {
+            self.known = true;
+            self.routes = routes;
         }
     }
 

@@ -2,6 +2,7 @@
 
 use crate::guest::Guest;
 use crate::spoken::Spoken;
+use ads_base::NetId;
 use std::alloc::{AllocError, Global};
 use std::net::SocketAddr;
 
@@ -20,13 +21,24 @@ pub(crate) fn opened_line(
     }
 }
 
+/// A peer was refused, since no net of the allow list has its address.
+pub(crate) fn refused_line(alloc: Global, peer: SocketAddr) -> Result<String, AllocError> {
+    format!(in alloc; "not allowed {peer}: its address is in no net of allow")
+}
+
+/// More peers were refused, of which no addresses are known.
+pub(crate) fn forgotten_line(alloc: Global, peers: u64) -> Result<String, AllocError> {
+    format!(in alloc; "not allowed: {peers} more peers")
+}
+
 /// The first bytes of a connection told who speaks.
 pub(crate) fn speaks_line(alloc: Global, guest: &Guest) -> Result<String, AllocError> {
     let conn = guest.conn;
     match guest.spoken {
         Spoken::As(net, port) => {
-            let [a, b, c, d, e, f] = net.bytes;
-            format!(in alloc; "speaks {conn} as {a}.{b}.{c}.{d}.{e}.{f}, port {port}")
+            let net = net_text(alloc, net)?;
+            let net = net.as_str();
+            format!(in alloc; "speaks {conn} as {net}, port {port}")
         }
         Spoken::NoFrame => format!(in alloc;
             "speaks {conn} no ADS: its first bytes begin no AMS/TCP frame"
@@ -35,24 +47,29 @@ pub(crate) fn speaks_line(alloc: Global, guest: &Guest) -> Result<String, AllocE
     }
 }
 
+/// Who speaks has no route, and what lets it in.
+pub(crate) fn no_route_line(alloc: Global, conn: u32, net: NetId) -> Result<String, AllocError> {
+    let net = net_text(alloc, net)?;
+    let net = net.as_str();
+    format!(in alloc;
+        "no route for {conn}: to let it in, add three lines to the description: [[route]] and net = \"{net}\" and rights = \"read\""
+    )
+}
+
 /// A connection's peer closed it.
 pub(crate) fn closed_line(alloc: Global, guest: &Guest, now: u64) -> Result<String, AllocError> {
-    let conn = guest.conn;
-    let seconds = now.saturating_sub(guest.since) / SECOND;
-    let came = guest.bytes_in;
-    let went = guest.bytes_out;
-    format!(in alloc; "closed {conn} by its peer after {seconds} s, {came} bytes in, {went} out")
+    let (who, seconds) = (who_text(alloc, guest)?, seconds_of(guest, now));
+    let who = who.as_str();
+    let (came, went) = (guest.bytes_in, guest.bytes_out);
+    format!(in alloc; "closed {who} by its peer after {seconds} s, {came} bytes in, {went} out")
 }
 
 /// An offer to a connection failed: its peer is gone.
 pub(crate) fn lost_line(alloc: Global, guest: &Guest, now: u64) -> Result<String, AllocError> {
-    let conn = guest.conn;
-    let seconds = now.saturating_sub(guest.since) / SECOND;
-    let came = guest.bytes_in;
-    let went = guest.bytes_out;
-    format!(in alloc;
-        "lost {conn} after {seconds} s, {came} bytes in, {went} out: its peer is gone"
-    )
+    let (who, seconds) = (who_text(alloc, guest)?, seconds_of(guest, now));
+    let who = who.as_str();
+    let (came, went) = (guest.bytes_in, guest.bytes_out);
+    format!(in alloc; "lost {who} after {seconds} s, {came} bytes in, {went} out: its peer is gone")
 }
 
 /// The server shut a connection, and why, as far as that is known.
@@ -62,17 +79,35 @@ pub(crate) fn shut_line(
     now: u64,
     why: &str,
 ) -> Result<String, AllocError> {
-    let conn = guest.conn;
-    let seconds = now.saturating_sub(guest.since) / SECOND;
+    let (who, seconds) = (who_text(alloc, guest)?, seconds_of(guest, now));
+    let who = who.as_str();
     match guest.spoken {
         Spoken::As(net, _) => {
-            let [a, b, c, d, e, f] = net.bytes;
-            format!(in alloc;
-                "shut {conn} by the server after {seconds} s, spoke as {a}.{b}.{c}.{d}.{e}.{f}: {why}"
-            )
+            let net = net_text(alloc, net)?;
+            let net = net.as_str();
+            format!(in alloc; "shut {who} by the server after {seconds} s, spoke as {net}: {why}")
         }
         Spoken::NoFrame | Spoken::Little => format!(in alloc;
-            "shut {conn} by the server after {seconds} s: {why}"
+            "shut {who} by the server after {seconds} s: {why}"
         ),
     }
+}
+
+// The number of a connection, and its peer where that is known.
+fn who_text(alloc: Global, guest: &Guest) -> Result<String, AllocError> {
+    let conn = guest.conn;
+    match guest.peer {
+        Some(address) => format!(in alloc; "{conn} from {address}"),
+        None => format!(in alloc; "{conn}"),
+    }
+}
+
+fn net_text(alloc: Global, net: NetId) -> Result<String, AllocError> {
+    let [a, b, c, d, e, f] = net.bytes;
+    format!(in alloc; "{a}.{b}.{c}.{d}.{e}.{f}")
+}
+
+// How long a connection has been there.
+fn seconds_of(guest: &Guest, now: u64) -> u64 {
+    now.saturating_sub(guest.since) / SECOND
 }

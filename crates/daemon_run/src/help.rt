@@ -9,15 +9,16 @@ adsd serves a plant over ADS until it is stopped.
   adsd check CONFIG.toml         print what a configuration says, check its description, and end
   adsd --help | --version
 
-A configuration is a TOML table with the key description; its other keys are those of the options:
+A configuration is a TOML table with the key description; its other keys are those of the options, and [[signal]] tables:
 
-  --listen ADDRESS    where to listen: 0.0.0.0:48898, [::]:48898, localhost:48898
+  --listen ADDRESS    where to listen: 0.0.0.0:48898, [::]:48898, localhost:48898; several times for several
+  --store FILE        keep the persistent symbols in this file
+  --save-each N       save them at most each N seconds, 1 to 86400; else 10
+  --allow NET         who may connect, as 192.168.0.0/24 or fd00::1; several times for several; else everybody
+  --profile NAME      wide: answer as TwinCAT does; strict: as ads serve does; else wide
   --status FILE       write counts to this file each 10 s, as Prometheus reads them
   --log FORM          journal, plain or none; else plain
-  --profile strict    answer as ads serve does, the one profile of this program
   --stop-file FILE    end once this file is there
-
-Not served yet, and refused: store, save_each, allow, the profile wide, more than one address.
 
 Start it with SIGTERM, SIGINT and SIGHUP blocked, so that it ends in order:
   env --block-signal=TERM,INT,HUP adsd CONFIG.toml

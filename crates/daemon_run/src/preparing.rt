@@ -11,7 +11,7 @@ use run_tasks::{Status, end_without_memory, print_and_end, print_outcome, read_d
 use std::alloc::Global;
 
 /// What the words of a daemon come to.
-#[derive(Debug, Drop)]
+#[derive(Drop)]
 pub enum Prepared {
     /// All is done.
     Ended(Status),
@@ -20,11 +20,10 @@ pub enum Prepared {
 }
 
 /// Reads the words behind the program's name, and the configuration that they name. What ends here prints its answer, or
-/// the sentence that tells what is wrong to `err`. So many signals may be named by a description.
+/// the sentence that tells what is wrong to `err`.
 pub fn prepare<F: Files, S: Sink, E: Sink>(
     alloc: Global,
     words: &[String],
-    signals: u32,
     files: &mut F,
     out: &mut S,
     err: &mut E,
@@ -35,7 +34,7 @@ pub fn prepare<F: Files, S: Sink, E: Sink>(
         Err(fault) => Prepared::Ended(tell_fault(alloc, &fault, err)),
         Ok(Asked::Help) => Prepared::Ended(print_and_end(out, HELP, Status::Done)),
         Ok(Asked::Version) => Prepared::Ended(print_and_end(out, VERSION, Status::Done)),
-        Ok(Asked::Check(file)) => Prepared::Ended(check(alloc, &file, signals, files, out, err)),
+        Ok(Asked::Check(file)) => Prepared::Ended(check(alloc, &file, files, out, err)),
         Ok(Asked::Run(file, given)) => ready(alloc, &file, given, files, err),
     }
 }
@@ -68,14 +67,13 @@ fn setup_of(
     bytes: &Octets,
 ) -> Result<Setup, SetupFault> {
     config_in(alloc, bytes.as_slice(), &mut given)?;
-    Ok(given.setup(alloc, file.as_str())?)
+    given.setup(alloc, file.as_str())
 }
 
 // What a configuration says is printed, and its description is checked.
 fn check<F: Files, S: Sink, E: Sink>(
     alloc: Global,
     file: &Text,
-    signals: u32,
     files: &mut F,
     out: &mut S,
     err: &mut E,
@@ -84,7 +82,7 @@ fn check<F: Files, S: Sink, E: Sink>(
 {
     match files.read(file.as_str()) {
         Got::Bytes(bytes) => match checked_setup(alloc, file, &bytes) {
-            Ok(setup) => print_setup(alloc, &setup, signals, files, out),
+            Ok(setup) => print_setup(alloc, &setup, files, out),
             Err(fault) => tell_fault(alloc, &fault, err),
         },
         Got::TooLong => tell_file(alloc, file, Status::TooLong, err),
@@ -94,9 +92,9 @@ fn check<F: Files, S: Sink, E: Sink>(
 }
 
 fn checked_setup(alloc: Global, file: &Text, bytes: &Octets) -> Result<Setup, SetupFault> {
-    let mut given = Given::new();
+    let mut given = Given::new(alloc);
     if config_in(alloc, bytes.as_slice(), &mut given)? {
-        Ok(given.setup(alloc, file.as_str())?)
+        given.setup(alloc, file.as_str())
     } else {
         Err(SetupFault::NotConfig)
     }
@@ -105,7 +103,6 @@ fn checked_setup(alloc: Global, file: &Text, bytes: &Octets) -> Result<Setup, Se
 fn print_setup<F: Files, S: Sink>(
     alloc: Global,
     setup: &Setup,
-    signals: u32,
     files: &mut F,
     out: &mut S,
 ) -> Status
@@ -114,7 +111,7 @@ fn print_setup<F: Files, S: Sink>(
     match setup_text(alloc, setup) {
         Err(NoMemory) => end_without_memory(out),
         Ok(text) => match print_and_end(out, text.as_slice(), Status::Done) {
-            Status::Done => check_description(alloc, setup, signals, files, out),
+            Status::Done => check_description(alloc, setup, files, out),
             status => status,
         },
     }
@@ -123,13 +120,12 @@ fn print_setup<F: Files, S: Sink>(
 fn check_description<F: Files, S: Sink>(
     alloc: Global,
     setup: &Setup,
-    signals: u32,
     files: &mut F,
     out: &mut S,
 ) -> Status
     ensures held { (F.state files.new).held ≡ (F.state files.old).held }
 {
-    match read_description(alloc, &setup.description, signals, files) {
+    match read_description(alloc, &setup.description, setup.signals.len() as u32, files) {
         Err(NoMemory) => end_without_memory(out),
         Ok(Err(told)) => print_outcome(out, told),
         Ok(Ok(_read)) => Status::Done,
@@ -153,7 +149,9 @@ fn status_of(fault: &SetupFault) -> Status {
         | SetupFault::NoValue(_)
         | SetupFault::Twice(_)
         | SetupFault::Wrong(_)
-        | SetupFault::NotServed(_)
+        | SetupFault::TooMany(_)
+        | SetupFault::SaveEachAlone
+        | SetupFault::WrongSignal(_)
         | SetupFault::UnknownKey(_)
         | SetupFault::NotConfig => Status::Usage,
     }

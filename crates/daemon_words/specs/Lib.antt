@@ -1,0 +1,4 @@
+pub mod Asking
+pub mod Reading
+pub mod Said
+pub mod Setups

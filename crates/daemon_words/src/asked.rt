@@ -4,7 +4,7 @@ use crate::Given;
 use cli_words::Text;
 
 /// What a command line asks for.
-#[derive(Debug, Drop)]
+#[derive(Drop)]
 pub enum Asked {
     /// How the program is used.
     Help,

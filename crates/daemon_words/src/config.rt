@@ -1,7 +1,7 @@
 //! A configuration, read.
 
-use crate::unserved::seconds_fault;
-use crate::{Field, Given, SetupFault};
+use crate::signals_in::signal_in;
+use crate::{Field, Given, Seconds, SetupFault};
 use cli_words::Text;
 use std::alloc::Global;
 use toml::{Table, Value};
@@ -49,18 +49,21 @@ fn put_value(
     value: &Value,
 ) -> Result<(), SetupFault> {
     match field {
-        Field::SaveEach => match value.as_integer() {
-            Some(seconds) => Err(seconds_fault(seconds)),
-            None => Err(SetupFault::Wrong(field)),
-        },
+        Field::SaveEach => given.put_seconds(seconds_in(value)),
+        Field::Signal => put_signals(alloc, given, value),
         Field::Listen | Field::Allow => put_list(alloc, given, field, value),
         Field::Description
         | Field::Store
+        | Field::Profile
         | Field::Status
         | Field::Log
-        | Field::Profile
         | Field::StopFile => put_one(alloc, given, field, value),
     }
+}
+
+fn seconds_in(value: &Value) -> Option<Seconds> {
+    let number = value.as_integer()?;
+    Seconds::of_count(u64::try_from(number).ok()?)
 }
 
 fn put_one(
@@ -92,4 +95,29 @@ fn put_list(
         put_one(alloc, given, field, item)?;
     }
     Ok(())
+}
+
+// Tables, each a signal; the first that is off the form is told by its number.
+fn put_signals(alloc: Global, given: &mut Given, value: &Value) -> Result<(), SetupFault> {
+    let Some(items) = value.as_array() else {
+        return Err(SetupFault::Wrong(Field::Signal));
+    };
+    let mut number = 0u32;
+    for item in items.as_slice() {
+        put_signal(alloc, given, number, item)?;
+        number = number.saturating_add(1);
+    }
+    Ok(())
+}
+
+fn put_signal(
+    alloc: Global,
+    given: &mut Given,
+    number: u32,
+    value: &Value,
+) -> Result<(), SetupFault> {
+    match signal_in(alloc, value)? {
+        Some(signal) => given.put_signal(alloc, signal),
+        None => Err(SetupFault::WrongSignal(number)),
+    }
 }

@@ -4,7 +4,6 @@ ghost use Rattle.std.specs.Prelude.{◌≡◌};
 ghost use Rattle.daemon_words.specs.declared.fault.SetupFault.TheVariants.{Memory};
 
 use crate::Field;
-use crate::unserved::reason;
 use ads_base::{NoMemory, Octets};
 use cli_words::Text;
 use std::alloc::Global;
@@ -24,8 +23,12 @@ pub enum SetupFault {
     Twice(Field),
     /// A field is set to something that it does not take.
     Wrong(Field),
-    /// A field is set to something that it takes, and that is not served.
-    NotServed(Field),
+    /// A field is given more often than it may be.
+    TooMany(Field),
+    /// It is said how often to save, and not where.
+    SaveEachAlone,
+    /// The table `[[signal]]` with this number, counted from 0, is off the form.
+    WrongSignal(u32),
     /// A key of the configuration that is not known.
     UnknownKey(Text),
     /// The file that is to be checked is no configuration.
@@ -43,47 +46,81 @@ impl From<NoMemory> for SetupFault {
 }
 
 impl SetupFault {
+    /// Whether memory was wanting, and nothing is wrong.
+    pub fn is_memory(&self) -> bool {
+        matches!(self, SetupFault::Memory)
+    }
+
     /// The sentence that tells it, behind the name of the program, as a line.
     pub fn sentence(&self, alloc: Global) -> Result<Octets, NoMemory> {
-        let text = match self {
-            SetupFault::NoFile => format!(in alloc;
-                "adsd: name a configuration or a description, as in: adsd /etc/ads/adsd.toml\n"
-            )?,
-            SetupFault::SecondFile(word) => {
-                let word = word.as_str();
-                format!(in alloc; "adsd: one file only, but {word} is a second one\n")?
-            }
-            SetupFault::UnknownOption(word) => {
-                let word = word.as_str();
-                format!(in alloc; "adsd: {word} is no option; adsd --help lists them\n")?
-            }
-            SetupFault::NoValue(field) => {
-                let (key, rule) = (field.key(), field.rule());
-                format!(in alloc; "adsd: a value is missing: {key} {rule}\n")?
-            }
-            SetupFault::Twice(field) => {
-                let key = field.key();
-                format!(in alloc; "adsd: {key} is set twice\n")?
-            }
-            SetupFault::Wrong(field) => {
-                let (key, rule) = (field.key(), field.rule());
-                format!(in alloc; "adsd: {key} {rule}\n")?
-            }
-            SetupFault::NotServed(field) => {
-                let why = reason(*field);
-                format!(in alloc; "adsd: this program {why}\n")?
-            }
-            SetupFault::UnknownKey(word) => {
-                let word = word.as_str();
-                format!(in alloc;
-                    "adsd: the configuration has no key {word}; adsd --help lists them\n"
-                )?
-            }
-            SetupFault::NotConfig => format!(in alloc;
-                "adsd: this is no configuration: it is no TOML table with the key description\n"
-            )?,
-            SetupFault::Memory => format!(in alloc; "adsd: out of memory\n")?,
-        };
-        Octets::copy_of(alloc, text.as_bytes())
+        match self {
+            SetupFault::NoFile => line_of(alloc, &[NO_FILE]),
+            SetupFault::SecondFile(word) => line_of(
+                alloc,
+                &["one file only, but ", word.as_str(), " is a second one"],
+            ),
+            SetupFault::UnknownOption(word) => line_of(
+                alloc,
+                &[word.as_str(), " is no option; adsd --help lists them"],
+            ),
+            SetupFault::NoValue(field) => line_of(
+                alloc,
+                &["a value is missing: ", field.key(), " ", field.rule()],
+            ),
+            SetupFault::Twice(field) => line_of(alloc, &[field.key(), " is set twice"]),
+            SetupFault::Wrong(field) => line_of(alloc, &[field.key(), " ", field.rule()]),
+            SetupFault::TooMany(field) => too_many_line(alloc, *field),
+            SetupFault::SaveEachAlone => line_of(alloc, &[SAVE_EACH_ALONE]),
+            SetupFault::WrongSignal(number) => signal_line(alloc, *number),
+            SetupFault::UnknownKey(word) => line_of(
+                alloc,
+                &[
+                    "the configuration has no key ",
+                    word.as_str(),
+                    "; adsd --help lists them",
+                ],
+            ),
+            SetupFault::NotConfig => line_of(alloc, &[NOT_CONFIG]),
+            SetupFault::Memory => line_of(alloc, &["out of memory"]),
+        }
     }
+}
+
+const NO_FILE: &str = "name a configuration or a description, as in: adsd /etc/ads/adsd.toml";
+
+const SAVE_EACH_ALONE: &str =
+    "save_each needs store, the name of the file that keeps persistent symbols";
+
+const NOT_CONFIG: &str = "this is no configuration: it is no TOML table with the key description";
+
+const SIGNAL_FORMS: &str =
+    ", counted from 0, takes ramp = STEP with period = TICKS (1 to 1048576), square = [LOW, HIGH, TICKS] (1 to 524288), values = [NUMBER, ..] (1 to 1048576 of them), file = NAME, or recording = FILE with name = SYMBOL";
+
+// Parts of a sentence behind the name of the program, as a line.
+fn line_of(alloc: Global, parts: &[&str]) -> Result<Octets, NoMemory> {
+    let mut line = Octets::copy_of(alloc, b"adsd: ")?;
+    for part in parts {
+        line.put(alloc, part.as_bytes())?;
+    }
+    line.push(alloc, b'\n')?;
+    Ok(line)
+}
+
+fn too_many_line(alloc: Global, field: Field) -> Result<Octets, NoMemory> {
+    let most = field.most();
+    let count = format!(in alloc; "{most}")?;
+    line_of(
+        alloc,
+        &[
+            field.key(),
+            " is given more than ",
+            count.as_str(),
+            " times",
+        ],
+    )
+}
+
+fn signal_line(alloc: Global, number: u32) -> Result<Octets, NoMemory> {
+    let number = format!(in alloc; "{number}")?;
+    line_of(alloc, &["[[signal]] ", number.as_str(), SIGNAL_FORMS])
 }

@@ -8,37 +8,80 @@ pub enum Field {
     Store,
     SaveEach,
     Allow,
+    Profile,
+    Signal,
     Status,
     Log,
-    Profile,
     StopFile,
 }
 
-// Each with its key in a configuration and its option; the description is given by no option.
-const ROWS: [(&str, &str, Field); 9] = [
-    ("description", "", Field::Description),
-    ("listen", "--listen", Field::Listen),
-    ("store", "--store", Field::Store),
-    ("save_each", "--save-each", Field::SaveEach),
-    ("allow", "--allow", Field::Allow),
-    ("status", "--status", Field::Status),
-    ("log", "--log", Field::Log),
-    ("profile", "--profile", Field::Profile),
-    ("stop_file", "--stop-file", Field::StopFile),
+// All of them.
+const FIELDS: [Field; 10] = [
+    Field::Description,
+    Field::Listen,
+    Field::Store,
+    Field::SaveEach,
+    Field::Allow,
+    Field::Profile,
+    Field::Signal,
+    Field::Status,
+    Field::Log,
+    Field::StopFile,
+];
+
+// Those that an option sets.
+const OPTIONS: [Field; 8] = [
+    Field::Listen,
+    Field::Store,
+    Field::SaveEach,
+    Field::Allow,
+    Field::Profile,
+    Field::Status,
+    Field::Log,
+    Field::StopFile,
 ];
 
 impl Field {
+    ghost use Rattle.std.specs.Prelude.{◌≡◌, IfSome};
+    ghost use Rattle.daemon_words.specs.Reading.{option_of};
+
     /// The field of a key.
     pub fn of_key(key: &str) -> Option<Field> {
-        field_of_key(&ROWS, key)
+        for field in FIELDS {
+            if key == field.key() {
+                return Some(field);
+            }
+        }
+        None
     }
 
     /// The field of an option.
-    pub fn of_option(option: &str) -> Option<Field> {
-        if option.is_empty() {
-            return None;
+    pub fn of_option(option: &str) -> Option<Field>
+        ensures { IfSome result (λ field. option.now ≡ option_of field) }
+    {
+        for field in OPTIONS {
+            if option == field.option() {
+                return Some(field);
+            }
         }
-        field_of_option(&ROWS, option)
+        None
+    }
+
+    /// Its option; empty where it has none.
+    pub fn option(self) -> &'static str
+        ensures { result.now ≡ option_of self }
+    {
+        match self {
+            Field::Description | Field::Signal => "",
+            Field::Listen => "--listen",
+            Field::Store => "--store",
+            Field::SaveEach => "--save-each",
+            Field::Allow => "--allow",
+            Field::Profile => "--profile",
+            Field::Status => "--status",
+            Field::Log => "--log",
+            Field::StopFile => "--stop-file",
+        }
     }
 
     /// Its key in a configuration.
@@ -49,9 +92,10 @@ impl Field {
             Field::Store => "store",
             Field::SaveEach => "save_each",
             Field::Allow => "allow",
+            Field::Profile => "profile",
+            Field::Signal => "signal",
             Field::Status => "status",
             Field::Log => "log",
-            Field::Profile => "profile",
             Field::StopFile => "stop_file",
         }
     }
@@ -66,28 +110,27 @@ impl Field {
             Field::SaveEach => "takes a number of seconds from 1 to 86400",
             Field::Allow =>
                 "takes a net, or a list of them: an IP address, or one with a slash and the number of bits that count",
+            Field::Profile => "takes wide or strict",
+            Field::Signal => "takes tables [[signal]]",
             Field::Status => "takes the name of the status file",
             Field::Log => "takes journal, plain or none",
-            Field::Profile => "takes strict",
             Field::StopFile => "takes the name of the file that ends the daemon",
         }
     }
-}
 
-fn field_of_key(rows: &[(&str, &str, Field)], key: &str) -> Option<Field> {
-    for (name, _, field) in rows {
-        if key == *name {
-            return Some(*field);
+    /// How often it may be given at most.
+    pub fn most(self) -> u32 {
+        match self {
+            Field::Listen => 16,
+            Field::Allow => 256,
+            Field::Signal => 1_024,
+            Field::Description
+            | Field::Store
+            | Field::SaveEach
+            | Field::Profile
+            | Field::Status
+            | Field::Log
+            | Field::StopFile => 1,
         }
     }
-    None
-}
-
-fn field_of_option(rows: &[(&str, &str, Field)], option: &str) -> Option<Field> {
-    for (_, name, field) in rows {
-        if option == *name {
-            return Some(*field);
-        }
-    }
-    None
 }

@@ -1,6 +1,7 @@
 //! A setup, printed.
 
-use crate::Setup;
+use crate::printed_signal::signal_text;
+use crate::{IpNet, Setup, SignalTable};
 use ads_base::{NoMemory, Octets};
 use cli_words::Text;
 use std::alloc::Global;
@@ -10,9 +11,12 @@ pub fn setup_text(alloc: Global, setup: &Setup) -> Result<Octets, NoMemory> {
     let mut text = Octets::new(alloc);
     put_line(alloc, &mut text, "description", setup.description.as_str())?;
     put_line(alloc, &mut text, "listen", setup.listen.as_str())?;
+    put_nets(alloc, &mut text, setup.allow.as_slice())?;
+    put_line(alloc, &mut text, "profile", setup.profile.word())?;
+    put_store(alloc, &mut text, setup)?;
+    put_signals(alloc, &mut text, setup.signals.as_slice())?;
     put_maybe(alloc, &mut text, "status", &setup.status, "none")?;
     put_line(alloc, &mut text, "log", setup.log.word())?;
-    put_line(alloc, &mut text, "profile", "strict")?;
     put_maybe(alloc, &mut text, "stop_file", &setup.stop_file, "none")?;
     Ok(text)
 }
@@ -33,4 +37,41 @@ fn put_maybe(
         Some(value) => put_line(alloc, text, key, value.as_str()),
         None => put_line(alloc, text, key, other),
     }
+}
+
+// Who may connect, a line a net.
+fn put_nets(alloc: Global, text: &mut Octets, nets: &[IpNet]) -> Result<(), NoMemory> {
+    if nets.is_empty() {
+        return put_line(alloc, text, "allow", "everybody");
+    }
+    for net in nets {
+        let (address, bits) = (net.address, net.bits);
+        let line = format!(in alloc; "allow {address}/{bits}\n")?;
+        text.put(alloc, line.as_bytes())?;
+    }
+    Ok(())
+}
+
+// Where and how often is saved.
+fn put_store(alloc: Global, text: &mut Octets, setup: &Setup) -> Result<(), NoMemory> {
+    match &setup.store {
+        Some(name) => {
+            put_line(alloc, text, "store", name.as_str())?;
+            let seconds = setup.save_each;
+            let line = format!(in alloc; "save_each {seconds}\n")?;
+            text.put(alloc, line.as_bytes())
+        }
+        None => put_line(alloc, text, "store", "none"),
+    }
+}
+
+// The signals with their numbers, a line each.
+fn put_signals(alloc: Global, text: &mut Octets, signals: &[SignalTable]) -> Result<(), NoMemory> {
+    let mut number = 0u32;
+    for signal in signals {
+        let line = signal_text(alloc, number, signal)?;
+        text.put(alloc, line.as_slice())?;
+        number = number.saturating_add(1);
+    }
+    Ok(())
 }

@@ -1,19 +1,48 @@
 //! What a daemon is to do.
 
-use crate::LogForm;
+ghost use Rattle.std.specs.Prelude.{◌≡◌, ◌<◌, ◌≤◌, ◌*◌, length};
+
+use crate::{IpNet, LogForm, ProfileWord, SignalTable};
+use ads_base::ListOf;
 use cli_words::Text;
 
 /// What a daemon is to do.
-#[derive(Debug, Drop)]
+#[derive(Drop)]
 pub struct Setup {
     /// The file that describes the plant.
     pub description: Text,
-    /// The address to listen at.
+    /// The addresses to listen at, one to sixteen, with a comma and a blank between each two.
     pub listen: Text,
+    /// The file that keeps persistent symbols.
+    pub store: Option<Text>,
+    /// How many seconds lie between two looks at what is to be saved: 1 to 86,400.
+    pub save_each: u32,
+    /// Who may connect, at most 256 nets; everybody where there is none.
+    pub allow: ListOf<IpNet>,
+    /// Which server it is.
+    pub profile: ProfileWord,
+    /// The signals 0, 1, 2, .. of the description, one to 1,024.
+    pub signals: ListOf<SignalTable>,
     /// The status file.
     pub status: Option<Text>,
     /// How the log is written.
     pub log: LogForm,
     /// The file that ends the daemon once it is there.
     pub stop_file: Option<Text>,
+    ghost least: { 0 < save_each },
+    ghost most: { save_each ≤ 86400 },
+    ghost nets: { length allow ≤ 256 },
+    ghost some: { 0 < length signals },
+    ghost few: { length signals ≤ 1024 },
+}
+
+impl Setup {
+    /// How many ticks lie between two looks at what is to be saved: a hundred a second.
+    pub fn save_ticks(&self) -> u64
+        ensures ticks { result ≡ 100 * self.now.save_each }
+        ensures least { 100 ≤ result }
+        ensures most { result ≤ 8640000 }
+    {
+        100 * u64::from(self.save_each)
+    }
 }

@@ -396,6 +396,14 @@ failed_rose save.Failed counts Failed rose more = inr (rose refl)
 failed_rose save.Limit counts Failed rose more = inl more
 failed_rose save.Memory counts Failed rose more = inl more
 
+-- a last look that failed is counted
+pub failed_counted : (by : SaveEnd) (counts : SaveCounts) → Some by ≡ Some save.Failed → 0 < (counted by counts).failed
+failed_counted save.Failed counts is = omega arith
+failed_counted save.Same counts is = cc
+failed_counted save.Saved counts is = cc
+failed_counted save.Limit counts is = cc
+failed_counted save.Memory counts is = cc
+
 -- it rose before, or now
 pub rose_so_far : (old mid new failed : ℕ) → old ≤ mid → mid ≤ new → (0 < failed → Rose old mid) → (0 < failed) ⊎ Rose mid new → Rose old new
 rose_so_far old mid new failed first second before (inl more) = (let rose = before more in omega (arith, rose, second))

@@ -1,11 +1,12 @@
 //! The loop that serves on where a save fails.
 
-ghost use Rattle.std.specs.Prelude.{◌≡◌, ◌≤◌, ◌<◌, ◌+◌, ◌-◌, ◌^◌, ◌⊎◌, false, None};
+ghost use Rattle.std.specs.Prelude.{◌≡◌, ◌≤◌, ◌<◌, ◌+◌, ◌-◌, ◌^◌, ◌⊎◌, false, None, Some};
 ghost use Rattle.ads_outside.specs.Rose.{Rose};
 ghost use Rattle.ads_served.specs.Standing.{Standing};
 ghost use Rattle.persist_store.specs.Store.{IsReady};
 ghost use Rattle.serve_loop.specs.TurnTaken.{StandsOver};
 ghost use Rattle.serve_loop.specs.Wanting.{WasWanting};
+ghost use Rattle.keep_loop.specs.declared.save_end.SaveEnd.TheVariants as save;
 ghost use Rattle.keep_loop.specs.Saving.{StandsForSome};
 ghost use Rattle.keep_loop.specs.KeepingOn.{ServesAndKeeps};
 ghost use Rattle.keep_loop.specs.Looking.{AreFew, AfterLook, EndsByLook};
@@ -47,6 +48,7 @@ pub fn keep_on<T: Threads + Sync, W: Wire, M: Persistent, D: Disk, N: SaveNotes>
     ensures kept { W.kept wire.new ≡ W.kept wire.old }
     // Why it failed or ended.
     ensures failed { 0 < result.counts.failed → Rose (D.fault_count disk.old) (D.fault_count disk.new) }
+    ensures last_failed { result.last ≡ Some save.Failed → 0 < result.counts.failed }
     ensures later { D.fault_count disk.old ≤ D.fault_count disk.new }
     ensures wire_later { (W.state wire.old).faults ≤ (W.state wire.new).faults }
     ensures wanted { (W.state wire.old).wants ≤ (W.state wire.new).wants }
@@ -109,6 +111,7 @@ fn look_last<M: Persistent, D: Disk, N: SaveNotes>(
     ensures untold { D.contents disk.old ≡ None → D.contents disk.new ≡ None }
     ensures later { D.fault_count disk.old ≤ D.fault_count disk.new }
     ensures failed { 0 < result.counts.failed → (0 < counts.failed) ⊎ Rose (D.fault_count disk.old) (D.fault_count disk.new) }
+    ensures last_failed { result.last ≡ Some save.Failed → 0 < result.counts.failed }
 {
     let became = look(alloc, served, store, disk, name, notes);
     KeptOn {

@@ -1,6 +1,6 @@
 //! An open file of samples, and SQLite's log beside it.
 
-use crate::tables::last_number;
+use crate::tables::{last_number, settle_rows};
 use sqlite::{Connection, Error, ErrorCode, File, FileStore, Options};
 use std::fs;
 use std::hash::{BuildHasher, RandomState};
@@ -48,9 +48,20 @@ fn salt(rt: &HostRuntime) -> Result<u64, Error> {
     }
 }
 
-/// Writes the log back into the file and takes it away, so that the file has every row. Where that fails, the rows stand in
-/// both.
-pub fn close_base(rt: &HostRuntime, conn: Base, path: &str) -> Result<(), Error> {
+/// Ends the transaction that is open, and closes the file, whether the transaction could be kept or not.
+pub fn close_settled(rt: &HostRuntime, conn: Base, path: &str) -> Result<(), Error> {
+    let mut conn = conn;
+    let settled = settle_rows(&mut conn);
+    let closed = close_base(rt, conn, path);
+    match settled {
+        Ok(()) => closed,
+        Err(error) => Err(error),
+    }
+}
+
+// Writes the log back into the file and takes it away, so that the file has every row. Where that fails, the rows stand in
+// both.
+fn close_base(rt: &HostRuntime, conn: Base, path: &str) -> Result<(), Error> {
     match conn.close_files() {
         Ok(files) => {
             // The files are locked until they are dropped: a log that is taken away here is nobody's.

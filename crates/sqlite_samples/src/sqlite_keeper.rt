@@ -3,23 +3,28 @@
 ghost use Rattle.std.specs.Prelude.{◌≡◌, ◌≤◌, None};
 ghost use Rattle.ads_outside.specs.Rose.{Rose};
 
-use crate::base::{Base, close_base, open_base, write_back};
-use crate::tables::{put_row, total_of};
+use crate::base::{Base, close_settled, open_base, write_back};
+use crate::tables::{put_row, settle_rows, total_of};
 use sample_store::{Keeper, KeeperOpen, Kept, Row, Total, Totalled};
 use sqlite::{Error, ErrorCode};
 
 /// No file was opened.
 const UNOPENED: Error = Error::SqliteFailure(ErrorCode::CannotOpen);
 
-/// Samples in an SQLite file, in two tables. Each put is one transaction. It tells nothing of its rows, and counts each
-/// refused statement as a fault. Before the first total behind a put, and when it goes, SQLite's log is written back into
-/// the file and taken away.
+/// The most puts of one transaction.
+const MAX_GATHERED: u32 = 4_096;
+
+/// Samples in an SQLite file, in two tables. Puts are gathered in one transaction until they are settled, 4,096 at most. It
+/// tells nothing of its rows, and counts each refused statement as a fault. Before the first total behind a put, and when it
+/// goes, it settles them, and SQLite's log is written back into the file and taken away.
 pub struct SqliteKeeper {
     rt: HostRuntime,
     path: String,
     conn: Option<Base>,
     // Whether rows were written since the file was opened.
     is_written: bool,
+    // The puts of the transaction that is open.
+    gathered: u32,
     faults: u64,
 }
 
@@ -31,6 +36,7 @@ impl SqliteKeeper {
             path: String::new(rt.alloc()),
             conn: None,
             is_written: false,
+            gathered: 0,
             faults: 0,
         }
     }
@@ -46,14 +52,15 @@ impl SqliteKeeper {
         Ok(last)
     }
 
-    // The log is written back, and the file is closed.
+    // What was gathered is settled, the log is written back, and the file is closed.
     fn close(&mut self) -> Result<(), Error>
         ensures { self.new.faults ≡ self.old.faults }
     {
         self.is_written = false;
+        self.gathered = 0;
         match self.conn.take() {
             None => Ok(()),
-            Some(conn) => close_base(&self.rt, conn, self.path.as_str()),
+            Some(conn) => close_settled(&self.rt, conn, self.path.as_str()),
         }
     }
 
@@ -61,11 +68,24 @@ impl SqliteKeeper {
         ensures { self.new.faults ≡ self.old.faults }
     {
         self.is_written = true;
-        put_by(&mut self.conn, row)
+        put_by(&mut self.conn, row)?;
+        if self.gathered < MAX_GATHERED - 1 {
+            self.gathered += 1;
+            return Ok(());
+        }
+        self.settle_all()
+    }
+
+    // The transaction that is open is ended.
+    fn settle_all(&mut self) -> Result<(), Error>
+        ensures { self.new.faults ≡ self.old.faults }
+    {
+        self.gathered = 0;
+        settle_by(&mut self.conn)
     }
 
     // The log is written back, and the file goes on open.
-    fn settle(&mut self) -> Result<(), Error>
+    fn write_all(&mut self) -> Result<(), Error>
         ensures { self.new.faults ≡ self.old.faults }
     {
         self.is_written = false;
@@ -83,7 +103,8 @@ impl SqliteKeeper {
         ensures { self.new.faults ≡ self.old.faults }
     {
         if self.is_written {
-            self.settle()?;
+            self.settle_all()?;
+            self.write_all()?;
         }
         total_by(&mut self.conn, name)
     }
@@ -94,6 +115,14 @@ fn put_by(conn: &mut Option<Base>, row: &Row) -> Result<(), Error> {
     match conn {
         None => Err(UNOPENED),
         Some(conn) => put_row(conn, row),
+    }
+}
+
+// Before a file was opened there is nothing to settle.
+fn settle_by(conn: &mut Option<Base>) -> Result<(), Error> {
+    match conn {
+        None => Ok(()),
+        Some(conn) => settle_rows(conn),
     }
 }
 
@@ -113,11 +142,12 @@ impl Drop for SqliteKeeper {
             path,
             conn,
             is_written: _,
+            gathered: _,
             faults: _,
         } = self;
         if let Some(conn) = conn {
-            // Nobody is there to be told what fails here; the rows stand in the log then.
-            let _ = close_base(&rt, conn, path.as_str());
+            // Nobody is there to be told what fails here; the rows that were settled stand in the log then.
+            let _ = close_settled(&rt, conn, path.as_str());
         }
     }
 }
@@ -130,7 +160,7 @@ fn count(faults: &mut u64)
     *faults = faults.saturating_add(1);
 }
 
-// How a put ended, and one fault more where it failed.
+// How a put or a settling ended, and one fault more where it failed.
 fn kept(put: Result<(), Error>, faults: &mut u64) -> Kept
     ensures later { faults.old ≤ faults.new }
     ensures failed { result ≡ Kept.Failed → Rose faults.old faults.new }
@@ -175,6 +205,11 @@ impl Keeper for SqliteKeeper {
     fn put(&mut self, row: &Row) -> Kept {
         let put = self.put_in(row);
         kept(put, &mut self.faults)
+    }
+
+    fn settle(&mut self) -> Kept {
+        let settled = self.settle_all();
+        kept(settled, &mut self.faults)
     }
 
     fn total(&mut self, name: &[u8]) -> Totalled {

@@ -2,7 +2,7 @@
 //! is that of the bytes. Each call of the library stands in a function of its own, since each is dear to prove.
 
 use sqlite::types::ValueRef;
-use sqlite::{Alter, Connection, Constraint, Error, ErrorCode, Row, Transaction, params};
+use sqlite::{Alter, Connection, Constraint, Error, ErrorCode, Row, params};
 
 /// Makes both tables, or none.
 pub fn make_tables<S: Alter>(conn: &mut Connection<S>) -> Result<(), Error> {
@@ -26,14 +26,14 @@ pub fn rows_of<S: Alter>(
 
 /// Adds a sample, and tells whether its number is new.
 pub fn add_row<'a, S: Alter>(
-    change: &mut Transaction<'_, S>,
+    conn: &mut Connection<S>,
     number: &'a [u8],
     name: &'a [u8],
     time: &'a [u8],
     bytes: &'a [u8],
 ) -> Result<bool, Error> {
     let added = run(
-        change,
+        conn,
         "INSERT INTO sample (number, name, time, bytes) VALUES (?1, ?2, ?3, ?4)",
         params![number, name, time, bytes],
     );
@@ -41,7 +41,7 @@ pub fn add_row<'a, S: Alter>(
         Ok(_) => Ok(true),
         // A rule that someone gave the table is no number that is there.
         Err(error) => {
-            if is_taken(&error) && has_number(change, number)? {
+            if is_taken(&error) && has_number(conn, number)? {
                 Ok(false)
             } else {
                 Err(error)
@@ -60,17 +60,14 @@ fn is_taken(error: &Error) -> bool {
     )
 }
 
-fn has_number<'a, S: Alter>(
-    change: &mut Transaction<'_, S>,
-    number: &'a [u8],
-) -> Result<bool, Error> {
-    let found = change.query_all("SELECT 1 FROM sample WHERE number = ?1", params![number])?;
+fn has_number<'a, S: Alter>(conn: &mut Connection<S>, number: &'a [u8]) -> Result<bool, Error> {
+    let found = conn.query_all("SELECT 1 FROM sample WHERE number = ?1", params![number])?;
     Ok(!found.is_empty())
 }
 
 /// Counts a sample in the total of its name, which has the moment and the bytes of the greatest number.
 pub fn add_to_total<'a, S: Alter>(
-    change: &mut Transaction<'_, S>,
+    conn: &mut Connection<S>,
     number: &'a [u8],
     name: &'a [u8],
     time: &'a [u8],
@@ -78,7 +75,7 @@ pub fn add_to_total<'a, S: Alter>(
 ) -> Result<(), Error> {
     // Nearly every sample has a greater number than all before it, and its name a total: then one statement does it.
     let last = run(
-        change,
+        conn,
         "UPDATE total SET count = count + 1, last = ?2, time = ?3, bytes = ?4 WHERE name = ?1 AND last < ?2",
         params![name, number, time, bytes],
     )?;
@@ -86,7 +83,7 @@ pub fn add_to_total<'a, S: Alter>(
         return Ok(());
     }
     let earlier = run(
-        change,
+        conn,
         "UPDATE total SET count = count + 1 WHERE name = ?1",
         params![name],
     )?;
@@ -94,18 +91,59 @@ pub fn add_to_total<'a, S: Alter>(
         return Ok(());
     }
     run(
-        change,
+        conn,
         "INSERT INTO total (name, count, last, time, bytes) VALUES (?1, 1, ?2, ?3, ?4)",
         params![name, number, time, bytes],
     )?;
     Ok(())
 }
 
+/// Takes away a row whose total was refused, so that the transaction has neither. Where it has ended, so has the row.
+pub fn take_back<'a, S: Alter>(conn: &mut Connection<S>, number: &'a [u8]) {
+    if conn.is_autocommit() {
+        return;
+    }
+    let taken = run(
+        conn,
+        "DELETE FROM sample WHERE number = ?1",
+        params![number],
+    );
+    if taken.is_err() {
+        roll_back(conn);
+    }
+}
+
+/// Begins a transaction.
+pub fn begin<S: Alter>(conn: &mut Connection<S>) -> Result<(), Error> {
+    match run(conn, "BEGIN", &[]) {
+        Ok(_) => Ok(()),
+        Err(error) => Err(error),
+    }
+}
+
+/// Ends the transaction that is open; where it can't be kept, it is rolled back.
+pub fn commit<S: Alter>(conn: &mut Connection<S>) -> Result<(), Error> {
+    match run(conn, "COMMIT", &[]) {
+        Ok(_) => Ok(()),
+        Err(error) => {
+            roll_back(conn);
+            Err(error)
+        }
+    }
+}
+
+// Rolls back what is still open.
+fn roll_back<S: Alter>(conn: &mut Connection<S>) {
+    if !conn.is_autocommit() {
+        let _ = run(conn, "ROLLBACK", &[]);
+    }
+}
+
 // Runs a statement with these values, and tells how many rows it changed.
 fn run<S: Alter>(
-    change: &mut Transaction<'_, S>,
+    conn: &mut Connection<S>,
     text: &str,
     values: &[ValueRef<'_>],
 ) -> Result<usize, Error> {
-    change.execute(text, values)
+    conn.execute(text, values)
 }

@@ -1,10 +1,10 @@
 //! The two tables of a file of samples.
 
-use crate::statements::{add_row, add_to_total, make_tables, rows_of};
+use crate::statements::{add_row, add_to_total, begin, commit, make_tables, rows_of, take_back};
 use ads_base::Octets;
 use byteorder::{BigEndian, ByteOrder};
 use sample_store::{Row, Total};
-use sqlite::{Alter, Connection, Error, ErrorCode, Transaction, params};
+use sqlite::{Alter, Connection, Error, ErrorCode, params};
 
 /// What is there of the two tables.
 const TABLES: &str =
@@ -69,28 +69,38 @@ fn word_in(bytes: &Vec<u8>) -> Result<u64, Error> {
     Ok(BigEndian::read_u64(bytes.as_slice()))
 }
 
-/// Puts a row in both tables, in one transaction; nothing where its number is there. It fails where a transaction is open,
-/// which nobody leaves.
+/// Puts a row in both tables, or in none; nothing where its number is there. A transaction is begun where none is open, and
+/// stays open.
 pub fn put_row<S: Alter>(conn: &mut Connection<S>, row: &Row) -> Result<(), Error> {
-    if !conn.is_autocommit() {
-        return Err(Error::SqliteFailure(ErrorCode::TransactionState));
+    if conn.is_autocommit() {
+        begin(conn)?;
     }
-    let mut change = conn.transaction();
-    match put_in_both(&mut change, row) {
-        Ok(()) => change.commit(),
-        Err(error) => Err(error),
-    }
+    put_in_both(conn, row)
 }
 
-fn put_in_both<S: Alter>(change: &mut Transaction<'_, S>, row: &Row) -> Result<(), Error> {
+fn put_in_both<S: Alter>(conn: &mut Connection<S>, row: &Row) -> Result<(), Error> {
     let number = row.number.to_be_bytes();
     let time = row.time.to_be_bytes();
     let name = row.name.as_slice();
     let bytes = row.bytes.as_slice();
-    if add_row(change, &number, name, &time, bytes)? {
-        add_to_total(change, &number, name, &time, bytes)?;
+    if !add_row(conn, &number, name, &time, bytes)? {
+        return Ok(());
     }
-    Ok(())
+    match add_to_total(conn, &number, name, &time, bytes) {
+        Ok(()) => Ok(()),
+        Err(error) => {
+            take_back(conn, &number);
+            Err(error)
+        }
+    }
+}
+
+/// Ends the transaction that is open: its rows stay, or where this fails none of them does.
+pub fn settle_rows<S: Alter>(conn: &mut Connection<S>) -> Result<(), Error> {
+    if conn.is_autocommit() {
+        return Ok(());
+    }
+    commit(conn)
 }
 
 /// The total of a name, where a row has it.

@@ -1,0 +1,266 @@
+//! The plant of a setup is served over the real outside.
+
+use crate::kept_body::{first_body, net_in, standing_body};
+use crate::log_board::LogBoard;
+use crate::log_notes::LogNotes;
+use crate::plant_judge::PlantJudge;
+use crate::real_names::RealNames;
+use ads_base::{ListOf, NetId, NoMemory, Octets};
+use ads_edge::{AllowedNet, RealFiles, RealWire, given_doors};
+use ads_outside::{Files, Got, Sink};
+use cli_words::Text;
+use daemon_edge::{
+    LockFault, SignalStop, StatusFile, StderrOutlet, StoreLock, SystemdBeacon, moment_now,
+};
+use daemon_entries::{count_in, unfit_names};
+use daemon_log::{Chronicle, NoOutlet, Noticeboard};
+use daemon_outside::LogOutlet;
+use daemon_recordings::SqliteRecordings;
+use daemon_run::run_watched;
+use daemon_signals::{Played, SourceFault, Trouble, read_sources};
+use daemon_words::{IpNet, LogForm, ProfileWord, Setup};
+use local_router::Routed;
+use port_device::Profile;
+use real_disk::RealDisk;
+use run_tasks::{Status, end_without_memory, print_and_end};
+use signals::Signal;
+use std::thread::Threads;
+use watched_wire::Watched;
+
+/// The log of a daemon over real sockets.
+type RealLog<L> = Chronicle<RealNames, PlantJudge, L, SystemdBeacon, StatusFile<HostRuntime>>;
+
+/// Serves the plant of a setup until it is stopped. A store that another daemon keeps, and a signal that can't be made, end it
+/// with a sentence on standard error before anything is opened.
+pub(crate) fn serve_setup<T: Threads + Sync, S: Sink, E: Sink>(
+    rt: &HostRuntime,
+    threads: &T,
+    setup: &Setup,
+    files: &mut RealFiles<HostRuntime>,
+    out: &mut S,
+    err: &mut E,
+) -> Status {
+    match &setup.store {
+        None => serve_locked(rt, threads, setup, files, out, err),
+        Some(store) => match StoreLock::take(rt.alloc(), rt, store.as_str()) {
+            Err(NoMemory) => end_without_memory(err),
+            Ok(Err(fault)) => tell_lock(rt, &fault, store, err),
+            Ok(Ok(_lock)) => serve_locked(rt, threads, setup, files, out, err),
+        },
+    }
+}
+
+// Why the store is not had is told.
+fn tell_lock<E: Sink>(rt: &HostRuntime, fault: &LockFault, store: &Text, err: &mut E) -> Status {
+    match fault.sentence(rt.alloc(), store.as_str()) {
+        Ok(text) => print_and_end(err, text.as_slice(), Status::StoreFault),
+        Err(NoMemory) => end_without_memory(err),
+    }
+}
+
+// The same, where no other daemon keeps the store.
+fn serve_locked<T: Threads + Sync, S: Sink, E: Sink>(
+    rt: &HostRuntime,
+    threads: &T,
+    setup: &Setup,
+    files: &mut RealFiles<HostRuntime>,
+    out: &mut S,
+    err: &mut E,
+) -> Status {
+    let mut recordings = SqliteRecordings::new(*rt);
+    match read_sources(rt.alloc(), setup.signals.as_slice(), files, &mut recordings) {
+        Err(fault) => tell_source(rt, &fault, err),
+        Ok(list) => match serve_by_log(rt, threads, setup, list, files, out) {
+            Ok(status) => status,
+            Err(NoMemory) => end_without_memory(out),
+        },
+    }
+}
+
+// Why a signal is not had is told.
+fn tell_source<E: Sink>(rt: &HostRuntime, fault: &SourceFault, err: &mut E) -> Status {
+    match fault.sentence(rt.alloc()) {
+        Ok(text) => print_and_end(err, text.as_slice(), status_of_trouble(fault.trouble)),
+        Err(NoMemory) => end_without_memory(err),
+    }
+}
+
+fn status_of_trouble(trouble: Trouble) -> Status {
+    match trouble {
+        Trouble::Memory => Status::Memory,
+        Trouble::Unreadable | Trouble::NoRecording => Status::ReadFault,
+        Trouble::TooLong => Status::TooLong,
+        Trouble::Line(_) | Trouble::Empty | Trouble::NoName | Trouble::Size | Trouble::TooMany =>
+            Status::Usage,
+    }
+}
+
+// Serves with the log that the setup asks for.
+fn serve_by_log<T: Threads + Sync, S: Sink>(
+    rt: &HostRuntime,
+    threads: &T,
+    setup: &Setup,
+    list: ListOf<Played>,
+    files: &mut RealFiles<HostRuntime>,
+    out: &mut S,
+) -> Result<Status, NoMemory> {
+    match setup.log {
+        LogForm::Journal => serve_logged(rt, threads, setup, list, files, out, false, StderrOutlet),
+        LogForm::Plain => serve_logged(rt, threads, setup, list, files, out, true, StderrOutlet),
+        LogForm::Nothing => serve_logged(rt, threads, setup, list, files, out, true, NoOutlet),
+    }
+}
+
+fn serve_logged<T: Threads + Sync, S: Sink, L: LogOutlet + Drop>(
+    rt: &HostRuntime,
+    threads: &T,
+    setup: &Setup,
+    list: ListOf<Played>,
+    files: &mut RealFiles<HostRuntime>,
+    out: &mut S,
+    dated: bool,
+    outlet: L,
+) -> Result<Status, NoMemory> {
+    let mut stop = SignalStop::new(rt.alloc(), *rt, copy_of_name(rt, &setup.stop_file)?)?;
+    let board = Noticeboard::new(rt.alloc())?;
+    let mut log = log_of(rt, setup, &board, dated, outlet)?;
+    if !stop.is_terminate_blocked() {
+        log.warn("stop: SIGTERM is not blocked, it ends the process at once");
+    }
+    tell_store(rt, setup, files, &mut log)?;
+    let nets = nets_of(rt, setup.allow.as_slice())?;
+    let doors = RealWire::with_doors(rt.alloc(), *rt, "adsd", given_doors(rt), nets)?;
+    let wire = Routed::new(rt.alloc(), doors, router_net(rt, setup, files)?);
+    let mut watched = Watched::new(wire, stop, log);
+    let posts = LogBoard {
+        board: board.handle()?,
+    };
+    let mut notes = LogNotes {
+        rt: *rt,
+        board: board.handle()?,
+    };
+    let mut disk = RealDisk::new(*rt);
+    let mut signals: Vec<Box<dyn Signal>> = Vec::new(rt.alloc());
+    for played in list.into_vec() {
+        signals.push(Box::new(rt.alloc(), played)?)?;
+    }
+    if signals.len() > 1_024 {
+        return Err(NoMemory);
+    }
+    let status = run_watched(
+        threads,
+        rt.alloc(),
+        profile_of(setup.profile),
+        &setup.description,
+        &setup.listen,
+        &setup.store,
+        setup.save_ticks(),
+        files,
+        &mut watched,
+        out,
+        &mut disk,
+        posts,
+        &mut notes,
+        signals,
+    );
+    if let Status::BadDescription { number, item } = &status {
+        watched.onlooker.refused(*number, *item);
+    }
+    watched.onlooker.finish();
+    Ok(status)
+}
+
+// The log, with the body that stands in the store.
+fn log_of<L: LogOutlet + Drop>(
+    rt: &HostRuntime,
+    setup: &Setup,
+    board: &Noticeboard,
+    dated: bool,
+    outlet: L,
+) -> Result<RealLog<L>, NoMemory> {
+    let judge = PlantJudge {
+        rt: *rt,
+        signals: setup.signals.len() as u32,
+        store: copy_of_name(rt, &setup.store)?,
+        body: body_at_start(rt, &setup.store)?,
+    };
+    Ok(Chronicle::new(
+        rt.alloc(),
+        moment_now(rt),
+        dated,
+        RealNames,
+        judge,
+        board.handle()?,
+        outlet,
+        SystemdBeacon::new(rt),
+        StatusFile::new(rt.alloc(), *rt, &setup.status)?,
+    ))
+}
+
+fn body_at_start(rt: &HostRuntime, store: &Option<Text>) -> Result<Octets, NoMemory> {
+    match store {
+        Some(store) => standing_body(rt, store.as_str()),
+        None => Ok(Octets::new(rt.alloc())),
+    }
+}
+
+// What stands in the store is told, and what of it fits nothing of the description.
+fn tell_store<L: LogOutlet + Drop>(
+    rt: &HostRuntime,
+    setup: &Setup,
+    files: &mut RealFiles<HostRuntime>,
+    log: &mut RealLog<L>,
+) -> Result<(), NoMemory> {
+    let Some(store) = &setup.store else {
+        return Ok(());
+    };
+    let body = standing_body(rt, store.as_str())?;
+    log.store_opened(store.as_str(), count_in(body.as_slice()), body.len() as u64);
+    let Got::Bytes(text) = files.read(setup.description.as_str()) else {
+        return Ok(());
+    };
+    if let Some(served) = first_body(rt.alloc(), text.as_slice(), setup.signals.len() as u32)? {
+        let names = unfit_names(rt.alloc(), body.as_slice(), served.as_slice())?;
+        log.unfit(names.as_slice());
+    }
+    Ok(())
+}
+
+// The NetId as which the wire answers like a router: that of the description, in the wide profile.
+fn router_net(
+    rt: &HostRuntime,
+    setup: &Setup,
+    files: &mut RealFiles<HostRuntime>,
+) -> Result<Option<NetId>, NoMemory> {
+    match (setup.profile, files.read(setup.description.as_str())) {
+        (ProfileWord::Wide, Got::Bytes(text)) => {
+            net_in(rt.alloc(), text.as_slice(), setup.signals.len() as u32)
+        }
+        _ => Ok(None),
+    }
+}
+
+fn nets_of(rt: &HostRuntime, nets: &[IpNet]) -> Result<Vec<AllowedNet>, NoMemory> {
+    let mut allowed = Vec::new(rt.alloc());
+    for net in nets {
+        allowed.push(AllowedNet {
+            address: net.address,
+            bits: net.bits,
+        })?;
+    }
+    Ok(allowed)
+}
+
+fn profile_of(word: ProfileWord) -> Profile {
+    match word {
+        ProfileWord::Wide => Profile::Wide,
+        ProfileWord::Strict => Profile::Strict,
+    }
+}
+
+fn copy_of_name(rt: &HostRuntime, name: &Option<Text>) -> Result<Option<Text>, NoMemory> {
+    match name {
+        Some(name) => Ok(Some(Text::copy_of(rt.alloc(), name.as_str())?)),
+        None => Ok(None),
+    }
+}

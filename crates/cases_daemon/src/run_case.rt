@@ -1,0 +1,242 @@
+//! A run of the daemon over files, a wire, a sink, a disk and a log in memory.
+
+ghost use Rattle.std.specs.Prelude.{[], IsTrue};
+ghost use Rattle.ads_outside.specs.Opened.{are_new};
+
+use crate::case_board::CaseBoard;
+use crate::case_judge::CaseJudge;
+use crate::case_notes::CaseNotes;
+use ads_base::{ListOf, NoMemory, Octets};
+use ads_outside::{Cuts, Files, MemFiles, MemSink, MemWire, Sink, Wire};
+use daemon_log::{Chronicle, Noticeboard};
+use daemon_outside::{MemBeacon, MemOutlet, MemStop, NoNames};
+use daemon_run::{Prepared, prepare, run_watched};
+use daemon_signals::{NoRecordings, Played, read_sources};
+use daemon_words::{ProfileWord, Setup};
+use persist_store::{Disk, MemDisk};
+use port_device::Profile;
+use run_sheets::{Came, Fault, Given, Runs, StoreCase, WireCase, log_text, open_new};
+use run_tasks::{Status, print_and_end};
+use signals::Signal;
+use std::alloc::Global;
+use std::thread::Threads;
+use watched_wire::Watched;
+
+/// The program `adsd`.
+#[derive(Clone, Copy, Debug)]
+pub struct Adsd;
+
+impl Runs for Adsd {
+    fn run_case<T: Threads + Sync>(
+        &self,
+        threads: &T,
+        alloc: Global,
+        given: Given,
+    ) -> Result<Came, Fault> {
+        run_case(threads, alloc, given)
+    }
+}
+
+/// The wire of a case, with what looks on.
+type CaseWire = Watched<MemWire, MemStop, CaseLog>;
+
+/// The log of a case.
+type CaseLog = Chronicle<NoNames, CaseJudge, MemOutlet, MemBeacon, MemBeacon>;
+
+// Runs the words that are given over the files, the wire and the store.
+fn run_case<T: Threads + Sync>(threads: &T, alloc: Global, given: Given) -> Result<Came, Fault> {
+    if !open_new(alloc, given.wire.events.as_slice())? {
+        return Err(Fault::Off("two connections have one number"));
+    }
+    run_given(threads, alloc, given)
+}
+
+// The same, where no two connections have one number.
+fn run_given<T: Threads + Sync>(threads: &T, alloc: Global, given: Given) -> Result<Came, Fault>
+    requires { IsTrue (are_new given.wire.events []) }
+{
+    let Given {
+        words,
+        unreadable: _unreadable,
+        files,
+        failing_reads,
+        failing_puts,
+        parts,
+        has_signals: _has_signals,
+        told: _told,
+        wire,
+        link: _link,
+        stores,
+    } = given;
+    let WireCase {
+        events,
+        failing_calls,
+        cuts,
+        log: _log,
+    } = wire;
+    let StoreCase {
+        file,
+        failing_disk,
+        stop,
+        left: _left,
+        failing_keeper: _failing_keeper,
+        rows: _rows,
+    } = stores;
+    let mut files = MemFiles::new(alloc, files, failing_reads);
+    let wire = MemWire::new(alloc, events, failing_calls, cuts);
+    let mut sink = MemSink::with_parts(alloc, failing_puts, parts);
+    let mut disk = MemDisk::new(alloc, file, failing_disk, stop);
+    let came = run_words(
+        threads,
+        alloc,
+        words.as_slice(),
+        &mut files,
+        wire,
+        &mut sink,
+        &mut disk,
+    );
+    came_of(alloc, came, sink.bytes(), disk.file())
+}
+
+/// How a run ended, what was told on standard error, and the log of its wire.
+#[derive(Drop)]
+struct Ended {
+    status: Status,
+    told: Octets,
+    log: Octets,
+}
+
+fn came_of(
+    alloc: Global,
+    ended: Result<Ended, Fault>,
+    out: &[u8],
+    left: Octets,
+) -> Result<Came, Fault> {
+    let Ended { status, told, log } = ended?;
+    let out = Octets::copy_of(alloc, out)?;
+    Ok(Came {
+        status: status.number(),
+        out,
+        told,
+        log,
+        talk: Octets::new(alloc),
+        left,
+        rows: Octets::new(alloc),
+    })
+}
+
+// The words are read, and what they ask for is done.
+fn run_words<T: Threads + Sync, F: Files, S: Sink, D: Disk>(
+    threads: &T,
+    alloc: Global,
+    words: &[String],
+    files: &mut F,
+    wire: MemWire,
+    out: &mut S,
+    disk: &mut D,
+) -> Result<Ended, Fault> {
+    let mut err = MemSink::new(alloc, ads_base::Calls::new(alloc));
+    match prepare(alloc, words, files, out, &mut err) {
+        Prepared::Ended(status) => Ok(Ended {
+            status,
+            told: Octets::copy_of(alloc, err.bytes())?,
+            log: log_text(alloc, wire.log().as_slice())?,
+        }),
+        Prepared::Ready(setup) => {
+            let mut recordings = NoRecordings;
+            match read_sources(alloc, setup.signals.as_slice(), files, &mut recordings) {
+                Err(fault) => {
+                    let text = fault.sentence(alloc)?;
+                    let status = print_and_end(&mut err, text.as_slice(), Status::Usage);
+                    Ok(Ended {
+                        status,
+                        told: Octets::copy_of(alloc, err.bytes())?,
+                        log: log_text(alloc, wire.log().as_slice())?,
+                    })
+                }
+                Ok(list) => serve(threads, alloc, &setup, list, files, wire, out, disk),
+            }
+        }
+    }
+}
+
+// The plant of a setup is served.
+fn serve<T: Threads + Sync, F: Files, S: Sink, D: Disk>(
+    threads: &T,
+    alloc: Global,
+    setup: &Setup,
+    list: ListOf<Played>,
+    files: &mut F,
+    wire: MemWire,
+    out: &mut S,
+    disk: &mut D,
+) -> Result<Ended, Fault> {
+    let board = Noticeboard::new(alloc)?;
+    let mut watched: CaseWire = Watched::new(
+        wire,
+        MemStop::new(u64::MAX),
+        log_of(alloc, setup, &board)?,
+    );
+    let posts = CaseBoard {
+        board: board.handle()?,
+    };
+    let mut notes = CaseNotes {
+        board: board.handle()?,
+    };
+    let mut signals: Vec<Box<dyn Signal>> = Vec::new(alloc);
+    for played in list.into_vec() {
+        signals.push(Box::new(alloc, played)?)?;
+    }
+    if signals.len() > 1_024 {
+        return Err(Fault::Off("more than 1,024 signals"));
+    }
+    let status = run_watched(
+        threads,
+        alloc,
+        profile_of(setup.profile),
+        &setup.description,
+        &setup.listen,
+        &setup.store,
+        setup.save_ticks(),
+        files,
+        &mut watched,
+        out,
+        disk,
+        posts,
+        &mut notes,
+        signals,
+    );
+    if let Status::BadDescription { number, item } = &status {
+        watched.onlooker.refused(*number, *item);
+    }
+    watched.onlooker.finish();
+    Ok(Ended {
+        status,
+        told: Octets::copy_of(alloc, watched.onlooker.outlet().bytes())?,
+        log: log_text(alloc, watched.wire.log().as_slice())?,
+    })
+}
+
+fn log_of(alloc: Global, setup: &Setup, board: &Noticeboard) -> Result<CaseLog, NoMemory> {
+    let judge = CaseJudge {
+        signals: setup.signals.len() as u32,
+    };
+    Ok(Chronicle::new(
+        alloc,
+        0,
+        false,
+        NoNames,
+        judge,
+        board.handle()?,
+        MemOutlet::new(alloc, Cuts::new(alloc)),
+        MemBeacon::new(alloc),
+        MemBeacon::new(alloc),
+    ))
+}
+
+fn profile_of(word: ProfileWord) -> Profile {
+    match word {
+        ProfileWord::Wide => Profile::Wide,
+        ProfileWord::Strict => Profile::Strict,
+    }
+}

@@ -1,0 +1,6 @@
+-- the entries that are left become fewer
+use Rattle.std.proofs.Common.{length}
+use Rattle.daemon_entries.proofs.unfit.count_left.Given as goal
+
+abbrev pub decreases-loop-_entry : goal.decreases-loop-_entry
+decreases-loop-_entry l = length l.left

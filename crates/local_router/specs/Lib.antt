@@ -1,0 +1,5 @@
+pub mod Asks
+pub mod Fronts
+pub mod Heard
+pub mod Routes
+pub mod Seen
