@@ -22,7 +22,7 @@ mod texts;
 
 pub use counts::Counts;
 pub use laws::{a_script_has_one_log, scripts_open_new_numbers};
-pub use log_lines::{log_text, wire_text};
+pub use log_lines::log_text;
 pub use playing::play;
 pub use reader::read_script;
 pub use script::Script;

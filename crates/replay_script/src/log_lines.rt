@@ -3,7 +3,6 @@
 ghost use Rattle.std.specs.Prelude.{◌≡◌, ◌++◌, OnOk, OnErr};
 ghost use Rattle.spec_machine.specs.LogText as text;
 
-use crate::ScriptWire;
 use crate::texts::{put_counted, put_hex};
 use ads_base::{NoMemory, Octets};
 use ads_outside::{Event, Log, Move, ReloadNote, ReloadNotes};
@@ -20,36 +19,9 @@ pub fn log_text(
     ensures ok { OnOk result (out.new ≡ out.old ++ text.log_text_of notes.now log.now) }
     ensures no_memory { OnErr result (out.new ≡ out.old) }
 {
-    moves_text(alloc, log.as_slice(), notes, out)
-}
-
-/// Appends the lines of the log of a script's wire, as it stands: `log_text` of what `into_log` would give, and the wire goes
-/// on.
-pub fn wire_text(
-    alloc: Global,
-    wire: &ScriptWire,
-    notes: &ReloadNotes,
-    out: &mut Octets,
-) -> Result<(), NoMemory>
-    ensures ok { OnOk result (out.new ≡ out.old ++ text.log_text_of notes.now wire.now.log) }
-    ensures no_memory { OnErr result (out.new ≡ out.old) }
-{
-    moves_text(alloc, wire.moves(), notes, out)
-}
-
-// The lines of moves.
-fn moves_text(
-    alloc: Global,
-    log: &[Move],
-    notes: &ReloadNotes,
-    out: &mut Octets,
-) -> Result<(), NoMemory>
-    ensures ok { OnOk result (out.new ≡ out.old ++ text.log_text_of notes.now log.now) }
-    ensures no_memory { OnErr result (out.new ≡ out.old) }
-{
     let mut lines = Octets::new(alloc);
     let mut left = notes.as_slice();
-    for entry in log {
+    for entry in log.as_slice() {
         put_move(alloc, &mut lines, left, entry)?;
         left = notes_after(left, entry);
     }

@@ -82,13 +82,6 @@ impl ScriptWire {
         }
     }
 
-    /// What happened so far, in order.
-    pub fn moves(&self) -> &[Move]
-        ensures { result.now ≡ self.now.log }
-    {
-        self.log.as_slice()
-    }
-
     /// What happened, in order.
     pub fn into_log(self) -> Log
         ensures log { result ≡ self.log }
