@@ -68,7 +68,8 @@ returns-in-None-clause-ends g c =
     let x = description_of read.description in
     let plant = plant_of name listen read.bytes x in
     let Still : Type 0 = (wire_new ≡ wire) × (d ≡ d) in
-    let found : IsRead (length waves) name (g.F.Files.state c.args.files.now).held read = rw (c.in-Ok-Ok.field-0-is, c.count.ensures) at c.in-Ok-Ok.ensures.found in
+    let found : IsRead (length waves) name (g.F.Files.state c.args.files.now).held read =
+    rw (c.in-Ok-Ok.field-0-is, c.count.ensures) at c.in-Ok-Ok.ensures.found in
     ends_read (serves_plant h) (λ y. EndsPlant h y s out out_new disk wire wire_new) Still (g.F.Files.state c.args.files.now).held (length waves)
     (λ bytes y. serves_plant h (plant_of name listen bytes y)) name read.bytes x
     (Rose (g.F.Files.state c.args.files.now).faults (g.F.Files.state c.read_description.new.files).faults) s out out_new found.has found.is
@@ -94,7 +95,8 @@ returns-in-Some-clause-ends g c =
     let x = description_of read.description in
     let plant = plant_of name listen read.bytes x in
     let Still : Type 0 = (wire_new ≡ wire) × (e ≡ d) in
-    let found : IsRead (length waves) name (g.F.Files.state c.args.files.now).held read = rw (c.in-Ok-Ok.field-0-is, c.count.ensures) at c.in-Ok-Ok.ensures.found in
+    let found : IsRead (length waves) name (g.F.Files.state c.args.files.now).held read =
+    rw (c.in-Ok-Ok.field-0-is, c.count.ensures) at c.in-Ok-Ok.ensures.found in
     ends_read (serves_plant h) (λ y. EndsPlant h y s out out_new disk wire wire_new) Still (g.F.Files.state c.args.files.now).held (length waves)
     (λ bytes y. serves_plant h (plant_of name listen bytes y)) name read.bytes x
     (Rose (g.F.Files.state c.args.files.now).faults (g.F.Files.state c.read_description.new.files).faults) s out out_new found.has found.is
