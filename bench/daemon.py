@@ -83,9 +83,10 @@ class Daemon:
     """A run of the program in a folder of its own."""
 
     def __init__(self, stack, program, words=(), blocked=True, stderr=subprocess.PIPE, env=None, listens=True, folder=None, listen=None, port=None,
-                 bare=False, full=False, before=None, pass_fds=()):
+                 bare=False, full=False, before=None, pass_fds=(), change=None):
         self.folder = folder or stack.enter_context(tempfile.TemporaryDirectory())
-        shutil.copy(PLANT, os.path.join(self.folder, "plant.toml"))
+        text = pathlib.Path(PLANT).read_text()
+        pathlib.Path(self.folder, "plant.toml").write_text(text.replace(*change) if change else text)
         self.port = port or free_port()
         listen = [word for it in (listen or [f"127.0.0.1:{self.port}"]) for word in ("--listen", it)]
         words = [program, *words] if bare else [program, "plant.toml", *listen, *words]
@@ -238,8 +239,9 @@ def stop_file(program):
 
 
 LOG_LINES = (
-    "<6>listening at 127.0.0.1:", "<6>opened 1", "<6>speaks 1 as 192.168.0.9.1.1, port 32905", "<6>closed 1 by its peer after 0 s, 50 bytes in, 50 out",
-    "<4>no route for 2", "<5>shut 2 by the server", "<6>speaks 3 no ADS", "<5>shut 3 by the server",
+    "<6>listening at 127.0.0.1:", "<6>opened 1 from 127.0.0.1:", "<6>speaks 1 as 192.168.0.9.1.1, port 32905", "<6>closed 1 from 127.0.0.1:",
+    '<4>no route for 2: to let it in, add three lines to the description: [[route]] and net = "10.0.0.7.1.1" and rights = "read"',
+    "<5>shut 2 from 127.0.0.1:", "<6>speaks 3 no ADS", "<5>shut 3 from 127.0.0.1:",
     "<4>reload refused: rule 12 item 1: a symbol lies within its area", "<6>reload accepted: version 2",
     "<4>reload refused: it is no TOML document", "<6>stopping: SIGTERM",
 )
@@ -386,7 +388,7 @@ def status_file(program, seconds=25):
                 texts.add(text)
                 lines = text.splitlines()
                 expect(text.endswith("\n") and lines[-1].startswith("adsd_log_lines_lost_total "), f"a part of it was read: {text!r}")
-                expect(all(re.fullmatch(r"# TYPE \w+ (counter|gauge)|\w+ \d+", line) for line in lines), f"no text of Prometheus: {text!r}")
+                expect(all(re.fullmatch(r"# TYPE \w+ (counter|gauge)|\w+(\{outcome=\"\w+\"\})? \d+(\.\d+)?", line) for line in lines), f"no text of Prometheus: {text!r}")
             time.sleep(0.002)
         expect(len(texts) > 1, "it was never replaced")
         in_order(*it.stopped(signal.SIGTERM)[::2][:2])
@@ -398,27 +400,24 @@ WRONG = [
     (["a", "b"], 1, "adsd: one file only, but b is a second one"),
     (["plant.toml", "--lisen", "x"], 1, "adsd: --lisen is no option"),
     (["plant.toml", "--save-each"], 1, "adsd: a value is missing: save_each takes a number of seconds from 1 to 86400"),
-    (["plant.toml", "--save-each", "10"], 1, "adsd: this program keeps no symbols: leave out save_each"),
-    (["plant.toml", "--save-each", "0"], 1, "adsd: save_each takes a number of seconds from 1 to 86400"),
-    (["plant.toml", "--save-each", "86401"], 1, "adsd: save_each takes a number of seconds from 1 to 86400"),
+    (["plant.toml", "--save-each", "10"], 1, "adsd: save_each needs store"),
+    (["plant.toml", "--store", "kept", "--save-each", "0"], 1, "adsd: save_each takes a number of seconds from 1 to 86400"),
+    (["plant.toml", "--store", "kept", "--save-each", "86401"], 1, "adsd: save_each takes a number of seconds from 1 to 86400"),
     (["plant.toml", "--listen", "nowhere"], 1, "adsd: listen takes an address"),
     (["plant.toml", "--listen", "127.0.0.1:0"], 1, "adsd: listen takes an address"),
+    (["plant.toml", *["--listen", "127.0.0.1:48898"] * 17], 1, "adsd: listen is given more than 16 times"),
     (["plant.toml", "--allow", "10.0.0.0/33"], 1, "adsd: allow takes a net"),
+    (["plant.toml", "--allow", "::ffff:10.0.0.1"], 1, "adsd: allow takes a net"),
     (["plant.toml", "--log", "loud"], 1, "adsd: log takes journal, plain or none"),
     (["plant.toml", "--log", "none", "--log", "plain"], 1, "adsd: log is set twice"),
     (["missing.toml"], 4, "adsd: missing.toml cannot be read"),
-    (["plant.toml", "--store", "kept"], 1, "adsd: this program keeps no symbols: leave out store"),
-    (["plant.toml", "--allow", "10.0.0.0/8"], 1, "adsd: this program has no allow list"),
-    (["plant.toml", "--profile", "wide"], 1, "adsd: this program serves the strict profile alone"),
-    (["plant.toml", "--profile=loud"], 1, "adsd: profile takes strict"),
-    (["plant.toml", "--listen", "127.0.0.1:48898", "--listen", "[::1]:48898"], 1, "adsd: this program listens at one address alone"),
-    (["several.toml"], 1, "adsd: this program listens at one address alone"),
-    (["check", "several.toml"], 1, "adsd: this program listens at one address alone"),
-    (["check", "kept.toml"], 1, "adsd: this program keeps no symbols: leave out store"),
-    (["check", "wide.toml"], 1, "adsd: this program serves the strict profile alone"),
+    (["plant.toml", "--profile=loud"], 1, "adsd: profile takes wide or strict"),
     (["check", "plant.toml"], 1, "adsd: this is no configuration"),
     (["check", "unknown.toml"], 1, "adsd: the configuration has no key lisen"),
     (["check", "kind.toml"], 1, "adsd: save_each takes a number of seconds from 1 to 86400"),
+    (["check", "signal.toml"], 1, "adsd: [[signal]] 1, counted from 0, takes ramp"),
+    (["numbers.toml"], 1, "adsd: [[signal]] 0: line 2 of its file is no number"),
+    (["recording.toml"], 4, "adsd: [[signal]] 0: "),
 ]
 
 
@@ -429,9 +428,10 @@ def wrong_words(program):
         folder = stack.enter_context(tempfile.TemporaryDirectory())
         shutil.copy(PLANT, os.path.join(folder, "plant.toml"))
         pathlib.Path(folder, "unknown.toml").write_text('description = "plant.toml"\nlisen = "x"\n')
-        pathlib.Path(folder, "several.toml").write_text('description = "plant.toml"\nlisten = ["127.0.0.1:48898", "[::1]:48898"]\n')
-        pathlib.Path(folder, "kept.toml").write_text('description = "plant.toml"\nstore = "kept"\n')
-        pathlib.Path(folder, "wide.toml").write_text('description = "plant.toml"\nprofile = "wide"\n')
+        pathlib.Path(folder, "signal.toml").write_text('description = "plant.toml"\n[[signal]]\nvalues = [1]\n[[signal]]\nramps = 3\n')
+        pathlib.Path(folder, "numbers.toml").write_text('description = "plant.toml"\n[[signal]]\nfile = "numbers.txt"\n')
+        pathlib.Path(folder, "numbers.txt").write_text("1\n2x\n")
+        pathlib.Path(folder, "recording.toml").write_text('description = "plant.toml"\n[[signal]]\nrecording = "none.db"\nname = "Main.count"\n')
         pathlib.Path(folder, "kind.toml").write_text('description = "plant.toml"\nsave_each = "10"\n')
         for words, status, sentence in WRONG:
             it = subprocess.run([program, *words], cwd=folder, capture_output=True, timeout=20)
@@ -442,6 +442,7 @@ def wrong_words(program):
 
 
 def main():
+    import daemon_store  # noqa: F401  (it registers its tries)
     if len(sys.argv) < 2 or sys.argv[1].startswith("-") or not os.access(sys.argv[1], os.X_OK) or set(sys.argv[2:]) - TRIES.keys():
         sys.exit(__doc__ + "\nThe tries: " + ", ".join(TRIES))
     program, failed = os.path.abspath(sys.argv[1]), 0
@@ -457,4 +458,7 @@ def main():
 
 
 if __name__ == "__main__":
-    sys.exit(main())
+    # As a module, so that the tries of daemon_store stand in the same table.
+    sys.dont_write_bytecode = True
+    import daemon
+    sys.exit(daemon.main())
