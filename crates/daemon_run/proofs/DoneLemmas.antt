@@ -1,5 +1,5 @@
 -- A service that is done ended with its wire.
-use Rattle.std.proofs.Common.{◌≡◌, ◌<◌, ℕ, List, Option, Some, None, inl, inr, subst, ap, sym, ◌∙◌, refl, length, arith}
+use Rattle.std.proofs.Common.{◌≡◌, ◌<◌, ℕ, List, Option, Some, None, inl, inr, ap, sym, ◌∙◌, length, arith}
 use Rattle.signals.specs.Wave.{Wave}
 use Rattle.ads_outside.specs.declared.end.End.{End}
 use Rattle.ads_outside.specs.declared.end.End.TheVariants as end
@@ -15,11 +15,10 @@ use Rattle.spec_rules.specs.TextVerdict.{text_verdict}
 use Rattle.run_tasks.specs.declared.status.Status.{Status}
 use Rattle.run_tasks.specs.declared.status.Status.TheVariants as status
 use Rattle.run_tasks.specs.Ending.{Ending, line_alone}
-use Rattle.run_tasks.specs.EndsOr.{EndsOr, EndsOrBy, IsPrinted}
 use Rattle.run_tasks.specs.Prints.{PrintsEnding}
 use Rattle.run_tasks.specs.Readings.{OverFile}
-use Rattle.run_tasks.specs.Service.{Service, ServedMachine, server_with, ending_after}
-use Rattle.run_tasks.specs.Verdict.{Verdict, Ends, Serves, ended, verdict_of_file, verdict_of_serve}
+use Rattle.run_tasks.specs.Service.{Service, server_with, ending_after}
+use Rattle.run_tasks.specs.Verdict.{Verdict, Ends, Serves, ended, verdict_of_serve}
 use Rattle.run_tasks.proofs.VerdictLemmas.{of_file, of_accepted}
 use Rattle.file_run.specs.Serving.{MakesMoves, PrintsAt, EndsService}
 use Rattle.file_run.specs.ServiceEnds.{ServesBy}
