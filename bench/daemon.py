@@ -458,4 +458,7 @@ def main():
 
 
 if __name__ == "__main__":
-    sys.exit(main())
+    # As a module, so that the tries of daemon_store stand in the same table.
+    sys.dont_write_bytecode = True
+    import daemon
+    sys.exit(daemon.main())

@@ -69,21 +69,21 @@ def keeps_over_a_restart(program):
 
 
 @tried
-def keeps_over_kills(program, times=int(os.environ.get("KILLS", "15"))):
-    """Killed at a random moment, again and again: the value that comes back was written, and is no older than a second and a save."""
-    chance, ages = random.Random(7), []
+def keeps_over_kills(program, times=int(os.environ.get("KILLS", "12"))):
+    """Killed at a random moment, again and again: the value that comes back was written, and at most a second and a save before the last one."""
+    chance, ages, writes = random.Random(7), [], 0
     with contextlib.ExitStack() as stack:
         folder = stack.enter_context(tempfile.TemporaryDirectory())
-        number, written = 0, {0: 0.0}
+        number, written, killed = 0, {0: 0.0}, 0.0
         for _ in range(times):
             it = in_folder(stack, program, folder, ["--store", "kept", "--save-each", "1", "--log", "none"])
             back = read_title(it)
             came = 0 if back == b"Mix\0\0\0\0\0" else int(back[:7])
-            expect(came in written, f"{back!r} was never written")
-            if written[came] and came != number:
-                age = max(at for k, at in written.items() if k > came and at) and killed - written[came + 1]
-                expect(age < 3.0, f"what came back was {age:.1f} s old")
-                ages.append(age)
+            expect(came in written, f"{back!r} is neither what stood before nor what was written")
+            if came != number:
+                ages.append(killed - written[came + 1])
+                expect(ages[-1] < 5.0, f"what came back is {ages[-1]:.1f} s old")
+            number, written = came, {came: time.monotonic()}
             ends = time.monotonic() + chance.uniform(0.05, 2.5)
             with it.link() as link:
                 while time.monotonic() < ends:
@@ -91,10 +91,11 @@ def keeps_over_kills(program, times=int(os.environ.get("KILLS", "15"))):
                     write_title(link, number, title_of(number))
                     written[number] = time.monotonic()
                     time.sleep(chance.uniform(0, 0.02))
+            writes += len(written) - 1
             it.process.kill()
             killed = time.monotonic()
             it.end()
-        return f"{times} kills, {number} writes; the oldest value that came back was {max(ages, default=0):.2f} s behind"
+        return f"{times} kills, {writes} writes; the oldest write that was lost was {max(ages, default=0):.2f} s before the kill"
 
 
 @tried
@@ -142,7 +143,7 @@ def a_value_that_fits_nothing(program):
             write_title(link, 1, title_of(1))
         kept_in_order(*first.stopped(signal.SIGTERM)[::2][:2])
         before = pathlib.Path(folder, "kept").read_bytes()
-        second = in_folder(stack, program, folder, words, change=("STRING(7)", "STRING(9)"))
+        second = in_folder(stack, program, folder, words, change=('type = "STRING(7)"', 'type = "ARRAY [1..8] OF BYTE"'))
         _, err, status, _ = second.stopped(signal.SIGTERM)
         expect(status == 0 and "no persistent symbol fits the entry Main.title" in err, f"the log says {err!r}")
         expect(pathlib.Path(folder, "kept.before").read_bytes() == before, "the copy is not what stood there")
@@ -176,7 +177,7 @@ def several_addresses(program):
 
 
 @tried
-def allow_list(program, refused=300):
+def allow_list(program, refused=100):
     """Peers that the list leaves out are closed at once, take no number and are told; the others are served beside them."""
     with contextlib.ExitStack() as stack:
         it = Daemon(stack, program, ["--allow", "127.0.0.2", "--status", "status.prom"], listens=True)
@@ -187,6 +188,7 @@ def allow_list(program, refused=300):
                 expect(reply(link) is None, "a peer that is not allowed was answered")
         good.sendall(reading(7))
         expect(reply(good)[0] == 7, "the one that is allowed was not served")
+        time.sleep(1.5)
         out, err, status, _ = it.stopped(signal.SIGTERM)
         expect(out.startswith("connections 1 ") and status == 0, f"it counts {out!r}")
         expect("not allowed 127.0.0.1:" in err, f"no line tells it: {err[-500:]!r}")

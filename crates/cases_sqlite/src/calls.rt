@@ -42,6 +42,32 @@ pub fn puts(
     matches!(keeper.put(&row), Kept::Done)
 }
 
+/// Whether so many rows of a name and of one moment are put, numbered from a number on; the value of each is its number.
+pub fn puts_many(
+    alloc: Global,
+    keeper: &mut SqliteKeeper,
+    first: u64,
+    count: u64,
+    name: &str,
+) -> bool
+    requires some { 0 < first }
+    requires first { first < 2 ^ 32 }
+    requires count { count < 2 ^ 32 }
+{
+    for k in 0..count {
+        let number = first + k;
+        if !puts(alloc, keeper, number, name, 400_000, &number.to_le_bytes()) {
+            return false;
+        }
+    }
+    true
+}
+
+/// Whether what was put is brought to where it stays.
+pub fn settles(keeper: &mut SqliteKeeper) -> bool {
+    matches!(keeper.settle(), Kept::Done)
+}
+
 /// Whether this is told of a name: how many samples, and the moment and the bytes of the one of the greatest number.
 pub fn totals(keeper: &mut SqliteKeeper, name: &str, count: u64, time: u64, bytes: &[u8]) -> bool {
     match keeper.total(name.as_bytes()) {

@@ -1,7 +1,7 @@
 //! The two turns of the story: one keeper records samples, and another goes on with the file.
 
 use crate::PATH;
-use crate::calls::{fails_first, has_none, opens, puts, totals};
+use crate::calls::{fails_first, has_none, opens, puts, puts_many, settles, totals};
 use sample_store::Keeper;
 use sqlite_samples::SqliteKeeper;
 
@@ -37,7 +37,12 @@ fn records(rt: &HostRuntime, keeper: &mut SqliteKeeper) -> bool {
         fails_first(keeper, WAVE),
     );
     let opened = tell(rt, "a new file has no rows", opens(keeper, PATH, 0));
-    let put = tell(rt, "four rows of two names are put", puts_four(rt, keeper));
+    let nothing = tell(rt, "nothing is there to be settled", settles(keeper));
+    let put = tell(
+        rt,
+        "four rows of two names are put, three of them and then the fourth are settled",
+        puts_four(rt, keeper),
+    );
     let told = tell(
         rt,
         "each name has its total: how many rows, and the last one",
@@ -48,7 +53,7 @@ fn records(rt: &HostRuntime, keeper: &mut SqliteKeeper) -> bool {
         "number 1 once more, with another name, changes no total",
         puts(rt.alloc(), keeper, 1, COUNT, 900_000, &[9]) && totals_of_four(keeper),
     );
-    unopened && opened && put && told && again
+    unopened && opened && nothing && put && told && again
 }
 
 // The file as it was left has the rows, and takes more.
@@ -74,12 +79,20 @@ fn goes_on(rt: &HostRuntime, keeper: &mut SqliteKeeper) -> bool {
         "a name that no row has, has no total",
         has_none(keeper, "Main.other"),
     );
+    let burst = tell(
+        rt,
+        "5,000 rows are put at once: they are there",
+        puts_many(rt.alloc(), keeper, 7, 5_000, COUNT)
+            && totals(keeper, COUNT, 5_001, 400_000, &5_006u64.to_le_bytes()),
+    );
     let reopened = tell(
         rt,
-        "the file is closed and opened again: six rows, and no call has failed",
-        opens(keeper, PATH, 6) && keeper.faults() == 0,
+        "one more is put, the file is closed and opened again: 5,007 rows, and no call has failed",
+        puts(rt.alloc(), keeper, 5_007, WAVE, 60, &[6])
+            && opens(keeper, PATH, 5_007)
+            && keeper.faults() == 0,
     );
-    opened && told && falls && ends && other && reopened
+    opened && told && falls && ends && other && burst && reopened
 }
 
 // Rows 1 to 4.
@@ -87,7 +100,9 @@ fn puts_four(rt: &HostRuntime, keeper: &mut SqliteKeeper) -> bool {
     puts(rt.alloc(), keeper, 1, WAVE, 100_000, &[3, 0])
         && puts(rt.alloc(), keeper, 2, COUNT, 100_000, &[42, 0, 0, 0])
         && puts(rt.alloc(), keeper, 3, WAVE, 200_000, &[1, 0])
+        && settles(keeper)
         && puts(rt.alloc(), keeper, 4, WAVE, 300_000, &[4, 0])
+        && settles(keeper)
 }
 
 // Whether the totals are those of rows 1 to 4.

@@ -59,7 +59,7 @@ kept_done h x standing begun s out out_new disk wire wire_new (inl (none, inr ca
     absurd (cannot_be_done x.start s out out_new wire wire_new cannot is)
 kept_done h x standing begun s out out_new disk wire wire_new (inr t) is =
     let service = service_of h (plant_kept standing x) in
-    run_done service t.runs.kept.ended (status_kept t.runs.kept.last) (Some t.runs.kept.counts.saved) (counts_after service.machine t.runs.moves)
+    run_done service t.runs.kept.ended (status_kept t.runs.kept) (Some t.runs.kept.counts.saved) (counts_after service.machine t.runs.moves)
     t.runs.moves s t.between out_new wire wire_new t.runs.wire t.runs.prints is
 
 ends_done : (store : Option (List ℕ)) (h : Serving) (x : Plant) (s : Status) (out out_new : SinkState) (disk : DiskUse) (wire wire_new : WireHistory)

@@ -29,7 +29,7 @@ use Rattle.file_run.specs.Machine.{RunsMachine, StandsAnew}
 use Rattle.file_run.specs.Serving.{CannotRun, IsStarted}
 use Rattle.file_run.proofs.MachineLemmas.{counted_after, moves_made, runs_machine}
 use Rattle.daemon_run.specs.Endless.{endless_kept}
-use Rattle.daemon_run.specs.Kept.{status_kept, ending_kept}
+use Rattle.daemon_run.specs.Kept.{status_by, status_kept}
 use Rattle.daemon_run.specs.Printed.{PrintsSo}
 use Rattle.daemon_run.specs.Running.{EndsOn, RunsOn, StandsForSomeAnew}
 
@@ -63,7 +63,7 @@ module _ {D : Type 0} (noted : Noting World Client) (serves serves_new : Standin
 
   ended_so : (x : Standing World Client) (r : End) (last : Option SaveEnd) (counts : SaveCounts)
       → Keeps (record { ended = r; last = last; counts = counts }) → (0 < counts.failed → Rose (faults old_disk) (faults new_disk))
-      → PrintsSo r (status_kept last) (Some counts.saved) serves_new s out out_new → StandsAnew serves x → Runs x
+      → PrintsSo r (status_by last counts) (Some counts.saved) serves_new s out out_new → StandsAnew serves x → Runs x
   ended_so x end.Done last counts h failed prints stands =
       let over = stands old.history.opened in
       record {
@@ -72,7 +72,7 @@ module _ {D : Type 0} (noted : Noting World Client) (serves serves_new : Standin
         wire = moves_made served_step noted serves serves_new x end.Done endless_kept old new h.serve stands;
         keeps = h.keeps x over;
         failed = failed;
-        prints = counted_after served_step noted serves_new (saved_counts counts.saved) x h.serve.turns.moves (status_kept last) s out out_new
+        prints = counted_after served_step noted serves_new (saved_counts counts.saved) x h.serve.turns.moves (status_by last counts) s out out_new
             (h.serve.turns.stands x over).stands prints;
       }
   ended_so x end.Budget last counts h failed prints stands =
@@ -108,7 +108,7 @@ module _ {D : Type 0} (noted : Noting World Client) (serves serves_new : Standin
       }
 
   pub runs_on : (x : Standing World Client) (kept : KeptOn) → Keeps kept → (0 < kept.counts.failed → Rose (faults old_disk) (faults new_disk))
-      → PrintsSo kept.ended (status_kept kept.last) (Some kept.counts.saved) serves_new s out out_new → StandsAnew serves x → Runs x
+      → PrintsSo kept.ended (status_kept kept) (Some kept.counts.saved) serves_new s out out_new → StandsAnew serves x → Runs x
   runs_on x kept h failed prints stands = ended_so x kept.ended kept.last kept.counts h failed prints stands
 
 -- the wire was started, and then that ran

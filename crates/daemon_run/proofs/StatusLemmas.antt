@@ -1,6 +1,11 @@
 -- With which statuses a plant ends.
-use Rattle.std.proofs.Common.{◌≡◌, inl, inr, sym, subst, ◌∙◌}
+use Rattle.std.proofs.Common.{◌≡◌, ◌<◌, inl, inr, refl, sym, subst, ◌∙◌, arith}
+use Rattle.std.specs.Prelude.{Bool, true, false, nat_lt, if◌then◌else◌, Option, Some, None}
+use Rattle.std.proofs.lemmas.Bool.{cases_Bool, ltb-true}
 use Rattle.ads_outside.specs.SinkState.{SinkState}
+use Rattle.keep_loop.specs.declared.save_counts.SaveCounts.{SaveCounts}
+use Rattle.keep_loop.specs.declared.save_end.SaveEnd.{SaveEnd}
+use Rattle.keep_loop.specs.declared.save_end.SaveEnd.TheVariants as save
 use Rattle.run_tasks.specs.declared.status.Status.{Status}
 use Rattle.run_tasks.specs.declared.status.Status.TheVariants as status
 use Rattle.run_tasks.specs.BeforeRun.{IsBeforeRun}
@@ -8,6 +13,7 @@ use Rattle.run_tasks.specs.Ending.{Ending}
 use Rattle.run_tasks.specs.Outcomes.{IsOfDescription}
 use Rattle.run_tasks.specs.Prints.{PrintsEnding}
 use Rattle.file_run.specs.FileOutcomes.{IsOfService}
+use Rattle.daemon_run.specs.Kept.{status_by}
 use Rattle.daemon_run.specs.Printed.{IsOfPlant}
 
 -- so it ends that printed such an ending
@@ -65,3 +71,30 @@ pub told_no_store : {P : Type 0} (e : Ending) (s : Status) (old new : SinkState)
 told_no_store e s old new (inl h) is same = absurd (subst IsOfDescription (sym h.0 ∙ same) is)
 told_no_store e s old new (inr (inl h)) is same = let no : status.WriteFault ≡ status.StoreFault = sym h.0 ∙ same in cc
 told_no_store e s old new (inr (inr h)) is same = let no : status.Memory ≡ status.StoreFault = sym h.0 ∙ same in cc
+
+-- it ends with a fault of the store only where that is the status of the ending
+pub printed_fault : (e : Ending) (s : Status) (old new : SinkState) → PrintsEnding e s old new → s ≡ status.StoreFault → e.status ≡ status.StoreFault
+printed_fault e s old new (inl h) same = sym h.0 ∙ same
+printed_fault e s old new (inr (inl h)) same = let no : status.WriteFault ≡ status.StoreFault = sym h.0 ∙ same in cc
+printed_fault e s old new (inr (inr h)) same = let no : status.Memory ≡ status.StoreFault = sym h.0 ∙ same in cc
+
+pub other_fault : {P : Type 0} (r : Status) (s : Status) → (r ≡ status.StoreFault → ⊥) → (s ≡ status.StoreFault → r ≡ status.StoreFault)
+    → s ≡ status.StoreFault → P
+other_fault r s never told same = absurd (never (told same))
+
+-- and that only where a save failed
+pub fault_counted : (last : Option SaveEnd) (counts : SaveCounts) → status_by last counts ≡ status.StoreFault → 0 < counts.failed
+fault_counted None counts same = cc
+fault_counted (Some save.Same) counts same = cc
+fault_counted (Some save.Saved) counts same = cc
+fault_counted (Some save.Limit) counts same = go (nat_lt 0 counts.over) same
+  where
+    go : (b : Bool) → (if b then status.StoreLimit else status.Memory) ≡ status.StoreFault → 0 < counts.failed
+    go true e = cc
+    go false e = cc
+fault_counted (Some save.Memory) counts same = cc
+fault_counted (Some save.Failed) counts same =
+    elim (cases_Bool (nat_lt 0 counts.failed)) [
+      | inl more ↦ ltb-true 0 counts.failed more
+      | inr none ↦ let no : status.Memory ≡ status.StoreFault = rw none at same in cc
+    ]

@@ -1,5 +1,5 @@
 -- What a plant that was served over a store saved, and what it printed.
-use Rattle.std.specs.Prelude.{◌≡◌, ◌⊎◌, ◌<◌, ℕ, List, [], true, Option, Some, None}
+use Rattle.std.specs.Prelude.{◌≡◌, ◌⊎◌, ◌<◌, ℕ, List, [], true, nat_lt, if◌then◌else◌, Option, Some, None}
 use Rattle.ads_outside.specs.declared.moves.Move.{Move}
 use Rattle.ads_outside.specs.Rose.{Rose}
 use Rattle.ads_outside.specs.SinkState.{SinkState}
@@ -10,6 +10,7 @@ use Rattle.spec_store.specs.Disk.{Only}
 use Rattle.spec_store.specs.Slots.{Standing, standing_of, standing_body}
 use Rattle.keep_loop.specs.Bodies.{saves_in}
 use Rattle.keep_loop.specs.declared.kept_on.KeptOn.{KeptOn}
+use Rattle.keep_loop.specs.declared.save_counts.SaveCounts.{SaveCounts}
 use Rattle.keep_loop.specs.declared.save_end.SaveEnd.{SaveEnd}
 use Rattle.keep_loop.specs.declared.save_end.SaveEnd.TheVariants as save
 use Rattle.keep_loop.specs.KeepingOn.{Begun, MayStand, StoodOnce, AreSomeOf, bodies_begun, all_done, done_in, IsWhole, is_kept, IsAnyOver, LooksAt}
@@ -25,18 +26,22 @@ use Rattle.file_run.specs.Serving.{MakesMoves, PrintsAt, CannotRun, TellsAndRuns
 use Rattle.daemon_run.specs.Plant.{Plant, Serving, service_of, plant_kept, start_kept}
 use Rattle.daemon_run.specs.Printed.{ending_so}
 
--- the status of a run whose wire had no more events, by what became of the body at its end: Done only where that stands
-abbrev pub status_kept : Option SaveEnd → Status
-status_kept None = status.Done
-status_kept (Some save.Same) = status.Done
-status_kept (Some save.Saved) = status.Done
-status_kept (Some save.Failed) = status.StoreFault
-status_kept (Some save.Limit) = status.StoreLimit
-status_kept (Some save.Memory) = status.Memory
+-- the status of a run whose wire had no more events, by what became of the body at its end and by the counts: Done only where it
+-- stands, a fault of the store only where a save failed, and its limit only where a body was over it
+abbrev pub status_by : Option SaveEnd → SaveCounts → Status
+status_by None counts = status.Done
+status_by (Some save.Same) counts = status.Done
+status_by (Some save.Saved) counts = status.Done
+status_by (Some save.Failed) counts = if nat_lt 0 counts.failed then status.StoreFault else status.Memory
+status_by (Some save.Limit) counts = if nat_lt 0 counts.over then status.StoreLimit else status.Memory
+status_by (Some save.Memory) counts = status.Memory
+
+abbrev pub status_kept : KeptOn → Status
+status_kept kept = status_by kept.last kept.counts
 
 -- how it ends with these counts
 abbrev pub ending_kept : KeptOn → List ℕ → Ending
-ending_kept kept counts = ending_so kept.ended (status_kept kept.last) (Some kept.counts.saved) counts
+ending_kept kept counts = ending_so kept.ended (status_kept kept) (Some kept.counts.saved) counts
 
 -- the saves are those that differ from what stood before, each of them was done, and the file stands for the last of them
 pub record SavesEach (disk : DiskUse) (standing : Option Standing) (looked : List (List ℕ)) (begun : List Begun) : Type 0 where

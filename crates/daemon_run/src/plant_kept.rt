@@ -24,7 +24,7 @@ use ads_outside::{Sink, Wire};
 use cli_words::Text;
 use daemon_core::{Board, PostedCore};
 use file_run::start_and_tell;
-use keep_loop::{SaveEnd, SaveNotes, keep_on};
+use keep_loop::{KeptOn, SaveEnd, SaveNotes, keep_on};
 use persist_store::{Disk, Store, StoreOpen};
 use port_device::Profile;
 use run_tasks::{Accepted, Status, end_without_memory, print_line};
@@ -239,23 +239,22 @@ fn run_kept<
         alloc,
         &posted.core,
         kept.ended,
-        status_of(kept.last),
+        status_of(&kept),
         Some(kept.counts.saved),
         out,
     )
 }
 
-// How a run ends whose wire had no more events, by what became of the body at its end.
-fn status_of(last: Option<SaveEnd>) -> Status
-    ensures kept { result ≡ status_kept last }
+// How a run ends whose wire had no more events, by what became of the body at its end. A last look that failed, or that was over
+// the limit, is counted.
+fn status_of(kept: &KeptOn) -> Status
+    ensures kept { result ≡ status_kept kept.now }
     ensures status { IsOfPlant result }
 {
-    match last {
-        None => Status::Done,
-        Some(SaveEnd::Same) => Status::Done,
-        Some(SaveEnd::Saved) => Status::Done,
-        Some(SaveEnd::Failed) => Status::StoreFault,
-        Some(SaveEnd::Limit) => Status::StoreLimit,
-        Some(SaveEnd::Memory) => Status::Memory,
+    match kept.last {
+        None | Some(SaveEnd::Same | SaveEnd::Saved) => Status::Done,
+        Some(SaveEnd::Failed) if kept.counts.failed > 0 => Status::StoreFault,
+        Some(SaveEnd::Limit) if kept.counts.over > 0 => Status::StoreLimit,
+        Some(SaveEnd::Failed | SaveEnd::Limit | SaveEnd::Memory) => Status::Memory,
     }
 }

@@ -30,6 +30,7 @@ pub(crate) fn print_end<S: Sink, G: Sources>(
 ) -> Status
     ensures service { IsOfService done → IsOfService result }
     ensures status { IsOfPlant done → IsOfPlant result }
+    ensures store_fault { result ≡ Status.StoreFault → done ≡ Status.StoreFault }
     ensures prints { PrintsSo ended done saved (StandsAt core.now) result (S.state out.old) (S.state out.new) }
 {
     match ended {
@@ -50,6 +51,7 @@ fn print_counted<S: Sink, G: Sources>(
 ) -> Status
     ensures service { IsOfService status → IsOfService result }
     ensures status { IsOfPlant status → IsOfPlant result }
+    ensures store_fault { result ≡ Status.StoreFault → status ≡ Status.StoreFault }
     ensures prints { (x : Standing World Client) → StandsAt core.now x
         → PrintsEnding (counts_and_line (counts_saved saved (server_counts x.running.state)) status) result (S.state out.old) (S.state out.new) }
 {

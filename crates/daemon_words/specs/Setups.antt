@@ -1,8 +1,6 @@
 -- The setup of what was said. This project's own choice.
 use Rattle.std.specs.Prelude.{◌≡◌, ◌==◌, ℕ, List, [], ◌∷◌, ◌++◌, length, Option, Some, None, codes, if◌then◌else◌}
-use Rattle.daemon_words.specs.declared.log_form.LogForm.{LogForm}
 use Rattle.daemon_words.specs.declared.log_form.LogForm.TheVariants.{Plain}
-use Rattle.daemon_words.specs.declared.profile_word.ProfileWord.{ProfileWord}
 use Rattle.daemon_words.specs.declared.profile_word.ProfileWord.TheVariants.{Wide}
 use Rattle.daemon_words.specs.declared.seconds.Seconds.{Seconds}
 use Rattle.daemon_words.specs.declared.setup.Setup.{Setup}

@@ -73,7 +73,7 @@ returns-in-None-clause-ends g c =
     (λ bytes y. serves_plant h (plant_of name listen bytes y)) name read.bytes x
     (Rose (g.F.Files.state c.args.files.now).faults (g.F.Files.state c.read_description.new.files).faults) s out out_new found.has found.is
     (plant_run h plant Still s out out_new disk wire wire_new
-    (without_store profile waves c.args.store.now c.args.every plant s out out_new disk wire wire_new _ c.serve_read.ensures.ends))
+    (without_store profile waves c.args.store.now c.args.every plant s out out_new disk wire wire_new ?none c.serve_read.ensures.ends))
 
 pub returns-in-Some-clause-ends : goal.returns-in-Some-clause-ends
 returns-in-Some-clause-ends g c =
@@ -99,7 +99,7 @@ returns-in-Some-clause-ends g c =
     (λ bytes y. serves_plant h (plant_of name listen bytes y)) name read.bytes x
     (Rose (g.F.Files.state c.args.files.now).faults (g.F.Files.state c.read_description.new.files).faults) s out out_new found.has found.is
     (plant_run h plant Still s out out_new disk wire wire_new
-    (with_store profile waves c.args.store.now c.in-Some.store.now c.args.every plant s out out_new disk wire wire_new _ c.keep_read.ensures.ends))
+    (with_store profile waves c.args.store.now ?name c.args.every plant s out out_new disk wire wire_new ?some c.keep_read.ensures.ends))
 
 pub returns-in-None-clause-reads : goal.returns-in-None-clause-reads
 returns-in-None-clause-reads g c = reads_one c.serve_read.result _ _ c.args.description.now c.in-Ok-Ok.ensures.reads
@@ -123,3 +123,27 @@ returns-in-Some-clause-before_run g c = λ before. not_before c.keep_read.result
 
 pub returns-in-Some-clause-disk_before_run : goal.returns-in-Some-clause-disk_before_run
 returns-in-Some-clause-disk_before_run g c = λ before. not_before c.keep_read.result c.keep_read.ensures.status before
+
+pub returns-in-Ok-Err-clause-reads : goal.returns-in-Ok-Err-clause-reads
+returns-in-Ok-Err-clause-reads g c = reads_one c.print_outcome.result _ _ c.args.description.now c.in-Ok-Err.ensures.reads
+
+pub returns-in-None-clause-done : goal.returns-in-None-clause-done
+returns-in-None-clause-done g c =
+    let h = serving (profile_of c.args.profile) (g.G.Sources.waves c.args.signals) c.args.store.now c.args.every in
+    let d = c.args.disk.now in
+    plant_done (g.F.Files.state c.args.files.now).held h (d ≡ d) c.args.description.now c.args.listen.now
+    (Rose (g.F.Files.state c.args.files.now).faults (g.F.Files.state c.read_description.new.files).faults) c.serve_read.result
+    (g.S.Sink.state c.args.out.now) (g.S.Sink.state c.serve_read.new.out)
+    (disk_used g.D.Disk.contents g.D.Disk.may_leave g.D.Disk.moment g.D.Disk.left_since g.D.Disk.fault_count d d)
+    (g.W.Wire.state c.args.wire.now).history (g.W.Wire.state c.serve_read.new.wire).history (returns-in-None-clause-ends g c)
+
+pub returns-in-Some-clause-done : goal.returns-in-Some-clause-done
+returns-in-Some-clause-done g c =
+    let h = serving (profile_of c.args.profile) (g.G.Sources.waves c.args.signals) c.args.store.now c.args.every in
+    let d = c.args.disk.now in
+    let e = c.keep_read.new.disk in
+    plant_done (g.F.Files.state c.args.files.now).held h (e ≡ d) c.args.description.now c.args.listen.now
+    (Rose (g.F.Files.state c.args.files.now).faults (g.F.Files.state c.read_description.new.files).faults) c.keep_read.result
+    (g.S.Sink.state c.args.out.now) (g.S.Sink.state c.keep_read.new.out)
+    (disk_used g.D.Disk.contents g.D.Disk.may_leave g.D.Disk.moment g.D.Disk.left_since g.D.Disk.fault_count d e)
+    (g.W.Wire.state c.args.wire.now).history (g.W.Wire.state c.keep_read.new.wire).history (returns-in-Some-clause-ends g c)

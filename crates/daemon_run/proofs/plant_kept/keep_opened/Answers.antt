@@ -27,7 +27,7 @@ build_in-requires-clause-accepted g c =
     (kept_is d stored (bytes_lent c.body.result) standing c.in-Ok.ensures c.body.ensures)
 
 pub keep_posted-requires-clause-some : goal.keep_posted-requires-clause-some
-keep_posted-requires-clause-some g c =
+keep_posted-requires-clause-some g c κs within =
     let waves = g.G.Sources.waves c.args.signals in
     let profile = profile_of c.args.profile in
     let stored = description_of c.in-Ok.stored in
@@ -47,8 +47,8 @@ returns-clause-ends g c =
     (g.S.Sink.state c.args.out.now) (g.S.Sink.state c.keep_posted.new.out)
     g.D.Disk.contents g.D.Disk.may_leave g.D.Disk.moment g.D.Disk.left_since g.D.Disk.fault_count c.args.disk.now c.keep_posted.new.disk
     (g.W.Wire.state c.args.wire.now).history (g.W.Wire.state c.keep_posted.new.wire).history
-    (started_with c.args.listen.now c.as_str.result.now c.args.name.now c.as_str-name.result.now bytes c.as_slice.result.now c.as_str.ensures
-    c.as_str-name.ensures c.as_slice.ensures)
+    (started_with c.args.listen.now c.as_str.result.now c.args.name.now c.as_str-2.result.now bytes c.as_slice.result.now c.as_str.ensures
+    c.as_str-2.ensures c.as_slice.ensures)
     (kept_is d stored (bytes_lent c.body.result) standing c.in-Ok.ensures c.body.ensures)
     (c.keep_posted.ensures.ends (at_start_in profile stored waves)
     (core_anew c.in-Ok-build_in.core profile stored waves (stands_at_start c.in-Ok-build_in.core profile stored waves

@@ -11,8 +11,8 @@ use Rattle.daemon_run.proofs.plant_served.serve_read.Goals as goal
 pub returns-in-Err-clause-ends : goal.returns-in-Err-clause-ends
 returns-in-Err-clause-ends g c = inl (inr (refl, c.end_without_memory.ensures.memory, c.end_without_memory.ensures.line))
 
-pub returns-clause-ends : goal.returns-clause-ends
-returns-clause-ends g c =
+pub returns-in-Ok-clause-ends : goal.returns-in-Ok-clause-ends
+returns-in-Ok-clause-ends g c =
     let waves = g.G.Sources.waves c.args.signals in
     let profile = profile_of c.args.profile in
     let name = c.args.name.now in
@@ -21,7 +21,7 @@ returns-clause-ends g c =
     let d = description_of read.description in
     server_ends _ profile d waves name listen read.bytes endless c.serve_posted.result (g.S.Sink.state c.args.out.now) (g.S.Sink.state c.serve_posted.new.out)
     (g.W.Wire.state c.args.wire.now).history (g.W.Wire.state c.serve_posted.new.wire).history
-    (started_with listen c.as_str.result.now name c.as_str-name.result.now read.bytes c.as_slice.result.now c.as_str.ensures c.as_str-name.ensures
+    (started_with listen c.as_str.result.now name c.as_str-in-Ok.result.now read.bytes c.as_slice.result.now c.as_str.ensures c.as_str-in-Ok.ensures
     c.as_slice.ensures)
     (c.serve_posted.ensures.ends (at_start_in profile d waves)
     (core_anew c.in-Ok.core profile d waves (stands_at_start c.in-Ok.core profile d waves c.in-Ok.ensures.serves c.in-Ok.ensures.counted c.in-Ok.ensures.notes)))

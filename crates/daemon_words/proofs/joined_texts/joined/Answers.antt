@@ -1,5 +1,5 @@
 -- One text more, and all of them.
-use Rattle.std.proofs.Common.{rules, ◌≡◌, ◌∙◌, sym, drop, [], List, ℕ}
+use Rattle.std.proofs.Common.{rules, ◌≡◌, ◌∙◌, drop, []}
 use Rattle.std.specs.Prelude.{string_bytes}
 use Rattle.daemon_words.specs.Setups.{joined}
 use Rattle.std.proofs.lemmas.List.{drop_all}
