@@ -8,6 +8,7 @@ mod log_notes;
 mod plant_judge;
 mod process;
 mod real_names;
+mod real_outlet;
 mod serving;
 
 pub use crate::plant_judge::PlantJudge;

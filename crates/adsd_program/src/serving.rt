@@ -5,16 +5,14 @@ use crate::log_board::LogBoard;
 use crate::log_notes::LogNotes;
 use crate::plant_judge::PlantJudge;
 use crate::real_names::RealNames;
+use crate::real_outlet::RealOutlet;
 use ads_base::{ListOf, NetId, NoMemory, Octets};
 use ads_edge::{AllowedNet, RealFiles, RealWire, given_doors};
 use ads_outside::{Files, Got, Sink};
 use cli_words::Text;
-use daemon_edge::{
-    LockFault, SignalStop, StatusFile, StderrOutlet, StoreLock, SystemdBeacon, moment_now,
-};
+use daemon_edge::{LockFault, SignalStop, StatusFile, StoreLock, SystemdBeacon, moment_now};
 use daemon_entries::{count_in, unfit_names};
-use daemon_log::{Chronicle, NoOutlet, Noticeboard};
-use daemon_outside::LogOutlet;
+use daemon_log::{Chronicle, Noticeboard};
 use daemon_recordings::SqliteRecordings;
 use daemon_run::run_watched;
 use daemon_signals::{Played, SourceFault, Trouble, read_sources};
@@ -28,7 +26,10 @@ use std::thread::Threads;
 use watched_wire::Watched;
 
 /// The log of a daemon over real sockets.
-type RealLog<L> = Chronicle<RealNames, PlantJudge, L, SystemdBeacon, StatusFile<HostRuntime>>;
+type RealLog = Chronicle<RealNames, PlantJudge, RealOutlet, SystemdBeacon, StatusFile<HostRuntime>>;
+
+/// The wire of a daemon, with what looks on.
+type RealWatched = Watched<Routed<RealWire<HostRuntime>>, SignalStop<HostRuntime>, RealLog>;
 
 /// Serves the plant of a setup until it is stopped. A store that another daemon keeps, and a signal that can't be made, end it
 /// with a sentence on standard error before anything is opened.
@@ -70,7 +71,7 @@ fn serve_locked<T: Threads + Sync, S: Sink, E: Sink>(
     let mut recordings = SqliteRecordings::new(*rt);
     match read_sources(rt.alloc(), setup.signals.as_slice(), files, &mut recordings) {
         Err(fault) => tell_source(rt, &fault, err),
-        Ok(list) => match serve_by_log(rt, threads, setup, list, files, out) {
+        Ok(list) => match serve_logged(rt, threads, setup, list, files, out) {
             Ok(status) => status,
             Err(NoMemory) => end_without_memory(out),
         },
@@ -95,8 +96,8 @@ fn status_of_trouble(trouble: Trouble) -> Status {
     }
 }
 
-// Serves with the log that the setup asks for.
-fn serve_by_log<T: Threads + Sync, S: Sink>(
+// Serves with a log.
+fn serve_logged<T: Threads + Sync, S: Sink>(
     rt: &HostRuntime,
     threads: &T,
     setup: &Setup,
@@ -104,34 +105,56 @@ fn serve_by_log<T: Threads + Sync, S: Sink>(
     files: &mut RealFiles<HostRuntime>,
     out: &mut S,
 ) -> Result<Status, NoMemory> {
-    match setup.log {
-        LogForm::Journal => serve_logged(rt, threads, setup, list, files, out, false, StderrOutlet),
-        LogForm::Plain => serve_logged(rt, threads, setup, list, files, out, true, StderrOutlet),
-        LogForm::Nothing => serve_logged(rt, threads, setup, list, files, out, true, NoOutlet),
+    let board = Noticeboard::new(rt.alloc())?;
+    let mut watched = watched_of(rt, setup, files, &board)?;
+    let status = serve_posted(rt, threads, setup, list, files, &mut watched, out, &board);
+    if let Ok(Status::BadDescription { number, item }) = &status {
+        watched.onlooker.refused(*number, *item);
     }
+    watched.onlooker.finish();
+    status
 }
 
-fn serve_logged<T: Threads + Sync, S: Sink, L: LogOutlet + Drop>(
+// The wire with its stop and its log, to which it is told what stands in the store.
+fn watched_of(
     rt: &HostRuntime,
-    threads: &T,
     setup: &Setup,
-    list: ListOf<Played>,
     files: &mut RealFiles<HostRuntime>,
-    out: &mut S,
-    dated: bool,
-    outlet: L,
-) -> Result<Status, NoMemory> {
+    board: &Noticeboard,
+) -> Result<RealWatched, NoMemory> {
     let mut stop = SignalStop::new(rt.alloc(), *rt, copy_of_name(rt, &setup.stop_file)?)?;
-    let board = Noticeboard::new(rt.alloc())?;
-    let mut log = log_of(rt, setup, &board, dated, outlet)?;
+    let mut log = log_of(rt, setup, board)?;
     if !stop.is_terminate_blocked() {
         log.warn("stop: SIGTERM is not blocked, it ends the process at once");
     }
     tell_store(rt, setup, files, &mut log)?;
+    let wire = wire_of(rt, setup, files)?;
+    Ok(Watched::new(wire, stop, log))
+}
+
+// The wire, with the doors and the allow list of the setup.
+fn wire_of(
+    rt: &HostRuntime,
+    setup: &Setup,
+    files: &mut RealFiles<HostRuntime>,
+) -> Result<Routed<RealWire<HostRuntime>>, NoMemory> {
+    let net = router_net(rt, setup, files)?;
     let nets = nets_of(rt, setup.allow.as_slice())?;
     let doors = RealWire::with_doors(rt.alloc(), *rt, "adsd", given_doors(rt), nets)?;
-    let wire = Routed::new(rt.alloc(), doors, router_net(rt, setup, files)?);
-    let mut watched = Watched::new(wire, stop, log);
+    Ok(Routed::new(rt.alloc(), doors, net))
+}
+
+// Serves over the wire; what becomes of events and saves is posted on the board.
+fn serve_posted<T: Threads + Sync, S: Sink>(
+    rt: &HostRuntime,
+    threads: &T,
+    setup: &Setup,
+    list: ListOf<Played>,
+    files: &mut RealFiles<HostRuntime>,
+    watched: &mut RealWatched,
+    out: &mut S,
+    board: &Noticeboard,
+) -> Result<Status, NoMemory> {
     let posts = LogBoard {
         board: board.handle()?,
     };
@@ -140,6 +163,24 @@ fn serve_logged<T: Threads + Sync, S: Sink, L: LogOutlet + Drop>(
         board: board.handle()?,
     };
     let mut disk = RealDisk::new(*rt);
+    serve_signals(
+        rt, threads, setup, list, files, watched, out, &mut disk, posts, &mut notes,
+    )
+}
+
+// Serves over the wire and the disk, with the signals of the list.
+fn serve_signals<T: Threads + Sync, S: Sink>(
+    rt: &HostRuntime,
+    threads: &T,
+    setup: &Setup,
+    list: ListOf<Played>,
+    files: &mut RealFiles<HostRuntime>,
+    watched: &mut RealWatched,
+    out: &mut S,
+    disk: &mut RealDisk<HostRuntime>,
+    posts: LogBoard,
+    notes: &mut LogNotes,
+) -> Result<Status, NoMemory> {
     let mut signals: Vec<Box<dyn Signal>> = Vec::new(rt.alloc());
     for played in list.into_vec() {
         signals.push(Box::new(rt.alloc(), played)?)?;
@@ -147,7 +188,7 @@ fn serve_logged<T: Threads + Sync, S: Sink, L: LogOutlet + Drop>(
     if signals.len() > 1_024 {
         return Err(NoMemory);
     }
-    let status = run_watched(
+    Ok(run_watched(
         threads,
         rt.alloc(),
         profile_of(setup.profile),
@@ -156,44 +197,34 @@ fn serve_logged<T: Threads + Sync, S: Sink, L: LogOutlet + Drop>(
         &setup.store,
         setup.save_ticks(),
         files,
-        &mut watched,
+        watched,
         out,
-        &mut disk,
+        disk,
         posts,
-        &mut notes,
+        notes,
         signals,
-    );
-    if let Status::BadDescription { number, item } = &status {
-        watched.onlooker.refused(*number, *item);
-    }
-    watched.onlooker.finish();
-    Ok(status)
+    ))
 }
 
 // The log, with the body that stands in the store.
-fn log_of<L: LogOutlet + Drop>(
-    rt: &HostRuntime,
-    setup: &Setup,
-    board: &Noticeboard,
-    dated: bool,
-    outlet: L,
-) -> Result<RealLog<L>, NoMemory> {
+fn log_of(rt: &HostRuntime, setup: &Setup, board: &Noticeboard) -> Result<RealLog, NoMemory> {
     let judge = PlantJudge {
         rt: *rt,
         signals: setup.signals.len() as u32,
         store: copy_of_name(rt, &setup.store)?,
         body: body_at_start(rt, &setup.store)?,
     };
+    let file = StatusFile::new(rt.alloc(), *rt, &setup.status)?;
     Ok(Chronicle::new(
         rt.alloc(),
         moment_now(rt),
-        dated,
+        setup.log != LogForm::Journal,
         RealNames,
         judge,
         board.handle()?,
-        outlet,
+        RealOutlet::of_form(setup.log),
         SystemdBeacon::new(rt),
-        StatusFile::new(rt.alloc(), *rt, &setup.status)?,
+        file,
     ))
 }
 
@@ -205,11 +236,11 @@ fn body_at_start(rt: &HostRuntime, store: &Option<Text>) -> Result<Octets, NoMem
 }
 
 // What stands in the store is told, and what of it fits nothing of the description.
-fn tell_store<L: LogOutlet + Drop>(
+fn tell_store(
     rt: &HostRuntime,
     setup: &Setup,
     files: &mut RealFiles<HostRuntime>,
-    log: &mut RealLog<L>,
+    log: &mut RealLog,
 ) -> Result<(), NoMemory> {
     let Some(store) = &setup.store else {
         return Ok(());
