@@ -172,32 +172,78 @@ fn serve<T: Threads + Sync, F: Files, S: Sink, D: Disk>(
     disk: &mut D,
 ) -> Result<Ended, Fault> {
     let board = Noticeboard::new(alloc)?;
-    let mut watched: CaseWire = Watched::new(
-        wire,
-        MemStop::new(u64::MAX),
-        log_of(alloc, setup, &board)?,
-    );
+    let log = log_of(alloc, setup, &board)?;
+    let mut watched: CaseWire = Watched::new(wire, MemStop::new(u64::MAX), log);
+    let status = serve_posted(
+        threads,
+        alloc,
+        setup,
+        list,
+        files,
+        &mut watched,
+        out,
+        disk,
+        &board,
+    )?;
+    if let Status::BadDescription { number, item } = &status {
+        watched.onlooker.refused(*number, *item);
+    }
+    watched.onlooker.finish();
+    ended_of(alloc, status, &watched)
+}
+
+fn ended_of(alloc: Global, status: Status, watched: &CaseWire) -> Result<Ended, Fault> {
+    Ok(Ended {
+        status,
+        told: Octets::copy_of(alloc, watched.onlooker.outlet().bytes())?,
+        log: log_text(alloc, watched.wire.log().as_slice())?,
+    })
+}
+
+// What becomes of events and saves is posted on the board.
+fn serve_posted<T: Threads + Sync, F: Files, S: Sink, D: Disk>(
+    threads: &T,
+    alloc: Global,
+    setup: &Setup,
+    list: ListOf<Played>,
+    files: &mut F,
+    watched: &mut CaseWire,
+    out: &mut S,
+    disk: &mut D,
+    board: &Noticeboard,
+) -> Result<Status, NoMemory> {
     let posts = CaseBoard {
         board: board.handle()?,
     };
     let mut notes = CaseNotes {
         board: board.handle()?,
     };
+    serve_signals(
+        threads, alloc, setup, list, files, watched, out, disk, posts, &mut notes,
+    )
+}
+
+// Serves with the signals of the list.
+fn serve_signals<T: Threads + Sync, F: Files, S: Sink, D: Disk>(
+    threads: &T,
+    alloc: Global,
+    setup: &Setup,
+    list: ListOf<Played>,
+    files: &mut F,
+    watched: &mut CaseWire,
+    out: &mut S,
+    disk: &mut D,
+    posts: CaseBoard,
+    notes: &mut CaseNotes,
+) -> Result<Status, NoMemory> {
     let mut signals: Vec<Box<dyn Signal>> = Vec::new(alloc);
     for played in list.into_vec() {
-        match Box::new(alloc, played) {
-            Ok(boxed) => {
-                if signals.push(boxed).is_err() {
-                    return Err(Fault::Memory);
-                }
-            }
-            Err(_) => return Err(Fault::Memory),
-        }
+        signals.push(Box::new(alloc, played)?)?;
     }
     if signals.len() > 1_024 {
-        return Err(Fault::Off("more than 1,024 signals"));
+        return Err(NoMemory);
     }
-    let status = run_watched(
+    Ok(run_watched(
         threads,
         alloc,
         profile_of(setup.profile),
@@ -206,22 +252,13 @@ fn serve<T: Threads + Sync, F: Files, S: Sink, D: Disk>(
         &setup.store,
         setup.save_ticks(),
         files,
-        &mut watched,
+        watched,
         out,
         disk,
         posts,
-        &mut notes,
+        notes,
         signals,
-    );
-    if let Status::BadDescription { number, item } = &status {
-        watched.onlooker.refused(*number, *item);
-    }
-    watched.onlooker.finish();
-    Ok(Ended {
-        status,
-        told: Octets::copy_of(alloc, watched.onlooker.outlet().bytes())?,
-        log: log_text(alloc, watched.wire.log().as_slice())?,
-    })
+    ))
 }
 
 fn log_of(alloc: Global, setup: &Setup, board: &Noticeboard) -> Result<CaseLog, NoMemory> {
