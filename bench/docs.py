@@ -121,6 +121,8 @@ def try_page(page, program, folder):
     shutil.rmtree(folder, ignore_errors=True)
     (folder / "crates/ads/out").mkdir(parents=True)
     (folder / "crates/ads/out/ads").symlink_to(program)
+    (folder / "crates/adsd/out").mkdir(parents=True)
+    (folder / "crates/adsd/out/adsd").symlink_to(program.parents[2] / "adsd/out/adsd")
     shutil.copytree(ROOT / "examples", folder / "examples")
     for name in ("docs", "tools", "bench"):
         (folder / name).symlink_to(ROOT / name)

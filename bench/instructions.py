@@ -1,7 +1,9 @@
 #!/usr/bin/env python3
-"""How many instructions `ads serve` takes for a request, by valgrind's callgrind: a figure that other work on the machine does not change.
+"""How many instructions `ads serve` or `adsd` takes for a request, by valgrind's callgrind: a figure that other work on the machine does not change.
 
-    python3 bench/instructions.py PROGRAM [--top N]     a table (Markdown); with --top, the N functions that cost most of a request of each kind
+    python3 bench/instructions.py PROGRAM [--top N] [-- WORD ..]     a table (Markdown); with --top, the N functions that cost most of a request of each kind
+
+PROGRAM is `ads` or `adsd`, which is known by its name; the words go to it, as in `bench/instructions.py crates/adsd/out/adsd -- --profile strict`.
 
 The plant and the requests are those of bench/serve.py. Eight connections each send 32 requests of a kind at once and wait for all replies; that is a round. Each kind is
 run for 4 rounds and for 20, and the difference of both counts, over the requests of 16 rounds, is what a request costs: the start, the handles and most ticks fall out.
@@ -59,12 +61,19 @@ def free_port():
         return it.getsockname()[1]
 
 
-def counted(program, kinds, rounds):
+def words_of(program, port, more):
+    """How the server is started."""
+    listen = ["--listen", f"127.0.0.1:{port}", *more]
+    if os.path.basename(program).startswith("adsd"):
+        return [program, "plant.toml", "--log", "none", *listen]
+    return [program, "serve", "plant.toml", "--events", str(2 ** 64 - 1), *listen]
+
+
+def counted(program, kinds, rounds, more):
     """The file of callgrind for so many rounds."""
     port = free_port()
     log = f"callgrind.{rounds}"
-    command = ["valgrind", "--tool=callgrind", f"--callgrind-out-file={log}", program, "serve", "plant.toml", "--events", str(2 ** 64 - 1),
-               "--listen", f"127.0.0.1:{port}"]
+    command = ["valgrind", "--tool=callgrind", f"--callgrind-out-file={log}", *words_of(program, port, more)]
     with subprocess.Popen(command, stdout=subprocess.PIPE, stderr=subprocess.DEVNULL) as server, contextlib.ExitStack() as stack:
         if server.stdout.readline() != b"listening\n":
             sys.exit("the server does not listen")
@@ -97,6 +106,7 @@ def main():
     it = argparse.ArgumentParser(description=__doc__, formatter_class=argparse.RawDescriptionHelpFormatter)
     it.add_argument("program", type=os.path.abspath)
     it.add_argument("--top", type=int, default=0)
+    it.add_argument("words", nargs="*")
     given = it.parse_args()
     asked = CONNECTIONS * DEPTH * (ROUNDS[1] - ROUNDS[0])
     print("| kind | instructions a request |\n|---|---|")
@@ -104,7 +114,7 @@ def main():
         os.chdir(room)
         pathlib.Path("plant.toml").write_text(toml_of(serve.plant(0, serve.SYMBOLS)))
         for name, kinds in KINDS.items():
-            few, many = (counted(given.program, kinds, rounds) for rounds in ROUNDS)
+            few, many = (counted(given.program, kinds, rounds, given.words) for rounds in ROUNDS)
             print(f"| {name} | {(total(many) - total(few)) / asked:,.0f} |", flush=True)
             if given.top:
                 before, after = by_function(few), by_function(many)

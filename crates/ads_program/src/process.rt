@@ -11,9 +11,11 @@ ghost use Rattle.run_tasks.specs.Tasks.{asked_task};
 
 use crate::real_outside::RealOutside;
 use ads_base::NoMemory;
-use ads_edge::{RealSink, hold_standard_descriptors};
+use ads_edge::{RealFiles, RealLink, RealSink, RealWire, hold_standard_descriptors};
 use ads_outside::Sink;
 use ads_run::{Status, end_without_memory, run_program};
+use real_disk::RealDisk;
+use sqlite_samples::SqliteKeeper;
 use std::env;
 use std::io::ErrorKind;
 use std::process::ExitCode;
@@ -51,19 +53,59 @@ pub fn run_real<T: Threads + Sync, S: Sink>(
     ensures write_fault { result ≡ Status.WriteFault → Rose (S.state out.old).faults (S.state out.new).faults }
 {
     match RealOutside::new(rt) {
-        Ok(mut outside) => run_program(
-            threads,
-            rt.alloc(),
-            words,
-            &mut outside.files,
-            &mut outside.wire,
-            &mut outside.link,
-            out,
-            &mut outside.disk,
-            &mut outside.keeper,
-        ),
+        Ok(outside) => {
+            let RealOutside {
+                mut files,
+                mut wire,
+                mut link,
+                mut disk,
+                mut keeper,
+            } = outside;
+            run_over(
+                rt,
+                threads,
+                words,
+                &mut files,
+                &mut wire,
+                &mut link,
+                out,
+                &mut disk,
+                &mut keeper,
+            )
+        }
         Err(NoMemory) => end_without_memory(out),
     }
+}
+
+// The same over the parts of the outside, which are dropped by whoever owns them.
+fn run_over<T: Threads + Sync, S: Sink>(
+    rt: &HostRuntime,
+    threads: &T,
+    words: Result<Vec<String>, ErrorKind>,
+    files: &mut RealFiles<HostRuntime>,
+    wire: &mut RealWire<HostRuntime>,
+    link: &mut RealLink<HostRuntime>,
+    out: &mut S,
+    disk: &mut RealDisk<HostRuntime>,
+    keeper: &mut SqliteKeeper,
+) -> Status
+    ensures unreadable { words ≡ Err ErrorKind.OutOfMemory → result ≡ Status.Memory }
+    ensures usage { result ≡ Status.Usage → asked_task (words_behind_name words) ≡ None }
+    ensures no_command { asked_task (words_behind_name words) ≡ None
+        → PrintsEnding (line_alone Status.Usage) result (S.state out.old) (S.state out.new) }
+    ensures write_fault { result ≡ Status.WriteFault → Rose (S.state out.old).faults (S.state out.new).faults }
+{
+    run_program(
+        threads,
+        rt.alloc(),
+        words,
+        files,
+        wire,
+        link,
+        out,
+        disk,
+        keeper,
+    )
 }
 
 // The words of the process, the program's name first; or what failed where they could not be read, as a word that is not

@@ -185,7 +185,14 @@ fn serve<T: Threads + Sync, F: Files, S: Sink, D: Disk>(
     };
     let mut signals: Vec<Box<dyn Signal>> = Vec::new(alloc);
     for played in list.into_vec() {
-        signals.push(Box::new(alloc, played)?)?;
+        match Box::new(alloc, played) {
+            Ok(boxed) => {
+                if signals.push(boxed).is_err() {
+                    return Err(Fault::Memory);
+                }
+            }
+            Err(_) => return Err(Fault::Memory),
+        }
     }
     if signals.len() > 1_024 {
         return Err(Fault::Off("more than 1,024 signals"));

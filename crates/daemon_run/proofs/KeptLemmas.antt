@@ -1,6 +1,6 @@
 -- What a plant comes to that was served over a store, seen from before the store was opened.
 use Rattle.std.proofs.Common.{◌≡◌, ◌≤◌, ◌<◌, ℕ, List, [], refl, sym, ap, ◌∙◌, subst, inl, inr, arith}
-use Rattle.std.specs.Prelude.{◌⊎◌, true, Option, Some, None}
+use Rattle.std.specs.Prelude.{◌⊎◌, Option, Some, None}
 use Rattle.ads_outside.specs.Rose.{Rose}
 use Rattle.ads_outside.specs.SinkState.{SinkState}
 use Rattle.ads_outside.specs.WireState.{WireHistory}
@@ -16,7 +16,6 @@ use Rattle.keep_loop.specs.Keeping.{FileStandsFor}
 use Rattle.keep_loop.specs.declared.kept_on.KeptOn.{KeptOn}
 use Rattle.keep_loop.specs.KeepingOn.{Begun, FileHolds, KeepsOn, LooksAt, SavedEach, StoodOnce}
 use Rattle.keep_play.specs.KeptDisk.{DiskUse, FileStands, disk_used}
-use Rattle.keep_play.specs.KeptPlay.{AllSaved}
 use Rattle.keep_play.specs.KeptSaves.{body_standing, body_of_world, description_kept}
 use Rattle.run_tasks.specs.declared.status.Status.{Status}
 use Rattle.run_tasks.specs.declared.status.Status.TheVariants as status

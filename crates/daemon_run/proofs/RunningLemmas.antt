@@ -1,5 +1,5 @@
 -- What a core leaves that was served over an open store.
-use Rattle.std.proofs.Common.{◌≡◌, ◌<◌, ℕ, List, ◌++◌, refl, inl, inr, subst, sym}
+use Rattle.std.proofs.Common.{◌≡◌, ◌<◌, ℕ, List, ◌++◌, inr, subst, sym}
 use Rattle.std.specs.Prelude.{Option, Some, None}
 use Rattle.ads_outside.specs.declared.end.End.{End}
 use Rattle.ads_outside.specs.declared.end.End.TheVariants as end
@@ -19,14 +19,13 @@ use Rattle.keep_loop.specs.declared.kept_on.KeptOn.{KeptOn}
 use Rattle.keep_loop.specs.declared.save_counts.SaveCounts.{SaveCounts}
 use Rattle.keep_loop.specs.declared.save_end.SaveEnd.{SaveEnd}
 use Rattle.keep_loop.specs.KeepingOn.{ServesAndKeeps}
-use Rattle.keep_loop.specs.Saving.{StandsForSome}
 use Rattle.keep_play.specs.KeptSaves.{body_of_world, description_kept, saved_line}
 use Rattle.run_tasks.specs.declared.status.Status.{Status}
 use Rattle.run_tasks.specs.declared.status.Status.TheVariants as status
 use Rattle.run_tasks.specs.Service.{server_counts}
 use Rattle.file_run.specs.FileOutcomes.{at_start_in}
 use Rattle.file_run.specs.Machine.{RunsMachine, StandsAnew}
-use Rattle.file_run.specs.Serving.{CannotRun, IsStarted}
+use Rattle.file_run.specs.Serving.{IsStarted}
 use Rattle.file_run.proofs.MachineLemmas.{counted_after, moves_made, runs_machine}
 use Rattle.daemon_run.specs.Endless.{endless_kept}
 use Rattle.daemon_run.specs.Kept.{status_by, status_kept}

@@ -1,2 +1,3 @@
 mod PlayedLemmas
 mod RoundLemmas
+mod TableLemmas

@@ -24,7 +24,6 @@ played_next wave tables i table list new p less is played one =
     (subst (λ ws. ArePlayed (take i tables ++ get_or tables i table ∷ []) ws) (sym waves_are)
     (are_played_more (take i tables) (map wave list) (get_or tables i table) (wave p) played one))
 
-pub none_played : {P : Type 0} (wave : P → Wave) (tables : List SignalTable) (list : List P) → list ≡ [] → ArePlayed (take 0 tables) (map wave list)
+pub none_played : {P : Type 0} (wave : P → Wave) (list : List P) → list ≡ [] → ArePlayed [] (map wave list)
 unfolding ArePlayed
-none_played wave [] list is = subst (λ l. ArePlayed [] (map wave l)) (sym is) tt
-none_played wave (t ∷ ts) list is = subst (λ l. ArePlayed [] (map wave l)) (sym is) tt
+none_played wave list is = subst (λ l. ArePlayed [] (map wave l)) (sym is) tt

@@ -2,5 +2,5 @@
 use Rattle.std.proofs.Common.{length}
 use Rattle.daemon_entries.proofs.unfit.count_left.Given as goal
 
-abbrev pub decreases-loop-_entry : goal.decreases-loop-_entry
-decreases-loop-_entry l = length l.left
+abbrev pub decreases-loop-entry : goal.decreases-loop-entry
+decreases-loop-entry l = length l.left

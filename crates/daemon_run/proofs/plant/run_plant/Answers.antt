@@ -68,12 +68,13 @@ returns-in-None-clause-ends g c =
     let x = description_of read.description in
     let plant = plant_of name listen read.bytes x in
     let Still : Type 0 = (wire_new ≡ wire) × (d ≡ d) in
-    let found : IsRead (length waves) name (g.F.Files.state c.args.files.now).held read = rw (c.in-Ok-Ok.field-0-is, c.count.ensures) at c.in-Ok-Ok.ensures.found in
+    let found : IsRead (length waves) name (g.F.Files.state c.args.files.now).held read =
+    rw (c.in-Ok-Ok.field-0-is, c.count.ensures) at c.in-Ok-Ok.ensures.found in
     ends_read (serves_plant h) (λ y. EndsPlant h y s out out_new disk wire wire_new) Still (g.F.Files.state c.args.files.now).held (length waves)
     (λ bytes y. serves_plant h (plant_of name listen bytes y)) name read.bytes x
     (Rose (g.F.Files.state c.args.files.now).faults (g.F.Files.state c.read_description.new.files).faults) s out out_new found.has found.is
     (plant_run h plant Still s out out_new disk wire wire_new
-    (without_store profile waves c.args.store.now c.args.every plant s out out_new disk wire wire_new ?none c.serve_read.ensures.ends))
+    (without_store profile waves c.args.store.now c.args.every plant s out out_new disk wire wire_new c.in-None.is c.serve_read.ensures.ends))
 
 pub returns-in-Some-clause-ends : goal.returns-in-Some-clause-ends
 returns-in-Some-clause-ends g c =
@@ -94,12 +95,13 @@ returns-in-Some-clause-ends g c =
     let x = description_of read.description in
     let plant = plant_of name listen read.bytes x in
     let Still : Type 0 = (wire_new ≡ wire) × (e ≡ d) in
-    let found : IsRead (length waves) name (g.F.Files.state c.args.files.now).held read = rw (c.in-Ok-Ok.field-0-is, c.count.ensures) at c.in-Ok-Ok.ensures.found in
+    let found : IsRead (length waves) name (g.F.Files.state c.args.files.now).held read =
+    rw (c.in-Ok-Ok.field-0-is, c.count.ensures) at c.in-Ok-Ok.ensures.found in
     ends_read (serves_plant h) (λ y. EndsPlant h y s out out_new disk wire wire_new) Still (g.F.Files.state c.args.files.now).held (length waves)
     (λ bytes y. serves_plant h (plant_of name listen bytes y)) name read.bytes x
     (Rose (g.F.Files.state c.args.files.now).faults (g.F.Files.state c.read_description.new.files).faults) s out out_new found.has found.is
     (plant_run h plant Still s out out_new disk wire wire_new
-    (with_store profile waves c.args.store.now ?name c.args.every plant s out out_new disk wire wire_new ?some c.keep_read.ensures.ends))
+    (with_store profile waves c.args.store.now c.in-Some.store c.args.every plant s out out_new disk wire wire_new c.in-Some.is c.keep_read.ensures.ends))
 
 pub returns-in-None-clause-reads : goal.returns-in-None-clause-reads
 returns-in-None-clause-reads g c = reads_one c.serve_read.result _ _ c.args.description.now c.in-Ok-Ok.ensures.reads

@@ -3,7 +3,6 @@ use Rattle.std.proofs.Common.{refl, inl, inr, length}
 use Rattle.port_device.specs.Profiles.{profile_of}
 use Rattle.type_layout.specs.Descriptions.{description_of}
 use Rattle.stored_values.specs.StoredBodies.{bytes_lent}
-use Rattle.keep_play.specs.KeptSaves.{description_kept}
 use Rattle.keep_play.proofs.CoreLemmas.{kept_is, kept_may_begin}
 use Rattle.file_run.specs.FileOutcomes.{at_start_in}
 use Rattle.file_run.proofs.PlayLemmas.{stands_at_start}

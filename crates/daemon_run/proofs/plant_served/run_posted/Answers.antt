@@ -8,6 +8,6 @@ use Rattle.daemon_run.proofs.plant_served.run_posted.Goals as goal
 
 pub returns-clause-ends : goal.returns-clause-ends
 returns-clause-ends g c = λ x stands.
-    served_so (notes_of_event served) (StandsAt c.args.posted.now.core) (StandsAt c.serve-ended.new.served.core) x c.serve-ended.result endless c.print_end.result
-    (g.S.Sink.state c.args.out.now) (g.S.Sink.state c.print_end.new.out) (g.W.Wire.state c.args.wire.now) (g.W.Wire.state c.serve-ended.new.wire)
-    c.serve-ended.ensures.serve c.print_end.ensures.prints stands
+    served_so (notes_of_event served) (StandsAt c.args.posted.now.core) (StandsAt c.serve-ended.new.served.core) x c.serve-ended.result endless
+    c.print_end.result (g.S.Sink.state c.args.out.now) (g.S.Sink.state c.print_end.new.out)
+    (g.W.Wire.state c.args.wire.now) (g.W.Wire.state c.serve-ended.new.wire) c.serve-ended.ensures.serve c.print_end.ensures.prints stands

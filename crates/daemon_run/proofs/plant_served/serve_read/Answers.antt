@@ -24,4 +24,5 @@ returns-in-Ok-clause-ends g c =
     (started_with listen c.as_str.result.now name c.as_str-in-Ok.result.now read.bytes c.as_slice.result.now c.as_str.ensures c.as_str-in-Ok.ensures
     c.as_slice.ensures)
     (c.serve_posted.ensures.ends (at_start_in profile d waves)
-    (core_anew c.in-Ok.core profile d waves (stands_at_start c.in-Ok.core profile d waves c.in-Ok.ensures.serves c.in-Ok.ensures.counted c.in-Ok.ensures.notes)))
+    (core_anew c.in-Ok.core profile d waves (stands_at_start c.in-Ok.core profile d waves
+    c.in-Ok.ensures.serves c.in-Ok.ensures.counted c.in-Ok.ensures.notes)))
