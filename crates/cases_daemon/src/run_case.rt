@@ -9,7 +9,7 @@ use crate::case_notes::CaseNotes;
 use ads_base::{ListOf, NoMemory, Octets};
 use ads_outside::{Cuts, Files, MemFiles, MemSink, MemWire, Sink, Wire};
 use daemon_log::{Chronicle, Noticeboard};
-use daemon_outside::{MemBeacon, MemOutlet, MemStop, NoNames};
+use daemon_outside::{MemBeacon, MemOutlet, MemStop, NoNames, Onlooker, Stop};
 use daemon_run::{Prepared, prepare, run_watched};
 use daemon_signals::{NoRecordings, Played, read_sources};
 use daemon_words::{ProfileWord, Setup};
@@ -200,14 +200,23 @@ fn ended_of(alloc: Global, status: Status, watched: &CaseWire) -> Result<Ended, 
     })
 }
 
-// What becomes of events and saves is posted on the board.
-fn serve_posted<T: Threads + Sync, F: Files, S: Sink, D: Disk>(
+// What becomes of events and saves is posted on the board. No type of the outside is named here: what is known of all of them at
+// once keeps the search for contracts that no call can meet busy without an end.
+fn serve_posted<
+    T: Threads + Sync,
+    F: Files,
+    W: Wire + Drop,
+    P: Stop + Drop,
+    O: Onlooker<W> + Drop,
+    S: Sink,
+    D: Disk,
+>(
     threads: &T,
     alloc: Global,
     setup: &Setup,
     list: ListOf<Played>,
     files: &mut F,
-    watched: &mut CaseWire,
+    watched: &mut Watched<W, P, O>,
     out: &mut S,
     disk: &mut D,
     board: &Noticeboard,
@@ -224,13 +233,21 @@ fn serve_posted<T: Threads + Sync, F: Files, S: Sink, D: Disk>(
 }
 
 // Serves with the signals of the list.
-fn serve_signals<T: Threads + Sync, F: Files, S: Sink, D: Disk>(
+fn serve_signals<
+    T: Threads + Sync,
+    F: Files,
+    W: Wire + Drop,
+    P: Stop + Drop,
+    O: Onlooker<W> + Drop,
+    S: Sink,
+    D: Disk,
+>(
     threads: &T,
     alloc: Global,
     setup: &Setup,
     list: ListOf<Played>,
     files: &mut F,
-    watched: &mut CaseWire,
+    watched: &mut Watched<W, P, O>,
     out: &mut S,
     disk: &mut D,
     posts: CaseBoard,
