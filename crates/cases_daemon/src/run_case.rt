@@ -6,7 +6,7 @@ ghost use Rattle.ads_outside.specs.Opened.{are_new};
 use crate::case_board::CaseBoard;
 use crate::case_judge::CaseJudge;
 use crate::case_notes::CaseNotes;
-use ads_base::{ListOf, NoMemory, Octets};
+use ads_base::{Calls, ListOf, NoMemory, Octets};
 use ads_outside::{Cuts, Files, MemFiles, MemSink, MemWire, Sink, Wire};
 use daemon_log::{Chronicle, Noticeboard};
 use daemon_outside::{MemBeacon, MemOutlet, MemStop, NoNames, Onlooker, Stop};
@@ -82,20 +82,30 @@ fn run_given<T: Threads + Sync>(threads: &T, alloc: Global, given: Given) -> Res
         failing_keeper: _failing_keeper,
         rows: _rows,
     } = stores;
+    let board = Noticeboard::new(alloc)?;
+    let log = log_of(alloc, &board)?;
+    let mut watched: CaseWire = Watched::new(
+        MemWire::new(alloc, events, failing_calls, cuts),
+        MemStop::new(u64::MAX),
+        log,
+    );
     let mut files = MemFiles::new(alloc, files, failing_reads);
-    let wire = MemWire::new(alloc, events, failing_calls, cuts);
     let mut sink = MemSink::with_parts(alloc, failing_puts, parts);
+    let mut err = MemSink::new(alloc, Calls::new(alloc));
     let mut disk = MemDisk::new(alloc, file, failing_disk, stop);
-    let came = run_words(
+    let status = run_words(
         threads,
         alloc,
         words.as_slice(),
         &mut files,
-        wire,
+        &mut watched,
         &mut sink,
+        &mut err,
         &mut disk,
+        &board,
     );
-    came_of(alloc, came, sink.bytes(), disk.file())
+    let ended = ended_of(alloc, status, &mut watched, err.bytes());
+    came_of(alloc, ended, sink.bytes(), disk.file())
 }
 
 /// How a run ended, what was told on standard error, and the log of its wire.
@@ -104,6 +114,24 @@ struct Ended {
     status: Status,
     told: Octets,
     log: Octets,
+}
+
+// The log ends; behind what was told on standard error stand its lines.
+fn ended_of(
+    alloc: Global,
+    status: Result<Status, Fault>,
+    watched: &mut CaseWire,
+    err: &[u8],
+) -> Result<Ended, Fault> {
+    let status = status?;
+    if let Status::BadDescription { number, item } = &status {
+        watched.onlooker.refused(*number, *item);
+    }
+    watched.onlooker.finish();
+    let mut told = Octets::copy_of(alloc, err)?;
+    told.put(alloc, watched.onlooker.outlet().bytes())?;
+    let log = log_text(alloc, watched.wire.log().as_slice())?;
+    Ok(Ended { status, told, log })
 }
 
 fn came_of(
@@ -125,83 +153,46 @@ fn came_of(
     })
 }
 
-// The words are read, and what they ask for is done.
-fn run_words<T: Threads + Sync, F: Files, S: Sink, D: Disk>(
+// The words are read, and what they ask for is done. No type of the outside is named here, as in what it calls: what is known of
+// all of them at once keeps the search for contracts that no call can meet busy without an end.
+fn run_words<
+    T: Threads + Sync,
+    F: Files,
+    W: Wire + Drop,
+    P: Stop + Drop,
+    O: Onlooker<W> + Drop,
+    S: Sink,
+    E: Sink,
+    D: Disk,
+>(
     threads: &T,
     alloc: Global,
     words: &[String],
     files: &mut F,
-    wire: MemWire,
+    watched: &mut Watched<W, P, O>,
     out: &mut S,
+    err: &mut E,
     disk: &mut D,
-) -> Result<Ended, Fault> {
-    let mut err = MemSink::new(alloc, ads_base::Calls::new(alloc));
-    match prepare(alloc, words, files, out, &mut err) {
-        Prepared::Ended(status) => Ok(Ended {
-            status,
-            told: Octets::copy_of(alloc, err.bytes())?,
-            log: log_text(alloc, wire.log().as_slice())?,
-        }),
+    board: &Noticeboard,
+) -> Result<Status, Fault> {
+    match prepare(alloc, words, files, out, err) {
+        Prepared::Ended(status) => Ok(status),
         Prepared::Ready(setup) => {
             let mut recordings = NoRecordings;
             match read_sources(alloc, setup.signals.as_slice(), files, &mut recordings) {
                 Err(fault) => {
                     let text = fault.sentence(alloc)?;
-                    let status = print_and_end(&mut err, text.as_slice(), Status::Usage);
-                    Ok(Ended {
-                        status,
-                        told: Octets::copy_of(alloc, err.bytes())?,
-                        log: log_text(alloc, wire.log().as_slice())?,
-                    })
+                    Ok(print_and_end(err, text.as_slice(), Status::Usage))
                 }
-                Ok(list) => serve(threads, alloc, &setup, list, files, wire, out, disk),
+                Ok(list) => Ok(serve_posted(
+                    threads, alloc, &setup, list, files, watched, out, disk, board,
+                )?),
             }
         }
     }
 }
 
-// The plant of a setup is served.
-fn serve<T: Threads + Sync, F: Files, S: Sink, D: Disk>(
-    threads: &T,
-    alloc: Global,
-    setup: &Setup,
-    list: ListOf<Played>,
-    files: &mut F,
-    wire: MemWire,
-    out: &mut S,
-    disk: &mut D,
-) -> Result<Ended, Fault> {
-    let board = Noticeboard::new(alloc)?;
-    let log = log_of(alloc, setup, &board)?;
-    let mut watched: CaseWire = Watched::new(wire, MemStop::new(u64::MAX), log);
-    let status = serve_posted(
-        threads,
-        alloc,
-        setup,
-        list,
-        files,
-        &mut watched,
-        out,
-        disk,
-        &board,
-    )?;
-    if let Status::BadDescription { number, item } = &status {
-        watched.onlooker.refused(*number, *item);
-    }
-    watched.onlooker.finish();
-    ended_of(alloc, status, &watched)
-}
-
-fn ended_of(alloc: Global, status: Status, watched: &CaseWire) -> Result<Ended, Fault> {
-    Ok(Ended {
-        status,
-        told: Octets::copy_of(alloc, watched.onlooker.outlet().bytes())?,
-        log: log_text(alloc, watched.wire.log().as_slice())?,
-    })
-}
-
-// What becomes of events and saves is posted on the board. No type of the outside is named here: what is known of all of them at
-// once keeps the search for contracts that no call can meet busy without an end.
+// What becomes of events and saves is posted on the board.
 fn serve_posted<
     T: Threads + Sync,
     F: Files,
@@ -278,10 +269,9 @@ fn serve_signals<
     ))
 }
 
-fn log_of(alloc: Global, setup: &Setup, board: &Noticeboard) -> Result<CaseLog, NoMemory> {
-    let judge = CaseJudge {
-        signals: setup.signals.len() as u32,
-    };
+fn log_of(alloc: Global, board: &Noticeboard) -> Result<CaseLog, NoMemory> {
+    // As many signals as a setup has at most, so that each accepted description is read.
+    let judge = CaseJudge { signals: 1_024 };
     Ok(Chronicle::new(
         alloc,
         0,
