@@ -240,7 +240,8 @@ def stop_file(program):
 
 LOG_LINES = (
     "<6>listening at 127.0.0.1:", "<6>opened 1 from 127.0.0.1:", "<6>speaks 1 as 192.168.0.9.1.1, port 32905", "<6>closed 1 from 127.0.0.1:",
-    '<4>no route for 2: to let it in, add three lines to the description: [[route]] and net = "10.0.0.7.1.1" and rights = "read"',
+    '<4>no route for 2: to let it in, add three lines to the description: [[route]] and net = "10.0.0.7.1.1" and rights = "read"; '
+    'to let every NetId in, add other_routes = "read" to the configuration',
     "<5>shut 2 from 127.0.0.1:", "<6>speaks 3 no ADS", "<5>shut 3 from 127.0.0.1:",
     "<4>reload refused: rule 12 item 1: a symbol lies within its area", "<6>reload accepted: version 2",
     "<4>reload refused: it is no TOML document", "<6>stopping: SIGTERM",
