@@ -15,7 +15,7 @@ use Rattle.spec_machine.specs.MachineState.{MachineState, Exchange, exchange_of,
 use Rattle.spec_machine.specs.Piece.{after_piece}
 use Rattle.spec_machine.specs.Moves.{with_gone, with_took, state_after_move, state_after}
 use Rattle.spec_machine.specs.Events.{after_reload, state_after_event}
-use Rattle.spec_machine.specs.Profile.{Profile, Strict, Wide}
+use Rattle.spec_machine.specs.Profile.{Profile}
 use Rattle.spec_machine.specs.World.{World}
 use Rattle.spec_machine.specs.Handles.{HandleStatus, Live, kept_status}
 use Rattle.spec_machine.specs.Client.{Place, Client}
@@ -81,7 +81,7 @@ keeps_profile reading profile d signals log = log-profile reading log (start_in 
 pub strict_is_plain : StrictIsPlain
 unfolding act_of
 strict_is_plain d c k r strict =
-    ap (λ (x : Profile). plain_act d c k (meant_by x c k.port r)) strict ∙ ap (plain_act d c k) (meant-strict c k.port r)
+    ap (plain_act d c k) (meant-strict d.profile c k.port r strict)
 
 pub writes_are_plain : WritesArePlain
 unfolding act_of plain_act
