@@ -30,6 +30,7 @@ pub mod Meanings
 pub mod HandleStatuses
 pub mod TablesAgreed
 mod SumsInTurn
+pub mod MoreSums
 pub mod DecisionCases
 mod RunExamples
 pub mod AreaNames

@@ -38,6 +38,7 @@ pub mod ByName
 pub mod Meanings
 pub mod Requests
 pub mod Sums
+pub mod MoreSums
 pub mod Decisions
 pub mod SumPackets
 pub mod Packets
