@@ -87,6 +87,7 @@ decide-refuses d c packet =
       reads = λ k number e n len bytes. parts-refuse d c k (sum_of_reads n bytes) _;
       writes = λ k number e n len bytes. parts-refuse d c k (sum_of_writes n bytes) _;
       read_writes = λ k number e n len bytes. parts-refuse d c k (sum_of_read_writes n bytes) _;
+      more = λ k number e group sum is n len bytes. parts-refuse d c k (sum n bytes) _;
     })
     packet
 

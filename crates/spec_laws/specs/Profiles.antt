@@ -1,6 +1,6 @@
 -- The two servers of the machine. Each keeps its profile over every log. To the strict one a request is what is written; the
 -- wide one differs in what is said here, and in nothing that is written to the device.
-use Rattle.std.specs.Prelude.{◌≡◌, ℕ, List, map, min, Some}
+use Rattle.std.specs.Prelude.{◌≡◌, ℕ, List, length, map, min, Some}
 use Rattle.signals.specs.Wave.{Wave}
 use Rattle.spec_plant.specs.Description.{Description}
 use Rattle.spec_plant.specs.Finding.{Found, found_of}
@@ -15,11 +15,14 @@ use Rattle.spec_machine.specs.Access.{WholeByte}
 use Rattle.spec_machine.specs.Handles.{Live, kept_status}
 use Rattle.spec_machine.specs.Client.{Place, names_of_place, Client}
 use Rattle.spec_machine.specs.Acts.{Act, reading}
-use Rattle.spec_machine.specs.Answers.{answered_group, WRITE}
+use Rattle.spec_machine.specs.Answers.{answered_group, WRITE, READ_WRITE}
 use Rattle.spec_machine.specs.Writes.{Asker, write_group}
 use Rattle.spec_machine.specs.ByName.{place_of}
 use Rattle.spec_machine.specs.Meanings.{meant_name}
 use Rattle.spec_machine.specs.Requests.{plain_act, act_of}
+use Rattle.spec_machine.specs.Sums.{sum_of_told_reads, sum_of_short_reads}
+use Rattle.spec_machine.specs.MoreSums.{sum_told_read, sum_short_read}
+use Rattle.spec_machine.specs.SumPackets.{decide_sum, decide_read_write, decide_request}
 use Rattle.spec_machine.specs.AdsDevice.{DescriptionReading, server_step}
 use Rattle.spec_laws.specs.Isolation.{start_in}
 
@@ -60,3 +63,15 @@ WideModes = (d : Setup) (c : Client) (k : Asker) (group offset len delay cycle :
     ≡ act_of d c k (AddDeviceNotification group offset len 3 delay cycle))
     × (act_of d c k (AddDeviceNotification group offset len 6 delay cycle)
     ≡ act_of d c k (AddDeviceNotification group offset len 4 delay cycle))
+
+-- Where the server is strict, it knows no sum besides those of all: a ReadWrite is decided by its group.
+abbrev pub StrictSums : Type 0
+StrictSums = (d : Setup) (c : Client) (k : Asker) (group offset len : ℕ) (bytes : List ℕ) → d.profile.manner ≡ Strict
+    → decide_request d c k (ReadWrite group offset len bytes)
+    ≡ decide_read_write d c k (answered_group READ_WRITE group) (ReadWrite group offset len bytes) offset len bytes
+
+-- Where the server is wide, the sums of reads that tell their lengths are sums, filled or as long as their data is.
+abbrev pub WideSums : Type 0
+WideSums = (d : Setup) (c : Client) (k : Asker) (n len : ℕ) (bytes : List ℕ) → d.profile.manner ≡ Wide
+    → (decide_request d c k (ReadWrite sum_told_read n len bytes) ≡ decide_sum d c k n (length bytes) len (sum_of_told_reads n bytes))
+    × (decide_request d c k (ReadWrite sum_short_read n len bytes) ≡ decide_sum d c k n (length bytes) len (sum_of_short_reads n bytes))

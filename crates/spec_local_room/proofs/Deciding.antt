@@ -33,7 +33,9 @@ use Rattle.spec_machine.specs.Reads.{fixed_reply}
 use Rattle.spec_machine.specs.Meanings.{mode_in, name_in, value_len_in}
 use Rattle.spec_machine.specs.Requests.{mode_of, MAX_WATCHES, next_watch, add_watch, add_reached, add_act, plain_act, act_of}
 use Rattle.spec_machine.specs.Sums.{SumRequest, sum_refusal, sum_of_reads, sum_of_writes, sum_of_read_writes, given_in_turn}
-use Rattle.spec_machine.specs.SumPackets.{acts_of, decide_parts, decide_read_write, decide_request}
+use Rattle.spec_machine.specs.MoreSums.{more_sums}
+use Rattle.spec_machine.proofs.MoreSums.{more_sums-none}
+use Rattle.spec_machine.specs.SumPackets.{acts_of, decide_parts, decide_read_write, decide_more, decide_request}
 use Rattle.spec_machine.specs.Watches.{Watch, Mode}
 use Rattle.spec_machine.specs.World.{Setup, port_numbered, numbers_from, name_at, names_at}
 use Rattle.spec_machine.specs.Writes.{Asker}
@@ -77,10 +79,17 @@ replied_read_write d c k (Some SumReadWrite) r n len bytes =
     let s = sum_of_read_writes n bytes in replied_parts d c k s (sum_refusal n s.data_len (length bytes) s.reply_len len)
 replied_read_write d c k g r n len bytes = tt
 
+replied_more : (d : Setup) (c : Client) (k : Asker) (o : Option (ℕ → List ℕ → SumRequest)) (group n len : ℕ) (bytes : List ℕ)
+    → IsReplied (decide_more d c k o group n len bytes)
+replied_more d c k (Some sum) group n len bytes =
+    let s = sum n bytes in replied_parts d c k s (sum_refusal n s.data_len (length bytes) s.reply_len len)
+replied_more d c k None group n len bytes =
+    replied_read_write d c k (answered_group READ_WRITE group) (request.ReadWrite group n len bytes) n len bytes
+
 replied_request : (d : Setup) (c : Client) (k : Asker) (r : Request) → IsReplied (decide_request d c k r)
 unfolding decide_request
 replied_request d c k (request.ReadWrite group offset len bytes) =
-    replied_read_write d c k (answered_group READ_WRITE group) (request.ReadWrite group offset len bytes) offset len bytes
+    replied_more d c k (more_sums d.profile group) group offset len bytes
 replied_request d c k r = tt
 
 -- who is answered: none where a check fails
@@ -198,7 +207,8 @@ entry_decided : (d : Setup) (c : Client) (k : Asker) (offset len : ℕ) (name : 
 unfolding decide_request
 entry_decided d c k offset len name =
     let r = request.ReadWrite 0xF009 offset len name in
-    ap (λ g. client_after_acts c (acts_in (decide_read_write d c k g r offset len name))) entry_group
+    ap (λ o. client_after_acts c (acts_in (decide_more d c k o 0xF009 offset len name))) (more_sums-none d.profile 0xF009 refl)
+    ∙ ap (λ g. client_after_acts c (acts_in (decide_read_write d c k g r offset len name))) entry_group
     ∙ ap (client_after_acts c) (one_acts d c k r)
     ∙ one_act c (act_of d c k r) (entry_act d c k offset len name)
 

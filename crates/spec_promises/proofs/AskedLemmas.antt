@@ -24,15 +24,16 @@ use Rattle.spec_machine.specs.Answers.{answered_group, READ_WRITE}
 use Rattle.spec_machine.specs.Writes.{Asker}
 use Rattle.spec_machine.specs.Requests.{act_of}
 use Rattle.spec_machine.specs.Sums.{SumRequest, sum_of_reads, sum_of_writes, sum_of_read_writes, given_in_turn}
+use Rattle.spec_machine.specs.MoreSums.{more_sums}
 use Rattle.spec_machine.specs.SumLaws.{Party, party_after}
 use Rattle.spec_machine.specs.Decisions.{Decision, NoAnswer, EndConnection, AmsError, refuse, acts_in}
-use Rattle.spec_machine.specs.SumPackets.{acts_of, decide_parts, decide_read_write, decide_request}
+use Rattle.spec_machine.specs.SumPackets.{acts_of, decide_parts, decide_read_write, decide_more, decide_request}
 use Rattle.spec_machine.specs.Packets.{Check, source_rights, checks_of, checked, decide_passed, decide_header, decide}
 use Rattle.spec_machine.specs.Replies.{performed}
 use Rattle.spec_machine.specs.Projection.{acts_of_packet, acts_of_packets, acts_of_piece, acts_at}
 use Rattle.spec_laws.proofs.Exchanges.{answer-client, rest-client}
 use Rattle.spec_promises.specs.Asked.{Asked, act_of_asked, after_asked, asked_in_turn, question, question_in}
-use Rattle.spec_promises.specs.Asked.{question_of, parts_unless, requests_in, requests_of}
+use Rattle.spec_promises.specs.Asked.{question_of, parts_unless, requests_in, requests_more, requests_of}
 use Rattle.spec_promises.specs.Asked.{asked_of_question, party_of, asked_of_packet, asked_of_packets, asked_of_piece, asked_at, names_written, Leads}
 use Rattle.spec_server.specs.Server.{read_description, server_device}
 
@@ -124,11 +125,15 @@ read_write d k p (Some SumWrite) r n len bytes = parts d k p (sum_of_writes n by
 read_write d k p (Some SumReadWrite) r n len bytes = parts d k p (sum_of_read_writes n bytes) _
 read_write d k p g r n len bytes = in_turn d k (r ∷ []) p
 
+more : (d : Setup) (k : Asker) (p : Party) (o : Option (ℕ → List ℕ → SumRequest)) (group n len : ℕ) (bytes : List ℕ)
+    → Matches p (acts_in (decide_more d p.client k o group n len bytes)) (asked_in_turn d k p (requests_more o group n len bytes))
+more d k p (Some sum) group n len bytes = parts d k p (sum n bytes) _
+more d k p None group n len bytes = read_write d k p (answered_group READ_WRITE group) (ReadWrite group n len bytes) n len bytes
+
 requests : (d : Setup) (k : Asker) (p : Party) (r : Request)
-    → Matches p (acts_in (decide_request d p.client k r)) (asked_in_turn d k p (requests_of r))
+    → Matches p (acts_in (decide_request d p.client k r)) (asked_in_turn d k p (requests_of d.profile r))
 unfolding decide_request requests_of
-requests d k p (ReadWrite group offset len bytes) =
-    read_write d k p (answered_group READ_WRITE group) (ReadWrite group offset len bytes) offset len bytes
+requests d k p (ReadWrite group offset len bytes) = more d k p (more_sums d.profile group) group offset len bytes
 requests d k p ReadDeviceInfo = in_turn d k (ReadDeviceInfo ∷ []) p
 requests d k p (Read g o l) = in_turn d k (Read g o l ∷ []) p
 requests d k p (Write g o b) = in_turn d k (Write g o b ∷ []) p

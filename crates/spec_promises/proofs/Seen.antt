@@ -150,7 +150,7 @@ passed-sees : (d : Setup) (p : Party) → IsSoundPlant d.plant → Alike p.memor
 passed-sees d p sound m f source (Some rights) number (Some port) e (Some request) =
     let P : ℕ → Type 0 = λ n. port_numbered n d.plant.ports ≡ Some port in
     let i : IsAsked d.plant port = record { sound = sound; found = subst P (sym (port_number number d.plant.ports port e)) e } in
-    in_turn-sees d (record { port = port; address = source; rights = rights }) i (requests_of request) p m f
+    in_turn-sees d (record { port = port; address = source; rights = rights }) i (requests_of d.profile request) p m f
 passed-sees d p sound m f source (Some rights) number (Some port) e None = tt
 passed-sees d p sound m f source (Some rights) number None e request = tt
 passed-sees d p sound m f source None number port e request = tt

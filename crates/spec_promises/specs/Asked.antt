@@ -13,6 +13,7 @@ use Rattle.spec_formats.specs.Request.{Request, ReadWrite, request_of}
 use Rattle.spec_machine.specs.Connection.{Connection, connection_of, is_deaf}
 use Rattle.spec_machine.specs.MachineState.{MachineState, Exchange, exchange_of}
 use Rattle.spec_machine.specs.Piece.{packets_left, with_received, with_piece, after_packet}
+use Rattle.spec_machine.specs.Profile.{Profile}
 use Rattle.spec_machine.specs.World.{World, Setup, setup_of, port_numbered}
 use Rattle.spec_machine.specs.Client.{Client}
 use Rattle.spec_machine.specs.Acts.{Act, Outcome, writes_of_act}
@@ -20,6 +21,7 @@ use Rattle.spec_machine.specs.Answers.{answered_group, READ_WRITE}
 use Rattle.spec_machine.specs.Writes.{Asker}
 use Rattle.spec_machine.specs.Requests.{act_of}
 use Rattle.spec_machine.specs.Sums.{SumRequest, sum_of_reads, sum_of_writes, sum_of_read_writes, sum_refusal}
+use Rattle.spec_machine.specs.MoreSums.{more_sums}
 use Rattle.spec_machine.specs.SumLaws.{Party, single_outcome, party_after}
 use Rattle.spec_machine.specs.Packets.{Check, source_rights, checks_of}
 use Rattle.spec_server.specs.Server.{server_device}
@@ -81,15 +83,21 @@ requests_in (Some SumWrite) r n read_len bytes = parts_of n (length bytes) read_
 requests_in (Some SumReadWrite) r n read_len bytes = parts_of n (length bytes) read_len (sum_of_read_writes n bytes)
 requests_in group r n read_len bytes = r ∷ []
 
+-- the parts of a sum that a server of this profile knows besides, or what the group says
+abbrev pub requests_more : Option (ℕ → List ℕ → SumRequest) → ℕ → ℕ → ℕ → List ℕ → List Request
+requests_more (Some sum) group n read_len bytes = parts_of n (length bytes) read_len (sum n bytes)
+requests_more None group n read_len bytes =
+    requests_in (answered_group READ_WRITE group) (ReadWrite group n read_len bytes) n read_len bytes
+
 -- a request by itself, or the parts of a sum, whose offset is their number
-unfoldable pub requests_of : Request → List Request
-requests_of (ReadWrite group offset read_len bytes) =
-    requests_in (answered_group READ_WRITE group) (ReadWrite group offset read_len bytes) offset read_len bytes
-requests_of r = r ∷ []
+unfoldable pub requests_of : Profile → Request → List Request
+requests_of profile (ReadWrite group offset read_len bytes) =
+    requests_more (more_sums profile group) group offset read_len bytes
+requests_of profile r = r ∷ []
 
 abbrev pub asked_of_question : Setup → Party → Option Question → List Asked
 asked_of_question d p None = []
-asked_of_question d p (Some q) = asked_in_turn d q.asker p (requests_of q.request)
+asked_of_question d p (Some q) = asked_in_turn d q.asker p (requests_of d.profile q.request)
 
 -- what a connection and the world are to a request
 abbrev pub party_of : Exchange World Client → Party
