@@ -272,6 +272,26 @@ def log_lines(program):
         return f"{len(err.splitlines())} lines"
 
 
+@tried
+def machines_without_a_route(program):
+    """`other_routes`: who has no route reads; a write of it is refused with 0x704, or done; the log says what it means."""
+    stranger, said = bytes([10, 0, 0, 7, 1, 1]), []
+    for right, code in (("read", 0x704), ("write", 0)):
+        with contextlib.ExitStack() as stack:
+            it = Daemon(stack, program, ["--log", "journal", "--other-routes", right])
+            with it.link() as link:
+                link.settimeout(5)
+                link.sendall(reading(1, stranger) + frame(2, 3, struct.pack("<IIII", 0x4040, 0, 4, 7), stranger))
+                expect(reply(link) == (1, struct.pack("<III", 0, 4, 42)), "a read of a stranger was not answered")
+                expect(reply(link) == (2, struct.pack("<I", code)), "a write of a stranger was answered otherwise")
+            out, err, status, _ = it.stopped(signal.SIGTERM)
+            in_order(out, status)
+            expect(any(line.startswith(f"<5>other_routes {right}: each machine") for line in err.splitlines()), f"the log says {err!r}")
+            expect("no route for" not in err, f"the log says {err!r}")
+            said.append(right)
+    return " and ".join(said)
+
+
 def busy(daemon, seconds=3):
     """Round trips for so long, each on a connection of its own, which makes three lines; the longest in ms."""
     ends, longest, count = time.monotonic() + seconds, 0.0, 0

@@ -6,10 +6,12 @@ use std::alloc::Global;
 use symbol_file::read;
 use type_layout::{Description, RouteDesc};
 
-/// Reads descriptions, for so many signals.
+/// Reads descriptions, for so many signals, and knows whether a right is given to others.
 #[derive(Clone, Copy, Debug)]
 pub struct CaseJudge {
     pub signals: u32,
+    /// Machines without a route may connect too.
+    pub lets_others_in: bool,
 }
 
 impl Judge for CaseJudge {
@@ -18,6 +20,10 @@ impl Judge for CaseJudge {
             Ok(Ok(description)) => nets_of(alloc, &description),
             Ok(Err(_)) | Err(NoMemory) => None,
         }
+    }
+
+    fn lets_others_in(&self) -> bool {
+        self.lets_others_in
     }
 }
 

@@ -12,14 +12,16 @@ use daemon_log::{Chronicle, Noticeboard};
 use daemon_outside::{MemBeacon, MemOutlet, MemStop, NoNames, Onlooker, Stop};
 use daemon_run::{Prepared, prepare, run_watched};
 use daemon_signals::{NoRecordings, Played, read_sources};
-use daemon_words::{ProfileWord, Setup};
+use daemon_words::{OthersWord, ProfileWord, Setup};
 use persist_store::{Disk, MemDisk};
-use port_device::Profile;
+use port_device::Manner;
 use run_sheets::{Came, Fault, Given, Runs, StoreCase, WireCase, log_text, open_new};
 use run_tasks::{Status, print_and_end};
+use server_core::Profile;
 use signals::Signal;
 use std::alloc::Global;
 use std::thread::Threads;
+use type_layout::Rights;
 use watched_wire::Watched;
 
 /// The program `adsd`.
@@ -83,7 +85,8 @@ fn run_given<T: Threads + Sync>(threads: &T, alloc: Global, given: Given) -> Res
         rows: _rows,
     } = stores;
     let board = Noticeboard::new(alloc)?;
-    let log = log_of(alloc, &board)?;
+    let others = says(words.as_slice(), "--other-routes");
+    let log = log_of(alloc, others, &board)?;
     let mut watched: CaseWire = Watched::new(
         MemWire::new(alloc, events, failing_calls, cuts),
         MemStop::new(u64::MAX),
@@ -254,7 +257,7 @@ fn serve_signals<
     Ok(run_watched(
         threads,
         alloc,
-        profile_of(setup.profile),
+        profile_of(setup),
         &setup.description,
         &setup.listen,
         &setup.store,
@@ -269,9 +272,26 @@ fn serve_signals<
     ))
 }
 
-fn log_of(alloc: Global, board: &Noticeboard) -> Result<CaseLog, NoMemory> {
+// Whether this is one of the words.
+fn says(words: &[String], wanted: &str) -> bool {
+    for word in words {
+        if word.as_str() == wanted {
+            return true;
+        }
+    }
+    false
+}
+
+fn log_of(
+    alloc: Global,
+    lets_others_in: bool,
+    board: &Noticeboard,
+) -> Result<CaseLog, NoMemory> {
     // As many signals as a setup has at most, so that each accepted description is read.
-    let judge = CaseJudge { signals: 1_024 };
+    let judge = CaseJudge {
+        signals: 1_024,
+        lets_others_in,
+    };
     Ok(Chronicle::new(
         alloc,
         0,
@@ -285,9 +305,24 @@ fn log_of(alloc: Global, board: &Noticeboard) -> Result<CaseLog, NoMemory> {
     ))
 }
 
-fn profile_of(word: ProfileWord) -> Profile {
+fn profile_of(setup: &Setup) -> Profile {
+    Profile {
+        manner: manner_of(setup.profile),
+        others: others_of(setup.others),
+    }
+}
+
+fn manner_of(word: ProfileWord) -> Manner {
     match word {
-        ProfileWord::Wide => Profile::Wide,
-        ProfileWord::Strict => Profile::Strict,
+        ProfileWord::Wide => Manner::Wide,
+        ProfileWord::Strict => Manner::Strict,
+    }
+}
+
+fn others_of(word: Option<OthersWord>) -> Option<Rights> {
+    match word {
+        Some(OthersWord::Read) => Some(Rights::Read),
+        Some(OthersWord::Write) => Some(Rights::Write),
+        None => None,
     }
 }
