@@ -308,10 +308,10 @@ def packets(conn):
 
 class Server:
     """A device with its clients. `signals` are the waves of the signals; `wide` is the profile: the strict server takes requests as they are written, the wide one for
-    what TwinCAT's clients mean by them."""
+    what TwinCAT's clients mean by them. `others` is the right of each machine without a route, or none."""
 
-    def __init__(self, d, signals, wide=False):
-        self.wide = wide
+    def __init__(self, d, signals, wide=False, others=None):
+        self.wide, self.others = wide, RIGHTS.get(others)
         self.waves, self.places = signals, [0] * len(signals)
         self.moment, self.accepted, self.refused = 0, 0, 0
         self.opened, self.requests, self.replies, self.samples = 0, 0, 0, 0
@@ -349,7 +349,7 @@ class Server:
             return None
         if flags != 4:
             return answer(0xB, b"")
-        if source[:6] not in self.routes:
+        if self.routes.get(source[:6], self.others) is None:
             conn.closing = True
             return None
         if target[:6] != self.net:
@@ -377,7 +377,7 @@ class Server:
         if head and (len(payload) < head or struct.unpack("<I", payload[head - 4:head])[0] != len(payload) - head):
             raise Refused(0x705)
         words = struct.unpack(f"<{len(payload[:head or 24]) // 4}I", payload[:(head or 24) // 4 * 4]) if command not in (1, 4, 5) else ()
-        rights = self.routes[source[:6]]
+        rights = self.routes.get(source[:6], self.others)
         if command == 1:
             return port.facts()
         if command == 2:
@@ -748,9 +748,9 @@ class Relay:
         return f"connections {self.opened} frames {self.frames} passed {self.passed} unknown {self.unknown}"
 
 
-def play(d, signals, events, wide=False):
+def play(d, signals, events, wide=False, others=None):
     """What `replay` prints of these events, with its summary; with `wide`, what it would print of the wide server."""
-    return played(Server(d, signals, wide), events)
+    return played(Server(d, signals, wide, others), events)
 
 
 def relayed(d, events):

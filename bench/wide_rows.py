@@ -44,18 +44,18 @@ def by_name(number, name, group=0xF003, most=4):
     return ask(number, group, 0, most, name)
 
 
-def row(said, *turns):
+def row(said, *turns, others=None):
     """A run of one client, connection 1, and of one beside it, 2: what each event is, and the frames that come of it."""
     events, out = [("open", 1)], []
     for event, *frames in turns:
         events.append(event if isinstance(event, tuple) else ("bytes", 1, event))
         conn = event[1] if isinstance(event, tuple) and event[0] == "bytes" else 1
         out += [it if isinstance(it, str) else f"out {conn} {it.hex()}" for it in frames]
-    came = model.play(PLANT, [], events, True)
+    came = model.play(PLANT, [], events, True, others)
     wanted = "".join(line + "\n" for line in out)
     if wanted != came.rsplit("\n", 2)[0] + "\n":
         raise SystemExit(f"the model of the protocol and a row differ: {said}\nwanted:\n{wanted}came:\n{came}")
-    return played_wide(said, [line for event in events for line in lines_of(event, "plant2.toml")], came)
+    return played_wide(said, [line for event in events for line in lines_of(event, "plant2.toml")], came, others)
 
 
 def beside(*frames):
@@ -125,4 +125,20 @@ def modes():
         yield row(f"Mode {mode} is none.", (add(1, 0x4040, 0, 4, mode), refused(1, 0x713, 6)))
 
 
-SUBJECTS = {"wide_longer": longer, "wide_alike": alike, "wide_reloads": reloads, "wide_names": names, "wide_modes": modes}
+STRANGER = "9.9.9.9.1.1"
+
+
+def others():
+    """A machine that no route of plant.toml names."""
+    reads = (read(1, 0x4040, 0, 4, source=STRANGER), reply(2, 1, u32(0) + u32(4) + u32(42), to=STRANGER))
+    writes = write(2, 0x4040, 0, u32(7), source=STRANGER)
+    barred = reply(3, 2, u32(0x704), to=STRANGER)
+    yield row("A machine without a route is shut out, where others have no right.", (read(1, 0x4040, 0, 4, source=STRANGER), "shut 1"))
+    yield row("Where others may read, it reads, and writes nothing.", reads, (writes, barred), (read(3, 0x4040, 0, 4), given(3, u32(42))), others="read")
+    yield row("Where others may write, it reads and writes, and controls nothing.", reads, (writes, reply(3, 2, u32(0), to=STRANGER)), (read(3, 0x4040, 0, 4), given(3, u32(7))),
+              (frame(5, 4, u16(6) + u16(0) + u32(0), source=STRANGER), reply(5, 4, u32(0x704), to=STRANGER)), others="write")
+    yield row("A machine with a route has the right of its route alone.", (write(2, 0x4040, 0, u32(1), source=OTHER), reply(3, 2, u32(0x704), to=OTHER)), others="write")
+    yield row("A reload leaves others their right.", (("reload", PLANT2), "reload ok 2"), (frame(4, 1, b"", source=STRANGER), reply(4, 1, u32(0) + u16(5) + u16(0), to=STRANGER)), (writes, barred), others="read")
+
+
+SUBJECTS = {"wide_longer": longer, "wide_alike": alike, "wide_reloads": reloads, "wide_names": names, "wide_modes": modes, "wide_others": others}

@@ -18,11 +18,11 @@ use Rattle.ams_relay.specs.Counts.{counts_in}
 use Rattle.ams_relay.specs.Holds.{net_of, AreOwn, HoldsAsked, HoldsRequests, Holds, owner_in}
 use Rattle.ams_relay.specs.Peers.{Peers, peer_in, Sets}
 use Rattle.ams_relay.specs.Touched.{OthersIdle}
-use Rattle.ams_relay.specs.Taking.{IsHeardAt, number_of}
+use Rattle.ams_relay.specs.Taking.{IsHeardAt, OwnsAt, number_of}
 use Rattle.ams_relay.proofs.EntryLemmas.{none_of}
-use Rattle.ams_relay.proofs.HoldLemmas.{Kept, peer_kept, peers_changed, named_at, counts_changed, asked_kept}
+use Rattle.ams_relay.proofs.HoldLemmas.{Kept, peer_found, peer_kept, peers_changed, named_at, counts_changed, asked_kept}
 use Rattle.ams_relay.proofs.OwnerLemmas.{bytes_same, some_same, owner_is, owners_own}
-use Rattle.ams_relay.proofs.RequestLemmas.{hearing, AreSame, same_heard, heard_changed, heard_parts}
+use Rattle.ams_relay.proofs.RequestLemmas.{hearing, AreSame, same_heard, heard_changed, heard_parts, heard_of_parts}
 use Rattle.ams_relay.proofs.StateLemmas.{Stays, changed-none, changed-nothing}
 
 client_stays : (net : List ℕ) → Stays (with_client (Some net))
@@ -44,6 +44,18 @@ pub owned_is : (c : ℕ) (b : List ℕ) (k : RelayConnection) (p : Peer) (r : Ro
 owned_is c b k p r s h heard was =
     let kept = heard_peer c b k r s h heard in
     ap (λ (x : Peer). net_of x.owned) (some_same p kept.peer (sym was ∙ kept.found)) ∙ kept.stands.owned
+
+-- a peer that is not closing and owns a NetId is its owner
+pub owner_there : (n : ℕ) (net : List ℕ) (b : List ℕ) (r : Router) (s : RelayState) → Holds r b s → OwnsAt n net r.peers.entries
+    → owner_in net r.owners.entries ≡ Some n
+owner_there n net b r s h o =
+    let at = peer_found r.peers.entries b s n o.peer h.peers o.found in
+    h.owners.owners net n (record {
+      connection = at.connection;
+      found = at.found;
+      heard = heard_of_parts at.connection (sym at.stands.closing ∙ o.owns.open_) at.there;
+      client = sym at.stands.owned ∙ o.owns.owned;
+    })
 
 -- the source is another's
 pub taken_from_owned : (net : List ℕ) (owned : NetId) (k : RelayConnection) (ks : List RelayConnection)

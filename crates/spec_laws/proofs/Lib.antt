@@ -26,3 +26,4 @@ pub mod BitWrites
 pub mod HandleWrites
 pub mod Histories
 pub mod Profiles
+pub mod RightsLaws

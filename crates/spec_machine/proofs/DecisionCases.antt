@@ -2,7 +2,6 @@
 use Rattle.std.proofs.Common.{◌≡◌, ℕ, List, [], ◌∷◌, length, Bool, true, false, cond, refl}
 use Rattle.std.specs.Prelude.{Option, Some, None}
 use Rattle.spec_plant.specs.Description.{Rights}
-use Rattle.spec_plant.specs.Rights.{rights_of}
 use Rattle.spec_plant.specs.World.{PlantPort}
 use Rattle.spec_formats.specs.Codes.{target_port_not_found, target_machine_not_found, unknown_command_id, unknown_ams_command, invalid_ams_length, invalid_size}
 use Rattle.spec_formats.specs.Groups.{Group, SumRead, SumWrite, SumReadWrite}
@@ -18,7 +17,7 @@ use Rattle.spec_machine.specs.Sums.{SumRequest, sum_of_reads, sum_of_writes, sum
 use Rattle.spec_machine.specs.MoreSums.{more_sums}
 use Rattle.spec_machine.specs.Decisions.{Decision, NoAnswer, EndConnection, AmsError, refuse}
 use Rattle.spec_machine.specs.SumPackets.{decide_single, decide_sum, decide_read_write, decide_more, decide_request}
-use Rattle.spec_machine.specs.Packets.{Check, checks_of, checked, decide_passed, decide_header, decide}
+use Rattle.spec_machine.specs.Packets.{Check, source_rights, checks_of, checked, decide_passed, decide_header, decide}
 
 -- it holds of each; requests are asked of a port that is there
 pub record EachCase (d : Setup) (c : Client) (P : Decision → Type 0) : Type 0 where
@@ -95,7 +94,7 @@ unfolding EachStop
 header-case d c P law payload None = law.silent
 header-case d c P law payload (Some h) =
     let E = law.error in
-    let stops : EachStop P (checks_of d.plant h payload) = (
+    let stops : EachStop P (checks_of d h payload) = (
       E invalid_ams_length,
       (
         law.silent,
@@ -105,8 +104,8 @@ header-case d c P law payload (Some h) =
         ),
       ),
     ) in
-    checked-case P (checks_of d.plant h payload) _ stops
-    (passed-case d c P law h.source h.target.port (rights_of h.source.net d.plant.routes)
+    checked-case P (checks_of d h payload) _ stops
+    (passed-case d c P law h.source h.target.port (source_rights d h)
     (port_numbered h.target.port d.plant.ports) refl (request_of h.command payload))
 
 pub decide-cases : (d : Setup) (c : Client) (P : Decision → Type 0) → EachCase d c P → (packet : List ℕ) → P (decide d c packet)

@@ -25,6 +25,7 @@ mod PacketExamples
 mod EnumerationExamples
 mod BesideExamples
 mod WideExamples
+mod OthersExamples
 pub mod Meanings
 pub mod HandleStatuses
 pub mod TablesAgreed

@@ -18,7 +18,7 @@ use Rattle.spec_machine.specs.Entries.{entry_of_part}
 use Rattle.spec_machine.specs.HandleLaws.{handles_after_all}
 use Rattle.spec_machine.specs.Handles.{grant_in, handle_in, handles_after, is_released_in, place_after, with_released}
 use Rattle.spec_machine.specs.MachineState.{start_of, output_of}
-use Rattle.spec_machine.specs.Profile.{Wide}
+use Rattle.spec_machine.specs.Profile.{wide}
 use Rattle.spec_machine.specs.Moves.{state_after, state_after_move}
 use Rattle.spec_machine.specs.Events.{connection_after_reload, connection_after_tick, state_after_event}
 use Rattle.spec_machine.specs.SumPackets.{acts_of, decide_request}
@@ -49,7 +49,7 @@ use Rattle.spec_machine.proofs.Plant.{q, a, added, named, stamp, tick, opened, p
 
 -- all that connection 1 of the wide server is given, where it is opened first
 abbrev given_wide : List Move → List ℕ
-given_wide log = output_of 1 (state_after step (start_of (world_in Wide plant waves)) (opened 1 ∷ log))
+given_wide log = output_of 1 (state_after step (start_of (world_in wide plant waves)) (opened 1 ∷ log))
 
 record WideRows : Type 0 where
   -- by handle and by name, more bytes than there are: those that are there, of a part too; a part of a sum is filled to the asked length

@@ -2,7 +2,7 @@
 
 /// What a server makes of a request: what is written, or what TwinCAT's clients mean by it.
 #[derive(Clone, Copy, Debug, PartialEq, Eq)]
-pub enum Profile {
+pub enum Manner {
     /// Each request is what is written.
     Strict,
     /// A length by handle or by name is the size of a buffer, a name ends at its first NUL and may have a full stop in
