@@ -16,6 +16,8 @@ BITS_OF = {0xF021: "inputs", 0xF031: "outputs", 0x4021: "memory"}
 SIZE_OF = {0xF025: "inputs", 0xF035: "outputs", 0x4025: "memory", 0x4045: "data"}
 GROUP_OF = {area: group for group, area in BYTES_OF.items()}
 SUMS = (0xF080, 0xF081, 0xF082)
+# Sums of reads whose results tell their lengths, with the data filled or not: to the wide server alone.
+TOLD = (0xF083, 0xF084)
 RIGHTS = {"read": 1, "write": 2, "control": 3}
 LIVE, WATCHES, QUEUED, RECORDS, MOST = 4096, 512, 4194304, 4096, 2000000
 
@@ -488,7 +490,7 @@ class Server:
         port.put(area, at, given)
 
     def read_write(self, conn, port, source, rights, group, offset, most, given):
-        if group in SUMS:
+        if group in SUMS or (self.wide and group in TOLD):
             return self.sum(conn, port, source, rights, group, offset, most, given)
         return self.ask(conn, port, group, most, given)
 
@@ -531,22 +533,22 @@ class Server:
     def sum(self, conn, port, source, rights, group, count, most, given):
         if count > 500:
             raise Refused(0x706)
-        width = 16 if group == 0xF082 else 12
+        width, told, reads = 16 if group == 0xF082 else 12, group in (0xF082, *TOLD), group in (0xF080, *TOLD)
         if len(given) < width * count:
             raise Refused(0x705)
         heads = [struct.unpack(f"<{width // 4}I", given[width * k:width * (k + 1)]) for k in range(count)]
-        written = [head[-1] if group != 0xF080 else 0 for head in heads]
+        written = [0 if reads else head[-1] for head in heads]
         if len(given) != width * count + sum(written):
             raise Refused(0x705)
         asked = [head[2] if group != 0xF081 else 0 for head in heads]
-        greatest = (8 if group == 0xF082 else 4) * count + sum(asked)
+        greatest = (8 if told else 4) * count + sum(asked)
         if most < greatest or greatest > MOST:
             raise Refused(0x705)
         at, results, data = width * count, b"", b""
         for head, own, room in zip(heads, written, asked):
             code, got = 0, b""
             try:
-                if group == 0xF080:
+                if reads:
                     got = self.read(conn, port, *head)
                 elif group == 0xF081:
                     self.write(conn, port, source, rights, head[0], head[1], given[at:at + own])
@@ -557,8 +559,8 @@ class Server:
             except Refused as refused:
                 code = refused.code
             at += own
-            results += u32(code) + (u32(len(got)) if group == 0xF082 else b"")
-            data += got.ljust(room, b"\0") if group == 0xF080 else got
+            results += u32(code) + (u32(len(got)) if told else b"")
+            data += got.ljust(room, b"\0") if group in (0xF080, 0xF083) else got
         return results + data
 
     def add(self, conn, port, source, group, offset, count, mode, _delay, cycle):
