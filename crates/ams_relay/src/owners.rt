@@ -36,7 +36,9 @@ impl Router {
     fn owner_at(&self, i: usize, net: NetId) -> Option<u32>
         ensures { IfSome result (λ n. OwnsAt n net.bytes self.now.peers.entries) }
     {
-        let (number, peer) = self.peers.get_index(i)?;
+        let Some((number, peer)) = self.peers.get_index(i) else {
+            return None;
+        };
         if peer.is_owner(net) {
             Some(*number)
         } else {
