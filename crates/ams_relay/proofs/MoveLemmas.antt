@@ -94,6 +94,7 @@ writable_absent n b r s h none = record {
   named = h.named;
   counts = h.counts;
   idle = h.idle;
+  routed = h.routed;
 }
   where
     marks : (m : ℕ) → m ≢ n → (o : Option Peer) → IfSome o (λ q. q.blocked ≡ is_among m b) → IfSome o (λ q. q.blocked ≡ is_among m (writable_list n b))
@@ -310,6 +311,7 @@ holds_same b old new s routes peers owners counts touched h = record {
   named = h.named;
   counts = ap counts_in counts ∙ h.counts;
   idle = subst (λ es. OthersIdle new.touched es) (sym peers) (subst (λ t. OthersIdle t old.peers.entries) (sym touched) h.idle);
+  routed = h.routed;
 }
 
 -- a frame has bytes

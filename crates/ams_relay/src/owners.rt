@@ -1,6 +1,7 @@
 //! Who owns which NetId.
 
-ghost use Rattle.std.specs.Prelude.{◌≡◌, ℕ, List, option_map, not, bytes_eq, false, OnOk, IfSome};
+ghost use Rattle.std.specs.Prelude.{◌≡◌, ℕ, List, Some, option_map, is_some, not, bytes_eq, true, false, IsTrue, OnOk, IfSome};
+ghost use Rattle.spec_plant.specs.Rights.{rights_of};
 ghost use Rattle.spec_relay.specs.RelayState.{RelayState, RelayConnection, owner_of};
 ghost use Rattle.spec_relay.specs.Ways.{is_taken_net};
 ghost use Rattle.spec_relay.specs.Routing.{with_owner};
@@ -35,7 +36,9 @@ impl Router {
     fn owner_at(&self, i: usize, net: NetId) -> Option<u32>
         ensures { IfSome result (λ n. OwnsAt n net.bytes self.now.peers.entries) }
     {
-        let (number, peer) = self.peers.get_index(i)?;
+        let Some((number, peer)) = self.peers.get_index(i) else {
+            return None;
+        };
         if peer.is_owner(net) {
             Some(*number)
         } else {
@@ -52,6 +55,17 @@ impl Router {
         match self.owned_by(conn, at) {
             Some(owned) => is_other(owned, net),
             None => self.owner_of(net).is_some(),
+        }
+    }
+
+    /// Whether a connection, which is there and not closing, owns a NetId. It stood at a place.
+    pub(crate) fn owns(&self, conn: u32, at: usize, net: NetId) -> bool
+        ensures { (b : List ℕ) (s : RelayState) (k : RelayConnection) → Holds self.now b s → IsHeardAt conn k s
+            → IsTrue result → k.client ≡ Some net.bytes }
+    {
+        match self.owned_by(conn, at) {
+            Some(owned) => owned.is(net),
+            None => false,
         }
     }
 
@@ -73,7 +87,8 @@ impl Router {
         net: NetId,
     ) -> Result<(), NoMemory>
         ensures follows { OnOk result ((b : List ℕ) (s : RelayState) (k : RelayConnection) → Holds self.old b s → IsHeardAt conn k s
-            → is_taken_net net.bytes k s.connections ≡ false → Holds self.new b (with_owner conn net.bytes s)) }
+            → is_taken_net net.bytes k s.connections ≡ false → is_some (rights_of net.bytes s.world.routes) ≡ true
+            → Holds self.new b (with_owner conn net.bytes s)) }
         ensures streams { KeepsStreams self.old.peers.entries self.new.peers.entries }
     {
         let Some(i) = self.place_near(at, conn) else {

@@ -64,7 +64,7 @@ impl Peer {
         ensures no_memory { OnErr result (self.new ≡ self.old) }
     {
         let header = frame_header(packet);
-        match self.out.push_parts(alloc, header.as_slice(), packet)? {
+        match self.out.push_parts(alloc, &header, packet)? {
             Pushed::Done => {
                 self.near = from;
                 Ok(Pushed::Done)

@@ -1,6 +1,6 @@
 //! The relay, and all that it keeps.
 
-ghost use Rattle.std.specs.Prelude.{◌≡◌, [], IfOk, IfSome, IfNone, IsTrue, None};
+ghost use Rattle.std.specs.Prelude.{◌≡◌, [], IfOk, IfSome, IfNone, IsTrue, None, slice_get, option_map};
 ghost use Rattle.type_layout.specs.Descriptions.{description_of};
 ghost use Rattle.spec_relay.specs.RelayState.{relay_start};
 ghost use Rattle.spec_relay.specs.RelaySummary.{relay_summary_of};
@@ -75,10 +75,17 @@ impl Router {
         if i >= self.peers.len() {
             return false;
         }
-        match self.peers.get_index(i) {
-            Some((there, _)) => *there == number,
+        match self.number_at(i) {
+            Some(there) => there == number,
             None => false,
         }
+    }
+
+    // The number of the connection at a place; None past the last.
+    fn number_at(&self, i: usize) -> Option<u32>
+        ensures { result ≡ option_map (λ e. e.0) (slice_get self.now.peers.entries i) }
+    {
+        Some(*self.peers.get_index(i)?.0)
     }
 }
 

@@ -50,6 +50,10 @@ impl Router {
         ensures { (b : List ℕ) (s : RelayState) (k : RelayConnection) → Holds self.now b s → IsHeardAt conn k s
             → result ≡ is_closed_by payload.now (ams_header_of h.now) k s }
     {
+        // Whoever owns a NetId has a route, which a relay never loses; so routes are asked at its first frame alone.
+        if self.owns(conn, at, h.source.net) {
+            return h.len as usize != payload.len();
+        }
         if self.is_refused(h, payload) {
             return true;
         }
