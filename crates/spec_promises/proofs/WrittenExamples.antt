@@ -1,6 +1,6 @@
 -- What an accepted write and an accepted control leave, and what they may not leave, by computation.
 use Rattle.std.specs.Prelude.{◌≡◌, refl, ℕ, List, [], ◌∷◌, ◌++◌, codes, map, take, drop, replicate, bytes_eq, Bool, true, false, ◌==◌, Option, Some, None, unwrap_or}
-use Rattle.std.proofs.Common.{ap, lit≤}
+use Rattle.std.proofs.Common.{ap, lit≤, subst, sym}
 use Rattle.std.proofs.lemmas.Bool.{false≢true}
 use Rattle.spec_plant.specs.PartTexts.{name_behind, comment_behind}
 use Rattle.spec_formats.specs.Groups.{group_in, group_of}
@@ -47,7 +47,7 @@ use Rattle.std.specs.Fmt.{digits}
 use Rattle.ads_outside.specs.declared.moves.Move.{Move}
 use Rattle.ads_outside.specs.declared.moves.Move.{Move}
 use Rattle.spec_plant.specs.Description.{Area, Memory, Process, Control}
-use Rattle.spec_plant.specs.World.{PlantPort, Block, plant_port, byte_or_zero}
+use Rattle.spec_plant.specs.World.{PlantPort, Block, ByteName, SymbolPart, plant_port}
 use Rattle.spec_plant.proofs.Plant.{NET, ENGINEER, axis_type, count_symbol, title_symbol, symbols_with, port_with}
 use Rattle.spec_formats.specs.Groups.{AreaBytes, AreaBit, ValueByHandle, ReleaseHandle, SumRead}
 use Rattle.spec_formats.specs.Request.{Request, Write, WriteControl}
@@ -58,6 +58,7 @@ use Rattle.spec_machine.specs.Client.{Client, Place, new_client}
 use Rattle.spec_machine.specs.MachineState.{MachineState}
 use Rattle.spec_machine.specs.Writes.{Asker}
 use Rattle.spec_laws.specs.ExactWrites.{IsBitPut}
+use Rattle.spec_laws.proofs.BitWrites.{puts_bits}
 use Rattle.spec_promises.specs.Asked.{Asked}
 use Rattle.spec_promises.specs.Written.{HoldsBytes, HoldsBit, HoldsByHandle, HoldsAt, read_back, IsReadBack, StatesAreSet}
 use Rattle.spec_machine.proofs.Plant.{q, named, piece, opened, start, step}
@@ -117,6 +118,10 @@ writes_a_bit = asks (Write 0x4021 3 (5 ∷ []))
 abbrev stops : Asked
 stops = asks (WriteControl 6 3 [])
 
+-- the byte of `Flags.bits`
+abbrev flags : ByteName
+flags = record { port = 851; part = SymbolPart (codes "flags.bits"); index = 0 }
+
 three_is_not_two : ◌≡◌ {A = ℕ} 2 3 → ⊥
 three_is_not_two e = false≢true (ap (λ n. n == 3) e)
 
@@ -131,6 +136,7 @@ pub record WrittenRows : Type 0 where
   pub neighbour_changed : HoldsBytes before and_a_neighbour port Process 2 (7 ∷ 8 ∷ []) → ⊥
   pub nothing_done : HoldsBytes before before port Process 2 (7 ∷ 8 ∷ []) → ⊥
   -- by bit
+  pub bit : HoldsBit before one_bit port Memory 3 (1 ∷ [])
   pub neighbour_bit_changed : HoldsBit before two_bits port Memory 3 (1 ∷ []) → ⊥
   pub bit_not_set : HoldsBit before before port Memory 3 (1 ∷ []) → ⊥
   pub two_values : HoldsBit before one_bit port Memory 3 (1 ∷ 1 ∷ []) → ⊥
@@ -175,6 +181,7 @@ written_rows = record {
   another_place = λ e. false≢true (ap (λ l. bytes_eq (take 4 l) (42 ∷ 0 ∷ 0 ∷ 7 ∷ [])) e);
   neighbour_changed = λ e. false≢true (ap (λ l. bytes_eq (take 6 l) (42 ∷ 0 ∷ 7 ∷ 8 ∷ 0 ∷ 0 ∷ [])) e);
   nothing_done = λ e. false≢true (ap (λ l. bytes_eq (take 4 l) (42 ∷ 0 ∷ 7 ∷ 8 ∷ [])) e);
+  bit = let p = puts_bits before flags 3 1 0 refl in subst (IsBitPut 3 1 0) (sym (ap (λ o. unwrap_or o 0) (p.1))) (p.2);
   neighbour_bit_changed = λ h. false≢true (ap (λ n. n == 0) (h.others 2 three_is_not_two));
   bit_not_set = λ h. false≢true (ap (λ n. n == 1) (h.here));
   two_values = λ h. h;
