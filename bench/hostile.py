@@ -5,7 +5,9 @@ docs/FORMATS.md shows.
 
     python3 bench/hostile.py        writes hostile_*.runs, peer_*.runs, shown.runs and shown_*.toml of crates/cases_run/data, and says how many runs each has
     python3 bench/hostile.py --wide writes wide_*.runs and hostile_*.runs of crates/cases_wide/data: what the wide server answers otherwise (bench/wide_rows.py), and
-                                    those of the hostile runs that are plays of scripts, on it
+                                    those of the hostile runs that are plays of scripts, on it. With --told also hostile_told.runs: sums that tell lengths
+    python3 bench/hostile.py --adsd PATH    writes nothing: plays those of the hostile runs that need no clock over sockets, on the daemon at PATH, in both profiles
+                                    (bench/hostile_sockets.py); a line a profile, status 1 where anything differs
 
 What must come is computed from the protocol alone, never from what the program prints. The counts in crates/cases_run/stdout are all runs of that program.
 """
@@ -22,6 +24,8 @@ from model import u16, u32  # noqa: E402
 
 # The wide server is played by cases_wide, without signals.
 WIDE = "--wide" in sys.argv[1:]
+# Over sockets runs are events, and not texts.
+OVER = sys.argv[sys.argv.index("--adsd") + 1] if "--adsd" in sys.argv[1:-1] else None
 DATA = os.path.join(HERE, "..", "crates", "cases_wide" if WIDE else "cases_run", "data")
 SIGNALS = [] if WIDE else [list(range(1000)), [0] * 10 + [1] * 10, [3, 1, 4, 1, 5, 9, 2, 6]]
 NET, ME, OTHER = "5.1.2.3.1.1", "192.168.0.9.1.1", "192.168.0.10.1.1"
@@ -74,6 +78,8 @@ def lines_of(event, plants):
 
 def replay(said, events, plants="plant2.toml"):
     """A run of `replay` over the plant: a comment and events."""
+    if OVER:
+        return said, events
     script = [line for event in events for line in lines_of(event, plants)]
     came = model.play(PLANT, SIGNALS, events, WIDE)
     if WIDE:
@@ -176,11 +182,14 @@ def head(*numbers):
     return b"".join(map(u32, numbers))
 
 
-def lying_sums():
+LYING = ((0xF080, [[0x4040, 0, 4], [0x4040, 60, 2]], b"", 14), (0xF081, [[0x4040, 124, 2], [0x4040, 126, 1]], b"\1\2\3", 8),
+         (0xF082, [[0xF003, 0, 4, 10], [0xF004, 0, 4, 10]], b"Main.count" * 2, 24))
+LYING_TOLD = tuple((group, [[0x4040, 0, 4], [0x4040, 60, 2]], b"", 22) for group in model.TOLD_SUMS)
+
+
+def lying_sums(kinds=LYING):
     """Sums of two parts in which one number lies by one."""
-    name = b"Main.count"
-    for group, heads, data, most in ((0xF080, [[0x4040, 0, 4], [0x4040, 60, 2]], b"", 14), (0xF081, [[0x4040, 124, 2], [0x4040, 126, 1]], b"\1\2\3", 8),
-                                     (0xF082, [[0xF003, 0, 4, 10], [0xF004, 0, 4, 10]], name * 2, 24)):
+    for group, heads, data, most in kinds:
         for lie in (1, -1):
             yield asked(f"A sum {group:#06x} of two parts that says that it has {2 + lie}.", sum_of(7, group, 2 + lie, most, head(*heads[0], *heads[1]), data))
             yield asked(f"A sum {group:#06x} of two parts with room for {lie:+} of what they may give.", sum_of(7, group, 2, most + lie, head(*heads[0], *heads[1]), data))
@@ -232,6 +241,33 @@ def sums():
     yield from lying_sums()
     yield asked("A sum by name with room for one byte less than its parts may give.", sum_of(7, 0xF082, 1, 11, head(0xF003, 0, 4, 10), name))
     yield asked("A sum by name that says less data than it has.", sum_of(7, 0xF082, 1, 12, head(0xF003, 0, 4, 9), name))
+
+
+def told_sums():
+    """Sums of reads that tell lengths, which the wide server has."""
+    four, gone = head(0x4040, 0, 4), head(0x9999, 0, 4)
+    by_name = ask(1, 0xF003, 0, 4, b"Main.title")
+    for group in model.TOLD_SUMS:
+        yield asked(f"A sum {group:#06x} of no part, with room, and with a byte too many.", *[sum_of(7, group, 0, most, b"", data) for most, data in ((0, b""), (1000, b""), (0, b"\0"))])
+        for count in (1, 2, 500, 501, 2 ** 31, 2 ** 32 - 1):
+            yield asked(f"A sum {group:#06x} that says that it has {count} parts and has none.", sum_of(7, group, count, 4, b""))
+        for count in (1, 2, 500):
+            for lie in (0, 1, -1):
+                yield asked(f"A sum {group:#06x} of {count} reads of four bytes, with room for {lie:+} of what they give.", sum_of(7, group, count, 12 * count + lie, four * count))
+        yield asked(f"A sum {group:#06x} of 501 reads.", sum_of(7, group, 501, 12 * 501, four * 501))
+        yield asked(f"A sum {group:#06x}: parts that are refused beside one that is not.", sum_of(7, group, 4, 100, gone + head(0x4040, 200, 4) + four + head(0xF005, 9, 4)))
+        yield asked(f"A sum {group:#06x}: a read by handle of a greater buffer, and one behind it.", by_name, sum_of(7, group, 2, 1100, head(0xF005, 1, 1024) + four))
+        yield asked(f"A sum {group:#06x}: a read by handle of fewer bytes, and of none.", by_name, sum_of(7, group, 2, 100, head(0xF005, 1, 2) + head(0xF005, 1, 0)))
+        yield asked(f"A sum {group:#06x} whose lengths add up to more than 32 bits hold.", sum_of(7, group, 2, 24, head(0x4040, 0, 2 ** 32 - 1) * 2))
+        yield asked(f"A sum {group:#06x} that passes 2,000,000 bytes.", by_name, sum_of(7, group, 2, 2 ** 32 - 1, head(0xF005, 1, 1000000) * 2))
+        yield asked(f"A sum {group:#06x} of the greatest reply.", by_name, sum_of(7, group, 1, 2000000, head(0xF005, 1, 1999992)))
+        for own in (0x4025, 0xF008, 0xF00C, 0xF00F, 0xF00B, 0xF00E, 0xF006, 0xF080, 0xF083, 0x9999, 0x4021):
+            yield asked(f"A sum {group:#06x} of group {own:#06x}, with little room for it and with more.", *[sum_of(7, group, 2, 20 + some, head(own, 0, some) + four) for some in (0, 1, 4, 400)])
+        for outer in (0xF080, *model.TOLD_SUMS):
+            yield asked(f"A sum {group:#06x} as a part of a sum {outer:#06x}.", sum_of(7, outer, 1, 100, head(group, 0, 8)))
+        yield asked(f"A sum {group:#06x} as a part of a sum by name, with data and without.", sum_of(7, 0xF082, 2, 100, head(group, 1, 16, 12) + head(group, 0, 0, 0), four))
+        yield asked(f"A sum {group:#06x} as a plain read, and as a write.", read(7, group, 0, 8), write(8, group, 0, b"\0"))
+    yield from lying_sums(LYING_TOLD)
 
 
 # Edges.
@@ -486,12 +522,17 @@ SCRIPTS = {"frames": frames, "lengths": lengths, "sums": sums, "edges": edges, "
 def main_wide():
     import wide_rows  # noqa: PLC0415 (it uses this file)
 
-    for name, runs in {**wide_rows.SUBJECTS, **{f"hostile_{name}": runs for name, runs in SCRIPTS.items()}}.items():
+    scripts = {**SCRIPTS, **({"told": told_sums} if "--told" in sys.argv[1:] else {})}
+    for name, runs in {**wide_rows.SUBJECTS, **{f"hostile_{name}": runs for name, runs in scripts.items()}}.items():
         written(name, runs)
     return 0
 
 
 def main():
+    if OVER:
+        import hostile_sockets  # noqa: PLC0415 (it uses this file)
+
+        return hostile_sockets.main(OVER)
     if WIDE:
         return main_wide()
     import hostile_peers  # noqa: PLC0415 (they use this file)

@@ -16,8 +16,14 @@ BITS_OF = {0xF021: "inputs", 0xF031: "outputs", 0x4021: "memory"}
 SIZE_OF = {0xF025: "inputs", 0xF035: "outputs", 0x4025: "memory", 0x4045: "data"}
 GROUP_OF = {area: group for group, area in BYTES_OF.items()}
 SUMS = (0xF080, 0xF081, 0xF082)
+# The further sums of the wide server: reads that tell their lengths. And, of no server yet, additions and deletions of notifications.
+TOLD_SUMS, NOTE_SUMS = (0xF083, 0xF084), (0xF085, 0xF086)
 RIGHTS = {"read": 1, "write": 2, "control": 3}
 LIVE, WATCHES, QUEUED, RECORDS, MOST = 4096, 512, 4194304, 4096, 2000000
+
+
+# Packets to a local router: it is asked for an AMS port, which stands behind (0: any), and for its NetId.
+ASKS_PORT, ASKS_NET = b"\0\x10\2\0\0\0", b"\2\x10\0\0\0\0"
 
 
 class Refused(Exception):
@@ -271,6 +277,8 @@ class Connection:
     def __init__(self):
         self.stream, self.handles, self.granted, self.watches, self.added = b"", {}, 0, {}, 0
         self.queue, self.queued, self.closing, self.blocked, self.room, self.fails = [], 0, False, False, None, False
+        # (behind a local router: whether its first frame has begun)
+        self.passed = False
 
 
 def framed(target, source, command, flags, error, number, payload):
@@ -308,10 +316,10 @@ def packets(conn):
 
 class Server:
     """A device with its clients. `signals` are the waves of the signals; `wide` is the profile: the strict server takes requests as they are written, the wide one for
-    what TwinCAT's clients mean by them. `others` is the right of each machine without a route, or none."""
+    what TwinCAT's clients mean by them, and has `more` sums. `others` is the right of each NetId that no route names: none where it is None."""
 
-    def __init__(self, d, signals, wide=False, others=None):
-        self.wide, self.others = wide, RIGHTS.get(others)
+    def __init__(self, d, signals, wide=False, others=None, more=TOLD_SUMS):
+        self.wide, self.others, self.sums = wide, RIGHTS.get(others), SUMS + tuple(more if wide else ())
         self.waves, self.places = signals, [0] * len(signals)
         self.moment, self.accepted, self.refused = 0, 0, 0
         self.opened, self.requests, self.replies, self.samples = 0, 0, 0, 0
@@ -322,6 +330,10 @@ class Server:
         self.d, self.net, self.types, self.version = d, net_of(d["net"]), Types(d.get("type", [])), version
         self.routes = {net_of(route["net"]): RIGHTS[route["rights"]] for route in d.get("route", [])}
         self.ports = {port["port"]: Port(self.types, port, version) for port in d["port"]}
+
+    def rights_of(self, net):
+        """What a NetId may do; None where it is let in by nothing."""
+        return self.routes.get(net, self.others)
 
     # Frames.
 
@@ -349,7 +361,7 @@ class Server:
             return None
         if flags != 4:
             return answer(0xB, b"")
-        if self.routes.get(source[:6], self.others) is None:
+        if self.rights_of(source[:6]) is None:
             conn.closing = True
             return None
         if target[:6] != self.net:
@@ -377,7 +389,7 @@ class Server:
         if head and (len(payload) < head or struct.unpack("<I", payload[head - 4:head])[0] != len(payload) - head):
             raise Refused(0x705)
         words = struct.unpack(f"<{len(payload[:head or 24]) // 4}I", payload[:(head or 24) // 4 * 4]) if command not in (1, 4, 5) else ()
-        rights = self.routes.get(source[:6], self.others)
+        rights = self.rights_of(source[:6])
         if command == 1:
             return port.facts()
         if command == 2:
@@ -399,11 +411,7 @@ class Server:
         if command == 6:
             return u32(self.add(conn, port, source, *words))
         if command == 7:
-            watch = conn.watches.get(words[0])
-            if watch is None or watch["port"] != port.number:
-                raise Refused(0x714)
-            del conn.watches[words[0]]
-            return b""
+            return self.delete(conn, port, words[0])
         given = self.read_write(conn, port, source, rights, words[0], words[1], words[2], payload[16:])
         return u32(len(given)) + given
 
@@ -488,7 +496,7 @@ class Server:
         port.put(area, at, given)
 
     def read_write(self, conn, port, source, rights, group, offset, most, given):
-        if group in SUMS:
+        if group in self.sums:
             return self.sum(conn, port, source, rights, group, offset, most, given)
         return self.ask(conn, port, group, most, given)
 
@@ -531,35 +539,41 @@ class Server:
     def sum(self, conn, port, source, rights, group, count, most, given):
         if count > 500:
             raise Refused(0x706)
-        width = 16 if group == 0xF082 else 12
+        width = head_width(group, count, len(given))
         if len(given) < width * count:
             raise Refused(0x705)
         heads = [struct.unpack(f"<{width // 4}I", given[width * k:width * (k + 1)]) for k in range(count)]
-        written = [head[-1] if group != 0xF080 else 0 for head in heads]
+        written = [head[-1] if group in (0xF081, 0xF082) else 0 for head in heads]
         if len(given) != width * count + sum(written):
             raise Refused(0x705)
-        asked = [head[2] if group != 0xF081 else 0 for head in heads]
-        greatest = (8 if group == 0xF082 else 4) * count + sum(asked)
+        asked = [head[2] if group in (0xF080, 0xF082, *TOLD_SUMS) else 0 for head in heads]
+        greatest = (4 if group in (0xF080, 0xF081, 0xF086) else 8) * count + sum(asked)
         if most < greatest or greatest > MOST:
             raise Refused(0x705)
         at, results, data = width * count, b"", b""
         for head, own, room in zip(heads, written, asked):
             code, got = 0, b""
             try:
-                if group == 0xF080:
-                    got = self.read(conn, port, *head)
-                elif group == 0xF081:
-                    self.write(conn, port, source, rights, head[0], head[1], given[at:at + own])
-                elif head[0] in SUMS:
-                    raise Refused(0x702)
-                else:
-                    got = self.ask(conn, port, head[0], head[2], given[at:at + own])
+                got = self.part(conn, port, source, rights, group, head, given[at:at + own])
             except Refused as refused:
                 code = refused.code
             at += own
-            results += u32(code) + (u32(len(got)) if group == 0xF082 else b"")
-            data += got.ljust(room, b"\0") if group == 0xF080 else got
+            results += u32(code) + (u32(len(got)) if group in (0xF082, *TOLD_SUMS) else got.ljust(4, b"\0") if group == 0xF085 else b"")
+            data += got.ljust(room, b"\0") if group in (0xF080, 0xF083) else got if group in (0xF082, 0xF084) else b""
         return results + data
+
+    def part(self, conn, port, source, rights, group, head, given):
+        """What a part of a sum of this group gives."""
+        if group in (0xF080, *TOLD_SUMS):
+            return self.read(conn, port, *head)
+        if group == 0xF081:
+            self.write(conn, port, source, rights, head[0], head[1], given)
+            return b""
+        if group == 0xF085:
+            return u32(self.add(conn, port, source, *head[:6]))
+        if group == 0xF086:
+            return self.delete(conn, port, head[0])
+        return self.ask(conn, port, head[0], head[2], given)
 
     def add(self, conn, port, source, group, offset, count, mode, _delay, cycle):
         mode = {5: 3, 6: 4}.get(mode, mode) if self.wide else mode
@@ -588,6 +602,14 @@ class Server:
         conn.watches[conn.added] = {
             "port": port.number, "to": source, "area": area, "at": at, "size": count, "bit": bit, "mode": mode, "cycle": cycle, "last": None, "sent": None}
         return conn.added
+
+    @staticmethod
+    def delete(conn, port, number):
+        watch = conn.watches.get(number)
+        if watch is None or watch["port"] != port.number:
+            raise Refused(0x714)
+        del conn.watches[number]
+        return b""
 
     # Ticks and reloads.
 
@@ -676,6 +698,42 @@ class Server:
                 f"reloads {self.accepted} {self.refused}")
 
 
+def head_width(group, count, length):
+    """How many bytes the head of each part of a sum has; of an addition with the 16 bytes behind it that say nothing, or without them."""
+    if group == 0xF085:
+        return 24 if length == 24 * count else 40
+    return {0xF082: 16, 0xF086: 4}.get(group, 12)
+
+
+class Routed(Server):
+    """The wide server behind a local AMS router: what a connection asks of that router before its first frame is answered, and all else is the server's."""
+
+    def __init__(self, *given, **named):
+        super().__init__(*given, **named)
+        self.own = self.net
+
+    def take(self, conn):
+        if not conn.passed:
+            answer, conn.stream, conn.passed = router_answer(self.own, conn.stream)
+            if answer:
+                queued(conn, answer)
+        if conn.passed:
+            super().take(conn)
+
+
+def router_answer(net, text):
+    """What a local router of this NetId answers to the first bytes of a connection, what is left of them, and whether that is the server's: it waits where it begins a packet to the router."""
+    answer = b""
+    while True:
+        if text[:6] == ASKS_PORT and len(text) >= 8:
+            port = struct.unpack("<H", text[6:8])[0] or 32768
+            answer, text = answer + b"\0\x10" + u32(8) + net + u16(port), text[8:]
+        elif text[:6] == ASKS_NET:
+            answer, text = answer + b"\2\x10" + u32(6) + net, text[6:]
+        else:
+            return answer, text, not ASKS_NET.startswith(text) and not ASKS_PORT.startswith(text[:6])
+
+
 class Relay:
     """A router between connections, each of which owns the NetId of the frames that it sends. Of a description it uses the routes alone."""
 
@@ -748,9 +806,9 @@ class Relay:
         return f"connections {self.opened} frames {self.frames} passed {self.passed} unknown {self.unknown}"
 
 
-def play(d, signals, events, wide=False, others=None):
-    """What `replay` prints of these events, with its summary; with `wide`, what it would print of the wide server."""
-    return played(Server(d, signals, wide, others), events)
+def play(d, signals, events, wide=False, more=TOLD_SUMS):
+    """What `replay` prints of these events, with its summary; with `wide`, what it would print of the wide server with `more` sums."""
+    return played(Server(d, signals, wide, more=more), events)
 
 
 def relayed(d, events):

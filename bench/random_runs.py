@@ -4,13 +4,19 @@ passes on between askers and targets, some of which lie; what `ads keep` prints 
 commands over loopback to peers that answer by the model and then damage, repeat, cut or leave out what they say: each byte that is sent, what is printed and the status
 must be those of the model of a client (bench/client.py), and so must the rows that `record` leaves; and damaged descriptions and scripts, which must end with a status of their own and never crash or hang.
 
-    python3 bench/random_runs.py [--seconds N] [--seed N] [--program PATH] [--keep FOLDER]
-    python3 bench/random_runs.py --wide PATH [..]   random scripts on the wide server alone, by the program `cases_wide` at PATH (bench/wide_runs.py)
+    python3 bench/random_runs.py [--program ADS] [--wide CASES_WIDE] [--adsd ADSD] [--seconds N] [--seed N] [--keep FOLDER]
 
-Build the program first: in crates/ads, `rt run -- selftest ../../examples/state.script`. Without --seconds it runs for a minute. A difference is told with its
-seed, and its description, script and both texts are kept in the folder of --keep. It ends with 1 where anything differed.
+Each program that is named has its runs, in turn until the seconds are over: `ads` those above; `cases_wide` whole scripts on the wide server; `adsd` random clients over
+loopback in both profiles, with NetIds that no route names and packets to a local router (bench/wide_runs.py for both). Without one it is crates/ads/out/ads.
+
+    python3 bench/random_runs.py --program ADS --wide CASES_WIDE --adsd ADSD --seconds 3600      an hour of all of them in one piece
+
+Build the programs first: in crates/ads, `rt run -- selftest ../../examples/state.script`. Without --seconds it runs for a minute. A difference is told with its
+seed, and its description, script and both texts are kept in the folder of --keep. The last line counts the runs, and names what a program does not have. It ends
+with 1 where anything differed.
 """
 import argparse
+import functools
 import os
 import random
 import re
@@ -855,45 +861,62 @@ def keep(to, name, seed, said, folder):
     print(f"{name}, seed {seed}: {said}; kept in {kept}")
 
 
-def main_wide(given, program):
+def kinds_of_ads(program, folder):
+    """The kinds of runs of `ads`: a name, what plays one, and how many go to a seed."""
+    relays, keeps = has(program, folder, "relay", "no.toml", "no.script"), has(program, folder, "keep", "no.toml", "no.script", "no.store")
+    left_out = {*(() if relays else ("relays", "relayed")), *(() if keeps else ("kept",))}
+    kinds = [("replays", one_replay, 1), ("relays", one_relay, 1), ("kept", one_kept, 1), ("served", one_served, 1), ("relayed", one_relayed, 1), ("peers", one_peer, 8), ("damaged", one_damaged, 1)]
+    return [(name, functools.partial(one, program), count) for name, one, count in kinds if name not in left_out], sorted(left_out)
+
+
+def kinds_of(given, folder):
+    """The kinds of runs of all programs that are named, and what these do not have, in words."""
     import wide_runs  # noqa: PLC0415 (it uses this file)
 
-    begun, seed, wrong = time.time(), given.seed, 0
-    with tempfile.TemporaryDirectory() as folder:
-        while time.time() - begun < given.seconds and wrong < 10:
-            said = wide_runs.one_wide(program, seed, folder)
-            if said:
-                wrong += 1
-                keep(given.keep, "wide", seed, said, folder)
-            seed += 1
-    print(f"{seed - given.seed} scripts on the wide server against the model, {wrong} wrong, seeds {given.seed} to {seed - 1}")
-    return 1 if wrong else 0
+    kinds, left_out = [], []
+    if given.program or not (given.wide or given.adsd):
+        kinds, left_out = kinds_of_ads(os.path.abspath(given.program or PROGRAM), folder)
+    if given.wide:
+        program = os.path.abspath(given.wide)
+        more = wide_runs.sums_of_cases(program, folder)
+        kinds.append(("wide", lambda seed, own: wide_runs.one_wide(program, seed, own, more), 1))
+        left_out += [f"0x{group:X} of cases_wide" for group in wide_runs.MORE if group not in more]
+    if given.adsd:
+        daemon = os.path.abspath(given.adsd)
+        own = wide_runs.has_of(daemon, folder)
+        kinds.append(("daemons", lambda seed, place: wide_runs.one_daemon(daemon, seed, place, own), 2))
+        left_out += [f"{it} of adsd" for it in own.left_out()]
+    return kinds, left_out
+
+
+WORDS_OF = {"replays": "scripts", "relays": "scripts of a relay", "kept": "scripts over a store", "served": "plants served", "relayed": "relays", "peers": "client commands", "damaged": "damaged inputs",
+            "wide": "scripts on the wide server", "daemons": "plants of the daemon"}
 
 
 def main():
     it = argparse.ArgumentParser(description=__doc__, formatter_class=argparse.RawDescriptionHelpFormatter)
     it.add_argument("--seconds", type=float, default=60)
     it.add_argument("--seed", type=int, default=1)
-    it.add_argument("--program", default=PROGRAM)
-    it.add_argument("--wide", metavar="PATH", help="the program cases_wide")
+    it.add_argument("--program", metavar="ADS", help="the program ads")
+    it.add_argument("--wide", metavar="CASES_WIDE", help="the program cases_wide")
+    it.add_argument("--adsd", metavar="ADSD", help="the program adsd")
     it.add_argument("--keep", default=os.path.join(tempfile.gettempdir(), "ads_random"))
     given = it.parse_args()
-    program, begun, seed, counts, wrong = os.path.abspath(given.wide or given.program), time.time(), given.seed, dict.fromkeys(("replays", "relays", "kept", "served", "relayed", "peers", "damaged"), 0), 0
-    if given.wide:
-        return main_wide(given, program)
+    begun, seed, wrong = time.time(), given.seed, 0
     with tempfile.TemporaryDirectory() as folder:
-        relays, keeps = has(program, folder, "relay", "no.toml", "no.script"), has(program, folder, "keep", "no.toml", "no.script", "no.store")
-        left_out = {*(() if relays else ("relays", "relayed")), *(() if keeps else ("kept",))}
+        kinds, left_out = kinds_of(given, folder)
+        counts = {name: 0 for name, _, _ in kinds}
         while time.time() - begun < given.seconds and wrong < 10:
-            kinds = [("replays", one_replay, seed), ("relays", one_relay, seed), ("kept", one_kept, seed), ("served", one_served, seed), ("relayed", one_relayed, seed), *(("peers", one_peer, 8 * seed + k) for k in range(8)), ("damaged", one_damaged, seed)]
-            for name, one, own in [kind for kind in kinds if kind[0] not in left_out]:
-                said = one(program, own, folder)
-                counts[name] += 1
-                if said:
-                    wrong += 1
-                    keep(given.keep, name, own, said, folder)
+            for name, one, count in kinds:
+                for own in range(count * seed, count * seed + count):
+                    said = one(own, folder)
+                    counts[name] += 1
+                    if said:
+                        wrong += 1
+                        keep(given.keep, name, own, said, folder)
             seed += 1
-    print(f"{counts['replays'] + counts['relays'] + counts['kept']} scripts, {counts['served'] + counts['relayed']} plants and {counts['peers']} client commands over loopback against the models, {counts['damaged']} damaged inputs, {wrong} wrong, seeds {given.seed} to {seed - 1}")
+    told = ", ".join(f"{count} {WORDS_OF[name]}" for name, count in counts.items())
+    print(f"{told} against the models: {wrong} wrong, seeds {given.seed} to {seed - 1}, {time.time() - begun:.0f} s" + (f"; not in this program: {', '.join(left_out)}" if left_out else ""))
     return 1 if wrong else 0
 
 

@@ -282,11 +282,7 @@ fn says(words: &[String], wanted: &str) -> bool {
     false
 }
 
-fn log_of(
-    alloc: Global,
-    lets_others_in: bool,
-    board: &Noticeboard,
-) -> Result<CaseLog, NoMemory> {
+fn log_of(alloc: Global, lets_others_in: bool, board: &Noticeboard) -> Result<CaseLog, NoMemory> {
     // As many signals as a setup has at most, so that each accepted description is read.
     let judge = CaseJudge {
         signals: 1_024,

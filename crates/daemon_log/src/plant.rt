@@ -50,7 +50,12 @@ impl Plant {
     }
 
     /// Whether who speaks has rights, by a route or since all others have some, as far as that is known.
-    pub(crate) fn has_rights<J: Judge>(&mut self, alloc: Global, judge: &J, spoken: Spoken) -> bool {
+    pub(crate) fn has_rights<J: Judge>(
+        &mut self,
+        alloc: Global,
+        judge: &J,
+        spoken: Spoken,
+    ) -> bool {
         let Spoken::As(net, _) = spoken else {
             return true;
         };

@@ -7,7 +7,9 @@ ghost use Rattle.daemon_words.specs.Setups.{SetsUp, said_or, listen_or};
 use crate::address::is_address;
 use crate::defaults::{DEFAULT_LISTEN, signals_of_serve};
 use crate::joined_texts::joined;
-use crate::{Field, IpNet, LogForm, OthersWord, ProfileWord, Seconds, Setup, SetupFault, SignalTable};
+use crate::{
+    Field, IpNet, LogForm, OthersWord, ProfileWord, Seconds, Setup, SetupFault, SignalTable,
+};
 use ads_base::{ListOf, NoMemory};
 use cli_words::{Text, TextList};
 use std::alloc::Global;

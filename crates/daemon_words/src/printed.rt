@@ -12,7 +12,12 @@ pub fn setup_text(alloc: Global, setup: &Setup) -> Result<Octets, NoMemory> {
     put_line(alloc, &mut text, "description", setup.description.as_str())?;
     put_line(alloc, &mut text, "listen", setup.listen.as_str())?;
     put_nets(alloc, &mut text, setup.allow.as_slice())?;
-    put_line(alloc, &mut text, "other_routes", others_sentence(setup.others))?;
+    put_line(
+        alloc,
+        &mut text,
+        "other_routes",
+        others_sentence(setup.others),
+    )?;
     put_line(alloc, &mut text, "profile", setup.profile.word())?;
     put_store(alloc, &mut text, setup)?;
     put_signals(alloc, &mut text, setup.signals.as_slice())?;

@@ -14,7 +14,7 @@ pub mod AllTaken
 pub mod Carried
 pub mod ServerDelivers
 mod OpenedAgain
-mod Plant
+pub mod Plant
 mod WriteExamples
 mod HandleExamples
 mod NotificationExamples
